@@ -1,0 +1,126 @@
+use crate::listing::Listing;
+use crate::names::{Bytes, FilesetName, Path};
+
+/// A path in a fileset, written `FILESET:/NAME/NAME`.
+#[derive(Debug, Drop)]
+pub struct Place {
+    pub fileset: FilesetName,
+    pub path: Path,
+}
+
+/// Whose usage a quota limits.
+#[derive(Clone, Copy, Debug)]
+pub enum Owner {
+    /// The files and directories of a user id.
+    User(u32),
+    /// The files and directories of a group id.
+    Group(u32),
+    /// All files and directories of the fileset.
+    Fileset,
+}
+
+/// Who gives a command: a client, numbered from 1 to 8, or the mover of pages and volumes.
+#[derive(Clone, Copy, Debug, PartialEq, Eq)]
+pub enum Actor {
+    Client(u8),
+    Mover,
+}
+
+/// What a client may ask of files and filesets. Offsets and sizes are in bytes, block limits in
+/// blocks of 512 bytes; a limit of 0 is none.
+#[derive(Debug, Drop)]
+pub enum Command {
+    /// Makes a fileset with an empty root (mkfset).
+    Mkfset {
+        fileset: FilesetName,
+    },
+    /// Removes a fileset without a clone (rmfset).
+    Rmfset {
+        fileset: FilesetName,
+    },
+    /// Makes a frozen copy of a fileset (clonefset).
+    Clonefset {
+        fileset: FilesetName,
+        new_name: FilesetName,
+    },
+    /// Lists the filesets (showfsets).
+    Showfsets,
+    /// Sets an owner's limits in a fileset.
+    Setquota {
+        fileset: FilesetName,
+        who: Owner,
+        files: u64,
+        blocks: u64,
+    },
+    /// Shows an owner's usage and limits in a fileset.
+    Showquota {
+        fileset: FilesetName,
+        who: Owner,
+    },
+    /// Makes an empty file.
+    Create {
+        place: Place,
+        uid: u32,
+        gid: u32,
+    },
+    /// Makes an empty directory.
+    Mkdir {
+        place: Place,
+        uid: u32,
+        gid: u32,
+    },
+    /// Writes bytes into a file from an offset on.
+    Write {
+        place: Place,
+        offset: u64,
+        bytes: Bytes,
+    },
+    /// Reads at most so many bytes of a file from an offset on.
+    Read {
+        place: Place,
+        offset: u64,
+        count: u32,
+    },
+    /// Sets the size of a file.
+    Truncate {
+        place: Place,
+        size: u64,
+    },
+    /// Moves a file or directory to another path of the same fileset.
+    Rename {
+        place: Place,
+        to: Path,
+    },
+    /// Removes a file.
+    Unlink {
+        place: Place,
+    },
+    /// Removes an empty directory.
+    Rmdir {
+        place: Place,
+    },
+    /// Lists the names in a directory.
+    List {
+        place: Place,
+    },
+    /// Shows the attributes of a file or directory.
+    Stat {
+        place: Place,
+    },
+    /// Makes a file durable.
+    Fsync {
+        place: Place,
+    },
+    /// Sets whether the data of a file is logged (chfile -L).
+    Chfile {
+        place: Place,
+        logged: bool,
+    },
+    /// Makes everything durable.
+    Sync,
+    /// Asks the mover's running job to stop.
+    Cancel,
+}
+
+/// Commands in their order.
+pub type CommandList = Listing<Command>;
