@@ -1,0 +1,25 @@
+//! What every part of the store speaks of: the limits of a domain, the numbers and places in it,
+//! pages, and the two answers that any part may give.
+#![tactic(auto)]
+
+pub mod limits;
+mod page;
+mod place;
+
+pub use page::Page;
+pub use place::{CellAt, FilesetNo, Home, Kind, Tag, VolIx};
+pub use std::alloc::AllocError as OutOfMemory;
+use std::error::Error;
+use std::fmt;
+
+/// A device, a source or a sink refused a call.
+#[derive(Clone, Copy, Debug, PartialEq, Eq)]
+pub struct Failed;
+
+impl fmt::Display for Failed {
+    fn fmt<W: fmt::Write>(&self, f: &mut fmt::Formatter<W>) -> fmt::Result {
+        f.write_str("the call was refused")
+    }
+}
+
+impl Error for Failed {}
