@@ -6,7 +6,7 @@ use Rattle.std.specs.FinMap as map
 use Rattle.domain_base.specs.declared.limits.TheConstants.{BLOCKS_PER_PAGE, FILE_BYTES, MAX_FILESETS}
 use Rattle.fileset_model.specs.Orders.{Name, Path}
 use Rattle.fileset_model.specs.Fileset.{Fileset}
-use Rattle.fileset_model.specs.Pages.{Pages, bytes_between, pages_of, written, truncated}
+use Rattle.fileset_model.specs.Pages.{absent_pages, bytes_between, written, truncated}
 use Rattle.fileset_model.specs.Paths.{same_name, same_path, first_refusal, refuse_if, node_at, is_directory, is_marked, walk_refusal, target_refusal, directory_here, file_here, begins_with, rows_of}
 use Rattle.fileset_model.specs.Usage.{limits_of, quota_refusal, used_blocks, used_files}
 use Rattle.fileset_model.specs.State.{FilesetMap, State}
@@ -66,13 +66,9 @@ path_taken slot path = refuse_if (map.contains_key slot.tree.paths path) Exists
 abbrev pub not_empty : FilesetSlot → Path → Option Refusal
 not_empty slot path = refuse_if (length path == 0 || not (length (rows_of slot.tree path) == 0)) NotEmpty
 
--- how many of the pages that the bytes lie in are absent
-abbrev pub absent_pages : Pages → ℕ → List ℕ → ℕ
-absent_pages pages offset bytes = count_by (λ q. not (map.contains_key pages q)) (pages_of offset (length bytes))
-
 -- 16 blocks are asked for each absent page
 abbrev pub write_quota : Fileset → ℕ → List ℕ → Node → Option Refusal
-write_quota tree offset bytes (File uid gid size logged pages) = quota_refusal tree uid gid 0 (BLOCKS_PER_PAGE * absent_pages pages offset bytes)
+write_quota tree offset bytes (File uid gid size logged pages) = quota_refusal tree uid gid 0 (BLOCKS_PER_PAGE * absent_pages pages offset (length bytes))
 write_quota tree offset bytes (Directory uid gid) = None
 
 abbrev pub create_checks : Path → ℕ → ℕ → FilesetSlot → List (Option Refusal)

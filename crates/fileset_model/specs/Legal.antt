@@ -8,7 +8,8 @@ use Rattle.fileset_model.specs.Orders.{Name, Path}
 use Rattle.fileset_model.specs.Fileset.{Fileset}
 use Rattle.fileset_model.specs.Paths.{begins_with, rows_of}
 use Rattle.fileset_model.specs.State.{FilesetMap, State}
-use Rattle.fileset_model.specs.Apply.{Apply, absent_pages, refusal_of}
+use Rattle.fileset_model.specs.Pages.{absent_pages}
+use Rattle.fileset_model.specs.Apply.{Apply, refusal_of}
 use Rattle.fileset_model.specs.Room.{Tight, need, room}
 use Rattle.fileset_model.specs.declared.command.Actor.{Actor}
 use Rattle.fileset_model.specs.declared.command.Actor.TheVariants.{Client, Mover}
@@ -128,7 +129,7 @@ TakesSpace all (Write place offset bytes) =
     IsSomeAnd (map.get all place.fileset) (λ slot. IsSomeAnd (map.get slot.tree.paths place.path) (λ number. IsSomeAnd (map.get slot.tree.nodes number) has_absent))
   where
     has_absent : Node → Type 0
-    has_absent (File uid gid size logged pages) = 0 < absent_pages pages offset bytes
+    has_absent (File uid gid size logged pages) = 0 < absent_pages pages offset (length bytes)
     has_absent (Directory uid gid) = ⊥
 TakesSpace all command = ⊥
 

@@ -3,6 +3,7 @@
 #![tactic(auto)]
 
 mod command;
+mod entries;
 mod entry;
 mod fileset;
 mod filesets;
