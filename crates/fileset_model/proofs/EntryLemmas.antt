@@ -102,3 +102,20 @@ module _ {K X : Type 0} (R : K → K → Ordering) where
   pub put_each-append : (xs : List (K × X)) (e : K × X) (es : List (K × X)) → put_each R (xs ++ e ∷ []) es ≡ put R e.0 e.1 (put_each R xs es)
   put_each-append [] e es = refl
   put_each-append (x ∷ xs) e es = put_each-append xs e (put R x.0 x.1 es)
+
+pub from_sorted-one : {K X : Type 0} {R : K → K → Ordering} → IsTotalOrder R → (k : K) (v : X) → map.from_sorted {R = R} ((k, v) ∷ []) ≡ map.insert map.empty k v
+from_sorted-one {R = R} o k v = insert-from_sorted o [] k v refl ∙ ap (λ m. map.insert m k v) (from_sorted-empty R)
+
+-- what stands at the place of a key
+module _ {K X : Type 0} {R : K → K → Ordering} (es : List (K × X)) (key : K) (place : ℕ) (item : K × X) (at : IsPlaceOf R es key place) (is : item ≡ get_or es place item) where
+  pub find_at_place : find R key es ≡ Some item.1
+  find_at_place = at.found item ∙ ap (λ (x : K × X). Some x.1) (sym is)
+
+  pub put_at_place : (v : X) → put R key v es ≡ set es place (item.0, v)
+  put_at_place v = at.replaced item v ∙ ap (λ (x : K × X). set es place (x.0, v)) (sym is)
+
+  pub sorted_at_place : IsTotalOrder R → IsTrue (is_sorted R es) → (v : X) → IsTrue (is_sorted R (set es place (item.0, v)))
+  sorted_at_place o h v = subst (λ l. IsTrue (is_sorted R l)) (put_at_place v) (is_sorted_put o es key v h)
+
+  pub insert_at_place : IsTotalOrder R → IsTrue (is_sorted R es) → (v : X) → map.from_sorted {R = R} (set es place (item.0, v)) ≡ map.insert (map.from_sorted es) key v
+  insert_at_place o h v = ap map.from_sorted (sym (put_at_place v)) ∙ insert-from_sorted o es key v h

@@ -3,7 +3,6 @@ use Rattle.std.specs.Prelude.{◌≡◌, ◌⊎◌, ℕ, ◌+◌, ◌<◌, ◌�
 use Rattle.std.specs.Option.{option_map, option_map_or, option_to_list}
 use Rattle.std.specs.List.{filter_map}
 use Rattle.std.specs.FinMap as map
-use Rattle.std.specs.FinSet as set
 use Rattle.fileset_model.specs.Orders.{Name, Path}
 use Rattle.fileset_model.specs.Fileset.{Fileset}
 use Rattle.fileset_model.specs.Paths.{begins_with, rows_of}
@@ -85,8 +84,8 @@ GainsMarks Allowed old new = (name : Name) → slots (map.get old name) (map.get
     roles slot Original role = role ≡ Original
     roles slot (CloneOf original out) Original = ⊥
     roles slot (CloneOf original out) (CloneOf original' out') =
-        (original ≡ original') × ((number : ℕ) → IsTrue (set.contains out number) → IsTrue (set.contains out' number))
-        × ((number : ℕ) → IsTrue (set.contains out' number) → set.contains out number ≡ false → Allowed original slot number)
+        (original ≡ original') × ((number : ℕ) → IsTrue (map.contains_key out number) → IsTrue (map.contains_key out' number))
+        × ((number : ℕ) → IsTrue (map.contains_key out' number) → map.contains_key out number ≡ false → Allowed original slot number)
     slots : Option FilesetSlot → Option FilesetSlot → Type 0
     slots None found = found ≡ None
     slots (Some slot) None = ⊥

@@ -5,7 +5,6 @@ use Rattle.std.specs.List.{filter_map, range_with_len, starts_with}
 use Rattle.std.specs.Cmp.Lexicographic.{pointwise}
 use Rattle.std.specs.Ordering.{nat_cmp}
 use Rattle.std.specs.FinMap.{get, contains_key, entries}
-use Rattle.std.specs.FinSet.{contains}
 use Rattle.fileset_model.specs.Orders.{Name, Path}
 use Rattle.fileset_model.specs.Fileset.{Fileset}
 use Rattle.fileset_model.specs.declared.node.Node.{Node}
@@ -45,7 +44,7 @@ is_directory (Directory uid gid) = true
 -- whether a number lost its frozen content; an original's never does
 abbrev pub is_out_of_sync : Role → ℕ → Bool
 is_out_of_sync Original number = false
-is_out_of_sync (CloneOf original out) number = contains out number
+is_out_of_sync (CloneOf original out) number = contains_key out number
 
 -- the same of what a path leads to
 abbrev pub is_marked : FilesetSlot → Path → Bool

@@ -1,6 +1,15 @@
+ghost use Rattle.std.specs.Prelude.{◌≡◌, ◌+◌, ◌≤◌, length, IfOk, OnOk, OnErr, option_copied};
+ghost use Rattle.std.specs.FinMap as map;
+ghost use Rattle.domain_base.specs.declared.limits.TheConstants.{FILE_BYTES};
+ghost use Rattle.fileset_model.specs.Apply.{empty_fileset, with_change, with_node, written_node};
+ghost use Rattle.fileset_model.specs.Paths.{is_out_of_sync, node_at as node_under};
+
 use crate::command::Owner;
+use crate::entries::{find, place_of, put};
 use crate::names::{FilesetName, Path};
 use crate::node::Node;
+use domain_base::OutOfMemory;
+use std::alloc::Global;
 use std::marker::Model;
 
 /// The most files and blocks of 512 bytes that an owner may have; 0 is no limit.
@@ -42,6 +51,80 @@ impl Model for FilesetTree {
         × IsTrue (map.is_sorted owner_cmp f.limits.items) };
 }
 
+impl FilesetTree {
+    /// An empty root of this number, owned by uid 0 and gid 0, and no limits.
+    pub fn empty(alloc: Global, root: u64) -> Result<FilesetTree, OutOfMemory>
+        ensures { IfOk result (λ tree. tree ≡ empty_fileset root) }
+    {
+        let mut paths = Vec::new(alloc);
+        paths.push((Path::root(alloc), root))?;
+        let mut nodes = Vec::new(alloc);
+        nodes.push((root, Node::Directory { uid: 0, gid: 0 }))?;
+        Ok(FilesetTree {
+            paths,
+            nodes,
+            limits: Vec::new(alloc),
+        })
+    }
+
+    /// The number of what stands at a path.
+    pub fn number_at(&self, path: &Path) -> Option<u64>
+        ensures { result ≡ map.get self.now.paths path.now }
+    {
+        find(&self.paths, path).copied()
+    }
+
+    /// What has a number.
+    pub fn node(&self, number: u64) -> Option<&Node>
+        ensures { option_copied result ≡ map.get self.now.nodes number }
+    {
+        find(&self.nodes, &number)
+    }
+
+    /// What stands at a path.
+    pub fn node_at(&self, path: &Path) -> Option<&Node>
+        ensures { option_copied result ≡ node_under self.now path.now }
+    {
+        match self.number_at(path) {
+            Some(number) => self.node(number),
+            None => None,
+        }
+    }
+
+    /// Adds a node at a path. After an error the tree is as before.
+    pub fn add(&mut self, path: Path, number: u64, node: Node) -> Result<(), OutOfMemory>
+        ensures ok { OnOk result (self.new ≡ with_node path number node self.old) }
+        ensures err { OnErr result (self.new ≡ self.old) }
+    {
+        self.paths.reserve(1)?;
+        put(&mut self.nodes, number, node)?;
+        put(&mut self.paths, path, number)?;
+        Ok(())
+    }
+
+    /// Writes the bytes into the file at a path. After an error the tree is as before.
+    pub fn write(
+        &mut self,
+        alloc: Global,
+        path: &Path,
+        offset: u64,
+        bytes: &[u8],
+    ) -> Result<(), OutOfMemory>
+        requires { offset + length bytes.now ≤ FILE_BYTES }
+        ensures ok { OnOk result (self.new ≡ with_change path.now (written_node offset bytes.now) self.old) }
+        ensures err { OnErr result (self.new ≡ self.old) }
+    {
+        let Some(number) = self.number_at(path) else {
+            return Ok(());
+        };
+        let Ok(place) = place_of(&self.nodes, &number) else {
+            return Ok(());
+        };
+        self.nodes[place].1.write(alloc, offset, bytes)?;
+        Ok(())
+    }
+}
+
 /// Numbers of files and directories.
 #[derive(Debug, Drop)]
 pub struct NumberSet {
@@ -64,6 +147,26 @@ impl Model for NumberSet {
     ghost invariant = { λ s. IsTrue (map.is_sorted nat_cmp s.numbers.items) };
 }
 
+impl NumberSet {
+    /// No numbers.
+    pub fn new(alloc: Global) -> NumberSet
+        ensures { result ≡ map.empty }
+    {
+        NumberSet {
+            numbers: Vec::new(alloc),
+        }
+    }
+
+    pub fn contains(&self, number: u64) -> bool
+        ensures { result ≡ map.contains_key self.now number }
+    {
+        match find(&self.numbers, &number) {
+            Some(_) => true,
+            None => false,
+        }
+    }
+}
+
 /// Whether a fileset is an original, or the clone of one.
 #[derive(Debug, Drop)]
 pub enum Role {
@@ -73,6 +176,18 @@ pub enum Role {
         original: FilesetName,
         out: NumberSet,
     },
+}
+
+impl Role {
+    /// Whether a number lost its frozen content; an original's never does.
+    pub fn is_out_of_sync(&self, number: u64) -> bool
+        ensures { result ≡ is_out_of_sync self.now number }
+    {
+        match self {
+            Role::Original => false,
+            Role::CloneOf { out, .. } => out.contains(number),
+        }
+    }
 }
 
 /// A fileset of a domain.
