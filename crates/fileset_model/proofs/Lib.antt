@@ -1,3 +1,4 @@
 pub mod EntryLemmas
 pub mod PageLemmas
 pub mod TreeLemmas
+pub mod WalkLemmas

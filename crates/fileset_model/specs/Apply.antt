@@ -1,5 +1,5 @@
 -- What each command of a client answers and changes.
-use Rattle.std.specs.Prelude.{◌≡◌, ℕ, suc, ◌+◌, ◌-◌, ◌*◌, ◌==◌, Bool, true, false, not, ◌||◌, nat_lt, nat_le, max, List, [], ◌∷◌, ◌++◌, length, map, drop, count_by, IsTrue, MatchOption, Option, Some, None, if◌then◌else◌}
+use Rattle.std.specs.Prelude.{◌≡◌, ◌⊎◌, ℕ, suc, ◌+◌, ◌-◌, ◌*◌, ◌==◌, Bool, true, false, not, ◌||◌, nat_lt, nat_le, max, List, [], ◌∷◌, ◌++◌, length, map, drop, count_by, IsTrue, MatchOption, Option, Some, None, if◌then◌else◌}
 use Rattle.std.specs.Option.{option_map_or}
 use Rattle.std.specs.List.{list_any}
 use Rattle.std.specs.FinMap as map
@@ -21,7 +21,7 @@ use Rattle.fileset_model.specs.declared.node.Node.{Node}
 use Rattle.fileset_model.specs.declared.node.Node.TheVariants.{File, Directory}
 use Rattle.fileset_model.specs.declared.reply.FilesetItem.{FilesetItem}
 use Rattle.fileset_model.specs.declared.reply.Refusal.{Refusal}
-use Rattle.fileset_model.specs.declared.reply.Refusal.TheVariants.{NoFileset, FilesetExists, Exists, NotEmpty, ReadOnly, HasClone, OutOfSync, IntoItself, TooFar, FilesetsFull, CloneOfClone}
+use Rattle.fileset_model.specs.declared.reply.Refusal.TheVariants.{NoFileset, FilesetExists, Exists, NotEmpty, ReadOnly, HasClone, OutOfSync, IntoItself, TooFar, FilesetsFull, CloneOfClone, OutOfMemory}
 use Rattle.fileset_model.specs.declared.reply.Reply.{Reply}
 use Rattle.fileset_model.specs.declared.reply.Reply.TheVariants.{Done, Count, Read as Bytes, Names, FileStat, DirStat, Filesets, Quota, Refused}
 
@@ -274,3 +274,15 @@ Answers all command reply new =
 -- the same of a state, all else of which stays
 abbrev pub Apply : State → Command → Reply → State → Type 0
 Apply s command reply new = Answers s.filesets command reply new.filesets × (new ≡ record s { filesets = new.filesets })
+
+-- the answer and the change of a command; or out-of-memory, and then nothing changes
+abbrev pub AnswersIfMemory : FilesetMap → Command → Reply → FilesetMap → Type 0
+AnswersIfMemory all command reply new = Answers all command reply new ⊎ ((reply ≡ Refused OutOfMemory) × (new ≡ all))
+
+-- a command that the plain filesets answer so far
+abbrev pub IsAnswered : Command → Type 0
+IsAnswered (Mkfset fileset) = Unit {0}
+IsAnswered (Create place uid gid) = Unit {0}
+IsAnswered (Write place offset bytes) = Unit {0}
+IsAnswered (Read place offset count) = Unit {0}
+IsAnswered command = ⊥

@@ -22,9 +22,9 @@ pub struct Limits {
 /// The files and directories of a fileset, with the limits of their owners.
 #[derive(Debug, Drop)]
 pub struct FilesetTree {
-    paths: Vec<(Path, u64)>,
-    nodes: Vec<(u64, Node)>,
-    limits: Vec<(Owner, Limits)>,
+    pub(crate) paths: Vec<(Path, u64)>,
+    pub(crate) nodes: Vec<(u64, Node)>,
+    pub(crate) limits: Vec<(Owner, Limits)>,
 }
 
 impl Model for FilesetTree {

@@ -11,7 +11,9 @@ mod listing;
 mod names;
 mod node;
 mod page_map;
+mod quota;
 mod reply;
+mod walk;
 
 pub use command::{Actor, Command, CommandList, Owner, Place};
 pub use entry::Entry;
