@@ -1,9 +1,10 @@
 -- What holds of lists of entries in the order of their keys, and of the maps that they make.
-use Rattle.std.proofs.Common.{◌≡◌, ℕ, ◌+◌, ◌<◌, ◌≤◌, Bool, true, false, cond, ◌&&◌, List, [], ◌∷◌, ◌++◌, length, take, drop, get_or, set, refl, sym, ap, subst, ◌∙◌, T, IsTrue, Some, None, arith, add-one}
+use Rattle.std.proofs.lemmas.Bool.Decides.{nat_tests}
+use Rattle.std.proofs.Common.{◌≡◌, ℕ, suc, ◌+◌, ◌<◌, ◌≤◌, ◌==◌, nat_lt, Bool, true, false, cond, ◌&&◌, List, [], ◌∷◌, ◌++◌, length, take, drop, get_or, set, refl, sym, ap, subst, ◌∙◌, T, IsTrue, Some, None, arith, add-one}
 use Rattle.std.proofs.lemmas.List.{take-append-drop, take-set, drop-set, drop_more, get_or_read}
 use Rattle.std.specs.declared.cmp.Ordering.{Ordering}
 use Rattle.std.specs.declared.cmp.Ordering.TheVariants.{Less, Equal, Greater}
-use Rattle.std.specs.Ordering.{eq_by_cmp, is_eq, is_lt}
+use Rattle.std.specs.Ordering.{eq_by_cmp, is_eq, is_lt, nat_cmp}
 use Rattle.std.specs.Cmp.{IsTotalOrder}
 use Rattle.std.specs.FinMap as map
 use Rattle.std.specs.FinMap.Entries.{below_all, by_order, find, put, is_sorted, is_sorted-put, where_key, is_sorted-where_key}
@@ -58,12 +59,12 @@ module _ {K X : Type 0} {R : K → K → Ordering} (o : IsTotalOrder R) where
       record {
         within = omega arith;
         absent = sym passed.found ∙ ap (find R key) here
-          ∙ ap (λ r. cond (is_eq r) (Some e.1) (find R key (drop (i + 1) es))) h
-          ∙ find-below key e.0 (drop (i + 1) es) h (first _ _ sorted);
+            ∙ ap (λ r. cond (is_eq r) (Some e.1) (find R key (drop (i + 1) es))) h
+            ∙ find-below key e.0 (drop (i + 1) es) h (first _ _ sorted);
         placed = λ v. sym (passed.placed v)
-          ∙ ap (λ l. take i es ++ put R key v l) here
-          ∙ ap (λ r. take i es ++ by_order r ((key, v) ∷ e ∷ drop (i + 1) es) ((e.0, v) ∷ drop (i + 1) es) (e ∷ put R key v (drop (i + 1) es))) h
-          ∙ ap (λ l. take i es ++ (key, v) ∷ l) (sym here);
+            ∙ ap (λ l. take i es ++ put R key v l) here
+            ∙ ap (λ r. take i es ++ by_order r ((key, v) ∷ e ∷ drop (i + 1) es) ((e.0, v) ∷ drop (i + 1) es) (e ∷ put R key v (drop (i + 1) es))) h
+            ∙ ap (λ l. take i es ++ (key, v) ∷ l) (sym here);
       }
 
   pub place_here : (es : List (K × X)) (key : K) (i : ℕ) (e : K × X) → Passed R es key i → i < length es → e ≡ get_or es i e → R key e.0 ≡ Equal → IsPlaceOf R es key i
@@ -72,13 +73,13 @@ module _ {K X : Type 0} {R : K → K → Ordering} (o : IsTotalOrder R) where
       record {
         within = within;
         found = λ d. sym passed.found ∙ ap (find R key) here
-          ∙ ap (λ r. cond (is_eq r) (Some e.1) (find R key (drop (i + 1) es))) h
-          ∙ ap (λ (x : K × X). Some x.1) (get_or_read es i e within is d);
+            ∙ ap (λ r. cond (is_eq r) (Some e.1) (find R key (drop (i + 1) es))) h
+            ∙ ap (λ (x : K × X). Some x.1) (get_or_read es i e within is d);
         replaced = λ d v. sym (passed.placed v)
-          ∙ ap (λ l. take i es ++ put R key v l) here
-          ∙ ap (λ r. take i es ++ by_order r ((key, v) ∷ e ∷ drop (i + 1) es) ((e.0, v) ∷ drop (i + 1) es) (e ∷ put R key v (drop (i + 1) es))) h
-          ∙ sym (set-take-drop es i (e.0, v) within)
-          ∙ ap (λ (x : K × X). set es i (x.0, v)) (get_or_read es i e within is d);
+            ∙ ap (λ l. take i es ++ put R key v l) here
+            ∙ ap (λ r. take i es ++ by_order r ((key, v) ∷ e ∷ drop (i + 1) es) ((e.0, v) ∷ drop (i + 1) es) (e ∷ put R key v (drop (i + 1) es))) h
+            ∙ sym (set-take-drop es i (e.0, v) within)
+            ∙ ap (λ (x : K × X). set es i (x.0, v)) (get_or_read es i e within is d);
       }
 
   pub is_sorted_put : (es : List (K × X)) (k : K) (v : X) → IsTrue (is_sorted R es) → IsTrue (is_sorted R (put R k v es))
@@ -119,3 +120,29 @@ module _ {K X : Type 0} {R : K → K → Ordering} (es : List (K × X)) (key : K
 
   pub insert_at_place : IsTotalOrder R → IsTrue (is_sorted R es) → (v : X) → map.from_sorted {R = R} (set es place (item.0, v)) ≡ map.insert (map.from_sorted es) key v
   insert_at_place o h v = ap map.from_sorted (sym (put_at_place v)) ∙ insert-from_sorted o es key v h
+
+-- no entry has a key that is above all of theirs
+greater : (m n : ℕ) → n < m → nat_cmp m n ≡ Greater
+greater m n h =
+    let not_less : nat_lt m n ≡ false = grind (arith, nat_tests) in
+    let not_same : (m == n) ≡ false = grind (arith, nat_tests) in
+    rw (not_less, not_same)
+
+pub find-above : {X : Type 0} (k : ℕ) (es : List (ℕ × X)) (e : ℕ × X) → find nat_cmp k es ≡ None → e.0 < k → find nat_cmp k (es ++ e ∷ []) ≡ None
+find-above k [] e none h = ap (λ r. cond (is_eq r) (Some e.1) None) (greater k e.0 h)
+find-above k (x ∷ es) e none h =
+    let later = λ (found : find nat_cmp k es ≡ None). find-above k es e found h in
+    elim (eq_by_cmp nat_cmp k x.0) as (λ b. cond b (Some x.1) (find nat_cmp k es) ≡ None → cond b (Some x.1) (find nat_cmp k (es ++ e ∷ [])) ≡ None) [
+      | true ↦ λ found. found
+      | false ↦ later
+    ] none
+
+-- a value that is found stands somewhere
+pub find-stands : {K X : Type 0} (R : K → K → Ordering) (q : K) (es : List (K × X)) (v : X) → find R q es ≡ Some v → (i : ℕ) × (i < length es) × ((d : K × X) → (get_or es i d).1 ≡ v)
+find-stands R q [] v h = absurd (cc)
+find-stands {K} {X} R q (e ∷ es) v h =
+    let there = λ (found : find R q es ≡ Some v). find-stands R q es v found in
+    elim (eq_by_cmp R q e.0) as (λ b. cond b (Some e.1) (find R q es) ≡ Some v → (i : ℕ) × (i < length (e ∷ es)) × ((d : K × X) → (get_or (e ∷ es) i d).1 ≡ v)) [
+      | true ↦ λ found. (0, omega arith, λ d. cc)
+      | false ↦ λ found. let rest = there found in (suc rest.0, omega (arith, rest.1), rest.2)
+    ] h

@@ -12,7 +12,7 @@ rest_of_walk slot path count = first_refusal (map (directory_refusal slot) (map 
 
 -- it begins with that directory
 pub walk-step : (slot : FilesetSlot) (path : Path) (count : ℕ) → count < length path
-  → rest_of_walk slot path count ≡ first_refusal (directory_refusal slot (take count path) ∷ map (directory_refusal slot) (map (λ k. take k path) (range_with_len (count + 1) (length path - (count + 1)))))
+    → rest_of_walk slot path count ≡ first_refusal (directory_refusal slot (take count path) ∷ map (directory_refusal slot) (map (λ k. take k path) (range_with_len (count + 1) (length path - (count + 1)))))
 walk-step slot path count h =
     let one_more : length path - count ≡ suc (length path - (count + 1)) = omega arith in
     ap (λ n. first_refusal (map (directory_refusal slot) (map (λ k. take k path) (range_with_len count n)))) one_more

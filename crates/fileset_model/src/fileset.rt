@@ -1,7 +1,7 @@
-ghost use Rattle.std.specs.Prelude.{◌≡◌, ◌+◌, ◌≤◌, length, IfOk, OnOk, OnErr, option_copied};
+ghost use Rattle.std.specs.Prelude.{◌≡◌, ℕ, ◌+◌, ◌≤◌, length, None, IfOk, OnOk, OnErr, option_copied};
 ghost use Rattle.std.specs.FinMap as map;
 ghost use Rattle.domain_base.specs.declared.limits.TheConstants.{FILE_BYTES};
-ghost use Rattle.fileset_model.specs.Apply.{empty_fileset, with_change, with_node, written_node};
+ghost use Rattle.fileset_model.specs.Apply.{empty_fileset, is_clone, with_change, with_node, written_node};
 ghost use Rattle.fileset_model.specs.Paths.{is_out_of_sync, node_at as node_under};
 
 use crate::command::Owner;
@@ -40,9 +40,9 @@ impl Model for FilesetTree {
     ghost use Rattle.fileset_model.specs.Orders.{owner_cmp, path_cmp};
 
     ghost view = { λ f. record {
-        paths = map.from_sorted f.paths.items;
-        nodes = map.from_sorted f.nodes.items;
-        limits = map.from_sorted f.limits.items;
+      paths = map.from_sorted f.paths.items;
+      nodes = map.from_sorted f.nodes.items;
+      limits = map.from_sorted f.limits.items;
     } };
 
     ghost invariant = { λ f.
@@ -91,6 +91,18 @@ impl FilesetTree {
         }
     }
 
+    /// A number that is at least `least` and above all numbers in use.
+    pub(crate) fn number_above(&self, least: u64) -> Result<u64, OutOfMemory>
+        ensures least { IfOk result (λ number. least ≤ number) }
+        ensures above { IfOk result (λ number. (k : ℕ) → number ≤ k → map.get self.now.nodes k ≡ None) }
+    {
+        let mut number = least;
+        for (used, _) in &self.nodes {
+            number = number.max(number_after(*used)?);
+        }
+        Ok(number)
+    }
+
     /// Adds a node at a path. After an error the tree is as before.
     pub fn add(&mut self, path: Path, number: u64, node: Node) -> Result<(), OutOfMemory>
         ensures ok { OnOk result (self.new ≡ with_node path number node self.old) }
@@ -122,6 +134,16 @@ impl FilesetTree {
         };
         self.nodes[place].1.write(alloc, offset, bytes)?;
         Ok(())
+    }
+}
+
+/// The next number; where there is none, it is answered as out of memory.
+fn number_after(number: u64) -> Result<u64, OutOfMemory>
+    ensures { IfOk result (λ next. next ≡ number + 1) }
+{
+    match number.checked_add(1) {
+        Some(next) => Ok(next),
+        None => Err(OutOfMemory),
     }
 }
 
@@ -179,6 +201,15 @@ pub enum Role {
 }
 
 impl Role {
+    pub fn is_clone(&self) -> bool
+        ensures { result ≡ is_clone self.now }
+    {
+        match self {
+            Role::Original => false,
+            Role::CloneOf { .. } => true,
+        }
+    }
+
     /// Whether a number lost its frozen content; an original's never does.
     pub fn is_out_of_sync(&self, number: u64) -> bool
         ensures { result ≡ is_out_of_sync self.now number }

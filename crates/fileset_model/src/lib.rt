@@ -2,6 +2,7 @@
 //! plain slow program that answers them.
 #![tactic(auto)]
 
+mod answers;
 mod command;
 mod entries;
 mod entry;
@@ -15,6 +16,7 @@ mod quota;
 mod reply;
 mod walk;
 
+pub use answers::apply;
 pub use command::{Actor, Command, CommandList, Owner, Place};
 pub use entry::Entry;
 pub use fileset::{FilesetSlot, FilesetTree, Limits, NumberSet, Role};

@@ -58,11 +58,7 @@ fn node_blocks(node: &Node) -> Result<u64, OutOfMemory>
 }
 
 /// What an owner uses of these nodes, of which the root does not count.
-fn usage_of(
-    nodes: &[(u64, Node)],
-    who: Owner,
-    root: Option<u64>,
-) -> Result<Usage, OutOfMemory>
+fn usage_of(nodes: &[(u64, Node)], who: Owner, root: Option<u64>) -> Result<Usage, OutOfMemory>
     ensures files { IfOk result (λ usage. usage.files ≡ length (filter (counts_for who root) nodes.now)) }
     ensures blocks { IfOk result (λ usage. usage.blocks ≡ sum_by (λ e. blocks_of e.1) (filter (counts_for who root) nodes.now)) }
 {

@@ -17,13 +17,13 @@ returns-clause-ok c =
     let node = c.args.node in
     let old = c.self.inside in
     let paths : c.put-2.new.entries.items ≡ put path_cmp path number old.paths.items =
-      c.in_ok-put-2.ensures.ok ∙ ap (λ (es : List (Path × ℕ)). put path_cmp path number es) c.reserve.ensures.items in
+    c.in_ok-put-2.ensures.ok ∙ ap (λ (es : List (Path × ℕ)). put path_cmp path number es) c.reserve.ensures.items in
     let nodes : c.put.new.entries.items ≡ put nat_cmp number node old.nodes.items = c.in_ok-put.ensures.ok in
     ap (λ (es : List (Path × ℕ)). tree_of es c.put.new.entries.items old.limits.items) paths
     ∙ ap (λ (es : List (ℕ × Node)). tree_of (put path_cmp path number old.paths.items) es old.limits.items) nodes
     ∙ (λ i. record {
-        paths = insert-from_sorted path_cmp-total old.paths.items path number c.self.invariant.0 i;
-        nodes = insert-from_sorted nat_cmp_total old.nodes.items number node c.self.invariant.1 i;
-        limits = from_sorted old.limits.items;
-      })
+      paths = insert-from_sorted path_cmp-total old.paths.items path number c.self.invariant.0 i;
+      nodes = insert-from_sorted nat_cmp_total old.nodes.items number node c.self.invariant.1 i;
+      limits = from_sorted old.limits.items;
+    })
     ∙ ap (with_node path number node) c.self.view_is

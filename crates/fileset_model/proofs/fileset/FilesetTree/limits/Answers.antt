@@ -15,14 +15,14 @@ pub returns-in-Some : goal.returns-in-Some
 returns-in-Some c =
     let who = c.args.who in
     ap (λ o. unwrap_or o none) (c.in-Some.ensures
-      ∙ ap (λ (es : List (Owner × Limits)). find owner_cmp who es) c.deref.ensures.value
-      ∙ sym (get-from_sorted owner_cmp c.self.inside.limits.items who c.self.invariant.2)
-      ∙ ap (λ (tree : Fileset). get tree.limits who) c.self.view_is)
+    ∙ ap (λ (es : List (Owner × Limits)). find owner_cmp who es) c.deref.ensures.value
+    ∙ sym (get-from_sorted owner_cmp c.self.inside.limits.items who c.self.invariant.2)
+    ∙ ap (λ (tree : Fileset). get tree.limits who) c.self.view_is)
 
 pub returns-in-None : goal.returns-in-None
 returns-in-None c =
     let who = c.args.who in
     ap (λ o. unwrap_or o none) (c.in-None.ensures
-      ∙ ap (λ (es : List (Owner × Limits)). find owner_cmp who es) c.deref.ensures.value
-      ∙ sym (get-from_sorted owner_cmp c.self.inside.limits.items who c.self.invariant.2)
-      ∙ ap (λ (tree : Fileset). get tree.limits who) c.self.view_is)
+    ∙ ap (λ (es : List (Owner × Limits)). find owner_cmp who es) c.deref.ensures.value
+    ∙ sym (get-from_sorted owner_cmp c.self.inside.limits.items who c.self.invariant.2)
+    ∙ ap (λ (tree : Fileset). get tree.limits who) c.self.view_is)

@@ -13,7 +13,7 @@ returns-clause-files c =
     let who = c.args.who in
     let tree = c.args.self.now in
     let nodes : c.deref.result.now ≡ entries tree.nodes =
-      c.deref.ensures.value ∙ sym (entries-from_sorted nat_cmp c.self.inside.nodes.items c.self.invariant.1) ∙ ap (λ (t : Fileset). entries t.nodes) c.self.view_is in
+    c.deref.ensures.value ∙ sym (entries-from_sorted nat_cmp c.self.inside.nodes.items c.self.invariant.1) ∙ ap (λ (t : Fileset). entries t.nodes) c.self.view_is in
     let root : c.number_at-root.result ≡ get tree.paths [] = c.number_at-root.ensures ∙ ap (get tree.paths) c.root.ensures in
     c.in_ok-usage.ensures.files
     ∙ ap (λ (r : Option ℕ). length (filter (counts_for who r) c.deref.result.now)) root
@@ -24,7 +24,7 @@ returns-clause-blocks c =
     let who = c.args.who in
     let tree = c.args.self.now in
     let nodes : c.deref.result.now ≡ entries tree.nodes =
-      c.deref.ensures.value ∙ sym (entries-from_sorted nat_cmp c.self.inside.nodes.items c.self.invariant.1) ∙ ap (λ (t : Fileset). entries t.nodes) c.self.view_is in
+    c.deref.ensures.value ∙ sym (entries-from_sorted nat_cmp c.self.inside.nodes.items c.self.invariant.1) ∙ ap (λ (t : Fileset). entries t.nodes) c.self.view_is in
     let root : c.number_at-root.result ≡ get tree.paths [] = c.number_at-root.ensures ∙ ap (get tree.paths) c.root.ensures in
     c.in_ok-usage.ensures.blocks
     ∙ ap (λ (r : Option ℕ). sum_by (λ (e : ℕ × Node). blocks_of e.1) (filter (counts_for who r) c.deref.result.now)) root

@@ -22,15 +22,15 @@ loop-q-preserved c =
     let one_more : (q - first) + 1 ≡ q + 1 - first = omega arith in
     let next : first + (q - first) ≡ q = omega arith in
     let tested : c.is_absent.result ≡ is_absent q =
-      c.is_absent.ensures
-      ∙ ap (λ (es : List (ℕ × List ℕ)). not (contains_key (from_sorted {R = nat_cmp} es) q)) c.deref.ensures.value
-      ∙ ap (λ pages. not (contains_key pages q)) c.self.view_is in
+    c.is_absent.ensures
+    ∙ ap (λ (es : List (ℕ × List ℕ)). not (contains_key (from_sorted {R = nat_cmp} es) q)) c.deref.ensures.value
+    ∙ ap (λ pages. not (contains_key pages q)) c.self.view_is in
     let added : c.from-absent.result ≡ cond (is_absent q) 1 0 = c.from-absent.ensures ∙ as_number c.is_absent.result ∙ ap (λ b. cond b 1 0) tested in
     let few : c.from-absent.result ≤ 1 = rw added (at_most_one (is_absent q)) in
     record {
       counted = ap (λ n. n + c.from-absent.result) c.loop-q.invariant.counted
-        ∙ ap (λ k. count_by is_absent (range_with_len first (q - first)) + k) added
-        ∙ sym (count_by-range_with_len_more is_absent first (q - first) q next)
-        ∙ ap (λ n. count_by is_absent (range_with_len first n)) one_more;
+          ∙ ap (λ k. count_by is_absent (range_with_len first (q - first)) + k) added
+          ∙ sym (count_by-range_with_len_more is_absent first (q - first) q next)
+          ∙ ap (λ n. count_by is_absent (range_with_len first n)) one_more;
       few = omega arith;
     }
