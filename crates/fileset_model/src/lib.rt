@@ -8,6 +8,7 @@ mod entries;
 mod entry;
 mod fileset;
 mod filesets;
+mod laws;
 mod listing;
 mod names;
 mod node;
