@@ -1,3 +1,4 @@
+pub mod ChangeLemmas
 pub mod EntryLemmas
 pub mod PageLemmas
 pub mod RowsLemmas

@@ -3,6 +3,7 @@
 #![tactic(auto)]
 
 mod answers;
+mod change;
 mod command;
 mod entries;
 mod entry;
