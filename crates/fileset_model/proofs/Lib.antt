@@ -1,6 +1,8 @@
+pub mod ChangeLemmas
 pub mod EntryLemmas
 pub mod MapLemmas
 pub mod PageLemmas
+pub mod RowsLemmas
 pub mod SlotLemmas
 pub mod TreeLemmas
 pub mod ValidLemmas

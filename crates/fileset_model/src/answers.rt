@@ -157,7 +157,7 @@ fn read_file(
 }
 
 /// Why a file or directory can't be made at a path.
-fn create_refusal(
+pub(crate) fn create_refusal(
     alloc: Global,
     slot: &FilesetSlot,
     path: &Path,

@@ -3,6 +3,7 @@
 #![tactic(auto)]
 
 mod answers;
+mod change;
 mod command;
 mod entries;
 mod entry;
@@ -15,6 +16,7 @@ mod node;
 mod page_map;
 mod quota;
 mod reply;
+mod rows;
 mod walk;
 
 pub use answers::apply;
