@@ -3,3 +3,4 @@ pub mod PageLemmas
 pub mod SlotLemmas
 pub mod TreeLemmas
 pub mod WalkLemmas
+pub mod WholeLemmas

@@ -15,6 +15,7 @@ mod page_map;
 mod quota;
 mod reply;
 mod walk;
+mod whole;
 
 pub use answers::apply;
 pub use command::{Actor, Command, CommandList, Owner, Place};
