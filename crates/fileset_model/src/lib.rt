@@ -30,3 +30,6 @@ pub use reply::{
     ExtentItem, ExtentList, FilesetItem, FilesetList, NameItem, NameList, Refusal, Reply,
     VolumeItem, VolumeList,
 };
+
+#[cfg(test)]
+mod tests;
