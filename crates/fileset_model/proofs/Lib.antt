@@ -7,3 +7,4 @@ pub mod SlotLemmas
 pub mod TreeLemmas
 pub mod ValidLemmas
 pub mod WalkLemmas
+pub mod WholeLemmas

@@ -18,6 +18,7 @@ mod quota;
 mod reply;
 mod rows;
 mod walk;
+mod whole;
 
 pub use answers::apply;
 pub use command::{Actor, Command, CommandList, Owner, Place};
