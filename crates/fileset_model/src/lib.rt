@@ -10,6 +10,7 @@ mod fileset;
 mod filesets;
 mod listing;
 mod names;
+mod names_commands;
 mod node;
 mod page_map;
 mod quota;
