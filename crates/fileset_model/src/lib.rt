@@ -14,6 +14,7 @@ mod node;
 mod page_map;
 mod quota;
 mod reply;
+mod rows;
 mod walk;
 
 pub use answers::apply;
