@@ -15,6 +15,7 @@ mod node;
 mod page_map;
 mod quota;
 mod reply;
+mod rows;
 mod walk;
 
 pub use answers::apply;
