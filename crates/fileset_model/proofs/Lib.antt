@@ -1,4 +1,5 @@
 pub mod EntryLemmas
+pub mod MoveLemmas
 pub mod PageLemmas
 pub mod RowsLemmas
 pub mod SlotLemmas

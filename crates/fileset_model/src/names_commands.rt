@@ -1,7 +1,7 @@
 //! The commands that move names, list them and show what they lead to.
-ghost use Rattle.std.specs.Prelude.{◌≡◌, [], ◌∷◌, not, IfOk, OnOk, OnErr, IsTrue, None as NoRefusal, map as map_each};
+ghost use Rattle.std.specs.Prelude.{◌≡◌, [], ◌∷◌, ◌++◌, not, IfOk, OnOk, OnErr, IsTrue, None as NoRefusal, map as map_each};
 ghost use Rattle.std.specs.Option.{option_map_or};
-ghost use Rattle.std.specs.Ordering.{eq_by_cmp};
+ghost use Rattle.std.specs.Ordering.{eq_by_cmp, nat_cmp};
 ghost use Rattle.std.specs.FinMap as map;
 ghost use Rattle.std.specs.FinMap.Entries.{is_sorted, where_key};
 ghost use Rattle.fileset_model.specs.Orders.{path_cmp};
@@ -15,7 +15,7 @@ use crate::entries::{place_of, put};
 use crate::fileset::{FilesetSlot, FilesetTree};
 use crate::filesets::Filesets;
 use crate::listing::Listing;
-use crate::names::Path;
+use crate::names::{Name, Path};
 use crate::node::Node;
 use crate::reply::{Refusal, Reply};
 use crate::walk::{directory_here, is_marked, target_refusal, walk_refusal};
@@ -104,13 +104,20 @@ impl FilesetTree {
         ensures ok { OnOk result (self.new ≡ moved from.now to.now (without to.now self.old)) }
         ensures err { OnErr result (self.new ≡ self.old) }
     {
-        let paths = moved_paths(alloc, &self.paths, from, to)?;
-        if let Some(number) = self.number_at(to) {
-            self.nodes.retain(|entry| entry.0 != number);
+        let replaced = self.number_at(to);
+        self.paths = moved_paths(alloc, &self.paths, from, to)?;
+        if let Some(number) = replaced {
+            remove_node(&mut self.nodes, number);
         }
-        self.paths = paths;
         Ok(())
     }
+}
+
+/// Takes the node with this number out.
+fn remove_node(nodes: &mut Vec<(u64, Node)>, number: u64)
+    ensures { nodes.new.items ≡ where_key nat_cmp (λ used. not (eq_by_cmp nat_cmp number used)) nodes.old.items }
+{
+    nodes.retain(|entry| entry.0 != number);
 }
 
 /// The paths without `to`, each that begins with `from` with that front exchanged for `to`. Of two
@@ -141,11 +148,19 @@ fn exchanged(alloc: Global, path: &Path, from: &Path, to: &Path) -> Result<Path,
         let copy = path.copy(alloc)?;
         return Ok(copy);
     }
-    let mut names = to.copy(alloc)?.into_vec();
-    for name in &path.as_slice()[from.as_slice().len()..] {
-        names.push(name.copy(alloc)?)?;
+    let exchanged = below(alloc, to, &path.as_slice()[from.as_slice().len()..])?;
+    Ok(exchanged)
+}
+
+/// The path of these names from another path on.
+fn below(alloc: Global, front: &Path, names: &[Name]) -> Result<Path, OutOfMemory>
+    ensures { IfOk result (λ path. path ≡ front.now ++ names.now) }
+{
+    let mut all = front.copy(alloc)?.into_vec();
+    for name in names {
+        all.push(name.copy(alloc)?)?;
     }
-    Ok(Path::from_vec(names))
+    Ok(Path::from_vec(all))
 }
 
 /// Why what stands at a path can't come to another path.
@@ -192,7 +207,7 @@ fn replace_refusal(
 }
 
 /// Not-directory, where a path leads to a file.
-fn file_here(slot: &FilesetSlot, path: &Path) -> Option<Refusal>
+pub(crate) fn file_here(slot: &FilesetSlot, path: &Path) -> Option<Refusal>
     ensures { result ≡ file_check slot.now path.now }
 {
     match slot.tree.node_at(path) {
@@ -202,7 +217,11 @@ fn file_here(slot: &FilesetSlot, path: &Path) -> Option<Refusal>
 }
 
 /// Not-empty, where the directory at a path has rows; the root counts as one that has.
-fn not_empty(alloc: Global, slot: &FilesetSlot, path: &Path) -> Result<Option<Refusal>, OutOfMemory>
+pub(crate) fn not_empty(
+    alloc: Global,
+    slot: &FilesetSlot,
+    path: &Path,
+) -> Result<Option<Refusal>, OutOfMemory>
     ensures { IfOk result (λ refusal. refusal ≡ not_empty_check slot.now path.now) }
 {
     if path.as_slice().is_empty() {
