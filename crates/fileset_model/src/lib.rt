@@ -12,6 +12,7 @@ mod filesets;
 mod laws;
 mod listing;
 mod names;
+mod names_commands;
 mod node;
 mod page_map;
 mod quota;
