@@ -364,3 +364,204 @@ fn zero_rest(pages: &mut Vec<(u64, Page)>, size: u64, zeros: &Page)
     let at = (size % PAGE_BYTES as u64) as usize;
     pages[place].1.set(at, &zeros.bytes()[at..]);
 }
+
+#[cfg(test)]
+mod tests {
+    use super::*;
+    use crate::entries::put;
+    use crate::fileset::{NumberSet, Role};
+    use crate::tests::{self, Expected, fileset, gives, is_expected, place};
+    use std::process::Abort;
+    use std::test::Fail;
+
+    /// Asserts a reply.
+    fn expect<R: Abort>(rt: &R, reply: Result<Reply, OutOfMemory>, expected: &Expected) {
+        let reply = reply.expect(rt, "memory is ample");
+        let same = is_expected(&reply, expected);
+        assert!(rt; same, "the reply is {reply:?}");
+    }
+
+    #[derive(Clone, Copy, Debug)]
+    enum Change {
+        Mkdir,
+        Truncate,
+        Chfile,
+        Unlink,
+        Rmdir,
+    }
+
+    const ALL_CHANGES: [Change; 5] = [
+        Change::Mkdir,
+        Change::Truncate,
+        Change::Chfile,
+        Change::Unlink,
+        Change::Rmdir,
+    ];
+
+    fn reply_to(
+        alloc: Global,
+        all: &mut Filesets,
+        change: Change,
+        place: &Place,
+    ) -> Result<Reply, OutOfMemory> {
+        match change {
+            Change::Mkdir => mkdir(alloc, all, place, 10, 20),
+            Change::Truncate => truncate(alloc, all, place, 1),
+            Change::Chfile => chfile(alloc, all, place, true),
+            Change::Unlink => unlink(alloc, all, place),
+            Change::Rmdir => rmdir(alloc, all, place),
+        }
+    }
+
+    /// Asserts that a change at a place is refused so.
+    fn refused<R: Abort + AllocGlobal>(
+        rt: &R,
+        all: &mut Filesets,
+        change: Change,
+        place: &Place,
+        refusal: Refusal,
+    ) {
+        let reply = reply_to(rt.alloc(), all, change, place);
+        expect(rt, reply, &Expected::Refused(refusal));
+    }
+
+    /// A clone of `home` with an empty root.
+    fn add_clone(alloc: Global, all: &mut Filesets) -> Result<(), OutOfMemory> {
+        let role = Role::CloneOf {
+            original: fileset(alloc, b"home")?,
+            out: NumberSet::new(alloc),
+        };
+        let tree = FilesetTree::empty(alloc, 0)?;
+        put(
+            &mut all.slots,
+            fileset(alloc, b"bak")?,
+            FilesetSlot { tree, role },
+        )
+    }
+
+    #[test]
+    fn changes_are_refused_in_order(rt: HostRuntime) -> Result<(), Fail> {
+        let alloc = rt.alloc();
+        let mut all = Filesets::new(alloc);
+        for change in ALL_CHANGES {
+            let missing = place(alloc, b"d")?;
+            refused(&rt, &mut all, change, &missing, Refusal::NoFileset);
+        }
+        gives(
+            &rt,
+            &mut all,
+            tests::mkfset(alloc, b"home"),
+            &Expected::Done,
+        );
+        let rows: [(Change, &[u8], Option<Refusal>); 24] = [
+            (Change::Mkdir, b"d", None),
+            (Change::Mkdir, b"d", Some(Refusal::Exists)),
+            (Change::Mkdir, b"", Some(Refusal::Exists)),
+            (Change::Mkdir, b"xy", Some(Refusal::NoPath)),
+            (Change::Mkdir, b"de", None),
+            (Change::Truncate, b"d", Some(Refusal::IsDirectory)),
+            (Change::Truncate, b"x", Some(Refusal::NoPath)),
+            (Change::Chfile, b"", Some(Refusal::IsDirectory)),
+            (Change::Chfile, b"x", Some(Refusal::NoPath)),
+            (Change::Unlink, b"de", Some(Refusal::IsDirectory)),
+            (Change::Rmdir, b"d", Some(Refusal::NotEmpty)),
+            (Change::Rmdir, b"", Some(Refusal::NotEmpty)),
+            (Change::Rmdir, b"x", Some(Refusal::NoPath)),
+            (Change::Rmdir, b"de", None),
+            (Change::Rmdir, b"d", None),
+            (Change::Rmdir, b"d", Some(Refusal::NoPath)),
+            (Change::Rmdir, b"f", Some(Refusal::NotDirectory)),
+            (Change::Mkdir, b"fy", Some(Refusal::NotDirectory)),
+            (Change::Unlink, b"fy", Some(Refusal::NotDirectory)),
+            (Change::Truncate, b"f", None),
+            (Change::Chfile, b"f", None),
+            (Change::Unlink, b"f", None),
+            (Change::Unlink, b"f", Some(Refusal::NoPath)),
+            (Change::Mkdir, b"f", None),
+        ];
+        gives(&rt, &mut all, tests::create(alloc, b"f"), &Expected::Done);
+        for (change, names, refusal) in rows {
+            let at = place(alloc, names)?;
+            match refusal {
+                Some(refusal) => refused(&rt, &mut all, change, &at, refusal),
+                None => expect(&rt, reply_to(alloc, &mut all, change, &at), &Expected::Done),
+            }
+        }
+        add_clone(alloc, &mut all)?;
+        for change in ALL_CHANGES {
+            let in_clone = Place {
+                fileset: fileset(alloc, b"bak")?,
+                path: place(alloc, b"a")?.path,
+            };
+            refused(&rt, &mut all, change, &in_clone, Refusal::ReadOnly);
+        }
+        Ok(())
+    }
+
+    #[test]
+    fn a_file_is_flagged_as_logged_and_back(rt: HostRuntime) -> Result<(), Fail> {
+        let alloc = rt.alloc();
+        let mut all = Filesets::new(alloc);
+        gives(
+            &rt,
+            &mut all,
+            tests::mkfset(alloc, b"home"),
+            &Expected::Done,
+        );
+        gives(&rt, &mut all, tests::create(alloc, b"a"), &Expected::Done);
+        let file = place(alloc, b"a")?;
+        for flag in [true, true, false] {
+            expect(&rt, chfile(alloc, &mut all, &file, flag), &Expected::Done);
+            let is_flagged = match all.slot(&file.fileset) {
+                Some(slot) => match slot.tree.node_at(&file.path) {
+                    Some(Node::File { logged, .. }) => *logged == flag,
+                    _ => false,
+                },
+                None => false,
+            };
+            assert!(rt; is_flagged);
+        }
+        Ok(())
+    }
+
+    #[test]
+    fn a_cut_file_grows_with_zeros(rt: HostRuntime) -> Result<(), Fail> {
+        let alloc = rt.alloc();
+        let mut all = Filesets::new(alloc);
+        gives(
+            &rt,
+            &mut all,
+            tests::mkfset(alloc, b"home"),
+            &Expected::Done,
+        );
+        gives(&rt, &mut all, tests::create(alloc, b"a"), &Expected::Done);
+        let text = tests::write(alloc, b"a", 0, b"abc");
+        gives(&rt, &mut all, text, &Expected::Count(3));
+        let ends = tests::write(alloc, b"a", 8_190, b"WXYZ");
+        gives(&rt, &mut all, ends, &Expected::Count(4));
+        let file = place(alloc, b"a")?;
+        let rows: [(u64, u64, &[u8]); 6] = [
+            (10_000, 8_190, b"WXYZ\0\0"),
+            (8_193, 8_190, b"WXY"),
+            (8_191, 8_190, b"W"),
+            (8_194, 8_190, b"W\0\0\0"),
+            (2, 0, b"ab"),
+            (536_870_912, 0, b"ab\0\0\0\0"),
+        ];
+        for (size, offset, bytes) in rows {
+            expect(&rt, truncate(alloc, &mut all, &file, size), &Expected::Done);
+            gives(
+                &rt,
+                &mut all,
+                tests::read(alloc, b"a", offset, 6),
+                &Expected::Read(bytes),
+            );
+        }
+        expect(
+            &rt,
+            truncate(alloc, &mut all, &file, 536_870_913),
+            &Expected::Refused(Refusal::TooFar),
+        );
+        Ok(())
+    }
+}
