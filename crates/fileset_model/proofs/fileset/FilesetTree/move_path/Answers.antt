@@ -14,22 +14,20 @@ pub invariant_of-self : goal.invariant_of-self
 invariant_of-self c =
     let old = c.self.inside in
     let paths : c.in_ok-self-inside.field-0.items ≡ entries (moved_map c.args.from.now c.args.to.now old.paths.items) =
-    c.in_ok-self-inside.ensures ∙ ap (λ (es : List (Path × ℕ)). entries (moved_map c.args.from.now c.args.to.now es)) c.deref.ensures.value in
-    (
+    c.in_ok-self-inside.ensures ∙ ap (λ (es : List (Path × ℕ)). entries (moved_map c.args.from.now c.args.to.now es)) c.deref.ensures.value in (
       subst (λ (es : List (Path × ℕ)). IsTrue (is_sorted path_cmp es)) (sym paths) (sorted_entries (moved_map c.args.from.now c.args.to.now old.paths.items)),
       subst (λ (es : List (ℕ × Node)). IsTrue (is_sorted nat_cmp es)) (sym c.remove_node.ensures) (sorted_without_key nat_cmp old.nodes.items c.in-Some.number c.self.invariant.1),
-      c.self.invariant.2
+      c.self.invariant.2,
     )
 
 pub invariant_of-self-in_default : goal.invariant_of-self-in_default
 invariant_of-self-in_default c =
     let old = c.self.inside in
     let paths : c.in_ok-self-inside.field-0.items ≡ entries (moved_map c.args.from.now c.args.to.now old.paths.items) =
-    c.in_ok-self-inside.ensures ∙ ap (λ (es : List (Path × ℕ)). entries (moved_map c.args.from.now c.args.to.now es)) c.deref.ensures.value in
-    (
+    c.in_ok-self-inside.ensures ∙ ap (λ (es : List (Path × ℕ)). entries (moved_map c.args.from.now c.args.to.now es)) c.deref.ensures.value in (
       subst (λ (es : List (Path × ℕ)). IsTrue (is_sorted path_cmp es)) (sym paths) (sorted_entries (moved_map c.args.from.now c.args.to.now old.paths.items)),
       c.self.invariant.1,
-      c.self.invariant.2
+      c.self.invariant.2,
     )
 
 pub returns-in-Some-clause-ok : goal.returns-in-Some-clause-ok
