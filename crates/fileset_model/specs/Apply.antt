@@ -278,11 +278,3 @@ Apply s command reply new = Answers s.filesets command reply new.filesets × (ne
 -- the answer and the change of a command; or out-of-memory, and then nothing changes
 abbrev pub AnswersIfMemory : FilesetMap → Command → Reply → FilesetMap → Type 0
 AnswersIfMemory all command reply new = Answers all command reply new ⊎ ((reply ≡ Refused OutOfMemory) × (new ≡ all))
-
--- a command that the plain filesets answer so far
-abbrev pub IsAnswered : Command → Type 0
-IsAnswered (Mkfset fileset) = Unit {0}
-IsAnswered (Create place uid gid) = Unit {0}
-IsAnswered (Write place offset bytes) = Unit {0}
-IsAnswered (Read place offset count) = Unit {0}
-IsAnswered command = ⊥

@@ -2,7 +2,7 @@
 ghost use Rattle.std.specs.Prelude.{◌≡◌, ◌+◌, ◌*◌, ◌≤◌, [], ◌∷◌, length, nat_lt, None as NoRefusal, IfOk, OnErr};
 ghost use Rattle.std.specs.Option.{option_map_or};
 ghost use Rattle.domain_base.specs.declared.limits.TheConstants.{FILE_BYTES};
-ghost use Rattle.fileset_model.specs.Apply.{Answers, AnswersIfMemory, IsAnswered, create_checks, is_clone, read_checks, read_of, write_checks, write_quota};
+ghost use Rattle.fileset_model.specs.Apply.{Answers, AnswersIfMemory, create_checks, is_clone, read_checks, read_of, write_checks, write_quota};
 ghost use Rattle.fileset_model.specs.Pages.{absent_pages};
 ghost use Rattle.fileset_model.specs.Paths.{first_refusal, node_at};
 ghost use Rattle.fileset_model.specs.declared.command.Command.TheVariants.{Create, Mkfset, Read, Write};
@@ -21,9 +21,8 @@ use domain_base::limits::{BLOCKS_PER_PAGE, FILE_BYTES as LARGEST_FILE, MAX_FILES
 use std::alloc::Global;
 
 /// Answers a command and changes the filesets as it says. After a refusal, out-of-memory among
-/// them, the filesets are as before.
+/// them, the filesets are as before. A command that is not built yet is answered by out-of-memory.
 pub fn apply(alloc: Global, filesets: &mut Filesets, command: &Command) -> Reply
-    requires { IsAnswered command.now }
     ensures { AnswersIfMemory filesets.old command.now result filesets.new }
 {
     match answer(alloc, filesets, command) {
@@ -33,7 +32,6 @@ pub fn apply(alloc: Global, filesets: &mut Filesets, command: &Command) -> Reply
 }
 
 fn answer(alloc: Global, filesets: &mut Filesets, command: &Command) -> Result<Reply, OutOfMemory>
-    requires { IsAnswered command.now }
     ensures ok { IfOk result (λ reply. Answers filesets.old command.now reply filesets.new) }
     ensures err { OnErr result (filesets.new ≡ filesets.old) }
 {
@@ -53,7 +51,7 @@ fn answer(alloc: Global, filesets: &mut Filesets, command: &Command) -> Result<R
             let reply = read(alloc, filesets, place, *offset, *count)?;
             Ok(reply)
         }
-        _ => unreachable!(),
+        _ => Err(OutOfMemory),
     }
 }
 
@@ -159,7 +157,7 @@ fn read_file(
 }
 
 /// Why a file or directory can't be made at a path.
-fn create_refusal(
+pub(crate) fn create_refusal(
     alloc: Global,
     slot: &FilesetSlot,
     path: &Path,

@@ -3,11 +3,13 @@
 #![tactic(auto)]
 
 mod answers;
+mod change;
 mod command;
 mod entries;
 mod entry;
 mod fileset;
 mod filesets;
+mod laws;
 mod listing;
 mod names;
 mod names_commands;
@@ -17,6 +19,7 @@ mod quota;
 mod reply;
 mod rows;
 mod walk;
+mod whole;
 
 pub use answers::apply;
 pub use command::{Actor, Command, CommandList, Owner, Place};
@@ -31,3 +34,6 @@ pub use reply::{
     ExtentItem, ExtentList, FilesetItem, FilesetList, NameItem, NameList, Refusal, Reply,
     VolumeItem, VolumeList,
 };
+
+#[cfg(test)]
+mod tests;
