@@ -1,15 +1,16 @@
 //! The commands that move names, list them and show what they lead to.
-ghost use Rattle.std.specs.Prelude.{◌≡◌, [], ◌∷◌, ◌++◌, not, IfOk, OnOk, OnErr, IsTrue, None as NoRefusal, map as map_each};
+ghost use Rattle.std.specs.Prelude.{◌≡◌, [], ◌∷◌, ◌++◌, not, IfOk, OnOk, OnErr, None as NoRefusal, map as map_each};
 ghost use Rattle.std.specs.Option.{option_map_or};
-ghost use Rattle.std.specs.Ordering.{eq_by_cmp, nat_cmp};
+ghost use Rattle.std.specs.Ordering.{eq_by_cmp};
 ghost use Rattle.std.specs.FinMap as map;
-ghost use Rattle.std.specs.FinMap.Entries.{is_sorted, where_key};
+ghost use Rattle.std.specs.FinMap.Entries.{where_key};
 ghost use Rattle.fileset_model.specs.Orders.{path_cmp};
-ghost use Rattle.fileset_model.specs.Apply.{Answers, move_checks, moved, moved_path, not_empty as not_empty_check, out_of_sync, rename_checks, replace_checks, stat_of, with_tree, without};
+ghost use Rattle.fileset_model.specs.Apply.{Answers, move_checks, moved, moved_path, out_of_sync, rename_checks, replace_checks, stat_of, with_tree, without};
 ghost use Rattle.fileset_model.specs.Paths.{file_here as file_check, first_refusal, node_at, target_refusal as target_check};
 ghost use Rattle.fileset_model.specs.declared.command.Command.TheVariants.{Fsync, List as ListNames, Rename, Stat};
 ghost use Rattle.fileset_model.specs.declared.reply.Reply.TheVariants.{Done as DoneReply};
 
+use crate::change::{file_here, is_held, remove_key};
 use crate::command::Place;
 use crate::entries::{place_of, put};
 use crate::fileset::{FilesetSlot, FilesetTree};
@@ -107,17 +108,10 @@ impl FilesetTree {
         let replaced = self.number_at(to);
         self.paths = moved_paths(alloc, &self.paths, from, to)?;
         if let Some(number) = replaced {
-            remove_node(&mut self.nodes, number);
+            remove_key(&mut self.nodes, &number);
         }
         Ok(())
     }
-}
-
-/// Takes the node with this number out.
-fn remove_node(nodes: &mut Vec<(u64, Node)>, number: u64)
-    ensures { nodes.new.items ≡ where_key nat_cmp (λ used. not (eq_by_cmp nat_cmp number used)) nodes.old.items }
-{
-    nodes.retain(|entry| entry.0 != number);
 }
 
 /// The paths without `to`, each that begins with `from` with that front exchanged for `to`. Of two
@@ -199,39 +193,12 @@ fn replace_refusal(
             if let Some(refusal) = file_here(slot, to) {
                 return Ok(Some(refusal));
             }
-            let refusal = not_empty(alloc, slot, to)?;
-            Ok(refusal)
+            if is_held(alloc, &slot.tree, to)? {
+                return Ok(Some(Refusal::NotEmpty));
+            }
+            Ok(None)
         }
         _ => Ok(directory_here(slot, to)),
-    }
-}
-
-/// Not-directory, where a path leads to a file.
-pub(crate) fn file_here(slot: &FilesetSlot, path: &Path) -> Option<Refusal>
-    ensures { result ≡ file_check slot.now path.now }
-{
-    match slot.tree.node_at(path) {
-        Some(node) if !node.is_directory() => Some(Refusal::NotDirectory),
-        _ => None,
-    }
-}
-
-/// Not-empty, where the directory at a path has rows; the root counts as one that has.
-pub(crate) fn not_empty(
-    alloc: Global,
-    slot: &FilesetSlot,
-    path: &Path,
-) -> Result<Option<Refusal>, OutOfMemory>
-    ensures { IfOk result (λ refusal. refusal ≡ not_empty_check slot.now path.now) }
-{
-    if path.as_slice().is_empty() {
-        return Ok(Some(Refusal::NotEmpty));
-    }
-    let rows = slot.tree.rows(alloc, path)?;
-    if rows.is_empty() {
-        Ok(None)
-    } else {
-        Ok(Some(Refusal::NotEmpty))
     }
 }
 
