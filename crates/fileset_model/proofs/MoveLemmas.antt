@@ -1,72 +1,44 @@
--- The paths of a tree after a move, and maps without a key.
+-- The paths of a tree after a move.
 use Rattle.std.proofs.Common.{◌≡◌, ℕ, ◌+◌, ◌<◌, Bool, true, false, cond, not, List, [], ◌∷◌, length, map as map_each, drop, get_or, refl, sym, ap, subst, ◌∙◌, T, IsTrue, Some, None, arith}
 use Rattle.std.proofs.lemmas.List.{drop_all, drop_more}
 use Rattle.std.specs.declared.cmp.Ordering.{Ordering}
 use Rattle.std.specs.declared.cmp.Ordering.TheVariants.{Less, Equal, Greater}
 use Rattle.std.specs.Ordering.{eq_by_cmp, is_eq, nat_cmp}
-use Rattle.std.specs.Cmp.{IsTotalOrder, alike_right, eq_by_cmp_equiv, nat_cmp_total}
+use Rattle.std.specs.Cmp.{IsTotalOrder, eq_by_cmp_equiv, nat_cmp_total}
 use Rattle.std.specs.Cmp.Lexicographic.{lists_ties, texts_ties}
-use Rattle.std.specs.Option.{option_map_or}
 use Rattle.std.specs.FinMap as map
-use Rattle.std.specs.FinMap.{nat_cmp-IsAntisymmetric}
-use Rattle.std.specs.FinMap.Entries.{find, find-where_key, is_sorted, is_sorted-where_key, put, where_key}
-use Rattle.fileset_model.specs.Orders.{Path, name_cmp, path_cmp, path_cmp-total, path_cmp-IsAntisymmetric, owner_cmp}
-use Rattle.fileset_model.specs.Fileset.{Fileset}
+use Rattle.std.specs.FinMap.Entries.{is_sorted, put, where_key}
+use Rattle.fileset_model.specs.Orders.{Path, name_cmp, path_cmp, path_cmp-total, path_cmp-IsAntisymmetric}
 use Rattle.fileset_model.specs.Paths.{same_path}
 use Rattle.fileset_model.specs.Apply.{moved, moved_path, without}
 use Rattle.fileset_model.specs.declared.command.Owner.{Owner}
 use Rattle.fileset_model.specs.declared.fileset.Limits.{Limits}
 use Rattle.fileset_model.specs.declared.node.Node.{Node}
-use Rattle.fileset_model.proofs.EntryLemmas.{from_sorted-empty}
+use Rattle.fileset_model.proofs.ChangeLemmas.{is_sorted_where, remove-from_sorted, without-at, without-missing}
+use Rattle.fileset_model.proofs.EntryLemmas.{entries-from_sorted, from_T, from_sorted-empty}
 use Rattle.fileset_model.proofs.TreeLemmas.{tree_of}
 
 -- the entries without a key
 abbrev pub without_key : {K X : Type 0} (R : K → K → Ordering) → K → List (K × X) → List (K × X)
 without_key R k es = where_key R (λ x. not (eq_by_cmp R k x)) es
 
-as_T : (b : Bool) → IsTrue b → T b
-as_T b h = subst T (sym h) tt
+missing : {K X : Type 0} {R : K → K → Ordering} → IsTotalOrder R → (m : map.FinMap R X) (k q : K) (b : Bool) → eq_by_cmp R q k ≡ b → map.get m k ≡ None → cond b None (map.get m q) ≡ map.get m q
+missing {R = R} o m k q true t none = sym (sym (map.get_tied o m q k (tied (R q k) t)) ∙ none)
+  where
+    tied : (r : Ordering) → is_eq r ≡ true → r ≡ Equal
+    tied Equal t = refl
+    tied Less t = absurd (subst T (sym t) tt)
+    tied Greater t = absurd (subst T (sym t) tt)
+missing o m k q false t none = refl
 
-from_T : (b : Bool) → T b → IsTrue b
-from_T true h = refl
-from_T false h = absurd h
-
-not_turned : {A : Type 0} (b : Bool) (x y : A) → cond (not b) x y ≡ cond b y x
-not_turned true x y = refl
-not_turned false x y = refl
-
-module _ {K X : Type 0} {R : K → K → Ordering} (o : IsTotalOrder R) (same : map.IsAntisymmetric R) where
-  get-without_key : (es : List (K × X)) (k q : K) → IsTrue (is_sorted R es) → map.get (map.from_sorted {R = R} (without_key R k es)) q ≡ cond (eq_by_cmp R q k) None (map.get (map.from_sorted {R = R} es) q)
-  get-without_key es k q h =
-      map.get-from_sorted R _ q (is_sorted-where_key R _ es (as_T _ h))
-      ∙ find-where_key R (λ x. not (eq_by_cmp R k x)) q (λ x t. ap (λ r. not (is_eq r)) (sym (alike_right o q x k t))) es
-      ∙ not_turned (eq_by_cmp R k q) (find R q es) None
-      ∙ ap (λ b. cond b None (find R q es)) ((eq_by_cmp_equiv o).symm k q)
-      ∙ ap (cond (eq_by_cmp R q k) None) (sym (map.get-from_sorted R es q (as_T _ h)))
-
-  pub remove-from_sorted : (es : List (K × X)) (k : K) → IsTrue (is_sorted R es) → map.from_sorted {R = R} (without_key R k es) ≡ map.remove (map.from_sorted es) k
-  remove-from_sorted es k h = map.same_map o same _ _ (λ q. get-without_key es k q h ∙ sym (map.get-remove o (map.from_sorted es) k q))
-
-  missing : (es : List (K × X)) (k q : K) (b : Bool) → eq_by_cmp R q k ≡ b → map.get (map.from_sorted {R = R} es) k ≡ None → cond b None (map.get (map.from_sorted {R = R} es) q) ≡ map.get (map.from_sorted {R = R} es) q
-  missing es k q true t none = sym (sym (map.get_tied o (map.from_sorted es) q k (tied (R q k) t)) ∙ none)
-    where
-      tied : (r : Ordering) → is_eq r ≡ true → r ≡ Equal
-      tied Equal t = refl
-      tied Less t = absurd (subst T (sym t) tt)
-      tied Greater t = absurd (subst T (sym t) tt)
-  missing es k q false t none = refl
-
-  pub remove-missing : (es : List (K × X)) (k : K) → IsTrue (is_sorted R es) → map.get (map.from_sorted {R = R} es) k ≡ None → map.from_sorted {R = R} (without_key R k es) ≡ map.from_sorted es
-  remove-missing es k h none = map.same_map o same _ _ (λ q. get-without_key es k q h ∙ missing es k q _ refl none)
-
-pub sorted_without_key : {K X : Type 0} (R : K → K → Ordering) (es : List (K × X)) (k : K) → IsTrue (is_sorted R es) → IsTrue (is_sorted R (without_key R k es))
-sorted_without_key R es k h = from_T _ (is_sorted-where_key R _ es (as_T _ h))
+remove-missing : {K X : Type 0} {R : K → K → Ordering} → IsTotalOrder R → map.IsAntisymmetric R → (m : map.FinMap R X) (k : K) → map.get m k ≡ None → map.remove m k ≡ m
+remove-missing {R = R} o same m k none = map.same_map o same (map.remove m k) m (λ q. map.get-remove o m k q ∙ missing o m k q _ refl none)
 
 pub from_sorted-entries : {K X : Type 0} {R : K → K → Ordering} (m : map.FinMap R X) → map.from_sorted (map.entries m) ≡ m
 from_sorted-entries {R = R} m = map.same_entries_map _ m (map.entries-from_sorted R _ (map.entries_sorted m))
 
 pub sorted_entries : {K X : Type 0} {R : K → K → Ordering} (m : map.FinMap R X) → IsTrue (is_sorted R (map.entries m))
-sorted_entries m = from_T _ (map.entries_sorted m)
+sorted_entries {R = R} m = from_T (is_sorted R (map.entries m)) (map.entries_sorted m)
 
 pub entries-empty : {K X : Type 0} (R : K → K → Ordering) → map.entries (map.empty {X = X} {R = R}) ≡ []
 entries-empty R = ap map.entries (sym (from_sorted-empty R)) ∙ map.entries-from_sorted R [] tt
@@ -102,33 +74,31 @@ moved_map-step from to es i e within is test =
     ∙ ap (λ x. map.entries (moved_map from to (x ∷ rest))) is
     ∙ ap (λ l. map.entries (moved_map from to l)) (sym (drop_more es i e within))
 
--- what is moved from a map's entries
-moved_from : (from to : Path) (es : List (Path × ℕ)) (m : map.FinMap path_cmp ℕ) → IsTrue (is_sorted path_cmp es) → map.from_sorted (without_key path_cmp to es) ≡ m
+-- what is moved is what a map has but for `to`
+moved_from : (from to : Path) (es : List (Path × ℕ)) (m : map.FinMap path_cmp ℕ) → IsTrue (is_sorted path_cmp es) → map.remove (map.from_sorted {R = path_cmp} es) to ≡ m
     → map.from_sorted {R = path_cmp} (map.entries (moved_map from to es)) ≡ map.from_entries {R = path_cmp} (map_each (λ e. (moved_path from to e.0, e.1)) (map.entries m))
 moved_from from to es m h is =
+    let left : map.from_sorted {R = path_cmp} (without_key path_cmp to es) ≡ m = remove-from_sorted path_cmp-total path_cmp-IsAntisymmetric to es h ∙ is in
     from_sorted-entries (moved_map from to es)
     ∙ ap (λ (l : List (Path × ℕ)). map.from_entries {R = path_cmp} (map_each (λ e. (moved_path from to e.0, e.1)) l))
-    (sym (map.entries-from_sorted path_cmp _ (is_sorted-where_key path_cmp _ es (as_T _ h))) ∙ ap map.entries is)
+    (sym (entries-from_sorted path_cmp (without_key path_cmp to es) (is_sorted_where path_cmp _ es h)) ∙ ap map.entries left)
 
 -- a move to a path where nothing stands
 pub moved-missing : (paths : List (Path × ℕ)) (nodes : List (ℕ × Node)) (limits : List (Owner × Limits)) (from to : Path) → IsTrue (is_sorted path_cmp paths)
     → map.get (tree_of paths nodes limits).paths to ≡ None → tree_of (map.entries (moved_map from to paths)) nodes limits ≡ moved from to (without to (tree_of paths nodes limits))
 moved-missing paths nodes limits from to h none =
     let tree = tree_of paths nodes limits in
-    let without_is : without to tree ≡ tree = ap (λ o. option_map_or (λ number. record tree { paths = map.remove tree.paths to; nodes = map.remove tree.nodes number }) o tree) none in
-    ap (λ p. record tree { paths = p }) (moved_from from to paths tree.paths h (remove-missing path_cmp-total path_cmp-IsAntisymmetric paths to h none))
-    ∙ ap (moved from to) (sym without_is)
+    ap (λ p. record tree { paths = p }) (moved_from from to paths tree.paths h (remove-missing path_cmp-total path_cmp-IsAntisymmetric tree.paths to none))
+    ∙ ap (moved from to) (sym (without-missing tree to none))
 
 -- a move to the path of a file or directory, which goes
 pub moved-replaced : (paths : List (Path × ℕ)) (nodes : List (ℕ × Node)) (limits : List (Owner × Limits)) (from to : Path) (number : ℕ) → IsTrue (is_sorted path_cmp paths) → IsTrue (is_sorted nat_cmp nodes)
     → map.get (tree_of paths nodes limits).paths to ≡ Some number → tree_of (map.entries (moved_map from to paths)) (without_key nat_cmp number nodes) limits ≡ moved from to (without to (tree_of paths nodes limits))
 moved-replaced paths nodes limits from to number h g is =
     let tree = tree_of paths nodes limits in
-    let left : Fileset = record tree { paths = map.remove tree.paths to; nodes = map.remove tree.nodes number } in
-    let without_is : without to tree ≡ left = ap (λ o. option_map_or (λ number. record tree { paths = map.remove tree.paths to; nodes = map.remove tree.nodes number }) o tree) is in
     (λ i. record {
-      paths = moved_from from to paths left.paths h (remove-from_sorted path_cmp-total path_cmp-IsAntisymmetric paths to h) i;
-      nodes = remove-from_sorted nat_cmp_total nat_cmp-IsAntisymmetric nodes number g i;
+      paths = moved_from from to paths (map.remove tree.paths to) h refl i;
+      nodes = remove-from_sorted nat_cmp_total map.nat_cmp-IsAntisymmetric number nodes g i;
       limits = map.from_sorted limits;
     })
-    ∙ ap (moved from to) (sym without_is)
+    ∙ ap (moved from to) (sym (without-at tree to number is))

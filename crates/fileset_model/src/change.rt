@@ -191,7 +191,7 @@ fn rmdir_refusal(
 }
 
 /// Not-directory, where a path leads to a file.
-fn file_here(slot: &FilesetSlot, path: &Path) -> Option<Refusal>
+pub(crate) fn file_here(slot: &FilesetSlot, path: &Path) -> Option<Refusal>
     ensures { result ≡ file_check slot.now path.now }
 {
     match slot.tree.node_at(path) {
@@ -201,7 +201,7 @@ fn file_here(slot: &FilesetSlot, path: &Path) -> Option<Refusal>
 }
 
 /// Whether a directory has rows or is the root, and so has to stay.
-fn is_held(alloc: Global, tree: &FilesetTree, path: &Path) -> Result<bool, OutOfMemory>
+pub(crate) fn is_held(alloc: Global, tree: &FilesetTree, path: &Path) -> Result<bool, OutOfMemory>
     ensures { IfOk result (λ held. held ≡ (length path.now == 0 || not (length (rows_of tree.now path.now) == 0))) }
 {
     let rows = tree.rows(alloc, path)?;
@@ -209,7 +209,7 @@ fn is_held(alloc: Global, tree: &FilesetTree, path: &Path) -> Result<bool, OutOf
 }
 
 /// Takes away the entry with this key, if there is one.
-fn remove_key<K: Ord + Drop, V: Drop>(entries: &mut Vec<(K, V)>, key: &K)
+pub(crate) fn remove_key<K: Ord + Drop, V: Drop>(entries: &mut Vec<(K, V)>, key: &K)
     requires { IsTrue (is_sorted K.cmp entries.old.items) }
     ensures items { entries.new.items ≡ where_key K.cmp (λ other. not (eq_by_cmp K.cmp key.now other)) entries.old.items }
     ensures sorted { IsTrue (is_sorted K.cmp entries.new.items) }

@@ -1,15 +1,16 @@
 //! The commands that move names, list them and show what they lead to.
-ghost use Rattle.std.specs.Prelude.{◌≡◌, [], ◌∷◌, ◌++◌, not, IfOk, OnOk, OnErr, IsTrue, None as NoRefusal, map as map_each};
+ghost use Rattle.std.specs.Prelude.{◌≡◌, [], ◌∷◌, ◌++◌, not, IfOk, OnOk, OnErr, None as NoRefusal, map as map_each};
 ghost use Rattle.std.specs.Option.{option_map_or};
-ghost use Rattle.std.specs.Ordering.{eq_by_cmp, nat_cmp};
+ghost use Rattle.std.specs.Ordering.{eq_by_cmp};
 ghost use Rattle.std.specs.FinMap as map;
-ghost use Rattle.std.specs.FinMap.Entries.{is_sorted, where_key};
+ghost use Rattle.std.specs.FinMap.Entries.{where_key};
 ghost use Rattle.fileset_model.specs.Orders.{path_cmp};
-ghost use Rattle.fileset_model.specs.Apply.{Answers, move_checks, moved, moved_path, not_empty as not_empty_check, out_of_sync, rename_checks, replace_checks, stat_of, with_tree, without};
+ghost use Rattle.fileset_model.specs.Apply.{Answers, move_checks, moved, moved_path, out_of_sync, rename_checks, replace_checks, stat_of, with_tree, without};
 ghost use Rattle.fileset_model.specs.Paths.{file_here as file_check, first_refusal, node_at, target_refusal as target_check};
 ghost use Rattle.fileset_model.specs.declared.command.Command.TheVariants.{Fsync, List as ListNames, Rename, Stat};
 ghost use Rattle.fileset_model.specs.declared.reply.Reply.TheVariants.{Done as DoneReply};
 
+use crate::change::{file_here, is_held, remove_key};
 use crate::command::Place;
 use crate::entries::{place_of, put};
 use crate::fileset::{FilesetSlot, FilesetTree};
@@ -107,17 +108,10 @@ impl FilesetTree {
         let replaced = self.number_at(to);
         self.paths = moved_paths(alloc, &self.paths, from, to)?;
         if let Some(number) = replaced {
-            remove_node(&mut self.nodes, number);
+            remove_key(&mut self.nodes, &number);
         }
         Ok(())
     }
-}
-
-/// Takes the node with this number out.
-fn remove_node(nodes: &mut Vec<(u64, Node)>, number: u64)
-    ensures { nodes.new.items ≡ where_key nat_cmp (λ used. not (eq_by_cmp nat_cmp number used)) nodes.old.items }
-{
-    nodes.retain(|entry| entry.0 != number);
 }
 
 /// The paths without `to`, each that begins with `from` with that front exchanged for `to`. Of two
@@ -199,39 +193,12 @@ fn replace_refusal(
             if let Some(refusal) = file_here(slot, to) {
                 return Ok(Some(refusal));
             }
-            let refusal = not_empty(alloc, slot, to)?;
-            Ok(refusal)
+            if is_held(alloc, &slot.tree, to)? {
+                return Ok(Some(Refusal::NotEmpty));
+            }
+            Ok(None)
         }
         _ => Ok(directory_here(slot, to)),
-    }
-}
-
-/// Not-directory, where a path leads to a file.
-pub(crate) fn file_here(slot: &FilesetSlot, path: &Path) -> Option<Refusal>
-    ensures { result ≡ file_check slot.now path.now }
-{
-    match slot.tree.node_at(path) {
-        Some(node) if !node.is_directory() => Some(Refusal::NotDirectory),
-        _ => None,
-    }
-}
-
-/// Not-empty, where the directory at a path has rows; the root counts as one that has.
-pub(crate) fn not_empty(
-    alloc: Global,
-    slot: &FilesetSlot,
-    path: &Path,
-) -> Result<Option<Refusal>, OutOfMemory>
-    ensures { IfOk result (λ refusal. refusal ≡ not_empty_check slot.now path.now) }
-{
-    if path.as_slice().is_empty() {
-        return Ok(Some(Refusal::NotEmpty));
-    }
-    let rows = slot.tree.rows(alloc, path)?;
-    if rows.is_empty() {
-        Ok(None)
-    } else {
-        Ok(Some(Refusal::NotEmpty))
     }
 }
 
@@ -359,5 +326,221 @@ pub(crate) fn fsync(alloc: Global, filesets: &Filesets, place: &Place) -> Result
     match target_refusal(alloc, slot, &place.path)? {
         Some(refusal) => Ok(Reply::Refused(refusal)),
         None => Ok(Reply::Done),
+    }
+}
+
+#[cfg(test)]
+mod tests {
+    use super::*;
+    use crate::fileset::{NumberSet, Role};
+    use crate::names::FilesetName;
+    use crate::page_map::PageMap;
+    use std::test::Fail;
+
+    fn home_name(alloc: Global) -> Result<FilesetName, OutOfMemory> {
+        let bytes = Vec::from_slice(alloc, b"home")?;
+        Ok(FilesetName::from_vec(bytes))
+    }
+
+    /// The path whose names are these letters, as `/d/e` of `de`.
+    fn path(alloc: Global, letters: &[u8]) -> Result<Path, OutOfMemory> {
+        let mut names = Vec::new(alloc);
+        for letter in letters {
+            let name = Vec::from_slice(alloc, &[*letter])?;
+            names.push(Name::from_vec(name))?;
+        }
+        Ok(Path::from_vec(names))
+    }
+
+    fn place(alloc: Global, letters: &[u8]) -> Result<Place, OutOfMemory> {
+        Ok(Place {
+            fileset: home_name(alloc)?,
+            path: path(alloc, letters)?,
+        })
+    }
+
+    /// `home` with the directories `/d`, `/d/e` and `/x` and the file `/d/k` of uid 10 and gid 20.
+    fn home(alloc: Global) -> Result<Filesets, OutOfMemory> {
+        let mut filesets = Filesets::new(alloc);
+        filesets.make(alloc, &home_name(alloc)?)?;
+        let directories = [
+            (1, b"d".as_slice()),
+            (2, b"de".as_slice()),
+            (3, b"x".as_slice()),
+        ];
+        for (number, letters) in directories {
+            let node = Node::Directory { uid: 0, gid: 0 };
+            filesets.add(alloc, &place(alloc, letters)?, number, node)?;
+        }
+        let file = Node::File {
+            uid: 10,
+            gid: 20,
+            size: 0,
+            logged: false,
+            pages: PageMap::new(alloc),
+        };
+        filesets.add(alloc, &place(alloc, b"dk")?, 4, file)?;
+        Ok(filesets)
+    }
+
+    fn refused(reply: &Reply) -> Option<Refusal> {
+        match reply {
+            Reply::Refused(refusal) => Some(*refusal),
+            _ => None,
+        }
+    }
+
+    /// The rows of a reply, each ended by a space, those of directories by a slash before it.
+    fn shown(alloc: Global, reply: &Reply) -> Result<Vec<u8>, OutOfMemory> {
+        let mut text = Vec::new(alloc);
+        if let Reply::Names(names) = reply {
+            for row in names.as_slice() {
+                text.extend_from_slice(row.name.as_slice())?;
+                text.extend_from_slice(if row.directory { b"/ " } else { b" " })?;
+            }
+        }
+        Ok(text)
+    }
+
+    #[test]
+    fn directories_are_moved_onto_empty_ones(rt: HostRuntime) -> Result<(), Fail> {
+        let alloc = rt.alloc();
+        let mut filesets = home(alloc)?;
+        let moves = [
+            (
+                b"d".as_slice(),
+                b"def".as_slice(),
+                Some(Refusal::IntoItself),
+            ),
+            (b"d".as_slice(), b"de".as_slice(), Some(Refusal::IntoItself)),
+            (b"d".as_slice(), b"dqf".as_slice(), Some(Refusal::NoPath)),
+            (b"q".as_slice(), b"x".as_slice(), Some(Refusal::NoPath)),
+            (
+                b"x".as_slice(),
+                b"dkx".as_slice(),
+                Some(Refusal::NotDirectory),
+            ),
+            (
+                b"x".as_slice(),
+                b"dk".as_slice(),
+                Some(Refusal::NotDirectory),
+            ),
+            (
+                b"dk".as_slice(),
+                b"x".as_slice(),
+                Some(Refusal::IsDirectory),
+            ),
+            (b"x".as_slice(), b"de".as_slice(), None),
+            (b"de".as_slice(), b"x".as_slice(), None),
+            (b"x".as_slice(), b"d".as_slice(), Some(Refusal::NotEmpty)),
+            (b"d".as_slice(), b"d".as_slice(), None),
+        ];
+        for (from, to, want) in moves {
+            let place = place(alloc, from)?;
+            let reply = rename(alloc, &mut filesets, &place, &path(alloc, to)?)?;
+            assert_eq!(rt; refused(&reply), want);
+        }
+        let root = list(alloc, &filesets, &place(alloc, b"")?)?;
+        assert_eq!(rt; shown(alloc, &root)?.as_slice(), b"d/ x/ ".as_slice());
+        let below = list(alloc, &filesets, &place(alloc, b"d")?)?;
+        assert_eq!(rt; shown(alloc, &below)?.as_slice(), b"k ".as_slice());
+        Ok(())
+    }
+
+    #[test]
+    fn a_moved_directory_takes_its_names_along(rt: HostRuntime) -> Result<(), Fail> {
+        let alloc = rt.alloc();
+        let mut filesets = home(alloc)?;
+        rename(
+            alloc,
+            &mut filesets,
+            &place(alloc, b"d")?,
+            &path(alloc, b"x")?,
+        )?;
+        let below = list(alloc, &filesets, &place(alloc, b"x")?)?;
+        assert_eq!(rt; shown(alloc, &below)?.as_slice(), b"e/ k ".as_slice());
+        let gone = list(alloc, &filesets, &place(alloc, b"d")?)?;
+        assert_eq!(rt; refused(&gone), Some(Refusal::NoPath));
+        let file = list(alloc, &filesets, &place(alloc, b"xk")?)?;
+        assert_eq!(rt; refused(&file), Some(Refusal::NotDirectory));
+        Ok(())
+    }
+
+    #[test]
+    fn attributes_are_shown(rt: HostRuntime) -> Result<(), Fail> {
+        let alloc = rt.alloc();
+        let mut filesets = home(alloc)?;
+        let file = place(alloc, b"dk")?;
+        filesets.write(alloc, &file, 4096, &[0x41; 8192])?;
+        let two_pages = stat(alloc, &filesets, &file)?;
+        assert!(rt;
+            matches!(
+                &two_pages,
+                Reply::FileStat {
+                    uid: 10,
+                    gid: 20,
+                    size: 12_288,
+                    pages: 2,
+                    logged: false
+                }
+            )
+        );
+        filesets.write(alloc, &file, 81_920, b"a")?;
+        let with_a_hole = stat(alloc, &filesets, &file)?;
+        assert!(rt;
+            matches!(
+                &with_a_hole,
+                Reply::FileStat {
+                    size: 81_921,
+                    pages: 3,
+                    ..
+                }
+            )
+        );
+        let directory = stat(alloc, &filesets, &place(alloc, b"d")?)?;
+        assert!(rt;
+            matches!(
+                &directory,
+                Reply::DirStat {
+                    uid: 0,
+                    gid: 0,
+                    rows: 2
+                }
+            )
+        );
+        let missing = stat(alloc, &filesets, &place(alloc, b"q")?)?;
+        assert_eq!(rt; refused(&missing), Some(Refusal::NoPath));
+        Ok(())
+    }
+
+    #[test]
+    fn a_file_is_made_durable(rt: HostRuntime) -> Result<(), Fail> {
+        let alloc = rt.alloc();
+        let filesets = home(alloc)?;
+        for (letters, want) in [
+            (b"dk".as_slice(), None),
+            (b"q".as_slice(), Some(Refusal::NoPath)),
+        ] {
+            let reply = fsync(alloc, &filesets, &place(alloc, letters)?)?;
+            assert_eq!(rt; refused(&reply), want);
+        }
+        let none = fsync(alloc, &Filesets::new(alloc), &place(alloc, b"dk")?)?;
+        assert_eq!(rt; refused(&none), Some(Refusal::NoFileset));
+        Ok(())
+    }
+
+    #[test]
+    fn a_clone_keeps_its_names(rt: HostRuntime) -> Result<(), Fail> {
+        let alloc = rt.alloc();
+        let clone = FilesetSlot {
+            tree: FilesetTree::empty(alloc, 0)?,
+            role: Role::CloneOf {
+                original: home_name(alloc)?,
+                out: NumberSet::new(alloc),
+            },
+        };
+        let refusal = rename_refusal(alloc, &clone, &path(alloc, b"d")?, &path(alloc, b"x")?)?;
+        assert_eq!(rt; refusal, Some(Refusal::ReadOnly));
+        Ok(())
     }
 }
