@@ -1,5 +1,5 @@
 -- The numbers, rows and records that stand at a place of some bytes.
-use Rattle.std.specs.Prelude.{ℕ, zero, suc, ◌+◌, List, [], ◌∷◌, drop, get_or}
+use Rattle.std.specs.Prelude.{ℕ, zero, suc, ◌+◌, ◌^◌, ◌<◌, ◌≤◌, List, [], ◌∷◌, drop, get_or}
 use Rattle.byteorder.specs.Endian.{little_number}
 use Rattle.record_table.specs.declared.record.Record.{Record}
 use Rattle.record_table.specs.declared.record.Record.TheVariants.{Attributes, CloneFile, Extents, ShortExtents, Holes, Pending, UserQuota, GroupQuota, DirIndex, Parent, Stripe, Volume}
@@ -53,3 +53,10 @@ readers =
 -- the record of a kind whose spelling begins the bytes
 abbrev pub record_at : ℕ → List ℕ → Record
 record_at kind bytes = get_or readers kind (λ bytes. Pending 0) bytes
+
+-- numbers that fit fields of these widths, one number for each
+abbrev pub Fit : List ℕ → List ℕ → Type 0
+Fit [] [] = Unit {0}
+Fit [] (n ∷ ns) = ⊥
+Fit (w ∷ ws) [] = ⊥
+Fit (w ∷ ws) (n ∷ ns) = ((1 ≤ w) × (w ≤ 8)) × (n < 256 ^ w) × Fit ws ns

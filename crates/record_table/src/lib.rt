@@ -5,6 +5,7 @@ mod fields;
 mod layout;
 mod record;
 mod rule;
+mod writing;
 
 pub use layout::Layout;
 pub use record::{Bad, ExtentField, HoleField, Record};

@@ -1,0 +1,12 @@
+use Rattle.std.proofs.Common.{◌≡◌, ◌*◌, ◌+◌, ◌-◌, ◌<◌, ◌≤◌, ◌++◌, [], ◌∷◌, length, drop, take, get_or, refl, ap, ◌∙◌, arith}
+use Rattle.record_table.specs.Layouts.{extent_widths}
+use Rattle.record_table.specs.Records.{spelled, extent_numbers}
+use Rattle.record_table.proofs.Spelling.{rows-more}
+use Rattle.record_table.proofs.writing.put_extents.Goals as goal
+
+pub loop-row-preserved : goal.loop-row-preserved
+loop-row-preserved c =
+    record {
+      counted = omega (arith, c.loop-row.invariant.counted, c.put-at.ensures.length);
+      written = rw c.put-at.ensures.length (rows-more extent_numbers extent_widths c.args.rows.now (record { page = 0; count = 0; vol = 0; first = 0 }) c.args.out.now c.loop-row.out c.put-at.new.out c.loop-row.at c.loop-row.row-index (λ row. refl) c.loop-row-test.true (omega (arith, c.loop-row.invariant.counted, c.requires)) c.loop-row.invariant.counted c.loop-row.invariant.written (c.put-at.ensures.written ∙ rw c.numbers_of_extent.ensures.numbers refl));
+    }
