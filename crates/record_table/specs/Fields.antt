@@ -7,7 +7,7 @@ use Rattle.record_table.specs.declared.record.ExtentField.{ExtentField}
 use Rattle.record_table.specs.declared.record.HoleField.{HoleField}
 
 -- the number of w bytes at a place
-abbrev pub number_at : ℕ → ℕ → List ℕ → ℕ
+unfoldable pub number_at : ℕ → ℕ → List ℕ → ℕ
 number_at w at bytes = little_number w (drop at bytes)
 
 abbrev pub extent_at : ℕ → List ℕ → ExtentField

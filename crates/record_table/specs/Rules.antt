@@ -1,5 +1,6 @@
 -- Which numbers may stand in a field, by the fields in front of it.
 use Rattle.std.specs.Prelude.{◌≡◌, ℕ, zero, suc, ◌+◌, ◌-◌, ◌*◌, ◌<◌, Bool, true, false, ◌&&◌, ◌||◌, nat_le, nat_lt, ◌==◌, if◌then◌else◌, List, [], ◌∷◌, ◌++◌, length, drop, get_or, Result, Ok, Err}
+use Rattle.std.specs.List.{list_all}
 use Rattle.byteorder.specs.Endian.{little_number}
 use Rattle.record_table.specs.declared.rule.Rule.{Rule}
 use Rattle.record_table.specs.declared.rule.Rule.TheVariants.{Any, Range, Volume, IfUsed, Page, Count}
@@ -30,13 +31,18 @@ after (IfUsed most) seen n = seen
 after Page seen n = record seen { page = n }
 after Count seen n = if n == 0 then record { from = 65536; page = 0; used = false } else record { from = seen.page + n; page = 0; used = true }
 
--- Where fields of these widths and rules end, or the start of the first that the bytes do not fill as they should.
+-- Where fields of these widths and rules end, or the start of the first that the bytes do not fill as they should. Nothing
+-- fills a field without a rule.
 unfoldable pub scan : List ℕ → List Rule → Seen → List ℕ → ℕ → Result ℕ ℕ
 scan [] rs seen bytes at = Ok at
-scan (w ∷ ws) [] seen bytes at = Ok at
+scan (w ∷ ws) [] seen bytes at = Err at
 scan (w ∷ ws) (r ∷ rs) seen bytes at =
     if nat_lt (length bytes) w then Err at
     else (if allows r seen (little_number w bytes) then scan ws rs (after r seen (little_number w bytes)) (drop w bytes) (at + w) else Err at)
+
+-- widths of fields that hold numbers of up to 64 bits
+abbrev pub are_widths : List ℕ → Bool
+are_widths ws = list_all (λ w. nat_le 1 w && nat_le w 8) ws
 
 abbrev pub repeated_rules : ℕ → List Rule → List Rule
 repeated_rules zero rs = []
