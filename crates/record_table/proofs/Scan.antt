@@ -1,6 +1,6 @@
 -- What a scan of fields says of the bytes.
 use Rattle.std.proofs.Common.{◌≡◌, ℕ, zero, suc, ◌+◌, ◌-◌, ◌*◌, ◌^◌, ◌<◌, ◌≤◌, Bool, true, false, cond, ltb, leb, eqb, ◌&&◌, ◌||◌, List, [], ◌∷◌, ◌++◌, length, get_or, take, drop, sum, Result, Ok, Err, refl, sym, ap, subst, ◌∙◌, ◌⊎◌, inl, inr, append_assoc, arith, length-append, length-drop, length-take}
-use Rattle.std.proofs.lemmas.Bool.{cases_lt, ltb-true, ltb-false, lt-ltb, le-ltb, leb-true, le-leb, eqb-true, eq-eqb, and_parts, and_from}
+use Rattle.std.proofs.lemmas.Bool.{cases_lt, ltb-true, ltb-false, lt-ltb, le-ltb, leb-true, le-leb, eqb-true, eq-eqb, and_parts, and_from, or_cases}
 use Rattle.std.proofs.lemmas.List.{take_at, drop_at, take_all, drop_all, drop-drop, append-nil, take-append-drop, take-append-le}
 use Rattle.byteorder.specs.Endian.{little_number, little_bytes}
 use Rattle.byteorder.specs.Numbers.{length-bytes_low_first, little_number-reads_back}
@@ -261,10 +261,6 @@ choice w Page seen sane ready = record { number = 0; fits = ltb-true 0 (256 ^ w)
 choice w Count seen sane (inl none) = record { number = 0; fits = omega (arith, ltb-true 1 (256 ^ w) sane); allowed = eq-eqb seen.page 0 none }
 choice w Count seen sane (inr page) = record { number = 1; fits = ltb-true 1 (256 ^ w) sane; allowed = and_from (leb seen.from seen.page) (leb (seen.page + 1) 65536) (le-leb seen.from seen.page page.0) (le-leb (seen.page + 1) 65536 (omega (arith, page.1))) }
 
-or_parts : (x y : Bool) → (x || y) ≡ true → (x ≡ true) ⊎ (y ≡ true)
-or_parts true y e = inl refl
-or_parts false y e = inr e
-
 page-cond : (b : Bool) (x y : Seen) → x.page ≡ 0 → y.page ≡ 0 → (cond b x y).page ≡ 0
 page-cond true x y ex ey = ex
 page-cond false x y ex ey = ey
@@ -275,7 +271,7 @@ ready-after (Range least most) seen n ready e = ready
 ready-after Volume seen n ready e = ready
 ready-after (IfUsed most) seen n ready e = ready
 ready-after Page seen n ready e =
-    elim (or_parts (eqb n 0) (leb seen.from n && ltb n 65536) e) [
+    elim (or_cases (eqb n 0) (leb seen.from n && ltb n 65536) e) [
       | inl none ↦ inl (eqb-true n 0 none)
       | inr page ↦ let parts = and_parts (leb seen.from n) (ltb n 65536) page in inr (leb-true seen.from n parts.0, ltb-true n 65536 parts.1)
     ]
