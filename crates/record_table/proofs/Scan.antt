@@ -73,13 +73,13 @@ field_case w r seen bytes =
       | inr le ↦ elim (true_or_false (allows r seen (little_number w bytes))) [ inl holds ↦ goes_on le holds | inr fails ↦ refused le fails ]
     ]
 
-abbrev nil : List ℕ
+abbrev pub nil : List ℕ
 nil = []
 
-abbrev done : ℕ → Result ℕ ℕ
+abbrev pub done : ℕ → Result ℕ ℕ
 done x = Ok x
 
-abbrev stopped : ℕ → Result ℕ ℕ
+abbrev pub stopped : ℕ → Result ℕ ℕ
 stopped x = Err x
 
 pub ok_is : (x y : ℕ) → done x ≡ done y → x ≡ y
