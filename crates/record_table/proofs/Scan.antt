@@ -1,5 +1,5 @@
 -- What a scan of fields says of the bytes.
-use Rattle.std.proofs.Common.{◌≡◌, ℕ, zero, suc, ◌+◌, ◌-◌, ◌*◌, ◌^◌, ◌<◌, ◌≤◌, Bool, true, false, cond, ltb, leb, eqb, ◌&&◌, ◌||◌, List, [], ◌∷◌, ◌++◌, length, get_or, take, drop, sum, Result, Ok, Err, refl, sym, ap, subst, ◌∙◌, ◌⊎◌, inl, inr, append_assoc, arith, length-append, length-drop, length-take}
+use Rattle.std.proofs.Common.{◌≡◌, ℕ, zero, suc, ◌+◌, ◌-◌, ◌*◌, ◌^◌, ◌<◌, ◌≤◌, Bool, true, false, cond, ltb, leb, eqb, ◌&&◌, ◌||◌, List, [], ◌∷◌, ◌++◌, length, get_or, take, drop, sum, Result, Ok, Err, refl, sym, ap, subst, ◌∙◌, ◌⊎◌, inl, inr, append_assoc, arith, length-append, length-drop, length-take, drop-cons}
 use Rattle.std.proofs.lemmas.Bool.{cases_lt, ltb-true, ltb-false, lt-ltb, le-ltb, leb-true, le-leb, eqb-true, eq-eqb, and_parts, and_from, or_cases}
 use Rattle.std.proofs.lemmas.List.{take_at, drop_at, take_all, drop_all, drop-drop, append-nil, take-append-drop, take-append-le}
 use Rattle.byteorder.specs.Endian.{little_number, little_bytes}
@@ -327,3 +327,45 @@ scan_before (w ∷ ws) (r ∷ rs) seen bytes at end fits sane ready e =
             same = same;
           }
     ]
+
+-- ---- a loop over the fields
+
+pub rest_is : (at : ℕ) (bytes : List ℕ) → take (length bytes - at) (drop at bytes) ≡ drop at bytes
+rest_is at bytes = take_all (length bytes - at) (drop at bytes) (omega (arith, length-drop at bytes))
+
+scan-at : (ws : List ℕ) (rs : List Rule) (i : ℕ) (seen : Seen) (bytes : List ℕ) (at : ℕ) → i < length ws → length rs ≡ length ws
+    → scan (drop i ws) (drop i rs) seen bytes at ≡ scan (get_or ws i 0 ∷ drop (i + 1) ws) (get_or rs i Any ∷ drop (i + 1) rs) seen bytes at
+scan-at ws rs i seen bytes at lt same =
+    let k : i + 1 ≡ suc i = omega arith in
+    let one : drop i ws ≡ get_or ws i 0 ∷ drop (suc i) ws = drop-cons ws i 0 lt in
+    let two : drop i rs ≡ get_or rs i Any ∷ drop (suc i) rs = drop-cons rs i Any (omega arith) in
+    rw (k, one, two) refl
+
+pub loop-short : (ws : List ℕ) (rs : List Rule) (i : ℕ) (seen : Seen) (bytes : List ℕ) (at w : ℕ) (total : Result ℕ ℕ) → i < length ws → length rs ≡ length ws → w ≡ get_or ws i 0 → length (take (length bytes - at) (drop at bytes)) < w
+    → scan (drop i ws) (drop i rs) seen (drop at bytes) at ≡ total → stopped at ≡ total
+loop-short ws rs i seen bytes at w total lt same is_w few so_far =
+    let few' : length (drop at bytes) < get_or ws i 0 = omega (arith, ap length (rest_is at bytes), few, is_w) in
+    sym (scan-at ws rs i seen (drop at bytes) at lt same ∙ scan-short (get_or ws i 0) (drop (i + 1) ws) (get_or rs i Any) (drop (i + 1) rs) seen (drop at bytes) at few') ∙ so_far
+
+pub loop-refused : (ws : List ℕ) (rs : List Rule) (i : ℕ) (seen : Seen) (bytes : List ℕ) (at w n : ℕ) (total : Result ℕ ℕ) → i < length ws → length rs ≡ length ws → w ≡ get_or ws i 0 → w ≤ length (take (length bytes - at) (drop at bytes))
+    → n ≡ little_number w (take (length bytes - at) (drop at bytes)) → allows (get_or rs i Any) seen n ≡ false
+    → scan (drop i ws) (drop i rs) seen (drop at bytes) at ≡ total → stopped at ≡ total
+loop-refused ws rs i seen bytes at w n total lt same is_w long is_n fails so_far =
+    let long' : get_or ws i 0 ≤ length (drop at bytes) = omega (arith, ap length (rest_is at bytes), long, is_w) in
+    let number : n ≡ little_number (get_or ws i 0) (drop at bytes) = is_n ∙ rw (rest_is at bytes, is_w) refl in
+    sym (scan-at ws rs i seen (drop at bytes) at lt same ∙ scan-refused (get_or ws i 0) (drop (i + 1) ws) (get_or rs i Any) (drop (i + 1) rs) seen (drop at bytes) at long' (rw (← number) fails)) ∙ so_far
+
+pub loop-on : (ws : List ℕ) (rs : List Rule) (i : ℕ) (seen : Seen) (bytes : List ℕ) (at w n : ℕ) (total : Result ℕ ℕ) → i < length ws → length rs ≡ length ws → w ≡ get_or ws i 0 → w ≤ length (take (length bytes - at) (drop at bytes))
+    → n ≡ little_number w (take (length bytes - at) (drop at bytes)) → allows (get_or rs i Any) seen n ≡ true
+    → scan (drop i ws) (drop i rs) seen (drop at bytes) at ≡ total → scan (drop (i + 1) ws) (drop (i + 1) rs) (after (get_or rs i Any) seen n) (drop (at + w) bytes) (at + w) ≡ total
+loop-on ws rs i seen bytes at w n total lt same is_w long is_n holds so_far =
+    let long' : get_or ws i 0 ≤ length (drop at bytes) = omega (arith, ap length (rest_is at bytes), long, is_w) in
+    let number : n ≡ little_number (get_or ws i 0) (drop at bytes) = is_n ∙ rw (rest_is at bytes, is_w) refl in
+    let step = scan-at ws rs i seen (drop at bytes) at lt same ∙ scan-on (get_or ws i 0) (drop (i + 1) ws) (get_or rs i Any) (drop (i + 1) rs) seen (drop at bytes) at long' (rw (← number) holds) in
+    rw (number, is_w, ← drop-drop (get_or ws i 0) at bytes) (sym step ∙ so_far)
+
+pub loop-done : (ws : List ℕ) (rs : List Rule) (i : ℕ) (seen : Seen) (bytes : List ℕ) (at : ℕ) (total : Result ℕ ℕ) → length ws ≤ i
+    → scan (drop i ws) (drop i rs) seen bytes at ≡ total → done at ≡ total
+loop-done ws rs i seen bytes at total le so_far =
+    let none : drop i ws ≡ [] = drop_all i ws le in
+    sym (ap (λ (vs : List ℕ). scan vs (drop i rs) seen bytes at) none ∙ scan-none (drop i rs) seen bytes at) ∙ so_far

@@ -1,7 +1,8 @@
 //! The table of kinds, one row each, and what is done by it.
 
-ghost use Rattle.std.specs.Prelude.{◌≡◌, ◌≤◌, length};
+ghost use Rattle.std.specs.Prelude.{◌≡◌, ◌≤◌, ◌++◌, length, drop};
 ghost use Rattle.record_table.specs.Layouts.{widths, size_of, IsKind};
+ghost use Rattle.record_table.specs.Records.{Allowed, kind_of, numbers, spelled};
 ghost use Rattle.record_table.specs.Rules.{rules_of, nothing_seen, scan};
 ghost use Rattle.record_table.specs.Fields.{record_at as record_there};
 
@@ -10,6 +11,7 @@ use crate::layout::Layout;
 use crate::record::Record;
 use crate::reading::scan_fields;
 use crate::rule::Rule;
+use crate::writing::{put, put_extents, put_holes};
 
 /// Gives a macro the table of kinds. A row has a kind's number, its layout and rules, its variant with
 /// the places that the fields are read from, and how the fields are written.
@@ -27,13 +29,13 @@ macro_rules! kinds {
                 put_numbers [0u16, *source_vol, *source_cell, *source_page, *frozen, 0u32];
             3 EXTENTS EXTENTS_RULES
                 Extents { rows: extents_at 4 }
-                put_extents [rows];
+                put_rows [put_extents rows];
             4 SHORT_EXTENTS SHORT_EXTENTS_RULES
                 ShortExtents { rows: extents_at 4 }
-                put_extents [rows];
+                put_rows [put_extents rows];
             5 HOLES HOLES_RULES
                 Holes { rows: holes_at 4 }
-                put_holes [rows];
+                put_rows [put_holes rows];
             6 PENDING PENDING_RULES
                 Pending { what: u32_at 4 }
                 put_numbers [*what, 0u32];
@@ -95,8 +97,39 @@ pub fn record_at(kind: u8, bytes: &[u8]) -> Record
     kinds!(readers, kind, bytes)
 }
 
+/// Writes the numbers of a record's fields to the front of `out`, and answers how many bytes they took.
+pub fn put_record(value: &Record, out: &mut [u8]) -> usize
+    requires allowed { Allowed value.now }
+    requires room { size_of (kind_of value.now) ≤ length out.old }
+    ensures size { result ≡ size_of (kind_of value.now) }
+    ensures written { out.new ≡ spelled (widths (kind_of value.now)) (numbers value.now) ++ drop result out.old }
+{
+    macro_rules! put_numbers {
+        ($layout:ident, $number:literal, $out:ident, [$($field:expr),*]) => {
+            put(&$layout.widths, &[$number, 0, $layout.size() as u64, $(u64::from($field)),*], $out)
+        };
+    }
+    macro_rules! put_rows {
+        ($layout:ident, $number:literal, $out:ident, [$put:ident $rows:ident]) => {{
+            let head = put(&HEAD.widths, &[$number, 0, $layout.size() as u64], $out);
+            head + $put($rows, &mut $out[head..])
+        }};
+    }
+    macro_rules! writers {
+        (($value:ident, $out:ident) $($number:literal $layout:ident $rules:ident $variant:ident { $($field:ident : $read:ident $at:literal),* } $put:ident $fields:tt;)*) => {
+            match $value {
+                $(Record::$variant { $($field),* } => $put!($layout, $number, $out, $fields),)*
+            }
+        };
+    }
+    kinds!(writers, value, out)
+}
+
 const ANY: Rule = Rule::Any;
 const ZERO: Rule = Rule::Range(0, 0);
+
+/// The widths of a head: kind, zero and length.
+const HEAD: Layout<3> = Layout { widths: [1, 1, 2] };
 
 /// An array of a head and 4 or 16 rows.
 macro_rules! rows {
