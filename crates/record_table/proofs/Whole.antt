@@ -209,3 +209,17 @@ scan-wrong bytes bad fits kind e =
       | inl is ↦ wrong_field bytes bad fits kind is e
       | inr not ↦ wrong_kind bytes bad kind (err_is bad.at 0 (sym e ∙ scan-unknown bad.kind bytes not)) not
     ]
+
+-- ---- both answers for bytes that begin with a record
+
+pub record Reads (k : ℕ) (bytes : List ℕ) (r : Record) : Type 0 where
+  pub scan : scan (widths k) (rules_of k) nothing_seen bytes 0 ≡ Ok (length (spelling r))
+  pub value : record_at k bytes ≡ r
+
+pub reads-begins : (k : ℕ) (bytes : List ℕ) (r : Record) → k ≡ slice_index bytes 0 → Begins bytes r → Reads k bytes r
+reads-begins k bytes r is h =
+    let kind : kind_of r ≡ k = sym (is ∙ kind-begins r bytes h) in
+    record {
+      scan = subst (λ (j : ℕ). scan (widths j) (rules_of j) nothing_seen bytes 0 ≡ done (length (spelling r))) kind (scan-begins r bytes h);
+      value = subst (λ (j : ℕ). record_at j bytes ≡ r) kind (record_at-begins r bytes h);
+    }
