@@ -240,3 +240,7 @@ record_again (DirIndex vol page entries) bytes same = cc
 record_again (Parent slot seq) bytes same = cc
 record_again (Stripe width mark vols) bytes same = let others : volumes 8 bytes ≡ vols = ap (λ (ns : List ℕ). drop 6 ns) same in cc
 record_again (Volume vol pages bitmap_pages) bytes same = cc
+
+pub volumes_are_eight : (width mark : ℕ) (vols : List ℕ) → Allowed (Stripe width mark vols) → length vols ≡ 8
+unfolding Allowed
+volumes_are_eight width mark vols h = h.2

@@ -111,7 +111,7 @@ pub record Read (ws : List ℕ) (rs : List Rule) (seen : Seen) (bytes : List ℕ
   pub text : spelled ws (decoded ws at bytes) ≡ take (sum ws) (drop at bytes)
 
 pub scan_ok : (ws : List ℕ) (rs : List Rule) (seen : Seen) (bytes : List ℕ) (at end : ℕ) → IsBytes bytes → at ≤ length bytes → scan ws rs seen (drop at bytes) at ≡ Ok end → Read ws rs seen bytes at end
-unfolding number_at
+unfolding number_at spelled
 scan_ok [] rs seen bytes at end fits le e =
     let is : at ≡ end = ok_is at end (sym (scan-none rs seen (drop at bytes) at) ∙ e) in
     record { stops = omega (arith, is); inside = omega (arith, is); passes = tt; text = refl }
@@ -140,6 +140,7 @@ scan_ok (w ∷ ws) (r ∷ rs) seen bytes at end fits le e =
 -- ---- numbers that pass are read again
 
 pub scan_again : (ws : List ℕ) (rs : List Rule) (seen : Seen) (ns rest : List ℕ) (at : ℕ) → Passes ws rs seen ns → scan ws rs seen (spelled ws ns ++ rest) at ≡ Ok (at + sum ws)
+unfolding spelled
 scan_again [] rs seen [] rest at pass = let e : at + sum [] ≡ at = omega arith in rw e (scan-none rs seen rest at)
 scan_again [] rs seen (n ∷ ns) rest at pass = absurd pass
 scan_again (w ∷ ws) [] seen ns rest at pass = absurd pass
@@ -158,7 +159,7 @@ scan_again (w ∷ ws) (r ∷ rs) seen (n ∷ ns) rest at pass =
     ∙ rw (number, drop_at (little_bytes w n) more w len) others ∙ ap (λ (k : ℕ). done k) total
 
 pub decoded_again : (ws : List ℕ) (rs : List Rule) (seen : Seen) (ns front rest : List ℕ) (at : ℕ) → Passes ws rs seen ns → length front ≡ at → decoded ws at (front ++ (spelled ws ns ++ rest)) ≡ ns
-unfolding number_at
+unfolding number_at spelled
 decoded_again [] rs seen [] front rest at pass len = refl
 decoded_again [] rs seen (n ∷ ns) front rest at pass len = absurd pass
 decoded_again (w ∷ ws) [] seen ns front rest at pass len = absurd pass
@@ -300,6 +301,7 @@ pub record Before (ws : List ℕ) (rs : List Rule) (seen : Seen) (bytes : List �
   pub same : take taken (spelled ws numbers) ≡ take taken bytes
 
 pub scan_before : (ws : List ℕ) (rs : List Rule) (seen : Seen) (bytes : List ℕ) (at end : ℕ) → IsBytes bytes → are_sane ws rs ≡ true → Ready seen → scan ws rs seen bytes at ≡ Err end → Before ws rs seen bytes at end
+unfolding spelled
 scan_before [] rs seen bytes at end fits sane ready e = absurd (err_is_not_ok end at (sym e ∙ scan-none rs seen bytes at))
 scan_before (w ∷ ws) [] seen bytes at end fits sane ready e = absurd cc
 scan_before (w ∷ ws) (r ∷ rs) seen bytes at end fits sane ready e =

@@ -43,12 +43,14 @@ Fit-length (w ∷ ws) [] fit = absurd fit
 Fit-length (w ∷ ws) (n ∷ ns) fit = ap suc (Fit-length ws ns fit.2)
 
 pub length-spelled : (ws ns : List ℕ) → length ns ≡ length ws → length (spelled ws ns) ≡ sum ws
+unfolding spelled
 length-spelled [] ns e = refl
 length-spelled (w ∷ ws) [] e = absurd (omega arith)
 length-spelled (w ∷ ws) (n ∷ ns) e =
     omega (arith, length-append (little_bytes w n) (spelled ws ns), length-bytes_low_first 0 w n, length-spelled ws ns (omega arith), sum-cons w ws)
 
 pub spelled-append : (vs ms ws ns : List ℕ) → length ms ≡ length vs → spelled (vs ++ ws) (ms ++ ns) ≡ spelled vs ms ++ spelled ws ns
+unfolding spelled
 spelled-append [] [] ws ns e = refl
 spelled-append [] (m ∷ ms) ws ns e = absurd (omega arith)
 spelled-append (v ∷ vs) [] ws ns e = absurd (omega arith)
@@ -57,6 +59,7 @@ spelled-append (v ∷ vs) (m ∷ ms) ws ns e =
     rw rest (sym (append_assoc (little_bytes v m) (spelled vs ms) (spelled ws ns)))
 
 pub spelled-more : (ws ns : List ℕ) (i : ℕ) → i < length ws → i < length ns → spelled (take (i + 1) ws) (take (i + 1) ns) ≡ spelled (take i ws) (take i ns) ++ little_bytes (get_or ws i 0) (get_or ns i 0)
+unfolding spelled
 spelled-more [] ns i lt lt' = absurd (omega arith)
 spelled-more (w ∷ ws) [] i lt lt' = absurd (omega arith)
 spelled-more (w ∷ ws) (n ∷ ns) zero lt lt' = append-nil (little_bytes w n)
@@ -110,21 +113,23 @@ pub sum-repeated : (n : ℕ) (ws : List ℕ) → sum (repeated n ws) ≡ sum ws 
 sum-repeated zero ws = omega arith
 sum-repeated (suc n) ws = omega (arith, sum-append ws (repeated n ws), sum-repeated n ws)
 
--- one row more of those that are written
-pub rows-more : {X : Type 0} (f : X → List ℕ) (ws : List ℕ) (rows : List X) (d : X) (old xs ys : List ℕ) (at i : ℕ) → ((x : X) → length (f x) ≡ length ws) → i < length rows
-    → at + sum ws ≤ length old → at ≡ sum ws * i
-    → xs ≡ spelled (repeated i ws) (flat_map f (take i rows)) ++ drop at old
+-- one row more behind a head
+pub rows-more : {X : Type 0} (f : X → List ℕ) (ws vs ms : List ℕ) (rows : List X) (d : X) (old xs ys : List ℕ) (at i : ℕ) → ((x : X) → length (f x) ≡ length ws) → length ms ≡ length vs → i < length rows
+    → at + sum ws ≤ length old → at ≡ sum vs + sum ws * i
+    → xs ≡ spelled (vs ++ repeated i ws) (ms ++ flat_map f (take i rows)) ++ drop at old
     → ys ≡ spelled ws (f (get_or rows i d)) ++ drop (sum ws) (take (length xs - at) (drop at xs))
-    → put_mid at (length xs - at) xs ys ≡ spelled (repeated (i + 1) ws) (flat_map f (take (i + 1) rows)) ++ drop (at + sum ws) old
-rows-more f ws rows d old xs ys at i same lt room counted is_xs is_ys =
+    → put_mid at (length xs - at) xs ys ≡ spelled (vs ++ repeated (i + 1) ws) (ms ++ flat_map f (take (i + 1) rows)) ++ drop (at + sum ws) old
+rows-more {X = X} f ws vs ms rows d old xs ys at i same head lt room counted is_xs is_ys =
     let row = get_or rows i d in
+    let ns = flat_map f (take i rows) in
     let len : length (take i rows) ≡ i = omega (arith, length-take i rows) in
-    let both : length (flat_map f (take i rows)) ≡ length (repeated i ws) = length-rows f ws (take i rows) same ∙ ap (λ (n : ℕ). length (repeated n ws)) len in
-    let front : length (spelled (repeated i ws) (flat_map f (take i rows))) ≡ at = length-spelled (repeated i ws) (flat_map f (take i rows)) both ∙ sum-repeated i ws ∙ sym counted in
+    let both : length ns ≡ length (repeated i ws) = length-rows f ws (take i rows) same ∙ ap (λ (n : ℕ). length (repeated n ws)) len in
+    let all : length (ms ++ ns) ≡ length (vs ++ repeated i ws) = omega (arith, length-append ms ns, length-append vs (repeated i ws)) in
+    let front : length (spelled (vs ++ repeated i ws) (ms ++ ns)) ≡ at = omega (arith, length-spelled (vs ++ repeated i ws) (ms ++ ns) all, sum-append vs (repeated i ws), sum-repeated i ws) in
     let text : length (spelled ws (f row)) ≡ sum ws = length-spelled ws (f row) (same row) in
-    let numbers : flat_map f (take (i + 1) rows) ≡ flat_map f (take i rows) ++ f row =
-    ap (flat_map f) (take_more rows i d lt) ∙ flat_map-append f (take i rows) (row ∷ []) ∙ ap (λ (ns : List ℕ). flat_map f (take i rows) ++ ns) (flat_map-cons f row [] ∙ append-nil (f row)) in
+    let numbers : ms ++ flat_map f (take (i + 1) rows) ≡ (ms ++ ns) ++ f row =
+    ap (λ (xs : List X). ms ++ flat_map f xs) (take_more rows i d lt) ∙ ap (λ (qs : List ℕ). ms ++ qs) (flat_map-append f (take i rows) (row ∷ []) ∙ ap (λ (qs : List ℕ). ns ++ qs) (flat_map-cons f row [] ∙ append-nil (f row))) ∙ sym (append_assoc ms ns (f row)) in
     let k : i + 1 ≡ suc i = omega arith in
-    let layout : repeated (i + 1) ws ≡ repeated i ws ++ ws = ap (λ (n : ℕ). repeated n ws) k ∙ repeated-push i ws in
-    rw (layout, numbers, spelled-append (repeated i ws) (flat_map f (take i rows)) ws (f row) both)
-    (overwritten (spelled (repeated i ws) (flat_map f (take i rows))) (spelled ws (f row)) old xs ys at (sum ws) front text room is_xs is_ys)
+    let layout : vs ++ repeated (i + 1) ws ≡ (vs ++ repeated i ws) ++ ws = ap (λ (n : ℕ). vs ++ repeated n ws) k ∙ ap (λ (us : List ℕ). vs ++ us) (repeated-push i ws) ∙ sym (append_assoc vs (repeated i ws) ws) in
+    rw (layout, numbers, spelled-append (vs ++ repeated i ws) (ms ++ ns) ws (f row) all)
+    (overwritten (spelled (vs ++ repeated i ws) (ms ++ ns)) (spelled ws (f row)) old xs ys at (sum ws) front text room is_xs is_ys)

@@ -57,7 +57,7 @@ length-spelling r allowed =
 
 -- the first byte of a spelling is the kind
 pub first_byte : (r : Record) (rest : List ℕ) → slice_index (spelling r ++ rest) 0 ≡ kind_of r
-unfolding spelling
+unfolding spelling spelled
 first_byte (Attributes kind uid gid flags size keep links birth unsynced) rest = refl
 first_byte (CloneFile vol cell page frozen) rest = refl
 first_byte (Extents rows) rest = refl

@@ -48,7 +48,7 @@ abbrev pub numbers : Record → List ℕ
 numbers r = kind_of r ∷ 0 ∷ size_of (kind_of r) ∷ fields r
 
 -- numbers one after the other, each in its width of bytes, the lowest byte first
-abbrev pub spelled : List ℕ → List ℕ → List ℕ
+unfoldable pub spelled : List ℕ → List ℕ → List ℕ
 spelled [] ns = []
 spelled (w ∷ ws) [] = []
 spelled (w ∷ ws) (n ∷ ns) = little_bytes w n ++ spelled ws ns

@@ -26,7 +26,7 @@ macro_rules! kinds {
                 put_numbers [*kind, *uid, *gid, *flags, *size, *keep, *links, *birth, *unsynced];
             2 CLONE_FILE CLONE_FILE_RULES
                 CloneFile { source_vol: u8_at 6, source_cell: u8_at 7, source_page: u32_at 8, frozen: u32_at 12 }
-                put_numbers [0u16, *source_vol, *source_cell, *source_page, *frozen, 0u32];
+                put_numbers [0, *source_vol, *source_cell, *source_page, *frozen, 0];
             3 EXTENTS EXTENTS_RULES
                 Extents { rows: extents_at 4 }
                 put_rows [put_extents rows];
@@ -38,23 +38,23 @@ macro_rules! kinds {
                 put_rows [put_holes rows];
             6 PENDING PENDING_RULES
                 Pending { what: u32_at 4 }
-                put_numbers [*what, 0u32];
+                put_numbers [*what, 0];
             7 QUOTA USER_QUOTA_RULES
                 UserQuota { id: u32_at 4, files: u64_at 12, blocks: u64_at 20 }
-                put_numbers [*id, 0u32, *files, *blocks];
+                put_numbers [*id, 0, *files, *blocks];
             8 QUOTA GROUP_QUOTA_RULES
                 GroupQuota { id: u32_at 4, files: u64_at 12, blocks: u64_at 20 }
-                put_numbers [*id, 0u32, *files, *blocks];
+                put_numbers [*id, 0, *files, *blocks];
             9 DIR_INDEX DIR_INDEX_RULES
                 DirIndex { vol: u32_at 4, page: u32_at 8, entries: u32_at 12 }
-                put_numbers [*vol, *page, *entries, 0u32];
+                put_numbers [*vol, *page, *entries, 0];
             10 PARENT PARENT_RULES
                 Parent { slot: u32_at 4, seq: u16_at 8 }
-                put_numbers [*slot, *seq, 0u16];
+                put_numbers [*slot, *seq, 0];
             11 STRIPE STRIPE_RULES
                 Stripe { width: u8_at 4, mark: u8_at 5, vols: volumes_at 8 }
                 put_numbers [
-                    *width, *mark, 0u16,
+                    *width, *mark, 0,
                     vols[0], vols[1], vols[2], vols[3], vols[4], vols[5], vols[6], vols[7]
                 ];
             12 VOLUME VOLUME_RULES
@@ -106,14 +106,13 @@ pub fn put_record(value: &Record, out: &mut [u8]) -> usize
 {
     macro_rules! put_numbers {
         ($layout:ident, $number:literal, $out:ident, [$($field:expr),*]) => {
-            put(&$layout.widths, &[$number, 0, $layout.size() as u64, $(u64::from($field)),*], $out)
+            put(&$layout.widths, &[$number, 0, $layout.size() as u64, $($field as u64),*], $out)
         };
     }
     macro_rules! put_rows {
-        ($layout:ident, $number:literal, $out:ident, [$put:ident $rows:ident]) => {{
-            let head = put(&HEAD.widths, &[$number, 0, $layout.size() as u64], $out);
-            head + $put($rows, &mut $out[head..])
-        }};
+        ($layout:ident, $number:literal, $out:ident, [$put:ident $rows:ident]) => {
+            $put($number, $layout.size() as u16, $rows, $out)
+        };
     }
     macro_rules! writers {
         (($value:ident, $out:ident) $($number:literal $layout:ident $rules:ident $variant:ident { $($field:ident : $read:ident $at:literal),* } $put:ident $fields:tt;)*) => {
@@ -127,9 +126,6 @@ pub fn put_record(value: &Record, out: &mut [u8]) -> usize
 
 const ANY: Rule = Rule::Any;
 const ZERO: Rule = Rule::Range(0, 0);
-
-/// The widths of a head: kind, zero and length.
-const HEAD: Layout<3> = Layout { widths: [1, 1, 2] };
 
 /// An array of a head and 4 or 16 rows.
 macro_rules! rows {
