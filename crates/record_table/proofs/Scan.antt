@@ -181,7 +181,7 @@ pub record Stops (ws : List ℕ) (rs : List Rule) (seen : Seen) (bytes : List �
   pub is_field : field < length ws
   pub place : end ≡ at + sum (take field ws)
   pub decided : (other : List ℕ) → sum (take (suc field) ws) ≤ length bytes → sum (take (suc field) ws) ≤ length other
-    → take (sum (take (suc field) ws)) other ≡ take (sum (take (suc field) ws)) bytes → scan ws rs seen other at ≡ Err end
+      → take (sum (take (suc field) ws)) other ≡ take (sum (take (suc field) ws)) bytes → scan ws rs seen other at ≡ Err end
 
 take-parts : (m n : ℕ) (xs ys : List ℕ) → m + n ≤ length xs → m + n ≤ length ys → take (m + n) xs ≡ take (m + n) ys → (take m xs ≡ take m ys) × (take n (drop m xs) ≡ take n (drop m ys))
 take-parts zero n xs ys lx ly e = let k : 0 + n ≡ n = omega arith in (refl, rw k at e)
@@ -207,23 +207,33 @@ scan_err (w ∷ ws) (r ∷ rs) seen bytes at end e =
           record { field = 0; is_field = omega arith; place = omega (arith, is); decided = λ other lb lo same. absurd (omega arith) }
       | refused long fails ↦
           let is : at ≡ end = err_is at end (sym (scan-refused w ws r rs seen bytes at long fails) ∙ e) in
-          record { field = 0; is_field = omega arith; place = omega (arith, is); decided = λ other lb lo same.
-            let one : 0 + w ≡ w = omega arith in
-            let number : little_number w other ≡ little_number w bytes = little_number-take w other bytes (rw one at same) in
-            scan-refused w ws r rs seen other at (omega (arith, lo)) (rw number fails) ∙ ap (λ (k : ℕ). stopped k) is }
+          record {
+            field = 0;
+            is_field = omega arith;
+            place = omega (arith, is);
+            decided = λ other lb lo same.
+                let one : 0 + w ≡ w = omega arith in
+                let number : little_number w other ≡ little_number w bytes = little_number-take w other bytes (rw one at same) in
+                scan-refused w ws r rs seen other at (omega (arith, lo)) (rw number fails) ∙ ap (λ (k : ℕ). stopped k) is;
+          }
       | goes_on long holds ↦
           let n = little_number w bytes in
           let others = scan_err ws rs (after r seen n) (drop w bytes) (at + w) end (sym (scan-on w ws r rs seen bytes at long holds) ∙ e) in
           let front = sum-cons w (take others.field ws) in
           let whole = sum-cons w (take (suc others.field) ws) in
-          record { field = suc others.field; is_field = omega (arith, others.is_field); place = omega (arith, others.place, front); decided = λ other lb lo same.
-            let m = sum (take (suc others.field) ws) in
-            let lb' : w + m ≤ length bytes = omega (arith, whole, lb) in
-            let lo' : w + m ≤ length other = omega (arith, whole, lo) in
-            let parts = take-parts w m other bytes lo' lb' (rw whole at same) in
-            let number : little_number w other ≡ n = little_number-take w other bytes parts.0 in
-            let step = scan-on w ws r rs seen other at (omega arith) (rw number holds) in
-            step ∙ rw number (others.decided (drop w other) (omega (arith, length-drop w bytes)) (omega (arith, length-drop w other)) parts.1) }
+          record {
+            field = suc others.field;
+            is_field = omega (arith, others.is_field);
+            place = omega (arith, others.place, front);
+            decided = λ other lb lo same.
+                let m = sum (take (suc others.field) ws) in
+                let lb' : w + m ≤ length bytes = omega (arith, whole, lb) in
+                let lo' : w + m ≤ length other = omega (arith, whole, lo) in
+                let parts = take-parts w m other bytes lo' lb' (rw whole at same) in
+                let number : little_number w other ≡ n = little_number-take w other bytes parts.0 in
+                let step = scan-on w ws r rs seen other at (omega arith) (rw number holds) in
+                step ∙ rw number (others.decided (drop w other) (omega (arith, length-drop w bytes)) (omega (arith, length-drop w other)) parts.1);
+          }
     ]
 
 -- ---- fields can always be filled

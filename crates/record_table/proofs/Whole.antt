@@ -192,15 +192,15 @@ wrong_field bytes bad fits kind is e =
       at = omega (arith, stops.place);
       before = subst (GoesOn bytes) taken before;
       wrong = λ g.
-        let far = sum (take (suc stops.field) (widths k)) in
-        let g' : GoesOn bytes far = rw next at g in
-        let some : 1 ≤ far = omega (arith, first_in_sum (widths k) stops.field, kind_width k is) in
-        let same_kind : k ≡ kind_of g'.value = kind ∙ goes_on_kind bytes far g' some in
-        let long : far ≤ length (spelling g'.value) = omega (arith, ap length g'.same, length-take far (spelling g'.value), length-take far bytes, g'.there) in
-        let stopped_at = stops.decided (spelling g'.value) g'.there long g'.same in
-        let whole : Begins (spelling g'.value) g'.value = record { allowed = g'.allowed; rest = []; parts = sym (append-nil (spelling g'.value)) } in
-        let read = scan-begins g'.value (spelling g'.value) whole in
-        err_is_not_ok bad.at (length (spelling g'.value)) (sym stopped_at ∙ ap (λ (j : ℕ). scan (widths j) (rules_of j) nothing_seen (spelling g'.value) 0) same_kind ∙ read);
+          let far = sum (take (suc stops.field) (widths k)) in
+          let g' : GoesOn bytes far = rw next at g in
+          let some : 1 ≤ far = omega (arith, first_in_sum (widths k) stops.field, kind_width k is) in
+          let same_kind : k ≡ kind_of g'.value = kind ∙ goes_on_kind bytes far g' some in
+          let long : far ≤ length (spelling g'.value) = omega (arith, ap length g'.same, length-take far (spelling g'.value), length-take far bytes, g'.there) in
+          let stopped_at = stops.decided (spelling g'.value) g'.there long g'.same in
+          let whole : Begins (spelling g'.value) g'.value = record { allowed = g'.allowed; rest = []; parts = sym (append-nil (spelling g'.value)) } in
+          let read = scan-begins g'.value (spelling g'.value) whole in
+          err_is_not_ok bad.at (length (spelling g'.value)) (sym stopped_at ∙ ap (λ (j : ℕ). scan (widths j) (rules_of j) nothing_seen (spelling g'.value) 0) same_kind ∙ read);
     }
 
 pub scan-wrong : (bytes : List ℕ) (bad : Bad) → IsBytes bytes → bad.kind ≡ slice_index bytes 0 → scan (widths bad.kind) (rules_of bad.kind) nothing_seen bytes 0 ≡ Err bad.at → IsFirstWrong bytes bad

@@ -39,6 +39,7 @@ fn first_kind(bytes: &[u8]) -> u8
 pub fn read_record(bytes: &[u8]) -> Result<(Record, usize), Bad>
     // What is read is spelled at the front of the bytes.
     ensures found { IfOk result (λ found. Begins bytes.now found.0 × (found.1 ≡ length (spelling found.0))) }
+    ensures size { IfOk result (λ found. found.1 ≡ size_of (kind_of found.0)) }
     // What is spelled there is read, whatever follows.
     ensures only { (r : AnyRecord) → Begins bytes.now r → result ≡ Ok (r, length (spelling r)) }
     ensures none { IfErr result (λ _. (r : AnyRecord) → Begins bytes.now r → ⊥) }
@@ -66,5 +67,7 @@ pub fn write_record(value: &Record, out: &mut [u8]) -> usize
 /// No spelling begins another: bytes that begin with two are one record and the same rest.
 pub fn one_spelling()
     ensures { (a b : AnyRecord) (x y : List ℕ) → Allowed a → Allowed b → spelling a ++ x ≡ spelling b ++ y → (a ≡ b) × (x ≡ y) }
-{
-}
+{}
+
+#[cfg(test)]
+mod tests;

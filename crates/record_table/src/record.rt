@@ -44,23 +44,50 @@ pub enum Record {
         frozen: u32,
     },
     /// Extents of a chain's mcell.
-    Extents { rows: [ExtentField; 16] },
+    Extents {
+        rows: [ExtentField; 16],
+    },
     /// The first extents of a file, in its primary mcell.
-    ShortExtents { rows: [ExtentField; 4] },
+    ShortExtents {
+        rows: [ExtentField; 4],
+    },
     /// Holes that a clone keeps.
-    Holes { rows: [HoleField; 16] },
+    Holes {
+        rows: [HoleField; 16],
+    },
     /// Work that is left: 1 for a trim, 2 for a removal.
-    Pending { what: u32 },
+    Pending {
+        what: u32,
+    },
     /// A user's limits of files and of blocks of 512 bytes, 0 for none.
-    UserQuota { id: u32, files: u64, blocks: u64 },
+    UserQuota {
+        id: u32,
+        files: u64,
+        blocks: u64,
+    },
     /// A group's limits of files and of blocks of 512 bytes, 0 for none.
-    GroupQuota { id: u32, files: u64, blocks: u64 },
+    GroupQuota {
+        id: u32,
+        files: u64,
+        blocks: u64,
+    },
     /// Where a directory's first index page stands, and how many entries its index has.
-    DirIndex { vol: u32, page: u32, entries: u32 },
+    DirIndex {
+        vol: u32,
+        page: u32,
+        entries: u32,
+    },
     /// The tag of the directory that holds a directory.
-    Parent { slot: u32, seq: u16 },
+    Parent {
+        slot: u32,
+        seq: u16,
+    },
     /// The volumes of a striped file, of which the first `width` count.
-    Stripe { width: u8, mark: u8, vols: [u8; 8] },
+    Stripe {
+        width: u8,
+        mark: u8,
+        vols: [u8; 8],
+    },
     /// The volume of a volume's first mcell, its pages and its bitmap pages.
     Volume {
         vol: u32,

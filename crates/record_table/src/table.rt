@@ -6,10 +6,10 @@ ghost use Rattle.record_table.specs.Records.{Allowed, kind_of, numbers, spelled}
 ghost use Rattle.record_table.specs.Rules.{rules_of, nothing_seen, scan};
 ghost use Rattle.record_table.specs.Fields.{record_at as record_there};
 
-use crate::fields::{extents_at, holes_at, u16_at, u32_at, u64_at, u8_at, volumes_at};
+use crate::fields::{extents_at, holes_at, u8_at, u16_at, u32_at, u64_at, volumes_at};
 use crate::layout::Layout;
-use crate::record::Record;
 use crate::reading::scan_fields;
+use crate::record::Record;
 use crate::rule::Rule;
 use crate::writing::{put, put_extents, put_holes};
 
@@ -125,6 +125,7 @@ pub fn put_record(value: &Record, out: &mut [u8]) -> usize
 }
 
 const ANY: Rule = Rule::Any;
+
 const ZERO: Rule = Rule::Range(0, 0);
 
 /// An array of a head and 4 or 16 rows.
@@ -140,6 +141,7 @@ macro_rules! rows {
 const ATTRIBUTES: Layout<12> = Layout {
     widths: [1, 1, 2, 4, 4, 4, 4, 8, 4, 4, 8, 8],
 };
+
 const ATTRIBUTES_RULES: [Rule; 12] = [
     Rule::Range(1, 1),
     ZERO,
@@ -158,6 +160,7 @@ const ATTRIBUTES_RULES: [Rule; 12] = [
 const CLONE_FILE: Layout<9> = Layout {
     widths: [1, 1, 2, 2, 1, 1, 4, 4, 4],
 };
+
 const CLONE_FILE_RULES: [Rule; 9] = [
     Rule::Range(2, 2),
     ZERO,
@@ -173,6 +176,7 @@ const CLONE_FILE_RULES: [Rule; 9] = [
 const EXTENTS: Layout<67> = Layout {
     widths: rows!(16, [1, 1, 2], [4, 4, 4, 4]),
 };
+
 const EXTENTS_RULES: [Rule; 67] = rows!(
     16,
     [Rule::Range(3, 3), ZERO, Rule::Range(260, 260)],
@@ -187,6 +191,7 @@ const EXTENTS_RULES: [Rule; 67] = rows!(
 const SHORT_EXTENTS: Layout<19> = Layout {
     widths: rows!(4, [1, 1, 2], [4, 4, 4, 4]),
 };
+
 const SHORT_EXTENTS_RULES: [Rule; 19] = rows!(
     4,
     [Rule::Range(4, 4), ZERO, Rule::Range(68, 68)],
@@ -201,6 +206,7 @@ const SHORT_EXTENTS_RULES: [Rule; 19] = rows!(
 const HOLES: Layout<35> = Layout {
     widths: rows!(16, [1, 1, 2], [4, 4]),
 };
+
 const HOLES_RULES: [Rule; 35] = rows!(
     16,
     [Rule::Range(5, 5), ZERO, Rule::Range(132, 132)],
@@ -210,6 +216,7 @@ const HOLES_RULES: [Rule; 35] = rows!(
 const PENDING: Layout<5> = Layout {
     widths: [1, 1, 2, 4, 4],
 };
+
 const PENDING_RULES: [Rule; 5] = [
     Rule::Range(6, 6),
     ZERO,
@@ -221,6 +228,7 @@ const PENDING_RULES: [Rule; 5] = [
 const QUOTA: Layout<7> = Layout {
     widths: [1, 1, 2, 4, 4, 8, 8],
 };
+
 const USER_QUOTA_RULES: [Rule; 7] = [
     Rule::Range(7, 7),
     ZERO,
@@ -230,6 +238,7 @@ const USER_QUOTA_RULES: [Rule; 7] = [
     ANY,
     ANY,
 ];
+
 const GROUP_QUOTA_RULES: [Rule; 7] = [
     Rule::Range(8, 8),
     ZERO,
@@ -243,6 +252,7 @@ const GROUP_QUOTA_RULES: [Rule; 7] = [
 const DIR_INDEX: Layout<7> = Layout {
     widths: [1, 1, 2, 4, 4, 4, 4],
 };
+
 const DIR_INDEX_RULES: [Rule; 7] = [
     Rule::Range(9, 9),
     ZERO,
@@ -256,6 +266,7 @@ const DIR_INDEX_RULES: [Rule; 7] = [
 const PARENT: Layout<6> = Layout {
     widths: [1, 1, 2, 4, 2, 2],
 };
+
 const PARENT_RULES: [Rule; 6] = [
     Rule::Range(10, 10),
     ZERO,
@@ -268,6 +279,7 @@ const PARENT_RULES: [Rule; 6] = [
 const STRIPE: Layout<14> = Layout {
     widths: [1, 1, 2, 1, 1, 2, 1, 1, 1, 1, 1, 1, 1, 1],
 };
+
 const STRIPE_RULES: [Rule; 14] = [
     Rule::Range(11, 11),
     ZERO,
@@ -288,6 +300,7 @@ const STRIPE_RULES: [Rule; 14] = [
 const VOLUME: Layout<6> = Layout {
     widths: [1, 1, 2, 4, 4, 4],
 };
+
 const VOLUME_RULES: [Rule; 6] = [
     Rule::Range(12, 12),
     ZERO,

@@ -1,6 +1,6 @@
 use Rattle.std.proofs.Common.{◌≡◌, ◌^◌, ◌<◌, ℕ, Ok, Err, refl, sym, ap, ◌∙◌, arith}
 use Rattle.record_table.proofs.Scan.{ok_is, err_is_not_ok}
-use Rattle.record_table.proofs.Whole.{scanned_kind, scan-found, scan-wrong, reads-begins}
+use Rattle.record_table.proofs.Whole.{length-spelling, scanned_kind, scan-found, scan-wrong, reads-begins}
 use Rattle.record_table.proofs.read_record.Goals as goal
 
 pub record_at-requires-clause-kind : goal.record_at-requires-clause-kind
@@ -13,6 +13,11 @@ pub returns-in-Ok-clause-found : goal.returns-in-Ok-clause-found
 returns-in-Ok-clause-found c =
     let f = scan-found c.first_kind-kind.result c.args.bytes.now c.in-Ok.end (λ i. omega (arith, c.type_inv.bytes i)) (sym c.in-Ok.ensures) in
     rw c.record_at.ensures (f.begins, f.ends)
+
+pub returns-in-Ok-clause-size : goal.returns-in-Ok-clause-size
+returns-in-Ok-clause-size c =
+    let f = scan-found c.first_kind-kind.result c.args.bytes.now c.in-Ok.end (λ i. omega (arith, c.type_inv.bytes i)) (sym c.in-Ok.ensures) in
+    rw c.record_at.ensures (f.ends ∙ length-spelling _ f.begins.allowed)
 
 pub returns-in-Ok-clause-only : goal.returns-in-Ok-clause-only
 returns-in-Ok-clause-only c = λ r h.
