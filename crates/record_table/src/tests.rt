@@ -212,3 +212,127 @@ fn spellings(rt: HostRuntime) -> Result<(), Fail> {
     }
     Ok(())
 }
+
+/// Bytes that end early: which spelling, how many of its bytes, and the field that lacks some.
+const CUTS: [(usize, usize, usize); 36] = [
+    (0, 5, 4),
+    (0, 21, 20),
+    (0, 51, 44),
+    (1, 4, 4),
+    (1, 7, 7),
+    (1, 19, 16),
+    (2, 7, 4),
+    (2, 130, 128),
+    (2, 259, 256),
+    (3, 7, 4),
+    (3, 35, 32),
+    (3, 67, 64),
+    (4, 7, 4),
+    (4, 70, 68),
+    (4, 131, 128),
+    (5, 0, 0),
+    (5, 7, 4),
+    (5, 11, 8),
+    (6, 7, 4),
+    (6, 19, 12),
+    (6, 27, 20),
+    (7, 7, 4),
+    (7, 19, 12),
+    (7, 27, 20),
+    (8, 7, 4),
+    (8, 11, 8),
+    (8, 19, 16),
+    (9, 7, 4),
+    (9, 9, 8),
+    (9, 11, 10),
+    (10, 4, 4),
+    (10, 7, 6),
+    (10, 15, 15),
+    (11, 7, 4),
+    (11, 11, 8),
+    (11, 15, 12),
+];
+
+#[test]
+fn bytes_that_end_early(rt: HostRuntime) -> Result<(), Fail> {
+    for (spelling, cut, at) in &CUTS {
+        let (front, size, _) = SPELLINGS.get(*spelling).ok_or("a spelling")?;
+        let mut bytes = padded(rt.alloc(), front, *size)?;
+        bytes.truncate(*cut);
+        let kind = bytes.first().copied().unwrap_or(0);
+        assert_eq!(rt;
+            read_record(&bytes),
+            Err(Bad { kind, at: *at }),
+            "{spelling} cut at {cut}"
+        );
+    }
+    Ok(())
+}
+
+/// One byte changed: which spelling, where, to what, and the field that is wrong by it.
+const WRONG_BYTES: [(usize, usize, u8, usize); 40] = [
+    // No kind, no zero behind it, another length.
+    (0, 0, 0, 0),
+    (0, 0, 13, 0),
+    (0, 1, 1, 1),
+    (0, 2, 48, 2),
+    (0, 3, 1, 2),
+    // Attributes: kind, flags and links.
+    (0, 4, 0, 4),
+    (0, 4, 3, 4),
+    (0, 7, 1, 4),
+    (0, 16, 2, 16),
+    (0, 32, 0xe9, 32),
+    // The cell of a clone's file.
+    (1, 4, 1, 4),
+    (1, 6, 9, 6),
+    (1, 6, 0, 7),
+    (1, 7, 28, 7),
+    (1, 19, 1, 16),
+    // An extent past the last file page, a volume that is none, a row behind zeros.
+    (2, 6, 1, 4),
+    (2, 8, 2, 8),
+    (2, 8, 0, 8),
+    (2, 12, 9, 12),
+    (2, 244, 1, 244),
+    (2, 256, 1, 256),
+    // Extents that overlap, and a row behind zeros.
+    (3, 20, 1, 20),
+    (3, 24, 0, 24),
+    (3, 52, 9, 52),
+    (3, 64, 1, 64),
+    // Holes likewise.
+    (4, 12, 4, 12),
+    (4, 18, 1, 16),
+    (4, 84, 9, 84),
+    (4, 128, 1, 128),
+    (5, 4, 0, 4),
+    (5, 4, 3, 4),
+    (5, 11, 1, 8),
+    (6, 8, 1, 8),
+    (7, 11, 1, 8),
+    (8, 4, 0, 4),
+    (8, 4, 9, 4),
+    (8, 16, 1, 16),
+    (9, 10, 1, 10),
+    (10, 7, 1, 6),
+    (11, 2, 15, 2),
+];
+
+#[test]
+fn bytes_that_are_wrong(rt: HostRuntime) -> Result<(), Fail> {
+    for (spelling, place, byte, at) in &WRONG_BYTES {
+        let (front, size, _) = SPELLINGS.get(*spelling).ok_or("a spelling")?;
+        let mut bytes = padded(rt.alloc(), front, *size)?;
+        if let Some(changed) = bytes.get_mut(*place) {
+            *changed = *byte;
+        }
+        let kind = bytes.first().copied().unwrap_or(0);
+        assert_eq!(rt;
+            read_record(&bytes),
+            Err(Bad { kind, at: *at }),
+            "{spelling} with {byte} at {place}"
+        );
+    }
+    Ok(())
+}
