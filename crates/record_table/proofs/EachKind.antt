@@ -1,16 +1,14 @@
 -- What holds of each kind of record.
-use Rattle.std.proofs.Common.{◌≡◌, ℕ, zero, suc, ◌+◌, ◌^◌, ◌<◌, ◌≤◌, true, ltb, leb, eqb, ◌&&◌, ◌||◌, List, [], ◌∷◌, ◌++◌, length, drop, refl, sym, ap, subst, ◌∙◌, inl, inr, arith, lit<}
+use Rattle.std.proofs.Common.{◌≡◌, ℕ, zero, suc, ◌^◌, ◌<◌, true, ltb, List, [], ◌∷◌, length, drop, refl, ap, subst, ◌∙◌, arith}
 use Rattle.std.specs.List.{flat_map, AllByRecursion}
 use Rattle.std.proofs.lemmas.Bool.{lt-ltb, leb-true, le-leb}
-use Rattle.record_table.specs.declared.rule.Rule.{Rule}
 use Rattle.record_table.specs.declared.rule.Rule.TheVariants.{Any}
-use Rattle.record_table.specs.declared.rule.Seen.{Seen}
 use Rattle.record_table.specs.declared.record.Record.{Record}
 use Rattle.record_table.specs.declared.record.Record.TheVariants.{Attributes, CloneFile, Extents, ShortExtents, Holes, Pending, UserQuota, GroupQuota, DirIndex, Parent, Stripe, Volume}
 use Rattle.record_table.specs.declared.record.ExtentField.{ExtentField}
 use Rattle.record_table.specs.declared.record.HoleField.{HoleField}
 use Rattle.record_table.specs.Layouts.{repeated, widths, extent_widths, hole_widths, IsKind}
-use Rattle.record_table.specs.Records.{kind_of, numbers, fields, extent_numbers, hole_numbers, IsCell, AreExtents, AreHoles, Allowed}
+use Rattle.record_table.specs.Records.{kind_of, numbers, extent_numbers, hole_numbers, Allowed}
 use Rattle.record_table.specs.Rules.{nothing_seen, rules_of, repeated_rules, extent_rules, hole_rules}
 use Rattle.record_table.specs.Fields.{number_at, extents, holes, volumes, record_at}
 use Rattle.record_table.proofs.Scan.{Passes, decoded, are_sane}

@@ -1,15 +1,14 @@
 -- Which rows and fields the rules let pass are those that the format allows.
-use Rattle.std.proofs.Common.{◌≡◌, ℕ, zero, suc, ◌+◌, ◌^◌, ◌<◌, ◌≤◌, Bool, true, false, cond, ltb, leb, eqb, ◌&&◌, ◌||◌, List, [], ◌∷◌, ◌++◌, length, refl, sym, ap, ◌∙◌, ◌⊎◌, inl, inr, arith, lit<}
+use Rattle.std.proofs.Common.{◌≡◌, ℕ, zero, suc, ◌+◌, ◌≤◌, Bool, true, false, cond, ltb, leb, eqb, ◌&&◌, ◌||◌, List, [], ◌∷◌, length, refl, ap, inl, inr, arith, lit<}
 use Rattle.std.specs.List.{flat_map, AllByRecursion}
-use Rattle.std.proofs.lemmas.Bool.{ltb-true, lt-ltb, leb-true, le-leb, eqb-true, eqb-false, eq-eqb, ne_eqb, and_parts, and_from, or_cases, or_right}
-use Rattle.record_table.specs.declared.rule.Rule.{Rule}
-use Rattle.record_table.specs.declared.rule.Rule.TheVariants.{Any, Range, Volume, IfUsed, Page, Count}
+use Rattle.std.proofs.lemmas.Bool.{lt-ltb, leb-true, le-leb, eqb-true, eqb-false, ne_eqb, and_parts, and_from, or_cases, or_right}
+use Rattle.record_table.specs.declared.rule.Rule.TheVariants.{Range, IfUsed}
 use Rattle.record_table.specs.declared.rule.Seen.{Seen}
 use Rattle.record_table.specs.declared.record.ExtentField.{ExtentField}
 use Rattle.record_table.specs.declared.record.HoleField.{HoleField}
 use Rattle.record_table.specs.Layouts.{repeated, extent_widths, hole_widths}
 use Rattle.record_table.specs.Records.{extent_numbers, hole_numbers, IsRun, IsExtent, NoExtent, NoHole, AreExtents, AreHoles}
-use Rattle.record_table.specs.Rules.{allows, after, extent_rules, hole_rules, repeated_rules}
+use Rattle.record_table.specs.Rules.{allows, extent_rules, hole_rules, repeated_rules}
 use Rattle.record_table.proofs.Scan.{Passes}
 
 pub range_is : (least most : ℕ) (seen : Seen) (n : ℕ) → allows (Range least most) seen n ≡ true → (least ≤ n) × (n ≤ most)

@@ -1,7 +1,7 @@
 -- What a scan of fields says of the bytes.
-use Rattle.std.proofs.Common.{◌≡◌, ℕ, zero, suc, ◌+◌, ◌-◌, ◌*◌, ◌^◌, ◌<◌, ◌≤◌, Bool, true, false, cond, ltb, leb, eqb, ◌&&◌, ◌||◌, List, [], ◌∷◌, ◌++◌, length, get_or, take, drop, sum, Result, Ok, Err, refl, sym, ap, subst, ◌∙◌, ◌⊎◌, inl, inr, append_assoc, arith, length-append, length-drop, length-take, drop-cons}
-use Rattle.std.proofs.lemmas.Bool.{cases_lt, ltb-true, ltb-false, lt-ltb, le-ltb, leb-true, le-leb, eqb-true, eq-eqb, and_parts, and_from, or_cases}
-use Rattle.std.proofs.lemmas.List.{take_at, drop_at, take_all, drop_all, drop-drop, append-nil, take-append-drop, take-append-le}
+use Rattle.std.proofs.Common.{◌≡◌, ℕ, zero, suc, ◌+◌, ◌-◌, ◌^◌, ◌<◌, ◌≤◌, Bool, true, false, cond, ltb, leb, eqb, ◌&&◌, List, [], ◌∷◌, ◌++◌, length, get_or, take, drop, sum, Result, Ok, Err, refl, sym, ap, ◌∙◌, ◌⊎◌, inl, inr, append_assoc, arith, length-append, length-drop, drop-cons}
+use Rattle.std.proofs.lemmas.Bool.{cases_lt, ltb-true, lt-ltb, le-ltb, leb-true, le-leb, eqb-true, eq-eqb, and_parts, and_from, or_cases}
+use Rattle.std.proofs.lemmas.List.{take_at, drop_at, take_all, drop_all, drop-drop}
 use Rattle.byteorder.specs.Endian.{little_number, little_bytes}
 use Rattle.byteorder.specs.Numbers.{length-bytes_low_first, little_number-reads_back}
 use Rattle.record_table.specs.declared.rule.Rule.{Rule}
@@ -11,7 +11,7 @@ use Rattle.record_table.specs.Records.{spelled}
 use Rattle.record_table.specs.Rules.{allows, after, scan}
 use Rattle.record_table.specs.Fields.{number_at}
 use Rattle.record_table.proofs.Bytes.{IsBytes, IsBytes-drop, little_bytes-little_number, little_number-lt, little_number-take}
-use Rattle.record_table.proofs.Spelling.{sum-cons, length-spelled}
+use Rattle.record_table.proofs.Spelling.{sum-cons}
 
 -- numbers that may stand in fields of these widths and rules
 abbrev pub Passes : List ℕ → List Rule → Seen → List ℕ → Type 0

@@ -1,11 +1,10 @@
 -- The spelling of a whole record, read and refused.
-use Rattle.std.proofs.Common.{◌≡◌, ℕ, zero, suc, ◌+◌, ◌<◌, ◌≤◌, List, [], ◌∷◌, ◌++◌, length, get_or, slice_index, take, drop, sum, Result, Ok, Err, refl, sym, ap, subst, ◌∙◌, ◌⊎◌, inl, inr, arith, length-append, length-take}
+use Rattle.std.proofs.Common.{◌≡◌, ℕ, zero, suc, ◌+◌, ◌≤◌, List, [], ◌∷◌, ◌++◌, length, get_or, slice_index, take, drop, sum, Ok, Err, refl, sym, ap, subst, ◌∙◌, ◌⊎◌, inl, inr, arith, length-take}
 use Rattle.std.proofs.lemmas.Bool.{cases_lt}
-use Rattle.std.proofs.lemmas.List.{append-nil, drop_at, take_at, take-append-drop, get_or-take, get_or_past}
+use Rattle.std.proofs.lemmas.List.{append-nil, drop_at, take-append-drop, get_or-take, get_or_past}
 use Rattle.record_table.specs.declared.record.Record.{Record}
 use Rattle.record_table.specs.declared.record.Record.TheVariants.{Attributes, CloneFile, Extents, ShortExtents, Holes, Pending, UserQuota, GroupQuota, DirIndex, Parent, Stripe, Volume}
 use Rattle.record_table.specs.declared.record.Bad.{Bad}
-use Rattle.record_table.specs.declared.rule.Rule.{Rule}
 use Rattle.record_table.specs.Layouts.{layouts, widths, size_of, start_of, IsKind}
 use Rattle.record_table.specs.Records.{kind_of, numbers, spelled, spelling, Allowed, Begins}
 use Rattle.record_table.specs.Wrong.{GoesOn, IsFirstWrong}
@@ -13,7 +12,7 @@ use Rattle.record_table.specs.Rules.{nothing_seen, rule_lists, rules_of, scan}
 use Rattle.record_table.specs.Fields.{record_at}
 use Rattle.record_table.proofs.Bytes.{IsBytes}
 use Rattle.record_table.proofs.Spelling.{sum-cons, length-spelled}
-use Rattle.record_table.proofs.Scan.{Passes, Passes-length, decoded, done, stopped, ok_is, err_is, err_is_not_ok, scan-unruled, scan_ok, scan_again, decoded_again, scan_err, scan_before}
+use Rattle.record_table.proofs.Scan.{Passes, Passes-length, decoded, done, err_is, err_is_not_ok, scan-unruled, scan_ok, scan_again, decoded_again, scan_err, scan_before}
 use Rattle.record_table.proofs.EachKind.{each_kind, kind-sane, is_kind, is_record, passes_allowed, allowed_passes, record_again}
 
 -- ---- numbers that are kinds and others

@@ -289,7 +289,7 @@ const WRONG_BYTES: [(usize, usize, u8, usize); 40] = [
     (1, 6, 0, 7),
     (1, 7, 28, 7),
     (1, 19, 1, 16),
-    // An extent past the last file page, a volume that is none, a row behind zeros.
+    // An extent past the last file page or with no page, a volume above 8, a row behind zeros.
     (2, 6, 1, 4),
     (2, 8, 2, 8),
     (2, 8, 0, 8),
@@ -335,4 +335,12 @@ fn bytes_that_are_wrong(rt: HostRuntime) -> Result<(), Fail> {
         );
     }
     Ok(())
+}
+
+#[test]
+fn a_layout_counts_its_head(rt: HostRuntime) {
+    let pending = Layout {
+        widths: [1, 1, 2, 4, 4],
+    };
+    assert_eq!(rt; pending.size(), 12);
 }

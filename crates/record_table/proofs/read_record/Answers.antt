@@ -1,4 +1,4 @@
-use Rattle.std.proofs.Common.{◌≡◌, ◌^◌, ◌<◌, ℕ, Ok, Err, refl, sym, ap, ◌∙◌, arith}
+use Rattle.std.proofs.Common.{refl, sym, ◌∙◌, arith}
 use Rattle.record_table.proofs.Scan.{ok_is, err_is_not_ok}
 use Rattle.record_table.proofs.Whole.{length-spelling, scanned_kind, scan-found, scan-wrong, reads-begins}
 use Rattle.record_table.proofs.read_record.Goals as goal

@@ -1,4 +1,4 @@
-use Rattle.std.proofs.Common.{◌≡◌, ◌++◌, drop, sym, ap, ◌∙◌}
+use Rattle.std.proofs.Common.{sym, ◌∙◌}
 use Rattle.record_table.proofs.Whole.{spelled_is, length-spelling}
 use Rattle.record_table.proofs.write_record.Goals as goal
 

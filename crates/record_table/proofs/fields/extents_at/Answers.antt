@@ -1,6 +1,5 @@
-use Rattle.std.proofs.Common.{◌≡◌, ◌<◌, ◌≤◌, length, take, sym, refl, ◌∙◌, arith, length-set}
+use Rattle.std.proofs.Common.{◌≡◌, sym, refl, ◌∙◌, arith, length-set}
 use Rattle.std.proofs.lemmas.List.{take_all}
-use Rattle.record_table.specs.Fields.{extents}
 use Rattle.record_table.proofs.Rows.{extents-set}
 use Rattle.record_table.proofs.fields.extents_at.Goals as goal
 

@@ -1,6 +1,5 @@
-use Rattle.std.proofs.Common.{◌≡◌, ◌<◌, ◌≤◌, length, take, sym, refl, ◌∙◌, arith, length-set}
+use Rattle.std.proofs.Common.{◌≡◌, sym, refl, ◌∙◌, arith, length-set}
 use Rattle.std.proofs.lemmas.List.{take_all}
-use Rattle.record_table.specs.Fields.{holes}
 use Rattle.record_table.proofs.Rows.{holes-set}
 use Rattle.record_table.proofs.fields.holes_at.Goals as goal
 

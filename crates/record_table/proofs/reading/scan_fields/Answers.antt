@@ -1,5 +1,4 @@
-use Rattle.std.proofs.Common.{◌≡◌, ◌<◌, ◌≤◌, ◌+◌, ◌-◌, Err, Ok, length, get_or, take, drop, sym, ap, ◌∙◌, arith, length-drop}
-use Rattle.record_table.specs.Rules.{scan, nothing_seen}
+use Rattle.std.proofs.Common.{length, sym, ap, arith, length-drop}
 use Rattle.record_table.proofs.Scan.{rest_is, loop-short, loop-refused, loop-on, loop-done}
 use Rattle.record_table.proofs.reading.scan_fields.Goals as goal
 

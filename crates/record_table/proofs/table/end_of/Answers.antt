@@ -1,4 +1,4 @@
-use Rattle.std.proofs.Common.{◌≡◌, ◌<◌, ◌≤◌, sym, arith}
+use Rattle.std.proofs.Common.{◌<◌, ◌≤◌, sym, arith}
 use Rattle.record_table.proofs.Whole.{scan-unknown}
 use Rattle.record_table.proofs.table.end_of.Goals as goal
 

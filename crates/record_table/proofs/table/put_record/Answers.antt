@@ -1,6 +1,4 @@
-use Rattle.std.proofs.Common.{◌≡◌, List, [], ◌∷◌, ℕ, length, get_or, refl, sym, ap, ◌∙◌, arith}
-use Rattle.record_table.specs.Records.{Allowed}
-use Rattle.record_table.specs.declared.record.Record.TheVariants.{Stripe}
+use Rattle.std.proofs.Common.{◌≡◌, List, [], ◌∷◌, ℕ, length, get_or, refl, ◌∙◌, arith}
 use Rattle.record_table.proofs.EachKind.{volumes_are_eight}
 use Rattle.record_table.proofs.table.put_record.Goals as goal
 

@@ -1,6 +1,5 @@
-use Rattle.std.proofs.Common.{◌≡◌, ℕ, ◌+◌, ◌-◌, ◌<◌, ◌≤◌, ◌++◌, length, get_or, take, drop, sum, refl, rules, sym, ap, ◌∙◌, arith, length-append, length-drop, length-take}
+use Rattle.std.proofs.Common.{◌≡◌, ◌+◌, ◌-◌, ◌<◌, length, take, drop, sum, refl, rules, ap, ◌∙◌, arith, length-drop, length-take}
 use Rattle.std.proofs.lemmas.List.{take_all}
-use Rattle.record_table.specs.Records.{spelled}
 use Rattle.record_table.proofs.Spelling.{Fit-at, Fit-length, sum-take_le, sum-take_more, put-more}
 use Rattle.record_table.proofs.writing.put.Goals as goal
 

@@ -1,6 +1,6 @@
-use Rattle.std.proofs.Common.{◌≡◌, ◌*◌, ◌+◌, ◌-◌, ◌<◌, ◌≤◌, ◌++◌, [], ◌∷◌, length, drop, take, get_or, refl, ap, ◌∙◌, arith}
+use Rattle.std.proofs.Common.{[], ◌∷◌, refl, ◌∙◌, arith}
 use Rattle.record_table.specs.Layouts.{extent_widths}
-use Rattle.record_table.specs.Records.{spelled, extent_numbers}
+use Rattle.record_table.specs.Records.{extent_numbers}
 use Rattle.record_table.proofs.Spelling.{rows-more}
 use Rattle.record_table.proofs.writing.put_extents.Goals as goal
 

@@ -1,6 +1,6 @@
-use Rattle.std.proofs.Common.{◌≡◌, ◌*◌, ◌+◌, ◌-◌, ◌<◌, ◌≤◌, ◌++◌, [], ◌∷◌, length, drop, take, get_or, refl, ap, ◌∙◌, arith}
+use Rattle.std.proofs.Common.{[], ◌∷◌, refl, ◌∙◌, arith}
 use Rattle.record_table.specs.Layouts.{hole_widths}
-use Rattle.record_table.specs.Records.{spelled, hole_numbers}
+use Rattle.record_table.specs.Records.{hole_numbers}
 use Rattle.record_table.proofs.Spelling.{rows-more}
 use Rattle.record_table.proofs.writing.put_holes.Goals as goal
 
