@@ -1,5 +1,5 @@
 -- What holds of each kind of record.
-use Rattle.std.proofs.Common.{◌≡◌, ℕ, zero, suc, ◌^◌, ◌<◌, true, ltb, List, [], ◌∷◌, length, drop, refl, ap, subst, ◌∙◌, arith}
+use Rattle.std.proofs.Common.{◌≡◌, ℕ, zero, suc, ◌^◌, ◌<◌, true, ltb, List, [], ◌∷◌, length, drop, refl, ap, subst, ◌∙◌, inl, inr, arith}
 use Rattle.std.specs.List.{flat_map, AllByRecursion}
 use Rattle.std.proofs.lemmas.Bool.{lt-ltb, leb-true, le-leb}
 use Rattle.record_table.specs.declared.rule.Rule.TheVariants.{Any}
@@ -156,11 +156,11 @@ RecordPasses r = Passes (widths (kind_of r)) (rules_of (kind_of r)) nothing_seen
 pub passes_allowed : (r : Record) → RecordPasses r → Allowed r
 unfolding Allowed
 passes_allowed (Attributes kind uid gid flags size keep links birth unsynced) pass = (range_is 1 2 nothing_seen kind pass.2.2.2.1, pass.2.2.2.2.0, pass.2.2.2.2.2.0, (range_is 0 1 nothing_seen flags pass.2.2.2.2.2.2.1).1, pass.2.2.2.2.2.2.2.0, pass.2.2.2.2.2.2.2.2.0, range_is 1 1000 nothing_seen links pass.2.2.2.2.2.2.2.2.2.1, pass.2.2.2.2.2.2.2.2.2.2.0, pass.2.2.2.2.2.2.2.2.2.2.2.0)
-passes_allowed (CloneFile zero cell page frozen) pass = ((unused_is 27 cell pass.2.2.2.2.2.1, unused_is 4294967295 page pass.2.2.2.2.2.2.1), pass.2.2.2.2.2.2.2.0)
+passes_allowed (CloneFile zero cell page frozen) pass = (inl (refl, unused_is 27 cell pass.2.2.2.2.2.1, unused_is 4294967295 page pass.2.2.2.2.2.2.1), pass.2.2.2.2.2.2.2.0)
 passes_allowed (CloneFile (suc vol) cell page frozen) pass =
     let some : ltb 0 (suc vol) ≡ true = lt-ltb 0 (suc vol) (omega arith) in
     let cell_is = rw some at pass.2.2.2.2.2.1 in
-    ((leb-true (suc vol) 8 pass.2.2.2.2.1, used_is 27 cell cell_is, pass.2.2.2.2.2.2.0), pass.2.2.2.2.2.2.2.0)
+    (inr ((omega arith, leb-true (suc vol) 8 pass.2.2.2.2.1), used_is 27 cell cell_is, pass.2.2.2.2.2.2.0), pass.2.2.2.2.2.2.2.0)
 passes_allowed (Extents rows) pass = extents_allowed 16 rows nothing_seen pass.2.2.2
 passes_allowed (ShortExtents rows) pass = extents_allowed 4 rows nothing_seen pass.2.2.2
 passes_allowed (Holes rows) pass = holes_allowed 16 rows nothing_seen pass.2.2.2
@@ -175,11 +175,11 @@ passes_allowed (Volume vol pages bitmap_pages) pass = (pass.2.2.2.0, pass.2.2.2.
 pub allowed_passes : (r : Record) → Allowed r → RecordPasses r
 unfolding Allowed
 allowed_passes (Attributes kind uid gid flags size keep links birth unsynced) h = (omega arith, refl, (omega arith, refl, (omega arith, refl, (omega (arith, h.0.1), range_from 1 2 nothing_seen kind h.0.0 h.0.1, (h.1, refl, (h.2, refl, (omega (arith, h.3), range_from 0 1 nothing_seen flags (omega arith) h.3, (h.4, refl, (h.5, refl, (omega (arith, h.6.1), range_from 1 1000 nothing_seen links h.6.0 h.6.1, (h.7, refl, (h.8, refl, tt))))))))))))
-allowed_passes (CloneFile zero cell page frozen) h =
-    rw (h.0.0, h.0.1) (omega arith, refl, (omega arith, refl, (omega arith, refl, (omega arith, refl, (omega arith, refl, (omega arith, refl, (omega arith, refl, (h.1, refl, (omega arith, refl, tt)))))))))
-allowed_passes (CloneFile (suc vol) cell page frozen) h =
-    let some : ltb 0 (suc vol) ≡ true = lt-ltb 0 (suc vol) (omega arith) in
-    rw some (omega arith, refl, (omega arith, refl, (omega arith, refl, (omega arith, refl, (omega (arith, h.0.0), le-leb (suc vol) 8 h.0.0, (omega (arith, h.0.1), used_from 27 cell h.0.1, (h.0.2, used_from 4294967295 page (omega (arith, h.0.2)), (h.1, refl, (omega arith, refl, tt)))))))))
+allowed_passes (CloneFile vol cell page frozen) (inl none, fits) =
+    rw (none.0, none.1, none.2) (omega arith, refl, (omega arith, refl, (omega arith, refl, (omega arith, refl, (omega arith, refl, (omega arith, refl, (omega arith, refl, (fits, refl, (omega arith, refl, tt)))))))))
+allowed_passes (CloneFile vol cell page frozen) (inr some, fits) =
+    let used : ltb 0 vol ≡ true = lt-ltb 0 vol some.0.0 in
+    rw used (omega arith, refl, (omega arith, refl, (omega arith, refl, (omega arith, refl, (omega (arith, some.0.1), le-leb vol 8 some.0.1, (omega (arith, some.1), used_from 27 cell some.1, (some.2, used_from 4294967295 page (omega (arith, some.2)), (fits, refl, (omega arith, refl, tt)))))))))
 allowed_passes (Extents rows) h = (omega arith, refl, (omega arith, refl, (omega arith, refl, subst (λ (n : ℕ). Passes (repeated n extent_widths) (repeated_rules n extent_rules) nothing_seen (flat_map extent_numbers rows)) h.0 (extents_pass rows nothing_seen h.1))))
 allowed_passes (ShortExtents rows) h = (omega arith, refl, (omega arith, refl, (omega arith, refl, subst (λ (n : ℕ). Passes (repeated n extent_widths) (repeated_rules n extent_rules) nothing_seen (flat_map extent_numbers rows)) h.0 (extents_pass rows nothing_seen h.1))))
 allowed_passes (Holes rows) h = (omega arith, refl, (omega arith, refl, (omega arith, refl, subst (λ (n : ℕ). Passes (repeated n hole_widths) (repeated_rules n hole_rules) nothing_seen (flat_map hole_numbers rows)) h.0 (holes_pass rows nothing_seen h.1))))

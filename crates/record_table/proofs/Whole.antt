@@ -125,6 +125,7 @@ made k ns h pass =
 
 pub record Found (k : ℕ) (bytes : List ℕ) (end : ℕ) : Type 0 where
   pub ends : end ≡ length (spelling (record_at k bytes))
+  pub size : end ≡ size_of k
   pub room : size_of k ≤ length bytes
   pub begins : Begins bytes (record_at k bytes)
 
@@ -137,9 +138,15 @@ scan-found k bytes end fits e =
     let whole : bytes ≡ spelling (record_at k bytes) ++ drop (size_of k) bytes = rw text (sym (take-append-drop (size_of k) bytes)) in
     record {
       ends = omega (arith, read.stops, read.inside, ap length text, length-take (size_of k) bytes);
+      size = omega (arith, read.stops);
       room = omega (arith, read.stops, read.inside);
       begins = record { allowed = allowed; rest = drop (size_of k) bytes; parts = whole };
     }
+
+pub kind-size : (k : ℕ) → IsKind k → 12 ≤ size_of k
+kind-size k h =
+    each_kind (λ j. 12 ≤ size_of j) (omega arith) (omega arith) (omega arith) (omega arith) (omega arith) (omega arith) (omega arith) (omega arith)
+    (omega arith) (omega arith) (omega arith) (omega arith) k h
 
 -- ---- the first wrong field
 

@@ -1,5 +1,5 @@
 -- The one spelling of each record, and which records the format allows.
-use Rattle.std.specs.Prelude.{◌≡◌, ℕ, zero, suc, ◌+◌, ◌<◌, ◌≤◌, ◌^◌, ◌⊎◌, List, [], ◌∷◌, ◌++◌, length}
+use Rattle.std.specs.Prelude.{◌≡◌, ℕ, ◌+◌, ◌<◌, ◌≤◌, ◌^◌, ◌⊎◌, List, [], ◌∷◌, ◌++◌, length}
 use Rattle.std.specs.List.{flat_map, AllByRecursion}
 use Rattle.byteorder.specs.Endian.{little_bytes}
 use Rattle.record_table.specs.declared.record.Record.{Record}
@@ -89,10 +89,9 @@ abbrev pub AreHoles : ℕ → List HoleField → Type 0
 AreHoles from [] = Unit {0}
 AreHoles from (h ∷ hs) = (IsRun from h.page h.count × AreHoles (h.page + h.count) hs) ⊎ AllByRecursion NoHole (h ∷ hs)
 
--- no cell is all zeros; another is a volume from 1 to 8, one of its cells 0 to 27, and a page
+-- A cell's address is a volume from 1 to 8, one of the cells 0 to 27 and a page. All zeros stand for no cell.
 abbrev pub IsCell : ℕ → ℕ → ℕ → Type 0
-IsCell zero cell page = (cell ≡ 0) × (page ≡ 0)
-IsCell (suc vol) cell page = (suc vol ≤ 8) × (cell ≤ 27) × (page < 2 ^ 32)
+IsCell vol cell page = ((vol ≡ 0) × (cell ≡ 0) × (page ≡ 0)) ⊎ (((1 ≤ vol) × (vol ≤ 8)) × (cell ≤ 27) × (page < 2 ^ 32))
 
 -- The records that the format allows. A field of which it says nothing has any number that its width holds.
 unfoldable pub Allowed : Record → Type 0

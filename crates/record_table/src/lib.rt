@@ -5,7 +5,7 @@
 #![tactic(auto)]
 
 ghost use Rattle.std.specs.Prelude.{◌≡◌, ◌≤◌, ◌++◌, List, ℕ, Ok, length, drop, IfOk, IfErr, slice_index};
-ghost use Rattle.record_table.specs.declared.record.Record.{Record as AnyRecord};
+ghost use Rattle.record_table.specs.declared.record.Record.{Record};
 ghost use Rattle.record_table.specs.Records.{Allowed, Begins, kind_of, spelling};
 ghost use Rattle.record_table.specs.Layouts.{size_of};
 ghost use Rattle.record_table.specs.Wrong.{IsFirstWrong};
@@ -40,9 +40,10 @@ pub fn read_record(bytes: &[u8]) -> Result<(Record, usize), Bad>
     // What is read is spelled at the front of the bytes.
     ensures found { IfOk result (λ found. Begins bytes.now found.0 × (found.1 ≡ length (spelling found.0))) }
     ensures size { IfOk result (λ found. found.1 ≡ size_of (kind_of found.0)) }
+    ensures inside { IfOk result (λ found. (12 ≤ found.1) × (found.1 ≤ length bytes.now)) }
     // What is spelled there is read, whatever follows.
-    ensures only { (r : AnyRecord) → Begins bytes.now r → result ≡ Ok (r, length (spelling r)) }
-    ensures none { IfErr result (λ _. (r : AnyRecord) → Begins bytes.now r → ⊥) }
+    ensures only { (r : Record) → Begins bytes.now r → result ≡ Ok (r, length (spelling r)) }
+    ensures none { IfErr result (λ _. (r : Record) → Begins bytes.now r → ⊥) }
     ensures first_wrong { IfErr result (IsFirstWrong bytes.now) }
 {
     let kind = first_kind(bytes);
@@ -66,7 +67,7 @@ pub fn write_record(value: &Record, out: &mut [u8]) -> usize
 
 /// No spelling begins another: bytes that begin with two are one record and the same rest.
 pub fn one_spelling()
-    ensures { (a b : AnyRecord) (x y : List ℕ) → Allowed a → Allowed b → spelling a ++ x ≡ spelling b ++ y → (a ≡ b) × (x ≡ y) }
+    ensures { (a b : Record) (x y : List ℕ) → Allowed a → Allowed b → spelling a ++ x ≡ spelling b ++ y → (a ≡ b) × (x ≡ y) }
 {}
 
 #[cfg(test)]

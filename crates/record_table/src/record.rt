@@ -21,9 +21,9 @@ pub struct HoleField {
 /// One record of an mcell.
 #[derive(Clone, Copy, Debug, PartialEq, Eq)]
 pub enum Record {
-    /// What a file or directory is: its kind is 1 for a file and 2 for a directory, its flags are 1
-    /// where it is logged, its size is in bytes, and `keep`, `birth` and `unsynced` are counts of
-    /// pages and of clones.
+    /// A file or a directory. The kind is 1 for a file and 2 for a directory, the flags are 1 where it is
+    /// logged and else 0, the size is in bytes, `keep` is a number of pages and `links` of names, and
+    /// `birth` and `unsynced` are numbers of clones, 0 for none.
     Attributes {
         kind: u32,
         uid: u32,

@@ -1,6 +1,6 @@
 use Rattle.std.proofs.Common.{refl, sym, ◌∙◌, arith}
 use Rattle.record_table.proofs.Scan.{ok_is, err_is_not_ok}
-use Rattle.record_table.proofs.Whole.{length-spelling, scanned_kind, scan-found, scan-wrong, reads-begins}
+use Rattle.record_table.proofs.Whole.{kind-size, length-spelling, scanned_kind, scan-found, scan-wrong, reads-begins}
 use Rattle.record_table.proofs.read_record.Goals as goal
 
 pub record_at-requires-clause-kind : goal.record_at-requires-clause-kind
@@ -18,6 +18,12 @@ pub returns-in-Ok-clause-size : goal.returns-in-Ok-clause-size
 returns-in-Ok-clause-size c =
     let f = scan-found c.first_kind-kind.result c.args.bytes.now c.in-Ok.end (λ i. omega (arith, c.type_inv.bytes i)) (sym c.in-Ok.ensures) in
     rw c.record_at.ensures (f.ends ∙ length-spelling _ f.begins.allowed)
+
+pub returns-in-Ok-clause-inside : goal.returns-in-Ok-clause-inside
+returns-in-Ok-clause-inside c =
+    let f = scan-found c.first_kind-kind.result c.args.bytes.now c.in-Ok.end (λ i. omega (arith, c.type_inv.bytes i)) (sym c.in-Ok.ensures) in
+    let some = kind-size c.first_kind-kind.result (scanned_kind c.first_kind-kind.result c.args.bytes.now c.in-Ok.end (sym c.in-Ok.ensures)) in
+    (omega (arith, f.size, some), omega (arith, f.size, f.room))
 
 pub returns-in-Ok-clause-only : goal.returns-in-Ok-clause-only
 returns-in-Ok-clause-only c = λ r h.
