@@ -24,3 +24,8 @@ abbrev pub IsFirstRun : PageMap → ℕ → ℕ → Option ℕ → Type 0
 IsFirstRun m from count None = (p : ℕ) → from ≤ p → ¬ IsFreeRun m p count
 IsFirstRun m from count (Some p) =
     (from ≤ p) × IsFreeRun m p count × ((q : ℕ) → from ≤ q → q < p → ¬ IsFreeRun m q count)
+
+-- a run of that many free pages is there, and none of more
+pub record IsLongestRun (m : PageMap) (count : ℕ) : Type 0 where
+  pub there : (p : ℕ) × IsFreeRun m p count
+  pub most : (p more : ℕ) → count < more → ¬ IsFreeRun m p more

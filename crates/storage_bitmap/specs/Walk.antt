@@ -1,5 +1,5 @@
 -- A walk over pages from the first on, which looks for a run of free ones.
-use Rattle.std.specs.Prelude.{◌≡◌, ℕ, ◌+◌, ◌<◌, ◌≤◌, Bool, true, false, ◌||◌, nat_lt, List}
+use Rattle.std.specs.Prelude.{◌≡◌, ℕ, ◌+◌, ◌<◌, ◌≤◌, Bool, false, ◌||◌, nat_lt, List}
 use Rattle.storage_bitmap.specs.Bits.{is_set}
 
 -- whether a run that begins at `from` or later may not hold page p

@@ -1,0 +1,6 @@
+pub mod Blank
+pub mod Longest
+pub mod Runs
+pub mod Used
+pub mod Walks
+pub mod Words
