@@ -1,13 +1,9 @@
-// A library with one function.
+//! Which pages of a domain's volumes are free, and which wait before they are.
 #![tactic(auto)]
 
-ghost use Rattle.std.specs.Prelude.{◌≡◌};
-ghost use Rattle.free_space.specs.Echo.{echo_of};
+mod spaces;
+mod volume;
+mod waiting;
 
-// The `ensures` clause is the contract: what `echo` returns is `echo_of` of its argument, a definition
-// in `specs/Echo.antt`, which a caller's clause can cite too.
-pub fn echo(x: usize) -> usize
-    ensures { result ≡ echo_of x }
-{
-    x
-}
+pub use spaces::FreeSpace;
+pub use waiting::Waiting;

@@ -108,7 +108,7 @@ cond_false b m n is = ap (λ t. cond t m n) is
 cond_true : (b : Bool) (m n : ℕ) → b ≡ true → cond b m n ≡ m
 cond_true b m n is = ap (λ t. cond t m n) is
 
-some_used : (s : FinSet nat_cmp) (p : ℕ) → contains s p ≡ true → 1 ≤ len s
+pub some_used : (s : FinSet nat_cmp) (p : ℕ) → contains s p ≡ true → 1 ≤ len s
 some_used s p used = ⊎_elim
     (λ none. absurd (both_ways (contains s p) (ap (λ t. contains t p) (empty_of_len s none) ∙ contains-empty nat_cmp p) used))
     (λ some. omega arith) (cases_eq (len s) 0)

@@ -1,0 +1,4 @@
+pub mod Apart
+pub mod Due
+pub mod Keeping
+pub mod Releasing
