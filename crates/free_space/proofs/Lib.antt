@@ -1,4 +1,5 @@
 pub mod Apart
 pub mod Due
 pub mod Keeping
+pub mod Mapping
 pub mod Releasing

@@ -100,8 +100,8 @@ impl FreeSpace {
         ensures some { IfSome result (λ home. CanTake self.old home.vol home.page) }
         ensures taken { IfSome result (λ home. self.new ≡ change_volume (with_page home.page) self.old home.vol) }
     {
-        for index in 0..MAX_VOLUMES {
-            let vol = VolIx::new(index + 1)?;
+        for index in 0..self.volumes.len() {
+            let vol = VolIx::new(index as u32 + 1).unwrap();
             let found = self.allocate_on(vol);
             if found.is_some() {
                 return found;
