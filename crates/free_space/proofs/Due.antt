@@ -1,12 +1,11 @@
 -- The pages that come free when a group is done.
-use Rattle.std.proofs.Common.{◌≡◌, ℕ, zero, suc, ◌+◌, ◌<◌, ◌≤◌, Bool, true, false, not, cond, ◌&&◌, ◌||◌, ◌⊎◌, List, [], ◌∷◌, ◌++◌, length, take, get_or, map, nat_eq, nat_lt, nat_le, refl, sym, ◌∙◌, ap, subst, arith, ⊎_elim, inl, inr}
-use Rattle.std.proofs.lemmas.Bool.{cases_eq, cases_Bool, both_ways, or_cases, and_parts, eqb-true, ltb-true, leb-true, true≢false, eq-eqb, lt-leb}
+use Rattle.std.proofs.Common.{◌≡◌, ℕ, Bool, true, false, not, cond, ◌&&◌, ◌||◌, List, [], ◌∷◌, ◌++◌, nat_eq, nat_lt, nat_le, refl, sym, ◌∙◌, ap, subst, ⊎_elim}
+use Rattle.std.proofs.lemmas.Bool.{both_ways, or_cases, and_parts, eqb-true, ltb-true, true≢false, lt-leb}
 use Rattle.std.proofs.lemmas.List.Folds.{list_any-append}
-use Rattle.std.specs.List.{list_any, filter}
+use Rattle.std.specs.List.{list_any}
 use Rattle.std.specs.Ordering.{nat_cmp}
-use Rattle.std.specs.declared.cmp.Ordering.TheVariants.{Equal}
-use Rattle.std.specs.Cmp.{nat_cmp_total}
-use Rattle.std.specs.FinSet.{FinSet, contains, remove, retain, contains-retain, nat_cmp-IsAntisymmetric}
+use Rattle.std.specs.FinSet.{FinSet, contains, remove, contains-retain, nat_cmp-IsAntisymmetric}
+use Rattle.storage_bitmap.proofs.Either.{or_right}
 use Rattle.storage_bitmap.proofs.Used.{contains-removed, same_pages}
 use Rattle.free_space.specs.declared.waiting.Waiting.{Waiting}
 use Rattle.free_space.specs.VolumeSpace.{is_due, without_due, still_waiting, is_among}
@@ -65,10 +64,6 @@ due_member (w ∷ ws) group q due =
     ⊎_elim (λ here. ap (λ b. b || list_any (nat_eq q) (pages_of ws)) (and_parts (nat_eq q w.page) (nat_le w.group group) here).0)
     (λ later. or_right (nat_eq q w.page) (list_any (nat_eq q) (pages_of ws)) (due_member ws group q later))
     (or_cases (nat_eq q w.page && nat_le w.group group) (is_due ws group q) due)
-  where
-    or_right : (a b : Bool) → b ≡ true → (a || b) ≡ true
-    or_right true b is = refl
-    or_right false b is = is
 
 pub among_member : (ws : List Waiting) (q : ℕ) → is_among ws q ≡ list_any (nat_eq q) (pages_of ws)
 among_member [] q = refl

@@ -1,29 +1,18 @@
 -- The calls keep what a volume's lists of waiting pages keep.
-use Rattle.std.proofs.Common.{◌≡◌, ℕ, zero, suc, ◌+◌, ◌-◌, ◌^◌, ◌<◌, ◌≤◌, Bool, true, false, not, ◌&&◌, ◌||◌, List, [], ◌∷◌, ◌++◌, length, nat_eq, nat_lt, refl, sym, ◌∙◌, ap, subst, arith, ⊎_elim, length-append, Option, Some, None}
-use Rattle.std.proofs.lemmas.Bool.{cases_Bool, both_ways, true≢false, eqb-false, ne_eqb, and_parts, and_from, not-true, eqb-true, or_cases}
+use Rattle.std.proofs.Common.{◌≡◌, ℕ, zero, suc, ◌+◌, ◌^◌, ◌<◌, ◌≤◌, true, false, not, ◌&&◌, ◌||◌, List, [], ◌∷◌, ◌++◌, length, nat_eq, nat_lt, sym, ◌∙◌, ap, subst, arith, ⊎_elim, length-append, Option, Some, None}
+use Rattle.std.proofs.lemmas.Bool.{cases_Bool, both_ways, true≢false, ne_eqb, and_parts, eqb-true, or_cases}
 use Rattle.std.proofs.lemmas.List.{length-map, append_assoc, append-nil, map-append}
 use Rattle.std.specs.List.{list_any}
-use Rattle.std.specs.Ordering.{nat_cmp}
-use Rattle.std.specs.FinSet.{FinSet, contains, insert, remove, len}
-use Rattle.std.specs.Option.{IfNone}
+use Rattle.std.specs.FinSet.{contains, insert, remove, len}
+use Rattle.std.specs.Option.{IfNone, IfSome}
 use Rattle.storage_bitmap.specs.PageMap.{PageMap, IsFreeRun, IsFirstRun}
-use Rattle.storage_bitmap.proofs.Used.{contains-inserted, contains-removed}
+use Rattle.storage_bitmap.proofs.Used.{contains-inserted, contains-removed, with_used}
+use Rattle.storage_bitmap.proofs.Either.{or_parts, or_right}
 use Rattle.free_space.specs.declared.waiting.Waiting.{Waiting}
-use Rattle.free_space.specs.VolumeSpace.{is_due, without_due, still_waiting, is_among, VolumeSpace, IsFreePage, page_map, insert_run}
+use Rattle.free_space.specs.VolumeSpace.{is_due, without_due, still_waiting, is_among, is_waiting, VolumeSpace, IsFreePage, AreFreePages, page_map, insert_run}
 use Rattle.free_space.specs.Kept.{IsKept, AllApart, AllWithin, pages_of}
 use Rattle.free_space.proofs.Apart.{length_le_len, len_le, apart_insert, any_insert, any_left, any_right, any_either, any_none, apart_sides, apart_left, apart_right, any_filter, apart_filter, any_filter_right, apart_filter_right}
 use Rattle.free_space.proofs.Due.{contains-without_due, due_member, among_member, due_not_still}
-
-abbrev with_used : PageMap → FinSet nat_cmp → PageMap
-with_used m used = record { pages = m.pages; used = used }
-
-or_right : (a b : Bool) → b ≡ true → (a || b) ≡ true
-or_right true b is = refl
-or_right false b is = is
-
-or_none : (a b : Bool) → (a || b) ≡ false → (a ≡ false) × (b ≡ false)
-or_none true b none = absurd (true≢false none)
-or_none false b none = (refl, none)
 
 -- a volume that was just added
 pub kept_new : (m : PageMap) (for_data for_meta : ℕ) → m.pages ≤ 2 ^ 20 → ((p : ℕ) → contains m.used p ≡ true → p < m.pages) → m.pages ≤ for_data → m.pages ≤ for_meta →
@@ -68,7 +57,7 @@ module _ {m : PageMap} {ds ms : List Waiting} {for_data for_meta : ℕ} (kept : 
   module _ (p : ℕ) (held : contains m.used p ≡ true) (settled : (is_among ds p || is_among ms p) ≡ false) where
     missing : list_any (nat_eq p) (pages_of ds ++ pages_of ms) ≡ false
     missing =
-        let parts = or_none (is_among ds p) (is_among ms p) settled in
+        let parts = or_parts (is_among ds p) (is_among ms p) settled in
         any_none (pages_of ds) (pages_of ms) p (sym (among_member ds p) ∙ parts.0) (sym (among_member ms p) ∙ parts.1)
 
     pub room_left : length ds + length ms < m.pages
@@ -168,13 +157,46 @@ module _ {m : PageMap} {ds ms : List Waiting} {for_data for_meta : ℕ} (kept : 
   kept_run p zero inside = kept
   kept_run p (suc count) inside = insert_more (kept_run p count (omega arith)) (p + count) (omega arith)
 
--- a free page is a run of one
-pub run_of_page : {v : VolumeSpace} {p : ℕ} → IsFreePage v p → IsFreeRun (page_map v) p 1
-run_of_page {v} {p} is = record {
-  within = omega (arith, is.within);
-  free = λ q after before. let same : q ≡ p = omega arith in subst (λ x. contains v.used x ≡ false) (sym same) is.unused;
-}
+-- what the bitmap says of the volume's free pages
+module _ (v : VolumeSpace) {for_data for_meta : ℕ} (kept : IsKept (page_map v) v.waiting_data v.waiting_meta for_data for_meta) where
+  pub free_page : (p : ℕ) → p < v.pages → contains v.used p ≡ false → IsFreePage v p
+  free_page p within unused = record {
+    within = within;
+    unused = unused;
+    settled =
+        ⊎_elim
+        (λ waits. absurd (both_ways (contains v.used p) unused (kept.used p (
+        ⊎_elim (λ left. any_left (pages_of v.waiting_data) (pages_of v.waiting_meta) p (sym (among_member v.waiting_data p) ∙ left))
+        (λ right. any_right (pages_of v.waiting_data) (pages_of v.waiting_meta) p (sym (among_member v.waiting_meta p) ∙ right))
+        (or_cases (is_among v.waiting_data p) (is_among v.waiting_meta p) waits)))))
+        (λ settled. settled) (cases_Bool (is_waiting v p));
+  }
 
-pub none_at : (r : Option ℕ) (m : PageMap) (count : ℕ) → IsFirstRun m 0 count r → IfNone r ((p : ℕ) → ¬ IsFreeRun m p count)
-none_at None m count none = λ p run. none p (omega arith) run
-none_at (Some p) m count first = tt
+  free_pages_of : (p count : ℕ) → IsFreeRun (page_map v) p count → AreFreePages v p count
+  free_pages_of p count run = record { within = run.within; free = λ q after before. free_page q (omega (arith, run.within)) (run.free q after before) }
+
+  run_of : (p count : ℕ) → AreFreePages v p count → IsFreeRun (page_map v) p count
+  run_of p count are = record { within = are.within; free = λ q after before. (are.free q after before).unused }
+
+  -- what is found is free, and where nothing is found nothing is
+  pub found_free : (from count p : ℕ) → IsFirstRun (page_map v) from count (Some p) → AreFreePages v p count
+  found_free from count p first = free_pages_of p count first.1
+
+  pub none_free : (count : ℕ) → IsFirstRun (page_map v) 0 count None → (p : ℕ) → ¬ AreFreePages v p count
+  none_free count none p are = none p (omega arith) (run_of p count are)
+
+  -- the same of a search's answer
+  pub none_answered : (count : ℕ) (r : Option ℕ) → IsFirstRun (page_map v) 0 count r → IfNone r ((p : ℕ) → v.is_open ≡ true → ¬ AreFreePages v p count)
+  none_answered count None none = λ p _. none_free count none p
+  none_answered count (Some p) first = tt
+
+  pub run_answered : (count : ℕ) (r : Option ℕ) → v.is_open ≡ true → IsFirstRun (page_map v) 0 count r → IfSome r (λ p. (v.is_open ≡ true) × AreFreePages v p count)
+  run_answered count None is_open none = tt
+  run_answered count (Some p) is_open first = (is_open, found_free 0 count p first)
+
+-- a free page is a run of one
+pub one_page : {v : VolumeSpace} {p : ℕ} → IsFreePage v p → AreFreePages v p 1
+one_page {v} {p} is = record {
+  within = omega (arith, is.within);
+  free = λ q after before. let same : q ≡ p = omega arith in subst (λ x. IsFreePage v x) (sym same) is;
+}

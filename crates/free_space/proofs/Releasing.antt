@@ -1,16 +1,13 @@
 -- The loop that frees what is due.
-use Rattle.std.proofs.Common.{◌≡◌, ℕ, ◌+◌, ◌<◌, ◌≤◌, true, false, List, [], length, take, get_or, nat_le, refl, sym, ◌∙◌, ap, arith}
+use Rattle.std.proofs.Common.{◌≡◌, ℕ, ◌+◌, ◌<◌, ◌≤◌, List, [], length, take, get_or, sym, ◌∙◌, ap}
 use Rattle.std.proofs.lemmas.Bool.{le-leb, lt-leb}
 use Rattle.std.proofs.lemmas.List.{take_more}
-use Rattle.std.specs.Ordering.{nat_cmp}
-use Rattle.std.specs.FinSet.{FinSet, remove}
+use Rattle.std.specs.FinSet.{remove}
 use Rattle.storage_bitmap.specs.PageMap.{PageMap}
+use Rattle.storage_bitmap.proofs.Used.{with_used}
 use Rattle.free_space.specs.declared.waiting.Waiting.{Waiting}
 use Rattle.free_space.specs.VolumeSpace.{without_due}
 use Rattle.free_space.proofs.Due.{without_none, without_more, without_later}
-
-abbrev with_used : PageMap → FinSet nat_cmp → PageMap
-with_used m used = record { pages = m.pages; used = used }
 
 pub release_none : (m : PageMap) (group : ℕ) → m ≡ with_used m (without_due m.used [] group)
 release_none m group = ap (λ s. with_used m s) (sym (without_none m.used group))

@@ -1,10 +1,10 @@
 -- The free space of a domain's volumes.
-use Rattle.std.specs.Prelude.{◌≡◌, ℕ, ◌+◌, ◌-◌, ◌*◌, ◌^◌, Bool, true, false, min, List, length, map, sum_by, slice_set, slice_index_or, Option, Some, None, IsSomeAnd, if◌then◌else◌, replicate, refl}
+use Rattle.std.specs.Prelude.{◌≡◌, ℕ, ◌+◌, ◌-◌, ◌^◌, true, false, min, List, length, map, slice_set, slice_index_or, Option, Some, None, IsSomeAnd, if◌then◌else◌, replicate, refl}
 use Rattle.std.specs.Coded.{Coded, code_by, coded×, coded_ℕ, coded_list, coded_option}
 use Rattle.std.specs.Option.{option_map}
 use Rattle.std.specs.FinSet.{len, contains}
-use Rattle.storage_bitmap.specs.PageMap.{IsFreeRun, IsLongestRun}
-use Rattle.free_space.specs.VolumeSpace.{VolumeSpace, volume_space_code, IsFreePage, page_map, is_waiting}
+use Rattle.storage_bitmap.specs.PageMap.{IsLongestRun}
+use Rattle.free_space.specs.VolumeSpace.{VolumeSpace, volume_space_code, IsFreePage, AreFreePages, page_map, is_waiting}
 
 -- the volumes that are there, volume k at place k - 1, and how often no page was found
 pub record Spaces : Type 0 where
@@ -44,7 +44,7 @@ CanTake s vol p = IsSomeAnd (volume_of s vol) (λ v. (v.is_open ≡ true) × IsF
 
 -- the same of so many pages in a row from page p on
 abbrev pub CanTakeRun : Spaces → ℕ → ℕ → ℕ → Type 0
-CanTakeRun s vol p count = IsSomeAnd (volume_of s vol) (λ v. (v.is_open ≡ true) × IsFreeRun (page_map v) p count)
+CanTakeRun s vol p count = IsSomeAnd (volume_of s vol) (λ v. (v.is_open ≡ true) × AreFreePages v p count)
 
 -- page p of the volume is used and does not wait
 abbrev pub IsHeld : Spaces → ℕ → ℕ → Type 0

@@ -35,11 +35,6 @@ page_map v = record { pages = v.pages; used = v.used }
 abbrev pub added : PageMap → VolumeSpace
 added m = record { pages = m.pages; is_open = true; used = m.used; waiting_data = []; waiting_meta = [] }
 
--- one of the volume's pages, and not used
-pub record IsFreePage (v : VolumeSpace) (p : ℕ) : Type 0 where
-  pub within : p < v.pages
-  pub unused : contains v.used p ≡ false
-
 -- whether page p is among those that wait
 abbrev pub is_among : List Waiting → ℕ → Bool
 is_among waiting p = list_any (λ w. p == w.page) waiting
@@ -47,6 +42,17 @@ is_among waiting p = list_any (λ w. p == w.page) waiting
 -- whether page p waits
 abbrev pub is_waiting : VolumeSpace → ℕ → Bool
 is_waiting v p = is_among v.waiting_data p || is_among v.waiting_meta p
+
+-- one of the volume's pages, neither used nor waiting
+pub record IsFreePage (v : VolumeSpace) (p : ℕ) : Type 0 where
+  pub within : p < v.pages
+  pub unused : contains v.used p ≡ false
+  pub settled : is_waiting v p ≡ false
+
+-- that many pages in a row from page p on, each of them free
+pub record AreFreePages (v : VolumeSpace) (p count : ℕ) : Type 0 where
+  pub within : p + count ≤ v.pages
+  pub free : (q : ℕ) → p ≤ q → q < p + count → IsFreePage v q
 
 -- the set with that many pages more, from page p on
 abbrev pub insert_run : FinSet nat_cmp → ℕ → ℕ → FinSet nat_cmp

@@ -1,8 +1,8 @@
 //! The free space of one volume.
 ghost use Rattle.std.specs.Prelude.{◌≡◌, ℕ, ◌+◌, ◌-◌, ◌^◌, ◌<◌, ◌≤◌, true, false, [], ◌∷◌, ◌++◌, length, vec_capacity, IfOk, IfErr, IfSome, IfNone, MatchBool};
 ghost use Rattle.std.specs.FinSet.{contains, len};
-ghost use Rattle.storage_bitmap.specs.PageMap.{IsFreeRun, IsLongestRun};
-ghost use Rattle.free_space.specs.VolumeSpace.{added, page_map, IsFreePage, is_waiting, with_page, with_run, without_page, with_open, with_waiting, insert_run, without_due, still_waiting, with_durable, with_passed};
+ghost use Rattle.storage_bitmap.specs.PageMap.{IsLongestRun};
+ghost use Rattle.free_space.specs.VolumeSpace.{added, page_map, IsFreePage, AreFreePages, is_waiting, with_page, with_run, without_page, with_open, with_waiting, insert_run, without_due, still_waiting, with_durable, with_passed};
 ghost use Rattle.free_space.specs.Kept.{AllWithin};
 
 use crate::Waiting;
@@ -88,11 +88,15 @@ impl Volume {
         })
     }
 
-    /// A run of free pages, after the last one that was taken if there is one.
+    /// A run of free pages, after the last one that was taken if there is one. None where the
+    /// volume is closed or has no such run.
     fn find(&self, count: u32) -> Option<u32>
-        ensures none { IfNone result ((p : ℕ) → ¬ IsFreeRun (page_map self.now) p count) }
-        ensures some { IfSome result (λ p. IsFreeRun (page_map self.now) p count) }
+        ensures none { IfNone result ((p : ℕ) → self.now.is_open ≡ true → ¬ AreFreePages self.now p count) }
+        ensures some { IfSome result (λ p. (self.now.is_open ≡ true) × AreFreePages self.now p count) }
     {
+        if !self.is_open {
+            return None;
+        }
         match self.map.first_run_from(self.next, count) {
             Some(page) => Some(page),
             None => self.map.first_run(count),
@@ -106,9 +110,6 @@ impl Volume {
         ensures some { IfSome result (λ p. (self.old.is_open ≡ true) × IsFreePage self.old p) }
         ensures taken { IfSome result (λ p. self.new ≡ with_page p self.old) }
     {
-        if !self.is_open {
-            return None;
-        }
         let page = self.find(1)?;
         self.map.set(page);
         self.next = page + 1;
@@ -118,14 +119,11 @@ impl Volume {
     /// Takes `count` free pages in a row, and gives the first. None where the volume is closed or
     /// has no such run.
     pub fn allocate_run(&mut self, count: u32) -> Option<u32>
-        ensures none { IfNone result ((p : ℕ) → self.old.is_open ≡ true → ¬ IsFreeRun (page_map self.old) p count) }
+        ensures none { IfNone result ((p : ℕ) → self.old.is_open ≡ true → ¬ AreFreePages self.old p count) }
         ensures unchanged { IfNone result (self.new ≡ self.old) }
-        ensures some { IfSome result (λ p. (self.old.is_open ≡ true) × IsFreeRun (page_map self.old) p count) }
+        ensures some { IfSome result (λ p. (self.old.is_open ≡ true) × AreFreePages self.old p count) }
         ensures taken { IfSome result (λ p. self.new ≡ with_run p count self.old) }
     {
-        if !self.is_open {
-            return None;
-        }
         let first = self.find(count)?;
         set_run(&mut self.map, first, count);
         self.next = first + count;

@@ -1,6 +1,6 @@
 -- The bytes of a bitmap with no used page.
-use Rattle.std.proofs.Common.{◌≡◌, ℕ, ◌+◌, ◌-◌, ◌*◌, ◌/◌, ◌%◌, ◌<◌, ◌≤◌, Bool, true, false, ◌&&◌, List, [], ◌∷◌, ◌++◌, length, nat_eq, nat_le, nat_lt, refl, sym, ◌∙◌, ap, arith, ⊎_elim}
-use Rattle.std.proofs.lemmas.Bool.{cases_lt, le-leb, lt-leb, le-ltb}
+use Rattle.std.proofs.Common.{◌≡◌, ℕ, ◌+◌, ◌-◌, ◌*◌, ◌/◌, ◌%◌, ◌<◌, ◌≤◌, ◌&&◌, List, [], ◌∷◌, ◌++◌, length, nat_eq, nat_le, nat_lt, sym, ◌∙◌, ap, arith, ⊎_elim}
+use Rattle.std.proofs.lemmas.Bool.{cases_lt, le-leb, lt-leb, le-ltb, and_right}
 use Rattle.std.proofs.lemmas.List.{get_or_append_left, get_or_push, length_push}
 use Rattle.std.specs.Int.{bit_at}
 use Rattle.std.specs.Ordering.{nat_cmp}
@@ -40,12 +40,8 @@ blank_more bytes pages byte blank last = record {
 
 pub used-blank : (bytes : List ℕ) (pages : ℕ) → IsBlank bytes pages → length bytes ≡ bitmap_bytes pages → used_below bytes pages ≡ empty
 used-blank bytes pages blank size = same_pages (used_below bytes pages) empty (λ q. contains-used_below bytes pages q
-    ∙ ⊎_elim (λ inside. ap (λ b. nat_lt q pages && b) (blank.bits q (omega (arith, size)) ∙ lt-leb pages q inside) ∙ and_none (nat_lt q pages))
+    ∙ ⊎_elim (λ inside. and_right (nat_lt q pages) (is_set bytes q) (blank.bits q (omega (arith, size)) ∙ lt-leb pages q inside))
     (λ past. ap (λ b. b && is_set bytes q) (le-ltb q pages past)) (cases_lt q pages) ∙ sym (contains-empty nat_cmp q))
-  where
-    and_none : (b : Bool) → (b && false) ≡ false
-    and_none true = refl
-    and_none false = refl
 
 pub kept-blank : (bytes : List ℕ) (pages : ℕ) → IsBlank bytes pages → length bytes ≡ bitmap_bytes pages → IsKept bytes pages pages
 kept-blank bytes pages blank size = record {

@@ -1,4 +1,5 @@
 pub mod Blank
+pub mod Either
 pub mod Longest
 pub mod Runs
 pub mod Used

@@ -1,24 +1,21 @@
 -- Runs of free pages, as the walk finds them in a bitmap's bytes.
-use Rattle.std.proofs.Common.{◌≡◌, ℕ, ◌+◌, ◌-◌, ◌*◌, ◌<◌, ◌≤◌, Bool, true, false, ◌||◌, List, length, nat_lt, refl, sym, ◌∙◌, ap, arith, ⊎_elim, Some, None}
+use Rattle.std.proofs.Common.{◌≡◌, ℕ, ◌+◌, ◌-◌, ◌*◌, ◌<◌, ◌≤◌, false, ◌||◌, List, length, nat_lt, sym, ◌∙◌, ap, arith, ⊎_elim, Some, None}
 use Rattle.std.proofs.lemmas.Bool.{cases_lt, both_ways, le-ltb, lt-ltb, le-leb, lt-leb}
 use Rattle.std.specs.FinSet.{contains}
 use Rattle.storage_bitmap.specs.PageMap.{IsFreeRun, IsFirstRun}
 use Rattle.storage_bitmap.specs.Bits.{is_set, used_below, IsKept, ShowsMap}
 use Rattle.storage_bitmap.specs.Walk.{is_taken, NoneTaken, IsFound}
+use Rattle.storage_bitmap.proofs.Either.{or_parts}
 use Rattle.storage_bitmap.proofs.Used.{contains-used, viewed_map}
-
-or_false : (a b : Bool) → (a || b) ≡ false → (a ≡ false) × (b ≡ false)
-or_false true b none = absurd (both_ways true none refl)
-or_false false b none = (refl, none)
 
 bit_free : (bytes : List ℕ) (from q : ℕ) → is_taken bytes from q ≡ false → is_set bytes q ≡ false
 unfolding is_taken
-bit_free bytes from q free = (or_false (nat_lt q from) (is_set bytes q) free).1
+bit_free bytes from q free = (or_parts (nat_lt q from) (is_set bytes q) free).1
 
 reached : (bytes : List ℕ) (from q : ℕ) → is_taken bytes from q ≡ false → from ≤ q
 unfolding is_taken
 reached bytes from q free =
-    ⊎_elim (λ early. absurd (both_ways (nat_lt q from) (or_false (nat_lt q from) (is_set bytes q) free).0 (lt-ltb q from early))) (λ late. late) (cases_lt q from)
+    ⊎_elim (λ early. absurd (both_ways (nat_lt q from) (or_parts (nat_lt q from) (is_set bytes q) free).0 (lt-ltb q from early))) (λ late. late) (cases_lt q from)
 
 not_taken : (bytes : List ℕ) (from q : ℕ) → from ≤ q → is_set bytes q ≡ false → is_taken bytes from q ≡ false
 unfolding is_taken

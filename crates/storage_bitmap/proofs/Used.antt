@@ -1,6 +1,6 @@
 -- The pages below n whose bit is 1, as a set.
 use Rattle.std.proofs.Common.{◌≡◌, ℕ, zero, suc, ◌+◌, ◌-◌, ◌*◌, ◌/◌, ◌%◌, ◌^◌, ◌<◌, ◌≤◌, Bool, true, false, cond, not, ◌&&◌, ◌||◌, List, length, get_or, set, refl, sym, ◌∙◌, ap, subst, arith, ⊎_elim, nat_eq, nat_lt, bit_or, bit_and}
-use Rattle.std.proofs.lemmas.Bool.{cases_eq, ltb-true, and_parts, both_ways, lt-ltb, le-ltb, eq-eqb, ne_eqb}
+use Rattle.std.proofs.lemmas.Bool.{cases_eq, ltb-true, and_parts, and_right, both_ways, lt-ltb, le-ltb, eq-eqb, ne_eqb}
 use Rattle.std.proofs.lemmas.Bool.Decides.{nat_tests}
 use Rattle.std.proofs.lemmas.List.{get_or_read, length-set, get_or-set_same, get_or-set_other}
 use Rattle.std.proofs.lemmas.Nat.Bits.{bit_at_set_same, bit_at_set_other, bit_at_clear_same, bit_at_clear_other}
@@ -27,10 +27,6 @@ below_next_same n = lt-ltb n (suc n) (omega arith)
 below_next_other : (n q : ℕ) → (q ≡ n → ⊥) → nat_lt q (suc n) ≡ nat_lt q n
 below_next_other n q other = grind (arith, nat_tests)
 
-and_none : (b : Bool) → (b && false) ≡ false
-and_none true = refl
-and_none false = refl
-
 step_used : (bytes : List ℕ) (n q : ℕ) (s : FinSet nat_cmp) → contains s q ≡ (nat_lt q n && is_set bytes q) →
     (b : Bool) → is_set bytes n ≡ b → contains (cond b (insert s n) s) q ≡ (nat_lt q (suc n) && is_set bytes q)
 step_used bytes n q s before true at =
@@ -41,7 +37,7 @@ step_used bytes n q s before true at =
 step_used bytes n q s before false at =
     before
     ∙ ⊎_elim (λ same. subst (λ x. (nat_lt x n && is_set bytes x) ≡ (nat_lt x (suc n) && is_set bytes x)) (sym same)
-    (ap (λ b. nat_lt n n && b) at ∙ and_none (nat_lt n n) ∙ sym ((λ i. below_next_same n i && at i))))
+    (and_right (nat_lt n n) (is_set bytes n) at ∙ sym ((λ i. below_next_same n i && at i))))
     (λ other. ap (λ b. b && is_set bytes q) (sym (below_next_other n q other))) (cases_eq q n)
 
 pub contains-used_below : (bytes : List ℕ) (n q : ℕ) → contains (used_below bytes n) q ≡ (nat_lt q n && is_set bytes q)

@@ -1,4 +1,4 @@
-use Rattle.std.proofs.Common.{◌≡◌, ◌+◌, ◌<◌, get_or, rules, sym, ◌∙◌, ap, subst, arith}
+use Rattle.std.proofs.Common.{◌<◌, get_or, rules, sym, ◌∙◌, subst, arith}
 use Rattle.std.proofs.lemmas.Fn.{filter_same}
 use Rattle.storage_bitmap.specs.PageMap.{PageMap}
 use Rattle.free_space.specs.Kept.{AllWithin}
