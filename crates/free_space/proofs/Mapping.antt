@@ -4,6 +4,7 @@ use Rattle.std.proofs.lemmas.Bool.{cases_eq}
 use Rattle.std.proofs.lemmas.List.{length-set, length-map, get_or-set_same, get_or-set_other, get_or-map, get_or_read, ext_get_or}
 use Rattle.std.specs.Option.{option_map}
 use Rattle.free_space.specs.VolumeSpace.{VolumeSpace}
+use Rattle.free_space.specs.Spaces.{Spaces, change_volumes}
 
 -- the first i volumes are changed, and the others are as they were
 pub record IsPartMapped (change : VolumeSpace → VolumeSpace) (old new : List (Option VolumeSpace)) (i : ℕ) : Type 0 where
@@ -25,11 +26,18 @@ more_mapped change old new i v part within is = record {
   others = λ k after. get_or-set_other new i k v None (λ same. absurd (omega arith)) ∙ part.others k (omega arith);
 }
 
-pub all_mapped : (change : VolumeSpace → VolumeSpace) (old new : List (Option VolumeSpace)) (i : ℕ) → IsPartMapped change old new i → length new ≤ i →
+all_mapped : (change : VolumeSpace → VolumeSpace) (old new : List (Option VolumeSpace)) (i : ℕ) → IsPartMapped change old new i → length new ≤ i →
     new ≡ map (option_map change) old
 all_mapped change old new i part past =
     ext_get_or None new (map (option_map change) old) (part.len ∙ sym (length-map old (option_map change)))
     (λ k within. part.changed k (omega arith) ∙ sym (get_or-map (option_map change) old k None None (omega (arith, part.len))))
+
+-- all volumes are changed where the loop ends
+pub changed_all : (change : VolumeSpace → VolumeSpace) (items old new : List (Option VolumeSpace)) (misses i : ℕ) (s : Spaces) → record { volumes = items; misses = misses } ≡ s →
+    old ≡ items → IsPartMapped change old new i → length new ≤ i → record { volumes = new; misses = misses } ≡ change_volumes change s
+changed_all change items old new misses i s is read part past =
+    let at : List (Option VolumeSpace) → Spaces = λ vs. record { volumes = vs; misses = misses } in
+    ap at (all_mapped change old new i part past ∙ ap (map (option_map change)) read) ∙ ap (change_volumes change) is
 
 -- what is read at a volume's place is the volume
 pub volume_read : (vs : List (Option VolumeSpace)) (i vol : ℕ) (x : Option VolumeSpace) → i < length vs → i + 1 ≡ vol → x ≡ get_or vs i x → x ≡ get_or vs (vol - 1) None

@@ -35,7 +35,8 @@ impl Model for FreeSpace {
 impl FreeSpace {
     /// The free space of no volume.
     pub fn new(alloc: Global) -> Result<Self, OutOfMemory>
-        ensures { IfOk result (λ s. s ≡ no_spaces) }
+        ensures value { IfOk result (λ s. s ≡ no_spaces) }
+        ensures absent { IfOk result (λ s. (vol : ℕ) → volume_of s vol ≡ None) }
     {
         let mut volumes = Vec::with_capacity(alloc, MAX_VOLUMES as usize)?;
         for _ in 0..MAX_VOLUMES {
@@ -44,8 +45,9 @@ impl FreeSpace {
         Ok(FreeSpace { volumes, misses: 0 })
     }
 
-    /// Adds a volume with this bitmap, open and with no page that waits. It takes the room for
-    /// each of its pages to wait. Where memory is short the bitmap comes back, and nothing changes.
+    /// Adds a volume with this bitmap of at most 1,048,576 pages, open and with no page that waits.
+    /// It takes the room for each of its pages to wait. Where memory is short the bitmap comes back,
+    /// and nothing changes.
     pub fn add_volume(
         &mut self,
         alloc: Global,
@@ -279,3 +281,6 @@ fn waiting_on(slot: &Option<Volume>) -> u32
         None => 0,
     }
 }
+
+#[cfg(test)]
+mod tests;
