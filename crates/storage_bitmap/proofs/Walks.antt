@@ -1,9 +1,10 @@
 -- Steps of the walk over pages.
-use Rattle.std.proofs.Common.{◌≡◌, ℕ, ◌+◌, ◌-◌, ◌/◌, ◌%◌, ◌^◌, ◌<◌, ◌≤◌, ◌||◌, Bool, true, false, List, nat_eq, sym, ◌∙◌, ap, subst, arith, add-zero, ⊎_elim}
+use Rattle.std.proofs.Common.{◌≡◌, ℕ, suc, ◌+◌, ◌-◌, ◌*◌, ◌/◌, ◌%◌, ◌^◌, ◌<◌, ◌≤◌, ◌||◌, Bool, true, false, List, nat_eq, sym, ◌∙◌, ap, subst, arith, add-zero, ⊎_elim}
+use Rattle.std.proofs.Math.Nat.{pow-suc}
 use Rattle.std.proofs.lemmas.Bool.{cases_lt, cases_eq, both_ways, lt-ltb}
-use Rattle.std.proofs.lemmas.Nat.{shr-shr, shr_le}
-use Rattle.std.proofs.lemmas.Nat.Bits.{bit_at-trailing_zeros, bit_at-trailing_ones, bit_at-zero}
-use Rattle.std.specs.Int.{bit_at, trailing_zeros, trailing_ones, w64}
+use Rattle.std.proofs.lemmas.Nat.{shr-shr, shr_le, leading_top}
+use Rattle.std.proofs.lemmas.Nat.Bits.{bit_at-trailing_zeros, bit_at-trailing_ones, bit_at-zero, bit_at_above, bit_at_cat_high}
+use Rattle.std.specs.Int.{bit_at, trailing_zeros, trailing_ones, leading_zeros, w64}
 use Rattle.storage_bitmap.specs.Bits.{is_set}
 use Rattle.storage_bitmap.specs.Walk.{is_taken, NoneTaken, IsWalked, IsFound}
 
@@ -55,6 +56,18 @@ pub record IsPartWalked (taken : ℕ → Bool) (count start at end rest : ℕ) :
 
 zero_not_one : (b : ℕ) → b ≡ 0 → b ≡ 1 → ⊥
 zero_not_one b zero_is one_is = omega arith
+
+-- the walk begins with the word
+pub begun : (taken : ℕ → Bool) (count start at word : ℕ) → IsWalked taken count start at → at < start + count →
+    ((i : ℕ) → i < 64 → nat_eq (bit_at word i) 1 ≡ taken (at + i)) → word + 1 < 2 ^ 64 → IsPartWalked taken count start at (at + 64) word
+begun taken count start at word walked short bits size = record {
+  walked = walked;
+  short = short;
+  place = omega arith;
+  bits = λ i within. bits i (omega arith);
+  high = λ i past. bit_at_above word 64 i (omega arith) (omega arith);
+  size = size;
+}
 
 -- a bit of what a shift leaves
 bit_at-shifted : (n k i : ℕ) → bit_at (n / 2 ^ k) i ≡ bit_at n (k + i)
@@ -135,3 +148,40 @@ module _ {taken : ℕ → Bool} {count start at end rest : ℕ} (part : IsPartWa
         high = λ i past. bit_after i ∙ part.high (trailing_zeros w64 rest + (used + i)) (omega arith);
         size = omega (arith, part.size, shr_le rest (trailing_zeros w64 rest), shr_le (rest / 2 ^ trailing_zeros w64 rest) used);
       }
+
+-- the last 1 of a word
+last_one : (n j : ℕ) → 2 ^ j ≤ n → n < 2 ^ suc j → bit_at n j ≡ 1
+last_one n j least most =
+    let rest : n - 2 ^ j < 2 ^ j = omega (arith, pow-suc 2 j) in
+    let split : n ≡ 1 * 2 ^ j + (n - 2 ^ j) = omega arith in
+    let none : j - j ≡ 0 = omega arith in
+    ap (λ m. bit_at m j) split ∙ bit_at_cat_high 1 j (n - 2 ^ j) j rest (omega arith) ∙ ap (λ i. bit_at 1 i) none
+
+-- a walk for so long a run that none lies inside the word
+module _ {taken : ℕ → Bool} {count start at rest : ℕ} (part : IsPartWalked taken count start at (at + 64) rest) (some : 0 < rest) (long : 64 ≤ count) where
+  pub ends_found : start + count ≤ at + trailing_zeros w64 rest → IsFound taken count start
+  ends_found met = found taken count start (at + trailing_zeros w64 rest) (zeros_walked part some) met
+
+  pub ends_within : at + trailing_zeros w64 rest < at + 64
+  ends_within = zeros_within part some
+
+  pub ends_walked : (next : ℕ) → at + trailing_zeros w64 rest < start + count → next + leading_zeros w64 rest ≡ at + 64 → IsWalked taken count next (at + 64)
+  ends_walked next short is =
+      let top = leading_top 64 rest some (omega (arith, part.size)) in
+      let place : next ≡ at + suc top.0 = omega (arith, top.1) in
+      let last : taken (at + top.0) ≡ true = taken_from part top.0 (omega (arith, top.1)) (last_one rest top.0 top.2 top.3) in
+      let first : taken (at + trailing_zeros w64 rest) ≡ true =
+      taken_from part (trailing_zeros w64 rest) ends_within (bit_at-trailing_zeros w64 rest some (omega (arith, part.size))).1 in
+      record {
+        order = omega (arith, top.1);
+        free = λ q after before.
+            let there : at + (q - at) ≡ q = omega arith in
+            subst (λ x. taken x ≡ false) there (free_from part (q - at) (omega arith) (bit_at_above rest (suc top.0) (q - at) top.3 (omega arith)));
+        none = λ p before run. ⊎_elim
+            (λ early. ⊎_elim (λ older. part.walked.none p older run)
+            (λ now. both_ways (taken (at + trailing_zeros w64 rest)) (run (at + trailing_zeros w64 rest) (omega arith) (omega arith)) first) (cases_lt p start))
+            (λ inside. both_ways (taken (at + top.0)) (run (at + top.0) (omega arith) (omega arith)) last) (cases_lt p at);
+      }
+
+  pub ends_after : (next : ℕ) → next + leading_zeros w64 rest ≡ at + 64 → at < next
+  ends_after next is = let top = leading_top 64 rest some (omega (arith, part.size)) in omega (arith, top.1)

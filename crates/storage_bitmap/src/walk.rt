@@ -1,8 +1,26 @@
 //! The search for a run of free pages, a word at a time.
 ghost use Rattle.std.specs.Prelude.{◌≡◌, ℕ, ◌+◌, ◌*◌, ◌^◌, ◌<◌, ◌≤◌, length, IfSome, IfNone};
+ghost use Rattle.std.specs.Int.{trailing_zeros, leading_zeros, w64};
 ghost use Rattle.storage_bitmap.specs.Walk.{is_taken, NoneTaken, IsWalked, IsFound};
 
 use crate::word::taken_word;
+
+/// The same as `walk_word` for a word with a 1 and a run so long that none lies inside a word: only
+/// the word's first 1 and its last tell.
+fn walk_ends(word: u64, at: usize, start: usize, count: usize) -> usize
+    requires some { 0 < word }
+    requires fits { at + 64 + count < 2 ^ 64 }
+    requires order { start ≤ at }
+    ensures met { start + count ≤ at + trailing_zeros w64 word → result ≡ start }
+    ensures past { at + trailing_zeros w64 word < start + count → result + leading_zeros w64 word ≡ at + 64 }
+{
+    let first = at + word.trailing_zeros() as usize;
+    if start + count <= first {
+        start
+    } else {
+        at + 64 - word.leading_zeros() as usize
+    }
+}
 
 /// Takes a walk over word `k`, and says where the run begins that it has then, or the first run of
 /// `count` pages, if the walk comes to one.
@@ -21,6 +39,9 @@ fn walk_word(bytes: &[u8], k: usize, from: usize, start: usize, count: usize) ->
     let mut rest = taken_word(bytes, k, from);
     if rest == u64::MAX {
         return at + 64;
+    }
+    if count >= 64 && rest != 0 {
+        return walk_ends(rest, at, start, count);
     }
     while rest != 0 {
         let free = rest.trailing_zeros();

@@ -1,8 +1,9 @@
-use Rattle.std.proofs.Common.{◌≡◌, ◌+◌, ◌-◌, ◌*◌, true, nat_eq, arith, sym, ap, ◌∙◌, subst}
-use Rattle.std.proofs.lemmas.Nat.Bits.{bit_at_above, bit_at_ones}
-use Rattle.std.specs.Int.{bit_at}
-use Rattle.storage_bitmap.specs.Walk.{is_taken}
-use Rattle.storage_bitmap.proofs.Walks.{used_more, found, word_done, zeros_within, zeros_walked, ones_some, ones_within, next_part}
+use Rattle.std.proofs.Common.{◌≡◌, ◌+◌, ◌-◌, ◌*◌, true, nat_eq, arith, sym, ap, ◌∙◌, subst, ⊎_elim}
+use Rattle.std.proofs.lemmas.Nat.Bits.{bit_at_ones}
+use Rattle.std.proofs.lemmas.Bool.{cases_lt}
+use Rattle.std.specs.Int.{trailing_zeros, bit_at, w64}
+use Rattle.storage_bitmap.specs.Walk.{is_taken, IsFound}
+use Rattle.storage_bitmap.proofs.Walks.{begun, ends_found, ends_within, ends_walked, ends_after, used_more, found, word_done, zeros_within, zeros_walked, ones_some, ones_within, next_part}
 use Rattle.storage_bitmap.proofs.walk.walk_word.Goals as goal
 
 pub returns-then-rest-clause-going : goal.returns-then-rest-clause-going
@@ -15,15 +16,23 @@ returns-then-rest-clause-going c _ =
     subst (λ x. is_taken c.args.bytes.now c.args.from x ≡ true) place
     (sym (c.taken_word-rest.ensures (q - 64 * c.args.k) (omega arith)) ∙ ap (λ b. nat_eq b 1) one))
 
+pub returns-then-rest-ne0-clause-going : goal.returns-then-rest-ne0-clause-going
+returns-then-rest-ne0-clause-going c going =
+    let part = begun (is_taken c.args.bytes.now c.args.from) c.args.count c.args.start (64 * c.args.k) c.taken_word-rest.result c.requires.walked c.requires.short c.taken_word-rest.ensures (omega arith) in
+    ⊎_elim (λ short. ends_walked part (omega arith) c.if-count-ge64.true c.walk_ends.result short (c.walk_ends.ensures.past short))
+    (λ met. absurd (omega (arith, c.walk_ends.ensures.met met, ends_within part (omega arith) c.if-count-ge64.true)))
+    (cases_lt (64 * c.args.k + trailing_zeros w64 c.taken_word-rest.result) (c.args.start + c.args.count))
+
+pub returns-then-rest-ne0-clause-found : goal.returns-then-rest-ne0-clause-found
+returns-then-rest-ne0-clause-found c ended =
+    let part = begun (is_taken c.args.bytes.now c.args.from) c.args.count c.args.start (64 * c.args.k) c.taken_word-rest.result c.requires.walked c.requires.short c.taken_word-rest.ensures (omega arith) in
+    ⊎_elim (λ short. absurd (omega (arith, c.if-count-ge64.true, ends_after part (omega arith) c.if-count-ge64.true c.walk_ends.result (c.walk_ends.ensures.past short))))
+    (λ met. subst (λ p. IsFound (is_taken c.args.bytes.now c.args.from) c.args.count p) (sym (c.walk_ends.ensures.met met))
+    (ends_found part (omega arith) c.if-count-ge64.true met))
+    (cases_lt (64 * c.args.k + trailing_zeros w64 c.taken_word-rest.result) (c.args.start + c.args.count))
+
 pub loop-rest-init : goal.loop-rest-init
-loop-rest-init c = record {
-  walked = c.requires.walked;
-  short = c.requires.short;
-  place = omega arith;
-  bits = λ i within. c.taken_word-rest.ensures i (omega arith);
-  high = λ i past. bit_at_above c.taken_word-rest.result 64 i (omega arith) (omega arith);
-  size = omega arith;
-}
+loop-rest-init c = begun (is_taken c.args.bytes.now c.args.from) c.args.count c.args.start (64 * c.args.k) c.taken_word-rest.result c.requires.walked c.requires.short c.taken_word-rest.ensures (omega arith)
 
 pub loop-rest-preserved : goal.loop-rest-preserved
 loop-rest-preserved c = next_part c.loop-rest.invariant (omega arith) c.trailing_ones-used.result c.trailing_ones-used.ensures c.if-start-count.false
