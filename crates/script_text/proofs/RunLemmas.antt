@@ -5,6 +5,7 @@ use Rattle.std.proofs.lemmas.Bool.Decides.{nat_tests}
 use Rattle.std.proofs.lemmas.Grind.{common_steps}
 use Rattle.std.proofs.lemmas.Bool.{eq-eqb, eqb-true, false≢true}
 use Rattle.std.proofs.lemmas.List.{append-nil}
+use Rattle.script_text.proofs.Joined.{join_with_byte-cons, flat_map-map}
 use Rattle.script_text.specs.Runs.{Run, with_byte, runs_of, bytes_of_run, AreMaximal, IsRunLengthForm, run_text, bytes_text}
 
 -- a run
@@ -110,8 +111,7 @@ dotted-cons r runs = refl
 
 join-dotted : (r : Run) (runs : List Run) → join_with_byte 46 (map run_text (r ∷ runs)) ≡ run_text r ++ dotted runs
 unfolding dotted
-join-dotted r [] = sym (append-nil (run_text r))
-join-dotted r (next ∷ runs) = ap (λ xs. run_text r ++ (46 ∷ xs)) (join-dotted next runs)
+join-dotted r runs = join_with_byte-cons 46 (run_text r) (map run_text runs) ∙ ap (λ xs. run_text r ++ xs) (flat_map-map (λ p. 46 ∷ p) run_text runs)
 
 -- bytes are written as their first run, and then each other one behind a dot
 pub bytes_text-runs : (bytes : List ℕ) (r : Run) (runs : List Run) → 0 < length bytes → runs_of bytes ≡ r ∷ runs → bytes_text bytes ≡ run_text r ++ dotted runs
@@ -123,3 +123,19 @@ pub bytes_text-none : (bytes : List ℕ) → length bytes ≡ 0 → bytes_text b
 unfolding bytes_text
 bytes_text-none [] e = refl
 bytes_text-none (b ∷ bytes) e = absurd (omega (arith, e))
+
+-- one more run was written
+pub dotted-step : (out behind_dot next rest after total : List ℕ) (r : Run) → out ++ dotted (runs_of rest) ≡ total → behind_dot ≡ out ++ 46 ∷ [] → next ≡ behind_dot ++ run_text r → runs_of rest ≡ r ∷ runs_of after → next ++ dotted (runs_of after) ≡ total
+unfolding dotted
+dotted-step out behind_dot next rest after total r before dot more runs =
+    rw (more, dot, append_assoc, append_assoc) (ap (λ rs. out ++ flat_map (λ x. 46 ∷ run_text x) rs) (sym runs) ∙ before)
+
+-- the first run was written
+pub dotted-start : (start out bytes after : List ℕ) (r : Run) → 0 < length bytes → out ≡ start ++ run_text r → runs_of bytes ≡ r ∷ runs_of after → out ++ dotted (runs_of after) ≡ start ++ bytes_text bytes
+dotted-start start out bytes after r some first runs =
+    rw (first, append_assoc) (ap (λ xs. start ++ xs) (sym (bytes_text-runs bytes r (runs_of after) some runs)))
+
+pub dotted-end : (out rest total : List ℕ) → length rest ≡ 0 → out ++ dotted (runs_of rest) ≡ total → out ≡ total
+unfolding dotted
+dotted-end out [] total e h = sym (append-nil out) ∙ h
+dotted-end out (b ∷ rest) total e h = absurd (omega (arith, e))

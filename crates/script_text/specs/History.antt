@@ -24,6 +24,10 @@ use Rattle.script_text.specs.Runs.{hexadecimal, bytes_text}
 abbrev pub spaced : List (List ℕ) → List ℕ
 spaced words = join_with_byte 32 words
 
+-- each word behind a space
+abbrev pub behind_spaces : List (List ℕ) → List ℕ
+behind_spaces words = flat_map (λ word. 32 ∷ word) words
+
 -- ** Commands
 
 abbrev pub actor_text : Actor → List ℕ
@@ -84,7 +88,7 @@ command_text c = spaced (command_words c)
 -- ** Refusals
 
 -- the number of a refusal
-abbrev pub refusal_number : Refusal → ℕ
+unfoldable pub refusal_number : Refusal → ℕ
 refusal_number refusal.NoFileset = 1
 refusal_number refusal.FilesetExists = 2
 refusal_number refusal.NoPath = 3
@@ -113,7 +117,7 @@ refusal_number refusal.Cancelled = 28
 refusal_number (refusal.Unsettled moved) = 29
 refusal_number refusal.OutOfMemory = 30
 
-abbrev pub refusal_name : Refusal → List ℕ
+unfoldable pub refusal_name : Refusal → List ℕ
 refusal_name refusal.NoFileset = codes "no-fileset"
 refusal_name refusal.FilesetExists = codes "fileset-exists"
 refusal_name refusal.NoPath = codes "no-path"
@@ -143,11 +147,11 @@ refusal_name (refusal.Unsettled moved) = codes "unsettled"
 refusal_name refusal.OutOfMemory = codes "out-of-memory"
 
 -- a number with its name
-abbrev pub field_text : List ℕ → ℕ → List ℕ
+unfoldable pub field_text : List ℕ → ℕ → List ℕ
 field_text name n = name ++ codes "=" ++ decimal n
 
 -- the numbers that a refusal gives
-abbrev pub refusal_fields : Refusal → List (List ℕ)
+unfoldable pub refusal_fields : Refusal → List (List ℕ)
 refusal_fields (refusal.QuotaFiles limit used) = field_text (codes "limit") limit ∷ field_text (codes "used") used ∷ []
 refusal_fields (refusal.QuotaBlocks limit used asked) =
     field_text (codes "limit") limit ∷ field_text (codes "used") used ∷ field_text (codes "asked") asked ∷ []
@@ -159,7 +163,7 @@ refusal_fields (refusal.Unsettled moved) = field_text (codes "moved") moved ∷ 
 refusal_fields _ = []
 
 unfoldable pub refusal_text : Refusal → List ℕ
-refusal_text r = spaced ((codes "E" ++ decimal (refusal_number r)) ∷ refusal_name r ∷ refusal_fields r)
+refusal_text r = codes "E" ++ decimal (refusal_number r) ++ codes " " ++ refusal_name r ++ behind_spaces (refusal_fields r)
 
 -- ** Replies
 
@@ -209,7 +213,7 @@ reply_words (reply.Refused r) = []
 
 unfoldable pub reply_text : Reply → List ℕ
 reply_text (reply.Refused r) = refusal_text r
-reply_text answer = spaced (codes "ok" ∷ reply_words answer)
+reply_text answer = codes "ok" ++ behind_spaces (reply_words answer)
 
 -- ** Lines
 

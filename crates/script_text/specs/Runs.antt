@@ -35,11 +35,11 @@ abbrev pub IsRunLengthForm : List ℕ → List Run → Type 0
 IsRunLengthForm bytes runs = AreMaximal runs × (flat_map bytes_of_run runs ≡ bytes)
 
 -- two lower-case hexadecimal digits
-abbrev pub hexadecimal : ℕ → List ℕ
+unfoldable pub hexadecimal : ℕ → List ℕ
 hexadecimal b = digit_glyph false (b / 16) ∷ digit_glyph false (b % 16) ∷ []
 
 -- a byte, and how often it stands where that is more than once
-abbrev pub run_text : Run → List ℕ
+unfoldable pub run_text : Run → List ℕ
 run_text run = hexadecimal run.byte ++ (if nat_lt 1 run.count then codes "x" ++ decimal run.count else [])
 
 -- the runs, with a dot between two of them; no bytes are written `-`

@@ -8,7 +8,8 @@ use domain_base::OutOfMemory;
 
 /// How many bytes equal to this one stand at the front.
 fn front_len(bytes: &[u8], first: u8) -> usize
-    ensures { result ≡ prefix_len (λ byte. byte == first) bytes.now }
+    ensures value { result ≡ prefix_len (λ byte. byte == first) bytes.now }
+    ensures within { result ≤ length bytes.now }
 {
     bytes.iter().take_while(|byte| **byte == first).count()
 }
@@ -25,6 +26,7 @@ fn run_len(bytes: &[u8]) -> usize
 }
 
 /// Adds a byte, and how often it stands where that is more than once.
+#[tactic(auto, unfolding(crate::specs::Runs::run_text))]
 fn push_run(out: &mut Vec<u8>, byte: u8, count: usize) -> Result<(), OutOfMemory>
     ensures { OnOk result (out.new.items ≡ out.old.items ++ run_text (record { byte = byte; count = count })) }
 {
@@ -46,12 +48,12 @@ pub fn push_bytes(out: &mut Vec<u8>, bytes: &[u8]) -> Result<(), OutOfMemory>
     }
     let count = run_len(bytes);
     push_run(out, bytes[0], count)?;
-    let mut rest = &bytes[count..];
+    let mut rest = bytes.split_at(count).1;
     while !rest.is_empty() {
         let count = run_len(rest);
         out.push(b'.')?;
         push_run(out, rest[0], count)?;
-        rest = &rest[count..];
+        rest = rest.split_at(count).1;
     }
     Ok(())
 }

@@ -7,6 +7,7 @@ mod command_text;
 mod fault;
 mod number;
 mod path_text;
+mod refusal_text;
 mod script;
 mod statement;
 

@@ -24,6 +24,7 @@ fn hexadecimal_digit(n: u8) -> u8
 }
 
 /// Adds a byte as two lower-case hexadecimal digits.
+#[tactic(auto, unfolding(crate::specs::Runs::hexadecimal))]
 pub fn push_hexadecimal(out: &mut Vec<u8>, byte: u8) -> Result<(), OutOfMemory>
     ensures { OnOk result (out.new.items ≡ out.old.items ++ hexadecimal byte) }
 {

@@ -27,6 +27,7 @@ fn push_name_byte(out: &mut Vec<u8>, byte: u8) -> Result<(), OutOfMemory>
 }
 
 /// Adds a name, each byte that a path cannot write as itself by its hexadecimal digits.
+#[tactic(auto, unfolding(crate::specs::History::name_text))]
 pub fn push_name(out: &mut Vec<u8>, name: &[u8]) -> Result<(), OutOfMemory>
     ensures { OnOk result (out.new.items ≡ out.old.items ++ name_text name.now) }
 {
@@ -37,11 +38,13 @@ pub fn push_name(out: &mut Vec<u8>, name: &[u8]) -> Result<(), OutOfMemory>
 }
 
 /// Adds a path: `/`, or a `/` before each name.
+#[tactic(auto, unfolding(crate::specs::History::path_text))]
 pub fn push_path(out: &mut Vec<u8>, names: &[Name]) -> Result<(), OutOfMemory>
     ensures { OnOk result (out.new.items ≡ out.old.items ++ path_text names.now) }
 {
     if names.is_empty() {
         out.push(b'/')?;
+        return Ok(());
     }
     for name in names {
         out.push(b'/')?;
