@@ -5,11 +5,14 @@
 mod bytes_text;
 mod command_text;
 mod fault;
+mod history;
 mod number;
 mod path_text;
 mod refusal_text;
+mod reply_text;
 mod script;
 mod statement;
 
 pub use bytes_text::runs_are_maximal;
+pub use history::history_line;
 pub use script::{Script, ScriptFault, Section, SectionList};
