@@ -1,2 +1,5 @@
 pub mod Joined
+pub mod LineLemmas
+pub mod NumberLemmas
 pub mod RunLemmas
+pub mod WordLemmas
