@@ -65,3 +65,11 @@ impl From<OutOfMemory> for LineFault {
         LineFault::OutOfMemory
     }
 }
+
+impl<T: Drop> From<AllocFailed<T>> for LineFault {
+    ghost from_gives = { λ _ fault. fault ≡ line.OutOfMemory };
+
+    fn from(_fault: AllocFailed<T>) -> LineFault {
+        LineFault::OutOfMemory
+    }
+}

@@ -18,4 +18,5 @@ mod words;
 
 pub use bytes_text::runs_are_maximal;
 pub use history::history_line;
+pub use reading::read_script;
 pub use script::{Script, ScriptFault, Section, SectionList};

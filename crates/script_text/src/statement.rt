@@ -122,7 +122,7 @@ fn read(
 }
 
 /// What the words behind the first say.
-fn others(
+pub fn others(
     alloc: Global,
     keyword: Keyword,
     words: &[&[u8]],
