@@ -1,4 +1,5 @@
 ghost use Rattle.std.specs.Prelude.{◌≡◌};
+ghost use Rattle.script_text.specs.Script.{kind_number};
 ghost use Rattle.script_text.specs.declared.fault.LineFault.TheVariants as line;
 ghost use Rattle.script_text.specs.declared.fault.WordFault.TheVariants as word;
 
@@ -22,6 +23,15 @@ pub enum FaultKind {
     SectionTwice = 7,
     /// A command after the 2,000th of its section.
     TooManyCommands = 8,
+}
+
+impl FaultKind {
+    /// The number by which it is named.
+    pub fn number(self) -> u8
+        ensures { result ≡ kind_number self }
+    {
+        self as u8
+    }
 }
 
 /// Why a word was not read.

@@ -140,7 +140,7 @@ pub fn read_script(alloc: Global, bytes: &[u8]) -> Result<Script, ScriptFault>
             Err(LineFault::Kind(kind)) => {
                 return Err(ScriptFault::Bad {
                     line: number,
-                    kind: kind as u8,
+                    kind: kind.number(),
                 });
             }
             Err(LineFault::OutOfMemory) => return Err(ScriptFault::OutOfMemory),
