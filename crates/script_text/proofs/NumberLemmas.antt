@@ -56,9 +56,10 @@ number-large limit word large = go (nat_le 1 (length word) && list_all is_ascii_
 pub digits-step : (word : List ℕ) (i n d : ℕ) → i < length word → list_all is_ascii_digit (take i word) ≡ true → is_ascii_digit (get_or word i 0) ≡ true → n ≡ digits_value 10 (take i word) → d ≡ get_or word i 0 - 48 →
     (list_all is_ascii_digit (take (i + 1) word) ≡ true) × (n * 10 + d ≡ digits_value 10 (take (i + 1) word))
 digits-step word i n d within digits here value digit =
-    let is : digit_value (get_or word i 0) ≡ get_or word i 0 - 48 = grind (arith, nat_tests) in
-    (rw (list_all_more is_ascii_digit word i 0 within, digits, here) refl,
-     rw (digits_value_more 10 word i within, is, value, digit) refl)
+    let is : digit_value (get_or word i 0) ≡ get_or word i 0 - 48 = grind (arith, nat_tests) in (
+      rw (list_all_more is_ascii_digit word i 0 within, digits, here) refl,
+      rw (digits_value_more 10 word i within, is, value, digit) refl,
+    )
 
 -- a number that is too large already stays so
 pub number-passed : (limit : ℕ) (word : List ℕ) (i m : ℕ) → m ≡ digits_value 10 (take i word) → limit ≤ m → number_below limit word ≡ None

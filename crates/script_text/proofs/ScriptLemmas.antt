@@ -71,7 +71,7 @@ read_more text rest line after so_far next number h first taken =
       whole = h.whole ∙ rw (first, append_assoc) refl;
       good = h.good ∙ rw first (first_bad-none h.before line (lines after) good);
       section = taken.1 ∙ rw (section_in-more h.before line, h.section) refl;
-      count = omega (arith, h.count, length-append h.before (line ∷ []))
+      count = omega (arith, h.count, length-append h.before (line ∷ []));
     }
 
 -- a bad line stops the reading
@@ -81,7 +81,7 @@ unfolding script_of
 read_bad text rest line after so_far number kind h first fault =
     let bad : kind_of_line (section_in h.before) line ≡ Some kind = rw (← h.section) fault in
     let found : first_bad [] (lines text) ≡ Some (record { line = length h.before + 1; kind = kind_number kind }) =
-        h.good ∙ rw first (first_bad-some h.before line (lines after) kind bad) in
+    h.good ∙ rw first (first_bad-some h.before line (lines after) kind bad) in
     (record { line = length h.before + 1; kind = kind_number kind }, rw found refl, omega (arith, h.count), refl)
 
 -- a script with no bad line is read to its end

@@ -83,4 +83,4 @@ unfoldable pub bytes_of : List ℕ → Option (List ℕ)
 bytes_of word =
     let inner = take (length word - 2) (drop 1 word) in
     passing (nat_le 3 (length word) && is_quote (slice_index word 0) && is_quote (slice_index word (length word - 1))
-        && has_length 1 8192 inner && list_all is_quotable inner) inner
+    && has_length 1 8192 inner && list_all is_quotable inner) inner
