@@ -1,9 +1,8 @@
 -- Runs of equal bytes: the first one, and that they are the maximal ones.
-use Rattle.std.proofs.Common.{◌≡◌, ◌≢◌, ℕ, suc, zero, ◌+◌, ◌<◌, Bool, true, false, cond, eqb, List, [], ◌∷◌, ◌++◌, length, take, drop, slice_index, replicate, map, refl, sym, ap, ◌∙◌, subst, arith, rules, append_assoc, add-one, Decides, ◌⊎◌, inl, inr}
+use Rattle.std.proofs.Common.{◌≡◌, ◌≢◌, ℕ, suc, zero, ◌+◌, ◌<◌, false, eqb, List, [], ◌∷◌, ◌++◌, length, drop, slice_index, replicate, map, refl, sym, ap, ◌∙◌, arith, append_assoc, add-one, ◌⊎◌, inl, inr}
 use Rattle.std.specs.List.{flat_map, join_with_byte, prefix_len}
 use Rattle.std.proofs.lemmas.Bool.Decides.{nat_tests}
-use Rattle.std.proofs.lemmas.Grind.{common_steps}
-use Rattle.std.proofs.lemmas.Bool.{eq-eqb, eqb-true, false≢true}
+use Rattle.std.proofs.lemmas.Bool.{eq-eqb}
 use Rattle.std.proofs.lemmas.List.{append-nil}
 use Rattle.script_text.proofs.Joined.{join_with_byte-cons, flat_map-map}
 use Rattle.script_text.specs.Runs.{Run, with_byte, runs_of, bytes_of_run, AreMaximal, IsRunLengthForm, run_text, bytes_text}

@@ -1,5 +1,5 @@
 -- What a script says, as its lines are read from the first on.
-use Rattle.std.proofs.Common.{◌≡◌, ℕ, ◌+◌, ◌-◌, ◌^◌, ◌<◌, ◌≤◌, min, Option, Some, None, Result, Ok, Err, option_map, unwrap_or, List, [], ◌∷◌, ◌++◌, length, refl, sym, ap, ◌∙◌, arith, append_assoc, length-append}
+use Rattle.std.proofs.Common.{◌≡◌, ℕ, ◌+◌, ◌-◌, ◌^◌, min, Option, Some, None, Ok, Err, option_map, unwrap_or, List, [], ◌∷◌, ◌++◌, length, refl, ap, ◌∙◌, arith, append_assoc, length-append}
 use Rattle.std.specs.List.{filter_map, cons_option}
 use Rattle.std.specs.Option.{option_to_list}
 use Rattle.std.specs.Str.Lines.{lines}
@@ -7,7 +7,6 @@ use Rattle.std.proofs.lemmas.List.{append-nil}
 use Rattle.std.proofs.lemmas.List.Elements.{filter_map-append}
 use Rattle.fileset_model.specs.declared.command.Command.{Command}
 use Rattle.script_text.specs.declared.fault.FaultKind.{FaultKind}
-use Rattle.script_text.specs.declared.script.Script.{Script}
 use Rattle.script_text.specs.declared.script.Section.{Section}
 use Rattle.script_text.specs.declared.statement.Statement.{Statement}
 use Rattle.script_text.specs.declared.statement.Statement.TheVariants.{Opens, Gives}

@@ -1,5 +1,5 @@
 -- The forms of words: numbers, names of filesets, places and bytes.
-use Rattle.std.specs.Prelude.{ℕ, ◌+◌, ◌-◌, ◌^◌, Bool, ◌&&◌, ◌||◌, not, ◌==◌, if◌then◌else◌, nat_le, nat_lt, Option, Some, None, option_and_then, List, [], ◌∷◌, length, take, drop, slice_index, codes}
+use Rattle.std.specs.Prelude.{ℕ, ◌-◌, ◌^◌, Bool, ◌&&◌, ◌||◌, not, ◌==◌, if◌then◌else◌, nat_le, nat_lt, Option, Some, None, option_and_then, List, [], ◌∷◌, length, take, drop, slice_index, codes}
 use Rattle.std.specs.List.{list_all, before_first, after_first}
 use Rattle.std.specs.Char.{is_ascii_digit, is_ascii_alphanumeric}
 use Rattle.std.specs.Str.{bytes_eq}
