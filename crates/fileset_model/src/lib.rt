@@ -2,17 +2,38 @@
 //! plain slow program that answers them.
 #![tactic(auto)]
 
+mod answers;
+mod change;
 mod command;
+mod entries;
 mod entry;
+mod fileset;
+mod filesets;
+mod laws;
 mod listing;
 mod names;
+mod names_commands;
+mod node;
+mod page_map;
+mod quota;
 mod reply;
+mod rows;
+mod walk;
+mod whole;
 
+pub use answers::apply;
 pub use command::{Actor, Command, CommandList, Owner, Place};
 pub use entry::Entry;
+pub use fileset::{FilesetSlot, FilesetTree, Limits, NumberSet, Role};
+pub use filesets::Filesets;
 pub use listing::Listing;
 pub use names::{Bytes, FilesetName, Name, Path};
+pub use node::Node;
+pub use page_map::PageMap;
 pub use reply::{
     ExtentItem, ExtentList, FilesetItem, FilesetList, NameItem, NameList, Refusal, Reply,
     VolumeItem, VolumeList,
 };
+
+#[cfg(test)]
+mod tests;
