@@ -1,0 +1,8 @@
+//! Racks of volumes that may stop at any moment, and the model of what such a stop leaves.
+#![tactic(auto)]
+
+mod rack;
+mod volume;
+
+pub use rack::Rack;
+pub use volume::Volume;
