@@ -4,7 +4,7 @@ use Rattle.std.proofs.lemmas.Bool.{cases_lt, lt-leb, le-leb, lt-ltb, le-ltb, and
 use Rattle.std.proofs.lemmas.Bool.Decides.{nat_tests}
 use Rattle.std.proofs.lemmas.List.{places, get_or-replicate, length-replicate}
 use borrow.Rule.Slice.PartMut.{put_mid}
-use Rattle.volume_disk.specs.Volume.{overlaid, marked}
+use Rattle.volume_disk.specs.Moment.{overlaid, marked}
 
 module _ {X : Type 0} (a n : ℕ) (xs ys : List X) (size : length ys ≡ n) (fits : a + n ≤ length xs) (k : ℕ) (d : X) where
   below : k < a → get_or (put_mid a n xs ys) k d ≡ get_or xs k d

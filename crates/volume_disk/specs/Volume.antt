@@ -1,5 +1,5 @@
 -- What volumes in memory hold.
-use Rattle.std.specs.Prelude.{◌≡◌, ◌/◌, ◌==◌, ◌&&◌, ◌||◌, ℕ, zero, suc, ◌+◌, ◌-◌, nat_lt, nat_le, if◌then◌else◌, Bool, false, List, [], ◌∷◌, length, map, slice_index, slice_index_or}
+use Rattle.std.specs.Prelude.{◌≡◌, ◌/◌, ℕ, zero, suc, Bool, false, List, [], ◌∷◌, map, slice_index, slice_index_or}
 use Rattle.volume_disk.specs.Disk.{Moment}
 use Rattle.volume_disk.specs.declared.volume.Volume.{Volume}
 
@@ -9,14 +9,6 @@ byte_of volume k = slice_index volume.bytes.items k
 -- a place's block is marked as not synced
 abbrev pub mark_of : Volume → ℕ → Bool
 mark_of volume k = slice_index_or volume.unsynced.items (k / 512) false
-
--- these bytes from `at` on, over what was there
-abbrev pub overlaid : (ℕ → ℕ) → ℕ → List ℕ → ℕ → ℕ
-overlaid each at bytes k = if nat_le at k && nat_lt k (at + length bytes) then slice_index bytes (k - at) else each k
-
--- n marks from `at` on, over those that were there
-abbrev pub marked : (ℕ → Bool) → ℕ → ℕ → ℕ → Bool
-marked each at n k = (nat_le at k && nat_lt k (at + n)) || each k
 
 -- of the volume at this index, or d past the last
 abbrev pub field_at : {X : Type 0} → (Volume → X) → X → List Volume → ℕ → X

@@ -3,6 +3,7 @@
 
 mod rack;
 mod volume;
+mod volumes;
 
 pub use rack::Rack;
-pub use volume::Volume;
+use volume::Volume;

@@ -18,7 +18,8 @@ pub struct Volume {
 }
 
 impl Volume {
-    ghost use Rattle.volume_disk.specs.Volume.{byte_of, mark_of, overlaid, marked};
+    ghost use Rattle.volume_disk.specs.Moment.{overlaid, marked};
+    ghost use Rattle.volume_disk.specs.Volume.{byte_of, mark_of};
 
     /// A volume of zeros.
     pub fn zeros(alloc: Global, pages: u32) -> Result<Self, OutOfMemory>
