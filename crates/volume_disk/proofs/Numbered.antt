@@ -24,17 +24,17 @@ module _ {X : Type 0} (f : Volume → X) (d : X) where
   field_at-get_or (x ∷ volumes) zero v lt = refl
   field_at-get_or (x ∷ volumes) (suc i) v lt = field_at-get_or volumes i v (omega arith)
 
-  module _ (volumes : List Volume) (vol i : ℕ) (x v : Volume) (number : i + 1 ≡ vol) (lt : i < length volumes) where
+  module _ (volumes : List Volume) (vol i : ℕ) (x v : Volume) (number : i + 1 ≡ vol) (lt : i < length volumes) (read : v ≡ get_or volumes i v) where
     -- what is read of a volume by its number
-    pub field_of-get_or : field_of f d volumes vol ≡ f (get_or volumes i v)
-    field_of-get_or = ap (field_of f d volumes) (sym number ∙ add-one i) ∙ field_at-get_or volumes i v lt
+    pub field_of-read : field_of f d volumes vol ≡ f v
+    field_of-read = ap (field_of f d volumes) (sym number ∙ add-one i) ∙ field_at-get_or volumes i v lt ∙ ap f (sym read)
 
     -- the volume in that place is changed by g
-    pub changed_by : (g : X → X) → f x ≡ g (f (get_or volumes i v)) → field_of f d (set volumes i x) ≡ put_at (field_of f d volumes) vol (g (field_of f d volumes vol))
+    pub changed_by : (g : X → X) → f x ≡ g (f v) → field_of f d (set volumes i x) ≡ put_at (field_of f d volumes) vol (g (field_of f d volumes vol))
     changed_by g same = λ j k. place k j
       where
         is : f x ≡ g (field_of f d volumes vol)
-        is = same ∙ ap g (sym field_of-get_or)
+        is = same ∙ ap g (sym field_of-read)
 
         place : (k : ℕ) → field_of f d (set volumes i x) k ≡ put_at (field_of f d volumes) vol (g (field_of f d volumes vol)) k
         place zero = rw (ne_eqb zero vol (λ e. absurd (omega arith))) refl
@@ -44,28 +44,31 @@ module _ {X : Type 0} (f : Volume → X) (d : X) where
         ]
 
     -- the volume in that place keeps it
-    pub kept_by : f x ≡ f (get_or volumes i v) → field_of f d (set volumes i x) ≡ field_of f d volumes
+    pub kept_by : f x ≡ f v → field_of f d (set volumes i x) ≡ field_of f d volumes
     kept_by same = λ j k. place k j
       where
         place : (k : ℕ) → field_of f d (set volumes i x) k ≡ field_of f d volumes k
         place zero = refl
         place (suc k) = elim (cases_eq k i) [
-          | inl e ↦ rw e (field_at-set_same volumes i x lt ∙ same ∙ sym (field_at-get_or volumes i v lt))
+          | inl e ↦ rw e (field_at-set_same volumes i x lt ∙ same ∙ ap f read ∙ sym (field_at-get_or volumes i v lt))
           | inr e ↦ field_at-set_other volumes i k x e
         ]
 
-pub sizes_of-set : (volumes : List Volume) (i : ℕ) (x v : Volume) → x.pages ≡ (get_or volumes i v).pages → i < length volumes → sizes_of (set volumes i x) ≡ sizes_of volumes
-sizes_of-set [] i x v same lt = refl
-sizes_of-set (y ∷ volumes) zero x v same lt = ap (λ (p : ℕ). p ∷ sizes_of volumes) same
-sizes_of-set (y ∷ volumes) (suc i) x v same lt = ap (λ (l : List ℕ). y.pages ∷ l) (sizes_of-set volumes i x v same (omega arith))
+pub sizes_of-set : (volumes : List Volume) (i : ℕ) (x v : Volume) → v ≡ get_or volumes i v → x.pages ≡ v.pages → i < length volumes → sizes_of (set volumes i x) ≡ sizes_of volumes
+sizes_of-set [] i x v read same lt = refl
+sizes_of-set (y ∷ volumes) zero x v read same lt = λ j. (same ∙ pages_path read) j ∷ sizes_of volumes
+  where
+    pages_path : v ≡ y → v.pages ≡ y.pages
+    pages_path e = λ j. (e j).pages
+sizes_of-set (y ∷ volumes) (suc i) x v read same lt = ap (λ (l : List ℕ). y.pages ∷ l) (sizes_of-set volumes i x v read same (omega arith))
 
 pages_at : (volumes : List Volume) (i : ℕ) (v : Volume) → i < length volumes → get_or (sizes_of volumes) i 0 ≡ (get_or volumes i v).pages
 pages_at [] i v lt = absurd (omega arith)
 pages_at (y ∷ volumes) zero v lt = refl
 pages_at (y ∷ volumes) (suc i) v lt = pages_at volumes i v (omega arith)
 
-pub pages_of-get_or : (volumes : List Volume) (vol i : ℕ) (v : Volume) → i + 1 ≡ vol → i < length volumes → pages_of (sizes_of volumes) vol ≡ (get_or volumes i v).pages
-pages_of-get_or volumes vol i v number lt = ap (pages_of (sizes_of volumes)) (sym number ∙ add-one i) ∙ pages_at volumes i v lt
+pub pages_of-read : (volumes : List Volume) (vol i : ℕ) (v : Volume) → i + 1 ≡ vol → i < length volumes → v ≡ get_or volumes i v → pages_of (sizes_of volumes) vol ≡ v.pages
+pages_of-read volumes vol i v number lt read = ap (pages_of (sizes_of volumes)) (sym number ∙ add-one i) ∙ pages_at volumes i v lt ∙ (λ j. (sym read j).pages)
 
 pub same_moment : (c c' : Image) (u u' : ℕ → ℕ → Bool) → c ≡ c' → u ≡ u' → let m : Moment = record { contents = c; unsynced = u } in let m' : Moment = record { contents = c'; unsynced = u' } in m ≡ m'
 same_moment c c' u u' p q = λ i. record { contents = p i; unsynced = q i }
