@@ -1,5 +1,5 @@
 -- The calls that a rack in memory keeps, and what they make of the moment at its making.
-use Rattle.std.specs.Prelude.{◌≡◌, ℕ, ◌+◌, ◌*◌, ◌%◌, ◌≤◌, nat_le, if◌then◌else◌, List, [], ◌∷◌, length}
+use Rattle.std.specs.Prelude.{◌≡◌, ℕ, ◌+◌, ◌*◌, ◌%◌, ◌≤◌, nat_le, if◌then◌else◌, Bool, false, IsTrue, List, [], ◌∷◌, ◌++◌, length}
 use Rattle.volume_disk.specs.Disk.{Moment, pages_of}
 use Rattle.volume_disk.specs.Moment.{written, torn, synced}
 use Rattle.volume_disk.specs.declared.kept.Effect.{Effect}
@@ -33,3 +33,18 @@ pub record FitsIn (sizes : List ℕ) (call : KeptCall) : Type 0 where
   pub in_rack : call.vol ≤ length sizes
   pub whole : size_of call.effect % 512 ≡ 0
   pub within : 512 * block_of call.effect + size_of call.effect ≤ 8192 * pages_of sizes call.vol
+
+-- a call with this number is added, of so many bytes of a volume from a block on, which makes of each moment the one after
+pub record IsAdded (old new : List KeptCall) (number vol block size : ℕ) (next : Moment → Moment) : Type 0 where
+  pub call : KeptCall
+  pub last : new ≡ old ++ call ∷ []
+  pub number_is : call.number ≡ number
+  pub vol_is : call.vol ≡ vol
+  pub block_is : block_of call.effect ≡ block
+  pub size_is : size_of call.effect ≡ size
+  pub next_is : (moment : Moment) → effect_on moment call.vol call.effect ≡ next moment
+
+-- where calls are kept, such a call is added
+pub record Adds (keeps : Bool) (old new : List KeptCall) (number vol block size : ℕ) (next : Moment → Moment) : Type 0 where
+  pub kept : IsTrue keeps → IsAdded old new number vol block size next
+  pub unkept : keeps ≡ false → new ≡ old

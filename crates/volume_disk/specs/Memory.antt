@@ -4,13 +4,10 @@ use Rattle.std.specs.List.{list_any}
 use Rattle.volume_disk.specs.Disk.{Disk, Moment}
 use Rattle.volume_disk.specs.Image.{Image}
 use Rattle.volume_disk.specs.Kept.{replayed}
+use Rattle.volume_disk.specs.Moment.{blank}
 use Rattle.volume_disk.specs.Volume.{moment_of, sizes_of, read_faults_of, write_faults_of}
 use Rattle.volume_disk.specs.declared.kept.KeptCall.{KeptCall}
 use Rattle.volume_disk.specs.declared.memory.MemoryRack.{MemoryRack}
-
--- volumes of zeros
-abbrev pub blank : Moment
-blank = record { contents = λ _ _. 0; unsynced = λ _ _. false }
 
 -- the moments after the calls of before
 abbrev pub past_of : Bool → ℕ → Moment → List KeptCall → ℕ → Moment

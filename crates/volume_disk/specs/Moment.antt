@@ -2,6 +2,10 @@
 use Rattle.std.specs.Prelude.{◌&&◌, ◌||◌, ℕ, ◌+◌, ◌-◌, nat_lt, nat_le, if◌then◌else◌, Bool, false, List, length, slice_index}
 use Rattle.volume_disk.specs.Disk.{Moment, put_at}
 
+-- volumes of zeros, all of them synced
+abbrev pub blank : Moment
+blank = record { contents = λ _ _. 0; unsynced = λ _ _. false }
+
 -- these bytes from `at` on, over what was there
 abbrev pub overlaid : (ℕ → ℕ) → ℕ → List ℕ → ℕ → ℕ
 overlaid each at bytes k = if nat_le at k && nat_lt k (at + length bytes) then slice_index bytes (k - at) else each k

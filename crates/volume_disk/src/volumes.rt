@@ -1,11 +1,14 @@
 //! The volumes of a rack in memory, by their numbers.
-ghost use Rattle.std.specs.Prelude.{◌≡◌, ◌+◌, ◌*◌, ◌%◌, ◌≤◌, length, vec_len};
+ghost use Rattle.std.specs.Prelude.{◌≡◌, ◌+◌, ◌*◌, ◌%◌, ◌≤◌, length, vec_len, IfOk};
 ghost use Rattle.volume_disk.specs.Disk.{pages_of, raised_at};
-ghost use Rattle.volume_disk.specs.Moment.{written, torn, synced};
+ghost use Rattle.volume_disk.specs.Image.{bytes_at};
+ghost use Rattle.volume_disk.specs.Moment.{blank, written, torn, synced};
 ghost use Rattle.volume_disk.specs.Volume.{moment_of, sizes_of, read_faults_of, write_faults_of, SameCounts};
 
 use crate::Volume;
-use domain_base::VolIx;
+use domain_base::limits::BLOCK_BYTES;
+use domain_base::{OutOfMemory, VolIx};
+use std::alloc::Global;
 
 /// Up to eight volumes, numbered from 1.
 #[derive(Drop)]
@@ -15,6 +18,62 @@ pub struct Volumes {
 }
 
 impl Volumes {
+    /// Volumes of zeros, of so many pages each.
+    pub fn zeros(alloc: Global, sizes: &[u32]) -> Result<Self, OutOfMemory>
+        requires { length sizes.now ≤ 8 }
+        ensures moment { IfOk result (λ volumes. moment_of volumes.items.items ≡ blank) }
+        ensures sizes { IfOk result (λ volumes. sizes_of volumes.items.items ≡ sizes.now) }
+        ensures read_faults { IfOk result (λ volumes. read_faults_of volumes.items.items ≡ (λ _. 0)) }
+        ensures write_faults { IfOk result (λ volumes. write_faults_of volumes.items.items ≡ (λ _. 0)) }
+    {
+        let mut items = Vec::new(alloc);
+        for pages in sizes {
+            items.push(Volume::zeros(alloc, *pages)?)?;
+        }
+        Ok(Volumes { items })
+    }
+
+    /// The pages of a volume; 0 where there is no such volume.
+    pub fn pages(&self, vol: VolIx) -> u32
+        ensures { result ≡ pages_of (sizes_of self.now.items.items) vol }
+    {
+        match self.items.get(vol.index()) {
+            Some(volume) => volume.pages,
+            None => 0,
+        }
+    }
+
+    /// How many reads of a volume failed.
+    pub fn read_faults(&self, vol: VolIx) -> u64
+        ensures { result ≡ read_faults_of self.now.items.items vol }
+    {
+        match self.items.get(vol.index()) {
+            Some(volume) => volume.read_faults,
+            None => 0,
+        }
+    }
+
+    /// How many writes and syncs of a volume failed.
+    pub fn write_faults(&self, vol: VolIx) -> u64
+        ensures { result ≡ write_faults_of self.now.items.items vol }
+    {
+        match self.items.get(vol.index()) {
+            Some(volume) => volume.write_faults,
+            None => 0,
+        }
+    }
+
+    /// Reads whole blocks of a volume from a block on.
+    pub fn read(&self, vol: VolIx, block: u32, out: &mut [u8])
+        requires in_rack { vol ≤ length self.now.items.items }
+        requires within { 512 * block + length out.old ≤ 8192 * pages_of (sizes_of self.now.items.items) vol }
+        ensures { out.new ≡ bytes_at (moment_of self.now.items.items).contents vol (512 * block) (length out.old) }
+    {
+        let at = BLOCK_BYTES * block as usize;
+        let volume = &self.items[vol.index()];
+        out.copy_from_slice(&volume.bytes[at..at + out.len()]);
+    }
+
     /// Writes whole blocks of a volume from a block on.
     pub fn write(&mut self, vol: VolIx, block: u32, bytes: &[u8])
         requires in_rack { vol ≤ length self.old.items.items }
