@@ -1,9 +1,10 @@
 -- What a change of one volume leaves of all.
-use Rattle.std.proofs.Common.{◌≡◌, ◌≢◌, ℕ, zero, suc, ◌+◌, ◌<◌, Bool, List, [], ◌∷◌, length, get_or, set, map, eqb, refl, sym, ◌∙◌, ap, inl, inr, arith, add-one}
+use Rattle.std.proofs.Common.{◌≡◌, ◌≢◌, ℕ, zero, suc, ◌+◌, ◌<◌, ◌≤◌, Bool, false, List, [], ◌∷◌, ◌++◌, length, get_or, set, map, eqb, refl, sym, ◌∙◌, ap, inl, inr, arith, add-one}
 use Rattle.std.proofs.lemmas.Bool.{cases_eq, eq-eqb, ne_eqb}
 use Rattle.volume_disk.specs.Disk.{Moment, pages_of, put_at}
 use Rattle.volume_disk.specs.Image.{Image}
-use Rattle.volume_disk.specs.Volume.{byte_of, field_at, field_of, sizes_of}
+use Rattle.volume_disk.specs.Moment.{blank}
+use Rattle.volume_disk.specs.Volume.{byte_of, mark_of, field_at, field_of, moment_of, sizes_of}
 use Rattle.volume_disk.specs.declared.volume.Volume.{Volume}
 
 module _ {X : Type 0} (f : Volume → X) (d : X) where
@@ -23,6 +24,29 @@ module _ {X : Type 0} (f : Volume → X) (d : X) where
   field_at-get_or [] i v lt = absurd (omega arith)
   field_at-get_or (x ∷ volumes) zero v lt = refl
   field_at-get_or (x ∷ volumes) (suc i) v lt = field_at-get_or volumes i v (omega arith)
+
+  field_at-past : (volumes : List Volume) (i : ℕ) → length volumes ≤ i → field_at f d volumes i ≡ d
+  field_at-past [] i le = refl
+  field_at-past (x ∷ volumes) zero le = absurd (omega arith)
+  field_at-past (x ∷ volumes) (suc i) le = field_at-past volumes i (omega arith)
+
+  -- past the last volume
+  pub field_of-past : (volumes : List Volume) (vol i : ℕ) → i + 1 ≡ vol → length volumes ≤ i → field_of f d volumes vol ≡ d
+  field_of-past volumes vol i number le = ap (field_of f d volumes) (sym number ∙ add-one i) ∙ field_at-past volumes i le
+
+  field_at-push : (volumes : List Volume) (x : Volume) → ((i : ℕ) → field_at f d volumes i ≡ d) → f x ≡ d → (i : ℕ) → field_at f d (volumes ++ x ∷ []) i ≡ d
+  field_at-push [] x none last zero = last
+  field_at-push [] x none last (suc i) = refl
+  field_at-push (y ∷ volumes) x none last zero = none 0
+  field_at-push (y ∷ volumes) x none last (suc i) = field_at-push volumes x (λ j. none (suc j)) last i
+
+  -- one volume more where every volume has d
+  pub field_of-push : (volumes : List Volume) (x : Volume) → field_of f d volumes ≡ (λ _. d) → f x ≡ d → field_of f d (volumes ++ x ∷ []) ≡ (λ _. d)
+  field_of-push volumes x none last = λ j vol. place vol j
+    where
+      place : (vol : ℕ) → field_of f d (volumes ++ x ∷ []) vol ≡ d
+      place zero = refl
+      place (suc i) = field_at-push volumes x (λ k. ap (λ (g : ℕ → X). g (suc k)) none) last i
 
   module _ (volumes : List Volume) (vol i : ℕ) (x v : Volume) (number : i + 1 ≡ vol) (lt : i < length volumes) (read : v ≡ get_or volumes i v) where
     -- what is read of a volume by its number
@@ -75,3 +99,14 @@ same_moment c c' u u' p q = λ i. record { contents = p i; unsynced = q i }
 
 pub same_bytes : (x y : Volume) → x.bytes ≡ y.bytes → byte_of x ≡ byte_of y
 same_bytes x y same = λ i k. get_or (same i).items k 0
+
+-- one volume of zeros more
+pub moment_of-push : (volumes : List Volume) (x : Volume) → moment_of volumes ≡ blank → byte_of x ≡ (λ _. 0) → mark_of x ≡ (λ _. false) → moment_of (volumes ++ x ∷ []) ≡ blank
+moment_of-push volumes x was bytes marks =
+    same_moment _ _ _ _
+      (field_of-push byte_of (λ _. 0) volumes x (λ i. (was i).contents) bytes)
+      (field_of-push mark_of (λ _. false) volumes x (λ i. (was i).unsynced) marks)
+
+pub sizes_of-push : (volumes : List Volume) (x : Volume) → sizes_of (volumes ++ x ∷ []) ≡ sizes_of volumes ++ x.pages ∷ []
+sizes_of-push [] x = refl
+sizes_of-push (y ∷ volumes) x = ap (λ (l : List ℕ). y.pages ∷ l) (sizes_of-push volumes x)
