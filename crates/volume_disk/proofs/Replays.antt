@@ -1,6 +1,7 @@
 -- What the kept calls make of the moment at the making of a rack.
-use Rattle.std.proofs.Common.{◌≡◌, ◌≢◌, ◌==◌, ◌&&◌, ◌⊎◌, ℕ, zero, suc, ◌+◌, ◌-◌, ◌*◌, ◌%◌, ◌^◌, ◌<◌, ◌≤◌, min, nat_lt, nat_le, Bool, true, false, cond, IsTrue, Result, Ok, Err, is_err, OnOk, OnErr, List, [], ◌∷◌, ◌++◌, length, get_or, refl, sym, ◌∙◌, ap, subst, inl, inr, arith}
+use Rattle.std.proofs.Common.{◌≡◌, ◌≢◌, ◌==◌, ◌&&◌, ◌⊎◌, ℕ, zero, suc, ◌+◌, ◌-◌, ◌*◌, ◌%◌, ◌^◌, ◌<◌, ◌≤◌, min, nat_lt, nat_le, Bool, true, false, cond, IsTrue, Result, Ok, Err, is_err, OnOk, OnErr, List, [], ◌∷◌, ◌++◌, length, get_or, take, refl, sym, ◌∙◌, ap, subst, inl, inr, arith}
 use Rattle.std.proofs.lemmas.Bool.{cases_order, cases_lt, eq-eqb, ne_eqb, lt-ltb, le-ltb, le-leb, lt-leb}
+use Rattle.std.proofs.lemmas.List.{take_all}
 use Rattle.volume_disk.specs.Disk.{Moment, raised, pages_of}
 use Rattle.volume_disk.specs.Kept.{effect_on, replayed, FitsIn, IsAdded, Adds}
 use Rattle.volume_disk.specs.Memory.{past_of}
@@ -147,3 +148,25 @@ module _ (keeps : Bool) (calls next : ℕ) (one_more : next ≡ raised calls) (f
 
   pub past_goes_on : past_of keeps next first later ≡ with_now keeps calls now first kept
   past_goes_on = λ i t. place keeps replays t i
+
+-- before the first call there is no moment
+pub past_of-none : (keeps : Bool) (first : Moment) (kept : List KeptCall) → past_of keeps 0 first kept ≡ (λ _. blank)
+past_of-none keeps first kept = λ i t. place keeps t i
+  where
+    place : (k : Bool) (t : ℕ) → past_of k 0 first kept t ≡ blank
+    place false t = refl
+    place true t = let none : nat_lt t 0 ≡ false = le-ltb t 0 (omega arith) in rw none refl
+
+-- at most eight
+pub take-eight : (sizes : List ℕ) (n : ℕ) → n ≡ min (length sizes) 8 → take n sizes ≡ take 8 sizes
+take-eight sizes n is = elim (cases_lt (length sizes) 8) [
+  | inl lt ↦ take_all n sizes (omega arith) ∙ sym (take_all 8 sizes (omega arith))
+  | inr le ↦ let eight : n ≡ 8 = omega arith in rw eight refl
+]
+
+-- no call is kept yet
+pub AreUpTo-none : (n : ℕ) (calls : List KeptCall) → calls ≡ [] → AreUpTo n calls
+AreUpTo-none n calls none k d lt = absurd (omega (arith, ap length none))
+
+pub AreFit-none : (sizes : List ℕ) (calls : List KeptCall) → calls ≡ [] → AreFit sizes calls
+AreFit-none sizes calls none k d lt = absurd (omega (arith, ap length none))
