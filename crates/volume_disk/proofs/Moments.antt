@@ -5,10 +5,10 @@ use Rattle.volume_disk.specs.Disk.{Moment, put_at, MayTear, Writes, Syncs}
 use Rattle.volume_disk.specs.Image.{IsIn}
 use Rattle.volume_disk.specs.Moment.{overlaid, marked, torn, written, synced}
 
-put_at-same : {X : Type 0} (each : ℕ → X) (vol : ℕ) (x : X) → put_at each vol x vol ≡ x
+pub put_at-same : {X : Type 0} (each : ℕ → X) (vol : ℕ) (x : X) → put_at each vol x vol ≡ x
 put_at-same each vol x = let at : (vol == vol) ≡ true = eq-eqb vol vol refl in rw at refl
 
-put_at-other : {X : Type 0} (each : ℕ → X) (vol v : ℕ) (x : X) → v ≢ vol → put_at each vol x v ≡ each v
+pub put_at-other : {X : Type 0} (each : ℕ → X) (vol v : ℕ) (x : X) → v ≢ vol → put_at each vol x v ≡ each v
 put_at-other each vol v x other = let at : (v == vol) ≡ false = ne_eqb v vol other in rw at refl
 
 inside : (at n k : ℕ) → at ≤ k → k < at + n → (leb at k && ltb k (at + n)) ≡ true

@@ -12,7 +12,7 @@ returns-clause-moment c =
 
 pub returns-clause-read_faults : goal.returns-clause-read_faults
 returns-clause-read_faults c =
-    changed_by (λ v. v.read_faults) 0 c.args.self.now.items.items c.args.vol c.index.result _ c.index_mut-volume.result.now c.index.ensures.value (omega arith) c.index_mut-volume.ensures.value raised c.saturating_add-volume.ensures
+    changed_by (λ v. v.read_faults) 0 c.args.self.now.items.items c.args.vol c.index.result _ c.index_mut-volume.result.now c.index.ensures.value (omega arith) c.index_mut-volume.ensures.value raised (omega (arith, c.saturating_add-volume.ensures))
 
 pub returns-clause-write_faults : goal.returns-clause-write_faults
 returns-clause-write_faults c =
