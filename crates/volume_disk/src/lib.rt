@@ -1,6 +1,7 @@
 //! Racks of volumes that may stop at any moment, and the model of what such a stop leaves.
 #![tactic(auto)]
 
+mod fuse;
 mod kept;
 mod memory;
 
@@ -9,6 +10,7 @@ mod volume;
 mod volumes;
 
 
+pub use fuse::FuseRack;
 pub use memory::MemoryRack;
 pub use rack::Rack;
 use volume::Volume;
