@@ -136,8 +136,8 @@ module _ {T E : Type 0} (old new : Disk) (vol at n : ℕ) (out : List ℕ) (resu
   pub read_elapses : IsTrue old.told → Elapses old new
   read_elapses told =
       by_result result done failed
-        (λ d. elapses old new old.read_faults old.write_faults old.now d.makes told (inl d.passed.0))
-        (λ f. elapses old new (raised_at old.read_faults vol) old.write_faults old.now f told (inr (same_moment old.now new.now (f.now told))))
+      (λ d. elapses old new old.read_faults old.write_faults old.now d.makes told (inl d.passed.0))
+      (λ f. elapses old new (raised_at old.read_faults vol) old.write_faults old.now f told (inr (same_moment old.now new.now (f.now told))))
 
 module _ {T E : Type 0} (old new : Disk) (vol at : ℕ) (bytes : List ℕ) (result : Result T E) (done : OnOk result (WriteDone old new vol at bytes)) (failed : OnErr result (WriteFailed old new vol at (length bytes))) where
   pub write_told : IsTrue old.told → IsTrue new.told
@@ -149,8 +149,8 @@ module _ {T E : Type 0} (old new : Disk) (vol at : ℕ) (bytes : List ℕ) (resu
   pub write_elapses : IsTrue old.told → Elapses old new
   write_elapses told =
       by_result result done failed
-        (λ d. elapses old new old.read_faults old.write_faults new.now d.makes told (inl d.passed.0))
-        (λ f. elapses old new old.read_faults (raised_at old.write_faults vol) new.now f.makes told (inr (λ image. torn_keeps vol at (length bytes) old.now new.now image (f.tears told))))
+      (λ d. elapses old new old.read_faults old.write_faults new.now d.makes told (inl d.passed.0))
+      (λ f. elapses old new old.read_faults (raised_at old.write_faults vol) new.now f.makes told (inr (λ image. torn_keeps vol at (length bytes) old.now new.now image (f.tears told))))
 
 module _ {T E : Type 0} (old new : Disk) (vol : ℕ) (result : Result T E) (done : OnOk result (SyncDone old new vol)) (failed : OnErr result (SyncFailed old new vol)) where
   pub sync_told : IsTrue old.told → IsTrue new.told
@@ -163,14 +163,14 @@ module _ {T E : Type 0} (old new : Disk) (vol : ℕ) (result : Result T E) (done
   pub sync_leaves : IsTrue old.told → (image : Image) → MayLeave new.now image → MayLeave old.now image
   sync_leaves told image left =
       by_result result done failed
-        (λ d. (synced_follows vol old.now new.now image (d.syncs told) left).0)
-        (λ f. same_moment new.now old.now (sym (f.now told)) image left)
+      (λ d. (synced_follows vol old.now new.now image (d.syncs told) left).0)
+      (λ f. same_moment new.now old.now (sym (f.now told)) image left)
 
   pub sync_elapses : IsTrue old.told → Elapses old new
   sync_elapses told =
       by_result result done failed
-        (λ d. elapses old new old.read_faults old.write_faults new.now d.makes told (inl d.passed.0))
-        (λ f. elapses old new old.read_faults (raised_at old.write_faults vol) old.now f told (inr (same_moment old.now new.now (f.now told))))
+      (λ d. elapses old new old.read_faults old.write_faults new.now d.makes told (inl d.passed.0))
+      (λ f. elapses old new old.read_faults (raised_at old.write_faults vol) old.now f told (inr (same_moment old.now new.now (f.now told))))
 
 -- Runs of calls.
 

@@ -1,8 +1,8 @@
 -- What the kept calls make of the moment at the making of a rack.
-use Rattle.std.proofs.Common.{◌≡◌, ◌≢◌, ◌==◌, ◌&&◌, ◌⊎◌, ℕ, zero, suc, ◌+◌, ◌-◌, ◌*◌, ◌%◌, ◌^◌, ◌<◌, ◌≤◌, min, nat_lt, nat_le, Bool, true, false, cond, IsTrue, Result, Ok, Err, is_err, OnOk, OnErr, List, [], ◌∷◌, ◌++◌, length, get_or, take, refl, sym, ◌∙◌, ap, subst, inl, inr, arith}
+use Rattle.std.proofs.Common.{◌≡◌, ◌≢◌, ◌==◌, ◌&&◌, ◌⊎◌, ℕ, zero, suc, ◌+◌, ◌-◌, ◌*◌, ◌%◌, ◌^◌, ◌<◌, ◌≤◌, min, nat_lt, nat_le, Bool, true, false, cond, IsTrue, Result, Ok, Err, is_err, OnOk, OnErr, List, [], ◌∷◌, ◌++◌, length, get_or, take, drop, refl, sym, ◌∙◌, ap, subst, inl, inr, arith}
 use Rattle.std.proofs.lemmas.Bool.{cases_order, cases_lt, eq-eqb, ne_eqb, lt-ltb, le-ltb, le-leb, lt-leb}
-use Rattle.std.proofs.lemmas.List.{take_all}
-use Rattle.volume_disk.specs.Disk.{Moment, raised, pages_of}
+use Rattle.std.proofs.lemmas.List.{take_all, drop_more}
+use Rattle.volume_disk.specs.Disk.{Disk, Moment, moment_at, raised, pages_of}
 use Rattle.volume_disk.specs.Kept.{effect_on, replayed, FitsIn, IsAdded, Adds}
 use Rattle.volume_disk.specs.Memory.{past_of}
 use Rattle.volume_disk.specs.Moment.{blank}
@@ -106,7 +106,7 @@ abbrev pub with_now : Bool → ℕ → Moment → Moment → List KeptCall → �
 with_now keeps calls now first kept t = cond (keeps && (t == calls) && nat_lt t (2 ^ 64 - 1)) now (past_of keeps calls first kept t)
 
 module _ (keeps : Bool) (calls next : ℕ) (one_more : next ≡ raised calls) (first now : Moment) (kept later : List KeptCall) (range : calls ≤ 2 ^ 64 - 1)
-         (same : (t : ℕ) → t ≤ calls → replayed first later t ≡ replayed first kept t) (replays : IsTrue keeps → replayed first kept calls ≡ now) where
+    (same : (t : ℕ) → t ≤ calls → replayed first later t ≡ replayed first kept t) (replays : IsTrue keeps → replayed first kept calls ≡ now) where
   abbrev goes_on : Bool → ℕ → Type 0
   goes_on keeps t = past_of keeps next first later t ≡ with_now keeps calls now first kept t
 
@@ -170,3 +170,27 @@ AreUpTo-none n calls none k d lt = absurd (omega (arith, ap length none))
 
 pub AreFit-none : (sizes : List ℕ) (calls : List KeptCall) → calls ≡ [] → AreFit sizes calls
 AreFit-none sizes calls none k d lt = absurd (omega (arith, ap length none))
+
+replayed-drop : (moment : Moment) (kept : List KeptCall) (i : ℕ) (call : KeptCall) (t : ℕ) → i < length kept → call ≡ get_or kept i call → replayed moment (drop i kept) t ≡ replayed (step moment call t) (drop (i + 1) kept) t
+replayed-drop moment kept i call t lt read =
+    ap (λ (l : List KeptCall). replayed moment l t) (drop_more kept i call lt ∙ ap (λ (c : KeptCall). c ∷ drop (i + 1) kept) (sym read))
+
+-- a kept call up to t is made, and a later one is not
+pub replayed-made : (moment : Moment) (kept : List KeptCall) (i : ℕ) (call : KeptCall) (t : ℕ) → i < length kept → call ≡ get_or kept i call → call.number ≤ t → replayed moment (drop i kept) t ≡ replayed (effect_on moment call.vol call.effect) (drop (i + 1) kept) t
+replayed-made moment kept i call t lt read le = replayed-drop moment kept i call t lt read ∙ (let test : nat_le call.number t ≡ true = le-leb call.number t le in rw test refl)
+
+pub replayed-passed : (moment : Moment) (kept : List KeptCall) (i : ℕ) (call : KeptCall) (t : ℕ) → i < length kept → call ≡ get_or kept i call → t < call.number → replayed moment (drop i kept) t ≡ replayed moment (drop (i + 1) kept) t
+replayed-passed moment kept i call t lt read later = replayed-drop moment kept i call t lt read ∙ (let test : nat_le call.number t ≡ false = lt-leb call.number t later in rw test refl)
+
+-- the moment after a call, from the kept calls
+pub moment_at-replayed : (disk : Disk) (first : Moment) (kept : List KeptCall) (t : ℕ) → disk.past ≡ past_of true disk.calls first kept → replayed first kept disk.calls ≡ disk.now → t ≤ disk.calls → moment_at disk t ≡ replayed first kept t
+moment_at-replayed disk first kept t past now le = elim (cases_lt t disk.calls) [
+  | inl lt ↦
+      let at : (t == disk.calls) ≡ false = ne_eqb t disk.calls (λ e. omega arith) in
+      let before : nat_lt t disk.calls ≡ true = lt-ltb t disk.calls lt in
+      rw at (ap (λ (p : ℕ → Moment). p t) past ∙ (rw before refl))
+  | inr ge ↦
+      let same : t ≡ disk.calls = omega arith in
+      let at : (t == disk.calls) ≡ true = eq-eqb t disk.calls same in
+      rw at (sym now ∙ ap (λ (n : ℕ). replayed first kept n) (sym same))
+]

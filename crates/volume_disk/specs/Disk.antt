@@ -54,6 +54,10 @@ pub record MayHaveLeft (disk : Disk) (t : ℕ) (image : Image) : Type 0 where
 abbrev pub Since : Disk → ℕ → Image → Type 0
 Since disk t image = ((t ≤ disk.calls) × MayLeave disk.now image) ⊎ MayHaveLeft disk t image
 
+-- the moment after call t
+abbrev pub moment_at : Disk → ℕ → Moment
+moment_at disk t = if t == disk.calls then disk.now else disk.past t
+
 -- nothing is pending: a stop leaves what a read gives
 abbrev pub IsSettled : Moment → Type 0
 IsSettled moment = (v k : ℕ) → moment.unsynced v k ≡ false

@@ -4,11 +4,9 @@
 mod fuse;
 mod kept;
 mod memory;
-
 mod rack;
 mod volume;
 mod volumes;
-
 
 pub use fuse::FuseRack;
 pub use memory::MemoryRack;

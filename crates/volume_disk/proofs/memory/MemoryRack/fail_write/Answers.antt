@@ -2,7 +2,7 @@ use Rattle.std.proofs.Common.{◌≡◌, ℕ, ◌≤◌, ◌<◌, ◌+◌, ◌^�
 use Rattle.volume_disk.specs.Disk.{Moment, MayTear, raised, raised_at}
 use Rattle.volume_disk.specs.Kept.{Adds}
 use Rattle.volume_disk.specs.Moment.{torn}
-use Rattle.volume_disk.specs.Volume.{moment_of, sizes_of}
+use Rattle.volume_disk.specs.Volume.{moment_of, settled_of, sizes_of}
 use Rattle.volume_disk.proofs.Moments.{MayTear-torn, MayTear-same}
 use Rattle.volume_disk.proofs.Replays.{from_err, from_ok, AreUpTo-added, AreFit-added, AreFit-same, replayed-added, replayed-added_before, past_goes_on, with_now}
 use Rattle.volume_disk.proofs.memory.MemoryRack.fail_write.Goals as goal
@@ -42,7 +42,7 @@ returns-then-is_err c =
         told = failed.told;
         kept = failed.kept;
         now = λ told. refl;
-        past = λ told. failed.past told ∙ ap (with_now rack.keeps rack.calls now (moment_of rack.first.items.items)) same;
+        past = λ told. failed.past told ∙ ap (with_now rack.keeps rack.calls now (settled_of rack.first.items.items)) same;
       };
       tears = λ told. subst (MayTear c.args.vol (512 * c.args.block) c.args.size now) (sym (failed.now told)) (MayTear-same now c.args.vol (512 * c.args.block) c.args.size);
     }
@@ -59,7 +59,7 @@ invariant_of-self-2 c =
     let counted = c.count_write_fault.ensures in
     let same_sizes = counted.sizes ∙ torn_counts.sizes in
     let sizes = sizes_of rack.volumes.items.items in
-    let first = moment_of rack.first.items.items in
+    let first = settled_of rack.first.items.items in
     let asked = c.requires in
     record {
       numbered = AreUpTo-added old new rack.calls (rack.calls + 1) c.args.vol c.args.block c.args.size next refl rack.numbered rack.keeps adds;
@@ -78,7 +78,7 @@ returns c =
     let adds : Adds rack.keeps old new (rack.calls + 1) c.args.vol c.args.block c.args.size next = from_ok c.keep.result (sym c.is_err.ensures.value ∙ c.if-is_err.false) c.keep.ensures.ok in
     let torn_counts = c.tear.ensures.counts in
     let counted = c.count_write_fault.ensures in
-    let first = moment_of rack.first.items.items in
+    let first = settled_of rack.first.items.items in
     let now = moment_of rack.volumes.items.items in
     let range : rack.calls ≤ 2 ^ 64 - 1 = omega arith in
     let one_more : rack.calls + 1 ≡ raised rack.calls = omega arith in

@@ -1,6 +1,6 @@
-use Rattle.std.proofs.Common.{◌≡◌, ◌==◌, ℕ, ◌-◌, IsTrue, true, [], List, length, take, refl, sym, ◌∙◌, rules, arith}
+use Rattle.std.proofs.Common.{◌≡◌, ◌==◌, ℕ, ◌-◌, IsTrue, true, false, [], List, length, take, refl, sym, ◌∙◌, rules, arith}
 use Rattle.std.specs.List.{list_any}
-use Rattle.volume_disk.specs.Volume.{moment_of, sizes_of}
+use Rattle.volume_disk.specs.Volume.{moment_of, settled_of, sizes_of}
 use Rattle.volume_disk.proofs.Replays.{AreUpTo-none, AreFit-none, past_of-none, take-eight}
 use Rattle.volume_disk.proofs.memory.MemoryRack.new.Goals.{then-keep_calls, else-keep_calls}
 use Rattle.volume_disk.proofs.memory.MemoryRack.new.Goals as goal
@@ -18,7 +18,7 @@ invariant_of-result c =
       numbered = AreUpTo-none 0 c.new.result.items none;
       fit = AreFit-none (sizes_of all) c.new.result.items none;
       same_sizes = same;
-      replays = λ keeps. rw none (first.moment ∙ sym volumes.moment);
+      replays = λ keeps. rw none ((λ i. record { contents = (first.moment i).contents; unsynced = λ _ _. false }) ∙ sym volumes.moment);
     }
 
 pub returns : goal.returns
@@ -26,7 +26,7 @@ returns c =
     let volumes = c.in_ok-volumes.ensures in
     let sizes = volumes.sizes ∙ take-eight c.args.sizes.now c.min.result c.min.ensures in
     let fails : c.in_ok-to_vec.field-0.items ≡ c.args.fails.now = search rules in
-    let past = past_of-none c.args.keep_calls (moment_of c.in_ok-first.first.items.items) c.new.result.items in
+    let past = past_of-none c.args.keep_calls (settled_of c.in_ok-first.first.items.items) c.new.result.items in
     λ i. record {
       calls = 0;
       sizes = sizes i;

@@ -1,5 +1,5 @@
 use Rattle.std.proofs.Common.{◌≡◌, ◌≤◌, ◌+◌, refl, sym, ◌∙◌, arith}
-use Rattle.volume_disk.specs.Volume.{moment_of}
+use Rattle.volume_disk.specs.Volume.{moment_of, settled_of}
 use Rattle.volume_disk.proofs.Replays.{AreUpTo-later, replayed-past}
 use Rattle.volume_disk.proofs.memory.MemoryRackRack.read.Goals as goal
 
@@ -11,5 +11,5 @@ invariant_of-self c =
       numbered = AreUpTo-later rack.calls (rack.calls + 1) rack.kept.items later rack.numbered;
       fit = rack.fit;
       same_sizes = rack.same_sizes;
-      replays = λ keeps. replayed-past (moment_of rack.first.items.items) rack.kept.items rack.calls (rack.calls + 1) rack.numbered later ∙ rack.replays keeps;
+      replays = λ keeps. replayed-past (settled_of rack.first.items.items) rack.kept.items rack.calls (rack.calls + 1) rack.numbered later ∙ rack.replays keeps;
     }

@@ -2,7 +2,7 @@ use Rattle.std.proofs.Common.{◌≡◌, ◌≤◌, ◌<◌, ◌+◌, ◌^◌, �
 use Rattle.volume_disk.specs.Disk.{Moment, Syncs, pages_of, raised}
 use Rattle.volume_disk.specs.Kept.{Adds}
 use Rattle.volume_disk.specs.Moment.{synced}
-use Rattle.volume_disk.specs.Volume.{moment_of, sizes_of}
+use Rattle.volume_disk.specs.Volume.{moment_of, settled_of, sizes_of}
 use Rattle.volume_disk.proofs.Moments.{Syncs-synced}
 use Rattle.volume_disk.proofs.Replays.{from_err, from_ok, AreUpTo-added, AreFit-added, AreFit-same, replayed-added, replayed-added_before, past_goes_on, with_now}
 use Rattle.volume_disk.proofs.memory.MemoryRackRack.sync.Goals as goal
@@ -21,7 +21,7 @@ returns-then-is_err-clause-failed c =
       told = failed.told;
       kept = failed.kept;
       now = failed.now;
-      past = λ told. failed.past told ∙ ap (with_now rack.keeps rack.calls (moment_of rack.volumes.items.items) (moment_of rack.first.items.items)) same;
+      past = λ told. failed.past told ∙ ap (with_now rack.keeps rack.calls (moment_of rack.volumes.items.items) (settled_of rack.first.items.items)) same;
     }
 
 pub invariant_of-self-2 : goal.invariant_of-self-2
@@ -33,7 +33,7 @@ invariant_of-self-2 c =
     let adds : Adds rack.keeps old new (rack.calls + 1) c.args.vol 0 0 next = from_ok c.keep.result (sym c.is_err.ensures.value ∙ c.if-is_err.false) c.keep.ensures.ok in
     let counts = c.sync.ensures.counts in
     let sizes = sizes_of rack.volumes.items.items in
-    let first = moment_of rack.first.items.items in
+    let first = settled_of rack.first.items.items in
     let within : 512 * 0 + 0 ≤ 8192 * pages_of sizes c.args.vol = omega arith in
     record {
       numbered = AreUpTo-added old new rack.calls (rack.calls + 1) c.args.vol 0 0 next refl rack.numbered rack.keeps adds;
@@ -50,7 +50,7 @@ returns-clause-done c =
     let next : Moment → Moment = λ moment. synced moment c.args.vol in
     let adds : Adds rack.keeps old new (rack.calls + 1) c.args.vol 0 0 next = from_ok c.keep.result (sym c.is_err.ensures.value ∙ c.if-is_err.false) c.keep.ensures.ok in
     let counts = c.sync.ensures.counts in
-    let first = moment_of rack.first.items.items in
+    let first = settled_of rack.first.items.items in
     let now = moment_of rack.volumes.items.items in
     let passed = c.must_fail.ensures c.if-must_fail.false in
     let one_more : rack.calls + 1 ≡ raised rack.calls = omega (arith, passed.0) in

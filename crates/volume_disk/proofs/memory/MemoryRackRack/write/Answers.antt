@@ -2,7 +2,7 @@ use Rattle.std.proofs.Common.{◌≡◌, ◌≤◌, ◌<◌, ◌+◌, ◌^◌, �
 use Rattle.volume_disk.specs.Disk.{Moment, MayTear, Writes, raised}
 use Rattle.volume_disk.specs.Kept.{Adds}
 use Rattle.volume_disk.specs.Moment.{written}
-use Rattle.volume_disk.specs.Volume.{moment_of, sizes_of}
+use Rattle.volume_disk.specs.Volume.{moment_of, settled_of, sizes_of}
 use Rattle.volume_disk.proofs.Moments.{Writes-written, MayTear-same}
 use Rattle.volume_disk.proofs.Replays.{from_err, from_ok, AreUpTo-added, AreFit-added, AreFit-same, replayed-added, replayed-added_before, past_goes_on, with_now}
 use Rattle.volume_disk.proofs.memory.MemoryRackRack.write.Goals as goal
@@ -23,7 +23,7 @@ returns-then-is_err-clause-failed c =
         told = failed.told;
         kept = failed.kept;
         now = λ told. refl;
-        past = λ told. failed.past told ∙ ap (with_now rack.keeps rack.calls now (moment_of rack.first.items.items)) same;
+        past = λ told. failed.past told ∙ ap (with_now rack.keeps rack.calls now (settled_of rack.first.items.items)) same;
       };
       tears = λ told. subst (MayTear c.args.vol (512 * c.args.block) (length c.args.bytes.now) now) (sym (failed.now told)) (MayTear-same now c.args.vol (512 * c.args.block) (length c.args.bytes.now));
     }
@@ -39,7 +39,7 @@ invariant_of-self-2 c =
     let adds : Adds rack.keeps old new (rack.calls + 1) c.args.vol c.args.block (length bytes) next = from_ok c.keep_write.result (sym c.is_err.ensures.value ∙ c.if-is_err.false) c.keep_write.ensures.ok in
     let counts = c.write.ensures.counts in
     let sizes = sizes_of rack.volumes.items.items in
-    let first = moment_of rack.first.items.items in
+    let first = settled_of rack.first.items.items in
     let asked = c.requires in
     record {
       numbered = AreUpTo-added old new rack.calls (rack.calls + 1) c.args.vol c.args.block (length bytes) next refl rack.numbered rack.keeps adds;
@@ -58,7 +58,7 @@ returns-clause-done c =
     let next : Moment → Moment = λ moment. written moment c.args.vol at bytes in
     let adds : Adds rack.keeps old new (rack.calls + 1) c.args.vol c.args.block (length bytes) next = from_ok c.keep_write.result (sym c.is_err.ensures.value ∙ c.if-is_err.false) c.keep_write.ensures.ok in
     let counts = c.write.ensures.counts in
-    let first = moment_of rack.first.items.items in
+    let first = settled_of rack.first.items.items in
     let now = moment_of rack.volumes.items.items in
     let passed = c.must_fail.ensures c.if-must_fail.false in
     let one_more : rack.calls + 1 ≡ raised rack.calls = omega (arith, passed.0) in

@@ -7,8 +7,8 @@ use Rattle.volume_disk.proofs.volumes.Volumes.count_read_fault.Goals as goal
 pub returns-clause-moment : goal.returns-clause-moment
 returns-clause-moment c =
     same_moment _ _ _ _
-      (kept_by byte_of (λ _. 0) c.args.self.now.items.items c.args.vol c.index.result _ c.index_mut-volume.result.now c.index.ensures.value (omega arith) c.index_mut-volume.ensures.value refl)
-      (kept_by mark_of (λ _. false) c.args.self.now.items.items c.args.vol c.index.result _ c.index_mut-volume.result.now c.index.ensures.value (omega arith) c.index_mut-volume.ensures.value refl)
+    (kept_by byte_of (λ _. 0) c.args.self.now.items.items c.args.vol c.index.result _ c.index_mut-volume.result.now c.index.ensures.value (omega arith) c.index_mut-volume.ensures.value refl)
+    (kept_by mark_of (λ _. false) c.args.self.now.items.items c.args.vol c.index.result _ c.index_mut-volume.result.now c.index.ensures.value (omega arith) c.index_mut-volume.ensures.value refl)
 
 pub returns-clause-read_faults : goal.returns-clause-read_faults
 returns-clause-read_faults c =
