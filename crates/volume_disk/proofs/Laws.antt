@@ -1,7 +1,7 @@
 -- How what a stop may leave goes on from call to call. Crates above cite these and look into no rack.
 use Rattle.std.proofs.Common.{◌≡◌, ◌⊎◌, ◌==◌, ◌&&◌, ℕ, ◌+◌, ◌-◌, ◌^◌, ◌<◌, ◌≤◌, nat_lt, Bool, true, false, cond, IsTrue, Result, Ok, Err, OnOk, OnErr, List, length, refl, sym, ◌∙◌, ap, subst, inl, inr, ⊎_elim, arith}
 use Rattle.std.proofs.lemmas.Bool.{cases_eq, cases_lt, cases_Bool, eq-eqb, ne_eqb, lt-ltb, both_ways}
-use Rattle.volume_disk.specs.Disk.{Disk, Moment, MayLeave, MayHaveLeft, Since, IsSettled, Makes, MayTear, Writes, Syncs, ReadDone, ReadFailed, WriteDone, WriteFailed, SyncDone, SyncFailed, Elapses, LeavesOnly, HasRisen, raised, raised_at, remembered}
+use Rattle.volume_disk.specs.Disk.{Disk, Moment, MayLeave, MayHaveLeft, Since, moment_at, IsSettled, Makes, MayTear, Writes, Syncs, ReadDone, ReadFailed, WriteDone, WriteFailed, SyncDone, SyncFailed, Elapses, LeavesOnly, HasRisen, raised, raised_at, remembered}
 use Rattle.volume_disk.specs.Image.{Image, IsIn, SameOutside}
 use Rattle.volume_disk.proofs.Moments.{in_or_out, put_at-same, put_at-other}
 
@@ -15,6 +15,15 @@ now_counts disk t image le left = inl (le, left)
 pub only_now : (disk : Disk) (image : Image) → Since disk disk.calls image → MayLeave disk.now image
 only_now disk image (inl (le, left)) = left
 only_now disk image (inr earlier) = absurd (omega (arith, earlier.since, earlier.before))
+
+-- so does each moment since
+pub moment_counts : (disk : Disk) (t call : ℕ) (image : Image) → IsTrue disk.kept → t ≤ call → call ≤ disk.calls → MayLeave (moment_at disk call) image → Since disk t image
+moment_counts disk t call image kept since made left = elim (cases_eq call disk.calls) [
+  | inl is ↦ let at : (call == disk.calls) ≡ true = eq-eqb call disk.calls is in inl (omega arith, (rw at at left))
+  | inr other ↦
+      let at : (call == disk.calls) ≡ false = ne_eqb call disk.calls other in
+      inr (record { kept = kept; call = call; since = since; before = omega arith; left = (rw at at left) })
+]
 
 module _ (old new : Disk) (reads writes : ℕ → ℕ) (moment : Moment) (makes : Makes old new reads writes moment) (told : IsTrue old.told) where
   remembered-now : IsTrue old.kept → old.calls < 2 ^ 64 - 1 → new.past old.calls ≡ old.now

@@ -13,3 +13,6 @@ pub use memory::MemoryRack;
 pub use rack::Rack;
 use volume::Volume;
 use volumes::Volumes;
+
+#[cfg(test)]
+mod tests;

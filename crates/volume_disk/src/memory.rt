@@ -56,6 +56,13 @@ impl MemoryRack {
         })
     }
 
+    /// Whether the rack keeps its calls, so that it can tell what a stop at an earlier moment may have left.
+    pub fn keeps_calls(&self) -> bool
+        ensures { result ≡ (memory_disk self.now).kept }
+    {
+        self.keeps
+    }
+
     /// The rack that starts again after a stop right after a call: one that such a stop may leave, chosen by `pick`
     /// among all. 0 is everything written, and 1 nothing that was not synced; others tear the ranges that were not,
     /// each in its way. The condition is that the rack keeps its calls and has made that one; 0 is its making.
