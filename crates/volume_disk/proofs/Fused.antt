@@ -1,5 +1,5 @@
 -- What a call of a rack is to a rack with a fuse round it.
-use Rattle.std.proofs.Common.{◌≡◌, ◌||◌, ℕ, ◌+◌, ◌<◌, ◌≤◌, nat_lt, Bool, false, List, refl, ◌∙◌, ap, arith}
+use Rattle.std.proofs.Common.{◌≡◌, ◌||◌, ℕ, ◌+◌, ◌<◌, nat_lt, false, List, refl, arith}
 use Rattle.std.proofs.lemmas.Bool.{le-ltb}
 use Rattle.volume_disk.specs.Disk.{Disk, Moment, MayPass, Makes, ReadDone, WriteDone, WriteFailed, SyncDone}
 use Rattle.volume_disk.specs.Fuse.{fused}

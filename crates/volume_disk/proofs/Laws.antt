@@ -1,7 +1,7 @@
 -- How what a stop may leave goes on from call to call. Crates above cite these and look into no rack.
-use Rattle.std.proofs.Common.{◌≡◌, ◌⊎◌, ◌==◌, ◌&&◌, ℕ, ◌+◌, ◌-◌, ◌^◌, ◌<◌, ◌≤◌, nat_lt, Bool, true, false, cond, IsTrue, Result, Ok, Err, OnOk, OnErr, List, length, refl, sym, ◌∙◌, ap, subst, inl, inr, ⊎_elim, arith}
-use Rattle.std.proofs.lemmas.Bool.{cases_eq, cases_lt, cases_Bool, eq-eqb, ne_eqb, lt-ltb, both_ways}
-use Rattle.volume_disk.specs.Disk.{Disk, Moment, MayLeave, MayHaveLeft, Since, moment_at, IsSettled, Makes, MayTear, Writes, Syncs, ReadDone, ReadFailed, WriteDone, WriteFailed, SyncDone, SyncFailed, Elapses, LeavesOnly, HasRisen, raised, raised_at, remembered}
+use Rattle.std.proofs.Common.{◌≡◌, ◌⊎◌, ◌==◌, ◌&&◌, ℕ, ◌-◌, ◌^◌, ◌<◌, ◌≤◌, nat_lt, Bool, true, false, cond, IsTrue, Result, Ok, Err, OnOk, OnErr, List, length, refl, sym, ◌∙◌, ap, subst, inl, inr, ⊎_elim, arith}
+use Rattle.std.proofs.lemmas.Bool.{cases_eq, cases_lt, eq-eqb, ne_eqb, lt-ltb, both_ways}
+use Rattle.volume_disk.specs.Disk.{Disk, Moment, MayLeave, Since, moment_at, Makes, MayTear, Syncs, ReadDone, ReadFailed, WriteDone, WriteFailed, SyncDone, SyncFailed, Elapses, LeavesOnly, HasRisen, raised, raised_at}
 use Rattle.volume_disk.specs.Image.{Image, IsIn, SameOutside}
 use Rattle.volume_disk.proofs.Moments.{in_or_out, put_at-same, put_at-other}
 

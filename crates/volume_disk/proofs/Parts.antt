@@ -1,7 +1,6 @@
 -- What a write to a part of a list leaves at each place.
-use Rattle.std.proofs.Common.{◌≡◌, ◌&&◌, ◌||◌, ℕ, ◌+◌, ◌-◌, ◌*◌, ◌/◌, ◌%◌, ◌<◌, ◌≤◌, Bool, true, false, cond, List, ◌++◌, length, get_or, take, drop, replicate, leb, ltb, refl, sym, ◌∙◌, ap, inl, inr, arith, rules, length-append, length-take, length-drop}
+use Rattle.std.proofs.Common.{◌≡◌, ◌&&◌, ◌||◌, ℕ, ◌+◌, ◌-◌, ◌*◌, ◌/◌, ◌<◌, ◌≤◌, Bool, true, false, cond, List, length, get_or, take, drop, replicate, leb, ltb, refl, sym, ◌∙◌, ap, inl, inr, arith, rules, length-append, length-take, length-drop}
 use Rattle.std.proofs.lemmas.Bool.{cases_lt, lt-leb, le-leb, lt-ltb, le-ltb, and_parts, leb-true, ltb-true}
-use Rattle.std.proofs.lemmas.Bool.Decides.{nat_tests}
 use Rattle.std.proofs.lemmas.List.{places, get_or-replicate, length-replicate}
 use borrow.Rule.Slice.PartMut.{put_mid}
 use Rattle.volume_disk.specs.Moment.{overlaid, marked}

@@ -1,4 +1,4 @@
-use Rattle.std.proofs.Common.{◌<◌, ◌*◌, length, arith}
+use Rattle.std.proofs.Common.{◌<◌, arith}
 use Rattle.std.proofs.lemmas.Result.{on_ok_weaker, on_err_weaker}
 use Rattle.volume_disk.specs.Memory.{memory_disk}
 use Rattle.volume_disk.proofs.Fused.{SyncDone-fused, Makes-fused}

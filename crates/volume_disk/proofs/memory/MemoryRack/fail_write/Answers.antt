@@ -1,4 +1,4 @@
-use Rattle.std.proofs.Common.{◌≡◌, ℕ, ◌≤◌, ◌<◌, ◌+◌, ◌^◌, ◌-◌, ◌*◌, length, refl, sym, ◌∙◌, ap, subst, arith}
+use Rattle.std.proofs.Common.{◌≡◌, ℕ, ◌≤◌, ◌+◌, ◌^◌, ◌-◌, ◌*◌, refl, sym, ◌∙◌, ap, subst, arith}
 use Rattle.volume_disk.specs.Disk.{Moment, MayTear, raised, raised_at}
 use Rattle.volume_disk.specs.Kept.{Adds}
 use Rattle.volume_disk.specs.Moment.{torn}

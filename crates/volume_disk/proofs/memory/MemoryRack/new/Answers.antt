@@ -1,6 +1,6 @@
-use Rattle.std.proofs.Common.{◌≡◌, ◌==◌, ℕ, ◌-◌, IsTrue, true, false, [], List, length, take, refl, sym, ◌∙◌, rules, arith}
+use Rattle.std.proofs.Common.{◌≡◌, ◌==◌, IsTrue, true, false, [], sym, ◌∙◌, rules}
 use Rattle.std.specs.List.{list_any}
-use Rattle.volume_disk.specs.Volume.{moment_of, settled_of, sizes_of}
+use Rattle.volume_disk.specs.Volume.{settled_of, sizes_of}
 use Rattle.volume_disk.proofs.Replays.{AreUpTo-none, AreFit-none, past_of-none, take-eight}
 use Rattle.volume_disk.proofs.memory.MemoryRack.new.Goals.{then-keep_calls, else-keep_calls}
 use Rattle.volume_disk.proofs.memory.MemoryRack.new.Goals as goal

@@ -1,6 +1,6 @@
-use Rattle.std.proofs.Common.{◌≡◌, ◌<◌, ◌≤◌, ◌+◌, List, false, length, get_or, drop, refl, sym, ◌∙◌, ap, subst, arith}
+use Rattle.std.proofs.Common.{◌≡◌, ◌<◌, ◌+◌, List, false, length, get_or, drop, refl, sym, ◌∙◌, ap, arith}
 use Rattle.volume_disk.specs.Disk.{Moment}
-use Rattle.volume_disk.specs.Kept.{FitsIn, replayed}
+use Rattle.volume_disk.specs.Kept.{replayed}
 use Rattle.volume_disk.specs.Volume.{moment_of, settled_of, sizes_of}
 use Rattle.volume_disk.proofs.Replays.{replayed-made, replayed-passed}
 use Rattle.volume_disk.specs.declared.kept.KeptCall.{KeptCall}

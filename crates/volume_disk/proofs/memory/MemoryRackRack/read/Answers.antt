@@ -1,5 +1,5 @@
-use Rattle.std.proofs.Common.{◌≡◌, ◌≤◌, ◌+◌, refl, sym, ◌∙◌, arith}
-use Rattle.volume_disk.specs.Volume.{moment_of, settled_of}
+use Rattle.std.proofs.Common.{◌≤◌, ◌+◌, ◌∙◌, arith}
+use Rattle.volume_disk.specs.Volume.{settled_of}
 use Rattle.volume_disk.proofs.Replays.{AreUpTo-later, replayed-past}
 use Rattle.volume_disk.proofs.memory.MemoryRackRack.read.Goals as goal
 

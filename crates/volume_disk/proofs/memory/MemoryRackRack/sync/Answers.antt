@@ -1,4 +1,4 @@
-use Rattle.std.proofs.Common.{◌≡◌, ◌≤◌, ◌<◌, ◌+◌, ◌^◌, ◌-◌, ◌*◌, refl, sym, ◌∙◌, ap, subst, arith}
+use Rattle.std.proofs.Common.{◌≡◌, ◌≤◌, ◌+◌, ◌*◌, refl, sym, ◌∙◌, ap, subst, arith}
 use Rattle.volume_disk.specs.Disk.{Moment, Syncs, pages_of, raised}
 use Rattle.volume_disk.specs.Kept.{Adds}
 use Rattle.volume_disk.specs.Moment.{synced}

@@ -1,8 +1,7 @@
-use Rattle.std.proofs.Common.{◌≡◌, ◌≤◌, ℕ, ◌+◌, ◌-◌, ◌*◌, ◌/◌, List, true, false, length, get_or, refl, sym, ◌∙◌, ap, arith}
+use Rattle.std.proofs.Common.{◌≡◌, ◌≤◌, ℕ, ◌+◌, ◌-◌, ◌*◌, ◌/◌, List, true, false, length, get_or, sym, ◌∙◌, ap, arith}
 use Rattle.std.proofs.lemmas.Bool.{both_ways}
 use Rattle.std.proofs.lemmas.List.{with_items_is, get_or_read}
 use borrow.Rule.Slice.PartMut.{put_mid}
-use Rattle.volume_disk.specs.Volume.{byte_of, mark_of}
 use Rattle.volume_disk.proofs.Parts.{get_or-other_block, length-put_mid, length-mid}
 use Rattle.volume_disk.proofs.volume.Volume.after_stop.Goals.{then-index+then-pick-ne0, else-index}
 use Rattle.volume_disk.proofs.volume.Volume.after_stop.Goals as goal

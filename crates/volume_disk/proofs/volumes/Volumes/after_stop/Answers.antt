@@ -1,4 +1,4 @@
-use Rattle.std.proofs.Common.{◌≡◌, ◌<◌, ◌+◌, ◌∷◌, ◌++◌, [], false, length, get_or, take, sym, ◌∙◌, ap, arith}
+use Rattle.std.proofs.Common.{◌≡◌, ◌<◌, ◌∷◌, ◌++◌, [], false, length, get_or, sym, ◌∙◌, arith}
 use Rattle.std.proofs.lemmas.List.{take_more}
 use Rattle.volume_disk.specs.Volume.{byte_of, mark_of, field_of, sizes_of}
 use Rattle.volume_disk.proofs.Numbered.{field_of-push, sizes_of-push, length-sizes_of, pages_at}

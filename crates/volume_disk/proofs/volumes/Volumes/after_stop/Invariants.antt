@@ -1,4 +1,4 @@
-use Rattle.std.proofs.Common.{◌≡◌, ◌<◌, ℕ, false, length, take}
+use Rattle.std.proofs.Common.{◌≡◌, false, length, take}
 use Rattle.volume_disk.specs.Volume.{mark_of, field_of, sizes_of, read_faults_of, write_faults_of}
 use Rattle.volume_disk.proofs.Stopped.{KeepsSynced, KeepsAll}
 use Rattle.volume_disk.proofs.volumes.Volumes.after_stop.Given as goal

@@ -1,4 +1,4 @@
-use Rattle.std.proofs.Common.{◌≡◌, ◌≤◌, false, arith}
+use Rattle.std.proofs.Common.{false, arith}
 use Rattle.volume_disk.specs.Moment.{synced}
 use Rattle.volume_disk.specs.Volume.{byte_of, mark_of}
 use Rattle.volume_disk.proofs.Numbered.{changed_by, kept_by, sizes_of-set, same_moment, same_bytes}

@@ -1,4 +1,4 @@
-use Rattle.std.proofs.Common.{◌≡◌, ℕ, ◌*◌, ◌≤◌, false, length, arith}
+use Rattle.std.proofs.Common.{◌*◌, false, length, arith}
 use Rattle.volume_disk.specs.Moment.{written, overlaid, marked}
 use Rattle.volume_disk.specs.Volume.{byte_of, mark_of}
 use Rattle.volume_disk.proofs.Numbered.{changed_by, kept_by, sizes_of-set, pages_of-read, same_moment}

@@ -1,7 +1,5 @@
-use Rattle.std.proofs.Common.{◌≡◌, ◌+◌, [], ◌∷◌, ◌++◌, take, refl, sym, ◌∙◌, ap}
+use Rattle.std.proofs.Common.{sym}
 use Rattle.std.proofs.lemmas.List.{take_more}
-use Rattle.volume_disk.specs.Moment.{blank}
-use Rattle.volume_disk.specs.Volume.{moment_of, sizes_of, read_faults_of, write_faults_of}
 use Rattle.volume_disk.proofs.Numbered.{moment_of-push, sizes_of-push, field_of-push}
 use Rattle.volume_disk.proofs.volumes.Volumes.zeros.Goals as goal
 
