@@ -276,8 +276,8 @@ only_reads-read old new vol at n out result done failed = record {
   kept = by_result result done failed (λ d. d.makes.kept) (λ f. f.kept);
   write_faults = by_result result done failed (λ d. d.makes.write_faults) (λ f. f.write_faults);
   read_faults = λ v. by_result result done failed
-    (λ d. subst (λ (faults : ℕ → ℕ). old.read_faults v ≤ faults v) (sym d.makes.read_faults) (omega arith))
-    (λ f. subst (λ (faults : ℕ → ℕ). old.read_faults v ≤ faults v) (sym f.read_faults) (raised_at-later old.read_faults vol v));
+      (λ d. subst (λ (faults : ℕ → ℕ). old.read_faults v ≤ faults v) (sym d.makes.read_faults) (omega arith))
+      (λ f. subst (λ (faults : ℕ → ℕ). old.read_faults v ≤ faults v) (sym f.read_faults) (raised_at-later old.read_faults vol v));
   now = read_same old new vol at n out result done failed;
   time = read_elapses old new vol at n out result done failed;
 }
@@ -300,11 +300,11 @@ module _ {T E : Type 0} (old new : Disk) (vol at : ℕ) (bytes : List ℕ) (resu
     kept = by_result result done failed (λ d. d.makes.kept) (λ f. f.makes.kept);
     read_faults = by_result result done failed (λ d. d.makes.read_faults) (λ f. f.makes.read_faults);
     write_faults = λ v. by_result result done failed
-      (λ d. subst (λ (faults : ℕ → ℕ). old.write_faults v ≤ faults v) (sym d.makes.write_faults) (omega arith))
-      (λ f. subst (λ (faults : ℕ → ℕ). old.write_faults v ≤ faults v) (sym f.makes.write_faults) (raised_at-later old.write_faults vol v));
+        (λ d. subst (λ (faults : ℕ → ℕ). old.write_faults v ≤ faults v) (sym d.makes.write_faults) (omega arith))
+        (λ f. subst (λ (faults : ℕ → ℕ). old.write_faults v ≤ faults v) (sym f.makes.write_faults) (raised_at-later old.write_faults vol v));
     tears = λ told.
-      let P = MayLeaveTorn vol at (length bytes) old.now in
-      goes_on old old new P
+        let P = MayLeaveTorn vol at (length bytes) old.now in
+        goes_on old old new P
         (started old P (MayLeaveTorn-now vol at (length bytes) old.now))
         (write_elapses old new vol at bytes result done failed told)
         (λ image left. torn_follows vol at (length bytes) old.now new.now image (write_tears old new vol at bytes result done failed told) left);
@@ -319,11 +319,11 @@ only_writes-sync old mid new vol at n result done failed so_far tears = record {
   kept = by_result result done failed (λ d. d.makes.kept) (λ f. f.kept) ∙ so_far.kept;
   read_faults = by_result result done failed (λ d. d.makes.read_faults) (λ f. f.read_faults) ∙ so_far.read_faults;
   write_faults = λ v. let was = so_far.write_faults v in by_result result done failed
-    (λ d. subst (λ (faults : ℕ → ℕ). old.write_faults v ≤ faults v) (sym d.makes.write_faults) was)
-    (λ f. subst (λ (faults : ℕ → ℕ). old.write_faults v ≤ faults v) (sym f.write_faults) (let more = raised_at-later mid.write_faults vol v in omega arith));
+      (λ d. subst (λ (faults : ℕ → ℕ). old.write_faults v ≤ faults v) (sym d.makes.write_faults) was)
+      (λ f. subst (λ (faults : ℕ → ℕ). old.write_faults v ≤ faults v) (sym f.write_faults) (let more = raised_at-later mid.write_faults vol v in omega arith));
   tears = λ told.
-    let mid_told : IsTrue mid.told = so_far.told ∙ told in
-    goes_on old mid new (MayLeaveTorn vol at n old.now)
+      let mid_told : IsTrue mid.told = so_far.told ∙ told in
+      goes_on old mid new (MayLeaveTorn vol at n old.now)
       (so_far.tears told)
       (sync_elapses mid new vol result done failed mid_told)
       (λ image left. torn_follows vol at n old.now mid.now image (tears told) (sync_leaves mid new vol result done failed mid_told image left));
