@@ -1,0 +1,4 @@
+pub mod Anchor
+pub mod Body
+pub mod Fault
+pub mod Words
