@@ -4,8 +4,16 @@ use Rattle.domain_base.specs.declared.limits.TheConstants.{MAX_SCRIPT_BYTES}
 use Rattle.advfs_cli.specs.declared.transfer.ReadError.{ReadError}
 use Rattle.advfs_cli.specs.declared.transfer.ReadError.TheVariants.{SourceFault, TooLong, OutOfMemory}
 
--- too long exactly where more bytes were read than a script may have; want of memory may come at any length
-abbrev pub StopsAfter : ReadError → List ℕ → Type 0
-StopsAfter SourceFault read = length read ≤ MAX_SCRIPT_BYTES
-StopsAfter TooLong read = MAX_SCRIPT_BYTES < length read
-StopsAfter OutOfMemory read = Unit {0}
+-- too long exactly where more bytes were read than the limit; want of memory may come at any length
+abbrev pub StopsAfter : ℕ → ReadError → List ℕ → Type 0
+StopsAfter limit SourceFault read = length read ≤ limit
+StopsAfter limit TooLong read = limit < length read
+StopsAfter limit OutOfMemory read = Unit {0}
+
+-- more bytes than a script may have
+unfoldable pub IsTooLong : List ℕ → Type 0
+IsTooLong read = MAX_SCRIPT_BYTES < length read
+
+-- no more bytes than a script may have
+unfoldable pub IsShort : List ℕ → Type 0
+IsShort read = length read ≤ MAX_SCRIPT_BYTES

@@ -1,5 +1,5 @@
 //! Whole inputs and whole texts, over sources and sinks that take and give pieces.
-ghost use Rattle.std.specs.Prelude.{◌≡◌, ℕ, ◌≤◌, List, OnOk, OnErr, MatchResult, length, vec_len};
+ghost use Rattle.std.specs.Prelude.{◌≡◌, ℕ, ◌≤◌, ◌<◌, ◌+◌, ◌^◌, List, OnOk, OnErr, IfOk, MatchResult, length, vec_len};
 ghost use Rattle.std.specs.Io.{StartsWith};
 ghost use Rattle.std.specs.Io.KnownBytes.{Appends, Consumes, IsAtEnd};
 ghost use Rattle.domain_base.specs.Counts.{Rose};
@@ -7,7 +7,6 @@ ghost use Rattle.advfs_cli.specs.Transfer.{StopsAfter};
 
 use crate::sinks::Sink;
 use crate::sources::Source;
-use domain_base::limits::MAX_SCRIPT_BYTES;
 use domain_base::Failed;
 use std::alloc::{AllocError, Global};
 use std::error::Error;
@@ -21,7 +20,7 @@ const PIECE_BYTES: usize = 65_536;
 pub enum ReadError {
     /// The source failed.
     SourceFault,
-    /// More than 33,554,432 bytes were read.
+    /// More bytes were read than the limit.
     TooLong,
     /// No memory could be had.
     OutOfMemory,
@@ -61,24 +60,37 @@ impl From<AllocError> for ReadError {
     }
 }
 
-/// Reads a source to its end, or until more than 33,554,432 bytes were read.
-pub fn read_all<S: Source>(alloc: Global, source: &mut S) -> Result<Vec<u8>, ReadError>
+/// As many zeros.
+fn zeros(alloc: Global, count: usize) -> Result<Vec<u8>, AllocError>
+    ensures { IfOk result (λ bytes. vec_len bytes ≡ count) }
+{
+    vec![in alloc; 0; count]
+}
+
+/// Reads a source to its end, or until more than `limit` bytes were read.
+pub fn read_all<S: Source>(
+    alloc: Global,
+    source: &mut S,
+    limit: usize,
+) -> Result<Vec<u8>, ReadError>
+    requires { limit < usize.MAX }
     // What was taken from the source is what is given at Ok, where nothing is left.
     ensures taken { (read : List ℕ) × Consumes (S.left source.old) (S.left source.new) read
-        × MatchResult result (λ bytes. (bytes.items ≡ read) × (length read ≤ MAX_SCRIPT_BYTES)) (λ e. StopsAfter e read) }
+        × MatchResult result (λ bytes. (bytes.items ≡ read) × (length read ≤ limit)) (λ e. StopsAfter limit e read) }
     ensures ended { OnOk result (IsAtEnd (S.left source.new)) }
     ensures never_falls { S.faults source.old ≤ S.faults source.new }
     ensures source_fault { result ≡ Err ReadError.SourceFault → Rose (S.faults source.old) (S.faults source.new) }
 {
     let mut bytes = Vec::new(alloc);
-    let mut piece = vec![in alloc; 0; PIECE_BYTES]?;
-    while bytes.len() <= MAX_SCRIPT_BYTES {
-        let room = (MAX_SCRIPT_BYTES + 1 - bytes.len()).min(PIECE_BYTES);
-        let taken = source.read(&mut piece[..room])?;
+    let mut piece = zeros(alloc, PIECE_BYTES)?;
+    while bytes.len() <= limit {
+        let room = (limit + 1 - bytes.len()).min(PIECE_BYTES);
+        let front = &mut piece[..room];
+        let taken = source.read(front)?;
         if taken == 0 {
             return Ok(bytes);
         }
-        bytes.extend_from_slice(&piece[..taken])?;
+        bytes.extend_from_slice(&front[..taken])?;
     }
     Err(ReadError::TooLong)
 }
