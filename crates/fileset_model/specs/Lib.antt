@@ -1,0 +1,10 @@
+pub mod Apply
+pub mod Fileset
+pub mod Legal
+pub mod Orders
+pub mod Pages
+pub mod Paths
+pub mod Room
+pub mod Shuffle
+pub mod State
+pub mod Usage

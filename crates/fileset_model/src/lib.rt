@@ -4,14 +4,22 @@
 
 mod command;
 mod entry;
+mod fileset;
+mod filesets;
 mod listing;
 mod names;
+mod node;
+mod page_map;
 mod reply;
 
 pub use command::{Actor, Command, CommandList, Owner, Place};
 pub use entry::Entry;
+pub use fileset::{FilesetSlot, FilesetTree, Limits, NumberSet, Role};
+pub use filesets::Filesets;
 pub use listing::Listing;
 pub use names::{Bytes, FilesetName, Name, Path};
+pub use node::Node;
+pub use page_map::PageMap;
 pub use reply::{
     ExtentItem, ExtentList, FilesetItem, FilesetList, NameItem, NameList, Refusal, Reply,
     VolumeItem, VolumeList,

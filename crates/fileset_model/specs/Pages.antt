@@ -1,0 +1,51 @@
+-- The bytes of a file, by its pages.
+use Prim.Native.Nat.{zero}
+use Rattle.std.specs.Prelude.{ℕ, suc, ◌+◌, ◌-◌, ◌*◌, ◌/◌, ◌%◌, ◌==◌, nat_lt, min, List, [], ◌∷◌, length, map, take, drop, slice_index, unwrap_or, if◌then◌else◌}
+use Rattle.std.specs.Option.{option_map_or}
+use Rattle.std.specs.Ordering.{nat_cmp}
+use Rattle.std.specs.FinMap.{FinMap, get, insert, retain_keys}
+use Rattle.domain_base.specs.Page.{zero_bytes, overwritten}
+use Rattle.domain_base.specs.declared.limits.TheConstants.{PAGE_BYTES}
+
+-- the pages that are there, by their numbers
+abbrev pub Pages : Type 0
+Pages = FinMap nat_cmp (List ℕ)
+
+-- so many numbers in a row, from `first` on
+abbrev pub numbers : ℕ → ℕ → List ℕ
+numbers first zero = []
+numbers first (suc count) = first ∷ numbers (suc first) count
+
+-- the byte at x: that of its page, and zero where the page is absent
+abbrev pub byte_at : Pages → ℕ → ℕ
+byte_at pages x = option_map_or (λ page. slice_index page (x % PAGE_BYTES)) (get pages (x / PAGE_BYTES)) 0
+
+-- the bytes from the offset on that lie below the size, at most `count`
+abbrev pub bytes_between : Pages → ℕ → ℕ → ℕ → List ℕ
+bytes_between pages size offset count = map (byte_at pages) (numbers offset (min count (size - offset)))
+
+-- the numbers of the pages that so many bytes from the offset on lie in
+abbrev pub pages_of : ℕ → ℕ → List ℕ
+pages_of offset len = if len == 0 then [] else numbers (offset / PAGE_BYTES) (suc ((offset + len - 1) / PAGE_BYTES) - offset / PAGE_BYTES)
+
+-- page q after a write of the bytes at the offset: those of them that lie in it are laid over it, or over zeros where it was absent
+abbrev pub page_after : Pages → ℕ → List ℕ → ℕ → List ℕ
+page_after pages offset bytes q =
+    let at = offset - q * PAGE_BYTES in
+    overwritten (unwrap_or (get pages q) (zero_bytes PAGE_BYTES)) at (take (PAGE_BYTES - at) (drop (q * PAGE_BYTES - offset) bytes))
+
+-- the map in which each of these pages is as `content` says
+abbrev pub with_pages : (ℕ → List ℕ) → List ℕ → Pages → Pages
+with_pages content [] pages = pages
+with_pages content (q ∷ qs) pages = with_pages content qs (insert pages q (content q))
+
+-- the pages after a write of the bytes at the offset
+abbrev pub written : Pages → ℕ → List ℕ → Pages
+written pages offset bytes = with_pages (page_after pages offset bytes) (pages_of offset (length bytes)) pages
+
+-- the pages of a file that is cut at the size: those that begin at or after it go, and the rest of the page in which it falls is zeros
+abbrev pub truncated : Pages → ℕ → Pages
+truncated pages size =
+    let kept = retain_keys pages (λ q. nat_lt (q * PAGE_BYTES) size) in
+    let at = size % PAGE_BYTES in
+    option_map_or (λ page. insert kept (size / PAGE_BYTES) (overwritten page at (zero_bytes (PAGE_BYTES - at)))) (get kept (size / PAGE_BYTES)) kept
