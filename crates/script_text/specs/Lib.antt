@@ -1,0 +1,5 @@
+pub mod Forms
+pub mod History
+pub mod Runs
+pub mod Script
+pub mod Words
