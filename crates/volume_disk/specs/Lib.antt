@@ -1,0 +1,6 @@
+pub mod Disk
+pub mod Image
+pub mod Kept
+pub mod Memory
+pub mod Moment
+pub mod Volume
