@@ -2,8 +2,12 @@
 #![tactic(auto)]
 
 pub mod gates;
+pub mod print;
+pub mod run;
 pub mod sinks;
 pub mod sources;
+pub mod status;
 pub mod transfer;
+pub mod words;
 
 fn main() {}

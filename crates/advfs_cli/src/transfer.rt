@@ -1,9 +1,8 @@
 //! Whole inputs and whole texts, over sources and sinks that take and give pieces.
 ghost use Rattle.std.specs.Prelude.{◌≡◌, ℕ, ◌≤◌, ◌<◌, ◌+◌, ◌^◌, List, OnOk, OnErr, IfOk, MatchResult, length, vec_len};
-ghost use Rattle.std.specs.Io.{StartsWith};
 ghost use Rattle.std.specs.Io.KnownBytes.{Appends, Consumes, IsAtEnd};
 ghost use Rattle.domain_base.specs.Counts.{Rose};
-ghost use Rattle.advfs_cli.specs.Transfer.{StopsAfter};
+ghost use Rattle.advfs_cli.specs.Transfer.{AppendsFront, StopsAfter};
 
 use crate::sinks::Sink;
 use crate::sources::Source;
@@ -98,7 +97,7 @@ pub fn read_all<S: Source>(
 /// Writes a whole text to a sink. After a failure the sink holds a part of it, from its front.
 pub fn write_all<K: Sink>(sink: &mut K, text: &[u8]) -> Result<(), Failed>
     ensures ok { OnOk result (Appends (K.held sink.old) (K.held sink.new) text.now) }
-    ensures err { OnErr result ((front : List ℕ) × StartsWith text.now front × Appends (K.held sink.old) (K.held sink.new) front) }
+    ensures err { OnErr result (AppendsFront (K.held sink.old) (K.held sink.new) text.now) }
     ensures never_falls { K.faults sink.old ≤ K.faults sink.new }
     ensures failed { OnErr result (Rose (K.faults sink.old) (K.faults sink.new)) }
 {
