@@ -1,10 +1,11 @@
 -- Histories over filesets without volumes.
-use Rattle.std.specs.Prelude.{◌≡◌, ◌⊎◌, ℕ, ◌==◌, if◌then◌else◌, Option, List, [], ◌∷◌, ◌++◌, map as map_list, All}
+use Rattle.std.specs.Prelude.{◌≡◌, ◌⊎◌, ℕ, ◌==◌, if◌then◌else◌, Option, None, List, [], ◌∷◌, ◌++◌, map as map_list, All}
 use Rattle.std.specs.FinMap as map
 use Rattle.std.specs.List.{flat_map}
 use Rattle.std.specs.Option.{option_map_or}
 use Rattle.fileset_model.specs.Apply.{Answers}
-use Rattle.fileset_model.specs.State.{FilesetMap}
+use Rattle.fileset_model.specs.Legal.{Legal}
+use Rattle.fileset_model.specs.State.{FilesetMap, empty_state}
 use Rattle.fileset_model.specs.declared.command.Actor.{Actor}
 use Rattle.fileset_model.specs.declared.command.Actor.TheVariants.{Client, Mover}
 use Rattle.fileset_model.specs.declared.command.Command.{Command}
@@ -38,7 +39,7 @@ turns_of section = map_list (λ command. (Client section.number, command)) secti
 
 -- the commands that a script gives to an actor
 abbrev pub section_of : Script → Actor → List Command
-section_of script (Client number) = flat_map (λ section. if section.number == number then section.commands else []) script.clients
+section_of script (Client number) = flat_map (λ section. if number == section.number then section.commands else []) script.clients
 section_of script Mover = option_map_or (λ section. section.commands) script.mover []
 
 -- a command of a client
@@ -59,3 +60,10 @@ pub record AnswersScript (script : Script) (stamp : ℕ) (history : List Entry) 
   pub stamps : All (λ e. e.stamp ≡ stamp) history
   pub all : FilesetMap
   pub plain : Plain map.empty history all
+
+-- a history is legal from new filesets on one volume of so many pages, and each of its replies is what the command means, or
+-- out-of-memory
+pub record IsLegal (pages : ℕ) (history : List Entry) : Type 0 where
+  pub all : FilesetMap
+  pub plain : Plain map.empty history all
+  pub legal : Legal (empty_state pages) history None (record (empty_state pages) { filesets = all })

@@ -6,7 +6,7 @@ use Rattle.fileset_model.specs.declared.entry.Entry.{Entry}
 use Rattle.script_text.specs.Script.{Reports, script_of}
 use Rattle.script_text.specs.declared.script.Script.{Script}
 use Rattle.script_text.specs.declared.script.ScriptFault.TheVariants.{Bad}
-use Rattle.advfs_cli.specs.Plain.{section_of}
+use Rattle.advfs_cli.specs.Plain.{AnswersScript, section_of}
 use Rattle.advfs_cli.specs.Transfer.{IsShort, IsTooLong}
 use Rattle.advfs_cli.specs.declared.status.Status.{Status}
 use Rattle.advfs_cli.specs.declared.status.Status.TheVariants as status
@@ -16,6 +16,12 @@ pub record IsScript (left : Option (List ℕ)) (read : List ℕ) (script : Scrip
   pub short : IsShort read
   pub ended : IsAtEnd left
   pub says : script_of read ≡ Ok script
+
+-- the history answers the script that was read
+pub record AnswersRead (left : Option (List ℕ)) (read : List ℕ) (stamp : ℕ) (history : List Entry) : Type 0 where
+  pub script : Script
+  pub is_script : IsScript left read script
+  pub answers : AnswersScript script stamp history
 
 -- the history has each client's commands of the script that was read
 pub record Follows (left : Option (List ℕ)) (read : List ℕ) (history : List Entry) : Type 0 where

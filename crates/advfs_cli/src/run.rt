@@ -1,26 +1,24 @@
 //! The whole of a run: the words, the script, its commands over new filesets, and the printing.
 ghost use Rattle.std.specs.Prelude.{◌≡◌, ◌≢◌, ℕ, ◌+◌, ◌<◌, ◌≤◌, List, [], ◌∷◌, OnOk, OnErr, IfOk, IfErr, MatchResult, map, length, string_bytes, vec_len, vec_capacity, All};
-ghost use Rattle.std.specs.FinMap as finite;
 ghost use Rattle.std.specs.Io.KnownBytes.{Appends, Consumes};
 ghost use Rattle.domain_base.specs.Counts.{Rose};
-ghost use Rattle.fileset_model.specs.Legal.{Legal};
-ghost use Rattle.fileset_model.specs.State.{FilesetMap, empty_state};
 ghost use Rattle.script_text.specs.History.{history_text};
-ghost use Rattle.advfs_cli.specs.Plain.{AnswersScript, GoesOn, Plain, turns_of};
-ghost use Rattle.advfs_cli.specs.Run.{GetsNoScript, HasRead, IsScript};
+ghost use Rattle.advfs_cli.specs.Plain.{AnswersScript, GoesOn, IsLegal, turns_of};
+ghost use Rattle.advfs_cli.specs.Run.{AnswersRead, GetsNoScript, HasRead, IsScript};
 ghost use Rattle.advfs_cli.specs.Transfer.{AppendsFront};
 ghost use Rattle.advfs_cli.specs.Usage.{form_of};
 
 use crate::gates::Gate;
+use crate::print::print_history;
 use crate::sinks::Sink;
 use crate::sources::Source;
 use crate::status::Status;
-use crate::transfer::{read_all, write_all};
+use crate::transfer::read_all;
 use crate::words::pages_asked;
 use domain_base::limits::MAX_SCRIPT_BYTES;
 use domain_base::OutOfMemory;
 use fileset_model::{Actor, Command, Entry, Filesets, apply};
-use script_text::{Script, Section, history_line, read_script};
+use script_text::{Script, Section, read_script};
 use std::alloc::Global;
 use volume_disk::Rack;
 
@@ -99,4 +97,91 @@ fn take_script<S: Source>(alloc: Global, source: &mut S) -> Result<Script, Statu
     let text = read_all(alloc, source, MAX_SCRIPT_BYTES)?;
     let script = read_script(alloc, text.as_slice())?;
     Ok(script)
+}
+
+/// The history of the script that a source has, where the words are a form.
+fn answer<S: Source, G: Gate>(
+    alloc: Global,
+    words: &[String],
+    source: &mut S,
+    stamp: u64,
+    gate: &G,
+) -> Result<Vec<Entry>, Status>
+    ensures read { (read : List ℕ) × Consumes (S.left source.old) (S.left source.new) read
+        × MatchResult result (λ history. AnswersRead (S.left source.new) read stamp history.items) (GetsNoScript (S.left source.new) read) }
+    ensures usage { MatchResult (form_of (map string_bytes words.now)) (λ _. (word : ℕ) → result ≢ Err (Status.Usage word)) (λ word. result ≡ Err (Status.Usage word)) }
+    ensures never_falls { S.faults source.old ≤ S.faults source.new }
+    ensures source_fault { result ≡ Err Status.SourceFault → Rose (S.faults source.old) (S.faults source.new) }
+{
+    if let Err(word) = pages_asked(words) {
+        return Err(Status::Usage { word });
+    }
+    let script = take_script(alloc, source)?;
+    let history = answer_script(alloc, script, stamp, gate)?;
+    Ok(history)
+}
+
+/// How a run ended, with the rack that it was given and the history of its commands.
+#[derive(Debug, Drop)]
+pub struct Ended<R> {
+    pub status: Status,
+    pub rack: R,
+    pub history: Vec<Entry>,
+}
+
+/// Runs a script: reads the words and the script, answers each of its commands over new filesets, and prints the
+/// history. The rack, whose volume has the pages that the words ask for, is not touched, so its number of calls is the
+/// stamp of each entry. The gate is passed before each turn of a client and after its last, with the client's number
+/// less one.
+pub fn run<S: Source, R: Rack + Send, K: Sink, G: Gate + Sync>(
+    alloc: Global,
+    words: &[String],
+    script: &mut S,
+    rack: R,
+    sink: &mut K,
+    gate: &G,
+) -> Ended<R>
+    requires { IfOk (form_of (map string_bytes words.now)) (λ pages. (R.disk rack).sizes ≡ pages ∷ []) }
+
+    // What was read, and that the history has each command of the script once, in order.
+    ensures read { (read : List ℕ) × Consumes (S.left script.old) (S.left script.new) read
+        × HasRead (S.left script.new) read result.status result.history.items }
+
+    // Each reply is what its command means, or out-of-memory; so the history is legal.
+    ensures legal { MatchResult (form_of (map string_bytes words.now))
+        (λ pages. IsLegal pages result.history.items) (λ _. result.history.items ≡ []) }
+    ensures stamps { All (λ e. e.stamp ≡ (R.disk rack).calls) result.history.items }
+
+    // The text that is printed.
+    ensures printed { result.status ≡ Status.Ok → Appends (K.held sink.old) (K.held sink.new) (history_text result.history.items) }
+    ensures printed_front { AppendsFront (K.held sink.old) (K.held sink.new) (history_text result.history.items) }
+
+    // The causes of the other statuses.
+    ensures usage { MatchResult (form_of (map string_bytes words.now))
+        (λ _. (word : ℕ) → result.status ≢ Status.Usage word) (λ word. result.status ≡ Status.Usage word) }
+    ensures source_fault { result.status ≡ Status.SourceFault → Rose (S.faults script.old) (S.faults script.new) }
+    ensures sink_fault { result.status ≡ Status.SinkFault → Rose (K.faults sink.old) (K.faults sink.new) }
+    ensures source_count { S.faults script.old ≤ S.faults script.new }
+    ensures sink_count { K.faults sink.old ≤ K.faults sink.new }
+    ensures rack { result.rack ≡ rack }
+{
+    let stamp = rack.calls();
+    match answer(alloc, words, script, stamp, gate) {
+        Err(status) => Ended {
+            status,
+            rack,
+            history: Vec::new(alloc),
+        },
+        Ok(history) => {
+            let status = match print_history(alloc, sink, history.as_slice()) {
+                Ok(()) => Status::Ok,
+                Err(error) => Status::from(error),
+            };
+            Ended {
+                status,
+                rack,
+                history,
+            }
+        }
+    }
 }

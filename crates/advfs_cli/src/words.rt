@@ -39,9 +39,11 @@ pub fn pages_asked(words: &[String]) -> Result<u32, u32>
     let Some(word) = words.next() else {
         return Err(1);
     };
-    match pages_in(word.as_str()) {
-        None => Err(1),
-        Some(_) if words.next().is_some() => Err(2),
-        Some(pages) => Ok(pages),
+    let Some(pages) = pages_in(word.as_str()) else {
+        return Err(1);
+    };
+    match words.next() {
+        None => Ok(pages),
+        Some(_) => Err(2),
     }
 }
