@@ -1,1 +1,5 @@
-pub mod Entries
+pub mod EntryLemmas
+pub mod PageLemmas
+pub mod SlotLemmas
+pub mod TreeLemmas
+pub mod WalkLemmas

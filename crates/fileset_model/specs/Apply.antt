@@ -1,12 +1,12 @@
 -- What each command of a client answers and changes.
-use Rattle.std.specs.Prelude.{◌≡◌, ℕ, suc, ◌+◌, ◌-◌, ◌*◌, ◌==◌, Bool, true, false, not, ◌||◌, nat_lt, nat_le, max, List, [], ◌∷◌, ◌++◌, length, map, drop, count_by, IsTrue, MatchOption, Option, Some, None, if◌then◌else◌}
+use Rattle.std.specs.Prelude.{◌≡◌, ◌⊎◌, ℕ, suc, ◌+◌, ◌-◌, ◌*◌, ◌==◌, Bool, true, false, not, ◌||◌, nat_lt, nat_le, max, List, [], ◌∷◌, ◌++◌, length, map, drop, count_by, IsTrue, MatchOption, Option, Some, None, if◌then◌else◌}
 use Rattle.std.specs.Option.{option_map_or}
 use Rattle.std.specs.List.{list_any}
 use Rattle.std.specs.FinMap as map
 use Rattle.domain_base.specs.declared.limits.TheConstants.{BLOCKS_PER_PAGE, FILE_BYTES, MAX_FILESETS}
 use Rattle.fileset_model.specs.Orders.{Name, Path}
 use Rattle.fileset_model.specs.Fileset.{Fileset}
-use Rattle.fileset_model.specs.Pages.{Pages, bytes_between, pages_of, written, truncated}
+use Rattle.fileset_model.specs.Pages.{absent_pages, bytes_between, written, truncated}
 use Rattle.fileset_model.specs.Paths.{same_name, same_path, first_refusal, refuse_if, node_at, is_directory, is_marked, walk_refusal, target_refusal, directory_here, file_here, begins_with, rows_of}
 use Rattle.fileset_model.specs.Usage.{limits_of, quota_refusal, used_blocks, used_files}
 use Rattle.fileset_model.specs.State.{FilesetMap, State}
@@ -21,7 +21,7 @@ use Rattle.fileset_model.specs.declared.node.Node.{Node}
 use Rattle.fileset_model.specs.declared.node.Node.TheVariants.{File, Directory}
 use Rattle.fileset_model.specs.declared.reply.FilesetItem.{FilesetItem}
 use Rattle.fileset_model.specs.declared.reply.Refusal.{Refusal}
-use Rattle.fileset_model.specs.declared.reply.Refusal.TheVariants.{NoFileset, FilesetExists, Exists, NotEmpty, ReadOnly, HasClone, OutOfSync, IntoItself, TooFar, FilesetsFull, CloneOfClone}
+use Rattle.fileset_model.specs.declared.reply.Refusal.TheVariants.{NoFileset, FilesetExists, Exists, NotEmpty, ReadOnly, HasClone, OutOfSync, IntoItself, TooFar, FilesetsFull, CloneOfClone, OutOfMemory}
 use Rattle.fileset_model.specs.declared.reply.Reply.{Reply}
 use Rattle.fileset_model.specs.declared.reply.Reply.TheVariants.{Done, Count, Read as Bytes, Names, FileStat, DirStat, Filesets, Quota, Refused}
 
@@ -66,13 +66,9 @@ path_taken slot path = refuse_if (map.contains_key slot.tree.paths path) Exists
 abbrev pub not_empty : FilesetSlot → Path → Option Refusal
 not_empty slot path = refuse_if (length path == 0 || not (length (rows_of slot.tree path) == 0)) NotEmpty
 
--- how many of the pages that the bytes lie in are absent
-abbrev pub absent_pages : Pages → ℕ → List ℕ → ℕ
-absent_pages pages offset bytes = count_by (λ q. not (map.contains_key pages q)) (pages_of offset (length bytes))
-
 -- 16 blocks are asked for each absent page
 abbrev pub write_quota : Fileset → ℕ → List ℕ → Node → Option Refusal
-write_quota tree offset bytes (File uid gid size logged pages) = quota_refusal tree uid gid 0 (BLOCKS_PER_PAGE * absent_pages pages offset bytes)
+write_quota tree offset bytes (File uid gid size logged pages) = quota_refusal tree uid gid 0 (BLOCKS_PER_PAGE * absent_pages pages offset (length bytes))
 write_quota tree offset bytes (Directory uid gid) = None
 
 abbrev pub create_checks : Path → ℕ → ℕ → FilesetSlot → List (Option Refusal)
@@ -278,3 +274,7 @@ Answers all command reply new =
 -- the same of a state, all else of which stays
 abbrev pub Apply : State → Command → Reply → State → Type 0
 Apply s command reply new = Answers s.filesets command reply new.filesets × (new ≡ record s { filesets = new.filesets })
+
+-- the answer and the change of a command; or out-of-memory, and then nothing changes
+abbrev pub AnswersIfMemory : FilesetMap → Command → Reply → FilesetMap → Type 0
+AnswersIfMemory all command reply new = Answers all command reply new ⊎ ((reply ≡ Refused OutOfMemory) × (new ≡ all))

@@ -3,12 +3,12 @@ use Rattle.std.specs.Prelude.{◌≡◌, ◌⊎◌, ℕ, ◌+◌, ◌<◌, ◌�
 use Rattle.std.specs.Option.{option_map, option_map_or, option_to_list}
 use Rattle.std.specs.List.{filter_map}
 use Rattle.std.specs.FinMap as map
-use Rattle.std.specs.FinSet as set
 use Rattle.fileset_model.specs.Orders.{Name, Path}
 use Rattle.fileset_model.specs.Fileset.{Fileset}
 use Rattle.fileset_model.specs.Paths.{begins_with, rows_of}
 use Rattle.fileset_model.specs.State.{FilesetMap, State}
-use Rattle.fileset_model.specs.Apply.{Apply, absent_pages, refusal_of}
+use Rattle.fileset_model.specs.Pages.{absent_pages}
+use Rattle.fileset_model.specs.Apply.{Apply, refusal_of}
 use Rattle.fileset_model.specs.Room.{Tight, need, room}
 use Rattle.fileset_model.specs.declared.command.Actor.{Actor}
 use Rattle.fileset_model.specs.declared.command.Actor.TheVariants.{Client, Mover}
@@ -84,8 +84,9 @@ GainsMarks Allowed old new = (name : Name) → slots (map.get old name) (map.get
     roles slot Original role = role ≡ Original
     roles slot (CloneOf original out) Original = ⊥
     roles slot (CloneOf original out) (CloneOf original' out') =
-        (original ≡ original') × ((number : ℕ) → IsTrue (set.contains out number) → IsTrue (set.contains out' number))
-        × ((number : ℕ) → IsTrue (set.contains out' number) → set.contains out number ≡ false → Allowed original slot number)
+        (original ≡ original') × ((number : ℕ) → IsTrue (map.contains_key out number) → IsTrue (map.contains_key out' number))
+        × ((number : ℕ) → IsTrue (map.contains_key out' number) → map.contains_key out number ≡ false → Allowed original slot number)
+
     slots : Option FilesetSlot → Option FilesetSlot → Type 0
     slots None found = found ≡ None
     slots (Some slot) None = ⊥
@@ -100,7 +101,7 @@ abbrev pub Differs : FilesetMap → Name → FilesetSlot → ℕ → Type 0
 Differs all original clone number =
     MatchOption (map.get all original) (Unit {0})
     (λ slot. ¬ ((map.get slot.tree.nodes number ≡ map.get clone.tree.nodes number)
-      × ((path : Path) → IsAt clone.tree number path → IsAt slot.tree number path × (rows_of slot.tree path ≡ rows_of clone.tree path))))
+    × ((path : Path) → IsAt clone.tree number path → IsAt slot.tree number path × (rows_of slot.tree path ≡ rows_of clone.tree path))))
 
 -- ---- steps
 
@@ -128,7 +129,7 @@ TakesSpace all (Write place offset bytes) =
     IsSomeAnd (map.get all place.fileset) (λ slot. IsSomeAnd (map.get slot.tree.paths place.path) (λ number. IsSomeAnd (map.get slot.tree.nodes number) has_absent))
   where
     has_absent : Node → Type 0
-    has_absent (File uid gid size logged pages) = 0 < absent_pages pages offset bytes
+    has_absent (File uid gid size logged pages) = 0 < absent_pages pages offset (length bytes)
     has_absent (Directory uid gid) = ⊥
 TakesSpace all command = ⊥
 
@@ -146,15 +147,15 @@ pub record Silent (history : List Entry) (point : Point) (new : State) : Type 0 
 pub data Step (history : List Entry) (point : Point) (e : Entry) (new : State) : Type 0 where
   -- what its command means; for want of pages clones may lose numbers that it changes
   applied : (mid : State) → Apply point.state e.command e.reply mid
-    → GainsMarks (λ original clone number. Contains (changed_by_entry point.state.filesets e) (original, number)) mid.filesets new.filesets
-    → (new.filesets ≡ mid.filesets) ⊎ Tight new history point.most (need e.command)
-    → new ≡ record mid { filesets = new.filesets }
-    → Step history point e new
+      → GainsMarks (λ original clone number. Contains (changed_by_entry point.state.filesets e) (original, number)) mid.filesets new.filesets
+      → (new.filesets ≡ mid.filesets) ⊎ Tight new history point.most (need e.command)
+      → new ≡ record mid { filesets = new.filesets }
+      → Step history point e new
   -- fewer pages are free than the command may need, and nothing changes
   no_space : (free : ℕ) → e.reply ≡ Refused (NoSpace free (need e.command)) → free < need e.command
-    → TakesSpace point.state.filesets e.command → refusal_of point.state.filesets e.command ≡ None
-    → Tight new history point.most (need e.command) → new ≡ point.state
-    → Step history point e new
+      → TakesSpace point.state.filesets e.command → refusal_of point.state.filesets e.command ≡ None
+      → Tight new history point.most (need e.command) → new ≡ point.state
+      → Step history point e new
   -- a read of a volume failed, and nothing changes
   read_fault : (volume : ℕ) → e.reply ≡ Refused (ReadFault volume) → new ≡ point.state → Step history point e new
   -- a write or a sync of a volume failed, and nothing changes
@@ -191,12 +192,12 @@ pub data Chain (start : State) : List Entry → Point → Type 0 where
   none : Chain start [] (record { state = start; job = None; most = room start; changed = [] })
   -- the mover begins a job, at some place after its last entry
   begin : {history : List Entry} {point : Point} → Chain start history point → point.job ≡ None → (command : Command) → IsMovers command
-    → Chain start history (record point { job = Some (record { command = command; began = point.state }) })
+      → Chain start history (record point { job = Some (record { command = command; began = point.state }) })
   silent : {history : List Entry} {point : Point} → Chain start history point → (new : State) → Silent history point new
-    → Chain start history (record point { state = new })
+      → Chain start history (record point { state = new })
   -- one more entry is one more step
   entry : {history : List Entry} {point : Point} → Chain start history point → (e : Entry) (new : State) → MayFollow history point.job e → Step history point e new
-    → Chain start (history ++ e ∷ []) (point_after point e new)
+      → Chain start (history ++ e ∷ []) (point_after point e new)
 
 -- a history may lead from the start to a state, with this command of the mover's still running
 pub record Legal (start : State) (history : List Entry) (job : Option Command) (end : State) : Type 0 where

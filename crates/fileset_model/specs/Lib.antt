@@ -1,4 +1,5 @@
 pub mod Apply
+pub mod Entries
 pub mod Fileset
 pub mod Legal
 pub mod Orders

@@ -1,9 +1,9 @@
 -- The bytes of a file, by its pages.
-use Prim.Native.Nat.{zero}
-use Rattle.std.specs.Prelude.{ℕ, suc, ◌+◌, ◌-◌, ◌*◌, ◌/◌, ◌%◌, ◌==◌, nat_lt, min, List, [], ◌∷◌, length, map, take, drop, slice_index, unwrap_or, if◌then◌else◌}
+use Rattle.std.specs.Prelude.{ℕ, suc, ◌+◌, ◌-◌, ◌*◌, ◌/◌, ◌%◌, ◌==◌, nat_lt, min, not, count_by, List, [], ◌∷◌, length, map, take, drop, slice_index, unwrap_or, if◌then◌else◌}
 use Rattle.std.specs.Option.{option_map_or}
+use Rattle.std.specs.List.{range_with_len}
 use Rattle.std.specs.Ordering.{nat_cmp}
-use Rattle.std.specs.FinMap.{FinMap, get, insert, retain_keys}
+use Rattle.std.specs.FinMap.{FinMap, contains_key, get, insert, retain_keys}
 use Rattle.domain_base.specs.Page.{zero_bytes, overwritten}
 use Rattle.domain_base.specs.declared.limits.TheConstants.{PAGE_BYTES}
 
@@ -11,22 +11,21 @@ use Rattle.domain_base.specs.declared.limits.TheConstants.{PAGE_BYTES}
 abbrev pub Pages : Type 0
 Pages = FinMap nat_cmp (List ℕ)
 
--- so many numbers in a row, from `first` on
-abbrev pub numbers : ℕ → ℕ → List ℕ
-numbers first zero = []
-numbers first (suc count) = first ∷ numbers (suc first) count
-
 -- the byte at x: that of its page, and zero where the page is absent
 abbrev pub byte_at : Pages → ℕ → ℕ
 byte_at pages x = option_map_or (λ page. slice_index page (x % PAGE_BYTES)) (get pages (x / PAGE_BYTES)) 0
 
 -- the bytes from the offset on that lie below the size, at most `count`
 abbrev pub bytes_between : Pages → ℕ → ℕ → ℕ → List ℕ
-bytes_between pages size offset count = map (byte_at pages) (numbers offset (min count (size - offset)))
+bytes_between pages size offset count = map (byte_at pages) (range_with_len offset (min count (size - offset)))
 
 -- the numbers of the pages that so many bytes from the offset on lie in
 abbrev pub pages_of : ℕ → ℕ → List ℕ
-pages_of offset len = if len == 0 then [] else numbers (offset / PAGE_BYTES) (suc ((offset + len - 1) / PAGE_BYTES) - offset / PAGE_BYTES)
+pages_of offset len = if len == 0 then [] else range_with_len (offset / PAGE_BYTES) (suc ((offset + len - 1) / PAGE_BYTES) - offset / PAGE_BYTES)
+
+-- how many of the pages that so many bytes from the offset on lie in are absent
+abbrev pub absent_pages : Pages → ℕ → ℕ → ℕ
+absent_pages pages offset len = count_by (λ q. not (contains_key pages q)) (pages_of offset len)
 
 -- page q after a write of the bytes at the offset: those of them that lie in it are laid over it, or over zeros where it was absent
 abbrev pub page_after : Pages → ℕ → List ℕ → ℕ → List ℕ
@@ -34,14 +33,14 @@ page_after pages offset bytes q =
     let at = offset - q * PAGE_BYTES in
     overwritten (unwrap_or (get pages q) (zero_bytes PAGE_BYTES)) at (take (PAGE_BYTES - at) (drop (q * PAGE_BYTES - offset) bytes))
 
--- the map in which each of these pages is as `content` says
-abbrev pub with_pages : (ℕ → List ℕ) → List ℕ → Pages → Pages
-with_pages content [] pages = pages
-with_pages content (q ∷ qs) pages = with_pages content qs (insert pages q (content q))
+-- the map with each of these pages in place of what it had at their numbers
+abbrev pub with_pages : List (ℕ × List ℕ) → Pages → Pages
+with_pages [] pages = pages
+with_pages (e ∷ es) pages = with_pages es (insert pages e.0 e.1)
 
 -- the pages after a write of the bytes at the offset
 abbrev pub written : Pages → ℕ → List ℕ → Pages
-written pages offset bytes = with_pages (page_after pages offset bytes) (pages_of offset (length bytes)) pages
+written pages offset bytes = with_pages (map (λ q. (q, page_after pages offset bytes q)) (pages_of offset (length bytes))) pages
 
 -- the pages of a file that is cut at the size: those that begin at or after it go, and the rest of the page in which it falls is zeros
 abbrev pub truncated : Pages → ℕ → Pages

@@ -1,13 +1,11 @@
 -- Paths in a fileset: the directories on the way, the walk along them, and what a directory lists.
 use Rattle.std.specs.Prelude.{ℕ, suc, ◌+◌, ◌==◌, Bool, true, false, not, ◌&&◌, List, [], ◌∷◌, ◌++◌, length, map, take, drop, nat_eq, Option, None, Some, is_none, if◌then◌else◌}
 use Rattle.std.specs.Option.{option_and_then, option_map_or}
-use Rattle.std.specs.List.{filter_map, starts_with}
+use Rattle.std.specs.List.{filter_map, range_with_len, starts_with}
 use Rattle.std.specs.Cmp.Lexicographic.{pointwise}
 use Rattle.std.specs.Ordering.{nat_cmp}
 use Rattle.std.specs.FinMap.{get, contains_key, entries}
-use Rattle.std.specs.FinSet.{contains}
 use Rattle.fileset_model.specs.Orders.{Name, Path}
-use Rattle.fileset_model.specs.Pages.{numbers}
 use Rattle.fileset_model.specs.Fileset.{Fileset}
 use Rattle.fileset_model.specs.declared.node.Node.{Node}
 use Rattle.fileset_model.specs.declared.node.Node.TheVariants.{File, Directory}
@@ -46,7 +44,7 @@ is_directory (Directory uid gid) = true
 -- whether a number lost its frozen content; an original's never does
 abbrev pub is_out_of_sync : Role → ℕ → Bool
 is_out_of_sync Original number = false
-is_out_of_sync (CloneOf original out) number = contains out number
+is_out_of_sync (CloneOf original out) number = contains_key out number
 
 -- the same of what a path leads to
 abbrev pub is_marked : FilesetSlot → Path → Bool
@@ -60,7 +58,7 @@ directory_refusal slot path =
 
 -- the paths of the directories that a path leads through, from the root on
 abbrev pub directories_to : Path → List Path
-directories_to path = map (λ count. take count path) (numbers 0 (length path))
+directories_to path = map (λ count. take count path) (range_with_len 0 (length path))
 
 -- what the way to a path's last name refuses
 abbrev pub walk_refusal : FilesetSlot → Path → Option Refusal

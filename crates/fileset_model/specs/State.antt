@@ -62,9 +62,9 @@ pub record AreValid (all : FilesetMap) : Type 0 where
   pub few : map.len all ≤ MAX_FILESETS
   pub each : (name : Name) (slot : FilesetSlot) → map.get all name ≡ Some slot → IsValidFileset slot.tree
   pub originals : (name original : Name) (slot : FilesetSlot) (out : _) → map.get all name ≡ Some slot → slot.role ≡ CloneOf original out
-    → IsSomeAnd (map.get all original) (λ of. of.role ≡ Original)
+      → IsSomeAnd (map.get all original) (λ of. of.role ≡ Original)
   pub one_clone : (p q original : Name) (slot other : FilesetSlot) (out out' : _) → map.get all p ≡ Some slot → map.get all q ≡ Some other
-    → slot.role ≡ CloneOf original out → other.role ≡ CloneOf original out' → p ≡ q
+      → slot.role ≡ CloneOf original out → other.role ≡ CloneOf original out' → p ≡ q
 
 -- what is always so
 pub record IsValid (s : State) : Type 0 where

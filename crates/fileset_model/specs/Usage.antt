@@ -28,13 +28,13 @@ abbrev pub blocks_of : Node → ℕ
 blocks_of (File uid gid size logged pages) = BLOCKS_PER_PAGE * map.len pages
 blocks_of (Directory uid gid) = 0
 
--- whether a number is the root's
-abbrev pub is_root : Fileset → ℕ → Bool
-is_root tree number = option_map_or (λ root. root == number) (map.get tree.paths []) false
+-- whether a file or directory counts for the owner: it is the owner's, and not the root
+abbrev pub counts_for : Owner → Option ℕ → ℕ × Node → Bool
+counts_for who root e = is_owners who e.1 && not (option_map_or (λ number. number == e.0) root false)
 
 -- the owner's files and directories but for the root
 abbrev pub owned : Fileset → Owner → List (ℕ × Node)
-owned tree who = filter (λ e. is_owners who e.1 && not (is_root tree e.0)) (map.entries tree.nodes)
+owned tree who = filter (counts_for who (map.get tree.paths [])) (map.entries tree.nodes)
 
 abbrev pub used_files : Fileset → Owner → ℕ
 used_files tree who = length (owned tree who)

@@ -1,5 +1,13 @@
+ghost use Rattle.std.specs.Prelude.{◌≡◌};
+ghost use Rattle.std.specs.Ordering.{as_partial_cmp, eq_by_cmp};
+ghost use Rattle.std.specs.Cmp.{partial_order_from_own_ties};
+ghost use Rattle.std.specs.Cmp.Rules.{comparing};
+ghost use Rattle.std.proofs.Common.{rules};
+ghost use Rattle.fileset_model.specs.Orders.{owner_cmp, owner_id, owner_kind};
+
 use crate::listing::Listing;
 use crate::names::{Bytes, FilesetName, Path};
+use std::cmp::Ordering;
 
 /// A path in a fileset, written `FILESET:/NAME/NAME`.
 #[derive(Debug, Drop)]
@@ -17,6 +25,68 @@ pub enum Owner {
     Group(u32),
     /// All files and directories of the fileset.
     Fileset,
+}
+
+impl Owner {
+    /// Where the owner's kind stands in the order of owners: users, groups, and then the fileset.
+    fn kind(&self) -> u8
+        ensures { result ≡ owner_kind self.now }
+    {
+        match self {
+            Owner::User(_) => 0,
+            Owner::Group(_) => 1,
+            Owner::Fileset => 2,
+        }
+    }
+
+    fn id(&self) -> u32
+        ensures { result ≡ owner_id self.now }
+    {
+        match self {
+            Owner::User(id) | Owner::Group(id) => *id,
+            Owner::Fileset => 0,
+        }
+    }
+}
+
+impl PartialEq for Owner {
+    ghost eq = { eq_by_cmp owner_cmp };
+
+    ghost laws = { Prim.search (comparing, rules) };
+
+    fn eq(&self, other: &Owner) -> bool {
+        self.cmp(other) == Ordering::Equal
+    }
+}
+
+impl Eq for Owner {
+    ghost laws = { Prim.search (comparing, rules) };
+}
+
+impl PartialOrd for Owner {
+    ghost partial_cmp = { as_partial_cmp owner_cmp };
+
+    ghost laws = { partial_order_from_own_ties (Prim.search (comparing, rules)) (Prim.search (comparing, rules)) };
+
+    fn partial_cmp(&self, other: &Owner) -> Option<Ordering> {
+        Some(self.cmp(other))
+    }
+}
+
+impl Ord for Owner {
+    ghost cmp = { owner_cmp };
+
+    ghost total = { Prim.search (comparing, rules) };
+
+    ghost matches_partial_cmp = { Prim.search (comparing, rules) };
+
+    ghost matches_eq = { Prim.search (comparing, rules) };
+
+    fn cmp(&self, other: &Owner) -> Ordering {
+        self.kind()
+            .cmp(&other.kind())
+            .then(self.id().cmp(&other.id()))
+    }
 }
 
 /// Who gives a command: a client, numbered from 1 to 8, or the mover of pages and volumes.

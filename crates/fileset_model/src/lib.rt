@@ -2,7 +2,9 @@
 //! plain slow program that answers them.
 #![tactic(auto)]
 
+mod answers;
 mod command;
+mod entries;
 mod entry;
 mod fileset;
 mod filesets;
@@ -10,8 +12,11 @@ mod listing;
 mod names;
 mod node;
 mod page_map;
+mod quota;
 mod reply;
+mod walk;
 
+pub use answers::apply;
 pub use command::{Actor, Command, CommandList, Owner, Place};
 pub use entry::Entry;
 pub use fileset::{FilesetSlot, FilesetTree, Limits, NumberSet, Role};

@@ -1,15 +1,17 @@
-ghost use Rattle.std.specs.Prelude.{◌≡◌, ℕ, List, IfOk, nat_eq};
+ghost use Rattle.std.specs.Prelude.{◌≡◌, ℕ, ◌≤◌, List, [], IfOk, length, nat_eq, take};
 ghost use Rattle.std.specs.Ordering.{nat_cmp, as_partial_cmp};
 ghost use Rattle.std.specs.Cmp.{partial_order_from_own_ties};
 ghost use Rattle.std.specs.Cmp.Lexicographic.{lists_ties, pointwise, slice_cmp, texts_ties};
 ghost use Rattle.std.specs.Cmp.Rules.{comparing};
 ghost use Rattle.std.proofs.Common.{rules};
 
+use domain_base::OutOfMemory;
+use std::alloc::Global;
 use std::cmp::Ordering;
 use std::marker::Model;
 
 /// The name of a fileset: 1 to 31 letters, digits, `_`, `-` and `.`, as far as a script gives it.
-#[derive(Clone, Debug, Drop)]
+#[derive(Debug, Drop)]
 pub struct FilesetName {
     bytes: Vec<u8>,
 }
@@ -21,6 +23,14 @@ impl Model for FilesetName {
 }
 
 impl FilesetName {
+    /// Another one with the same bytes.
+    pub fn copy(&self, alloc: Global) -> Result<FilesetName, OutOfMemory>
+        ensures { IfOk result (λ copy. copy ≡ self.now) }
+    {
+        let bytes = Vec::from_slice(alloc, self.bytes.as_slice())?;
+        Ok(FilesetName { bytes })
+    }
+
     pub fn from_vec(bytes: Vec<u8>) -> FilesetName
         ensures { result ≡ bytes.items }
     {
@@ -79,7 +89,7 @@ impl Ord for FilesetName {
 }
 
 /// The name of a file or directory in its directory: 1 to 255 bytes, without `/` and zero, not `.` and not `..`, as far as a script gives it.
-#[derive(Clone, Debug, Drop)]
+#[derive(Debug, Drop)]
 pub struct Name {
     bytes: Vec<u8>,
 }
@@ -91,6 +101,14 @@ impl Model for Name {
 }
 
 impl Name {
+    /// Another one with the same bytes.
+    pub fn copy(&self, alloc: Global) -> Result<Name, OutOfMemory>
+        ensures { IfOk result (λ copy. copy ≡ self.now) }
+    {
+        let bytes = Vec::from_slice(alloc, self.bytes.as_slice())?;
+        Ok(Name { bytes })
+    }
+
     pub fn from_vec(bytes: Vec<u8>) -> Name
         ensures { result ≡ bytes.items }
     {
@@ -149,7 +167,7 @@ impl Ord for Name {
 }
 
 /// The names that lead from the root of a fileset to a file or directory. The empty path is the root.
-#[derive(Clone, Debug, Drop)]
+#[derive(Debug, Drop)]
 pub struct Path {
     names: Vec<Name>,
 }
@@ -161,6 +179,34 @@ impl Model for Path {
 }
 
 impl Path {
+    /// The path of the root.
+    pub fn root(alloc: Global) -> Path
+        ensures { result ≡ [] }
+    {
+        Path {
+            names: Vec::new(alloc),
+        }
+    }
+
+    /// The path of the first names, so many.
+    pub fn front(&self, alloc: Global, count: usize) -> Result<Path, OutOfMemory>
+        requires { count ≤ length self.now }
+        ensures { IfOk result (λ path. path ≡ take count self.now) }
+    {
+        let mut names = Vec::new(alloc);
+        for name in &self.names[..count] {
+            names.push(name.copy(alloc)?)?;
+        }
+        Ok(Path { names })
+    }
+
+    /// Another path with the same names.
+    pub fn copy(&self, alloc: Global) -> Result<Path, OutOfMemory>
+        ensures { IfOk result (λ copy. copy ≡ self.now) }
+    {
+        self.front(alloc, self.names.len())
+    }
+
     pub fn from_vec(names: Vec<Name>) -> Path
         ensures { result ≡ names.items }
     {
@@ -219,7 +265,7 @@ impl Ord for Path {
 }
 
 /// Bytes that a command writes or a reply gives.
-#[derive(Clone, Debug, Drop)]
+#[derive(Debug, Drop)]
 pub struct Bytes {
     bytes: Vec<u8>,
 }
@@ -231,6 +277,14 @@ impl Model for Bytes {
 }
 
 impl Bytes {
+    /// Another one with the same bytes.
+    pub fn copy(&self, alloc: Global) -> Result<Bytes, OutOfMemory>
+        ensures { IfOk result (λ copy. copy ≡ self.now) }
+    {
+        let bytes = Vec::from_slice(alloc, self.bytes.as_slice())?;
+        Ok(Bytes { bytes })
+    }
+
     pub fn from_vec(bytes: Vec<u8>) -> Bytes
         ensures { result ≡ bytes.items }
     {

@@ -1,14 +1,22 @@
-ghost use Rattle.std.specs.Prelude.{◌≡◌};
+ghost use Rattle.std.specs.Prelude.{◌≡◌, ◌+◌, ◌-◌, ◌*◌, ◌^◌, ◌<◌, ◌≤◌, length, map as map_each, min, vec_len, vec_capacity, IfOk, OnOk, OnErr, IsTrue, not, unwrap_or};
+ghost use Rattle.std.specs.List.{range_with_len};
+ghost use Rattle.std.specs.Ordering.{nat_cmp};
 ghost use Rattle.std.specs.FinMap as map;
+ghost use Rattle.std.specs.FinMap.Entries.{is_sorted};
+ghost use Rattle.domain_base.specs.Page.{zero_bytes};
+ghost use Rattle.fileset_model.specs.Entries.{put_each};
+ghost use Rattle.fileset_model.specs.Pages.{absent_pages, byte_at as byte_of, page_after as bytes_after, pages_of, written};
 
-use domain_base::Page;
+use crate::entries::{find, put};
+use domain_base::limits::{FILE_BYTES, PAGE_BYTES};
+use domain_base::{OutOfMemory, Page};
 use std::alloc::Global;
 use std::marker::Model;
 
 /// The pages of a file that are there, by their numbers.
 #[derive(Debug, Drop)]
 pub struct PageMap {
-    pages: Vec<(u32, Page)>,
+    pages: Vec<(u64, Page)>,
 }
 
 impl Model for PageMap {
@@ -27,6 +35,7 @@ impl Model for PageMap {
 }
 
 impl PageMap {
+    /// No pages.
     pub fn new(alloc: Global) -> PageMap
         ensures { result ≡ map.empty }
     {
@@ -34,4 +43,145 @@ impl PageMap {
             pages: Vec::new(alloc),
         }
     }
+
+    /// How many pages there are.
+    pub fn len(&self) -> usize
+        ensures { result ≡ map.len self.now }
+    {
+        self.pages.len()
+    }
+
+    /// The bytes from the offset on, so many; those of absent pages are zeros.
+    pub fn read(&self, alloc: Global, offset: u64, count: u64) -> Result<Vec<u8>, OutOfMemory>
+        requires { offset + count < 2 ^ 64 }
+        ensures { IfOk result (λ v. v.items ≡ map_each (byte_of self.now) (range_with_len offset count)) }
+    {
+        let mut bytes = Vec::new(alloc);
+        for x in offset..offset + count {
+            bytes.push(byte_at(&self.pages, x))?;
+        }
+        Ok(bytes)
+    }
+
+    /// How many of the pages that so many bytes from the offset on lie in are absent.
+    pub fn count_absent(&self, offset: u64, len: u64) -> u64
+        requires { offset + len < 2 ^ 64 }
+        ensures { result ≡ absent_pages self.now offset len }
+    {
+        if len == 0 {
+            return 0;
+        }
+        let first = offset / PAGE_BYTES as u64;
+        let end = (offset + len - 1) / PAGE_BYTES as u64 + 1;
+        let mut absent = 0;
+        for q in first..end {
+            absent += u64::from(is_absent(&self.pages, q));
+        }
+        absent
+    }
+
+    /// Writes the bytes at the offset; what else lies in a page that was absent is zeros. After an
+    /// error the pages are as before.
+    pub fn write(&mut self, alloc: Global, offset: u64, bytes: &[u8]) -> Result<(), OutOfMemory>
+        requires { offset + length bytes.now ≤ FILE_BYTES }
+        ensures ok { OnOk result (self.new ≡ written self.old offset bytes.now) }
+        ensures err { OnErr result (self.new ≡ self.old) }
+    {
+        let changed = pages_after(alloc, &self.pages, offset, bytes)?;
+        put_pages(&mut self.pages, changed)?;
+        Ok(())
+    }
+}
+
+fn is_absent(pages: &[(u64, Page)], q: u64) -> bool
+    requires { IsTrue (is_sorted nat_cmp pages.now) }
+    ensures { result ≡ not (map.contains_key (map.from_sorted {R = nat_cmp} pages.now) q) }
+{
+    match find(pages, &q) {
+        Some(_) => false,
+        None => true,
+    }
+}
+
+/// The byte at `x`, which is zero where its page is absent.
+fn byte_at(pages: &[(u64, Page)], x: u64) -> u8
+    requires { IsTrue (is_sorted nat_cmp pages.now) }
+    ensures { result ≡ byte_of (map.from_sorted pages.now) x }
+{
+    match find(pages, &(x / PAGE_BYTES as u64)) {
+        Some(page) => page.bytes()[(x % PAGE_BYTES as u64) as usize],
+        None => 0,
+    }
+}
+
+/// The pages that a write of the bytes at the offset changes, as they are after it.
+fn pages_after(
+    alloc: Global,
+    pages: &[(u64, Page)],
+    offset: u64,
+    bytes: &[u8],
+) -> Result<Vec<(u64, Page)>, OutOfMemory>
+    requires sorted { IsTrue (is_sorted nat_cmp pages.now) }
+    requires fits { offset + length bytes.now ≤ FILE_BYTES }
+    ensures { IfOk result (λ v. v.items ≡ map_each (λ q. (q, bytes_after (map.from_sorted pages.now) offset bytes.now q)) (pages_of offset (length bytes.now))) }
+{
+    let mut changed = Vec::new(alloc);
+    if bytes.is_empty() {
+        return Ok(changed);
+    }
+    let page_bytes = PAGE_BYTES as u64;
+    let first = offset / page_bytes;
+    let end = (offset + bytes.len() as u64 - 1) / page_bytes + 1;
+    for q in first..end {
+        let page = page_after(alloc, pages, offset, bytes, q)?;
+        changed.push((q, page))?;
+    }
+    Ok(changed)
+}
+
+/// Page `q` as it is after a write of the bytes at the offset.
+fn page_after(
+    alloc: Global,
+    pages: &[(u64, Page)],
+    offset: u64,
+    bytes: &[u8],
+    q: u64,
+) -> Result<Page, OutOfMemory>
+    requires sorted { IsTrue (is_sorted nat_cmp pages.now) }
+    requires fits { q * PAGE_BYTES < 2 ^ 64 }
+    requires reached { offset - q * PAGE_BYTES ≤ PAGE_BYTES }
+    requires reaches { q * PAGE_BYTES - offset ≤ length bytes.now }
+    ensures { IfOk result (λ page. page ≡ bytes_after (map.from_sorted pages.now) offset bytes.now q) }
+{
+    let mut page = page_or_zeros(alloc, pages, q)?;
+    let start = q * PAGE_BYTES as u64;
+    let at = offset.saturating_sub(start) as usize;
+    let rest = &bytes[start.saturating_sub(offset) as usize..];
+    page.set(at, &rest[..rest.len().min(PAGE_BYTES - at)]);
+    Ok(page)
+}
+
+/// Page `q`, or a page of zeros where it is absent.
+fn page_or_zeros(alloc: Global, pages: &[(u64, Page)], q: u64) -> Result<Page, OutOfMemory>
+    requires { IsTrue (is_sorted nat_cmp pages.now) }
+    ensures { IfOk result (λ page. page ≡ unwrap_or (map.get (map.from_sorted {R = nat_cmp} pages.now) q) (zero_bytes PAGE_BYTES)) }
+{
+    match find(pages, &q) {
+        Some(page) => page.copy(alloc),
+        None => Page::zeros(alloc),
+    }
+}
+
+/// Puts each of these pages in place of what was there. After an error the pages are as before.
+fn put_pages(pages: &mut Vec<(u64, Page)>, changed: Vec<(u64, Page)>) -> Result<(), OutOfMemory>
+    requires { IsTrue (is_sorted nat_cmp pages.old.items) }
+    ensures ok { OnOk result (pages.new.items ≡ put_each nat_cmp changed.items pages.old.items) }
+    ensures err { OnErr result (pages.new.items ≡ pages.old.items) }
+    ensures sorted { IsTrue (is_sorted nat_cmp pages.new.items) }
+{
+    pages.reserve(changed.len())?;
+    for (q, page) in changed {
+        put(pages, q, page)?;
+    }
+    Ok(())
 }

@@ -1,0 +1,10 @@
+use Rattle.std.proofs.Common.{ℕ, List, ◌/◌, ◌%◌, slice_index, ap, sym, ◌∙◌}
+use Rattle.std.specs.Ordering.{nat_cmp}
+use Rattle.fileset_model.proofs.EntryLemmas.{get-from_sorted}
+use Rattle.fileset_model.proofs.page_map.byte_at.Goals as goal
+
+pub returns-in-Some : goal.returns-in-Some
+returns-in-Some c = rw (get-from_sorted nat_cmp c.args.pages.now (c.args.x / 8192) c.requires, ← c.find.ensures, c.in-Some.is) (ap (λ (page : List ℕ). slice_index page (c.args.x % 8192)) c.bytes.ensures.value)
+
+pub returns-in-None : goal.returns-in-None
+returns-in-None c = rw (get-from_sorted nat_cmp c.args.pages.now (c.args.x / 8192) c.requires, ← c.find.ensures, c.in-None.is)

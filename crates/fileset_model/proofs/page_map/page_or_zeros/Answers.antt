@@ -1,0 +1,11 @@
+use Rattle.std.proofs.Common.{rules, ap, sym, ◌∙◌}
+use Rattle.std.specs.Ordering.{nat_cmp}
+use Rattle.fileset_model.proofs.EntryLemmas.{get-from_sorted}
+use Rattle.std.specs.Prelude.{unwrap_or}
+use Rattle.fileset_model.proofs.page_map.page_or_zeros.Goals as goal
+
+pub returns-in-Some : goal.returns-in-Some
+returns-in-Some c = rw (get-from_sorted nat_cmp c.args.pages.now c.args.q c.requires, ← c.find.ensures, c.in-Some.is) c.copy.ensures.value
+
+pub returns-in-None : goal.returns-in-None
+returns-in-None c = rw (get-from_sorted nat_cmp c.args.pages.now c.args.q c.requires, ← c.find.ensures, c.in-None.is) c.zeros.ensures.value

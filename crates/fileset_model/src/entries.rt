@@ -1,0 +1,54 @@
+//! Lists of entries in the order of their keys, each list seen as the map from its keys to their values.
+ghost use Rattle.std.specs.Prelude.{◌≡◌, ◌+◌, ◌<◌, ◌≤◌, OnOk, OnErr, IfOk, IfErr, IsOk, IsTrue, option_copied, vec_len, vec_capacity};
+ghost use Rattle.std.specs.FinMap.Entries.{find as found_at, is_sorted, put as put_at};
+ghost use Rattle.fileset_model.specs.Entries.{IsGapOf, IsPlaceOf};
+
+use domain_base::OutOfMemory;
+use std::cmp::Ordering;
+
+/// The place of the entry with this key, or as an error the place where it would stand.
+pub(crate) fn place_of<K: Ord, V>(entries: &[(K, V)], key: &K) -> Result<usize, usize>
+    requires { IsTrue (is_sorted K.cmp entries.now) }
+    ensures place { IfOk result (IsPlaceOf K.cmp entries.now key.now) }
+    ensures gap { IfErr result (IsGapOf K.cmp entries.now key.now) }
+{
+    for (i, entry) in entries.iter().enumerate() {
+        match key.cmp(&entry.0) {
+            Ordering::Less => return Err(i),
+            Ordering::Equal => return Ok(i),
+            Ordering::Greater => {}
+        }
+    }
+    Err(entries.len())
+}
+
+/// The value at this key.
+pub(crate) fn find<'a, K: Ord, V>(entries: &'a [(K, V)], key: &K) -> Option<&'a V>
+    requires { IsTrue (is_sorted K.cmp entries.now) }
+    ensures { option_copied result ≡ found_at K.cmp key.now entries.now }
+{
+    let place = place_of(entries, key).ok()?;
+    Some(&entries[place].1)
+}
+
+/// Sets the value at this key. After an error the entries are as before; there is none where the
+/// vector has room for one more.
+pub(crate) fn put<K: Ord + Drop, V: Drop>(
+    entries: &mut Vec<(K, V)>,
+    key: K,
+    value: V,
+) -> Result<(), OutOfMemory>
+    requires { IsTrue (is_sorted K.cmp entries.old.items) }
+    ensures ok { OnOk result (entries.new.items ≡ put_at K.cmp key value entries.old.items) }
+    ensures err { OnErr result (entries.new.items ≡ entries.old.items) }
+    ensures room { vec_len entries.old < vec_capacity entries.old → IsOk result }
+    ensures sorted { IsTrue (is_sorted K.cmp entries.new.items) }
+    ensures len { vec_len entries.new ≤ vec_len entries.old + 1 }
+    ensures capacity { vec_capacity entries.old ≤ vec_capacity entries.new }
+{
+    match place_of(entries, &key) {
+        Ok(place) => entries[place].1 = value,
+        Err(place) => entries.insert(place, (key, value))?,
+    }
+    Ok(())
+}
