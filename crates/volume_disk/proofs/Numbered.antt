@@ -1,9 +1,10 @@
 -- What a change of one volume leaves of all.
-use Rattle.std.proofs.Common.{◌≡◌, ◌≢◌, ℕ, zero, suc, ◌+◌, ◌<◌, Bool, List, [], ◌∷◌, length, get_or, set, map, eqb, refl, sym, ◌∙◌, ap, inl, inr, arith, add-one}
+use Rattle.std.proofs.Common.{◌≡◌, ◌≢◌, ℕ, zero, suc, ◌+◌, ◌<◌, ◌≤◌, Bool, false, List, [], ◌∷◌, ◌++◌, length, get_or, set, refl, sym, ◌∙◌, ap, inl, inr, arith, add-one}
 use Rattle.std.proofs.lemmas.Bool.{cases_eq, eq-eqb, ne_eqb}
 use Rattle.volume_disk.specs.Disk.{Moment, pages_of, put_at}
 use Rattle.volume_disk.specs.Image.{Image}
-use Rattle.volume_disk.specs.Volume.{byte_of, field_at, field_of, sizes_of}
+use Rattle.volume_disk.specs.Moment.{blank}
+use Rattle.volume_disk.specs.Volume.{byte_of, mark_of, field_at, field_of, moment_of, sizes_of}
 use Rattle.volume_disk.specs.declared.volume.Volume.{Volume}
 
 module _ {X : Type 0} (f : Volume → X) (d : X) where
@@ -23,6 +24,43 @@ module _ {X : Type 0} (f : Volume → X) (d : X) where
   field_at-get_or [] i v lt = absurd (omega arith)
   field_at-get_or (x ∷ volumes) zero v lt = refl
   field_at-get_or (x ∷ volumes) (suc i) v lt = field_at-get_or volumes i v (omega arith)
+
+  pub field_at-past : (volumes : List Volume) (i : ℕ) → length volumes ≤ i → field_at f d volumes i ≡ d
+  field_at-past [] i le = refl
+  field_at-past (x ∷ volumes) zero le = absurd (omega arith)
+  field_at-past (x ∷ volumes) (suc i) le = field_at-past volumes i (omega arith)
+
+  -- past the last volume
+  pub field_of-past : (volumes : List Volume) (vol i : ℕ) → i + 1 ≡ vol → length volumes ≤ i → field_of f d volumes vol ≡ d
+  field_of-past volumes vol i number le = ap (field_of f d volumes) (sym number ∙ add-one i) ∙ field_at-past volumes i le
+
+  pub field_at-read : (volumes : List Volume) (i : ℕ) (v : Volume) → i < length volumes → v ≡ get_or volumes i v → field_at f d volumes i ≡ f v
+  field_at-read volumes i v lt read = field_at-get_or volumes i v lt ∙ ap f (sym read)
+
+  pub field_at-push_before : (volumes : List Volume) (x : Volume) (i : ℕ) → i < length volumes → field_at f d (volumes ++ x ∷ []) i ≡ field_at f d volumes i
+  field_at-push_before [] x i lt = absurd (omega arith)
+  field_at-push_before (y ∷ volumes) x zero lt = refl
+  field_at-push_before (y ∷ volumes) x (suc i) lt = field_at-push_before volumes x i (omega arith)
+
+  pub field_at-push_last : (volumes : List Volume) (x : Volume) (i : ℕ) → length volumes ≡ i → field_at f d (volumes ++ x ∷ []) i ≡ f x
+  field_at-push_last [] x zero is = refl
+  field_at-push_last [] x (suc i) is = absurd (omega arith)
+  field_at-push_last (y ∷ volumes) x zero is = absurd (omega arith)
+  field_at-push_last (y ∷ volumes) x (suc i) is = field_at-push_last volumes x i (omega arith)
+
+  field_at-push : (volumes : List Volume) (x : Volume) → ((i : ℕ) → field_at f d volumes i ≡ d) → f x ≡ d → (i : ℕ) → field_at f d (volumes ++ x ∷ []) i ≡ d
+  field_at-push [] x none last zero = last
+  field_at-push [] x none last (suc i) = refl
+  field_at-push (y ∷ volumes) x none last zero = none 0
+  field_at-push (y ∷ volumes) x none last (suc i) = field_at-push volumes x (λ j. none (suc j)) last i
+
+  -- one volume more where every volume has d
+  pub field_of-push : (volumes : List Volume) (x : Volume) → field_of f d volumes ≡ (λ _. d) → f x ≡ d → field_of f d (volumes ++ x ∷ []) ≡ (λ _. d)
+  field_of-push volumes x none last = λ j vol. place vol j
+    where
+      place : (vol : ℕ) → field_of f d (volumes ++ x ∷ []) vol ≡ d
+      place zero = refl
+      place (suc i) = field_at-push volumes x (λ k. ap (λ (g : ℕ → X). g (suc k)) none) last i
 
   module _ (volumes : List Volume) (vol i : ℕ) (x v : Volume) (number : i + 1 ≡ vol) (lt : i < length volumes) (read : v ≡ get_or volumes i v) where
     -- what is read of a volume by its number
@@ -62,7 +100,7 @@ sizes_of-set (y ∷ volumes) zero x v read same lt = λ j. (same ∙ pages_path 
     pages_path e = λ j. (e j).pages
 sizes_of-set (y ∷ volumes) (suc i) x v read same lt = ap (λ (l : List ℕ). y.pages ∷ l) (sizes_of-set volumes i x v read same (omega arith))
 
-pages_at : (volumes : List Volume) (i : ℕ) (v : Volume) → i < length volumes → get_or (sizes_of volumes) i 0 ≡ (get_or volumes i v).pages
+pub pages_at : (volumes : List Volume) (i : ℕ) (v : Volume) → i < length volumes → get_or (sizes_of volumes) i 0 ≡ (get_or volumes i v).pages
 pages_at [] i v lt = absurd (omega arith)
 pages_at (y ∷ volumes) zero v lt = refl
 pages_at (y ∷ volumes) (suc i) v lt = pages_at volumes i v (omega arith)
@@ -75,3 +113,24 @@ same_moment c c' u u' p q = λ i. record { contents = p i; unsynced = q i }
 
 pub same_bytes : (x y : Volume) → x.bytes ≡ y.bytes → byte_of x ≡ byte_of y
 same_bytes x y same = λ i k. get_or (same i).items k 0
+
+-- one volume of zeros more
+pub moment_of-push : (volumes : List Volume) (x : Volume) → moment_of volumes ≡ blank → byte_of x ≡ (λ _. 0) → mark_of x ≡ (λ _. false) → moment_of (volumes ++ x ∷ []) ≡ blank
+moment_of-push volumes x was bytes marks =
+    same_moment _ _ _ _
+    (field_of-push byte_of (λ _. 0) volumes x (λ i. (was i).contents) bytes)
+    (field_of-push mark_of (λ _. false) volumes x (λ i. (was i).unsynced) marks)
+
+pub sizes_of-push : (volumes : List Volume) (x : Volume) → sizes_of (volumes ++ x ∷ []) ≡ sizes_of volumes ++ x.pages ∷ []
+sizes_of-push [] x = refl
+sizes_of-push (y ∷ volumes) x = ap (λ (l : List ℕ). y.pages ∷ l) (sizes_of-push volumes x)
+
+pub length-sizes_of : (volumes : List Volume) → length (sizes_of volumes) ≡ length volumes
+length-sizes_of [] = refl
+length-sizes_of (y ∷ volumes) = ap suc (length-sizes_of volumes)
+
+-- two racks of the same sizes have the same pages at each place
+pub pages_at-same : (volumes others : List Volume) (i : ℕ) (v w : Volume) → sizes_of others ≡ sizes_of volumes → i < length volumes → v ≡ get_or volumes i v → w ≡ get_or others i w → w.pages ≡ v.pages
+pages_at-same volumes others i v w same lt read other_read =
+    let there : length others ≡ length volumes = sym (length-sizes_of others) ∙ ap length same ∙ length-sizes_of volumes in
+    (λ j. (other_read j).pages) ∙ sym (pages_at others i w (omega arith)) ∙ ap (λ (l : List ℕ). get_or l i 0) same ∙ pages_at volumes i v lt ∙ (λ j. (sym read j).pages)

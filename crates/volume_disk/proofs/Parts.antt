@@ -1,7 +1,6 @@
 -- What a write to a part of a list leaves at each place.
-use Rattle.std.proofs.Common.{◌≡◌, ◌&&◌, ◌||◌, ℕ, ◌+◌, ◌-◌, ◌*◌, ◌/◌, ◌%◌, ◌<◌, ◌≤◌, Bool, true, false, cond, List, ◌++◌, length, get_or, take, drop, replicate, leb, ltb, refl, sym, ◌∙◌, ap, inl, inr, arith, rules, length-append, length-take, length-drop}
+use Rattle.std.proofs.Common.{◌≡◌, ◌&&◌, ◌||◌, ℕ, ◌+◌, ◌-◌, ◌*◌, ◌/◌, ◌<◌, ◌≤◌, Bool, true, false, cond, List, length, get_or, take, drop, replicate, leb, ltb, refl, sym, ◌∙◌, ap, inl, inr, arith, rules, length-append, length-take, length-drop}
 use Rattle.std.proofs.lemmas.Bool.{cases_lt, lt-leb, le-leb, lt-ltb, le-ltb, and_parts, leb-true, ltb-true}
-use Rattle.std.proofs.lemmas.Bool.Decides.{nat_tests}
 use Rattle.std.proofs.lemmas.List.{places, get_or-replicate, length-replicate}
 use borrow.Rule.Slice.PartMut.{put_mid}
 use Rattle.volume_disk.specs.Moment.{overlaid, marked}
@@ -27,6 +26,9 @@ module _ {X : Type 0} (a n : ℕ) (xs ys : List X) (size : length ys ≡ n) (fit
 
 pub length-put_mid : {X : Type 0} (a n : ℕ) (xs ys : List X) → length ys ≡ n → a + n ≤ length xs → length (put_mid a n xs ys) ≡ length xs
 length-put_mid a n xs ys size fits = simp (length-append, length-take, length-drop) (omega arith)
+
+pub length-mid : {X : Type 0} (a n : ℕ) (xs : List X) → a + n ≤ length xs → length (take n (drop a xs)) ≡ n
+length-mid a n xs fits = simp (length-take, length-drop) (omega arith)
 
 -- bytes written to a part of a list
 pub byte_overlaid : (xs old ys bytes : List ℕ) (at n : ℕ) → xs ≡ old → ys ≡ bytes → n ≡ length bytes → at + n ≤ length xs → (λ k. get_or (put_mid at n xs ys) k 0) ≡ overlaid (λ k. get_or old k 0) at bytes
@@ -70,3 +72,10 @@ mark_marked marks old ys block n size was same is fits = λ i k. place k i
           ltb-blocks block n k,
           is,
         ) refl
+
+-- a block that is replaced by another leaves the others
+pub get_or-other_block : (xs ys : List ℕ) (block n k : ℕ) → n ≡ 512 → length ys ≡ n → 512 * block + n ≤ length xs → (k / 512 ≡ block → ⊥) → get_or (put_mid (512 * block) n xs ys) k 0 ≡ get_or xs k 0
+get_or-other_block xs ys block n k whole size fits other = elim (cases_lt k (512 * block)) [
+  | inl lt ↦ below (512 * block) n xs ys size fits k 0 lt
+  | inr le ↦ elim (cases_lt k (512 * block + n)) [ inl lt ↦ absurd (other (omega arith)) | inr far ↦ above (512 * block) n xs ys size fits k 0 far ]
+]

@@ -1,5 +1,5 @@
 -- A rack as a value: what its volumes hold, what a stop may leave of them, and how each call changes both.
-use Rattle.std.specs.Prelude.{◌≡◌, ◌≢◌, ◌⊎◌, ◌==◌, ◌&&◌, ◌^◌, ℕ, zero, suc, ◌+◌, ◌-◌, ◌*◌, ◌%◌, ◌<◌, ◌≤◌, min, nat_lt, if◌then◌else◌, Bool, true, false, IsTrue, List, length, slice_index}
+use Rattle.std.specs.Prelude.{◌≡◌, ◌≢◌, ◌⊎◌, ◌==◌, ◌&&◌, ◌^◌, ℕ, zero, suc, ◌+◌, ◌-◌, ◌*◌, ◌%◌, ◌<◌, ◌≤◌, min, max, nat_lt, if◌then◌else◌, Bool, true, false, IsTrue, List, length, slice_index}
 use Rattle.volume_disk.specs.Image.{Image, IsIn, SameOutside, HasBytes, bytes_at}
 
 -- what a read gives, and the places where a stop may leave any byte
@@ -54,6 +54,10 @@ pub record MayHaveLeft (disk : Disk) (t : ℕ) (image : Image) : Type 0 where
 abbrev pub Since : Disk → ℕ → Image → Type 0
 Since disk t image = ((t ≤ disk.calls) × MayLeave disk.now image) ⊎ MayHaveLeft disk t image
 
+-- the moment after call t
+abbrev pub moment_at : Disk → ℕ → Moment
+moment_at disk t = if t == disk.calls then disk.now else disk.past t
+
 -- nothing is pending: a stop leaves what a read gives
 abbrev pub IsSettled : Moment → Type 0
 IsSettled moment = (v k : ℕ) → moment.unsynced v k ≡ false
@@ -62,7 +66,7 @@ IsSettled moment = (v k : ℕ) → moment.unsynced v k ≡ false
 
 -- a count one higher, which stays at the last value of a u64
 abbrev pub raised : ℕ → ℕ
-raised count = min (count + 1) (2 ^ 64 - 1)
+raised count = max count (min (count + 1) (2 ^ 64 - 1))
 
 -- what each volume has, with this at one of them
 abbrev pub put_at : {X : Type 0} → (ℕ → X) → ℕ → X → ℕ → X
@@ -72,9 +76,9 @@ put_at each vol x v = if v == vol then x else each v
 abbrev pub raised_at : (ℕ → ℕ) → ℕ → ℕ → ℕ
 raised_at counts vol = put_at counts vol (raised (counts vol))
 
--- a count has risen, or stands at its last value, where a rise does not show
+-- a count has risen, or stood at its last value, where a rise does not show
 abbrev pub HasRisen : ℕ → ℕ → Type 0
-HasRisen old new = (old < new) ⊎ ((old ≡ 2 ^ 64 - 1) × (new ≡ 2 ^ 64 - 1))
+HasRisen old new = (old < new) ⊎ ((2 ^ 64 - 1 ≤ old) × (old ≤ new))
 
 -- a call now need not fail
 abbrev pub MayPass : Disk → Type 0
@@ -154,7 +158,7 @@ SyncFailed old new vol = Makes old new old.read_faults (raised_at old.write_faul
 pub record Elapses (old new : Disk) : Type 0 where
   pub later : old.calls ≤ new.calls
   pub nothing_else : (t : ℕ) (image : Image) → t ≤ old.calls → Since new t image → Since old t image ⊎ MayLeave new.now image
-  pub keeps : (t : ℕ) (image : Image) → Since old t image → Since new t image
+  pub keeps : IsTrue old.kept → (t : ℕ) (image : Image) → Since old t image → Since new t image
 
 -- a stop at any moment since old leaves an image that has P
 pub record LeavesOnly (old new : Disk) (P : Image → Type 0) : Type 0 where

@@ -1,4 +1,5 @@
 pub mod Disk
+pub mod Fuse
 pub mod Image
 pub mod Kept
 pub mod Memory

@@ -1,11 +1,11 @@
 -- What a rack in memory stands for.
-use Rattle.std.specs.Prelude.{◌≡◌, ◌==◌, ◌&&◌, ℕ, nat_lt, if◌then◌else◌, Bool, true, false, List}
+use Rattle.std.specs.Prelude.{◌≡◌, ◌==◌, ◌&&◌, ℕ, nat_lt, if◌then◌else◌, Bool, true, false, List, []}
 use Rattle.std.specs.List.{list_any}
-use Rattle.volume_disk.specs.Disk.{Disk, Moment}
+use Rattle.volume_disk.specs.Disk.{Disk, Moment, MayLeave, moment_at}
 use Rattle.volume_disk.specs.Image.{Image}
 use Rattle.volume_disk.specs.Kept.{replayed}
 use Rattle.volume_disk.specs.Moment.{blank}
-use Rattle.volume_disk.specs.Volume.{moment_of, sizes_of, read_faults_of, write_faults_of}
+use Rattle.volume_disk.specs.Volume.{moment_of, settled_of, sizes_of, read_faults_of, write_faults_of}
 use Rattle.volume_disk.specs.declared.kept.KeptCall.{KeptCall}
 use Rattle.volume_disk.specs.declared.memory.MemoryRack.{MemoryRack}
 
@@ -23,7 +23,7 @@ memory_disk rack = record {
   told = true;
   now = moment_of rack.volumes.items.items;
   kept = rack.keeps;
-  past = past_of rack.keeps rack.calls (moment_of rack.first.items.items) rack.kept.items;
+  past = past_of rack.keeps rack.calls (settled_of rack.first.items.items) rack.kept.items;
 }
 
 -- a rack that has just started: nothing is pending and nothing is counted
@@ -39,3 +39,11 @@ started sizes image fails keeps = record {
   kept = keeps;
   past = λ _. blank;
 }
+
+-- a rack that started again after a stop right after this call, which left one of the images that it may leave. Pick 0
+-- is the one where everything is written.
+pub record IsRestarted (old : Disk) (call pick : ℕ) (new : Disk) : Type 0 where
+  pub image : Image
+  pub left : MayLeave (moment_at old call) image
+  pub all_written : pick ≡ 0 → image ≡ (moment_at old call).contents
+  pub is : new ≡ started old.sizes image [] true

@@ -33,6 +33,10 @@ write_faults_of = field_of (λ volume. volume.write_faults) 0
 abbrev pub moment_of : List Volume → Moment
 moment_of volumes = record { contents = field_of byte_of (λ _. 0) volumes; unsynced = field_of mark_of (λ _. false) volumes }
 
+-- what they hold, where nothing is pending
+abbrev pub settled_of : List Volume → Moment
+settled_of volumes = record { contents = field_of byte_of (λ _. 0) volumes; unsynced = λ _ _. false }
+
 -- the counts and sizes are the same
 pub record SameCounts (old new : List Volume) : Type 0 where
   pub sizes : sizes_of new ≡ sizes_of old

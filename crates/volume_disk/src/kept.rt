@@ -26,7 +26,13 @@ pub struct KeptCall {
 }
 
 /// Keeps a call, where calls are kept.
-pub fn keep(keeps: bool, kept: &mut Vec<KeptCall>, number: u64, vol: VolIx, effect: Effect) -> Result<(), OutOfMemory>
+pub fn keep(
+    keeps: bool,
+    kept: &mut Vec<KeptCall>,
+    number: u64,
+    vol: VolIx,
+    effect: Effect,
+) -> Result<(), OutOfMemory>
     ensures ok { OnOk result (Adds keeps kept.old.items kept.new.items number vol (block_of effect) (size_of effect) (λ moment. effect_on moment vol effect)) }
     ensures err { OnErr result (kept.new.items ≡ kept.old.items) }
 {

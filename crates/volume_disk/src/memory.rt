@@ -2,7 +2,7 @@
 ghost use Rattle.std.specs.Prelude.{◌≡◌, ◌≤◌, ◌*◌, false, take, All, IsTrue, IfOk};
 ghost use Rattle.volume_disk.specs.Disk.{AreBlocks, HasVolume, MayPass, ReadFailed, WriteFailed, SyncFailed};
 ghost use Rattle.volume_disk.specs.Kept.{FitsIn, replayed};
-ghost use Rattle.volume_disk.specs.Volume.{moment_of, sizes_of};
+ghost use Rattle.volume_disk.specs.Volume.{moment_of, settled_of, sizes_of};
 
 use crate::Rack;
 use crate::kept::{Effect, KeptCall, keep, keep_write};
@@ -24,17 +24,22 @@ pub struct MemoryRack {
     ghost numbered: { All (λ call. call.number ≤ calls) kept.items },
     ghost fit: { All (FitsIn (sizes_of volumes.items.items)) kept.items },
     ghost same_sizes: { IsTrue keeps → sizes_of first.items.items ≡ sizes_of volumes.items.items },
-    ghost replays: { IsTrue keeps → replayed (moment_of first.items.items) kept.items calls ≡ moment_of volumes.items.items },
+    ghost replays: { IsTrue keeps → replayed (settled_of first.items.items) kept.items calls ≡ moment_of volumes.items.items },
 }
 
 impl MemoryRack {
-    ghost use Rattle.volume_disk.specs.Memory.{memory_disk, started};
+    ghost use Rattle.volume_disk.specs.Memory.{memory_disk, started, IsRestarted};
 
     /// A rack of volumes of zeros, of so many pages each, in the order of their numbers. A domain has at most eight
     /// volumes, so only the first eight sizes count. A call fails whose number, counted from 1, is in `fails`. With
     /// `keep_calls` the rack can tell what a stop at any moment may have left, and a write or a sync fails where no
     /// memory is left to keep it; without, no call takes memory.
-    pub fn new(alloc: Global, sizes: &[u32], fails: &[u64], keep_calls: bool) -> Result<Self, OutOfMemory>
+    pub fn new(
+        alloc: Global,
+        sizes: &[u32],
+        fails: &[u64],
+        keep_calls: bool,
+    ) -> Result<Self, OutOfMemory>
         ensures { IfOk result (λ rack. memory_disk rack ≡ started (take 8 sizes.now) (λ _ _. 0) fails.now keep_calls) }
     {
         let sizes = &sizes[..sizes.len().min(8)];
@@ -49,6 +54,53 @@ impl MemoryRack {
             first,
             kept: Vec::new(alloc),
         })
+    }
+
+    /// Whether the rack keeps its calls, so that it can tell what a stop at an earlier moment may have left.
+    pub fn keeps_calls(&self) -> bool
+        ensures { result ≡ (memory_disk self.now).kept }
+    {
+        self.keeps
+    }
+
+    /// The rack that starts again after a stop right after a call: one that such a stop may leave, chosen by `pick`
+    /// among all. 0 is everything written, and 1 nothing that was not synced; others tear the ranges that were not,
+    /// each in its way. The condition is that the rack keeps its calls and has made that one; 0 is its making.
+    pub fn image(&self, alloc: Global, call: u64, pick: u64) -> Result<MemoryRack, OutOfMemory>
+        requires kept { IsTrue (memory_disk self.now).kept }
+        requires made { call ≤ (memory_disk self.now).calls }
+        ensures { IfOk result (λ rack. IsRestarted (memory_disk self.now) call pick (memory_disk rack)) }
+    {
+        let (now, synced) = self.replay(alloc, call)?;
+        let volumes = now.after_stop(alloc, &synced, pick)?;
+        let first = volumes.after_stop(alloc, &volumes, 0)?;
+        Ok(MemoryRack {
+            alloc,
+            volumes,
+            calls: 0,
+            fails: Vec::new(alloc),
+            keeps: true,
+            first,
+            kept: Vec::new(alloc),
+        })
+    }
+
+    /// The volumes as they were after a call, and beside them what each held when it was last synced.
+    fn replay(&self, alloc: Global, call: u64) -> Result<(Volumes, Volumes), OutOfMemory>
+        requires { IsTrue self.now.keeps }
+        ensures moment { IfOk result (λ r. moment_of r.0.items.items ≡ replayed (settled_of self.now.first.items.items) self.now.kept.items call) }
+        ensures sizes { IfOk result (λ r. sizes_of r.0.items.items ≡ sizes_of self.now.volumes.items.items) }
+        ensures synced { IfOk result (λ r. sizes_of r.1.items.items ≡ sizes_of r.0.items.items) }
+    {
+        let first = &self.first;
+        let mut now = first.after_stop(alloc, first, 0)?;
+        let mut synced = first.after_stop(alloc, first, 0)?;
+        for kept in &self.kept {
+            if kept.number <= call {
+                now.make(kept, &mut synced);
+            }
+        }
+        Ok((now, synced))
     }
 
     /// The next call has to fail.
@@ -86,7 +138,15 @@ impl MemoryRack {
             return self.fail_untorn(vol);
         }
         let number = self.calls + 1;
-        if keep(self.keeps, &mut self.kept, number, vol, Effect::Tore { block, size }).is_err() {
+        if keep(
+            self.keeps,
+            &mut self.kept,
+            number,
+            vol,
+            Effect::Tore { block, size },
+        )
+        .is_err()
+        {
             return self.fail_untorn(vol);
         }
         self.volumes.tear(vol, block, size);
@@ -124,7 +184,17 @@ impl Rack for MemoryRack {
             return Err(Failed);
         }
         let number = self.calls + 1;
-        if keep_write(self.alloc, self.keeps, &mut self.kept, number, vol, block, bytes).is_err() {
+        if keep_write(
+            self.alloc,
+            self.keeps,
+            &mut self.kept,
+            number,
+            vol,
+            block,
+            bytes,
+        )
+        .is_err()
+        {
             self.fail_untorn(vol);
             return Err(Failed);
         }

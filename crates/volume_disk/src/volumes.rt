@@ -1,11 +1,13 @@
 //! The volumes of a rack in memory, by their numbers.
 ghost use Rattle.std.specs.Prelude.{◌≡◌, ◌+◌, ◌*◌, ◌%◌, ◌≤◌, length, vec_len, IfOk};
-ghost use Rattle.volume_disk.specs.Disk.{pages_of, raised_at};
+ghost use Rattle.volume_disk.specs.Disk.{MayLeave, pages_of, raised_at};
 ghost use Rattle.volume_disk.specs.Image.{bytes_at};
+ghost use Rattle.volume_disk.specs.Kept.{FitsIn, effect_on};
 ghost use Rattle.volume_disk.specs.Moment.{blank, written, torn, synced};
-ghost use Rattle.volume_disk.specs.Volume.{moment_of, sizes_of, read_faults_of, write_faults_of, SameCounts};
+ghost use Rattle.volume_disk.specs.Volume.{moment_of, settled_of, sizes_of, read_faults_of, write_faults_of, SameCounts};
 
 use crate::Volume;
+use crate::kept::{Effect, KeptCall};
 use domain_base::limits::BLOCK_BYTES;
 use domain_base::{OutOfMemory, VolIx};
 use std::alloc::Global;
@@ -127,5 +129,58 @@ impl Volumes {
     {
         let volume = &mut self.items[vol.index()];
         volume.write_faults = volume.write_faults.saturating_add(1);
+    }
+
+    /// Makes a kept call again. A volume that it syncs is then copied to `synced`.
+    pub fn make(&mut self, call: &KeptCall, synced: &mut Volumes)
+        requires fits { FitsIn (sizes_of self.old.items.items) call.now }
+        requires same { sizes_of synced.old.items.items ≡ sizes_of self.old.items.items }
+        ensures moment { moment_of self.new.items.items ≡ effect_on (moment_of self.old.items.items) call.now.vol call.now.effect }
+        ensures sizes { sizes_of self.new.items.items ≡ sizes_of self.old.items.items }
+        ensures same { sizes_of synced.new.items.items ≡ sizes_of self.old.items.items }
+    {
+        match &call.effect {
+            Effect::Wrote { block, bytes } => self.write(call.vol, *block, bytes),
+            Effect::Tore { block, size } => self.tear(call.vol, *block, *size),
+            Effect::Synced => {
+                self.sync(call.vol);
+                synced.copy(call.vol, self);
+            }
+        }
+    }
+
+    /// Takes the bytes of one of the other volumes, which have the same sizes.
+    pub fn copy(&mut self, vol: VolIx, other: &Volumes)
+        requires in_rack { vol ≤ length self.old.items.items }
+        requires same { sizes_of self.old.items.items ≡ sizes_of other.now.items.items }
+        ensures { sizes_of self.new.items.items ≡ sizes_of self.old.items.items }
+    {
+        let from = &other.items[vol.index()];
+        let volume = &mut self.items[vol.index()];
+        volume.bytes.copy_from_slice(&from.bytes);
+    }
+
+    /// Volumes that a stop may leave of these, with nothing pending and no fault counted: where a block was not
+    /// synced, `pick` chooses what is left of it. The `synced` volumes, of the same sizes, hold what was synced last.
+    pub fn after_stop(
+        &self,
+        alloc: Global,
+        synced: &Volumes,
+        pick: u64,
+    ) -> Result<Self, OutOfMemory>
+        requires { sizes_of synced.now.items.items ≡ sizes_of self.now.items.items }
+        ensures left { IfOk result (λ volumes. MayLeave (moment_of self.now.items.items) (settled_of volumes.items.items).contents) }
+        ensures all_written { IfOk result (λ volumes. pick ≡ 0 → (settled_of volumes.items.items).contents ≡ (moment_of self.now.items.items).contents) }
+        ensures settled { IfOk result (λ volumes. moment_of volumes.items.items ≡ settled_of volumes.items.items) }
+        ensures sizes { IfOk result (λ volumes. sizes_of volumes.items.items ≡ sizes_of self.now.items.items) }
+        ensures read_faults { IfOk result (λ volumes. read_faults_of volumes.items.items ≡ (λ _. 0)) }
+        ensures write_faults { IfOk result (λ volumes. write_faults_of volumes.items.items ≡ (λ _. 0)) }
+    {
+        let mut items = Vec::new(alloc);
+        for i in 0..self.items.len() {
+            let volume = &self.items[i];
+            items.push(volume.after_stop(alloc, &synced.items[i], pick, i)?)?;
+        }
+        Ok(Volumes { items })
     }
 }

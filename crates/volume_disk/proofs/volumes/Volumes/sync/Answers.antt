@@ -1,4 +1,4 @@
-use Rattle.std.proofs.Common.{◌≡◌, ◌≤◌, false, arith}
+use Rattle.std.proofs.Common.{false, arith}
 use Rattle.volume_disk.specs.Moment.{synced}
 use Rattle.volume_disk.specs.Volume.{byte_of, mark_of}
 use Rattle.volume_disk.proofs.Numbered.{changed_by, kept_by, sizes_of-set, same_moment, same_bytes}
@@ -8,8 +8,8 @@ pub returns-clause-moment : goal.returns-clause-moment
 unfolding synced
 returns-clause-moment c =
     same_moment _ _ _ _
-      (kept_by byte_of (λ _. 0) c.args.self.now.items.items c.args.vol c.index.result c.sync.new.self c.index_mut.result.now c.index.ensures.value (omega arith) c.index_mut.ensures.value (same_bytes c.sync.new.self c.index_mut.result.now c.sync.ensures.bytes))
-      (changed_by mark_of (λ _. false) c.args.self.now.items.items c.args.vol c.index.result c.sync.new.self c.index_mut.result.now c.index.ensures.value (omega arith) c.index_mut.ensures.value (λ each _. false) c.sync.ensures.marks)
+    (kept_by byte_of (λ _. 0) c.args.self.now.items.items c.args.vol c.index.result c.sync.new.self c.index_mut.result.now c.index.ensures.value (omega arith) c.index_mut.ensures.value (same_bytes c.sync.new.self c.index_mut.result.now c.sync.ensures.bytes))
+    (changed_by mark_of (λ _. false) c.args.self.now.items.items c.args.vol c.index.result c.sync.new.self c.index_mut.result.now c.index.ensures.value (omega arith) c.index_mut.ensures.value (λ each _. false) c.sync.ensures.marks)
 
 pub returns-clause-counts : goal.returns-clause-counts
 returns-clause-counts c = record {

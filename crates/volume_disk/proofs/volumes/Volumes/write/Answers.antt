@@ -1,4 +1,4 @@
-use Rattle.std.proofs.Common.{◌≡◌, ℕ, ◌*◌, ◌≤◌, false, length, arith}
+use Rattle.std.proofs.Common.{◌*◌, false, length, arith}
 use Rattle.volume_disk.specs.Moment.{written, overlaid, marked}
 use Rattle.volume_disk.specs.Volume.{byte_of, mark_of}
 use Rattle.volume_disk.proofs.Numbered.{changed_by, kept_by, sizes_of-set, pages_of-read, same_moment}
@@ -13,8 +13,8 @@ unfolding written
 returns-clause-moment c =
     let at = 512 * c.args.block in
     same_moment _ _ _ _
-      (changed_by byte_of (λ _. 0) c.args.self.now.items.items c.args.vol c.index.result c.write.new.self c.index_mut.result.now c.index.ensures.value (omega arith) c.index_mut.ensures.value (λ each. overlaid each at c.args.bytes.now) c.write.ensures.bytes)
-      (changed_by mark_of (λ _. false) c.args.self.now.items.items c.args.vol c.index.result c.write.new.self c.index_mut.result.now c.index.ensures.value (omega arith) c.index_mut.ensures.value (λ each. marked each at (length c.args.bytes.now)) c.write.ensures.marks)
+    (changed_by byte_of (λ _. 0) c.args.self.now.items.items c.args.vol c.index.result c.write.new.self c.index_mut.result.now c.index.ensures.value (omega arith) c.index_mut.ensures.value (λ each. overlaid each at c.args.bytes.now) c.write.ensures.bytes)
+    (changed_by mark_of (λ _. false) c.args.self.now.items.items c.args.vol c.index.result c.write.new.self c.index_mut.result.now c.index.ensures.value (omega arith) c.index_mut.ensures.value (λ each. marked each at (length c.args.bytes.now)) c.write.ensures.marks)
 
 pub returns-clause-counts : goal.returns-clause-counts
 returns-clause-counts c = record {
