@@ -52,10 +52,13 @@ stands_for_itself b = nat_le 33 b && nat_le b 126 && not (b == 37)
 abbrev pub is_name_character : ℕ → Bool
 is_name_character b = stands_for_itself b && not (b == 47)
 
--- the name of a file or directory: 1 to 255 such bytes, and neither `.` nor `..`
+-- 1 to 255 such bytes, and neither `.` nor `..`
+abbrev pub is_name : List ℕ → Bool
+is_name word = has_length 1 255 word && list_all is_name_character word && not (bytes_eq word (codes ".")) && not (bytes_eq word (codes ".."))
+
+-- the name of a file or directory
 unfoldable pub name_of : List ℕ → Option (List ℕ)
-name_of word =
-    passing (has_length 1 255 word && list_all is_name_character word && not (bytes_eq word (codes ".")) && not (bytes_eq word (codes ".."))) word
+name_of word = passing (is_name word) word
 
 -- the path that the word says: `/`, or `/` and a name
 unfoldable pub path_of : List ℕ → Option (List (List ℕ))

@@ -47,46 +47,36 @@ word_count keywords.Create = 4
 word_count keywords.Write = 4
 word_count keywords.Read = 4
 
-abbrev pub client_statement : List (List ℕ) → Option Statement
-client_statement (n ∷ []) = option_map Opens (client_of n)
-client_statement _ = None
-
-abbrev pub mkfset_statement : List (List ℕ) → Option Statement
-mkfset_statement (name ∷ []) = option_map (λ fileset. Gives (Mkfset fileset)) (fileset_of name)
-mkfset_statement _ = None
-
 -- a file is made at a path of one name, and not at the root
-abbrev pub create_statement : List (List ℕ) → Option Statement
-create_statement (p ∷ u ∷ g ∷ []) = do
+unfoldable pub create_statement : List ℕ → List ℕ → List ℕ → Option Statement
+create_statement p u g = do
   place ← place_of p
   uid ← number_below (2 ^ 32) u
   gid ← number_below (2 ^ 32) g
   if length place.path == 0 then None else Some (Gives (Create place uid gid))
-create_statement _ = None
 
-abbrev pub write_statement : List (List ℕ) → Option Statement
-write_statement (p ∷ o ∷ b ∷ []) = do
+unfoldable pub write_statement : List ℕ → List ℕ → List ℕ → Option Statement
+write_statement p o b = do
   place ← place_of p
   offset ← number_below (2 ^ 64) o
   bytes ← bytes_of b
   Some (Gives (Write place offset bytes))
-write_statement _ = None
 
-abbrev pub read_statement : List (List ℕ) → Option Statement
-read_statement (p ∷ o ∷ n ∷ []) = do
+unfoldable pub read_statement : List ℕ → List ℕ → List ℕ → Option Statement
+read_statement p o n = do
   place ← place_of p
   offset ← number_below (2 ^ 64) o
   count ← count_of n
   Some (Gives (Read place offset count))
-read_statement _ = None
 
 -- what the words after the first say
 abbrev pub statement_after : Keyword → List (List ℕ) → Option Statement
-statement_after keywords.Client words = client_statement words
-statement_after keywords.Mkfset words = mkfset_statement words
-statement_after keywords.Create words = create_statement words
-statement_after keywords.Write words = write_statement words
-statement_after keywords.Read words = read_statement words
+statement_after keywords.Client (n ∷ []) = option_map Opens (client_of n)
+statement_after keywords.Mkfset (name ∷ []) = option_map (λ fileset. Gives (Mkfset fileset)) (fileset_of name)
+statement_after keywords.Create (p ∷ u ∷ g ∷ []) = create_statement p u g
+statement_after keywords.Write (p ∷ o ∷ b ∷ []) = write_statement p o b
+statement_after keywords.Read (p ∷ o ∷ n ∷ []) = read_statement p o n
+statement_after _ _ = None
 
 abbrev pub statement_of : List (List ℕ) → Option Statement
 statement_of [] = None
@@ -111,6 +101,17 @@ abbrev pub section_of : List Statement → Option Section
 section_of [] = None
 section_of (Opens n ∷ statements) = Some (record { number = n; commands = commands_of statements })
 section_of (Gives command ∷ statements) = section_of statements
+
+-- the section with one statement more
+abbrev pub with_statement : Option Section → Statement → Option Section
+with_statement None (Opens n) = Some (record { number = n; commands = [] })
+with_statement None (Gives command) = None
+with_statement (Some section) (Opens n) = Some section
+with_statement (Some section) (Gives command) = Some (record { number = section.number; commands = section.commands ++ command ∷ [] })
+
+-- the section with what one line more says
+abbrev pub with_line : Option Section → List ℕ → Option Section
+with_line so_far line = unwrap_or (option_map (with_statement so_far) (statement_of_line line)) so_far
 
 abbrev pub section_in : List (List ℕ) → Option Section
 section_in lines_so_far = section_of (filter_map statement_of_line lines_so_far)
@@ -141,7 +142,12 @@ abbrev pub first_kind : List (FaultKind × Bool) → Option FaultKind
 first_kind [] = None
 first_kind (k ∷ kinds) = if k.1 then Some k.0 else first_kind kinds
 
--- each kind of fault, in order, with whether the words of a line have it after this section
+-- the faults of a statement that comes after this section
+abbrev pub kinds_of_statement : Option Section → Option Statement → List (FaultKind × Bool)
+kinds_of_statement so_far statement =
+    (fault.SectionTwice, is_second_section so_far statement) ∷ (fault.TooManyCommands, is_one_too_many so_far statement) ∷ []
+
+-- each kind of fault, in order, with whether a line with these words has it after this section
 abbrev pub kinds_of_words : Option Section → List ℕ → List (List ℕ) → List (FaultKind × Bool)
 kinds_of_words so_far line words =
     (fault.OtherByte, list_any (λ b. not (is_script_byte b)) line)
@@ -149,9 +155,7 @@ kinds_of_words so_far line words =
     ∷ (fault.UnknownWord, is_none (keyword_of (first_word words)))
     ∷ (fault.WordCount, has_other_count words)
     ∷ (fault.WordForm, is_none (statement_of words))
-    ∷ (fault.SectionTwice, is_second_section so_far (statement_of words))
-    ∷ (fault.TooManyCommands, is_one_too_many so_far (statement_of words))
-    ∷ []
+    ∷ kinds_of_statement so_far (statement_of words)
 
 -- what is wrong with a line after this section
 abbrev pub kind_of_line : Option Section → List ℕ → Option FaultKind

@@ -119,6 +119,19 @@ fn push_write(
     Ok(())
 }
 
+#[tactic(auto, unfolding(crate::specs::History::command_text))]
+fn push_chfile(out: &mut Vec<u8>, place: &Place, logged: bool) -> Result<(), OutOfMemory>
+    ensures { OnOk result (out.new.items
+        ≡ out.old.items ++ command_text (Command.Chfile place.now logged)) }
+{
+    if logged {
+        push_placed(out, b"chfile -L on ", place)?;
+    } else {
+        push_placed(out, b"chfile -L off ", place)?;
+    }
+    Ok(())
+}
+
 /// Adds a command with one space between two words.
 #[tactic(auto, unfolding(crate::specs::History::command_text))]
 pub fn push_command(out: &mut Vec<u8>, command: &Command) -> Result<(), OutOfMemory>
@@ -172,14 +185,7 @@ pub fn push_command(out: &mut Vec<u8>, command: &Command) -> Result<(), OutOfMem
         Command::List { place } => push_placed(out, b"list ", place)?,
         Command::Stat { place } => push_placed(out, b"stat ", place)?,
         Command::Fsync { place } => push_placed(out, b"fsync ", place)?,
-        Command::Chfile {
-            place,
-            logged: true,
-        } => push_placed(out, b"chfile -L on ", place)?,
-        Command::Chfile {
-            place,
-            logged: false,
-        } => push_placed(out, b"chfile -L off ", place)?,
+        Command::Chfile { place, logged } => push_chfile(out, place, *logged)?,
         Command::Sync => out.extend_from_slice(b"sync")?,
         Command::Cancel => out.extend_from_slice(b"cancel")?,
     }

@@ -5,11 +5,18 @@
 mod bytes_text;
 mod command_text;
 mod fault;
+mod forms;
+mod history;
 mod number;
 mod path_text;
+mod reading;
 mod refusal_text;
+mod reply_text;
 mod script;
 mod statement;
+mod words;
 
 pub use bytes_text::runs_are_maximal;
+pub use history::history_line;
+pub use reading::read_script;
 pub use script::{Script, ScriptFault, Section, SectionList};
