@@ -6,7 +6,7 @@ use Rattle.std.specs.List.{All, Contains}
 use Rattle.std.specs.Option.{option_map_or}
 use Rattle.std.specs.FinMap as finite
 use Rattle.domain_base.specs.declared.limits.TheConstants.{BLOCKS_PER_PAGE, FILE_BYTES}
-use Rattle.fileset_model.specs.Apply.{Answers, Changes, absent_pages, answer_of, create_checks, filesets_full, has_clone, in_fileset, is_clone, move_checks, name_taken, not_empty, of_node, out_of_sync, quota_of, read_checks, read_of, read_only, refusal_of, rename_checks, replace_checks, stat_of, write_checks, write_quota}
+use Rattle.fileset_model.specs.Apply.{Answers, AnswersIfMemory, Changes, absent_pages, answer_of, create_checks, filesets_full, has_clone, in_fileset, is_clone, move_checks, name_taken, not_empty, of_node, out_of_sync, quota_of, read_checks, read_of, read_only, refusal_of, rename_checks, replace_checks, stat_of, write_checks, write_quota}
 use Rattle.fileset_model.specs.Fileset.{Fileset}
 use Rattle.fileset_model.specs.Orders.{Name, Path}
 use Rattle.fileset_model.specs.Paths.{directories_to, directory_here, directory_refusal, file_here, first_refusal, is_directory, is_marked, node_at, refuse_if, rows_of, same_path, target_refusal, walk_refusal}
@@ -26,7 +26,7 @@ use Rattle.fileset_model.specs.declared.reply.Refusal.TheVariants.{CloneOfClone,
 use Rattle.fileset_model.specs.declared.reply.Reply.{Reply}
 use Rattle.fileset_model.specs.declared.reply.Reply.TheVariants as reply
 use Rattle.fileset_model.specs.declared.reply.Reply.TheVariants.{Refused}
-use Rattle.advfs_cli.specs.Plain.{IsAnswered, Plain}
+use Rattle.advfs_cli.specs.Plain.{Plain}
 use Rattle.advfs_cli.specs.Plain.Plain.{none, entry}
 
 -- no panic
@@ -215,7 +215,7 @@ answers all (command.Chfile place logged) = tt
 answers all command.Sync = tt
 answers all command.Cancel = tt
 
-answered : (all : FilesetMap) (c : Command) (r : Reply) (new : FilesetMap) → IsAnswered all c r new → IsCalmReply r
+answered : (all : FilesetMap) (c : Command) (r : Reply) (new : FilesetMap) → AnswersIfMemory all c r new → IsCalmReply r
 unfolding IsCalm IsCalmReply Check
 answered all c r new (inl as_meant) = at (refusal_of all c) (refusals all c) as_meant
   where

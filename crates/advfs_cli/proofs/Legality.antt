@@ -4,7 +4,7 @@ use Rattle.std.proofs.Math.Seq.{get_or-append_seam, take-append_seam}
 use Rattle.std.proofs.lemmas.List.Elements.{All-nil, All-take, All-weaker}
 use Rattle.std.specs.FinMap as finite
 use Rattle.std.specs.List.{All}
-use Rattle.fileset_model.specs.Apply.{Answers}
+use Rattle.fileset_model.specs.Apply.{AnswersIfMemory}
 use Rattle.fileset_model.specs.Legal.{Chain, GainsMarks, IsForActor, Legal, MayFollow, Numbered, Point, Step, changed_by_entry, job_after}
 use Rattle.fileset_model.specs.Legal.Chain.{none as no_entry, entry as one_more}
 use Rattle.fileset_model.specs.Legal.Step.{applied, out_of_memory}
@@ -18,7 +18,7 @@ use Rattle.fileset_model.specs.declared.fileset.FilesetSlot.{FilesetSlot}
 use Rattle.fileset_model.specs.declared.fileset.Role.{Role}
 use Rattle.fileset_model.specs.declared.fileset.Role.TheVariants.{Original, CloneOf}
 use Rattle.advfs_cli.proofs.Calm.{no_panic}
-use Rattle.advfs_cli.specs.Plain.{AnswersScript, IsAnswered, IsClients, IsLegal, Plain}
+use Rattle.advfs_cli.specs.Plain.{AnswersScript, IsClients, IsLegal, Plain}
 use Rattle.advfs_cli.specs.Plain.Plain.{none as plain_none, entry as plain_entry}
 use Rattle.advfs_cli.specs.declared.status.Status.{Status}
 use Rattle.advfs_cli.specs.declared.status.Status.TheVariants as status
@@ -51,7 +51,7 @@ GainsMarks-refl Allowed all name =
 
 -- ---- the chain
 
-step_of : (history : List Entry) (point : Point) (e : Entry) (new : FilesetMap) → IsAnswered point.state.filesets e.command e.reply new
+step_of : (history : List Entry) (point : Point) (e : Entry) (new : FilesetMap) → AnswersIfMemory point.state.filesets e.command e.reply new
     → Step history point e (record point.state { filesets = new })
 step_of history point e new (inl as_meant) = applied (record point.state { filesets = new }) (as_meant, refl) (GainsMarks-refl _ new) (inl refl) refl
 step_of history point e new (inr for_memory) = out_of_memory for_memory.0 (ap (λ (all : FilesetMap). record point.state { filesets = all }) for_memory.1)

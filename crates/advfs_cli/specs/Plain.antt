@@ -1,29 +1,22 @@
 -- Histories over filesets without volumes.
-use Rattle.std.specs.Prelude.{◌≡◌, ◌⊎◌, ℕ, ◌==◌, if◌then◌else◌, Option, None, List, [], ◌∷◌, ◌++◌, map as map_list, All}
+use Rattle.std.specs.Prelude.{◌≡◌, ℕ, ◌==◌, if◌then◌else◌, Option, None, List, [], ◌∷◌, ◌++◌, map as map_list, All}
 use Rattle.std.specs.FinMap as map
 use Rattle.std.specs.List.{flat_map}
 use Rattle.std.specs.Option.{option_map_or}
-use Rattle.fileset_model.specs.Apply.{Answers}
+use Rattle.fileset_model.specs.Apply.{AnswersIfMemory}
 use Rattle.fileset_model.specs.Legal.{Legal}
 use Rattle.fileset_model.specs.State.{FilesetMap, empty_state}
 use Rattle.fileset_model.specs.declared.command.Actor.{Actor}
 use Rattle.fileset_model.specs.declared.command.Actor.TheVariants.{Client, Mover}
 use Rattle.fileset_model.specs.declared.command.Command.{Command}
 use Rattle.fileset_model.specs.declared.entry.Entry.{Entry}
-use Rattle.fileset_model.specs.declared.reply.Reply.{Reply}
-use Rattle.fileset_model.specs.declared.reply.Refusal.TheVariants.{OutOfMemory}
-use Rattle.fileset_model.specs.declared.reply.Reply.TheVariants.{Refused}
 use Rattle.script_text.specs.declared.script.Script.{Script}
 use Rattle.script_text.specs.declared.script.Section.{Section}
 
--- a command is answered as it means, or for want of memory and then nothing changes
-abbrev pub IsAnswered : FilesetMap → Command → Reply → FilesetMap → Type 0
-IsAnswered all command reply new = Answers all command reply new ⊎ ((reply ≡ Refused OutOfMemory) × (new ≡ all))
-
--- each command of a history is so answered in turn, which leads from these filesets to others
+-- each command of a history is answered in turn as it means, or out-of-memory; this leads from these filesets to others
 pub data Plain (first : FilesetMap) : List Entry → FilesetMap → Type 0 where
   none : Plain first [] first
-  entry : {history : List Entry} {all : FilesetMap} → Plain first history all → (e : Entry) (new : FilesetMap) → IsAnswered all e.command e.reply new
+  entry : {history : List Entry} {all : FilesetMap} → Plain first history all → (e : Entry) (new : FilesetMap) → AnswersIfMemory all e.command e.reply new
     → Plain first (history ++ e ∷ []) new
 
 -- who gives a command, and the command

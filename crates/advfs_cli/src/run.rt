@@ -24,6 +24,7 @@ use volume_disk::Rack;
 
 /// Gives a client's command its reply, as a further entry.
 fn take_turn(
+    alloc: Global,
     filesets: &mut Filesets,
     history: &mut Vec<Entry>,
     client: u8,
@@ -35,7 +36,7 @@ fn take_turn(
     ensures len { vec_len history.new ≡ vec_len history.old + 1 }
     ensures capacity { vec_capacity history.new ≡ vec_capacity history.old }
 {
-    let reply = apply(filesets, &command);
+    let reply = apply(alloc, filesets, &command);
     history.push_reserved(Entry {
         actor: Actor::Client(client),
         command,
@@ -46,6 +47,7 @@ fn take_turn(
 
 /// Gives each command of a client's section its reply. The gate is passed before each, and after the last.
 fn run_section<G: Gate>(
+    alloc: Global,
     filesets: &mut Filesets,
     history: &mut Vec<Entry>,
     section: Section,
@@ -59,7 +61,7 @@ fn run_section<G: Gate>(
     let actor = u32::from(client).saturating_sub(1);
     for command in section.commands.into_vec() {
         gate.pass(actor, history.len() as u64);
-        take_turn(filesets, history, client, command, stamp);
+        take_turn(alloc, filesets, history, client, command, stamp);
     }
     gate.pass(actor, history.len() as u64);
 }
@@ -80,7 +82,7 @@ fn answer_script<G: Gate>(
         None => Ok(Vec::new(alloc)),
         Some(section) => {
             let mut history = Vec::with_capacity(alloc, section.commands.as_slice().len())?;
-            run_section(&mut filesets, &mut history, section, stamp, gate);
+            run_section(alloc, &mut filesets, &mut history, section, stamp, gate);
             Ok(history)
         }
     }

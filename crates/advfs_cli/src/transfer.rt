@@ -60,7 +60,7 @@ impl From<AllocError> for ReadError {
 }
 
 /// As many zeros.
-fn zeros(alloc: Global, count: usize) -> Result<Vec<u8>, AllocError>
+pub fn zeros(alloc: Global, count: usize) -> Result<Vec<u8>, AllocError>
     ensures { IfOk result (λ bytes. vec_len bytes ≡ count) }
 {
     vec![in alloc; 0; count]
