@@ -1,4 +1,0 @@
-pub mod Anchor
-pub mod Body
-pub mod Fault
-pub mod Words
