@@ -3,17 +3,21 @@
 #![tactic(auto)]
 
 mod answers;
+mod change;
 mod command;
 mod entries;
 mod entry;
 mod fileset;
 mod filesets;
+mod laws;
 mod listing;
 mod names;
+mod names_commands;
 mod node;
 mod page_map;
 mod quota;
 mod reply;
+mod rows;
 mod walk;
 mod whole;
 

@@ -9,14 +9,14 @@ use std::process::Abort;
 
 /// What a reply has to be.
 #[derive(Clone, Copy)]
-enum Expected<'a> {
+pub(crate) enum Expected<'a> {
     Done,
     Count(u64),
     Read(&'a [u8]),
     Refused(Refusal),
 }
 
-fn is_expected(reply: &Reply, expected: &Expected) -> bool {
+pub(crate) fn is_expected(reply: &Reply, expected: &Expected) -> bool {
     match (reply, expected) {
         (Reply::Done, Expected::Done) => true,
         (Reply::Count(count), Expected::Count(wanted)) => count == wanted,
@@ -27,7 +27,7 @@ fn is_expected(reply: &Reply, expected: &Expected) -> bool {
 }
 
 /// Gives a command and asserts its reply.
-fn gives<R: Abort + AllocGlobal>(
+pub(crate) fn gives<R: Abort + AllocGlobal>(
     rt: &R,
     filesets: &mut Filesets,
     command: Result<Command, OutOfMemory>,
@@ -39,12 +39,12 @@ fn gives<R: Abort + AllocGlobal>(
     assert!(rt; same, "{command:?} gives {reply:?}");
 }
 
-fn fileset(alloc: Global, text: &[u8]) -> Result<FilesetName, OutOfMemory> {
+pub(crate) fn fileset(alloc: Global, text: &[u8]) -> Result<FilesetName, OutOfMemory> {
     Ok(FilesetName::from_vec(Vec::from_slice(alloc, text)?))
 }
 
 /// A place in the fileset `home` whose names are the bytes of the text.
-fn place(alloc: Global, names: &[u8]) -> Result<Place, OutOfMemory> {
+pub(crate) fn place(alloc: Global, names: &[u8]) -> Result<Place, OutOfMemory> {
     let mut path = Vec::new(alloc);
     for byte in names {
         path.push(Name::from_vec(Vec::from_slice(alloc, &[*byte])?))?;
@@ -55,13 +55,13 @@ fn place(alloc: Global, names: &[u8]) -> Result<Place, OutOfMemory> {
     })
 }
 
-fn mkfset(alloc: Global, text: &[u8]) -> Result<Command, OutOfMemory> {
+pub(crate) fn mkfset(alloc: Global, text: &[u8]) -> Result<Command, OutOfMemory> {
     Ok(Command::Mkfset {
         fileset: fileset(alloc, text)?,
     })
 }
 
-fn create(alloc: Global, names: &[u8]) -> Result<Command, OutOfMemory> {
+pub(crate) fn create(alloc: Global, names: &[u8]) -> Result<Command, OutOfMemory> {
     Ok(Command::Create {
         place: place(alloc, names)?,
         uid: 10,
@@ -69,7 +69,12 @@ fn create(alloc: Global, names: &[u8]) -> Result<Command, OutOfMemory> {
     })
 }
 
-fn write(alloc: Global, names: &[u8], offset: u64, bytes: &[u8]) -> Result<Command, OutOfMemory> {
+pub(crate) fn write(
+    alloc: Global,
+    names: &[u8],
+    offset: u64,
+    bytes: &[u8],
+) -> Result<Command, OutOfMemory> {
     Ok(Command::Write {
         place: place(alloc, names)?,
         offset,
@@ -77,7 +82,12 @@ fn write(alloc: Global, names: &[u8], offset: u64, bytes: &[u8]) -> Result<Comma
     })
 }
 
-fn read(alloc: Global, names: &[u8], offset: u64, count: u32) -> Result<Command, OutOfMemory> {
+pub(crate) fn read(
+    alloc: Global,
+    names: &[u8],
+    offset: u64,
+    count: u32,
+) -> Result<Command, OutOfMemory> {
     Ok(Command::Read {
         place: place(alloc, names)?,
         offset,

@@ -29,7 +29,7 @@ pub(crate) fn rmfset(filesets: &mut Filesets, name: &FilesetName) -> Reply
     if filesets.has_clone(name) {
         return Reply::Refused(Refusal::HasClone);
     }
-    filesets.remove(name);
+    filesets.remove_fileset(name);
     Reply::Done
 }
 
@@ -169,7 +169,7 @@ impl Filesets {
     }
 
     /// Removes the fileset with this name; where there is none, nothing changes.
-    fn remove(&mut self, name: &FilesetName)
+    fn remove_fileset(&mut self, name: &FilesetName)
         ensures { self.new ≡ map.remove self.old name.now }
     {
         self.slots.retain(|entry| name.cmp(&entry.0).is_ne());

@@ -1,24 +1,38 @@
-use Rattle.std.proofs.Common.{not, List, IsTrue, rules, ap, sym, subst, ◌∙◌}
-use Rattle.std.proofs.lemmas.Fn.{filter_same}
-use Rattle.std.specs.Ordering.{eq_by_cmp}
-use Rattle.std.specs.FinMap.{from_sorted, remove}
-use Rattle.std.specs.FinMap.Entries.{is_sorted}
-use Rattle.fileset_model.specs.Orders.{Name, name_cmp, name_cmp-total, name_cmp-IsAntisymmetric}
+use Rattle.std.proofs.Common.{◌≡◌, List, IsTrue, None, get_or, ap, subst, sym, ◌∙◌}
+use Rattle.std.specs.FinMap.{from_sorted, get}
+use Rattle.std.specs.FinMap.Entries.{find, is_sorted}
+use Rattle.fileset_model.specs.Entries.{IsPlaceOf}
+use Rattle.fileset_model.specs.Orders.{Name, Path, name_cmp, name_cmp-total}
+use Rattle.fileset_model.specs.Fileset.{Fileset}
 use Rattle.fileset_model.specs.State.{FilesetMap}
+use Rattle.fileset_model.specs.Apply.{with_tree, without}
 use Rattle.fileset_model.specs.declared.fileset.FilesetSlot.{FilesetSlot}
-use Rattle.fileset_model.proofs.WholeLemmas.{is_sorted-others, remove-from_sorted}
+use Rattle.fileset_model.proofs.EntryLemmas.{get-from_sorted, sorted_at_place}
+use Rattle.fileset_model.proofs.SlotLemmas.{tree_at_place, with_tree-missing}
 use Rattle.fileset_model.proofs.filesets.Filesets.remove.Goals as goal
+
+pub returns-in_default : goal.returns-in_default
+returns-in_default c =
+    let name = c.args.place.now.fileset in
+    let none : get c.args.self.now name ≡ None =
+    ap (λ (all : FilesetMap). get all name) (sym c.self.view_is)
+    ∙ get-from_sorted name_cmp c.self.inside.slots.items name c.self.invariant
+    ∙ ap (λ (es : List (Name × FilesetSlot)). find name_cmp name es) (sym c.deref.ensures.value)
+    ∙ c.in_default.ensures.gap.absent in
+    sym (with_tree-missing c.args.self.now name (without c.args.place.now.path) none)
 
 pub invariant_of-self : goal.invariant_of-self
 invariant_of-self c =
-    let name = c.args.name.now in
-    let kept = filter_same _ (λ (e : Name × FilesetSlot). not (eq_by_cmp name_cmp name e.0)) _ (λ x b f k. search rules) _ _ c.retain.ensures.filtered in
-    subst (λ (es : List (Name × FilesetSlot)). IsTrue (is_sorted name_cmp es)) (sym kept) (is_sorted-others name_cmp-total c.self.inside.slots.items name c.self.invariant)
+    let name = c.args.place.now.fileset in
+    let item = c.index_mut.result.now in
+    let place = subst (λ (es : List (Name × FilesetSlot)). IsPlaceOf name_cmp es name c.in-Ok.at) c.deref.ensures.value c.in-Ok.ensures.place in
+    sorted_at_place c.self.inside.slots.items name c.in-Ok.at item place c.index_mut.ensures.value name_cmp-total c.self.invariant (record item.1 { tree = c.remove.new.self })
 
 pub returns : goal.returns
 returns c =
-    let name = c.args.name.now in
-    let kept = filter_same _ (λ (e : Name × FilesetSlot). not (eq_by_cmp name_cmp name e.0)) _ (λ x b f k. search rules) _ _ c.retain.ensures.filtered in
-    ap (λ (es : List (Name × FilesetSlot)). from_sorted {R = name_cmp} es) kept
-    ∙ remove-from_sorted name_cmp-total c.self.inside.slots.items name name_cmp-IsAntisymmetric c.self.invariant
-    ∙ ap (λ (all : FilesetMap). remove all name) c.self.view_is
+    let name = c.args.place.now.fileset in
+    let item = c.index_mut.result.now in
+    let change : Fileset → Fileset = without c.args.place.now.path in
+    let place = subst (λ (es : List (Name × FilesetSlot)). IsPlaceOf name_cmp es name c.in-Ok.at) c.deref.ensures.value c.in-Ok.ensures.place in
+    tree_at_place c.self.inside.slots.items name c.in-Ok.at item c.remove.new.self change c.self.invariant place c.index_mut.ensures.value c.remove.ensures
+    ∙ ap (λ (all : FilesetMap). with_tree all name change) c.self.view_is

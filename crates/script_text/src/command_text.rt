@@ -1,0 +1,193 @@
+//! Commands as a history writes them.
+ghost use Rattle.std.specs.Prelude.{◌≡◌, [], ◌∷◌, ◌++◌, OnOk, decimal};
+ghost use Rattle.script_text.specs.History.{actor_text, command_text, owner_text, place_text, spaced};
+
+use crate::bytes_text::push_bytes;
+use crate::number::push_number;
+use crate::path_text::{push_path, push_place};
+use domain_base::OutOfMemory;
+use fileset_model::{Actor, Command, FilesetName, Owner, Place};
+
+/// Adds who gave a command: `c` and the number of a client, or `m`.
+pub fn push_actor(out: &mut Vec<u8>, actor: Actor) -> Result<(), OutOfMemory>
+    ensures { OnOk result (out.new.items ≡ out.old.items ++ actor_text actor) }
+{
+    match actor {
+        Actor::Client(number) => {
+            out.push(b'c')?;
+            push_number(out, u64::from(number))?;
+        }
+        Actor::Mover => out.push(b'm')?,
+    }
+    Ok(())
+}
+
+/// Adds a text and a name behind it.
+fn push_named(out: &mut Vec<u8>, text: &[u8], name: &FilesetName) -> Result<(), OutOfMemory>
+    ensures { OnOk result (out.new.items ≡ out.old.items ++ text.now ++ name.now) }
+{
+    out.extend_from_slice(text)?;
+    out.extend_from_slice(name.as_slice())?;
+    Ok(())
+}
+
+/// Adds a text and a place behind it.
+fn push_placed(out: &mut Vec<u8>, text: &[u8], place: &Place) -> Result<(), OutOfMemory>
+    ensures { OnOk result (out.new.items ≡ out.old.items ++ text.now ++ place_text place.now) }
+{
+    out.extend_from_slice(text)?;
+    push_place(out, place)?;
+    Ok(())
+}
+
+/// Adds a space and a number.
+fn push_number_word(out: &mut Vec<u8>, n: u64) -> Result<(), OutOfMemory>
+    ensures { OnOk result (out.new.items ≡ out.old.items ++ 32 ∷ decimal n) }
+{
+    out.push(b' ')?;
+    push_number(out, n)?;
+    Ok(())
+}
+
+/// Adds a space and the two words that say whose a quota is.
+fn push_owner(out: &mut Vec<u8>, who: Owner) -> Result<(), OutOfMemory>
+    ensures { OnOk result (out.new.items ≡ out.old.items ++ 32 ∷ owner_text who) }
+{
+    match who {
+        Owner::User(id) => {
+            out.extend_from_slice(b" user ")?;
+            push_number(out, u64::from(id))?;
+        }
+        Owner::Group(id) => {
+            out.extend_from_slice(b" group ")?;
+            push_number(out, u64::from(id))?;
+        }
+        Owner::Fileset => out.extend_from_slice(b" fileset 0")?,
+    }
+    Ok(())
+}
+
+/// Adds a command that names a place and two numbers.
+fn push_placed_numbers(
+    out: &mut Vec<u8>,
+    text: &[u8],
+    place: &Place,
+    first: u64,
+    second: u64,
+) -> Result<(), OutOfMemory>
+    ensures { OnOk result (out.new.items
+        ≡ out.old.items ++ text.now ++ spaced (place_text place.now ∷ decimal first ∷ decimal second ∷ [])) }
+{
+    push_placed(out, text, place)?;
+    push_number_word(out, first)?;
+    push_number_word(out, second)?;
+    Ok(())
+}
+
+#[tactic(auto, unfolding(crate::specs::History::command_text))]
+fn push_setquota(
+    out: &mut Vec<u8>,
+    fileset: &FilesetName,
+    who: Owner,
+    files: u64,
+    blocks: u64,
+) -> Result<(), OutOfMemory>
+    ensures { OnOk result (out.new.items
+        ≡ out.old.items ++ command_text (Command.Setquota fileset.now who files blocks)) }
+{
+    push_named(out, b"setquota ", fileset)?;
+    push_owner(out, who)?;
+    push_number_word(out, files)?;
+    push_number_word(out, blocks)?;
+    Ok(())
+}
+
+#[tactic(auto, unfolding(crate::specs::History::command_text))]
+fn push_write(
+    out: &mut Vec<u8>,
+    place: &Place,
+    offset: u64,
+    bytes: &[u8],
+) -> Result<(), OutOfMemory>
+    ensures { OnOk result (out.new.items
+        ≡ out.old.items ++ command_text (Command.Write place.now offset bytes.now)) }
+{
+    push_placed(out, b"write ", place)?;
+    push_number_word(out, offset)?;
+    out.push(b' ')?;
+    push_bytes(out, bytes)?;
+    Ok(())
+}
+
+#[tactic(auto, unfolding(crate::specs::History::command_text))]
+fn push_chfile(out: &mut Vec<u8>, place: &Place, logged: bool) -> Result<(), OutOfMemory>
+    ensures { OnOk result (out.new.items
+        ≡ out.old.items ++ command_text (Command.Chfile place.now logged)) }
+{
+    if logged {
+        push_placed(out, b"chfile -L on ", place)?;
+    } else {
+        push_placed(out, b"chfile -L off ", place)?;
+    }
+    Ok(())
+}
+
+/// Adds a command with one space between two words.
+#[tactic(auto, unfolding(crate::specs::History::command_text))]
+pub fn push_command(out: &mut Vec<u8>, command: &Command) -> Result<(), OutOfMemory>
+    ensures { OnOk result (out.new.items ≡ out.old.items ++ command_text command.now) }
+{
+    match command {
+        Command::Mkfset { fileset } => push_named(out, b"mkfset ", fileset)?,
+        Command::Rmfset { fileset } => push_named(out, b"rmfset ", fileset)?,
+        Command::Clonefset { fileset, new_name } => {
+            push_named(out, b"clonefset ", fileset)?;
+            push_named(out, b" ", new_name)?;
+        }
+        Command::Showfsets => out.extend_from_slice(b"showfsets")?,
+        Command::Setquota {
+            fileset,
+            who,
+            files,
+            blocks,
+        } => push_setquota(out, fileset, *who, *files, *blocks)?,
+        Command::Showquota { fileset, who } => {
+            push_named(out, b"showquota ", fileset)?;
+            push_owner(out, *who)?;
+        }
+        Command::Create { place, uid, gid } => {
+            push_placed_numbers(out, b"create ", place, u64::from(*uid), u64::from(*gid))?;
+        }
+        Command::Mkdir { place, uid, gid } => {
+            push_placed_numbers(out, b"mkdir ", place, u64::from(*uid), u64::from(*gid))?;
+        }
+        Command::Write {
+            place,
+            offset,
+            bytes,
+        } => push_write(out, place, *offset, bytes.as_slice())?,
+        Command::Read {
+            place,
+            offset,
+            count,
+        } => push_placed_numbers(out, b"read ", place, *offset, u64::from(*count))?,
+        Command::Truncate { place, size } => {
+            push_placed(out, b"truncate ", place)?;
+            push_number_word(out, *size)?;
+        }
+        Command::Rename { place, to } => {
+            push_placed(out, b"rename ", place)?;
+            out.push(b' ')?;
+            push_path(out, to.as_slice())?;
+        }
+        Command::Unlink { place } => push_placed(out, b"unlink ", place)?,
+        Command::Rmdir { place } => push_placed(out, b"rmdir ", place)?,
+        Command::List { place } => push_placed(out, b"list ", place)?,
+        Command::Stat { place } => push_placed(out, b"stat ", place)?,
+        Command::Fsync { place } => push_placed(out, b"fsync ", place)?,
+        Command::Chfile { place, logged } => push_chfile(out, place, *logged)?,
+        Command::Sync => out.extend_from_slice(b"sync")?,
+        Command::Cancel => out.extend_from_slice(b"cancel")?,
+    }
+    Ok(())
+}

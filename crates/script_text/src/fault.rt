@@ -1,0 +1,85 @@
+ghost use Rattle.std.specs.Prelude.{◌≡◌};
+ghost use Rattle.script_text.specs.Script.{kind_number};
+ghost use Rattle.script_text.specs.declared.fault.LineFault.TheVariants as line;
+ghost use Rattle.script_text.specs.declared.fault.WordFault.TheVariants as word;
+
+use domain_base::OutOfMemory;
+use std::alloc::AllocFailed;
+
+/// What is wrong with a line, in the order in which faults are looked for.
+#[derive(Clone, Copy, Debug, PartialEq, Eq)]
+pub enum FaultKind {
+    /// A byte that is neither printable ASCII nor a tab.
+    OtherByte = 1,
+    /// A command before the first section.
+    NoSection = 2,
+    /// A first word that is not known.
+    UnknownWord = 3,
+    /// Another number of words than the form has.
+    WordCount = 5,
+    /// A word that is not of its form, or beyond its limit.
+    WordForm = 6,
+    /// One more section.
+    SectionTwice = 7,
+    /// A command after the 2,000th of its section.
+    TooManyCommands = 8,
+}
+
+impl FaultKind {
+    /// The number by which it is named.
+    pub fn number(self) -> u8
+        ensures { result ≡ kind_number self }
+    {
+        self as u8
+    }
+}
+
+/// Why a word was not read.
+#[derive(Clone, Copy, Debug, PartialEq, Eq)]
+pub enum WordFault {
+    /// The word is not of its form, or beyond its limit.
+    Malformed,
+    /// No memory could be had.
+    OutOfMemory,
+}
+
+/// Why a line was not read.
+#[derive(Clone, Copy, Debug, PartialEq, Eq)]
+pub enum LineFault {
+    /// This is wrong with it.
+    Kind(FaultKind),
+    /// No memory could be had.
+    OutOfMemory,
+}
+
+impl From<OutOfMemory> for WordFault {
+    ghost from_gives = { λ _ fault. fault ≡ word.OutOfMemory };
+
+    fn from(_fault: OutOfMemory) -> WordFault {
+        WordFault::OutOfMemory
+    }
+}
+
+impl<T: Drop> From<AllocFailed<T>> for WordFault {
+    ghost from_gives = { λ _ fault. fault ≡ word.OutOfMemory };
+
+    fn from(_fault: AllocFailed<T>) -> WordFault {
+        WordFault::OutOfMemory
+    }
+}
+
+impl From<OutOfMemory> for LineFault {
+    ghost from_gives = { λ _ fault. fault ≡ line.OutOfMemory };
+
+    fn from(_fault: OutOfMemory) -> LineFault {
+        LineFault::OutOfMemory
+    }
+}
+
+impl<T: Drop> From<AllocFailed<T>> for LineFault {
+    ghost from_gives = { λ _ fault. fault ≡ line.OutOfMemory };
+
+    fn from(_fault: AllocFailed<T>) -> LineFault {
+        LineFault::OutOfMemory
+    }
+}

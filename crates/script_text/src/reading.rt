@@ -1,0 +1,153 @@
+//! The script that a text says.
+ghost use Rattle.std.specs.Prelude.{◌≡◌, not, IfOk, IfErr, MatchResult};
+ghost use Rattle.std.specs.List.{list_any};
+ghost use Rattle.std.specs.Option.{option_to_list};
+ghost use Rattle.script_text.specs.Reading.{IsAdded, IsRefused, IsTaken, Refuses, Says, drafted};
+ghost use Rattle.script_text.specs.Script.{Reports, is_script_byte, script_of};
+
+use crate::fault::{FaultKind, LineFault, WordFault};
+use crate::script::{Script, ScriptFault, Section};
+use crate::statement::{Statement, is_section_word, known_word, others};
+use crate::words::{split_line, words};
+use domain_base::OutOfMemory;
+use domain_base::limits::MAX_COMMANDS;
+use fileset_model::{Command, Listing};
+use std::alloc::Global;
+
+/// The section that the lines so far opened, with its commands.
+#[derive(Debug, Drop)]
+pub struct Draft {
+    pub number: u8,
+    pub commands: Vec<Command>,
+}
+
+fn is_script_byte(byte: u8) -> bool
+    ensures { result ≡ is_script_byte byte }
+{
+    byte == b'\t' || matches!(byte, b' '..=b'~')
+}
+
+fn has_other_byte(line: &[u8]) -> bool
+    ensures { result ≡ list_any (λ b. not (is_script_byte b)) line.now }
+{
+    line.iter().any(|byte| !is_script_byte(*byte))
+}
+
+/// What a line says, unless it is skipped: its first fault, or a statement.
+fn read_line(
+    alloc: Global,
+    draft: &Option<Draft>,
+    line: &[u8],
+) -> Result<Option<Statement>, LineFault>
+    ensures { MatchResult result (Says (drafted draft.now) line.now) (Refuses (drafted draft.now) line.now) }
+{
+    if line.first() == Some(&b'#') {
+        return Ok(None);
+    }
+    let words = words(alloc, line)?;
+    let [first, after @ ..] = words.as_slice() else {
+        return Ok(None);
+    };
+    if has_other_byte(line) {
+        return Err(LineFault::Kind(FaultKind::OtherByte));
+    }
+    if draft.is_none() && !is_section_word(first) {
+        return Err(LineFault::Kind(FaultKind::NoSection));
+    }
+    let Some(keyword) = known_word(first) else {
+        return Err(LineFault::Kind(FaultKind::UnknownWord));
+    };
+    if words.len() != keyword.word_count() {
+        return Err(LineFault::Kind(FaultKind::WordCount));
+    }
+    match others(alloc, keyword, after) {
+        Ok(statement) => Ok(Some(statement)),
+        Err(WordFault::Malformed) => Err(LineFault::Kind(FaultKind::WordForm)),
+        Err(WordFault::OutOfMemory) => Err(LineFault::OutOfMemory),
+    }
+}
+
+/// The section with one statement more.
+fn add(
+    alloc: Global,
+    draft: Option<Draft>,
+    statement: Statement,
+) -> Result<Option<Draft>, LineFault>
+    ensures { MatchResult result
+        (λ next. IsAdded (drafted draft) statement (drafted next)) (IsRefused (drafted draft) statement) }
+{
+    match (draft, statement) {
+        (None, Statement::Opens(number)) => Ok(Some(Draft {
+            number,
+            commands: Vec::new(alloc),
+        })),
+        // `read_line` refuses a command before the first section.
+        (None, Statement::Gives(_)) => Ok(None),
+        (Some(_), Statement::Opens(_)) => Err(LineFault::Kind(FaultKind::SectionTwice)),
+        (Some(mut draft), Statement::Gives(command)) => {
+            if draft.commands.len() >= MAX_COMMANDS {
+                return Err(LineFault::Kind(FaultKind::TooManyCommands));
+            }
+            draft.commands.push(command)?;
+            Ok(Some(draft))
+        }
+    }
+}
+
+/// The section with what one line more says.
+fn take_line(alloc: Global, draft: Option<Draft>, line: &[u8]) -> Result<Option<Draft>, LineFault>
+    ensures { MatchResult result
+        (λ next. IsTaken (drafted draft) line.now (drafted next)) (Refuses (drafted draft) line.now) }
+{
+    match read_line(alloc, &draft, line)? {
+        None => Ok(draft),
+        Some(statement) => add(alloc, draft, statement),
+    }
+}
+
+/// The script that the section makes.
+fn finished(alloc: Global, draft: Option<Draft>) -> Result<Script, OutOfMemory>
+    ensures { IfOk result (λ script. script ≡ record { clients = option_to_list (drafted draft); mover = None }) }
+{
+    let mut clients = Vec::new(alloc);
+    if let Some(Draft { number, commands }) = draft {
+        clients.push(Section {
+            number,
+            commands: Listing::from_vec(commands),
+        })?;
+    }
+    Ok(Script {
+        clients: Listing::from_vec(clients),
+        mover: None,
+    })
+}
+
+/// The script that a text says, one section of a client at most. A bad script is answered with its
+/// first bad line and the number of what is wrong with it.
+pub fn read_script(alloc: Global, bytes: &[u8]) -> Result<Script, ScriptFault>
+    ensures read { IfOk result (λ script. script_of bytes.now ≡ Ok script) }
+    ensures fault { IfErr result (λ fault. Reports fault (script_of bytes.now)) }
+{
+    let mut rest = bytes;
+    let mut number: u32 = 0;
+    let mut draft = None;
+    while !rest.is_empty() {
+        let (line, after) = split_line(rest);
+        number = number.saturating_add(1);
+        draft = match take_line(alloc, draft, line) {
+            Ok(draft) => draft,
+            Err(LineFault::Kind(kind)) => {
+                return Err(ScriptFault::Bad {
+                    line: number,
+                    kind: kind.number(),
+                });
+            }
+            Err(LineFault::OutOfMemory) => return Err(ScriptFault::OutOfMemory),
+        };
+        rest = after;
+    }
+    match finished(alloc, draft) {
+        Ok(script) => Ok(script),
+        Err(_) => Err(ScriptFault::OutOfMemory),
+    }
+}

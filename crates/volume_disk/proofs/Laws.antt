@@ -1,0 +1,343 @@
+-- How what a stop may leave goes on from call to call. Crates above cite these and look into no rack.
+use Rattle.std.proofs.Common.{◌≡◌, ◌⊎◌, ◌+◌, ◌==◌, ◌&&◌, ℕ, ◌-◌, ◌^◌, ◌<◌, ◌≤◌, nat_lt, Bool, true, false, cond, IsTrue, Result, Ok, Err, OnOk, OnErr, List, length, refl, sym, ◌∙◌, ap, subst, inl, inr, ⊎_elim, arith}
+use Rattle.std.proofs.lemmas.Bool.{cases_eq, cases_lt, eq-eqb, ne_eqb, lt-ltb, both_ways}
+use Rattle.volume_disk.specs.Disk.{Disk, Moment, MayLeave, MayLeaveTorn, Since, moment_at, Makes, MayTear, Writes, Syncs, ReadDone, ReadFailed, WriteDone, WriteFailed, SyncDone, SyncFailed, Elapses, LeavesOnly, OnlyReads, OnlyWrites, Settles, HasRisen, raised, raised_at}
+use Rattle.volume_disk.specs.Image.{Image, IsIn, SameOutside}
+use Rattle.volume_disk.proofs.Moments.{in_or_out, put_at-same, put_at-other}
+
+-- Time.
+
+-- this moment counts
+pub now_counts : (disk : Disk) (t : ℕ) (image : Image) → t ≤ disk.calls → MayLeave disk.now image → Since disk t image
+now_counts disk t image le left = inl (le, left)
+
+-- since now there is no other
+pub only_now : (disk : Disk) (image : Image) → Since disk disk.calls image → MayLeave disk.now image
+only_now disk image (inl (le, left)) = left
+only_now disk image (inr earlier) = absurd (omega (arith, earlier.since, earlier.before))
+
+-- so does each moment since
+pub moment_counts : (disk : Disk) (t call : ℕ) (image : Image) → IsTrue disk.kept → t ≤ call → call ≤ disk.calls → MayLeave (moment_at disk call) image → Since disk t image
+moment_counts disk t call image kept since made left = elim (cases_eq call disk.calls) [
+  | inl is ↦ let at : (call == disk.calls) ≡ true = eq-eqb call disk.calls is in inl (omega arith, (rw at at left))
+  | inr other ↦
+      let at : (call == disk.calls) ≡ false = ne_eqb call disk.calls other in
+      inr (record { kept = kept; call = call; since = since; before = omega arith; left = (rw at at left) })
+]
+
+module _ (old new : Disk) (reads writes : ℕ → ℕ) (moment : Moment) (makes : Makes old new reads writes moment) (told : IsTrue old.told) where
+  remembered-now : IsTrue old.kept → old.calls < 2 ^ 64 - 1 → new.past old.calls ≡ old.now
+  remembered-now kept lt =
+      let at : (old.calls == old.calls) ≡ true = eq-eqb old.calls old.calls refl in
+      let before : nat_lt old.calls (2 ^ 64 - 1) ≡ true = lt-ltb old.calls (2 ^ 64 - 1) lt in
+      ap (λ (past : ℕ → Moment). past old.calls) (makes.past told) ∙ (rw (kept, at, before) refl)
+
+  -- a moment of before is still there
+  remembered-past : (t : ℕ) → (t ≡ old.calls → ⊥) → new.past t ≡ old.past t
+  remembered-past t other =
+      let at : (t == old.calls) ≡ false = ne_eqb t old.calls other in
+      ap (λ (past : ℕ → Moment). past t) (makes.past told) ∙ not_now old.kept at
+    where
+      not_now : (kept : Bool) → (t == old.calls) ≡ false → cond (kept && (t == old.calls) && nat_lt t (2 ^ 64 - 1)) old.now (old.past t) ≡ old.past t
+      not_now true at = rw at refl
+      not_now false at = refl
+
+  pub nothing_else : (t : ℕ) (image : Image) → t ≤ old.calls → Since new t image → Since old t image ⊎ MayLeave new.now image
+  nothing_else t image le (inl (le', left)) = inr left
+  nothing_else t image le (inr earlier) =
+      let kept : IsTrue old.kept = sym makes.kept ∙ earlier.kept in
+      elim (cases_eq earlier.call old.calls) [
+        | inl is ↦ inl (inl (le, subst (λ (m : Moment). MayLeave m image) (remembered-now kept (omega (arith, earlier.before, makes.calls))) (subst (λ (t : ℕ). MayLeave (new.past t) image) is earlier.left)))
+        | inr other ↦
+            inl (inr (record {
+              kept = kept;
+              call = earlier.call;
+              since = earlier.since;
+              before = omega (arith, earlier.before, makes.calls);
+              left = subst (λ (m : Moment). MayLeave m image) (remembered-past earlier.call other) earlier.left;
+            }))
+      ]
+
+  pub keeps : (old.calls < 2 ^ 64 - 1) ⊎ ((image : Image) → MayLeave old.now image → MayLeave new.now image) → IsTrue old.kept → (t : ℕ) (image : Image) → Since old t image → Since new t image
+  keeps (inl lt) kept t image (inl (le, left)) =
+      inr (record {
+        kept = makes.kept ∙ kept;
+        call = old.calls;
+        since = le;
+        before = omega (arith, makes.calls);
+        left = subst (λ (m : Moment). MayLeave m image) (sym (remembered-now kept lt)) left;
+      })
+  keeps (inr same) kept t image (inl (le, left)) = inl (omega (arith, le, makes.calls), same image left)
+  keeps more kept t image (inr earlier) =
+      inr (record {
+        kept = makes.kept ∙ kept;
+        call = earlier.call;
+        since = earlier.since;
+        before = omega (arith, earlier.before, makes.calls);
+        left = subst (λ (m : Moment). MayLeave m image) (sym (remembered-past earlier.call (λ e. omega (arith, earlier.before)))) earlier.left;
+      })
+
+  pub elapses : (old.calls < 2 ^ 64 - 1) ⊎ ((image : Image) → MayLeave old.now image → MayLeave new.now image) → Elapses old new
+  elapses more = record { later = omega (arith, makes.calls); nothing_else = nothing_else; keeps = keeps more }
+
+-- What each call may leave.
+
+-- a place outside of a write, that was synced, holds what it did
+pub torn_outside : (vol at n : ℕ) (old new : Moment) (image : Image) → MayTear vol at n old new → MayLeave new image → (v k : ℕ) → ¬ IsIn vol at n v k → old.unsynced v k ≡ false → image v k ≡ old.contents v k
+torn_outside vol at n old new image tears left v k out synced = left v k (tears.unsynced v k out ∙ synced) ∙ tears.contents v k out
+
+-- what a write may leave is what might have been left before it, torn in its range
+pub torn_follows : (vol at n : ℕ) (old new : Moment) (image : Image) → MayTear vol at n old new → MayLeave new image → MayLeaveTorn vol at n old image
+torn_follows vol at n old new image tears left = (before, was, λ v k out. agrees v k out (in_or_out vol at n v k))
+  where
+    choice : (v k : ℕ) → IsIn vol at n v k ⊎ (¬ IsIn vol at n v k) → ℕ
+    choice v k (inl is_in) = old.contents v k
+    choice v k (inr out) = image v k
+
+    before : Image
+    before v k = choice v k (in_or_out vol at n v k)
+
+    was_at : (v k : ℕ) (where_is : IsIn vol at n v k ⊎ (¬ IsIn vol at n v k)) → old.unsynced v k ≡ false → choice v k where_is ≡ old.contents v k
+    was_at v k (inl is_in) synced = refl
+    was_at v k (inr out) synced = torn_outside vol at n old new image tears left v k out synced
+
+    was : MayLeave old before
+    was v k synced = was_at v k (in_or_out vol at n v k) synced
+
+    agrees : (v k : ℕ) → ¬ IsIn vol at n v k → (where_is : IsIn vol at n v k ⊎ (¬ IsIn vol at n v k)) → image v k ≡ choice v k where_is
+    agrees v k out (inl is_in) = absurd (out is_in)
+    agrees v k out (inr _) = refl
+
+-- what might have been left before a failed write may still be left
+pub torn_keeps : (vol at n : ℕ) (old new : Moment) (image : Image) → MayTear vol at n old new → MayLeave old image → MayLeave new image
+torn_keeps vol at n old new image tears left v k synced = left v k (was (old.unsynced v k) refl) ∙ sym (tears.known v k synced)
+  where
+    was : (b : Bool) → old.unsynced v k ≡ b → old.unsynced v k ≡ false
+    was false is = is
+    was true is = absurd (both_ways (new.unsynced v k) synced (tears.still v k is))
+
+-- after a sync a stop leaves what might have been left before, and of that volume what a read gives
+pub synced_follows : (vol : ℕ) (old new : Moment) (image : Image) → Syncs vol old new → MayLeave new image → MayLeave old image × ((k : ℕ) → image vol k ≡ new.contents vol k)
+synced_follows vol old new image syncs left = (was, λ k. left vol k (syncs.here k))
+  where
+    was : MayLeave old image
+    was v k synced = elim (cases_eq v vol) [
+      | inl is ↦ left v k (ap (λ (w : ℕ). new.unsynced w k) is ∙ syncs.here k) ∙ ap (λ (image : Image). image v k) syncs.contents
+      | inr other ↦ left v k (syncs.elsewhere v k other ∙ synced) ∙ ap (λ (image : Image). image v k) syncs.contents
+    ]
+
+-- A call, whatever it answers.
+
+by_result : {T E A B C : Type 0} (result : Result T E) → OnOk result A → OnErr result B → (A → C) → (B → C) → C
+by_result (Ok x) a b f g = f a
+by_result (Err e) a b f g = g b
+
+same_moment : (old new : Moment) → new ≡ old → (image : Image) → MayLeave old image → MayLeave new image
+same_moment old new same image left = subst (λ (m : Moment). MayLeave m image) (sym same) left
+
+module _ {T E : Type 0} (old new : Disk) (vol at n : ℕ) (out : List ℕ) (result : Result T E) (done : OnOk result (ReadDone old new vol at n out)) (failed : OnErr result (ReadFailed old new vol)) where
+  pub read_told : IsTrue old.told → IsTrue new.told
+  read_told told = by_result result done failed (λ d. d.makes.told) (λ f. f.told) ∙ told
+
+  pub read_same : IsTrue old.told → new.now ≡ old.now
+  read_same told = by_result result done failed (λ d. d.makes.now told) (λ f. f.now told)
+
+  pub read_elapses : IsTrue old.told → Elapses old new
+  read_elapses told =
+      by_result result done failed
+      (λ d. elapses old new old.read_faults old.write_faults old.now d.makes told (inl d.passed.0))
+      (λ f. elapses old new (raised_at old.read_faults vol) old.write_faults old.now f told (inr (same_moment old.now new.now (f.now told))))
+
+module _ {T E : Type 0} (old new : Disk) (vol at : ℕ) (bytes : List ℕ) (result : Result T E) (done : OnOk result (WriteDone old new vol at bytes)) (failed : OnErr result (WriteFailed old new vol at (length bytes))) where
+  pub write_told : IsTrue old.told → IsTrue new.told
+  write_told told = by_result result done failed (λ d. d.makes.told) (λ f. f.makes.told) ∙ told
+
+  pub write_tears : IsTrue old.told → MayTear vol at (length bytes) old.now new.now
+  write_tears told = by_result result done failed (λ d. (d.writes told).tears) (λ f. f.tears told)
+
+  pub write_elapses : IsTrue old.told → Elapses old new
+  write_elapses told =
+      by_result result done failed
+      (λ d. elapses old new old.read_faults old.write_faults new.now d.makes told (inl d.passed.0))
+      (λ f. elapses old new old.read_faults (raised_at old.write_faults vol) new.now f.makes told (inr (λ image. torn_keeps vol at (length bytes) old.now new.now image (f.tears told))))
+
+module _ {T E : Type 0} (old new : Disk) (vol : ℕ) (result : Result T E) (done : OnOk result (SyncDone old new vol)) (failed : OnErr result (SyncFailed old new vol)) where
+  pub sync_told : IsTrue old.told → IsTrue new.told
+  sync_told told = by_result result done failed (λ d. d.makes.told) (λ f. f.told) ∙ told
+
+  pub sync_contents : IsTrue old.told → new.now.contents ≡ old.now.contents
+  sync_contents told = by_result result done failed (λ d. (d.syncs told).contents) (λ f. ap (λ (m : Moment). m.contents) (f.now told))
+
+  -- a sync leaves nothing that might not have been left before it
+  pub sync_leaves : IsTrue old.told → (image : Image) → MayLeave new.now image → MayLeave old.now image
+  sync_leaves told image left =
+      by_result result done failed
+      (λ d. (synced_follows vol old.now new.now image (d.syncs told) left).0)
+      (λ f. same_moment new.now old.now (sym (f.now told)) image left)
+
+  pub sync_elapses : IsTrue old.told → Elapses old new
+  sync_elapses told =
+      by_result result done failed
+      (λ d. elapses old new old.read_faults old.write_faults new.now d.makes told (inl d.passed.0))
+      (λ f. elapses old new old.read_faults (raised_at old.write_faults vol) old.now f told (inr (same_moment old.now new.now (f.now told))))
+
+-- Runs of calls.
+
+-- before the first call
+pub started : (disk : Disk) (P : Image → Type 0) → ((image : Image) → MayLeave disk.now image → P image) → LeavesOnly disk disk P
+started disk P here = record { later = omega arith; each = λ image left. here image (only_now disk image left); before = λ t image le left. inl left }
+
+-- one call more, after which a stop leaves what has P
+pub goes_on : (old mid new : Disk) (P : Image → Type 0) → LeavesOnly old mid P → Elapses mid new → ((image : Image) → MayLeave new.now image → P image) → LeavesOnly old new P
+goes_on old mid new P so_far time here = record {
+  later = omega (arith, so_far.later, time.later);
+  each = λ image left. ⊎_elim (so_far.each image) (here image) (time.nothing_else old.calls image so_far.later left);
+  before = λ t image le left. ⊎_elim (so_far.before t image le) (λ now. inr (here image now)) (time.nothing_else t image (omega (arith, le, so_far.later)) left);
+}
+
+-- one run after another
+pub then_on : (old mid new : Disk) (P : Image → Type 0) → LeavesOnly old mid P → LeavesOnly mid new P → LeavesOnly old new P
+then_on old mid new P first second = record {
+  later = omega (arith, first.later, second.later);
+  each = λ image left. ⊎_elim (first.each image) (λ p. p) (second.before old.calls image first.later left);
+  before = λ t image le left. ⊎_elim (first.before t image le) (λ p. inr p) (second.before t image (omega (arith, le, first.later)) left);
+}
+
+pub weaker : (old new : Disk) (P Q : Image → Type 0) → ((image : Image) → P image → Q image) → LeavesOnly old new P → LeavesOnly old new Q
+weaker old new P Q weak only = record {
+  later = only.later;
+  each = λ image left. weak image (only.each image left);
+  before = λ t image le left. ⊎_elim (λ was. inl was) (λ p. inr (weak image p)) (only.before t image le left);
+}
+
+-- Counts of faults.
+
+pub HasRisen-raised_at : (counts : ℕ → ℕ) (vol : ℕ) → HasRisen (counts vol) (raised_at counts vol vol)
+HasRisen-raised_at counts vol = subst (HasRisen (counts vol)) (sym (put_at-same counts vol (raised (counts vol)))) (elim (cases_lt (counts vol) (2 ^ 64 - 1)) [ inl lt ↦ inl (omega arith) | inr last ↦ inr (last, omega arith) ])
+
+pub raised_at-other : (counts : ℕ → ℕ) (vol v : ℕ) → (v ≡ vol → ⊥) → raised_at counts vol v ≡ counts v
+raised_at-other counts vol v other = put_at-other counts vol v (raised (counts vol)) other
+
+-- no count falls
+pub raised_at-later : (counts : ℕ → ℕ) (vol v : ℕ) → counts v ≤ raised_at counts vol v
+raised_at-later counts vol v = elim (cases_eq v vol) [
+  | inl is ↦ subst (λ (w : ℕ). counts w ≤ raised_at counts vol w) (sym is) (subst (λ (c : ℕ). counts vol ≤ c) (sym (put_at-same counts vol (raised (counts vol)))) (omega arith))
+  | inr other ↦ subst (λ (c : ℕ). counts v ≤ c) (sym (raised_at-other counts vol v other)) (omega arith)
+]
+
+pub HasRisen-before : (a b c : ℕ) → a ≤ b → HasRisen b c → HasRisen a c
+HasRisen-before a b c le (inl lt) = inl (omega arith)
+HasRisen-before a b c le (inr last) = elim (cases_lt a c) [ inl lt ↦ inl lt | inr ge ↦ inr (omega (arith, last.0, last.1), omega (arith, last.1)) ]
+
+pub HasRisen-after : (a b c : ℕ) → HasRisen a b → b ≤ c → HasRisen a c
+HasRisen-after a b c (inl lt) le = inl (omega arith)
+HasRisen-after a b c (inr last) le = inr (last.0, omega (arith, last.1))
+
+-- Runs of reads.
+
+-- two stretches of time, of which the second leaves what the first did
+pub elapses_then : (old mid new : Disk) → new.now ≡ mid.now → Elapses old mid → Elapses mid new → mid.kept ≡ old.kept → Elapses old new
+elapses_then old mid new same first second kept = record {
+  later = omega (arith, first.later, second.later);
+  nothing_else = λ t image le left. ⊎_elim (earlier t image le) (λ now. inr now) (second.nothing_else t image (omega (arith, le, first.later)) left);
+  keeps = λ told t image left. second.keeps (kept ∙ told) t image (first.keeps told t image left);
+}
+  where
+    earlier : (t : ℕ) (image : Image) → t ≤ old.calls → Since mid t image → Since old t image ⊎ MayLeave new.now image
+    earlier t image le left = ⊎_elim (λ was. inl was) (λ now. inr (same_moment mid.now new.now same image now)) (first.nothing_else t image le left)
+
+pub only_reads-none : (disk : Disk) → OnlyReads disk disk
+only_reads-none disk = record {
+  sizes = refl;
+  told = refl;
+  kept = refl;
+  write_faults = refl;
+  read_faults = λ v. omega arith;
+  now = λ told. refl;
+  time = λ told. record { later = omega arith; nothing_else = λ t image le left. inl left; keeps = λ kept t image left. left };
+}
+
+pub only_reads-then : (old mid new : Disk) → OnlyReads old mid → OnlyReads mid new → OnlyReads old new
+only_reads-then old mid new first second = record {
+  sizes = second.sizes ∙ first.sizes;
+  told = second.told ∙ first.told;
+  kept = second.kept ∙ first.kept;
+  write_faults = second.write_faults ∙ first.write_faults;
+  read_faults = λ v. let a = first.read_faults v in let b = second.read_faults v in omega arith;
+  now = λ told. second.now (first.told ∙ told) ∙ first.now told;
+  time = λ told. elapses_then old mid new (second.now (first.told ∙ told)) (first.time told) (second.time (first.told ∙ told)) first.kept;
+}
+
+-- a read, whatever it answers
+pub only_reads-read : {T E : Type 0} (old new : Disk) (vol at n : ℕ) (out : List ℕ) (result : Result T E) → OnOk result (ReadDone old new vol at n out) → OnErr result (ReadFailed old new vol) → OnlyReads old new
+only_reads-read old new vol at n out result done failed = record {
+  sizes = by_result result done failed (λ d. d.makes.sizes) (λ f. f.sizes);
+  told = by_result result done failed (λ d. d.makes.told) (λ f. f.told);
+  kept = by_result result done failed (λ d. d.makes.kept) (λ f. f.kept);
+  write_faults = by_result result done failed (λ d. d.makes.write_faults) (λ f. f.write_faults);
+  read_faults = λ v. by_result result done failed
+      (λ d. subst (λ (faults : ℕ → ℕ). old.read_faults v ≤ faults v) (sym d.makes.read_faults) (omega arith))
+      (λ f. subst (λ (faults : ℕ → ℕ). old.read_faults v ≤ faults v) (sym f.read_faults) (raised_at-later old.read_faults vol v));
+  now = read_same old new vol at n out result done failed;
+  time = read_elapses old new vol at n out result done failed;
+}
+
+-- a failed read raised its count
+pub HasRisen-read : (old new : Disk) (vol : ℕ) → ReadFailed old new vol → HasRisen (old.read_faults vol) (new.read_faults vol)
+HasRisen-read old new vol failed = subst (λ (faults : ℕ → ℕ). HasRisen (old.read_faults vol) (faults vol)) (sym failed.read_faults) (HasRisen-raised_at old.read_faults vol)
+
+-- A write and the sync of its volume.
+
+MayLeaveTorn-now : (vol at n : ℕ) (moment : Moment) (image : Image) → MayLeave moment image → MayLeaveTorn vol at n moment image
+MayLeaveTorn-now vol at n moment image left = (image, left, λ v k out. refl)
+
+module _ {T E : Type 0} (old new : Disk) (vol at : ℕ) (bytes : List ℕ) (result : Result T E) (done : OnOk result (WriteDone old new vol at bytes)) (failed : OnErr result (WriteFailed old new vol at (length bytes))) where
+  -- a write, whatever it answers
+  pub only_writes-write : OnlyWrites old new vol at (length bytes)
+  only_writes-write = record {
+    sizes = by_result result done failed (λ d. d.makes.sizes) (λ f. f.makes.sizes);
+    told = by_result result done failed (λ d. d.makes.told) (λ f. f.makes.told);
+    kept = by_result result done failed (λ d. d.makes.kept) (λ f. f.makes.kept);
+    read_faults = by_result result done failed (λ d. d.makes.read_faults) (λ f. f.makes.read_faults);
+    write_faults = λ v. by_result result done failed
+        (λ d. subst (λ (faults : ℕ → ℕ). old.write_faults v ≤ faults v) (sym d.makes.write_faults) (omega arith))
+        (λ f. subst (λ (faults : ℕ → ℕ). old.write_faults v ≤ faults v) (sym f.makes.write_faults) (raised_at-later old.write_faults vol v));
+    tears = λ told.
+        let P = MayLeaveTorn vol at (length bytes) old.now in
+        goes_on old old new P
+        (started old P (MayLeaveTorn-now vol at (length bytes) old.now))
+        (write_elapses old new vol at bytes result done failed told)
+        (λ image left. torn_follows vol at (length bytes) old.now new.now image (write_tears old new vol at bytes result done failed told) left);
+  }
+
+-- and the sync after it
+pub only_writes-sync : {T E : Type 0} (old mid new : Disk) (vol at n : ℕ) (result : Result T E) → OnOk result (SyncDone mid new vol) → OnErr result (SyncFailed mid new vol) → OnlyWrites old mid vol at n
+    → (IsTrue old.told → MayTear vol at n old.now mid.now) → OnlyWrites old new vol at n
+only_writes-sync old mid new vol at n result done failed so_far tears = record {
+  sizes = by_result result done failed (λ d. d.makes.sizes) (λ f. f.sizes) ∙ so_far.sizes;
+  told = by_result result done failed (λ d. d.makes.told) (λ f. f.told) ∙ so_far.told;
+  kept = by_result result done failed (λ d. d.makes.kept) (λ f. f.kept) ∙ so_far.kept;
+  read_faults = by_result result done failed (λ d. d.makes.read_faults) (λ f. f.read_faults) ∙ so_far.read_faults;
+  write_faults = λ v. let was = so_far.write_faults v in by_result result done failed
+      (λ d. subst (λ (faults : ℕ → ℕ). old.write_faults v ≤ faults v) (sym d.makes.write_faults) was)
+      (λ f. subst (λ (faults : ℕ → ℕ). old.write_faults v ≤ faults v) (sym f.write_faults) (let more = raised_at-later mid.write_faults vol v in omega arith));
+  tears = λ told.
+      let mid_told : IsTrue mid.told = so_far.told ∙ told in
+      goes_on old mid new (MayLeaveTorn vol at n old.now)
+      (so_far.tears told)
+      (sync_elapses mid new vol result done failed mid_told)
+      (λ image left. torn_follows vol at n old.now mid.now image (tears told) (sync_leaves mid new vol result done failed mid_told image left));
+}
+
+-- what a write and a sync that are done make of a moment
+pub Settles-done : (vol at : ℕ) (bytes : List ℕ) (old mid new : Moment) → Writes vol at bytes old mid → Syncs vol mid new → Settles vol at bytes old new
+Settles-done vol at bytes old mid new writes syncs = record {
+  written = λ k lt. ap (λ (image : Image). image vol (at + k)) syncs.contents ∙ writes.written k lt;
+  outside = λ v k out. ap (λ (image : Image). image v k) syncs.contents ∙ writes.tears.contents v k out;
+  here = syncs.here;
+  elsewhere = λ v k other. syncs.elsewhere v k other ∙ writes.tears.unsynced v k (λ is_in. other is_in.0);
+}
+
+-- a failed write or sync raised its count
+pub HasRisen-write : (old new : Disk) (vol : ℕ) → new.write_faults ≡ raised_at old.write_faults vol → HasRisen (old.write_faults vol) (new.write_faults vol)
+HasRisen-write old new vol is = subst (λ (faults : ℕ → ℕ). HasRisen (old.write_faults vol) (faults vol)) (sym is) (HasRisen-raised_at old.write_faults vol)
