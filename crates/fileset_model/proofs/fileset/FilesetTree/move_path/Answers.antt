@@ -1,5 +1,4 @@
 use Rattle.std.proofs.Common.{◌≡◌, ℕ, List, IsTrue, Some, None, ap, subst, sym, ◌∙◌}
-use Rattle.std.specs.Ordering.{nat_cmp}
 use Rattle.std.specs.FinMap.{entries, get}
 use Rattle.std.specs.FinMap.Entries.{is_sorted}
 use Rattle.fileset_model.specs.Orders.{Path, path_cmp}
