@@ -15,7 +15,6 @@ same_key : {K : Type 0} {R : K → K → Ordering} → IsAntisymmetric R → (q 
 same_key {R = R} a q k h = a q k (equal (R q k) h)
 
 module _ {K X : Type 0} {R : K → K → Ordering} (o : IsTotalOrder R) (a : IsAntisymmetric R) where
-
   -- at another key all is as it was, and at the key there is the value
   pub got-insert : (m : FinMap R X) (k : K) (v : X) (q : K) (found : Option X) → get (insert m k v) q ≡ found → ((q ≡ k) × (found ≡ Some v)) ⊎ ((q ≢ k) × (get m q ≡ found))
   got-insert m k v q found h =

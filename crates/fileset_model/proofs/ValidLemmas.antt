@@ -31,10 +31,10 @@ passed_test true refusal h = absurd (cc)
 passed_test false refusal h = refl
 
 pub passed_in : (all : FilesetMap) (name : Name) (checks : FilesetSlot → List (Option Refusal)) → in_fileset all name checks ≡ None
-  → (slot : FilesetSlot) × (map.get all name ≡ Some slot) × (first_refusal (checks slot) ≡ None)
+    → (slot : FilesetSlot) × (map.get all name ≡ Some slot) × (first_refusal (checks slot) ≡ None)
 passed_in all name checks h =
     elim (map.get all name) as (λ o. map.get all name ≡ o → option_map_or (λ slot. first_refusal (checks slot)) o (Some NoFileset) ≡ None
-      → (slot : FilesetSlot) × (map.get all name ≡ Some slot) × (first_refusal (checks slot) ≡ None)) [
+    → (slot : FilesetSlot) × (map.get all name ≡ Some slot) × (first_refusal (checks slot) ≡ None)) [
       | None ↦ λ is none. absurd (cc)
       | Some slot ↦ λ is none. (slot, is, none)
     ] refl h
@@ -57,7 +57,7 @@ SameRoles all new = (q : Name) (s : FilesetSlot) → map.get new q ≡ Some s �
 
 -- with the same roles on both sides, clones have their originals, and one each
 pub same_roles-originals : (all new : FilesetMap) → AreValid all → SameRoles all new → SameRoles new all → (q original : Name) (s : FilesetSlot) (out : NumberSet)
-  → map.get new q ≡ Some s → s.role ≡ CloneOf original out → IsSomeAnd (map.get new original) (λ of. of.role ≡ Original)
+    → map.get new q ≡ Some s → s.role ≡ CloneOf original out → IsSomeAnd (map.get new original) (λ of. of.role ≡ Original)
 same_roles-originals all new v back on q original s out found role =
     let before = back q s found in
     let of = from_some_and (λ (x : FilesetSlot). x.role ≡ Original) (map.get all original) (v.originals q original before.0 out before.1 (sym before.2 ∙ role)) in
@@ -65,7 +65,7 @@ same_roles-originals all new v back on q original s out found role =
     to_some_and (λ (x : FilesetSlot). x.role ≡ Original) (map.get new original) after.0 after.1 (sym after.2 ∙ of.2)
 
 pub same_roles-one_clone : (all new : FilesetMap) → AreValid all → SameRoles all new → (p q original : Name) (s t : FilesetSlot) (out out' : NumberSet)
-  → map.get new p ≡ Some s → map.get new q ≡ Some t → s.role ≡ CloneOf original out → t.role ≡ CloneOf original out' → p ≡ q
+    → map.get new p ≡ Some s → map.get new q ≡ Some t → s.role ≡ CloneOf original out → t.role ≡ CloneOf original out' → p ≡ q
 same_roles-one_clone all new v back p q original s t out out' fp fq rp rq =
     let bp = back p s fp in
     let bq = back q t fq in
@@ -75,26 +75,26 @@ same_roles-one_clone all new v back p q original s t out out' fp fq rp rq =
 
 -- a valid tree in the place of another keeps all filesets valid
 pub with_tree-valid : (all : FilesetMap) (name : Name) (slot : FilesetSlot) (change : Fileset → Fileset) → AreValid all → map.get all name ≡ Some slot
-  → IsValidFileset (change slot.tree) → AreValid (with_tree all name change)
+    → IsValidFileset (change slot.tree) → AreValid (with_tree all name change)
 with_tree-valid all name slot change v is tree =
     let slot' : FilesetSlot = record slot { tree = change slot.tree } in
     let o = name_cmp-total in
     let a = name_cmp-IsAntisymmetric in
     let new : FilesetMap = map.insert all name slot' in
     let back : SameRoles all new = λ q s found.
-      elim (got-insert o a all name slot' q _ found) as (λ _. (before : FilesetSlot) × (map.get all q ≡ Some before) × (s.role ≡ before.role)) [
-        | inl here ↦ (slot, ap (map.get all) here.0 ∙ is, ap (λ (x : FilesetSlot). x.role) (some_inj here.1))
-        | inr other ↦ (s, other.1, refl)
-      ] in
+    elim (got-insert o a all name slot' q _ found) as (λ _. (before : FilesetSlot) × (map.get all q ≡ Some before) × (s.role ≡ before.role)) [
+      | inl here ↦ (slot, ap (map.get all) here.0 ∙ is, ap (λ (x : FilesetSlot). x.role) (some_inj here.1))
+      | inr other ↦ (s, other.1, refl)
+    ] in
     let on : SameRoles new all = λ q s found.
-      elim (got-insert o a all name slot' q _ refl) as (λ _. (after : FilesetSlot) × (map.get new q ≡ Some after) × (s.role ≡ after.role)) [
-        | inl here ↦ (slot', here.1, ap (λ (x : FilesetSlot). x.role) (some_inj (sym found ∙ ap (map.get all) here.0 ∙ is)))
-        | inr other ↦ (s, sym other.1 ∙ found, refl)
-      ] in
+    elim (got-insert o a all name slot' q _ refl) as (λ _. (after : FilesetSlot) × (map.get new q ≡ Some after) × (s.role ≡ after.role)) [
+      | inl here ↦ (slot', here.1, ap (λ (x : FilesetSlot). x.role) (some_inj (sym found ∙ ap (map.get all) here.0 ∙ is)))
+      | inr other ↦ (s, sym other.1 ∙ found, refl)
+    ] in
     subst AreValid (sym (with_tree-at all name slot change is)) (record {
       few = let there : map.contains_key all name ≡ true = ap is_some is in
-        let same : map.len (map.insert all name slot') ≡ map.len all = map.len-insert o all name slot' ∙ ap (λ b. cond b (map.len all) (map.len all + 1)) there in
-        rw same v.few;
+          let same : map.len (map.insert all name slot') ≡ map.len all = map.len-insert o all name slot' ∙ ap (λ b. cond b (map.len all) (map.len all + 1)) there in
+          rw same v.few;
       each = λ q s found. elim (got-insert o a all name slot' q _ found) as (λ _. IsValidFileset s.tree) [
         | inl here ↦ subst (λ (t : FilesetSlot). IsValidFileset t.tree) (sym (some_inj here.1)) tree
         | inr other ↦ v.each q s other.1

@@ -11,5 +11,4 @@ ghost use Rattle.fileset_model.specs.declared.fileset.FilesetSlot.{FilesetSlot a
 pub fn a_valid_tree_keeps_all_valid()
     ensures { (all : FilesetMap) (name : NameBytes) (slot : SlotOf) (change : Tree → Tree) → AreValid all → get all name ≡ Some slot
         → IsValidFileset (change slot.tree) → AreValid (with_tree all name change) }
-{
-}
+{}
