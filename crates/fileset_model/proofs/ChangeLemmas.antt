@@ -9,7 +9,7 @@ use Rattle.std.specs.Cmp.{IsTotalOrder, alike_right, eq_by_cmp_equiv, nat_cmp_to
 use Rattle.std.specs.FinMap as map
 use Rattle.std.specs.FinMap.Entries.{find, put, is_sorted, is_sorted-where_key, where_key, find-where_key}
 use Rattle.domain_base.specs.Page.{overwritten, zero_bytes}
-use Rattle.fileset_model.specs.Orders.{Path, path_cmp, path_cmp-total, path_cmp-IsAntisymmetric, owner_cmp}
+use Rattle.fileset_model.specs.Orders.{Path, path_cmp, path_cmp-total, path_cmp-IsAntisymmetric}
 use Rattle.fileset_model.specs.Fileset.{Fileset}
 use Rattle.fileset_model.specs.Pages.{truncated}
 use Rattle.fileset_model.specs.Apply.{without}

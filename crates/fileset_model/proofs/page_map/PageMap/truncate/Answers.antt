@@ -1,9 +1,7 @@
-use Rattle.std.proofs.Common.{ℕ, List, ◌∙◌, ap}
-use Rattle.std.specs.Ordering.{nat_cmp}
+use Rattle.std.proofs.Common.{◌∙◌, ap}
 use Rattle.std.specs.FinMap.{from_sorted}
-use Rattle.std.specs.FinMap.Entries.{where_key}
 use Rattle.fileset_model.specs.Pages.{truncated}
-use Rattle.fileset_model.proofs.ChangeLemmas.{begins_below, cut_entries, truncated-from_sorted}
+use Rattle.fileset_model.proofs.ChangeLemmas.{cut_entries, truncated-from_sorted}
 use Rattle.fileset_model.proofs.page_map.PageMap.truncate.Goals as goal
 
 pub returns-clause-ok : goal.returns-clause-ok
