@@ -1,13 +1,13 @@
 -- What holds of lists of entries in the order of their keys, and of the maps that they make.
 use Rattle.std.proofs.lemmas.Bool.Decides.{nat_tests}
-use Rattle.std.proofs.Common.{◌≡◌, ℕ, suc, ◌+◌, ◌<◌, ◌≤◌, ◌==◌, nat_lt, Bool, true, false, cond, ◌&&◌, List, [], ◌∷◌, ◌++◌, length, take, drop, get_or, set, refl, sym, ap, subst, ◌∙◌, T, IsTrue, Some, None, arith, add-one}
+use Rattle.std.proofs.Common.{◌≡◌, ℕ, suc, ◌+◌, ◌<◌, ◌==◌, nat_lt, Bool, true, false, cond, ◌&&◌, List, [], ◌∷◌, ◌++◌, length, take, drop, get_or, set, refl, sym, ap, subst, ◌∙◌, T, IsTrue, Some, None, arith}
 use Rattle.std.proofs.lemmas.List.{take-append-drop, take-set, drop-set, drop_more, get_or_read}
 use Rattle.std.specs.declared.cmp.Ordering.{Ordering}
 use Rattle.std.specs.declared.cmp.Ordering.TheVariants.{Less, Equal, Greater}
 use Rattle.std.specs.Ordering.{eq_by_cmp, is_eq, is_lt, nat_cmp}
 use Rattle.std.specs.Cmp.{IsTotalOrder}
 use Rattle.std.specs.FinMap as map
-use Rattle.std.specs.FinMap.Entries.{below_all, by_order, find, put, is_sorted, is_sorted-put, where_key, is_sorted-where_key}
+use Rattle.std.specs.FinMap.Entries.{below_all, by_order, find, put, is_sorted, is_sorted-put}
 use Rattle.fileset_model.specs.Entries.{IsGapOf, IsPlaceOf, put_each}
 
 pub from_sorted-empty : {K X : Type 0} (R : K → K → Ordering) → map.from_sorted {K = K} {X = X} {R = R} [] ≡ map.empty

@@ -1,5 +1,5 @@
 -- The filesets as a sorted list.
-use Rattle.std.proofs.Common.{◌≡◌, ℕ, List, IsTrue, Some, None, get_or, set, refl, sym, ap, ◌∙◌}
+use Rattle.std.proofs.Common.{◌≡◌, ℕ, List, IsTrue, Some, None, get_or, set, sym, ap, ◌∙◌}
 use Rattle.std.specs.Option.{option_map_or}
 use Rattle.std.specs.FinMap as map
 use Rattle.std.specs.FinMap.Entries.{is_sorted}

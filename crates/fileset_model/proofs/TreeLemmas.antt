@@ -1,11 +1,11 @@
 -- A fileset's tree as three sorted lists.
-use Rattle.std.proofs.Common.{◌≡◌, ℕ, List, IsTrue, Some, None, get_or, set, refl, sym, ap, ◌∙◌}
+use Rattle.std.proofs.Common.{◌≡◌, ℕ, List, IsTrue, Some, None, get_or, set, sym, ap, ◌∙◌}
 use Rattle.std.specs.Option.{option_map_or}
 use Rattle.std.specs.Ordering.{nat_cmp}
 use Rattle.std.specs.Cmp.{nat_cmp_total}
 use Rattle.std.specs.FinMap as map
-use Rattle.std.specs.FinMap.Entries.{find, is_sorted}
-use Rattle.fileset_model.specs.Orders.{Path, path_cmp, owner_cmp}
+use Rattle.std.specs.FinMap.Entries.{is_sorted}
+use Rattle.fileset_model.specs.Orders.{Path}
 use Rattle.fileset_model.specs.Entries.{IsPlaceOf}
 use Rattle.fileset_model.specs.Fileset.{Fileset}
 use Rattle.fileset_model.specs.Apply.{with_change}

@@ -1,24 +1,19 @@
 -- What is always so of filesets stays so under a change of one of them.
-use Rattle.std.proofs.Common.{◌≡◌, ◌≢◌, ◌⊎◌, ℕ, suc, ◌+◌, ◌<◌, ◌≤◌, Bool, true, false, cond, not, Option, Some, None, is_some, IsTrue, IsSome, IsSomeAnd, MatchOption, List, [], ◌∷◌, ◌++◌, length, refl, sym, ap, subst, ◌∙◌, inl, inr, arith}
-use Rattle.std.specs.Option.{option_map_or, option_and_then}
-use Rattle.std.specs.Ordering.{nat_cmp}
-use Rattle.std.specs.Cmp.{nat_cmp_total}
+use Rattle.std.proofs.Common.{◌≡◌, ◌+◌, Bool, true, false, cond, Option, Some, None, is_some, IsSomeAnd, List, ◌∷◌, refl, sym, ap, subst, ◌∙◌, inl, inr}
+use Rattle.std.specs.Option.{option_map_or}
 use Rattle.std.specs.FinMap as map
-use Rattle.domain_base.specs.declared.limits.TheConstants.{MAX_FILESETS}
-use Rattle.fileset_model.specs.Orders.{Name, Path, name_cmp, path_cmp, name_cmp-total, path_cmp-total, name_cmp-IsAntisymmetric, path_cmp-IsAntisymmetric}
+use Rattle.fileset_model.specs.Orders.{Name, name_cmp-total, name_cmp-IsAntisymmetric}
 use Rattle.fileset_model.specs.Fileset.{Fileset}
-use Rattle.fileset_model.specs.Paths.{first_refusal, refuse_if, node_at, is_directory}
-use Rattle.fileset_model.specs.State.{AreValid, FilesetMap, HasWholePages, IsDirectoryAt, IsValidFileset}
-use Rattle.fileset_model.specs.Apply.{in_fileset, with_change, with_tree}
+use Rattle.fileset_model.specs.Paths.{first_refusal, refuse_if}
+use Rattle.fileset_model.specs.State.{AreValid, FilesetMap, IsValidFileset}
+use Rattle.fileset_model.specs.Apply.{in_fileset, with_tree}
 use Rattle.fileset_model.specs.declared.fileset.FilesetSlot.{FilesetSlot}
 use Rattle.fileset_model.specs.declared.fileset.Role.TheVariants.{Original, CloneOf}
-use Rattle.fileset_model.specs.declared.node.Node.{Node}
 use Rattle.fileset_model.specs.declared.reply.Refusal.{Refusal}
 use Rattle.fileset_model.specs.declared.reply.Refusal.TheVariants.{NoFileset}
 use Rattle.fileset_model.specs.declared.fileset.NumberSet.{NumberSet}
-use Rattle.fileset_model.proofs.MapLemmas.{got-insert, get-insert_same, get-insert_other}
+use Rattle.fileset_model.proofs.MapLemmas.{got-insert}
 use Rattle.fileset_model.proofs.SlotLemmas.{with_tree-at}
-use Rattle.fileset_model.proofs.TreeLemmas.{with_change-at}
 
 -- ---- what a list of checks that all pass says of each
 

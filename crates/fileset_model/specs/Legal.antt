@@ -1,5 +1,5 @@
 -- Which histories are legal: chains of states that lead from a first one over the entries.
-use Rattle.std.specs.Prelude.{◌≡◌, ◌⊎◌, ℕ, ◌+◌, ◌<◌, ◌≤◌, Bool, true, false, max, List, [], ◌∷◌, ◌++◌, length, map, All, Contains, IsTrue, MatchOption, IsSomeAnd, Option, Some, None}
+use Rattle.std.specs.Prelude.{◌≡◌, ◌⊎◌, ℕ, ◌<◌, ◌≤◌, Bool, true, false, max, List, [], ◌∷◌, ◌++◌, length, map, All, Contains, IsTrue, MatchOption, IsSomeAnd, Option, Some, None}
 use Rattle.std.specs.Option.{option_map, option_map_or, option_to_list}
 use Rattle.std.specs.List.{filter_map}
 use Rattle.std.specs.FinMap as map
@@ -13,8 +13,7 @@ use Rattle.fileset_model.specs.Room.{Tight, need, room}
 use Rattle.fileset_model.specs.declared.command.Actor.{Actor}
 use Rattle.fileset_model.specs.declared.command.Actor.TheVariants.{Client, Mover}
 use Rattle.fileset_model.specs.declared.command.Command.{Command}
-use Rattle.fileset_model.specs.declared.command.Command.TheVariants.{Mkfset, Rmfset, Clonefset, Setquota, Create, Mkdir, Write, Truncate, Rename, Unlink, Rmdir, Chfile}
-use Rattle.fileset_model.specs.declared.command.Place.{Place}
+use Rattle.fileset_model.specs.declared.command.Command.TheVariants.{Mkfset, Clonefset, Setquota, Create, Mkdir, Write, Truncate, Rename, Unlink, Rmdir, Chfile}
 use Rattle.fileset_model.specs.declared.entry.Entry.{Entry}
 use Rattle.fileset_model.specs.declared.fileset.FilesetSlot.{FilesetSlot}
 use Rattle.fileset_model.specs.declared.fileset.Role.{Role}

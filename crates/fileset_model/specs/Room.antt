@@ -1,8 +1,8 @@
 -- How much room the filesets may need on volumes, counted in pages from the filesets alone.
-use Rattle.std.specs.Prelude.{ℕ, ◌+◌, ◌*◌, ◌<◌, Bool, List, [], ◌∷◌, length, filter, sum_by}
+use Rattle.std.specs.Prelude.{ℕ, ◌+◌, ◌*◌, ◌<◌, List, length, filter, sum_by}
 use Rattle.std.specs.FinMap as map
 use Rattle.fileset_model.specs.Pages.{pages_of}
-use Rattle.fileset_model.specs.State.{FilesetMap, Member, State}
+use Rattle.fileset_model.specs.State.{FilesetMap, State}
 use Rattle.fileset_model.specs.declared.command.Command.{Command}
 use Rattle.fileset_model.specs.declared.command.Command.TheVariants.{Write}
 use Rattle.fileset_model.specs.declared.entry.Entry.{Entry}

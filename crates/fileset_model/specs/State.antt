@@ -1,5 +1,5 @@
 -- The filesets of a domain and the volumes below them.
-use Rattle.std.specs.Prelude.{◌≡◌, ℕ, ◌+◌, ◌*◌, ◌<◌, ◌≤◌, Bool, true, false, cond, List, [], ◌∷◌, ◌++◌, length, min, sum_by, filter, IsTrue, IsSome, IsSomeAnd, Some, None}
+use Rattle.std.specs.Prelude.{◌≡◌, ℕ, ◌<◌, ◌≤◌, Bool, true, List, [], ◌∷◌, ◌++◌, length, min, IsTrue, IsSome, IsSomeAnd, Some}
 use Rattle.std.specs.Ordering.{nat_cmp}
 use Rattle.std.specs.FinMap as map
 use Rattle.domain_base.specs.declared.limits.TheConstants.{FILE_PAGES, PAGE_BYTES, MAX_FILESETS, MAX_VOLUME_PAGES}

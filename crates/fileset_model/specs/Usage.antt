@@ -1,5 +1,5 @@
 -- What an owner uses of a fileset, as sums over its files and directories as they are now.
-use Rattle.std.specs.Prelude.{ℕ, ◌+◌, ◌*◌, ◌==◌, Bool, true, false, not, ◌&&◌, nat_lt, List, [], ◌∷◌, length, filter, sum_by, unwrap_or, Option, Some, None}
+use Rattle.std.specs.Prelude.{ℕ, ◌+◌, ◌*◌, ◌==◌, Bool, true, false, not, ◌&&◌, nat_lt, List, [], ◌∷◌, length, filter, sum_by, unwrap_or, Option}
 use Rattle.std.specs.Option.{option_map_or}
 use Rattle.std.specs.FinMap as map
 use Rattle.domain_base.specs.declared.limits.TheConstants.{BLOCKS_PER_PAGE}

@@ -7,6 +7,7 @@ ghost use Rattle.fileset_model.specs.declared.command.Command.TheVariants.{Clone
 ghost use Rattle.fileset_model.specs.declared.fileset.FilesetSlot.{FilesetSlot as SlotOf};
 ghost use Rattle.fileset_model.specs.declared.fileset.Role.TheVariants.{CloneOf as CloneRole};
 
+use crate::change::remove_key;
 use crate::command::Owner;
 use crate::entries::{place_of, put};
 use crate::fileset::{FilesetSlot, FilesetTree, Limits, NumberSet, Role};
@@ -172,7 +173,7 @@ impl Filesets {
     fn remove_fileset(&mut self, name: &FilesetName)
         ensures { self.new ≡ map.remove self.old name.now }
     {
-        self.slots.retain(|entry| name.cmp(&entry.0).is_ne());
+        remove_key(&mut self.slots, name);
     }
 
     /// Adds a frozen copy of a fileset under a new name; where there is no such fileset, nothing

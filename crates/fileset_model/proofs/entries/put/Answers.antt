@@ -1,4 +1,4 @@
-use Rattle.std.proofs.Common.{◌≡◌, IsTrue, List, subst, slice_set, arith}
+use Rattle.std.proofs.Common.{◌≡◌, IsTrue, subst, slice_set, arith}
 use Rattle.std.proofs.lemmas.Grind.{common_steps}
 use Rattle.std.specs.FinMap.Entries.{is_sorted, put}
 use Rattle.fileset_model.proofs.EntryLemmas.{is_sorted_put}

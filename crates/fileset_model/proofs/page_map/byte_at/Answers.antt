@@ -1,4 +1,4 @@
-use Rattle.std.proofs.Common.{ℕ, List, ◌/◌, ◌%◌, slice_index, ap, sym, ◌∙◌}
+use Rattle.std.proofs.Common.{ℕ, List, ◌/◌, ◌%◌, slice_index, ap}
 use Rattle.std.specs.Ordering.{nat_cmp}
 use Rattle.fileset_model.proofs.EntryLemmas.{get-from_sorted}
 use Rattle.fileset_model.proofs.page_map.byte_at.Goals as goal

@@ -1,4 +1,3 @@
-use Rattle.std.proofs.Common.{sym}
 use Rattle.std.specs.Ordering.{nat_cmp}
 use Rattle.fileset_model.proofs.EntryLemmas.{get-from_sorted}
 use Rattle.fileset_model.proofs.page_map.is_absent.Goals as goal

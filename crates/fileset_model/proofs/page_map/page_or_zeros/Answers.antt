@@ -1,7 +1,5 @@
-use Rattle.std.proofs.Common.{rules, ap, sym, ◌∙◌}
 use Rattle.std.specs.Ordering.{nat_cmp}
 use Rattle.fileset_model.proofs.EntryLemmas.{get-from_sorted}
-use Rattle.std.specs.Prelude.{unwrap_or}
 use Rattle.fileset_model.proofs.page_map.page_or_zeros.Goals as goal
 
 pub returns-in-Some : goal.returns-in-Some

@@ -1,7 +1,6 @@
-use Rattle.std.proofs.Common.{◌≡◌, ap, sym, ◌∙◌, arith, length-append}
+use Rattle.std.proofs.Common.{arith}
 use Rattle.std.proofs.lemmas.Grind.{common_steps}
 use Rattle.std.specs.Ordering.{nat_cmp}
-use Rattle.fileset_model.specs.Entries.{put_each}
 use Rattle.fileset_model.proofs.EntryLemmas.{put_each-append}
 use Rattle.fileset_model.proofs.page_map.put_pages.Goals as goal
 

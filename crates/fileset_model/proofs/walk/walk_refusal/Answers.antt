@@ -1,4 +1,4 @@
-use Rattle.std.proofs.Common.{◌≡◌, ℕ, List, ◌∷◌, ◌+◌, ◌-◌, ◌<◌, Option, Some, None, length, map, take, subst, ap, sym, ◌∙◌}
+use Rattle.std.proofs.Common.{◌≡◌, ◌∷◌, ◌+◌, ◌-◌, ◌<◌, Option, Some, None, length, map, take, subst, ap, sym, ◌∙◌}
 use Rattle.std.specs.List.{range_with_len}
 use Rattle.fileset_model.specs.Orders.{Path}
 use Rattle.fileset_model.specs.Paths.{directory_refusal, first_refusal}

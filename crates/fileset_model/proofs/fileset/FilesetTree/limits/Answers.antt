@@ -1,4 +1,4 @@
-use Rattle.std.proofs.Common.{◌≡◌, List, Some, None, unwrap_or, ap, sym, ◌∙◌}
+use Rattle.std.proofs.Common.{List, unwrap_or, ap, sym, ◌∙◌}
 use Rattle.std.specs.FinMap.{get}
 use Rattle.std.specs.FinMap.Entries.{find}
 use Rattle.fileset_model.specs.Orders.{owner_cmp}

@@ -1,4 +1,4 @@
-use Rattle.std.proofs.Common.{◌≡◌, ℕ, List, ap, sym, ◌∙◌, is_some}
+use Rattle.std.proofs.Common.{ℕ, List, ap, sym, ◌∙◌, is_some}
 use Rattle.std.specs.Ordering.{nat_cmp}
 use Rattle.std.specs.FinMap.{contains_key}
 use Rattle.std.specs.FinMap.Entries.{find}

@@ -1,4 +1,4 @@
-use Rattle.std.proofs.Common.{◌≡◌, List, ap, sym, ◌∙◌}
+use Rattle.std.proofs.Common.{ap, ◌∙◌}
 use Rattle.std.specs.FinMap.{from_sorted, insert}
 use Rattle.std.specs.FinMap.Entries.{put}
 use Rattle.fileset_model.specs.Orders.{Name, name_cmp, name_cmp-total}

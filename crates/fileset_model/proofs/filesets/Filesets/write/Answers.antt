@@ -1,8 +1,8 @@
-use Rattle.std.proofs.Common.{◌≡◌, List, IsTrue, None, get_or, ap, subst, sym, ◌∙◌}
-use Rattle.std.specs.FinMap.{from_sorted, get}
-use Rattle.std.specs.FinMap.Entries.{find, is_sorted}
+use Rattle.std.proofs.Common.{◌≡◌, List, None, ap, subst, sym, ◌∙◌}
+use Rattle.std.specs.FinMap.{get}
+use Rattle.std.specs.FinMap.Entries.{find}
 use Rattle.fileset_model.specs.Entries.{IsPlaceOf}
-use Rattle.fileset_model.specs.Orders.{Name, Path, name_cmp, name_cmp-total}
+use Rattle.fileset_model.specs.Orders.{Name, name_cmp, name_cmp-total}
 use Rattle.fileset_model.specs.Fileset.{Fileset}
 use Rattle.fileset_model.specs.State.{FilesetMap}
 use Rattle.fileset_model.specs.Apply.{with_change, with_tree, written_node}

@@ -1,7 +1,5 @@
 use Rattle.std.proofs.Common.{ℕ, List, ◌∙◌, ap, length, map}
-use Rattle.std.specs.Ordering.{nat_cmp}
 use Rattle.std.specs.FinMap.{from_sorted}
-use Rattle.fileset_model.specs.Entries.{put_each}
 use Rattle.fileset_model.specs.Pages.{page_after, pages_of, with_pages, written}
 use Rattle.fileset_model.proofs.PageLemmas.{put_each-with_pages}
 use Rattle.fileset_model.proofs.page_map.PageMap.write.Goals as goal
