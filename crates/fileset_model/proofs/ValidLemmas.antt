@@ -1,5 +1,5 @@
 -- What is always so of filesets stays so under a change of one of them.
-use Rattle.std.proofs.Common.{◌≡◌, ◌+◌, Bool, true, false, cond, Option, Some, None, is_some, IsSomeAnd, List, ◌∷◌, refl, sym, ap, subst, ◌∙◌, inl, inr}
+use Rattle.std.proofs.Common.{IsTrue, ℕ, ◌≡◌, ◌+◌, Bool, true, false, cond, Option, Some, None, is_some, IsSomeAnd, List, ◌∷◌, refl, sym, ap, subst, ◌∙◌, inl, inr}
 use Rattle.std.specs.Option.{option_map_or}
 use Rattle.std.specs.FinMap as map
 use Rattle.fileset_model.specs.Orders.{Name, name_cmp-total, name_cmp-IsAntisymmetric}
@@ -68,10 +68,10 @@ same_roles-one_clone all new v back p q original s t out out' fp fq rp rq =
 
 -- ---- a change of one tree
 
--- a valid tree in the place of another keeps all filesets valid
+-- a valid tree in the place of an original's keeps all filesets valid
 pub with_tree-valid : (all : FilesetMap) (name : Name) (slot : FilesetSlot) (change : Fileset → Fileset) → AreValid all → map.get all name ≡ Some slot
-    → IsValidFileset (change slot.tree) → AreValid (with_tree all name change)
-with_tree-valid all name slot change v is tree =
+    → slot.role ≡ Original → IsValidFileset (change slot.tree) → AreValid (with_tree all name change)
+with_tree-valid all name slot change v is original tree =
     let slot' : FilesetSlot = record slot { tree = change slot.tree } in
     let o = name_cmp-total in
     let a = name_cmp-IsAntisymmetric in
@@ -95,5 +95,9 @@ with_tree-valid all name slot change v is tree =
         | inr other ↦ v.each q s other.1
       ];
       originals = same_roles-originals all new v back on;
+      marks = λ q of s out found role. elim (got-insert o a all name slot' q _ found) as (λ _. (number : ℕ) → IsTrue (map.contains_key out number) → IsTrue (map.contains_key s.tree.nodes number)) [
+        | inl here ↦ let same : s.role ≡ Original = ap (λ (x : FilesetSlot). x.role) (some_inj here.1) ∙ original in absurd (cc)
+        | inr other ↦ v.marks q of s out other.1 role
+      ];
       one_clone = same_roles-one_clone all new v back;
     })

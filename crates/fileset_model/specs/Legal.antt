@@ -1,11 +1,11 @@
 -- Which histories are legal: chains of states that lead from a first one over the entries.
-use Rattle.std.specs.Prelude.{◌≡◌, ◌⊎◌, ℕ, ◌<◌, ◌≤◌, Bool, true, false, max, List, [], ◌∷◌, ◌++◌, length, map, All, Contains, IsTrue, MatchOption, IsSomeAnd, Option, Some, None}
+use Rattle.std.specs.Prelude.{◌≡◌, ◌⊎◌, ℕ, ◌<◌, ◌≤◌, Bool, true, false, max, List, [], ◌∷◌, ◌++◌, length, map, All, Contains, IsTrue, MatchOption, IsSomeAnd, Option, Some, None, if◌then◌else◌}
 use Rattle.std.specs.Option.{option_map, option_map_or, option_to_list}
 use Rattle.std.specs.List.{filter_map}
 use Rattle.std.specs.FinMap as map
 use Rattle.fileset_model.specs.Orders.{Name, Path}
 use Rattle.fileset_model.specs.Fileset.{Fileset}
-use Rattle.fileset_model.specs.Paths.{begins_with}
+use Rattle.fileset_model.specs.Paths.{begins_with, same_path}
 use Rattle.fileset_model.specs.State.{FilesetMap, State}
 use Rattle.fileset_model.specs.Pages.{absent_pages}
 use Rattle.fileset_model.specs.Apply.{Apply, refusal_of}
@@ -62,7 +62,8 @@ changed_by all (Chfile place logged) = at all place.fileset place.path
 changed_by all (Unlink place) = at all place.fileset place.path ++ at all place.fileset (parent_of place.path)
 changed_by all (Rmdir place) = at all place.fileset place.path ++ at all place.fileset (parent_of place.path)
 changed_by all (Rename place to) =
-    at_and_below all place.fileset place.path ++ at all place.fileset (parent_of place.path) ++ at all place.fileset to ++ at all place.fileset (parent_of to)
+    if same_path place.path to then []
+    else at_and_below all place.fileset place.path ++ at all place.fileset (parent_of place.path) ++ at all place.fileset to ++ at all place.fileset (parent_of to)
 changed_by all command = []
 
 -- the same of an entry, which changes nothing where its command was refused
@@ -75,7 +76,7 @@ changed_by_entry all e = unless_refused e.reply
 
 -- ---- marks
 
--- in the filesets nothing differs but that clones may have more numbers out of sync, each of which `Allowed` takes: for its original's name, the clone and the number
+-- in the filesets nothing differs but that clones may have more of their numbers out of sync, each of which `Allowed` takes: for its original's name, the clone and the number
 abbrev pub GainsMarks : (Name → FilesetSlot → ℕ → Type 0) → FilesetMap → FilesetMap → Type 0
 GainsMarks Allowed old new = (name : Name) → slots (map.get old name) (map.get new name)
   where
@@ -84,7 +85,7 @@ GainsMarks Allowed old new = (name : Name) → slots (map.get old name) (map.get
     roles slot (CloneOf original out) Original = ⊥
     roles slot (CloneOf original out) (CloneOf original' out') =
         (original ≡ original') × ((number : ℕ) → IsTrue (map.contains_key out number) → IsTrue (map.contains_key out' number))
-        × ((number : ℕ) → IsTrue (map.contains_key out' number) → map.contains_key out number ≡ false → Allowed original slot number)
+        × ((number : ℕ) → IsTrue (map.contains_key out' number) → map.contains_key out number ≡ false → IsTrue (map.contains_key slot.tree.nodes number) × Allowed original slot number)
 
     slots : Option FilesetSlot → Option FilesetSlot → Type 0
     slots None found = found ≡ None

@@ -57,12 +57,14 @@ pub record IsValidFileset (tree : Fileset) : Type 0 where
   pub named : (number : ℕ) (node : Node) → map.get tree.nodes number ≡ Some node → (path : Path) × (map.get tree.paths path ≡ Some number)
   pub whole : (number : ℕ) (node : Node) → map.get tree.nodes number ≡ Some node → HasWholePages node
 
--- what is so of all filesets: there are at most 16, each is as a fileset has to be, and a clone's original is an original with no other clone
+-- what is so of all filesets: there are at most 16, each is as a fileset has to be, a clone's original is an original with no other clone, and what is out of sync is the clone's
 pub record AreValid (all : FilesetMap) : Type 0 where
   pub few : map.len all ≤ MAX_FILESETS
   pub each : (name : Name) (slot : FilesetSlot) → map.get all name ≡ Some slot → IsValidFileset slot.tree
   pub originals : (name original : Name) (slot : FilesetSlot) (out : _) → map.get all name ≡ Some slot → slot.role ≡ CloneOf original out
       → IsSomeAnd (map.get all original) (λ of. of.role ≡ Original)
+  pub marks : (name original : Name) (slot : FilesetSlot) (out : _) → map.get all name ≡ Some slot → slot.role ≡ CloneOf original out
+      → (number : ℕ) → IsTrue (map.contains_key out number) → IsTrue (map.contains_key slot.tree.nodes number)
   pub one_clone : (p q original : Name) (slot other : FilesetSlot) (out out' : _) → map.get all p ≡ Some slot → map.get all q ≡ Some other
       → slot.role ≡ CloneOf original out → other.role ≡ CloneOf original out' → p ≡ q
 
