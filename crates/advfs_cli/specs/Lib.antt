@@ -1,3 +1,4 @@
+pub mod Counts
 pub mod Exit
 pub mod Plain
 pub mod Run

@@ -1,7 +1,7 @@
 //! The printing of a history.
 ghost use Rattle.std.specs.Prelude.{◌≡◌, ◌≤◌, OnOk, OnErr};
 ghost use Rattle.std.specs.Io.KnownBytes.{Appends};
-ghost use Rattle.domain_base.specs.Counts.{Rose};
+ghost use Rattle.advfs_cli.specs.Counts.{Rose};
 ghost use Rattle.script_text.specs.History.{history_text};
 ghost use Rattle.advfs_cli.specs.Transfer.{AppendsFront};
 

@@ -1,7 +1,7 @@
 //! The whole of a run: the words, the script, its commands over new filesets, and the printing.
 ghost use Rattle.std.specs.Prelude.{◌≡◌, ◌≢◌, ℕ, ◌+◌, ◌<◌, ◌≤◌, List, [], ◌∷◌, OnOk, OnErr, IfOk, IfErr, MatchResult, map, length, string_bytes, vec_len, vec_capacity, All};
 ghost use Rattle.std.specs.Io.KnownBytes.{Appends, Consumes};
-ghost use Rattle.domain_base.specs.Counts.{Rose};
+ghost use Rattle.advfs_cli.specs.Counts.{Rose};
 ghost use Rattle.script_text.specs.History.{history_text};
 ghost use Rattle.advfs_cli.specs.Plain.{AnswersScript, GoesOn, IsLegal, turns_of};
 ghost use Rattle.advfs_cli.specs.Run.{AnswersRead, GetsNoScript, HasRead, IsScript};

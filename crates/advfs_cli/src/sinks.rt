@@ -2,7 +2,7 @@
 ghost use Rattle.std.specs.Prelude.{◌≡◌, ℕ, ◌≤◌, ◌<◌, ◌+◌, List, [], Option, Some, None, OnOk, IfOk, OnErr, IsErr, Contains, min, length};
 ghost use Rattle.std.specs.Io.{WritesAtMost};
 ghost use Rattle.std.specs.Io.KnownBytes.{WriteAppends};
-ghost use Rattle.domain_base.specs.Counts.{raised, Rose};
+ghost use Rattle.advfs_cli.specs.Counts.{raised, Rose};
 
 use domain_base::Failed;
 use std::alloc::Global;

@@ -2,7 +2,7 @@
 ghost use Rattle.std.specs.Prelude.{◌≡◌, ℕ, ◌≤◌, ◌↔◌, ◌+◌, List, Option, Some, None, OnErr, IsErr, Contains, min, length, drop};
 ghost use Rattle.std.specs.Io.{ReadsAtMost};
 ghost use Rattle.std.specs.Io.KnownBytes.{ReadConsumes};
-ghost use Rattle.domain_base.specs.Counts.{raised, Rose};
+ghost use Rattle.advfs_cli.specs.Counts.{raised, Rose};
 
 use domain_base::Failed;
 use std::io::Read;

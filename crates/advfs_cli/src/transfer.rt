@@ -1,7 +1,7 @@
 //! Whole inputs and whole texts, over sources and sinks that take and give pieces.
 ghost use Rattle.std.specs.Prelude.{◌≡◌, ℕ, ◌≤◌, ◌<◌, ◌+◌, ◌^◌, List, OnOk, OnErr, IfOk, MatchResult, length, vec_len};
 ghost use Rattle.std.specs.Io.KnownBytes.{Appends, Consumes, IsAtEnd};
-ghost use Rattle.domain_base.specs.Counts.{Rose};
+ghost use Rattle.advfs_cli.specs.Counts.{Rose};
 ghost use Rattle.advfs_cli.specs.Transfer.{AppendsFront, StopsAfter};
 
 use crate::sinks::Sink;

@@ -13,10 +13,10 @@ use Rattle.fileset_model.specs.Entries.{IsGapOf, IsPlaceOf, put_each}
 pub from_sorted-empty : {K X : Type 0} (R : K → K → Ordering) → map.from_sorted {K = K} {X = X} {R = R} [] ≡ map.empty
 from_sorted-empty R = map.empty_of_len _ (map.len-entries _ ∙ ap length (map.entries-from_sorted R [] tt))
 
-to_T : (b : Bool) → IsTrue b → T b
+pub to_T : (b : Bool) → IsTrue b → T b
 to_T b h = subst T (sym h) tt
 
-from_T : (b : Bool) → T b → IsTrue b
+pub from_T : (b : Bool) → T b → IsTrue b
 from_T true h = refl
 from_T false h = absurd h
 

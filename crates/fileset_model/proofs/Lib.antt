@@ -1,5 +1,11 @@
+pub mod ChangeLemmas
 pub mod EntryLemmas
+pub mod MapLemmas
+pub mod MoveLemmas
 pub mod PageLemmas
+pub mod RowsLemmas
 pub mod SlotLemmas
 pub mod TreeLemmas
+pub mod ValidLemmas
 pub mod WalkLemmas
+pub mod WholeLemmas

@@ -278,3 +278,15 @@ Apply s command reply new = Answers s.filesets command reply new.filesets × (ne
 -- the answer and the change of a command; or out-of-memory, and then nothing changes
 abbrev pub AnswersIfMemory : FilesetMap → Command → Reply → FilesetMap → Type 0
 AnswersIfMemory all command reply new = Answers all command reply new ⊎ ((reply ≡ Refused OutOfMemory) × (new ≡ all))
+
+-- a command that leaves the filesets as they are
+abbrev pub ChangesNothing : Command → Type 0
+ChangesNothing Showfsets = Unit {0}
+ChangesNothing (Showquota fileset who) = Unit {0}
+ChangesNothing (Read place offset count) = Unit {0}
+ChangesNothing (ListNames place) = Unit {0}
+ChangesNothing (Stat place) = Unit {0}
+ChangesNothing (Fsync place) = Unit {0}
+ChangesNothing Sync = Unit {0}
+ChangesNothing Cancel = Unit {0}
+ChangesNothing command = ⊥

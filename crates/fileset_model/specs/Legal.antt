@@ -5,7 +5,7 @@ use Rattle.std.specs.List.{filter_map}
 use Rattle.std.specs.FinMap as map
 use Rattle.fileset_model.specs.Orders.{Name, Path}
 use Rattle.fileset_model.specs.Fileset.{Fileset}
-use Rattle.fileset_model.specs.Paths.{begins_with, rows_of}
+use Rattle.fileset_model.specs.Paths.{begins_with}
 use Rattle.fileset_model.specs.State.{FilesetMap, State}
 use Rattle.fileset_model.specs.Pages.{absent_pages}
 use Rattle.fileset_model.specs.Apply.{Apply, refusal_of}
@@ -96,12 +96,20 @@ GainsMarks Allowed old new = (name : Name) → slots (map.get old name) (map.get
 abbrev pub IsAt : Fileset → ℕ → Path → Type 0
 IsAt tree number path = map.get tree.paths path ≡ Some number
 
+-- two filesets have the same rows in the directory at this path: the same numbers under the same names
+abbrev pub SameRows : Fileset → Fileset → Path → Type 0
+SameRows tree other path = (name : Name) → map.get tree.paths (path ++ name ∷ []) ≡ map.get other.paths (path ++ name ∷ [])
+
+-- a fileset has what another has under a number: the same node under the same path, with the same rows
+abbrev pub HasTheSame : Fileset → Fileset → ℕ → Type 0
+HasTheSame tree other number =
+    (map.get tree.nodes number ≡ map.get other.nodes number)
+    × ((path : Path) → IsAt other number path → IsAt tree number path × SameRows tree other path)
+
 -- the original no longer has what the clone has under a number, or has it with another node, path or rows
 abbrev pub Differs : FilesetMap → Name → FilesetSlot → ℕ → Type 0
 Differs all original clone number =
-    MatchOption (map.get all original) (Unit {0})
-    (λ slot. ¬ ((map.get slot.tree.nodes number ≡ map.get clone.tree.nodes number)
-    × ((path : Path) → IsAt clone.tree number path → IsAt slot.tree number path × (rows_of slot.tree path ≡ rows_of clone.tree path))))
+    MatchOption (map.get all original) (Unit {0}) (λ slot. ¬ (HasTheSame slot.tree clone.tree number))
 
 -- ---- steps
 

@@ -2,26 +2,29 @@
 ghost use Rattle.std.specs.Prelude.{◌≡◌, ◌+◌, ◌*◌, ◌≤◌, [], ◌∷◌, length, nat_lt, None as NoRefusal, IfOk, OnErr};
 ghost use Rattle.std.specs.Option.{option_map_or};
 ghost use Rattle.domain_base.specs.declared.limits.TheConstants.{FILE_BYTES};
-ghost use Rattle.fileset_model.specs.Apply.{Answers, AnswersIfMemory, create_checks, is_clone, read_checks, read_of, write_checks, write_quota};
+ghost use Rattle.fileset_model.specs.Apply.{Answers, AnswersIfMemory, ChangesNothing, create_checks, is_clone, read_checks, read_of, write_checks, write_quota};
 ghost use Rattle.fileset_model.specs.Pages.{absent_pages};
 ghost use Rattle.fileset_model.specs.Paths.{first_refusal, node_at};
 ghost use Rattle.fileset_model.specs.declared.command.Command.TheVariants.{Create, Mkfset, Read, Write};
 ghost use Rattle.fileset_model.specs.declared.reply.Reply.TheVariants.{Done as DoneReply};
 
+use crate::change::{chfile, mkdir, rmdir, truncate, unlink};
 use crate::command::{Command, Place};
 use crate::fileset::{FilesetSlot, FilesetTree, Role};
 use crate::filesets::Filesets;
 use crate::names::{Bytes, FilesetName, Path};
+use crate::names_commands::{fsync, list, rename, stat};
 use crate::node::Node;
 use crate::page_map::PageMap;
 use crate::reply::{Refusal, Reply};
 use crate::walk::{directory_here, is_marked, target_refusal, walk_refusal};
+use crate::whole::{clonefset, rmfset, setquota, showfsets, showquota};
 use domain_base::OutOfMemory;
 use domain_base::limits::{BLOCKS_PER_PAGE, FILE_BYTES as LARGEST_FILE, MAX_FILESETS};
 use std::alloc::Global;
 
 /// Answers a command and changes the filesets as it says. After a refusal, out-of-memory among
-/// them, the filesets are as before. A command that is not built yet is answered by out-of-memory.
+/// them, the filesets are as before.
 pub fn apply(alloc: Global, filesets: &mut Filesets, command: &Command) -> Reply
     ensures { AnswersIfMemory filesets.old command.now result filesets.new }
 {
@@ -37,21 +40,51 @@ fn answer(alloc: Global, filesets: &mut Filesets, command: &Command) -> Result<R
 {
     match command {
         Command::Mkfset { fileset } => mkfset(alloc, filesets, fileset),
+        Command::Rmfset { fileset } => Ok(rmfset(filesets, fileset)),
+        Command::Clonefset { fileset, new_name } => clonefset(alloc, filesets, fileset, new_name),
+        Command::Setquota {
+            fileset,
+            who,
+            files,
+            blocks,
+        } => setquota(filesets, fileset, *who, *files, *blocks),
         Command::Create { place, uid, gid } => create(alloc, filesets, place, *uid, *gid),
+        Command::Mkdir { place, uid, gid } => mkdir(alloc, filesets, place, *uid, *gid),
         Command::Write {
             place,
             offset,
             bytes,
         } => write(alloc, filesets, place, *offset, bytes),
+        Command::Truncate { place, size } => truncate(alloc, filesets, place, *size),
+        Command::Rename { place, to } => rename(alloc, filesets, place, to),
+        Command::Unlink { place } => unlink(alloc, filesets, place),
+        Command::Rmdir { place } => rmdir(alloc, filesets, place),
+        Command::Chfile { place, logged } => chfile(alloc, filesets, place, *logged),
+        _ => {
+            let reply = show(alloc, filesets, command)?;
+            Ok(reply)
+        }
+    }
+}
+
+/// Answers a command that changes nothing.
+fn show(alloc: Global, filesets: &Filesets, command: &Command) -> Result<Reply, OutOfMemory>
+    requires { ChangesNothing command.now }
+    ensures { IfOk result (λ reply. Answers filesets.now command.now reply filesets.now) }
+{
+    match command {
+        Command::Showfsets => showfsets(alloc, filesets),
+        Command::Showquota { fileset, who } => showquota(alloc, filesets, fileset, *who),
         Command::Read {
             place,
             offset,
             count,
-        } => {
-            let reply = read(alloc, filesets, place, *offset, *count)?;
-            Ok(reply)
-        }
-        _ => Err(OutOfMemory),
+        } => read(alloc, filesets, place, *offset, *count),
+        Command::List { place } => list(alloc, filesets, place),
+        Command::Stat { place } => stat(alloc, filesets, place),
+        Command::Fsync { place } => fsync(alloc, filesets, place),
+        Command::Sync | Command::Cancel => Ok(Reply::Done),
+        _ => unreachable!(),
     }
 }
 
@@ -157,7 +190,7 @@ fn read_file(
 }
 
 /// Why a file or directory can't be made at a path.
-fn create_refusal(
+pub(crate) fn create_refusal(
     alloc: Global,
     slot: &FilesetSlot,
     path: &Path,

@@ -17,7 +17,7 @@ use std::marker::Model;
 /// All filesets, without volumes: what the commands of clients read and change.
 #[derive(Debug, Drop)]
 pub struct Filesets {
-    slots: Vec<(FilesetName, FilesetSlot)>,
+    pub(crate) slots: Vec<(FilesetName, FilesetSlot)>,
 }
 
 impl Model for Filesets {

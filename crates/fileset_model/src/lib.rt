@@ -3,18 +3,23 @@
 #![tactic(auto)]
 
 mod answers;
+mod change;
 mod command;
 mod entries;
 mod entry;
 mod fileset;
 mod filesets;
+mod laws;
 mod listing;
 mod names;
+mod names_commands;
 mod node;
 mod page_map;
 mod quota;
 mod reply;
+mod rows;
 mod walk;
+mod whole;
 
 pub use answers::apply;
 pub use command::{Actor, Command, CommandList, Owner, Place};
@@ -29,3 +34,6 @@ pub use reply::{
     ExtentItem, ExtentList, FilesetItem, FilesetList, NameItem, NameList, Refusal, Reply,
     VolumeItem, VolumeList,
 };
+
+#[cfg(test)]
+mod tests;

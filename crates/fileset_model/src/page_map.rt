@@ -16,7 +16,7 @@ use std::marker::Model;
 /// The pages of a file that are there, by their numbers.
 #[derive(Debug, Drop)]
 pub struct PageMap {
-    pages: Vec<(u64, Page)>,
+    pub(crate) pages: Vec<(u64, Page)>,
 }
 
 impl Model for PageMap {

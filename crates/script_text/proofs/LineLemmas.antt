@@ -1,5 +1,5 @@
 -- The lines of a text, one after another.
-use Rattle.std.proofs.Common.{◌≡◌, ◌≢◌, ℕ, suc, zero, ◌+◌, ◌<◌, ◌≤◌, Bool, true, false, not, cond, ◌==◌, List, [], ◌∷◌, ◌++◌, length, take, drop, ◌-◌, eqb, slice_index, refl, sym, ap, ◌∙◌, arith, rules, ◌⊎◌, inl, inr}
+use Rattle.std.proofs.Common.{◌≡◌, ℕ, suc, zero, ◌+◌, ◌<◌, Bool, false, ◌==◌, List, [], ◌∷◌, length, take, drop, ◌-◌, eqb, refl, ap, ◌∙◌, arith, inl, inr}
 use Rattle.std.specs.List.{onto_first, slice_split}
 use Rattle.std.proofs.lemmas.Grind.{common_steps}
 use Rattle.std.proofs.lemmas.Bool.Decides.{nat_tests}
@@ -11,17 +11,17 @@ use Rattle.script_text.proofs.WordLemmas.{true_or_false, before, before-stop, be
 split-none : (p : ℕ → Bool) (xs : List ℕ) → length (drop (before p xs) xs) ≡ 0 → slice_split p xs ≡ xs ∷ []
 split-none p [] e = refl
 split-none p (x ∷ xs) e = elim (true_or_false (p x)) [
-    inl holds ↦ absurd (let h : length (x ∷ xs) ≡ 0 = rw (before-stop p x xs holds) at e in omega (arith, h))
+  | inl holds ↦ absurd (let h : length (x ∷ xs) ≡ 0 = rw (before-stop p x xs holds) at e in omega (arith, h))
   | inr fails ↦ rw fails (ap (onto_first x) (split-none p xs (rw (before-more p x xs fails) at e)))
-  ]
+]
 
 -- else the first part ends at the first that passes
 split-some : (p : ℕ → Bool) (xs : List ℕ) → 0 < length (drop (before p xs) xs) → slice_split p xs ≡ take (before p xs) xs ∷ slice_split p (drop 1 (drop (before p xs) xs))
 split-some p [] some = absurd (omega (arith, some))
 split-some p (x ∷ xs) some = elim (true_or_false (p x)) [
-    inl holds ↦ rw (before-stop p x xs holds) (rw holds refl)
+  | inl holds ↦ rw (before-stop p x xs holds) (rw holds refl)
   | inr fails ↦ rw (before-more p x xs fails) (rw fails (ap (onto_first x) (split-some p xs (rw (before-more p x xs fails) at some))))
-  ]
+]
 
 take-none : (n : ℕ) (xs : List ℕ) → length (drop n xs) ≡ 0 → take n xs ≡ xs
 take-none zero [] e = refl
@@ -48,8 +48,8 @@ first_part p [] = ([], [], refl)
 first_part p (x ∷ xs) =
     let h = first_part p xs in
     elim (true_or_false (p x)) [
-      inl holds ↦ ([], slice_split p xs, rw holds refl)
-    | inr fails ↦ (x ∷ h.0, h.1, rw (fails, h.2) refl)
+      | inl holds ↦ ([], slice_split p xs, rw holds refl)
+      | inr fails ↦ (x ∷ h.0, h.1, rw (fails, h.2) refl)
     ]
 
 lines_of_parts-cons : (line : List ℕ) (parts : List (List ℕ)) (part : List ℕ) (more : List (List ℕ)) → parts ≡ part ∷ more → lines_of_parts (line ∷ parts) ≡ strip_carriage_return line ∷ lines_of_parts parts
@@ -60,7 +60,7 @@ pub lines-first : (text : List ℕ) (n : ℕ) → n ≡ before (λ b. b == 10) t
 lines-first text n e some =
     let h = first_part (λ b. b == 10) (drop 1 (drop n text)) in
     let parts : slice_split (λ b. b == 10) text ≡ take n text ∷ slice_split (λ b. b == 10) (drop 1 (drop n text)) =
-        rw e (split-some (λ b. b == 10) text (rw e at some)) in
+    rw e (split-some (λ b. b == 10) text (rw e at some)) in
     ap lines_of_parts parts
     ∙ lines_of_parts-cons (take n text) (slice_split (λ b. b == 10) (drop 1 (drop n text))) h.0 h.1 h.2
 

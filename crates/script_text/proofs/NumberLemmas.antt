@@ -1,11 +1,10 @@
 -- Numbers in decimal digits.
-use Rattle.std.proofs.Common.{◌≡◌, ℕ, suc, zero, ◌+◌, ◌*◌, ◌-◌, ◌<◌, ◌≤◌, Bool, true, false, not, ◌&&◌, cond, nat_le, nat_lt, leb, ltb, Option, Some, None, List, [], ◌∷◌, ◌++◌, length, take, drop, get_or, refl, sym, ap, ◌∙◌, arith, rules, ◌⊎◌, inl, inr}
+use Rattle.std.proofs.Common.{◌≡◌, ℕ, suc, zero, ◌+◌, ◌*◌, ◌-◌, ◌<◌, ◌≤◌, Bool, true, false, ◌&&◌, cond, nat_le, nat_lt, Some, None, List, [], ◌∷◌, length, take, get_or, refl, ◌∙◌, arith}
 use Rattle.std.specs.List.{list_all}
 use Rattle.std.specs.Char.{digit_value, is_ascii_digit}
 use Rattle.std.specs.Str.Parse.{digits_value, digits_value_after}
 use Rattle.std.proofs.lemmas.Bool.Decides.{nat_tests}
-use Rattle.std.proofs.lemmas.Grind.{common_steps}
-use Rattle.std.proofs.lemmas.List.Folds.{list_all_at, list_all_more}
+use Rattle.std.proofs.lemmas.List.Folds.{list_all_more}
 use Rattle.std.proofs.lemmas.Option.{cond_some}
 use Rattle.std.proofs.lemmas.Int.Digits.{digits_value_more}
 use Rattle.script_text.specs.Forms.{number_below}
@@ -56,9 +55,10 @@ number-large limit word large = go (nat_le 1 (length word) && list_all is_ascii_
 pub digits-step : (word : List ℕ) (i n d : ℕ) → i < length word → list_all is_ascii_digit (take i word) ≡ true → is_ascii_digit (get_or word i 0) ≡ true → n ≡ digits_value 10 (take i word) → d ≡ get_or word i 0 - 48 →
     (list_all is_ascii_digit (take (i + 1) word) ≡ true) × (n * 10 + d ≡ digits_value 10 (take (i + 1) word))
 digits-step word i n d within digits here value digit =
-    let is : digit_value (get_or word i 0) ≡ get_or word i 0 - 48 = grind (arith, nat_tests) in
-    (rw (list_all_more is_ascii_digit word i 0 within, digits, here) refl,
-     rw (digits_value_more 10 word i within, is, value, digit) refl)
+    let is : digit_value (get_or word i 0) ≡ get_or word i 0 - 48 = grind (arith, nat_tests) in (
+      rw (list_all_more is_ascii_digit word i 0 within, digits, here) refl,
+      rw (digits_value_more 10 word i within, is, value, digit) refl,
+    )
 
 -- a number that is too large already stays so
 pub number-passed : (limit : ℕ) (word : List ℕ) (i m : ℕ) → m ≡ digits_value 10 (take i word) → limit ≤ m → number_below limit word ≡ None

@@ -1,9 +1,8 @@
 -- Runs of equal bytes: the first one, and that they are the maximal ones.
-use Rattle.std.proofs.Common.{◌≡◌, ◌≢◌, ℕ, suc, zero, ◌+◌, ◌<◌, Bool, true, false, cond, eqb, List, [], ◌∷◌, ◌++◌, length, take, drop, slice_index, replicate, map, refl, sym, ap, ◌∙◌, subst, arith, rules, append_assoc, add-one, Decides, ◌⊎◌, inl, inr}
+use Rattle.std.proofs.Common.{◌≡◌, ◌≢◌, ℕ, suc, zero, ◌+◌, ◌<◌, false, eqb, List, [], ◌∷◌, ◌++◌, length, drop, slice_index, replicate, map, refl, sym, ap, ◌∙◌, arith, append_assoc, add-one, ◌⊎◌, inl, inr}
 use Rattle.std.specs.List.{flat_map, join_with_byte, prefix_len}
 use Rattle.std.proofs.lemmas.Bool.Decides.{nat_tests}
-use Rattle.std.proofs.lemmas.Grind.{common_steps}
-use Rattle.std.proofs.lemmas.Bool.{eq-eqb, eqb-true, false≢true}
+use Rattle.std.proofs.lemmas.Bool.{eq-eqb}
 use Rattle.std.proofs.lemmas.List.{append-nil}
 use Rattle.script_text.proofs.Joined.{join_with_byte-cons, flat_map-map}
 use Rattle.script_text.specs.Runs.{Run, with_byte, runs_of, bytes_of_run, AreMaximal, IsRunLengthForm, run_text, bytes_text}
@@ -39,9 +38,9 @@ front-other x b bytes e = rw (neq-eqb x b e) refl
 pub runs_of-front : (bytes : List ℕ) (b : ℕ) → runs_of (b ∷ bytes) ≡ run b (front b bytes + 1) ∷ runs_of (drop (front b bytes) bytes)
 runs_of-front [] b = refl
 runs_of-front (x ∷ bytes) b = elim (same_or_not x b) [
-    inl same ↦ rw (front-same x b bytes same, runs_of-front bytes x, with_byte-same b x (front x bytes + 1) (runs_of (drop (front x bytes) bytes)) (sym same), same) (simp add-one)
+  | inl same ↦ rw (front-same x b bytes same, runs_of-front bytes x, with_byte-same b x (front x bytes + 1) (runs_of (drop (front x bytes) bytes)) (sym same), same) (simp add-one)
   | inr other ↦ rw (front-other x b bytes other, runs_of-front bytes x, with_byte-other b x (front x bytes + 1) (runs_of (drop (front x bytes) bytes)) (λ e. other (sym e))) refl
-  ]
+]
 
 pub runs_of-first : (bytes : List ℕ) → 0 < length bytes → runs_of bytes ≡ run (slice_index bytes 0) (front (slice_index bytes 0) bytes) ∷ runs_of (drop (front (slice_index bytes 0) bytes) bytes)
 runs_of-first [] some = absurd (omega (arith, some))
@@ -51,13 +50,13 @@ runs_of-first (b ∷ bytes) some = rw (front-same b b bytes refl) (runs_of-front
 AreMaximal-with_byte : (b : ℕ) (runs : List Run) → AreMaximal runs → AreMaximal (with_byte b runs)
 AreMaximal-with_byte b [] h = omega arith
 AreMaximal-with_byte b (r ∷ []) h = elim (same_or_not b r.byte) [
-    inl same ↦ rw (with_byte-same b r.byte r.count [] same) (omega (arith, h))
+  | inl same ↦ rw (with_byte-same b r.byte r.count [] same) (omega (arith, h))
   | inr other ↦ rw (with_byte-other b r.byte r.count [] other) (omega arith, other, h)
-  ]
+]
 AreMaximal-with_byte b (r ∷ next ∷ runs) h = elim (same_or_not b r.byte) [
-    inl same ↦ rw (with_byte-same b r.byte r.count (next ∷ runs) same) (omega arith, h.1, h.2)
+  | inl same ↦ rw (with_byte-same b r.byte r.count (next ∷ runs) same) (omega arith, h.1, h.2)
   | inr other ↦ rw (with_byte-other b r.byte r.count (next ∷ runs) other) (omega arith, other, h)
-  ]
+]
 
 AreMaximal-runs_of : (bytes : List ℕ) → AreMaximal (runs_of bytes)
 AreMaximal-runs_of [] = tt
@@ -67,9 +66,9 @@ AreMaximal-runs_of (b ∷ bytes) = AreMaximal-with_byte b (runs_of bytes) (AreMa
 bytes-with_byte : (b : ℕ) (runs : List Run) → flat_map bytes_of_run (with_byte b runs) ≡ b ∷ flat_map bytes_of_run runs
 bytes-with_byte b [] = refl
 bytes-with_byte b (r ∷ runs) = elim (same_or_not b r.byte) [
-    inl same ↦ rw (with_byte-same b r.byte r.count runs same, add-one, same) refl
+  | inl same ↦ rw (with_byte-same b r.byte r.count runs same, add-one, same) refl
   | inr other ↦ rw (with_byte-other b r.byte r.count runs other) refl
-  ]
+]
 
 bytes-runs_of : (bytes : List ℕ) → flat_map bytes_of_run (runs_of bytes) ≡ bytes
 bytes-runs_of [] = refl

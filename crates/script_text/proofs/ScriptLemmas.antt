@@ -1,5 +1,5 @@
 -- What a script says, as its lines are read from the first on.
-use Rattle.std.proofs.Common.{◌≡◌, ℕ, ◌+◌, ◌-◌, ◌^◌, ◌<◌, ◌≤◌, min, Option, Some, None, Result, Ok, Err, option_map, unwrap_or, List, [], ◌∷◌, ◌++◌, length, refl, sym, ap, ◌∙◌, arith, append_assoc, length-append}
+use Rattle.std.proofs.Common.{◌≡◌, ℕ, ◌+◌, ◌-◌, ◌^◌, min, Option, Some, None, Ok, Err, option_map, unwrap_or, List, [], ◌∷◌, ◌++◌, length, refl, ap, ◌∙◌, arith, append_assoc, length-append}
 use Rattle.std.specs.List.{filter_map, cons_option}
 use Rattle.std.specs.Option.{option_to_list}
 use Rattle.std.specs.Str.Lines.{lines}
@@ -7,7 +7,6 @@ use Rattle.std.proofs.lemmas.List.{append-nil}
 use Rattle.std.proofs.lemmas.List.Elements.{filter_map-append}
 use Rattle.fileset_model.specs.declared.command.Command.{Command}
 use Rattle.script_text.specs.declared.fault.FaultKind.{FaultKind}
-use Rattle.script_text.specs.declared.script.Script.{Script}
 use Rattle.script_text.specs.declared.script.Section.{Section}
 use Rattle.script_text.specs.declared.statement.Statement.{Statement}
 use Rattle.script_text.specs.declared.statement.Statement.TheVariants.{Opens, Gives}
@@ -71,7 +70,7 @@ read_more text rest line after so_far next number h first taken =
       whole = h.whole ∙ rw (first, append_assoc) refl;
       good = h.good ∙ rw first (first_bad-none h.before line (lines after) good);
       section = taken.1 ∙ rw (section_in-more h.before line, h.section) refl;
-      count = omega (arith, h.count, length-append h.before (line ∷ []))
+      count = omega (arith, h.count, length-append h.before (line ∷ []));
     }
 
 -- a bad line stops the reading
@@ -81,7 +80,7 @@ unfolding script_of
 read_bad text rest line after so_far number kind h first fault =
     let bad : kind_of_line (section_in h.before) line ≡ Some kind = rw (← h.section) fault in
     let found : first_bad [] (lines text) ≡ Some (record { line = length h.before + 1; kind = kind_number kind }) =
-        h.good ∙ rw first (first_bad-some h.before line (lines after) kind bad) in
+    h.good ∙ rw first (first_bad-some h.before line (lines after) kind bad) in
     (record { line = length h.before + 1; kind = kind_number kind }, rw found refl, omega (arith, h.count), refl)
 
 -- a script with no bad line is read to its end

@@ -1,7 +1,6 @@
 -- The words of a line, one after another.
-use Rattle.std.proofs.Common.{◌≡◌, ◌≢◌, ℕ, suc, zero, ◌+◌, ◌<◌, ◌≤◌, Bool, true, false, not, ◌&&◌, cond, List, [], ◌∷◌, ◌++◌, length, take, drop, slice_index, refl, sym, ap, ◌∙◌, arith, rules, add-one, ◌⊎◌, inl, inr}
+use Rattle.std.proofs.Common.{◌≡◌, ◌≢◌, ℕ, suc, zero, ◌+◌, ◌<◌, ◌≤◌, Bool, true, false, not, ◌&&◌, cond, List, [], ◌∷◌, ◌++◌, length, take, drop, slice_index, refl, ap, ◌∙◌, arith, ◌⊎◌, inl, inr}
 use Rattle.std.specs.List.{list_any, onto_first, prefix_len}
-use Rattle.std.proofs.lemmas.Grind.{common_steps}
 use Rattle.std.proofs.lemmas.Bool.{false≢true}
 use Rattle.std.proofs.Math.Seq.{take-add, drop-drop}
 use Rattle.std.proofs.lemmas.Bool.Decides.{nat_tests}
@@ -28,16 +27,16 @@ before-more p b bs e = rw e (one_more (before p bs))
 pub any_within : (p : ℕ → Bool) (bs : List ℕ) → before p bs < length bs → list_any p bs ≡ true
 any_within p [] some = absurd (omega (arith, some))
 any_within p (b ∷ bs) some = elim (true_or_false (p b)) [
-    inl holds ↦ rw holds refl
+  | inl holds ↦ rw holds refl
   | inr fails ↦ rw fails (any_within p bs (let h : suc (before p bs) < length (b ∷ bs) = rw (before-more p b bs fails) at some in omega (arith, h)))
-  ]
+]
 
 pub none_within : (p : ℕ → Bool) (bs : List ℕ) → length bs ≤ before p bs → list_any p bs ≡ false
 none_within p [] all = refl
 none_within p (b ∷ bs) all = elim (true_or_false (p b)) [
-    inl holds ↦ let h : length (b ∷ bs) ≤ zero = rw (before-stop p b bs holds) at all in absurd (omega (arith, h))
+  | inl holds ↦ let h : length (b ∷ bs) ≤ zero = rw (before-stop p b bs holds) at all in absurd (omega (arith, h))
   | inr fails ↦ rw fails (none_within p bs (let h : length (b ∷ bs) ≤ suc (before p bs) = rw (before-more p b bs fails) at all in omega (arith, h)))
-  ]
+]
 
 -- within a word, the word goes on up to the next blank
 within-blank : (b : ℕ) (bs : List ℕ) → is_blank b ≡ true → words_from Within (b ∷ bs) ≡ [] ∷ words_from Between (b ∷ bs)
@@ -53,17 +52,17 @@ Goes front rest = (front ++ take (before is_blank rest) rest) ∷ words_from Bet
 within-goes : (bs : List ℕ) → words_from Within bs ≡ Goes [] bs
 within-goes [] = refl
 within-goes (b ∷ bs) = elim (true_or_false (is_blank b)) [
-    inl holds ↦ rw (before-stop is_blank b bs holds) (within-blank b bs holds)
+  | inl holds ↦ rw (before-stop is_blank b bs holds) (within-blank b bs holds)
   | inr fails ↦ rw (before-more is_blank b bs fails) (within-more b bs fails ∙ ap (onto_first b) (within-goes bs))
-  ]
+]
 
 -- within quotes, the word goes on behind the next quote
 quoted-goes : (bs : List ℕ) → list_any is_quote bs ≡ true → words_from Quoted bs ≡ Goes (take (suc (before is_quote bs)) bs) (drop (suc (before is_quote bs)) bs)
 quoted-goes [] some = absurd (false≢true some)
 quoted-goes (b ∷ bs) some = elim (true_or_false (is_quote b)) [
-    inl holds ↦ rw (before-stop is_quote b bs holds) (rw holds (ap (onto_first b) (within-goes bs)))
+  | inl holds ↦ rw (before-stop is_quote b bs holds) (rw holds (ap (onto_first b) (within-goes bs)))
   | inr fails ↦ rw (before-more is_quote b bs fails) (rw fails (ap (onto_first b) (quoted-goes bs (rw (fails) at some))))
-  ]
+]
 
 -- how many bytes of a word are its own in any case
 abbrev pub begun : ℕ → List ℕ → ℕ
@@ -78,9 +77,9 @@ and_right false b e = absurd (false≢true e)
 
 first_goes : (b : ℕ) (bs : List ℕ) → is_blank b ≡ false → words_of (b ∷ bs) ≡ Goes (take (begun b bs) (b ∷ bs)) (drop (begun b bs) (b ∷ bs))
 first_goes b bs word = elim (true_or_false (is_quote b && list_any is_quote bs)) [
-    inl holds ↦ rw (word, holds, two_more (before is_quote bs)) (ap (onto_first b) (quoted-goes bs (and_right (is_quote b) (list_any is_quote bs) holds)))
+  | inl holds ↦ rw (word, holds, two_more (before is_quote bs)) (ap (onto_first b) (quoted-goes bs (and_right (is_quote b) (list_any is_quote bs) holds)))
   | inr fails ↦ rw (word, fails) (ap (onto_first b) (within-goes bs))
-  ]
+]
 
 -- the first word and those behind it
 pub words_of-first : (text : List ℕ) (n : ℕ) → 0 < length text → is_blank (slice_index text 0) ≡ false → n ≡ cond (is_quote (slice_index text 0) && list_any is_quote (drop 1 text)) (before is_quote (drop 1 text) + 2) 1 →
@@ -105,13 +104,13 @@ blanks-stop b bs e = rw e refl
 pub words_of-blanks : (text : List ℕ) → words_of text ≡ words_of (drop (prefix_len is_blank text) text)
 words_of-blanks [] = refl
 words_of-blanks (b ∷ bs) = elim (true_or_false (is_blank b)) [
-    inl holds ↦ rw (blanks-more b bs holds, holds) (words_of-blanks bs)
+  | inl holds ↦ rw (blanks-more b bs holds, holds) (words_of-blanks bs)
   | inr fails ↦ rw (blanks-stop b bs fails) refl
-  ]
+]
 
 pub no_blank : (text : List ℕ) → 0 < length (drop (prefix_len is_blank text) text) → is_blank (slice_index (drop (prefix_len is_blank text) text) 0) ≡ false
 no_blank [] some = absurd (omega (arith, some))
 no_blank (b ∷ bs) some = elim (true_or_false (is_blank b)) [
-    inl holds ↦ rw (blanks-more b bs holds) (no_blank bs (rw (blanks-more b bs holds) at some))
+  | inl holds ↦ rw (blanks-more b bs holds) (no_blank bs (rw (blanks-more b bs holds) at some))
   | inr fails ↦ rw (blanks-stop b bs fails) fails
-  ]
+]

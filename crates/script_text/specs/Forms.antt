@@ -1,5 +1,5 @@
 -- The forms of words: numbers, names of filesets, places and bytes.
-use Rattle.std.specs.Prelude.{ℕ, ◌+◌, ◌-◌, ◌^◌, Bool, ◌&&◌, ◌||◌, not, ◌==◌, if◌then◌else◌, nat_le, nat_lt, Option, Some, None, option_and_then, List, [], ◌∷◌, length, take, drop, slice_index, codes}
+use Rattle.std.specs.Prelude.{ℕ, ◌-◌, ◌^◌, Bool, ◌&&◌, ◌||◌, not, ◌==◌, if◌then◌else◌, nat_le, nat_lt, Option, Some, None, option_and_then, List, [], ◌∷◌, length, take, drop, slice_index, codes}
 use Rattle.std.specs.List.{list_all, before_first, after_first}
 use Rattle.std.specs.Char.{is_ascii_digit, is_ascii_alphanumeric}
 use Rattle.std.specs.Str.{bytes_eq}
@@ -83,4 +83,4 @@ unfoldable pub bytes_of : List ℕ → Option (List ℕ)
 bytes_of word =
     let inner = take (length word - 2) (drop 1 word) in
     passing (nat_le 3 (length word) && is_quote (slice_index word 0) && is_quote (slice_index word (length word - 1))
-        && has_length 1 8192 inner && list_all is_quotable inner) inner
+    && has_length 1 8192 inner && list_all is_quotable inner) inner

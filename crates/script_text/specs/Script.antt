@@ -1,6 +1,6 @@
 -- What a script says: its sections with their commands, or its first bad line and what is wrong with it.
-use Rattle.std.specs.Prelude.{◌≡◌, ℕ, ◌+◌, ◌-◌, ◌^◌, min, Bool, true, false, ◌&&◌, ◌||◌, not, ◌==◌, if◌then◌else◌, nat_le, Option, Some, None, is_some, is_none, option_and_then, option_map, unwrap_or, Result, Ok, Err, List, [], ◌∷◌, ◌++◌, length, slice_index, codes}
-use Rattle.std.specs.List.{list_any, filter_map, cons_option}
+use Rattle.std.specs.Prelude.{◌≡◌, ℕ, ◌+◌, ◌-◌, ◌^◌, min, Bool, true, false, ◌&&◌, ◌||◌, not, ◌==◌, if◌then◌else◌, nat_le, Option, Some, None, is_none, option_map, unwrap_or, Result, Ok, Err, List, [], ◌∷◌, ◌++◌, length, slice_index, codes}
+use Rattle.std.specs.List.{list_any, filter_map}
 use Rattle.std.specs.Option.{option_to_list}
 use Rattle.std.specs.Str.{bytes_eq}
 use Rattle.std.specs.Str.Lines.{lines}

@@ -62,5 +62,4 @@ pub fn push_bytes(out: &mut Vec<u8>, bytes: &[u8]) -> Result<(), OutOfMemory>
 pub fn runs_are_maximal()
     ensures form { (bytes : List ℕ) → IsRunLengthForm bytes (runs_of bytes) }
     ensures only { (bytes : List ℕ) (runs : List Run) → IsRunLengthForm bytes runs → runs ≡ runs_of bytes }
-{
-}
+{}

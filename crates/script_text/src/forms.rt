@@ -52,7 +52,11 @@ pub fn client(word: &[u8]) -> Option<u8>
     ensures { result ≡ client_of word.now }
 {
     let n = small_number(word)?;
-    if n >= 1 && n <= 8 { Some(n as u8) } else { None }
+    if n >= 1 && n <= 8 {
+        Some(n as u8)
+    } else {
+        None
+    }
 }
 
 /// How many bytes a read asks for, up to 8,192.
@@ -110,7 +114,11 @@ fn is_name(word: &[u8]) -> bool
     ensures { result ≡ is_name word.now }
 {
     let len = word.len();
-    1 <= len && len <= MAX_NAME && has_name_characters(word) && word != b".".as_slice() && word != b"..".as_slice()
+    1 <= len
+        && len <= MAX_NAME
+        && has_name_characters(word)
+        && word != b".".as_slice()
+        && word != b"..".as_slice()
 }
 
 /// The name of a file or directory: 1 to 255 bytes that a path writes as themselves, without `/`,

@@ -14,6 +14,8 @@ mod refusal_text;
 mod reply_text;
 mod script;
 mod statement;
+#[cfg(test)]
+mod tests;
 mod words;
 
 pub use bytes_text::runs_are_maximal;

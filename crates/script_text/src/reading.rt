@@ -77,7 +77,10 @@ fn add(
         (λ next. IsAdded (drafted draft) statement (drafted next)) (IsRefused (drafted draft) statement) }
 {
     match (draft, statement) {
-        (None, Statement::Opens(number)) => Ok(Some(Draft { number, commands: Vec::new(alloc) })),
+        (None, Statement::Opens(number)) => Ok(Some(Draft {
+            number,
+            commands: Vec::new(alloc),
+        })),
         // `read_line` refuses a command before the first section.
         (None, Statement::Gives(_)) => Ok(None),
         (Some(_), Statement::Opens(_)) => Err(LineFault::Kind(FaultKind::SectionTwice)),
@@ -92,11 +95,7 @@ fn add(
 }
 
 /// The section with what one line more says.
-fn take_line(
-    alloc: Global,
-    draft: Option<Draft>,
-    line: &[u8],
-) -> Result<Option<Draft>, LineFault>
+fn take_line(alloc: Global, draft: Option<Draft>, line: &[u8]) -> Result<Option<Draft>, LineFault>
     ensures { MatchResult result
         (λ next. IsTaken (drafted draft) line.now (drafted next)) (Refuses (drafted draft) line.now) }
 {

@@ -66,12 +66,7 @@ impl Keyword {
 }
 
 #[tactic(auto, unfolding(crate::specs::Script::create_statement))]
-fn create(
-    alloc: Global,
-    at: &[u8],
-    uid: &[u8],
-    gid: &[u8],
-) -> Result<Statement, WordFault>
+fn create(alloc: Global, at: &[u8], uid: &[u8], gid: &[u8]) -> Result<Statement, WordFault>
     ensures { Gives result (create_statement at.now uid.now gid.now) }
 {
     let place = place(alloc, at)?;
@@ -84,12 +79,7 @@ fn create(
 }
 
 #[tactic(auto, unfolding(crate::specs::Script::write_statement))]
-fn write(
-    alloc: Global,
-    at: &[u8],
-    offset: &[u8],
-    bytes: &[u8],
-) -> Result<Statement, WordFault>
+fn write(alloc: Global, at: &[u8], offset: &[u8], bytes: &[u8]) -> Result<Statement, WordFault>
     ensures { Gives result (write_statement at.now offset.now bytes.now) }
 {
     let place = place(alloc, at)?;
@@ -103,12 +93,7 @@ fn write(
 }
 
 #[tactic(auto, unfolding(crate::specs::Script::read_statement))]
-fn read(
-    alloc: Global,
-    at: &[u8],
-    offset: &[u8],
-    len: &[u8],
-) -> Result<Statement, WordFault>
+fn read(alloc: Global, at: &[u8], offset: &[u8], len: &[u8]) -> Result<Statement, WordFault>
     ensures { Gives result (read_statement at.now offset.now len.now) }
 {
     let place = place(alloc, at)?;
@@ -122,11 +107,7 @@ fn read(
 }
 
 /// What the words behind the first say.
-pub fn others(
-    alloc: Global,
-    keyword: Keyword,
-    words: &[&[u8]],
-) -> Result<Statement, WordFault>
+pub fn others(alloc: Global, keyword: Keyword, words: &[&[u8]]) -> Result<Statement, WordFault>
     requires { length words.now + 1 ≡ word_count keyword }
     ensures { Gives result (statement_after keyword (map (λ word. word.now) words.now)) }
 {

@@ -1,7 +1,7 @@
 -- How what a stop may leave goes on from call to call. Crates above cite these and look into no rack.
-use Rattle.std.proofs.Common.{◌≡◌, ◌⊎◌, ◌==◌, ◌&&◌, ℕ, ◌-◌, ◌^◌, ◌<◌, ◌≤◌, nat_lt, Bool, true, false, cond, IsTrue, Result, Ok, Err, OnOk, OnErr, List, length, refl, sym, ◌∙◌, ap, subst, inl, inr, ⊎_elim, arith}
+use Rattle.std.proofs.Common.{◌≡◌, ◌⊎◌, ◌+◌, ◌==◌, ◌&&◌, ℕ, ◌-◌, ◌^◌, ◌<◌, ◌≤◌, nat_lt, Bool, true, false, cond, IsTrue, Result, Ok, Err, OnOk, OnErr, List, length, refl, sym, ◌∙◌, ap, subst, inl, inr, ⊎_elim, arith}
 use Rattle.std.proofs.lemmas.Bool.{cases_eq, cases_lt, eq-eqb, ne_eqb, lt-ltb, both_ways}
-use Rattle.volume_disk.specs.Disk.{Disk, Moment, MayLeave, Since, moment_at, Makes, MayTear, Syncs, ReadDone, ReadFailed, WriteDone, WriteFailed, SyncDone, SyncFailed, Elapses, LeavesOnly, HasRisen, raised, raised_at}
+use Rattle.volume_disk.specs.Disk.{Disk, Moment, MayLeave, MayLeaveTorn, Since, moment_at, Makes, MayTear, Writes, Syncs, ReadDone, ReadFailed, WriteDone, WriteFailed, SyncDone, SyncFailed, Elapses, LeavesOnly, OnlyReads, OnlyWrites, Settles, HasRisen, raised, raised_at}
 use Rattle.volume_disk.specs.Image.{Image, IsIn, SameOutside}
 use Rattle.volume_disk.proofs.Moments.{in_or_out, put_at-same, put_at-other}
 
@@ -87,7 +87,7 @@ pub torn_outside : (vol at n : ℕ) (old new : Moment) (image : Image) → MayTe
 torn_outside vol at n old new image tears left v k out synced = left v k (tears.unsynced v k out ∙ synced) ∙ tears.contents v k out
 
 -- what a write may leave is what might have been left before it, torn in its range
-pub torn_follows : (vol at n : ℕ) (old new : Moment) (image : Image) → MayTear vol at n old new → MayLeave new image → (before : Image) × MayLeave old before × SameOutside vol at n before image
+pub torn_follows : (vol at n : ℕ) (old new : Moment) (image : Image) → MayTear vol at n old new → MayLeave new image → MayLeaveTorn vol at n old image
 torn_follows vol at n old new image tears left = (before, was, λ v k out. agrees v k out (in_or_out vol at n v k))
   where
     choice : (v k : ℕ) → IsIn vol at n v k ⊎ (¬ IsIn vol at n v k) → ℕ
@@ -232,3 +232,112 @@ HasRisen-before a b c le (inr last) = elim (cases_lt a c) [ inl lt ↦ inl lt | 
 pub HasRisen-after : (a b c : ℕ) → HasRisen a b → b ≤ c → HasRisen a c
 HasRisen-after a b c (inl lt) le = inl (omega arith)
 HasRisen-after a b c (inr last) le = inr (last.0, omega (arith, last.1))
+
+-- Runs of reads.
+
+-- two stretches of time, of which the second leaves what the first did
+pub elapses_then : (old mid new : Disk) → new.now ≡ mid.now → Elapses old mid → Elapses mid new → mid.kept ≡ old.kept → Elapses old new
+elapses_then old mid new same first second kept = record {
+  later = omega (arith, first.later, second.later);
+  nothing_else = λ t image le left. ⊎_elim (earlier t image le) (λ now. inr now) (second.nothing_else t image (omega (arith, le, first.later)) left);
+  keeps = λ told t image left. second.keeps (kept ∙ told) t image (first.keeps told t image left);
+}
+  where
+    earlier : (t : ℕ) (image : Image) → t ≤ old.calls → Since mid t image → Since old t image ⊎ MayLeave new.now image
+    earlier t image le left = ⊎_elim (λ was. inl was) (λ now. inr (same_moment mid.now new.now same image now)) (first.nothing_else t image le left)
+
+pub only_reads-none : (disk : Disk) → OnlyReads disk disk
+only_reads-none disk = record {
+  sizes = refl;
+  told = refl;
+  kept = refl;
+  write_faults = refl;
+  read_faults = λ v. omega arith;
+  now = λ told. refl;
+  time = λ told. record { later = omega arith; nothing_else = λ t image le left. inl left; keeps = λ kept t image left. left };
+}
+
+pub only_reads-then : (old mid new : Disk) → OnlyReads old mid → OnlyReads mid new → OnlyReads old new
+only_reads-then old mid new first second = record {
+  sizes = second.sizes ∙ first.sizes;
+  told = second.told ∙ first.told;
+  kept = second.kept ∙ first.kept;
+  write_faults = second.write_faults ∙ first.write_faults;
+  read_faults = λ v. let a = first.read_faults v in let b = second.read_faults v in omega arith;
+  now = λ told. second.now (first.told ∙ told) ∙ first.now told;
+  time = λ told. elapses_then old mid new (second.now (first.told ∙ told)) (first.time told) (second.time (first.told ∙ told)) first.kept;
+}
+
+-- a read, whatever it answers
+pub only_reads-read : {T E : Type 0} (old new : Disk) (vol at n : ℕ) (out : List ℕ) (result : Result T E) → OnOk result (ReadDone old new vol at n out) → OnErr result (ReadFailed old new vol) → OnlyReads old new
+only_reads-read old new vol at n out result done failed = record {
+  sizes = by_result result done failed (λ d. d.makes.sizes) (λ f. f.sizes);
+  told = by_result result done failed (λ d. d.makes.told) (λ f. f.told);
+  kept = by_result result done failed (λ d. d.makes.kept) (λ f. f.kept);
+  write_faults = by_result result done failed (λ d. d.makes.write_faults) (λ f. f.write_faults);
+  read_faults = λ v. by_result result done failed
+      (λ d. subst (λ (faults : ℕ → ℕ). old.read_faults v ≤ faults v) (sym d.makes.read_faults) (omega arith))
+      (λ f. subst (λ (faults : ℕ → ℕ). old.read_faults v ≤ faults v) (sym f.read_faults) (raised_at-later old.read_faults vol v));
+  now = read_same old new vol at n out result done failed;
+  time = read_elapses old new vol at n out result done failed;
+}
+
+-- a failed read raised its count
+pub HasRisen-read : (old new : Disk) (vol : ℕ) → ReadFailed old new vol → HasRisen (old.read_faults vol) (new.read_faults vol)
+HasRisen-read old new vol failed = subst (λ (faults : ℕ → ℕ). HasRisen (old.read_faults vol) (faults vol)) (sym failed.read_faults) (HasRisen-raised_at old.read_faults vol)
+
+-- A write and the sync of its volume.
+
+MayLeaveTorn-now : (vol at n : ℕ) (moment : Moment) (image : Image) → MayLeave moment image → MayLeaveTorn vol at n moment image
+MayLeaveTorn-now vol at n moment image left = (image, left, λ v k out. refl)
+
+module _ {T E : Type 0} (old new : Disk) (vol at : ℕ) (bytes : List ℕ) (result : Result T E) (done : OnOk result (WriteDone old new vol at bytes)) (failed : OnErr result (WriteFailed old new vol at (length bytes))) where
+  -- a write, whatever it answers
+  pub only_writes-write : OnlyWrites old new vol at (length bytes)
+  only_writes-write = record {
+    sizes = by_result result done failed (λ d. d.makes.sizes) (λ f. f.makes.sizes);
+    told = by_result result done failed (λ d. d.makes.told) (λ f. f.makes.told);
+    kept = by_result result done failed (λ d. d.makes.kept) (λ f. f.makes.kept);
+    read_faults = by_result result done failed (λ d. d.makes.read_faults) (λ f. f.makes.read_faults);
+    write_faults = λ v. by_result result done failed
+        (λ d. subst (λ (faults : ℕ → ℕ). old.write_faults v ≤ faults v) (sym d.makes.write_faults) (omega arith))
+        (λ f. subst (λ (faults : ℕ → ℕ). old.write_faults v ≤ faults v) (sym f.makes.write_faults) (raised_at-later old.write_faults vol v));
+    tears = λ told.
+        let P = MayLeaveTorn vol at (length bytes) old.now in
+        goes_on old old new P
+        (started old P (MayLeaveTorn-now vol at (length bytes) old.now))
+        (write_elapses old new vol at bytes result done failed told)
+        (λ image left. torn_follows vol at (length bytes) old.now new.now image (write_tears old new vol at bytes result done failed told) left);
+  }
+
+-- and the sync after it
+pub only_writes-sync : {T E : Type 0} (old mid new : Disk) (vol at n : ℕ) (result : Result T E) → OnOk result (SyncDone mid new vol) → OnErr result (SyncFailed mid new vol) → OnlyWrites old mid vol at n
+    → (IsTrue old.told → MayTear vol at n old.now mid.now) → OnlyWrites old new vol at n
+only_writes-sync old mid new vol at n result done failed so_far tears = record {
+  sizes = by_result result done failed (λ d. d.makes.sizes) (λ f. f.sizes) ∙ so_far.sizes;
+  told = by_result result done failed (λ d. d.makes.told) (λ f. f.told) ∙ so_far.told;
+  kept = by_result result done failed (λ d. d.makes.kept) (λ f. f.kept) ∙ so_far.kept;
+  read_faults = by_result result done failed (λ d. d.makes.read_faults) (λ f. f.read_faults) ∙ so_far.read_faults;
+  write_faults = λ v. let was = so_far.write_faults v in by_result result done failed
+      (λ d. subst (λ (faults : ℕ → ℕ). old.write_faults v ≤ faults v) (sym d.makes.write_faults) was)
+      (λ f. subst (λ (faults : ℕ → ℕ). old.write_faults v ≤ faults v) (sym f.write_faults) (let more = raised_at-later mid.write_faults vol v in omega arith));
+  tears = λ told.
+      let mid_told : IsTrue mid.told = so_far.told ∙ told in
+      goes_on old mid new (MayLeaveTorn vol at n old.now)
+      (so_far.tears told)
+      (sync_elapses mid new vol result done failed mid_told)
+      (λ image left. torn_follows vol at n old.now mid.now image (tears told) (sync_leaves mid new vol result done failed mid_told image left));
+}
+
+-- what a write and a sync that are done make of a moment
+pub Settles-done : (vol at : ℕ) (bytes : List ℕ) (old mid new : Moment) → Writes vol at bytes old mid → Syncs vol mid new → Settles vol at bytes old new
+Settles-done vol at bytes old mid new writes syncs = record {
+  written = λ k lt. ap (λ (image : Image). image vol (at + k)) syncs.contents ∙ writes.written k lt;
+  outside = λ v k out. ap (λ (image : Image). image v k) syncs.contents ∙ writes.tears.contents v k out;
+  here = syncs.here;
+  elsewhere = λ v k other. syncs.elsewhere v k other ∙ writes.tears.unsynced v k (λ is_in. other is_in.0);
+}
+
+-- a failed write or sync raised its count
+pub HasRisen-write : (old new : Disk) (vol : ℕ) → new.write_faults ≡ raised_at old.write_faults vol → HasRisen (old.write_faults vol) (new.write_faults vol)
+HasRisen-write old new vol is = subst (λ (faults : ℕ → ℕ). HasRisen (old.write_faults vol) (faults vol)) (sym is) (HasRisen-raised_at old.write_faults vol)

@@ -58,6 +58,10 @@ Since disk t image = ((t ≤ disk.calls) × MayLeave disk.now image) ⊎ MayHave
 abbrev pub moment_at : Disk → ℕ → Moment
 moment_at disk t = if t == disk.calls then disk.now else disk.past t
 
+-- an image that a stop at this moment may leave, torn in a range of n bytes
+abbrev pub MayLeaveTorn : ℕ → ℕ → ℕ → Moment → Image → Type 0
+MayLeaveTorn vol at n moment image = (before : Image) × MayLeave moment before × SameOutside vol at n before image
+
 -- nothing is pending: a stop leaves what a read gives
 abbrev pub IsSettled : Moment → Type 0
 IsSettled moment = (v k : ℕ) → moment.unsynced v k ≡ false
@@ -166,3 +170,29 @@ pub record LeavesOnly (old new : Disk) (P : Image → Type 0) : Type 0 where
   pub each : (image : Image) → Since new old.calls image → P image
   -- for a run that began earlier
   pub before : (t : ℕ) (image : Image) → t ≤ old.calls → Since new t image → Since old t image ⊎ P image
+
+-- a run of calls that wrote and synced nothing
+pub record OnlyReads (old new : Disk) : Type 0 where
+  pub sizes : new.sizes ≡ old.sizes
+  pub told : new.told ≡ old.told
+  pub kept : new.kept ≡ old.kept
+  pub write_faults : new.write_faults ≡ old.write_faults
+  pub read_faults : (v : ℕ) → old.read_faults v ≤ new.read_faults v
+  pub now : IsTrue old.told → new.now ≡ old.now
+  pub time : IsTrue old.told → Elapses old new
+
+-- a run of calls that wrote n bytes from `at` on and synced the volume: the images of before may be torn there
+pub record OnlyWrites (old new : Disk) (vol at n : ℕ) : Type 0 where
+  pub sizes : new.sizes ≡ old.sizes
+  pub told : new.told ≡ old.told
+  pub kept : new.kept ≡ old.kept
+  pub read_faults : new.read_faults ≡ old.read_faults
+  pub write_faults : (v : ℕ) → old.write_faults v ≤ new.write_faults v
+  pub tears : IsTrue old.told → LeavesOnly old new (MayLeaveTorn vol at n old.now)
+
+-- the bytes are written from `at` on, and the volume is synced
+pub record Settles (vol at : ℕ) (bytes : List ℕ) (old new : Moment) : Type 0 where
+  pub written : HasBytes vol at bytes new.contents
+  pub outside : SameOutside vol at (length bytes) old.contents new.contents
+  pub here : (k : ℕ) → new.unsynced vol k ≡ false
+  pub elsewhere : (v k : ℕ) → v ≢ vol → new.unsynced v k ≡ old.unsynced v k

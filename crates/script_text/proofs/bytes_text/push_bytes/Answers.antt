@@ -1,7 +1,7 @@
-use Rattle.std.proofs.Common.{◌≡◌, ◌<◌, ◌∷◌, ◌++◌, List, ℕ, [], length, drop, slice_index, append_assoc, arith, rules, ap, sym, ◌∙◌, refl}
+use Rattle.std.proofs.Common.{◌++◌, slice_index, arith, rules}
 use Rattle.std.proofs.lemmas.Grind.{common_steps}
-use Rattle.script_text.specs.Runs.{Run, runs_of, run_text, bytes_text}
-use Rattle.script_text.proofs.RunLemmas.{dotted, dotted-step, dotted-start, dotted-end, bytes_text-none}
+use Rattle.script_text.specs.Runs.{bytes_text}
+use Rattle.script_text.proofs.RunLemmas.{dotted-step, dotted-start, dotted-end, bytes_text-none}
 use Rattle.script_text.proofs.bytes_text.push_bytes.Goals as goal
 
 pub returns-then-is_empty : goal.returns-then-is_empty

@@ -1,4 +1,4 @@
-use Rattle.std.proofs.Common.{◌≡◌, ◌<◌, ◌≤◌, ◌+◌, ◌*◌, ◌-◌, ◌^◌, length, true, false, get_or, take, arith, refl, sym, ◌∙◌}
+use Rattle.std.proofs.Common.{◌≡◌, ◌+◌, ◌*◌, ◌-◌, ◌^◌, true, get_or, arith, refl, sym, ◌∙◌}
 use Rattle.std.specs.Char.{is_ascii_digit}
 use Rattle.std.specs.List.{list_all}
 use Rattle.std.specs.Str.Parse.{digits_value}
@@ -14,20 +14,20 @@ returns-then-is_empty c = sym (number-empty (2 ^ 64) c.args.word.now (grind (ari
 pub returns-then-not-is_ascii_digit : goal.returns-then-not-is_ascii_digit
 returns-then-not-is_ascii_digit c =
     sym (number-other (2 ^ 64) c.args.word.now
-      (list_all_at is_ascii_digit c.args.word.now c.loop-byte.byte-index 0 c.loop-byte-test.true
-        (sym c.is_ascii_digit.ensures.value ∙ c.if-not-is_ascii_digit.true)))
+    (list_all_at is_ascii_digit c.args.word.now c.loop-byte.byte-index 0 c.loop-byte-test.true
+    (sym c.is_ascii_digit.ensures.value ∙ c.if-not-is_ascii_digit.true)))
 
 pub returns-in_err-n : goal.returns-in_err-n
 returns-in_err-n c =
     let next = digits-step c.args.word.now c.loop-byte.byte-index c.loop-byte.n (get_or c.args.word.now c.loop-byte.byte-index 0 - 48) c.loop-byte-test.true
-          c.loop-byte.invariant.0 (sym c.is_ascii_digit.ensures.value ∙ c.if-not-is_ascii_digit.false) c.loop-byte.invariant.1 refl in
+    c.loop-byte.invariant.0 (sym c.is_ascii_digit.ensures.value ∙ c.if-not-is_ascii_digit.false) c.loop-byte.invariant.1 refl in
     c.from_residual.ensures
     ∙ sym (number-passed (2 ^ 64) c.args.word.now (c.loop-byte.byte-index + 1) (c.loop-byte.n * 10 + (get_or c.args.word.now c.loop-byte.byte-index 0 - 48)) next.1 (omega (arith, c.in_err-n.ensures)))
 
 pub loop-byte-preserved : goal.loop-byte-preserved
 loop-byte-preserved c =
     let next = digits-step c.args.word.now c.loop-byte.byte-index c.loop-byte.n (get_or c.args.word.now c.loop-byte.byte-index 0 - 48) c.loop-byte-test.true
-          c.loop-byte.invariant.0 (sym c.is_ascii_digit.ensures.value ∙ c.if-not-is_ascii_digit.false) c.loop-byte.invariant.1 refl in
+    c.loop-byte.invariant.0 (sym c.is_ascii_digit.ensures.value ∙ c.if-not-is_ascii_digit.false) c.loop-byte.invariant.1 refl in
     (next.0, grind (arith, c.in_ok-n.ensures, next.1), grind (arith, c.in_ok-n.ensures))
 
 pub returns : goal.returns

@@ -1,4 +1,4 @@
-use Rattle.std.proofs.Common.{◌≡◌, ◌<◌, ◌≤◌, ◌^◌, arith, sym, ◌∙◌}
+use Rattle.std.proofs.Common.{◌^◌, arith, sym, ◌∙◌}
 use Rattle.script_text.proofs.NumberLemmas.{number-none, number-fits, number-passes}
 use Rattle.script_text.proofs.forms.small_number.Goals as goal
 

@@ -1,4 +1,4 @@
-use Rattle.std.proofs.Common.{arith, ap}
+use Rattle.std.proofs.Common.{arith}
 use Rattle.script_text.proofs.LineLemmas.{behind_next, behind_none}
 use Rattle.script_text.proofs.forms.split_at_colon.Goals as goal
 

@@ -1,5 +1,4 @@
 use Rattle.std.proofs.Common.{arith}
-use Rattle.std.specs.Str.Lines.{strip_carriage_return}
 use Rattle.script_text.proofs.LineLemmas.{lines-last, lines-first, behind_first}
 use Rattle.script_text.proofs.words.split_line.Goals as goal
 

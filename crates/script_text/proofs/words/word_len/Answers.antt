@@ -1,4 +1,3 @@
-use Rattle.std.proofs.Common.{arith}
 use Rattle.script_text.proofs.WordLemmas.{words_of-first}
 use Rattle.script_text.proofs.words.word_len.Goals as goal
 

@@ -1,0 +1,36 @@
+use Rattle.std.proofs.Common.{◌≡◌, ℕ, List, None, ap, subst, sym, ◌∙◌}
+use Rattle.std.specs.Ordering.{nat_cmp}
+use Rattle.std.specs.Cmp.{nat_cmp_total}
+use Rattle.std.specs.FinMap.{get}
+use Rattle.std.specs.FinMap.Entries.{find}
+use Rattle.fileset_model.specs.Entries.{IsPlaceOf}
+use Rattle.fileset_model.specs.Fileset.{Fileset}
+use Rattle.fileset_model.specs.Apply.{with_change, flagged_node}
+use Rattle.fileset_model.specs.declared.node.Node.{Node}
+use Rattle.fileset_model.proofs.EntryLemmas.{get-from_sorted, sorted_at_place}
+use Rattle.fileset_model.proofs.TreeLemmas.{change_at_place, with_change-missing}
+use Rattle.fileset_model.proofs.fileset.FilesetTree.set_logged.Goals as goal
+
+pub returns-in_default-place_of : goal.returns-in_default-place_of
+returns-in_default-place_of c =
+    let none : get c.args.self.now.nodes c.in-Some.number ≡ None =
+    ap (λ (tree : Fileset). get tree.nodes c.in-Some.number) (sym c.self.view_is)
+    ∙ get-from_sorted nat_cmp c.self.inside.nodes.items c.in-Some.number c.self.invariant.1
+    ∙ ap (λ (es : List (ℕ × Node)). find nat_cmp c.in-Some.number es) (sym c.deref.ensures.value)
+    ∙ c.in_default-place_of.ensures.gap.absent in
+    sym (with_change-missing c.args.self.now c.args.path.now c.in-Some.number (flagged_node c.args.logged) (sym c.in-Some.ensures) none)
+
+pub invariant_of-self : goal.invariant_of-self
+invariant_of-self c =
+    let place = subst (λ (es : List (ℕ × Node)). IsPlaceOf nat_cmp es c.in-Some.number c.in-Ok.place) c.deref.ensures.value c.in-Ok.ensures.place in
+    (c.self.invariant.0, sorted_at_place c.self.inside.nodes.items c.in-Some.number c.in-Ok.place c.index_mut.result.now place c.index_mut.ensures.value nat_cmp_total c.self.invariant.1 c.set_logged.new.self, c.self.invariant.2)
+
+pub returns : goal.returns
+returns c =
+    let place = subst (λ (es : List (ℕ × Node)). IsPlaceOf nat_cmp es c.in-Some.number c.in-Ok.place) c.deref.ensures.value c.in-Ok.ensures.place in
+    let change = flagged_node c.args.logged in
+    let path = c.args.path.now in
+    let leads = ap (λ (tree : Fileset). get tree.paths path) c.self.view_is ∙ sym c.in-Some.ensures in
+    change_at_place c.self.inside.paths.items c.self.inside.nodes.items c.self.inside.limits.items path c.in-Some.number c.in-Ok.place c.index_mut.result.now c.set_logged.new.self change
+    c.self.invariant.1 place c.index_mut.ensures.value leads c.set_logged.ensures
+    ∙ ap (with_change path change) c.self.view_is

@@ -1,0 +1,567 @@
+//! The commands that make a directory, and that change or remove a file or directory.
+ghost use Rattle.std.specs.Prelude.{◌≡◌, ◌+◌, ◌-◌, ◌*◌, ◌/◌, ◌%◌, ◌==◌, ◌||◌, [], ◌∷◌, false as NotFile, length, nat_lt, not, IfOk, IsTrue, OnOk, OnErr};
+ghost use Rattle.std.specs.List.{filter};
+ghost use Rattle.std.specs.Option.{option_map_or};
+ghost use Rattle.std.specs.Ordering.{eq_by_cmp, nat_cmp};
+ghost use Rattle.std.specs.FinMap.Entries.{find as found_at, is_sorted, put as put_at, where_key};
+ghost use Rattle.domain_base.specs.Page.{overwritten, zero_bytes};
+ghost use Rattle.domain_base.specs.declared.limits.TheConstants.{FILE_BYTES};
+ghost use Rattle.fileset_model.specs.Apply.{Answers, flagged_node, not_empty, read_only, truncated_node, with_change, with_tree, without};
+ghost use Rattle.fileset_model.specs.Pages.{truncated};
+ghost use Rattle.fileset_model.specs.Paths.{directory_here as directory_check, file_here as file_check, first_refusal, refuse_if, rows_of, target_refusal as target_check};
+ghost use Rattle.fileset_model.specs.declared.command.Command.TheVariants.{Chfile, Mkdir, Rmdir, Truncate, Unlink};
+ghost use Rattle.fileset_model.specs.declared.reply.Refusal.TheVariants.{TooFar as TooFarRefusal};
+
+use crate::answers::create_refusal;
+use crate::command::Place;
+use crate::entries::place_of;
+use crate::fileset::{FilesetSlot, FilesetTree};
+use crate::filesets::Filesets;
+use crate::names::Path;
+use crate::node::Node;
+use crate::page_map::PageMap;
+use crate::reply::{Refusal, Reply};
+use crate::walk::{directory_here, target_refusal};
+use domain_base::limits::{FILE_BYTES as LARGEST_FILE, PAGE_BYTES};
+use domain_base::{OutOfMemory, Page};
+use std::alloc::Global;
+
+/// Makes an empty directory.
+pub(crate) fn mkdir(
+    alloc: Global,
+    filesets: &mut Filesets,
+    place: &Place,
+    uid: u32,
+    gid: u32,
+) -> Result<Reply, OutOfMemory>
+    ensures ok { IfOk result (λ reply. Answers filesets.old (Mkdir place.now uid gid) reply filesets.new) }
+    ensures err { OnErr result (filesets.new ≡ filesets.old) }
+{
+    let Some(slot) = filesets.slot(&place.fileset) else {
+        return Ok(Reply::Refused(Refusal::NoFileset));
+    };
+    if let Some(refusal) = create_refusal(alloc, slot, &place.path, uid, gid)? {
+        return Ok(Reply::Refused(refusal));
+    }
+    let number = filesets.unused_number()?;
+    filesets.add(alloc, place, number, Node::Directory { uid, gid })?;
+    Ok(Reply::Done)
+}
+
+/// Sets the size of a file. What lay after it is gone, and reads as zeros if the file grows again.
+pub(crate) fn truncate(
+    alloc: Global,
+    filesets: &mut Filesets,
+    place: &Place,
+    size: u64,
+) -> Result<Reply, OutOfMemory>
+    ensures ok { IfOk result (λ reply. Answers filesets.old (Truncate place.now size) reply filesets.new) }
+    ensures err { OnErr result (filesets.new ≡ filesets.old) }
+{
+    let Some(slot) = filesets.slot(&place.fileset) else {
+        return Ok(Reply::Refused(Refusal::NoFileset));
+    };
+    if let Some(refusal) = truncate_refusal(alloc, slot, &place.path, size)? {
+        return Ok(Reply::Refused(refusal));
+    }
+    filesets.truncate(alloc, place, size)?;
+    Ok(Reply::Done)
+}
+
+/// Sets whether the data of a file is logged.
+pub(crate) fn chfile(
+    alloc: Global,
+    filesets: &mut Filesets,
+    place: &Place,
+    logged: bool,
+) -> Result<Reply, OutOfMemory>
+    ensures ok { IfOk result (λ reply. Answers filesets.old (Chfile place.now logged) reply filesets.new) }
+    ensures err { OnErr result (filesets.new ≡ filesets.old) }
+{
+    let Some(slot) = filesets.slot(&place.fileset) else {
+        return Ok(Reply::Refused(Refusal::NoFileset));
+    };
+    if let Some(refusal) = file_refusal(alloc, slot, &place.path)? {
+        return Ok(Reply::Refused(refusal));
+    }
+    filesets.set_logged(place, logged);
+    Ok(Reply::Done)
+}
+
+/// Removes a file.
+pub(crate) fn unlink(
+    alloc: Global,
+    filesets: &mut Filesets,
+    place: &Place,
+) -> Result<Reply, OutOfMemory>
+    ensures ok { IfOk result (λ reply. Answers filesets.old (Unlink place.now) reply filesets.new) }
+    ensures err { OnErr result (filesets.new ≡ filesets.old) }
+{
+    let Some(slot) = filesets.slot(&place.fileset) else {
+        return Ok(Reply::Refused(Refusal::NoFileset));
+    };
+    if let Some(refusal) = file_refusal(alloc, slot, &place.path)? {
+        return Ok(Reply::Refused(refusal));
+    }
+    filesets.remove(place);
+    Ok(Reply::Done)
+}
+
+/// Removes an empty directory.
+pub(crate) fn rmdir(
+    alloc: Global,
+    filesets: &mut Filesets,
+    place: &Place,
+) -> Result<Reply, OutOfMemory>
+    ensures ok { IfOk result (λ reply. Answers filesets.old (Rmdir place.now) reply filesets.new) }
+    ensures err { OnErr result (filesets.new ≡ filesets.old) }
+{
+    let Some(slot) = filesets.slot(&place.fileset) else {
+        return Ok(Reply::Refused(Refusal::NoFileset));
+    };
+    if let Some(refusal) = rmdir_refusal(alloc, slot, &place.path)? {
+        return Ok(Reply::Refused(refusal));
+    }
+    filesets.remove(place);
+    Ok(Reply::Done)
+}
+
+/// Why the file at a path can't be changed or removed.
+fn file_refusal(
+    alloc: Global,
+    slot: &FilesetSlot,
+    path: &Path,
+) -> Result<Option<Refusal>, OutOfMemory>
+    ensures { IfOk result (λ refusal. refusal ≡ first_refusal (read_only slot.now ∷ target_check slot.now path.now ∷ directory_check slot.now path.now ∷ [])) }
+{
+    if slot.role.is_clone() {
+        return Ok(Some(Refusal::ReadOnly));
+    }
+    if let Some(refusal) = target_refusal(alloc, slot, path)? {
+        return Ok(Some(refusal));
+    }
+    Ok(directory_here(slot, path))
+}
+
+/// Why the file at a path can't get this size.
+fn truncate_refusal(
+    alloc: Global,
+    slot: &FilesetSlot,
+    path: &Path,
+    size: u64,
+) -> Result<Option<Refusal>, OutOfMemory>
+    ensures { IfOk result (λ refusal. refusal ≡ first_refusal (read_only slot.now ∷ target_check slot.now path.now ∷ directory_check slot.now path.now ∷ refuse_if (nat_lt FILE_BYTES size) TooFarRefusal ∷ [])) }
+{
+    if slot.role.is_clone() {
+        return Ok(Some(Refusal::ReadOnly));
+    }
+    if let Some(refusal) = target_refusal(alloc, slot, path)? {
+        return Ok(Some(refusal));
+    }
+    if let Some(refusal) = directory_here(slot, path) {
+        return Ok(Some(refusal));
+    }
+    if size > LARGEST_FILE {
+        return Ok(Some(Refusal::TooFar));
+    }
+    Ok(None)
+}
+
+/// Why the directory at a path can't be removed.
+fn rmdir_refusal(
+    alloc: Global,
+    slot: &FilesetSlot,
+    path: &Path,
+) -> Result<Option<Refusal>, OutOfMemory>
+    ensures { IfOk result (λ refusal. refusal ≡ first_refusal (read_only slot.now ∷ target_check slot.now path.now ∷ file_check slot.now path.now ∷ not_empty slot.now path.now ∷ [])) }
+{
+    if slot.role.is_clone() {
+        return Ok(Some(Refusal::ReadOnly));
+    }
+    if let Some(refusal) = target_refusal(alloc, slot, path)? {
+        return Ok(Some(refusal));
+    }
+    if let Some(refusal) = file_here(slot, path) {
+        return Ok(Some(refusal));
+    }
+    if is_held(alloc, &slot.tree, path)? {
+        return Ok(Some(Refusal::NotEmpty));
+    }
+    Ok(None)
+}
+
+/// Not-directory, where a path leads to a file.
+pub(crate) fn file_here(slot: &FilesetSlot, path: &Path) -> Option<Refusal>
+    ensures { result ≡ file_check slot.now path.now }
+{
+    match slot.tree.node_at(path) {
+        Some(node) if !node.is_directory() => Some(Refusal::NotDirectory),
+        _ => None,
+    }
+}
+
+/// Whether a directory has rows or is the root, and so has to stay.
+pub(crate) fn is_held(alloc: Global, tree: &FilesetTree, path: &Path) -> Result<bool, OutOfMemory>
+    ensures { IfOk result (λ held. held ≡ (length path.now == 0 || not (length (rows_of tree.now path.now) == 0))) }
+{
+    let rows = tree.rows(alloc, path)?;
+    Ok(path.as_slice().is_empty() || !rows.is_empty())
+}
+
+/// Takes away the entry with this key, if there is one.
+pub(crate) fn remove_key<K: Ord + Drop, V: Drop>(entries: &mut Vec<(K, V)>, key: &K)
+    requires { IsTrue (is_sorted K.cmp entries.old.items) }
+    ensures items { entries.new.items ≡ where_key K.cmp (λ other. not (eq_by_cmp K.cmp key.now other)) entries.old.items }
+    ensures sorted { IsTrue (is_sorted K.cmp entries.new.items) }
+{
+    entries.retain(|entry| key.cmp(&entry.0).is_ne());
+}
+
+impl Filesets {
+    /// Sets the size of the file at a place; where there is no such fileset, nothing changes. After
+    /// an error the filesets are as before.
+    fn truncate(&mut self, alloc: Global, place: &Place, size: u64) -> Result<(), OutOfMemory>
+        ensures ok { OnOk result (self.new ≡ with_tree self.old place.now.fileset (with_change place.now.path (truncated_node size))) }
+        ensures err { OnErr result (self.new ≡ self.old) }
+    {
+        let Ok(at) = place_of(&self.slots, &place.fileset) else {
+            return Ok(());
+        };
+        self.slots[at].1.tree.truncate(alloc, &place.path, size)?;
+        Ok(())
+    }
+
+    /// Sets whether the data of the file at a place is logged; where there is no such fileset,
+    /// nothing changes.
+    fn set_logged(&mut self, place: &Place, logged: bool)
+        ensures { self.new ≡ with_tree self.old place.now.fileset (with_change place.now.path (flagged_node logged)) }
+    {
+        let Ok(at) = place_of(&self.slots, &place.fileset) else {
+            return;
+        };
+        self.slots[at].1.tree.set_logged(&place.path, logged);
+    }
+
+    /// Removes what stands at a place; where there is no such fileset, nothing changes.
+    fn remove(&mut self, place: &Place)
+        ensures { self.new ≡ with_tree self.old place.now.fileset (without place.now.path) }
+    {
+        let Ok(at) = place_of(&self.slots, &place.fileset) else {
+            return;
+        };
+        self.slots[at].1.tree.remove(&place.path);
+    }
+}
+
+impl FilesetTree {
+    /// Sets the size of the file at a path. After an error the tree is as before.
+    pub fn truncate(&mut self, alloc: Global, path: &Path, size: u64) -> Result<(), OutOfMemory>
+        ensures ok { OnOk result (self.new ≡ with_change path.now (truncated_node size) self.old) }
+        ensures err { OnErr result (self.new ≡ self.old) }
+    {
+        let Some(number) = self.number_at(path) else {
+            return Ok(());
+        };
+        let Ok(place) = place_of(&self.nodes, &number) else {
+            return Ok(());
+        };
+        self.nodes[place].1.truncate(alloc, size)?;
+        Ok(())
+    }
+
+    /// Sets whether the data of the file at a path is logged.
+    pub fn set_logged(&mut self, path: &Path, logged: bool)
+        ensures { self.new ≡ with_change path.now (flagged_node logged) self.old }
+    {
+        let Some(number) = self.number_at(path) else {
+            return;
+        };
+        let Ok(place) = place_of(&self.nodes, &number) else {
+            return;
+        };
+        self.nodes[place].1.set_logged(logged);
+    }
+
+    /// Removes a path and what stands there.
+    pub fn remove(&mut self, path: &Path)
+        ensures { self.new ≡ without path.now self.old }
+    {
+        let Some(number) = self.number_at(path) else {
+            return;
+        };
+        remove_key(&mut self.paths, path);
+        remove_key(&mut self.nodes, &number);
+    }
+}
+
+impl Node {
+    /// Sets the size of a file; a directory stays. After an error the node is as before.
+    pub fn truncate(&mut self, alloc: Global, new_size: u64) -> Result<(), OutOfMemory>
+        ensures ok { OnOk result (self.new ≡ truncated_node new_size self.old) }
+        ensures err { OnErr result (self.new ≡ self.old) }
+    {
+        match self {
+            Node::File { size, pages, .. } => {
+                pages.truncate(alloc, new_size)?;
+                *size = new_size;
+            }
+            Node::Directory { .. } => {}
+        }
+        Ok(())
+    }
+
+    /// Sets whether the data of a file is logged; a directory stays.
+    pub fn set_logged(&mut self, flag: bool)
+        ensures { self.new ≡ flagged_node flag self.old }
+    {
+        match self {
+            Node::File { logged, .. } => *logged = flag,
+            Node::Directory { .. } => {}
+        }
+    }
+}
+
+impl PageMap {
+    /// Cuts a file's pages at a size in bytes: those that begin there or later go, and the rest of
+    /// the page in which it falls becomes zeros. After an error the pages are as before.
+    pub fn truncate(&mut self, alloc: Global, size: u64) -> Result<(), OutOfMemory>
+        ensures ok { OnOk result (self.new ≡ truncated self.old size) }
+        ensures err { OnErr result (self.new ≡ self.old) }
+    {
+        let zeros = Page::zeros(alloc)?;
+        keep_below(&mut self.pages, size);
+        zero_rest(&mut self.pages, size, &zeros);
+        Ok(())
+    }
+}
+
+/// Whether page `q` begins before the size.
+fn begins_below(q: u64, size: u64) -> bool
+    ensures { result ≡ nat_lt (q * PAGE_BYTES) size }
+{
+    q.saturating_mul(PAGE_BYTES as u64) < size
+}
+
+/// Keeps the pages that begin before the size.
+fn keep_below(pages: &mut Vec<(u64, Page)>, size: u64)
+    requires { IsTrue (is_sorted nat_cmp pages.old.items) }
+    ensures items { pages.new.items ≡ where_key nat_cmp (λ q. nat_lt (q * PAGE_BYTES) size) pages.old.items }
+    ensures sorted { IsTrue (is_sorted nat_cmp pages.new.items) }
+{
+    pages.retain(|entry| begins_below(entry.0, size));
+}
+
+/// Lays zeros over the rest of the page in which the size falls, where it is there.
+fn zero_rest(pages: &mut Vec<(u64, Page)>, size: u64, zeros: &Page)
+    requires sorted { IsTrue (is_sorted nat_cmp pages.old.items) }
+    requires zeros { zeros.now ≡ zero_bytes PAGE_BYTES }
+    ensures items { pages.new.items ≡ option_map_or (λ page. put_at nat_cmp (size / PAGE_BYTES) (overwritten page (size % PAGE_BYTES) (zero_bytes (PAGE_BYTES - size % PAGE_BYTES))) pages.old.items) (found_at nat_cmp (size / PAGE_BYTES) pages.old.items) pages.old.items }
+    ensures sorted { IsTrue (is_sorted nat_cmp pages.new.items) }
+{
+    let Ok(place) = place_of(pages, &(size / PAGE_BYTES as u64)) else {
+        return;
+    };
+    let at = (size % PAGE_BYTES as u64) as usize;
+    pages[place].1.set(at, &zeros.bytes()[at..]);
+}
+
+#[cfg(test)]
+mod tests {
+    use super::*;
+    use crate::entries::put;
+    use crate::fileset::{NumberSet, Role};
+    use crate::tests::{self, Expected, fileset, gives, is_expected, place};
+    use std::process::Abort;
+    use std::test::Fail;
+
+    /// Asserts a reply.
+    fn expect<R: Abort>(rt: &R, reply: Result<Reply, OutOfMemory>, expected: &Expected) {
+        let reply = reply.expect(rt, "memory is ample");
+        let same = is_expected(&reply, expected);
+        assert!(rt; same, "the reply is {reply:?}");
+    }
+
+    #[derive(Clone, Copy, Debug)]
+    enum Change {
+        Mkdir,
+        Truncate,
+        Chfile,
+        Unlink,
+        Rmdir,
+    }
+
+    const ALL_CHANGES: [Change; 5] = [
+        Change::Mkdir,
+        Change::Truncate,
+        Change::Chfile,
+        Change::Unlink,
+        Change::Rmdir,
+    ];
+
+    fn reply_to(
+        alloc: Global,
+        all: &mut Filesets,
+        change: Change,
+        place: &Place,
+    ) -> Result<Reply, OutOfMemory> {
+        match change {
+            Change::Mkdir => mkdir(alloc, all, place, 10, 20),
+            Change::Truncate => truncate(alloc, all, place, 1),
+            Change::Chfile => chfile(alloc, all, place, true),
+            Change::Unlink => unlink(alloc, all, place),
+            Change::Rmdir => rmdir(alloc, all, place),
+        }
+    }
+
+    /// Asserts that a change at a place is refused so.
+    fn refused<R: Abort + AllocGlobal>(
+        rt: &R,
+        all: &mut Filesets,
+        change: Change,
+        place: &Place,
+        refusal: Refusal,
+    ) {
+        let reply = reply_to(rt.alloc(), all, change, place);
+        expect(rt, reply, &Expected::Refused(refusal));
+    }
+
+    /// A clone of `home` with an empty root.
+    fn add_clone(alloc: Global, all: &mut Filesets) -> Result<(), OutOfMemory> {
+        let role = Role::CloneOf {
+            original: fileset(alloc, b"home")?,
+            out: NumberSet::new(alloc),
+        };
+        let tree = FilesetTree::empty(alloc, 0)?;
+        put(
+            &mut all.slots,
+            fileset(alloc, b"bak")?,
+            FilesetSlot { tree, role },
+        )
+    }
+
+    #[test]
+    fn changes_are_refused_in_order(rt: HostRuntime) -> Result<(), Fail> {
+        let alloc = rt.alloc();
+        let mut all = Filesets::new(alloc);
+        for change in ALL_CHANGES {
+            let missing = place(alloc, b"d")?;
+            refused(&rt, &mut all, change, &missing, Refusal::NoFileset);
+        }
+        gives(
+            &rt,
+            &mut all,
+            tests::mkfset(alloc, b"home"),
+            &Expected::Done,
+        );
+        let rows: [(Change, &[u8], Option<Refusal>); 24] = [
+            (Change::Mkdir, b"d", None),
+            (Change::Mkdir, b"d", Some(Refusal::Exists)),
+            (Change::Mkdir, b"", Some(Refusal::Exists)),
+            (Change::Mkdir, b"xy", Some(Refusal::NoPath)),
+            (Change::Mkdir, b"de", None),
+            (Change::Truncate, b"d", Some(Refusal::IsDirectory)),
+            (Change::Truncate, b"x", Some(Refusal::NoPath)),
+            (Change::Chfile, b"", Some(Refusal::IsDirectory)),
+            (Change::Chfile, b"x", Some(Refusal::NoPath)),
+            (Change::Unlink, b"de", Some(Refusal::IsDirectory)),
+            (Change::Rmdir, b"d", Some(Refusal::NotEmpty)),
+            (Change::Rmdir, b"", Some(Refusal::NotEmpty)),
+            (Change::Rmdir, b"x", Some(Refusal::NoPath)),
+            (Change::Rmdir, b"de", None),
+            (Change::Rmdir, b"d", None),
+            (Change::Rmdir, b"d", Some(Refusal::NoPath)),
+            (Change::Rmdir, b"f", Some(Refusal::NotDirectory)),
+            (Change::Mkdir, b"fy", Some(Refusal::NotDirectory)),
+            (Change::Unlink, b"fy", Some(Refusal::NotDirectory)),
+            (Change::Truncate, b"f", None),
+            (Change::Chfile, b"f", None),
+            (Change::Unlink, b"f", None),
+            (Change::Unlink, b"f", Some(Refusal::NoPath)),
+            (Change::Mkdir, b"f", None),
+        ];
+        gives(&rt, &mut all, tests::create(alloc, b"f"), &Expected::Done);
+        for (change, names, refusal) in rows {
+            let at = place(alloc, names)?;
+            match refusal {
+                Some(refusal) => refused(&rt, &mut all, change, &at, refusal),
+                None => expect(&rt, reply_to(alloc, &mut all, change, &at), &Expected::Done),
+            }
+        }
+        add_clone(alloc, &mut all)?;
+        for change in ALL_CHANGES {
+            let in_clone = Place {
+                fileset: fileset(alloc, b"bak")?,
+                path: place(alloc, b"a")?.path,
+            };
+            refused(&rt, &mut all, change, &in_clone, Refusal::ReadOnly);
+        }
+        Ok(())
+    }
+
+    #[test]
+    fn a_file_is_flagged_as_logged_and_back(rt: HostRuntime) -> Result<(), Fail> {
+        let alloc = rt.alloc();
+        let mut all = Filesets::new(alloc);
+        gives(
+            &rt,
+            &mut all,
+            tests::mkfset(alloc, b"home"),
+            &Expected::Done,
+        );
+        gives(&rt, &mut all, tests::create(alloc, b"a"), &Expected::Done);
+        let file = place(alloc, b"a")?;
+        for flag in [true, true, false] {
+            expect(&rt, chfile(alloc, &mut all, &file, flag), &Expected::Done);
+            let is_flagged = match all.slot(&file.fileset) {
+                Some(slot) => match slot.tree.node_at(&file.path) {
+                    Some(Node::File { logged, .. }) => *logged == flag,
+                    _ => false,
+                },
+                None => false,
+            };
+            assert!(rt; is_flagged);
+        }
+        Ok(())
+    }
+
+    #[test]
+    fn a_cut_file_grows_with_zeros(rt: HostRuntime) -> Result<(), Fail> {
+        let alloc = rt.alloc();
+        let mut all = Filesets::new(alloc);
+        gives(
+            &rt,
+            &mut all,
+            tests::mkfset(alloc, b"home"),
+            &Expected::Done,
+        );
+        gives(&rt, &mut all, tests::create(alloc, b"a"), &Expected::Done);
+        let text = tests::write(alloc, b"a", 0, b"abc");
+        gives(&rt, &mut all, text, &Expected::Count(3));
+        let ends = tests::write(alloc, b"a", 8_190, b"WXYZ");
+        gives(&rt, &mut all, ends, &Expected::Count(4));
+        let file = place(alloc, b"a")?;
+        let rows: [(u64, u64, &[u8]); 6] = [
+            (10_000, 8_190, b"WXYZ\0\0"),
+            (8_193, 8_190, b"WXY"),
+            (8_191, 8_190, b"W"),
+            (8_194, 8_190, b"W\0\0\0"),
+            (2, 0, b"ab"),
+            (536_870_912, 0, b"ab\0\0\0\0"),
+        ];
+        for (size, offset, bytes) in rows {
+            expect(&rt, truncate(alloc, &mut all, &file, size), &Expected::Done);
+            gives(
+                &rt,
+                &mut all,
+                tests::read(alloc, b"a", offset, 6),
+                &Expected::Read(bytes),
+            );
+        }
+        expect(
+            &rt,
+            truncate(alloc, &mut all, &file, 536_870_913),
+            &Expected::Refused(Refusal::TooFar),
+        );
+        Ok(())
+    }
+}

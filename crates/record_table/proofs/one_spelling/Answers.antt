@@ -1,0 +1,5 @@
+use Rattle.record_table.proofs.Whole.{one_spelling}
+use Rattle.record_table.proofs.one_spelling.Goals as goal
+
+pub returns : goal.returns
+returns c = one_spelling

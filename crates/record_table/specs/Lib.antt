@@ -1,0 +1,5 @@
+pub mod Layouts
+pub mod Records
+pub mod Wrong
+pub mod Rules
+pub mod Fields

@@ -1,0 +1,117 @@
+-- The one spelling of each record, and which records the format allows.
+use Rattle.std.specs.Prelude.{◌≡◌, ℕ, ◌+◌, ◌<◌, ◌≤◌, ◌^◌, ◌⊎◌, List, [], ◌∷◌, ◌++◌, length}
+use Rattle.std.specs.List.{flat_map, AllByRecursion}
+use Rattle.byteorder.specs.Endian.{little_bytes}
+use Rattle.record_table.specs.declared.record.Record.{Record}
+use Rattle.record_table.specs.declared.record.Record.TheVariants.{Attributes, CloneFile, Extents, ShortExtents, Holes, Pending, UserQuota, GroupQuota, DirIndex, Parent, Stripe, Volume}
+use Rattle.record_table.specs.declared.record.ExtentField.{ExtentField}
+use Rattle.record_table.specs.declared.record.HoleField.{HoleField}
+use Rattle.record_table.specs.Layouts.{widths, size_of}
+
+abbrev pub kind_of : Record → ℕ
+kind_of (Attributes kind uid gid flags size keep links birth unsynced) = 1
+kind_of (CloneFile vol cell page frozen) = 2
+kind_of (Extents rows) = 3
+kind_of (ShortExtents rows) = 4
+kind_of (Holes rows) = 5
+kind_of (Pending what) = 6
+kind_of (UserQuota id files blocks) = 7
+kind_of (GroupQuota id files blocks) = 8
+kind_of (DirIndex vol page entries) = 9
+kind_of (Parent slot seq) = 10
+kind_of (Stripe width mark vols) = 11
+kind_of (Volume vol pages bitmap_pages) = 12
+
+abbrev pub extent_numbers : ExtentField → List ℕ
+extent_numbers e = e.page ∷ e.count ∷ e.vol ∷ e.first ∷ []
+
+abbrev pub hole_numbers : HoleField → List ℕ
+hole_numbers h = h.page ∷ h.count ∷ []
+
+-- the numbers in a record's fields behind its head, with the zeros that the format wants
+abbrev pub fields : Record → List ℕ
+fields (Attributes kind uid gid flags size keep links birth unsynced) = kind ∷ uid ∷ gid ∷ flags ∷ size ∷ keep ∷ links ∷ birth ∷ unsynced ∷ []
+fields (CloneFile vol cell page frozen) = 0 ∷ vol ∷ cell ∷ page ∷ frozen ∷ 0 ∷ []
+fields (Extents rows) = flat_map extent_numbers rows
+fields (ShortExtents rows) = flat_map extent_numbers rows
+fields (Holes rows) = flat_map hole_numbers rows
+fields (Pending what) = what ∷ 0 ∷ []
+fields (UserQuota id files blocks) = id ∷ 0 ∷ files ∷ blocks ∷ []
+fields (GroupQuota id files blocks) = id ∷ 0 ∷ files ∷ blocks ∷ []
+fields (DirIndex vol page entries) = vol ∷ page ∷ entries ∷ 0 ∷ []
+fields (Parent slot seq) = slot ∷ seq ∷ 0 ∷ []
+fields (Stripe width mark vols) = width ∷ mark ∷ 0 ∷ vols
+fields (Volume vol pages bitmap_pages) = vol ∷ pages ∷ bitmap_pages ∷ []
+
+-- the numbers in all fields: the head's are the kind, a zero and the length, the head's four bytes counted
+abbrev pub numbers : Record → List ℕ
+numbers r = kind_of r ∷ 0 ∷ size_of (kind_of r) ∷ fields r
+
+-- numbers one after the other, each in its width of bytes, the lowest byte first
+unfoldable pub spelled : List ℕ → List ℕ → List ℕ
+spelled [] ns = []
+spelled (w ∷ ws) [] = []
+spelled (w ∷ ws) (n ∷ ns) = little_bytes w n ++ spelled ws ns
+
+-- the one spelling of a record
+unfoldable pub spelling : Record → List ℕ
+spelling r = spelled (widths (kind_of r)) (numbers r)
+
+-- Consecutive file pages that begin at file page `from` or later, and end at or before the last one.
+pub record IsRun (from page count : ℕ) : Type 0 where
+  pub begins : from ≤ page
+  pub some : 1 ≤ count
+  pub ends : page + count ≤ 65536
+
+-- an extent of such pages
+pub record IsExtent (from : ℕ) (e : ExtentField) : Type 0 where
+  pub run : IsRun from e.page e.count
+  pub volume : e.vol ≤ 8
+  pub first : e.first < 2 ^ 32
+
+pub record NoExtent (e : ExtentField) : Type 0 where
+  pub page : e.page ≡ 0
+  pub count : e.count ≡ 0
+  pub volume : e.vol ≡ 0
+  pub first : e.first ≡ 0
+
+pub record NoHole (h : HoleField) : Type 0 where
+  pub page : h.page ≡ 0
+  pub count : h.count ≡ 0
+
+-- Extents of file pages from `from` on, each behind the end of the one before it, and zeros behind the last.
+abbrev pub AreExtents : ℕ → List ExtentField → Type 0
+AreExtents from [] = Unit {0}
+AreExtents from (e ∷ es) = (IsExtent from e × AreExtents (e.page + e.count) es) ⊎ AllByRecursion NoExtent (e ∷ es)
+
+-- holes likewise
+abbrev pub AreHoles : ℕ → List HoleField → Type 0
+AreHoles from [] = Unit {0}
+AreHoles from (h ∷ hs) = (IsRun from h.page h.count × AreHoles (h.page + h.count) hs) ⊎ AllByRecursion NoHole (h ∷ hs)
+
+-- A cell's address is a volume from 1 to 8, one of the cells 0 to 27 and a page. All zeros stand for no cell.
+abbrev pub IsCell : ℕ → ℕ → ℕ → Type 0
+IsCell vol cell page = ((vol ≡ 0) × (cell ≡ 0) × (page ≡ 0)) ⊎ (((1 ≤ vol) × (vol ≤ 8)) × (cell ≤ 27) × (page < 2 ^ 32))
+
+-- The records that the format allows. A field of which it says nothing has any number that its width holds.
+unfoldable pub Allowed : Record → Type 0
+Allowed (Attributes kind uid gid flags size keep links birth unsynced) =
+    ((1 ≤ kind) × (kind ≤ 2)) × (uid < 2 ^ 32) × (gid < 2 ^ 32) × (flags ≤ 1) × (size < 2 ^ 64) × (keep < 2 ^ 32)
+    × ((1 ≤ links) × (links ≤ 1000)) × (birth < 2 ^ 64) × (unsynced < 2 ^ 64)
+Allowed (CloneFile vol cell page frozen) = IsCell vol cell page × (frozen < 2 ^ 32)
+Allowed (Extents rows) = (length rows ≡ 16) × AreExtents 0 rows
+Allowed (ShortExtents rows) = (length rows ≡ 4) × AreExtents 0 rows
+Allowed (Holes rows) = (length rows ≡ 16) × AreHoles 0 rows
+Allowed (Pending what) = (1 ≤ what) × (what ≤ 2)
+Allowed (UserQuota id files blocks) = (id < 2 ^ 32) × (files < 2 ^ 64) × (blocks < 2 ^ 64)
+Allowed (GroupQuota id files blocks) = (id < 2 ^ 32) × (files < 2 ^ 64) × (blocks < 2 ^ 64)
+Allowed (DirIndex vol page entries) = ((1 ≤ vol) × (vol ≤ 8)) × (page < 2 ^ 32) × (entries < 2 ^ 32)
+Allowed (Parent slot seq) = (slot < 2 ^ 32) × (seq < 2 ^ 16)
+Allowed (Stripe width mark vols) = (width < 2 ^ 8) × (mark < 2 ^ 8) × (length vols ≡ 8) × AllByRecursion (λ v. v < 2 ^ 8) vols
+Allowed (Volume vol pages bitmap_pages) = (vol < 2 ^ 32) × (pages < 2 ^ 32) × (bitmap_pages < 2 ^ 32)
+
+-- the bytes begin with the spelling of the record
+pub record Begins (bytes : List ℕ) (r : Record) : Type 0 where
+  pub allowed : Allowed r
+  pub rest : List ℕ
+  pub parts : bytes ≡ spelling r ++ rest

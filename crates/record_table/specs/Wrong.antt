@@ -1,0 +1,24 @@
+-- Where bytes stop being the front of a record.
+use Rattle.std.specs.Prelude.{◌≡◌, ℕ, ◌+◌, ◌<◌, ◌≤◌, List, length, take, slice_index}
+use Rattle.record_table.specs.declared.record.Record.{Record}
+use Rattle.record_table.specs.declared.record.Bad.{Bad}
+use Rattle.record_table.specs.Layouts.{widths, start_of}
+use Rattle.record_table.specs.Records.{Allowed, spelling}
+
+-- The first n bytes are there, and some record is spelled so as far as they go.
+pub record GoesOn (bytes : List ℕ) (n : ℕ) : Type 0 where
+  pub there : n ≤ length bytes
+  pub value : Record
+  pub allowed : Allowed value
+  pub same : take n (spelling value) ≡ take n bytes
+
+-- Some record agrees with the bytes before the field at `at`, and none with the bytes up to the end
+-- of that field. So the field holds the first wrong byte, or the end of bytes that end early.
+pub record IsFirstWrong (bytes : List ℕ) (bad : Bad) : Type 0 where
+  -- the kind that the first byte names, 0 where there is none
+  pub kind : bad.kind ≡ slice_index bytes 0
+  pub field : ℕ
+  pub is_field : field < length (widths bad.kind)
+  pub at : bad.at ≡ start_of bad.kind field
+  pub before : GoesOn bytes bad.at
+  pub wrong : GoesOn bytes (start_of bad.kind (field + 1)) → ⊥

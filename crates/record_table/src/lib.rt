@@ -1,0 +1,74 @@
+//! The records of an mcell and the one spelling of each.
+//!
+//! A record is its kind, a zero byte, its length in bytes and the fields of its kind, all numbers with
+//! the lowest byte first.
+#![tactic(auto)]
+
+ghost use Rattle.std.specs.Prelude.{◌≡◌, ◌≤◌, ◌++◌, List, ℕ, Ok, length, drop, IfOk, IfErr, slice_index};
+ghost use Rattle.record_table.specs.declared.record.Record.{Record};
+ghost use Rattle.record_table.specs.Records.{Allowed, Begins, kind_of, spelling};
+ghost use Rattle.record_table.specs.Layouts.{size_of};
+ghost use Rattle.record_table.specs.Wrong.{IsFirstWrong};
+
+mod fields;
+mod layout;
+mod reading;
+mod record;
+mod rule;
+mod table;
+mod writing;
+
+pub use layout::Layout;
+pub use record::{Bad, ExtentField, HoleField, Record};
+use table::{end_of, put_record, record_at};
+
+/// The kind that the first byte names, 0 where there is none.
+fn first_kind(bytes: &[u8]) -> u8
+    ensures { result ≡ slice_index bytes.now 0 }
+{
+    match bytes {
+        [kind, ..] => *kind,
+        [] => 0,
+    }
+}
+
+/// Reads the record at the front of the bytes, and answers it with its length. Other bytes may follow.
+///
+/// `Bad` comes where no front of the bytes is the spelling of a record, with the offset of the field
+/// that holds the first wrong byte, or the end of bytes that end early.
+pub fn read_record(bytes: &[u8]) -> Result<(Record, usize), Bad>
+    // What is read is spelled at the front of the bytes.
+    ensures found { IfOk result (λ found. Begins bytes.now found.0 × (found.1 ≡ length (spelling found.0))) }
+    ensures size { IfOk result (λ found. found.1 ≡ size_of (kind_of found.0)) }
+    ensures inside { IfOk result (λ found. (12 ≤ found.1) × (found.1 ≤ length bytes.now)) }
+    // What is spelled there is read, whatever follows.
+    ensures only { (r : Record) → Begins bytes.now r → result ≡ Ok (r, length (spelling r)) }
+    ensures none { IfErr result (λ _. (r : Record) → Begins bytes.now r → ⊥) }
+    ensures first_wrong { IfErr result (IsFirstWrong bytes.now) }
+{
+    let kind = first_kind(bytes);
+    match end_of(kind, bytes) {
+        Ok(end) => Ok((record_at(kind, bytes), end)),
+        Err(at) => Err(Bad { kind, at }),
+    }
+}
+
+/// Writes the spelling of a record to the front of `out`, and answers its length. The bytes behind it
+/// stay as they were.
+pub fn write_record(value: &Record, out: &mut [u8]) -> usize
+    requires allowed { Allowed value.now }
+    requires room { size_of (kind_of value.now) ≤ length out.old }
+    ensures length { result ≡ length (spelling value.now) }
+    ensures size { result ≡ size_of (kind_of value.now) }
+    ensures written { out.new ≡ spelling value.now ++ drop result out.old }
+{
+    put_record(value, out)
+}
+
+/// No spelling begins another: bytes that begin with two are one record and the same rest.
+pub fn one_spelling()
+    ensures { (a b : Record) (x y : List ℕ) → Allowed a → Allowed b → spelling a ++ x ≡ spelling b ++ y → (a ≡ b) × (x ≡ y) }
+{}
+
+#[cfg(test)]
+mod tests;

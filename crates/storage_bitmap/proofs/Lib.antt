@@ -1,0 +1,7 @@
+pub mod Blank
+pub mod Either
+pub mod Longest
+pub mod Runs
+pub mod Used
+pub mod Walks
+pub mod Words

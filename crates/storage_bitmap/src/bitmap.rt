@@ -1,0 +1,230 @@
+//! A volume's bitmap.
+ghost use Rattle.std.specs.Prelude.{◌≡◌, ℕ, true, ◌+◌, ◌*◌, ◌<◌, ◌≤◌, IfOk};
+ghost use Rattle.std.specs.FinSet.{empty, contains, insert, remove, len};
+ghost use Rattle.storage_bitmap.specs.PageMap.{IsFirstRun, IsLongestRun};
+ghost use Rattle.storage_bitmap.specs.Bits.{ShowsMap, bitmap_bytes};
+
+use crate::walk;
+use crate::word::blank_byte;
+use std::alloc::{AllocError, Global};
+use std::marker::Model;
+
+/// Which pages of a volume are used, seen by contracts as the number of its pages and the set of
+/// the used ones. It takes one bit for each page, and keeps the number of free ones.
+#[derive(Debug, Drop)]
+pub struct Bitmap {
+    bytes: Vec<u8>,
+    pages: u32,
+    free: u32,
+}
+
+impl Model for Bitmap {
+    ghost use Rattle.storage_bitmap.specs.PageMap.{PageMap, page_map_code};
+    ghost use Rattle.storage_bitmap.specs.Bits.{used_below, IsKept};
+
+    ghost Value = { PageMap };
+
+    ghost coded = { page_map_code };
+
+    ghost view = { λ b. record { pages = b.pages; used = used_below b.bytes.items b.pages } };
+
+    ghost invariant = { λ b. IsKept b.bytes.items b.pages b.free };
+}
+
+/// The bytes of a bitmap of so many pages.
+fn bitmap_len(pages: u32) -> usize
+    ensures value { result ≡ bitmap_bytes pages }
+    ensures covers { pages ≤ 8 * result }
+{
+    8_192 * pages.div_ceil(65_536) as usize
+}
+
+impl Bitmap {
+    /// A bitmap of so many pages, none of them used.
+    pub fn new(alloc: Global, pages: u32) -> Result<Self, AllocError>
+        ensures { IfOk result (λ b. b ≡ record { pages = pages; used = empty }) }
+    {
+        let len = bitmap_len(pages);
+        let mut bytes = Vec::with_capacity(alloc, len)?;
+        for k in 0..len {
+            bytes.push(blank_byte(pages, k))?;
+        }
+        Ok(Bitmap {
+            bytes,
+            pages,
+            free: pages,
+        })
+    }
+
+    /// How many pages the volume has. Used pages lie among them.
+    pub fn pages(&self) -> u32
+        ensures value { result ≡ self.now.pages }
+        ensures within { (p : ℕ) → contains self.now.used p ≡ true → p < result }
+    {
+        self.pages
+    }
+
+    /// Whether the page is used.
+    pub fn is_used(&self, page: u32) -> bool
+        requires { page < self.now.pages }
+        ensures { result ≡ contains self.now.used page }
+    {
+        self.bytes[page as usize / 8] >> (page % 8) & 1 == 1
+    }
+
+    /// Counts the page among the used ones.
+    pub fn set(&mut self, page: u32)
+        requires { page < self.old.pages }
+        ensures { self.new ≡ record self.old { used = insert self.old.used page } }
+    {
+        if !self.is_used(page) {
+            self.bytes[page as usize / 8] |= 1 << (page % 8);
+            self.free -= 1;
+        }
+    }
+
+    /// Counts the page among the free ones.
+    pub fn clear(&mut self, page: u32)
+        requires { page < self.old.pages }
+        ensures { self.new ≡ record self.old { used = remove self.old.used page } }
+    {
+        if self.is_used(page) {
+            self.bytes[page as usize / 8] &= !(1 << (page % 8));
+            self.free += 1;
+        }
+    }
+
+    /// How many pages are free. The number is kept, so this takes no longer for a larger volume.
+    pub fn count_free(&self) -> u32
+        ensures { result + len self.now.used ≡ self.now.pages }
+    {
+        self.free
+    }
+
+    /// The first page from which `count` pages in a row are free, all of them the volume's; None
+    /// exactly where no such run is. A run of no page is at page 0.
+    pub fn first_run(&self, count: u32) -> Option<u32>
+        ensures { IsFirstRun self.now 0 count result }
+    {
+        self.first_run_from(0, count)
+    }
+
+    /// The same among the runs that begin at page `from` or later. A run of no page is at `from`,
+    /// unless that lies past the end of the volume.
+    pub fn first_run_from(&self, from: u32, count: u32) -> Option<u32>
+        ensures { IsFirstRun self.now from count result }
+    {
+        if count == 0 {
+            return if from <= self.pages { Some(from) } else { None };
+        }
+        let words = self.pages.div_ceil(64) as usize;
+        let start = walk::first_run(self.bytes.as_slice(), words, from as usize, count as usize)?;
+        Some(start as u32)
+    }
+
+    /// How many pages the longest run of free pages has.
+    pub fn longest_run(&self) -> u32
+        ensures { IsLongestRun self.now result }
+    {
+        let mut short = 0;
+        let mut most = self.pages;
+        while short < most {
+            let middle = most - (most - short) / 2;
+            if self.first_run(middle).is_some() {
+                short = middle;
+            } else {
+                most = middle - 1;
+            }
+        }
+        short
+    }
+
+    /// The bitmap as a volume keeps it: bit p mod 8 of byte p / 8, the lowest first, is 1 exactly
+    /// where page p is used or lies past the last page. It is whole pages of 8,192 bytes, one for
+    /// each 65,536 pages of the volume.
+    pub fn bytes(&self) -> &[u8]
+        ensures { ShowsMap self.now result.now }
+    {
+        self.bytes.as_slice()
+    }
+}
+
+#[cfg(test)]
+mod tests {
+    use super::*;
+    use std::test::Fail;
+
+    fn with_used(alloc: Global, pages: u32, used: &[u32]) -> Result<Bitmap, AllocError>
+        ensures { IfOk result (λ b. b.pages ≡ pages) }
+    {
+        let mut map = Bitmap::new(alloc, pages)?;
+        for page in used {
+            if *page < pages {
+                map.set(*page);
+            }
+        }
+        Ok(map)
+    }
+
+    #[test]
+    fn finds_the_first_run(rt: HostRuntime) -> Result<(), Fail> {
+        let mut map = with_used(rt.alloc(), 64, &[0, 1, 2, 3, 4, 5, 6, 7, 8, 9, 20])?;
+        assert_eq!(rt; map.count_free(), 53);
+        for (count, want) in [
+            (0, Some(0)),
+            (1, Some(10)),
+            (10, Some(10)),
+            (11, Some(21)),
+            (43, Some(21)),
+            (44, None),
+        ] {
+            assert_eq!(rt; map.first_run(count), want, "a run of {count}");
+        }
+        assert_eq!(rt; map.longest_run(), 43);
+        map.clear(20);
+        map.clear(20);
+        assert_eq!(rt; map.count_free(), 54);
+        assert_eq!(rt; map.first_run(44), Some(10));
+        Ok(())
+    }
+
+    #[test]
+    fn finds_runs_over_several_words(rt: HostRuntime) -> Result<(), Fail> {
+        let map = with_used(rt.alloc(), 400, &[0, 50, 100, 360])?;
+        for (from, count, want) in [
+            (0, 49, Some(1)),
+            (0, 50, Some(101)),
+            (2, 49, Some(51)),
+            (150, 210, Some(150)),
+            (151, 210, None),
+            (361, 39, Some(361)),
+            (361, 40, None),
+            (400, 1, None),
+        ] {
+            assert_eq!(rt;
+                map.first_run_from(from, count),
+                want,
+                "a run of {count} from {from}"
+            );
+        }
+        assert_eq!(rt; map.longest_run(), 259);
+        Ok(())
+    }
+
+    #[test]
+    fn bytes_end_in_ones(rt: HostRuntime) -> Result<(), Fail> {
+        let map = with_used(rt.alloc(), 70, &[0, 9, 65])?;
+        let bytes = map.bytes();
+        assert_eq!(rt; bytes.len(), 8_192);
+        assert_eq!(rt;
+            &bytes[..10],
+            [1, 2, 0, 0, 0, 0, 0, 0, 0xc2, 0xff].as_slice()
+        );
+        assert_eq!(rt;
+            bytes[10..].iter().filter(|byte| **byte == 0xff).count(),
+            8_182
+        );
+        assert!(rt; map.is_used(65) && !map.is_used(64));
+        Ok(())
+    }
+}
