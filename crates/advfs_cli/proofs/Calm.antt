@@ -6,9 +6,10 @@ use Rattle.std.specs.List.{All, Contains}
 use Rattle.std.specs.Option.{option_map_or}
 use Rattle.std.specs.FinMap as finite
 use Rattle.domain_base.specs.declared.limits.TheConstants.{BLOCKS_PER_PAGE, FILE_BYTES}
-use Rattle.fileset_model.specs.Apply.{Answers, AnswersIfMemory, Changes, absent_pages, answer_of, create_checks, filesets_full, has_clone, in_fileset, is_clone, move_checks, name_taken, not_empty, of_node, out_of_sync, quota_of, read_checks, read_of, read_only, refusal_of, rename_checks, replace_checks, stat_of, write_checks, write_quota}
+use Rattle.fileset_model.specs.Apply.{Answers, AnswersIfMemory, Changes, answer_of, create_checks, filesets_full, has_clone, in_fileset, is_clone, move_checks, name_taken, not_empty, of_node, out_of_sync, quota_of, read_checks, read_of, read_only, refusal_of, rename_checks, replace_checks, stat_of, write_checks, write_quota}
 use Rattle.fileset_model.specs.Fileset.{Fileset}
 use Rattle.fileset_model.specs.Orders.{Name, Path}
+use Rattle.fileset_model.specs.Pages.{absent_pages}
 use Rattle.fileset_model.specs.Paths.{directories_to, directory_here, directory_refusal, file_here, first_refusal, is_directory, is_marked, node_at, refuse_if, rows_of, same_path, target_refusal, walk_refusal}
 use Rattle.fileset_model.specs.State.{FilesetMap}
 use Rattle.fileset_model.specs.Usage.{blocks_refusal, files_refusal, quota_refusal}
@@ -95,7 +96,7 @@ quota tree uid gid files blocks = first (of (User uid) ∷ of (Group gid) ∷ of
 
 written : (tree : Fileset) (offset : ℕ) (bytes : List ℕ) (node : Node) → Check (write_quota tree offset bytes node)
 unfolding Check
-written tree offset bytes (File uid gid size logged pages) = quota tree uid gid 0 (BLOCKS_PER_PAGE * absent_pages pages offset bytes)
+written tree offset bytes (File uid gid size logged pages) = quota tree uid gid 0 (BLOCKS_PER_PAGE * absent_pages pages offset (length bytes))
 written tree offset bytes (Directory uid gid) = tt
 
 in_one : (all : FilesetMap) (name : Name) (checks : FilesetSlot → List (Option Refusal)) → ((slot : FilesetSlot) → Checks (checks slot)) → Check (in_fileset all name checks)

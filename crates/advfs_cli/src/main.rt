@@ -44,11 +44,12 @@ fn words_given(rt: &impl Env, alloc: Global) -> Result<Vec<String>, OutOfMemory>
     let mut buffer = zeros(alloc, WORD_BYTES)?;
     let mut words = Vec::new(alloc);
     for i in 1..usize::MAX {
-        let word = match rt.arg(i, &mut buffer) {
-            Ok(length) => str::from_utf8(&buffer[..length]).unwrap_or(""),
-            Err(FillError::TooLong) => "",
+        let length = match rt.arg(i, &mut buffer) {
+            Ok(length) => length,
+            Err(FillError::TooLong) => 0,
             Err(FillError::NotPresent) => break,
         };
+        let word = str::from_utf8(&buffer[..length]).unwrap_or("");
         words.push(String::from_str(alloc, word)?)?;
     }
     Ok(words)
