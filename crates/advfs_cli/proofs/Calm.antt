@@ -67,7 +67,6 @@ unfolding Checks
 mapped f each [] = tt
 mapped f each (x ∷ xs) = (each x, mapped f each xs)
 
-
 in_directory : (slot : FilesetSlot) (path : Path) → Check (directory_refusal slot path)
 unfolding IsCalm Check Checks
 in_directory slot path =
@@ -126,15 +125,32 @@ moves from to slot =
 
 renamed : (from to : Path) (slot : FilesetSlot) → Checks (rename_checks from to slot)
 unfolding IsCalm Check Checks
-renamed from to slot =
-    (refused_if _ _ tt, (target slot from, (walk slot to,
-      (chosen (same_path from to) None (first_refusal (move_checks from to slot)) tt (first (move_checks from to slot) (moves from to slot)), tt))))
+renamed from to slot = (
+  refused_if _ _ tt,
+  (
+    target slot from,
+    (
+      walk slot to,
+      (chosen (same_path from to) None (first_refusal (move_checks from to slot)) tt (first (move_checks from to slot) (moves from to slot)), tt),
+    ),
+  ),
+)
 
 writes : (path : Path) (offset : ℕ) (bytes : List ℕ) (slot : FilesetSlot) → Checks (write_checks path offset bytes slot)
 unfolding IsCalm Check Checks
-writes path offset bytes slot =
-    (refused_if _ _ tt, (target slot path, (refused_if _ _ tt, (refused_if _ _ tt,
-      (map_or Check (write_quota slot.tree offset bytes) (node_at slot.tree path) None (written slot.tree offset bytes) tt, tt)))))
+writes path offset bytes slot = (
+  refused_if _ _ tt,
+  (
+    target slot path,
+    (
+      refused_if _ _ tt,
+      (
+        refused_if _ _ tt,
+        (map_or Check (write_quota slot.tree offset bytes) (node_at slot.tree path) None (written slot.tree offset bytes) tt, tt),
+      ),
+    ),
+  ),
+)
 
 refusals : (all : FilesetMap) (c : Command) → Check (refusal_of all c)
 unfolding IsCalm Check Checks

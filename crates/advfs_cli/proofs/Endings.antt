@@ -40,7 +40,7 @@ pub Follows-from_answers : (left : Option (List ℕ)) (bytes : List ℕ) (stamp 
 Follows-from_answers left bytes stamp history answers = record {
   script = answers.script;
   is_script = answers.is_script;
-  shuffle = Shuffle-from_answers answers.script stamp history (mover-None bytes answers.script answers.is_script.says) answers.answers
+  shuffle = Shuffle-from_answers answers.script stamp history (mover-None bytes answers.script answers.is_script.says) answers.answers;
 }
 
 pub HasRead-from_follows : (left : Option (List ℕ)) (bytes : List ℕ) (history : List Entry) → Follows left bytes history → HasRead left bytes status.Ok history

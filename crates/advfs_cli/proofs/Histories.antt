@@ -18,7 +18,7 @@ GoesOn-turn client stamp command reply old all all' answered = record {
   turns_are = map-append turn_of old _;
   clients = λ h. All-push IsClients old _ h (client, refl);
   stamps = λ h. All-push (λ e. e.stamp ≡ stamp) old _ h refl;
-  plain = λ first before. entry before _ all' answered
+  plain = λ first before. entry before _ all' answered;
 }
 
 pub GoesOn-none : (stamp : ℕ) (old : List Entry) (all : FilesetMap) → GoesOn [] stamp old all old all
@@ -26,7 +26,7 @@ GoesOn-none stamp old all = record {
   turns_are = sym (append-nil (map turn_of old));
   clients = λ h. h;
   stamps = λ h. h;
-  plain = λ first before. before
+  plain = λ first before. before;
 }
 
 pub GoesOn-more : (turns next : List Turn) (stamp : ℕ) (a b c : List Entry) (x y z : FilesetMap)
@@ -35,5 +35,5 @@ GoesOn-more turns next stamp a b c x y z first second = record {
   turns_are = second.turns_are ∙ ap (λ l. l ++ next) first.turns_are ∙ append_assoc (map turn_of a) turns next;
   clients = λ h. second.clients (first.clients h);
   stamps = λ h. second.stamps (first.stamps h);
-  plain = λ before h. second.plain before (first.plain before h)
+  plain = λ before h. second.plain before (first.plain before h);
 }

@@ -46,8 +46,11 @@ pick_role role (CloneOf name out) is original clone = clone name out is
 GainsMarks-refl : (Allowed : Name → FilesetSlot → ℕ → Type 0) (all : FilesetMap) → GainsMarks Allowed all all
 GainsMarks-refl Allowed all name =
     pick (finite.get all name) (finite.get all name) refl (λ none. rw none refl)
-    (λ slot some. rw some (refl, pick_role slot.role slot.role refl (λ original. rw original refl)
-      (λ original out clone. rw clone (refl, (λ number marked. marked), (λ number marked unmarked. absurd (cc))))))
+    (λ slot some. rw some (
+      refl,
+      pick_role slot.role slot.role refl (λ original. rw original refl)
+          (λ original out clone. rw clone (refl, (λ number marked. marked), (λ number marked unmarked. absurd (cc)))),
+    ))
 
 -- ---- the chain
 
@@ -65,7 +68,7 @@ may_follow : (pages stamp : ℕ) (history : List Entry) (all : FilesetMap) (e : 
 may_follow pages stamp history all e plain client stamps last = record {
   stamp = All-weaker (λ (before : Entry). before.stamp ≡ stamp) (λ (before : Entry). before.stamp ≤ e.stamp) (λ before is. omega (arith, is, last)) history stamps;
   panicked = λ volume found. absurd (no_panic finite.empty history all e volume plain found);
-  actor = subst (λ (actor : Actor). IsForActor actor e.command None) (sym client.1) (λ impossible. impossible)
+  actor = subst (λ (actor : Actor). IsForActor actor e.command None) (sym client.1) (λ impossible. impossible);
 }
 
 -- where a chain over such a history has come to
@@ -81,9 +84,11 @@ chain_of pages stamp _ _ (plain_entry {history} {all} before e new is) clients s
     let c = chain_of pages stamp history all before (All-front IsClients history e clients) (All-front (λ e. e.stamp ≡ stamp) history e stamps) in
     let point : Point = record { state = record (empty_state pages) { filesets = all }; job = None; most = c.0; changed = c.1 } in
     let follows = may_follow pages stamp history all e before (All-last IsClients history e clients) (All-front (λ e. e.stamp ≡ stamp) history e stamps) (All-last (λ e. e.stamp ≡ stamp) history e stamps) in
-    let next = one_more c.2 e (record (empty_state pages) { filesets = new }) follows (step_of history point e new is) in
-    (max c.0 (room (record (empty_state pages) { filesets = new })), c.1 ++ changed_by_entry all e,
-      subst (λ (job : Option _). Chain (empty_state pages) (history ++ e ∷ []) (record { state = record (empty_state pages) { filesets = new }; job = job; most = max c.0 (room (record (empty_state pages) { filesets = new })); changed = c.1 ++ changed_by_entry all e })) (job_none e.actor) next)
+    let next = one_more c.2 e (record (empty_state pages) { filesets = new }) follows (step_of history point e new is) in (
+      max c.0 (room (record (empty_state pages) { filesets = new })),
+      c.1 ++ changed_by_entry all e,
+      subst (λ (job : Option _). Chain (empty_state pages) (history ++ e ∷ []) (record { state = record (empty_state pages) { filesets = new }; job = job; most = max c.0 (room (record (empty_state pages) { filesets = new })); changed = c.1 ++ changed_by_entry all e })) (job_none e.actor) next,
+    )
 
 -- a history that answers a script is legal
 pub IsLegal-from_answers : (script : Script) (stamp : ℕ) (history : List Entry) (pages : ℕ) → AnswersScript script stamp history → IsLegal pages history
@@ -93,7 +98,7 @@ IsLegal-from_answers script stamp history pages answers =
     record {
       all = answers.all;
       plain = answers.plain;
-      legal = record { point = _; chain = c.2; running = refl; ends = refl }
+      legal = record { point = _; chain = c.2; running = refl; ends = refl };
     }
 
 -- and so is the one without entries
@@ -101,5 +106,5 @@ pub IsLegal-none : (pages : ℕ) (history : List Entry) → history ≡ [] → I
 IsLegal-none pages history none = rw none (record {
   all = finite.empty;
   plain = plain_none;
-  legal = record { point = _; chain = no_entry; running = refl; ends = refl }
+  legal = record { point = _; chain = no_entry; running = refl; ends = refl };
 })

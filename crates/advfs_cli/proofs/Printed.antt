@@ -34,7 +34,7 @@ AppendsFront-lines a b history i printed = record {
   front = history_text (take i history);
   rest = history_text (drop i history);
   whole = history_text-split history i;
-  grown = printed
+  grown = printed;
 }
 
 -- and so are they with a part of the next line
@@ -48,7 +48,7 @@ AppendsFront-line a b c history i e line within here is first part =
       front = history_text (take i history) ++ part.front;
       rest = part.rest ++ history_text (drop (suc i) history);
       whole = history_text-split history i
-        ∙ ap (λ l. history_text (take i history) ++ l) (next ∙ append_assoc part.front part.rest (history_text (drop (suc i) history)))
-        ∙ sym (append_assoc (history_text (take i history)) part.front (part.rest ++ history_text (drop (suc i) history)));
-      grown = Appends-trans a b c _ _ first part.grown
+          ∙ ap (λ l. history_text (take i history) ++ l) (next ∙ append_assoc part.front part.rest (history_text (drop (suc i) history)))
+          ∙ sym (append_assoc (history_text (take i history)) part.front (part.rest ++ history_text (drop (suc i) history)));
+      grown = Appends-trans a b c _ _ first part.grown;
     }

@@ -26,7 +26,7 @@ AnswersScript-none script stamp history empty none_given = rw none_given (record
   clients = All-nil IsClients;
   stamps = All-nil (λ e. e.stamp ≡ stamp);
   all = finite.empty;
-  plain = none
+  plain = none;
 })
 
 only_one : (sections rest : List Section) (section : Section) → sections ≡ rest ++ section ∷ [] → length sections ≤ 1 → sections ≡ section ∷ []
@@ -41,13 +41,13 @@ pub AnswersScript-one : (script : Script) (stamp : ℕ) (rest : List Section) (s
 AnswersScript-one script stamp rest section old history first all is few none_before empty goes =
     let begins : GoesOn (turns_of section) stamp [] finite.empty history all =
     subst (λ before. GoesOn (turns_of section) stamp before finite.empty history all) none_before
-      (subst (λ start. GoesOn (turns_of section) stamp old start history all) empty goes) in
+    (subst (λ start. GoesOn (turns_of section) stamp old start history all) empty goes) in
     record {
       turns_are = rw (only_one _ rest section is few) (begins.turns_are ∙ sym (append-nil (turns_of section)));
       clients = begins.clients (All-nil IsClients);
       stamps = begins.stamps (All-nil (λ e. e.stamp ≡ stamp));
       all = all;
-      plain = begins.plain finite.empty none
+      plain = begins.plain finite.empty none;
     }
 
 -- a script that the grammar reads has one client section at most, and none of the mover
@@ -58,12 +58,13 @@ read_script_is text script says = from_bad (first_bad [] (lines text)) says
     few : (o : Option Section) → length (option_to_list o) ≤ 1
     few None = omega arith
     few (Some section) = omega arith
+
     from_bad : (bad : Option BadLine)
         → unwrap_or (option_map Err bad) (Ok (record { clients = option_to_list (section_in (lines text)); mover = None })) ≡ Ok script
         → (length script.clients ≤ 1) × (script.mover ≡ None)
     from_bad None is =
-      let same : record { clients = option_to_list (section_in (lines text)); mover = None } ≡ script = cc in
-      (subst (λ (s : Script). length s.clients ≤ 1) same (few (section_in (lines text))), ap (λ (s : Script). s.mover) (sym same))
+        let same : record { clients = option_to_list (section_in (lines text)); mover = None } ≡ script = cc in
+        (subst (λ (s : Script). length s.clients ≤ 1) same (few (section_in (lines text))), ap (λ (s : Script). s.mover) (sym same))
     from_bad (Some bad) is = absurd (cc)
 
 pub length-clients : (text : List ℕ) (script : Script) → script_of text ≡ Ok script → length script.clients ≤ 1

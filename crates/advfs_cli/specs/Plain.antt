@@ -17,7 +17,7 @@ use Rattle.script_text.specs.declared.script.Section.{Section}
 pub data Plain (first : FilesetMap) : List Entry → FilesetMap → Type 0 where
   none : Plain first [] first
   entry : {history : List Entry} {all : FilesetMap} → Plain first history all → (e : Entry) (new : FilesetMap) → AnswersIfMemory all e.command e.reply new
-    → Plain first (history ++ e ∷ []) new
+      → Plain first (history ++ e ∷ []) new
 
 -- who gives a command, and the command
 abbrev pub Turn : Type 0

@@ -1,5 +1,6 @@
 //! The program: reads a script, runs its commands over new filesets, and prints the history.
 #![tactic(auto)]
+
 ghost use Rattle.std.specs.Prelude.{◌≡◌, [], ◌∷◌, IfOk, map, string_bytes};
 ghost use Rattle.volume_disk.specs.Memory.{memory_disk};
 ghost use Rattle.advfs_cli.specs.Usage.{form_of};
@@ -10,11 +11,10 @@ pub mod run;
 pub mod sinks;
 pub mod sources;
 pub mod status;
-pub mod transfer;
-pub mod words;
-
 #[cfg(test)]
 mod tests;
+pub mod transfer;
+pub mod words;
 
 use domain_base::OutOfMemory;
 use gates::NoGate;
@@ -23,10 +23,9 @@ use sources::ReaderSource;
 use status::Status;
 use std::alloc::Global;
 use std::env::FillError;
-use std::io;
 use std::process::ExitCode;
 use std::rt::Env;
-use std::str;
+use std::{io, str};
 use transfer::{write_all, zeros};
 use volume_disk::MemoryRack;
 use words::pages_asked;
@@ -34,7 +33,8 @@ use words::pages_asked;
 /// The bytes that a word of the command line may have.
 const WORD_BYTES: usize = 131_072;
 
-const HELP: &[u8] = b"usage: advfs try PAGES < SCRIPT\n\nRuns the commands of a script over new filesets on a volume in memory of PAGES pages, from\n160 to 65536, and prints each command with its reply.\n";
+const HELP: &[u8] =
+    b"usage: advfs try PAGES < SCRIPT\n\nRuns the commands of a script over new filesets on a volume in memory of PAGES pages, from\n160 to 65536, and prints each command with its reply.\n";
 
 const VERSION: &[u8] = b"advfs 0.1.0\n";
 
@@ -86,7 +86,14 @@ fn start(rt: &(impl Env + Input + Print), alloc: Global) -> Result<Status, OutOf
     }
     let rack = rack_asked(alloc, words.as_slice())?;
     let mut source = ReaderSource::new(rt.reader());
-    let ended = run::run(alloc, words.as_slice(), &mut source, rack, &mut sink, &NoGate);
+    let ended = run::run(
+        alloc,
+        words.as_slice(),
+        &mut source,
+        rack,
+        &mut sink,
+        &NoGate,
+    );
     Ok(ended.status)
 }
 

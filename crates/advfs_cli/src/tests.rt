@@ -10,9 +10,11 @@ use std::alloc::{AllocError, Global};
 use std::process::Abort;
 use std::test::Fail;
 
-const FIRST: &[u8] = b"client 1\nmkfset home\ncreate home:/a 10 20\nwrite home:/a 0 \"abc\"\nread home:/a 0 3\n";
+const FIRST: &[u8] =
+    b"client 1\nmkfset home\ncreate home:/a 10 20\nwrite home:/a 0 \"abc\"\nread home:/a 0 3\n";
 
-const FIRST_TEXT: &[u8] = b"c1 mkfset home -> ok\nc1 create home:/a 10 20 -> ok\nc1 write home:/a 0 61.62.63 -> ok 3\nc1 read home:/a 0 3 -> ok 61.62.63\n";
+const FIRST_TEXT: &[u8] =
+    b"c1 mkfset home -> ok\nc1 create home:/a 10 20 -> ok\nc1 write home:/a 0 61.62.63 -> ok 3\nc1 read home:/a 0 3 -> ok 61.62.63\n";
 
 const TRY: &[&str] = &["try", "512"];
 
@@ -42,7 +44,14 @@ fn check(rt: &impl Abort, alloc: Global, case: &Case) -> Result<(), Fail> {
     let mut source = MemorySource::new(script, Vec::from_slice(alloc, case.source_fails)?);
     let mut sink = MemorySink::new(alloc, Vec::from_slice(alloc, case.sink_fails)?);
     let rack = rack_asked(alloc, words.as_slice())?;
-    let ended = run(alloc, words.as_slice(), &mut source, rack, &mut sink, &NoGate);
+    let ended = run(
+        alloc,
+        words.as_slice(),
+        &mut source,
+        rack,
+        &mut sink,
+        &NoGate,
+    );
     assert_eq!(rt; ended.status, case.status);
     assert_eq!(rt; ended.status.exit_number(), case.exit_number);
     assert_eq!(rt; sink.bytes(), case.text);
@@ -138,7 +147,14 @@ fn a_script_of_one_byte_too_many_is_refused(rt: HostRuntime) -> Result<(), Fail>
     let mut source = MemorySource::new(long, Vec::new(alloc));
     let mut sink = MemorySink::new(alloc, Vec::new(alloc));
     let rack = rack_asked(alloc, words.as_slice())?;
-    let ended = run(alloc, words.as_slice(), &mut source, rack, &mut sink, &NoGate);
+    let ended = run(
+        alloc,
+        words.as_slice(),
+        &mut source,
+        rack,
+        &mut sink,
+        &NoGate,
+    );
     assert_eq!(rt; ended.status, Status::TooLong);
     assert_eq!(rt; ended.status.exit_number(), 4);
     Ok(())

@@ -7,5 +7,5 @@ use Rattle.advfs_cli.proofs.print.print_history.Given as goal
 abbrev pub invariant-loop-entry : goal.invariant-loop-entry
 invariant-loop-entry g l = record {
   printed : Appends (g.K.Sink.held l.initial.sink) (g.K.Sink.held l.sink) (history_text (take l.entry-index l.history));
-  count : g.K.Sink.faults l.initial.sink ≤ g.K.Sink.faults l.sink
+  count : g.K.Sink.faults l.initial.sink ≤ g.K.Sink.faults l.sink;
 }

@@ -8,5 +8,5 @@ abbrev pub invariant-loop-command : goal.invariant-loop-command
 invariant-loop-command g l = record {
   turns : GoesOn (map (λ command. (Client l.client, command)) l.yielded) l.stamp l.initial.history.items l.initial.filesets l.history.items l.filesets;
   len : vec_len l.history ≡ vec_len l.initial.history + length l.yielded;
-  room : vec_capacity l.history ≡ vec_capacity l.initial.history
+  room : vec_capacity l.history ≡ vec_capacity l.initial.history;
 }

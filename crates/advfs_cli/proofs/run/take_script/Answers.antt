@@ -19,9 +19,12 @@ returns-in_err-script-clause-taken g c =
 
 pub returns-clause-taken : goal.returns-clause-taken
 returns-clause-taken g c =
-    let r = c.in_ok-text.ensures.taken in
-    (r.0, r.1, record {
-      short = IsShort-from_bound _ r.2.1;
-      ended = c.in_ok-text.ensures.ended;
-      says = subst (λ (bytes : List ℕ). script_of bytes ≡ Ok c.in_ok-script.script) (c.as_slice.ensures.value ∙ r.2.0) c.in_ok-script.ensures.read
-    })
+    let r = c.in_ok-text.ensures.taken in (
+      r.0,
+      r.1,
+      record {
+        short = IsShort-from_bound _ r.2.1;
+        ended = c.in_ok-text.ensures.ended;
+        says = subst (λ (bytes : List ℕ). script_of bytes ≡ Ok c.in_ok-script.script) (c.as_slice.ensures.value ∙ r.2.0) c.in_ok-script.ensures.read;
+      },
+    )

@@ -14,7 +14,7 @@ loop-bytes-preserved g c =
       short = grind (arith, common_steps);
       taken = subst (Consumes _ _) (sym same) (Consumes-trans _ _ _ _ _ c.loop-bytes.invariant.taken c.in_ok-taken.ensures.bytes.0);
       count = grind (arith, common_steps);
-      room = grind (arith, common_steps)
+      room = grind (arith, common_steps);
     }
 
 pub returns-in_err-extend_from_slice-clause-taken : goal.returns-in_err-extend_from_slice-clause-taken

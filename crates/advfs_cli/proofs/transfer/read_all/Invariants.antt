@@ -8,7 +8,7 @@ invariant-loop-bytes g l = record {
   short : vec_len l.bytes ≤ l.limit + 1;
   taken : Consumes (g.S.Source.left l.initial.source) (g.S.Source.left l.source) l.bytes.items;
   count : g.S.Source.faults l.initial.source ≤ g.S.Source.faults l.source;
-  room : vec_len l.piece ≡ 65536
+  room : vec_len l.piece ≡ 65536;
 }
 
 abbrev pub decreases-loop-bytes : goal.decreases-loop-bytes

@@ -10,7 +10,7 @@ pub loop-written-preserved : goal.loop-written-preserved
 loop-written-preserved g c = record {
   within = grind (arith, common_steps);
   front = Appends-front _ _ _ _ _ _ c.loop-written.invariant.front (rw take_rest at c.in_ok-written.ensures.bytes);
-  count = grind (arith, common_steps)
+  count = grind (arith, common_steps);
 }
 
 pub returns-in_err-written-clause-err : goal.returns-in_err-written-clause-err
@@ -20,5 +20,5 @@ returns-in_err-written-clause-err g c =
       front = take c.loop-written.written c.args.text.now;
       rest = drop c.loop-written.written c.args.text.now;
       whole = sym (take-append-drop c.loop-written.written c.args.text.now);
-      grown = Appends-kept _ _ _ _ c.loop-written.invariant.front c.in_err-written.ensures.bytes
+      grown = Appends-kept _ _ _ _ c.loop-written.invariant.front c.in_err-written.ensures.bytes;
     })

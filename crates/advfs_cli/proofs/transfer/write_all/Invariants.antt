@@ -7,7 +7,7 @@ abbrev pub invariant-loop-written : goal.invariant-loop-written
 invariant-loop-written g l = record {
   within : l.written ≤ length l.text;
   front : Appends (g.K.Sink.held l.initial.sink) (g.K.Sink.held l.sink) (take l.written l.text);
-  count : g.K.Sink.faults l.initial.sink ≤ g.K.Sink.faults l.sink
+  count : g.K.Sink.faults l.initial.sink ≤ g.K.Sink.faults l.sink;
 }
 
 abbrev pub decreases-loop-written : goal.decreases-loop-written
