@@ -1,0 +1,79 @@
+-- Which anchor is the domain's. The slots of all volumes are numbered from 0, in the order of volume and slot.
+use Rattle.std.specs.Prelude.{◌≡◌, ◌⊎◌, ◌==◌, ◌+◌, ◌-◌, ◌*◌, ◌/◌, ◌%◌, ◌<◌, ◌≤◌, ℕ, nat_le, if◌then◌else◌, List, Option, Some, None, IsSome}
+use Rattle.volume_disk.specs.Disk.{Disk, MayLeaveTorn, pages_of}
+use Rattle.volume_disk.specs.Image.{Image, bytes_at}
+use Rattle.disk_label.specs.Body.{anchor_from, HasLogMember}
+use Rattle.disk_label.specs.declared.anchor.Anchor.{Anchor}
+
+-- the volume of a slot
+abbrev pub volume_of : ℕ → ℕ
+volume_of place = place / 2 + 1
+
+-- the byte of its gate, a block behind which its body stands
+abbrev pub gate_of : ℕ → ℕ
+gate_of place = 8192 + 4096 * (place % 2)
+
+-- what stands in it, whether it counts or not
+abbrev pub anchor_at : Image → ℕ → Anchor
+anchor_at image place = anchor_from (bytes_at image (volume_of place) (gate_of place + 512) 512) (place % 2)
+
+-- the anchor there counts: its gate is open, it stands on the log volume that it names, and that is a member in it
+pub record Counts (sizes : List ℕ) (image : Image) (place : ℕ) : Type 0 where
+  pub there : 2 ≤ pages_of sizes (volume_of place)
+  pub is_open : image (volume_of place) (gate_of place) ≡ 165
+  pub names : (anchor_at image place).log_vol ≡ volume_of place
+  pub member : HasLogMember (anchor_at image place)
+
+-- what is found in a slot: an anchor that counts, or none
+abbrev pub StandsAt : List ℕ → Image → ℕ → Option Anchor → Type 0
+StandsAt sizes image place None = ¬ Counts sizes image place
+StandsAt sizes image place (Some anchor) = Counts sizes image place × (anchor_at image place ≡ anchor)
+
+-- of the slots below n it counts, with the greatest number, and before any other with that number
+pub record IsGreatest (n : ℕ) (sizes : List ℕ) (image : Image) (anchor : Anchor) : Type 0 where
+  pub place : ℕ
+  pub below : place < n
+  pub counts : Counts sizes image place
+  pub is : anchor_at image place ≡ anchor
+  pub greatest : (p : ℕ) → p < n → Counts sizes image p → (anchor_at image p).number ≤ anchor.number
+  pub first : (p : ℕ) → p < place → Counts sizes image p → (anchor_at image p).number < anchor.number
+
+-- the anchor of the slots below n, or none where none counts
+abbrev pub IsAnchorBelow : ℕ → List ℕ → Image → Option Anchor → Type 0
+IsAnchorBelow n sizes image None = (p : ℕ) → p < n → ¬ Counts sizes image p
+IsAnchorBelow n sizes image (Some anchor) = IsGreatest n sizes image anchor
+
+-- the one with the greater number, and the first of two with one number
+abbrev pub greater_of : Option Anchor → Option Anchor → Option Anchor
+greater_of best None = best
+greater_of None (Some found) = Some found
+greater_of (Some best) (Some found) = Some (if nat_le found.number best.number then best else found)
+
+-- the domain's anchor in an image of a rack with volumes of these sizes
+abbrev pub IsAnchor : List ℕ → Image → Option Anchor → Type 0
+IsAnchor sizes image anchor = IsAnchorBelow 16 sizes image anchor
+
+-- an anchor that may be written: its log stands on a member, and it has a table
+pub record IsWhole (anchor : Anchor) : Type 0 where
+  pub volume : (1 ≤ anchor.log_vol) × (anchor.log_vol ≤ 8)
+  pub slot : anchor.slot ≤ 1
+  pub member : HasLogMember anchor
+  pub table : IsSome anchor.table
+
+-- the slot that an anchor names
+abbrev pub place_of : Anchor → ℕ
+place_of anchor = 2 * (anchor.log_vol - 1) + anchor.slot
+
+-- it has the next number, and takes the slot of its log volume that does not hold the domain's anchor
+abbrev pub IsNext : Option Anchor → Anchor → Type 0
+IsNext None new = (new.number ≡ 1) × (new.slot ≡ 0)
+IsNext (Some old) new = (new.number ≡ old.number + 1) × (new.slot ≡ (if new.log_vol == old.log_vol then 1 - old.slot else 0))
+
+-- each image that a stop might leave has the old anchor, or none where there is none, whatever it has for the gate of
+-- the new one
+abbrev pub HasBefore : Disk → Option Anchor → Anchor → Type 0
+HasBefore disk old new = (image : Image) → MayLeaveTorn new.log_vol (8192 + 4096 * new.slot) 512 disk.now image → IsAnchor disk.sizes image old
+
+-- an image has the old anchor, or none where there was none, or the new one
+abbrev pub IsOldOrNew : List ℕ → Option Anchor → Anchor → Image → Type 0
+IsOldOrNew sizes old new image = IsAnchor sizes image old ⊎ IsAnchor sizes image (Some new)

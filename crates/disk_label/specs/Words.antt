@@ -1,0 +1,21 @@
+-- The fields of an anchor in their order, as numbers of four bytes.
+use Rattle.std.specs.List.{flat_map}
+use Rattle.std.specs.Prelude.{◌^◌, ◌%◌, ◌/◌, ℕ, List, [], ◌∷◌, ◌++◌, Option, Some, None}
+use Rattle.domain_base.specs.declared.place.Home.{Home}
+use Rattle.disk_label.specs.declared.anchor.Anchor.{Anchor}
+use Rattle.disk_label.specs.declared.anchor.Member.{Member}
+
+abbrev pub home_words : Option Home → List ℕ
+home_words None = 0 ∷ 0 ∷ []
+home_words (Some home) = home.vol ∷ home.page ∷ []
+
+abbrev pub member_words : Member → List ℕ
+member_words member = member.pages ∷ member.state ∷ []
+
+abbrev pub words_of : Anchor → List ℕ
+words_of anchor =
+    (
+    anchor.number % 2 ^ 32 ∷ anchor.number / 2 ^ 32 ∷ anchor.version ∷ anchor.log_vol ∷ anchor.log_page ∷ anchor.log_pages ∷ anchor.start
+    ∷ 0 ∷ anchor.group % 2 ^ 32 ∷ anchor.group / 2 ^ 32 ∷ []
+    )
+    ++ home_words anchor.table ++ flat_map member_words anchor.members

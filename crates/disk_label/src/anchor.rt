@@ -1,0 +1,208 @@
+//! Anchors and their bodies.
+ghost use Rattle.std.specs.Prelude.{◌≡◌, ◌+◌, ◌*◌, ◌%◌, ◌/◌, ◌^◌, ◌<◌, ◌≤◌, ◌↔◌, ◌++◌, ℕ, IsTrue, IsSome, IfSome, length, drop, slice_index};
+
+use byteorder::{ByteOrder, LittleEndian};
+use domain_base::limits::BLOCK_BYTES;
+use domain_base::{Home, VolIx};
+
+/// The fields of a body that are in use, as numbers of four bytes.
+pub(crate) const BODY_WORDS: usize = 28;
+
+/// The bytes of a body: seven blocks.
+pub(crate) const BODY_BYTES: usize = 7 * BLOCK_BYTES;
+
+/// One more than the greatest number of four bytes.
+const WORD: u64 = 1 << 32;
+
+/// A volume as an anchor has it: its pages of 8,192 bytes, and its state, which is 0 for none, 1 for an open member
+/// and 2 for a closed one.
+#[derive(Clone, Copy, Debug, PartialEq, Eq)]
+pub struct Member {
+    pub pages: u32,
+    pub state: u32,
+}
+
+/// Where a domain's log and table are, and which volumes are its members.
+#[derive(Clone, Copy, Debug, PartialEq, Eq)]
+pub struct Anchor {
+    /// From 1, one more for each anchor.
+    pub number: u64,
+    /// The version of the layout.
+    pub version: u32,
+    /// The volume of the log, and of the anchor.
+    pub log_vol: u32,
+    /// The first page of the log.
+    pub log_page: u32,
+    /// The pages of the log.
+    pub log_pages: u32,
+    /// The place in the log of the first group to be redone.
+    pub start: u32,
+    /// The number of that group.
+    pub group: u64,
+    /// The home of the fileset table; None where the field names no volume from 1 to 8.
+    pub table: Option<Home>,
+    /// The volumes by their number, from 1.
+    pub members: [Member; 8],
+    /// 0 or 1, the slot of the volume in which the anchor stands or is to stand.
+    pub slot: u8,
+}
+
+impl Anchor {
+    ghost use Rattle.disk_label.specs.Body.{anchor_from, HasLogMember};
+    ghost use Rattle.disk_label.specs.Words.{words_of};
+
+    /// The anchor that the first block of a body in this slot stands for.
+    pub(crate) fn decode(block: &[u8; BLOCK_BYTES], slot: u8) -> Anchor
+        ensures { result ≡ anchor_from block.now slot }
+    {
+        Anchor {
+            number: long(block, 0),
+            version: word(block, 2),
+            log_vol: word(block, 3),
+            log_page: word(block, 4),
+            log_pages: word(block, 5),
+            start: word(block, 6),
+            group: long(block, 8),
+            table: home_of(word(block, 10), word(block, 11)),
+            members: [
+                member_of(block, 0),
+                member_of(block, 1),
+                member_of(block, 2),
+                member_of(block, 3),
+                member_of(block, 4),
+                member_of(block, 5),
+                member_of(block, 6),
+                member_of(block, 7),
+            ],
+            slot,
+        }
+    }
+
+    /// The body that stands for it. What is not named is zero.
+    pub(crate) fn encode(&self) -> [u8; BODY_BYTES]
+        requires { IsSome self.now.table }
+        ensures reads_back { anchor_from result self.now.slot ≡ self.now }
+        ensures rest { (k : ℕ) → 4 * BODY_WORDS ≤ k → slice_index result k ≡ 0 }
+    {
+        written(&self.words())
+    }
+
+    /// Its fields in their order, as numbers of four bytes.
+    fn words(&self) -> [u32; BODY_WORDS]
+        ensures value { result ≡ words_of self.now }
+        ensures members { length self.now.members ≡ 8 }
+        ensures table { IfSome self.now.table (λ home. (1 ≤ home.vol) × (home.vol ≤ 8)) }
+    {
+        let (table_vol, table_page) = match self.table {
+            Some(home) => (home.vol.number(), home.page),
+            None => (0, 0),
+        };
+        let [a, b, c, d, e, f, g, h] = self.members;
+        [
+            low(self.number),
+            high(self.number),
+            self.version,
+            self.log_vol,
+            self.log_page,
+            self.log_pages,
+            self.start,
+            0,
+            low(self.group),
+            high(self.group),
+            table_vol,
+            table_page,
+            a.pages,
+            a.state,
+            b.pages,
+            b.state,
+            c.pages,
+            c.state,
+            d.pages,
+            d.state,
+            e.pages,
+            e.state,
+            f.pages,
+            f.state,
+            g.pages,
+            g.state,
+            h.pages,
+            h.state,
+        ]
+    }
+
+    /// Whether its log stands on a member.
+    pub(crate) fn has_log_member(&self) -> bool
+        requires { (1 ≤ self.now.log_vol) × (self.now.log_vol ≤ 8) }
+        ensures { IsTrue result ↔ HasLogMember self.now }
+    {
+        let state = self.members[self.log_vol as usize - 1].state;
+        1 <= state && state <= 2
+    }
+}
+
+ghost use Rattle.std.specs.List.{flat_map};
+ghost use Rattle.byteorder.specs.Endian.{little_bytes};
+ghost use Rattle.disk_label.specs.Body.{word_at, long_at, home_from, member_from};
+
+/// The body that begins with these numbers of four bytes, and is zero behind them.
+fn written(words: &[u32; BODY_WORDS]) -> [u8; BODY_BYTES]
+    ensures front { result ≡ flat_map (little_bytes 4) words.now ++ drop (4 * BODY_WORDS) result }
+    ensures rest { (k : ℕ) → 4 * BODY_WORDS ≤ k → slice_index result k ≡ 0 }
+    ensures fits { (i : ℕ) → slice_index words.now i < 2 ^ 32 }
+    ensures count { length words.now ≡ BODY_WORDS }
+{
+    let mut body = [0; BODY_BYTES];
+    LittleEndian::write_u32_into(words, &mut body[..4 * BODY_WORDS]);
+    body
+}
+
+/// The number of four bytes from byte 4k on.
+pub(crate) fn word(body: &[u8], k: usize) -> u32
+    requires { 4 * k + 4 ≤ length body.now }
+    ensures { result ≡ word_at body.now k }
+{
+    LittleEndian::read_u32(&body[4 * k..])
+}
+
+/// The number of eight bytes from byte 4k on.
+fn long(body: &[u8], k: usize) -> u64
+    requires { 4 * k + 8 ≤ length body.now }
+    ensures { result ≡ long_at body.now k }
+{
+    u64::from(word(body, k)) + WORD * u64::from(word(body, k + 1))
+}
+
+/// The member at this index.
+fn member_of(body: &[u8], i: usize) -> Member
+    requires { 8 * i + 56 ≤ length body.now }
+    ensures { result ≡ member_from body.now i }
+{
+    Member {
+        pages: word(body, 12 + 2 * i),
+        state: word(body, 13 + 2 * i),
+    }
+}
+
+/// A home, and None where the number is no volume's.
+fn home_of(vol: u32, page: u32) -> Option<Home>
+    ensures { result ≡ home_from vol page }
+{
+    match VolIx::new(vol) {
+        Some(vol) => Some(Home { vol, page }),
+        None => None,
+    }
+}
+
+/// The lower four bytes of a number.
+fn low(n: u64) -> u32
+    ensures { result ≡ n % 2 ^ 32 }
+{
+    (n % WORD) as u32
+}
+
+/// The upper four bytes of a number.
+fn high(n: u64) -> u32
+    ensures { result ≡ n / 2 ^ 32 }
+{
+    (n / WORD) as u32
+}

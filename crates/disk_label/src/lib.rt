@@ -1,0 +1,13 @@
+//! The first two pages of a volume: its label, and the anchors that say where a domain's log and table are.
+#![tactic(auto)]
+
+mod anchor;
+mod label;
+mod store;
+
+pub use anchor::{Anchor, Member};
+pub use label::{read_label, write_label};
+pub use store::{AnchorFault, read_anchor, write_anchor};
+
+#[cfg(test)]
+mod tests;

@@ -1,0 +1,183 @@
+//! Anchors on the volumes of a rack.
+ghost use Rattle.std.specs.Prelude.{◌≡◌, ◌*◌, ◌+◌, ◌-◌, ◌<◌, ◌≤◌, None, Some, IsTrue, IfOk, IfErr, OnOk, length, Option};
+ghost use Rattle.volume_disk.specs.Disk.{AreBlocks, HasVolume, HasRisen, OnlyReads, OnlyWrites, Settles, LeavesOnly, MayLeave, pages_of};
+ghost use Rattle.volume_disk.specs.Image.{Image, bytes_at};
+ghost use Rattle.disk_label.specs.Anchor.{HasBefore, greater_of, IsAnchor, IsAnchorBelow, IsNext, IsOldOrNew, IsWhole, StandsAt};
+ghost use Rattle.disk_label.specs.Fault.{HasCause};
+
+use crate::Anchor;
+use domain_base::VolIx;
+use domain_base::limits::{BLOCK_BYTES, MAX_VOLUMES};
+use volume_disk::Rack;
+
+/// The first byte of an open gate, and each byte of one that is written open.
+const OPEN: u8 = 0xa5;
+
+/// The block in which the first slot's gate stands.
+const FIRST_GATE: u32 = 16;
+
+/// The blocks of a slot.
+const SLOT_BLOCKS: u32 = 8;
+
+/// Why there is no anchor to give.
+#[derive(Clone, Copy, Debug, PartialEq, Eq)]
+pub enum AnchorFault {
+    /// None counts.
+    NoAnchor,
+    /// A read of this volume failed.
+    Fault { vol: VolIx },
+}
+
+/// Reads one block of 512 bytes of a volume. The error is the volume.
+pub(crate) fn read_block<R: Rack>(
+    rack: &mut R,
+    vol: VolIx,
+    block: u32,
+    out: &mut [u8],
+) -> Result<(), VolIx>
+    requires blocks { AreBlocks (R.disk rack.old) vol block (length out.old) }
+    ensures reads { OnlyReads (R.disk rack.old) (R.disk rack.new) }
+    ensures bytes { OnOk result (IsTrue (R.disk rack.old).told → out.new ≡ bytes_at (R.disk rack.old).now.contents vol (512 * block) (length out.old)) }
+    ensures fault { IfErr result (λ v. HasRisen ((R.disk rack.old).read_faults v) ((R.disk rack.new).read_faults v)) }
+{
+    match rack.read(vol, block, out) {
+        Ok(()) => Ok(()),
+        Err(_) => Err(vol),
+    }
+}
+
+/// Writes whole blocks of a volume and syncs it. The error is the volume.
+pub(crate) fn write_synced<R: Rack>(
+    rack: &mut R,
+    vol: VolIx,
+    block: u32,
+    bytes: &[u8],
+) -> Result<(), VolIx>
+    requires { AreBlocks (R.disk rack.old) vol block (length bytes.now) }
+    ensures writes { OnlyWrites (R.disk rack.old) (R.disk rack.new) vol (512 * block) (length bytes.now) }
+    ensures settled { OnOk result (IsTrue (R.disk rack.old).told → Settles vol (512 * block) bytes.now (R.disk rack.old).now (R.disk rack.new).now) }
+    ensures fault { IfErr result (λ v. HasRisen ((R.disk rack.old).write_faults v) ((R.disk rack.new).write_faults v)) }
+{
+    match rack.write(vol, block, bytes) {
+        Err(_) => Err(vol),
+        Ok(()) => match rack.sync(vol) {
+            Ok(()) => Ok(()),
+            Err(_) => Err(vol),
+        },
+    }
+}
+
+/// The anchor in a slot of a volume, and None where none counts there. The body is read only behind an open gate.
+fn read_slot<R: Rack>(rack: &mut R, vol: VolIx, slot: u8) -> Result<Option<Anchor>, VolIx>
+    requires there { HasVolume (R.disk rack.old) vol }
+    requires pages { 2 ≤ pages_of (R.disk rack.old).sizes vol }
+    requires slot { slot ≤ 1 }
+    ensures reads { OnlyReads (R.disk rack.old) (R.disk rack.new) }
+    ensures found { IfOk result (λ found. IsTrue (R.disk rack.old).told → StandsAt (R.disk rack.old).sizes (R.disk rack.old).now.contents (2 * (vol - 1) + slot) found) }
+    ensures fault { IfErr result (λ v. HasRisen ((R.disk rack.old).read_faults v) ((R.disk rack.new).read_faults v)) }
+{
+    let gate = FIRST_GATE + SLOT_BLOCKS * u32::from(slot);
+    let mut block = [0; BLOCK_BYTES];
+    read_block(rack, vol, gate, &mut block)?;
+    if block[0] != OPEN {
+        return Ok(None);
+    }
+    read_block(rack, vol, gate + 1, &mut block)?;
+    let anchor = Anchor::decode(&block, slot);
+    if anchor.log_vol == vol.number() && anchor.has_log_member() {
+        Ok(Some(anchor))
+    } else {
+        Ok(None)
+    }
+}
+
+/// Looks at one slot more, after the best of those before it.
+fn look_at<R: Rack>(rack: &mut R, place: u32, best: Option<Anchor>) -> Result<Option<Anchor>, VolIx>
+    requires { place < 16 }
+    ensures reads { OnlyReads (R.disk rack.old) (R.disk rack.new) }
+    ensures better { IfOk result (λ better. IsTrue (R.disk rack.old).told
+        → IsAnchorBelow place (R.disk rack.old).sizes (R.disk rack.old).now.contents best
+        → IsAnchorBelow (place + 1) (R.disk rack.old).sizes (R.disk rack.old).now.contents better) }
+    ensures fault { IfErr result (λ v. HasRisen ((R.disk rack.old).read_faults v) ((R.disk rack.new).read_faults v)) }
+{
+    let Some(vol) = VolIx::new(place / 2 + 1) else {
+        return Ok(best);
+    };
+    if rack.pages(vol) < 2 {
+        return Ok(best);
+    }
+    let found = read_slot(rack, vol, (place % 2) as u8)?;
+    Ok(greater(best, found))
+}
+
+/// The one with the greater number, and the first of two with one number.
+fn greater(best: Option<Anchor>, found: Option<Anchor>) -> Option<Anchor>
+    ensures { result ≡ greater_of best found }
+{
+    match found {
+        None => best,
+        Some(found) => match best {
+            None => Some(found),
+            Some(best) => Some(if found.number <= best.number {
+                best
+            } else {
+                found
+            }),
+        },
+    }
+}
+
+/// The domain's anchor: of those that count, the one with the greatest number, and of two with one number that on the
+/// lower volume, and there in the lower slot. It writes nothing.
+///
+/// `NoAnchor` comes where none counts, and `Fault` where a read of that volume failed.
+pub fn read_anchor<R: Rack>(rack: &mut R) -> Result<Anchor, AnchorFault>
+    ensures reads { OnlyReads (R.disk rack.old) (R.disk rack.new) }
+    ensures anchor { IfOk result (λ anchor. IsTrue (R.disk rack.old).told → IsAnchor (R.disk rack.old).sizes (R.disk rack.old).now.contents (Some anchor)) }
+    ensures none { result ≡ Err AnchorFault.NoAnchor → IsTrue (R.disk rack.old).told → IsAnchor (R.disk rack.old).sizes (R.disk rack.old).now.contents None }
+    ensures fault { IfErr result (HasCause (R.disk rack.old) (R.disk rack.new)) }
+{
+    let mut best = None;
+    for place in 0..2 * MAX_VOLUMES {
+        match look_at(rack, place, best) {
+            Ok(better) => best = better,
+            Err(vol) => return Err(AnchorFault::Fault { vol }),
+        }
+    }
+    match best {
+        Some(anchor) => Ok(anchor),
+        None => Err(AnchorFault::NoAnchor),
+    }
+}
+
+/// Writes an anchor into the slot that it names: closes the gate, writes the body, and opens the gate, each on the disk
+/// before the next. It reads nothing. The anchor has to be the next one after that of the rack's contents, and its
+/// slot has to lie in the rack. The error is the volume, of which a write or a sync failed.
+///
+/// What a stop may leave is said where the slot is out of the way: where each image that a stop might have left at the
+/// start, whatever it has for the slot's gate, has the old anchor. A write that closes a gate may, if a stop tears it,
+/// open it as well, and then what stands behind it must not count above the old anchor.
+pub fn write_anchor<R: Rack>(rack: &mut R, anchor: &Anchor) -> Result<(), VolIx>
+    requires whole { IsWhole anchor.now }
+    requires there { HasVolume (R.disk rack.old) anchor.now.log_vol }
+    requires pages { 2 ≤ pages_of (R.disk rack.old).sizes anchor.now.log_vol }
+    requires next { IsTrue (R.disk rack.old).told → (old : Option Anchor)
+        × IsAnchor (R.disk rack.old).sizes (R.disk rack.old).now.contents old × IsNext old anchor.now }
+
+    // Each image since the start has the old anchor or the new one.
+    ensures any_moment { IsTrue (R.disk rack.old).told → (old : Option Anchor)
+        → HasBefore (R.disk rack.old) old anchor.now
+        → LeavesOnly (R.disk rack.old) (R.disk rack.new) (IsOldOrNew (R.disk rack.old).sizes old anchor.now) }
+    ensures done { OnOk result (IsTrue (R.disk rack.old).told → (old : Option Anchor)
+        → HasBefore (R.disk rack.old) old anchor.now
+        → (image : Image) → MayLeave (R.disk rack.new).now image → IsAnchor (R.disk rack.old).sizes image (Some anchor.now)) }
+    ensures fault { IfErr result (λ v. HasRisen ((R.disk rack.old).write_faults v) ((R.disk rack.new).write_faults v)) }
+{
+    let Some(vol) = VolIx::new(anchor.log_vol) else {
+        unreachable!()
+    };
+    let gate = FIRST_GATE + SLOT_BLOCKS * u32::from(anchor.slot);
+    write_synced(rack, vol, gate, &[0; BLOCK_BYTES])?;
+    write_synced(rack, vol, gate + 1, &anchor.encode())?;
+    write_synced(rack, vol, gate, &[OPEN; BLOCK_BYTES])
+}

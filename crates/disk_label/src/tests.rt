@@ -1,0 +1,187 @@
+//! Anchors and labels on racks in memory.
+ghost use Rattle.std.specs.Prelude.{◌≡◌, true};
+ghost use Rattle.volume_disk.specs.Disk.{AreBlocks};
+
+use crate::{Anchor, AnchorFault, Member, read_anchor, read_label, write_anchor, write_label};
+use domain_base::{Home, OutOfMemory, VolIx};
+use std::alloc::Global;
+use std::test::Fail;
+use volume_disk::{MemoryRack, Rack};
+
+const NONE: Member = Member { pages: 0, state: 0 };
+
+fn volume(n: u32) -> Result<VolIx, &'static str> {
+    VolIx::new(n).ok_or("no such volume")
+}
+
+/// An anchor on volume 1 or 2, both open members of 64 pages.
+fn anchor(number: u64, log_vol: u32, slot: u8) -> Result<Anchor, &'static str> {
+    let open = Member {
+        pages: 64,
+        state: 1,
+    };
+    Ok(Anchor {
+        number,
+        version: 3,
+        log_vol,
+        log_page: 4,
+        log_pages: 128,
+        start: 127,
+        group: 0x0102_0304_0506_0708,
+        table: Some(Home {
+            vol: volume(2)?,
+            page: 9,
+        }),
+        members: [open, open, NONE, NONE, NONE, NONE, NONE, NONE],
+        slot,
+    })
+}
+
+/// Writes an anchor that meets the conditions of `write_anchor`.
+fn write_next<R: Rack>(rack: &mut R, next: &Anchor) -> Result<bool, VolIx> {
+    let log = next.log_vol;
+    if next.table.is_none()
+        || next.slot > 1
+        || log < 1
+        || log > 8
+        || log > rack.volumes()
+        || !next.has_log_member()
+    {
+        return Ok(false);
+    }
+    let Some(vol) = VolIx::new(log) else {
+        return Ok(false);
+    };
+    if rack.pages(vol) < 2 {
+        return Ok(false);
+    }
+    let follows = match read_anchor(rack) {
+        Ok(old) => {
+            let slot = if log == old.log_vol {
+                1_u8.saturating_sub(old.slot)
+            } else {
+                0
+            };
+            old.number < u64::MAX && next.number == old.number + 1 && next.slot == slot
+        }
+        Err(AnchorFault::NoAnchor) => next.number == 1 && next.slot == 0,
+        Err(AnchorFault::Fault { vol }) => return Err(vol),
+    };
+    if !follows {
+        return Ok(false);
+    }
+    write_anchor(rack, next)?;
+    Ok(true)
+}
+
+fn image(
+    rack: &MemoryRack,
+    alloc: Global,
+    call: u64,
+    pick: u64,
+) -> Result<MemoryRack, OutOfMemory> {
+    if !rack.keeps_calls() || call > rack.calls() {
+        return MemoryRack::new(alloc, &[], &[], false);
+    }
+    rack.image(alloc, call, pick)
+}
+
+#[test]
+fn a_stop_leaves_the_old_anchor_or_the_new_one(rt: HostRuntime) -> Result<(), Fail> {
+    let mut rack = MemoryRack::new(rt.alloc(), &[2, 2], &[], true)?;
+    assert_eq!(rt; read_anchor(&mut rack), Err(AnchorFault::NoAnchor));
+    let mut old = anchor(1, 1, 0)?;
+    assert_eq!(rt; write_next(&mut rack, &old), Ok(true));
+    assert_eq!(rt; read_anchor(&mut rack), Ok(old));
+    // to the other slot of the volume, back to the first, and to another volume
+    for (number, log_vol, slot) in [(2, 1, 1), (3, 1, 0), (4, 2, 0)] {
+        let new = anchor(number, log_vol, slot)?;
+        let start = rack.calls();
+        assert_eq!(rt; write_next(&mut rack, &new), Ok(true), "anchor {number}");
+        for call in start..rack.calls() {
+            for pick in 0..8 {
+                let mut left = image(&rack, rt.alloc(), call, pick)?;
+                let found = read_anchor(&mut left);
+                assert!(rt;
+                    found == Ok(old) || found == Ok(new),
+                    "anchor {number}, call {call}, pick {pick}"
+                );
+            }
+        }
+        for pick in 0..8 {
+            let mut left = image(&rack, rt.alloc(), rack.calls(), pick)?;
+            assert_eq!(rt;
+                read_anchor(&mut left),
+                Ok(new),
+                "anchor {number}, pick {pick}"
+            );
+        }
+        old = new;
+    }
+    Ok(())
+}
+
+#[test]
+fn a_call_that_fails_has_raised_a_count(rt: HostRuntime) -> Result<(), Fail> {
+    let one = volume(1)?;
+    let first = anchor(1, 1, 0)?;
+    // four reads of closed gates, and then the six calls of the write
+    for fails in 1..=11 {
+        let mut rack = MemoryRack::new(rt.alloc(), &[2, 2], &[fails], true)?;
+        let written = write_next(&mut rack, &first);
+        let faults = (
+            rack.read_faults(one) + rack.read_faults(volume(2)?),
+            rack.write_faults(one),
+        );
+        match fails {
+            1..=4 => assert_eq!(rt;
+                (written.is_err(), faults),
+                (true, (1, 0)),
+                "call {fails} fails"
+            ),
+            5..=10 => assert_eq!(rt; (written, faults), (Err(one), (0, 1)), "call {fails} fails"),
+            _ => assert_eq!(rt; (written, faults), (Ok(true), (0, 0))),
+        }
+    }
+    Ok(())
+}
+
+#[test]
+fn labels_are_written_and_read(rt: HostRuntime) -> Result<(), Fail> {
+    let (one, two) = (volume(1)?, volume(2)?);
+    let mut rack = MemoryRack::new(rt.alloc(), &[512, 64], &[], false)?;
+    for (vol, pages, found) in [(one, 512, Some(512)), (two, 64, Some(64)), (two, 65, None)] {
+        assert_eq!(rt; label(&mut rack, vol, pages), Ok(()));
+        assert_eq!(rt; labelled(&mut rack, vol), Ok(found));
+    }
+    let mut block = [0; 512];
+    assert_eq!(rt; first_block(&mut rack, one, &mut block), true);
+    assert_eq!(rt; &block[..8], b"ADVFSLAB".as_slice());
+    assert_eq!(rt;
+        &block[8..24],
+        [3, 0, 0, 0, 1, 0, 0, 0, 0, 2, 0, 0, 1, 0, 0, 0].as_slice()
+    );
+    assert_eq!(rt; block[24..].iter().all(|b| *b == 0), true);
+    Ok(())
+}
+
+fn label<R: Rack>(rack: &mut R, vol: VolIx, pages: u32) -> Result<(), VolIx> {
+    if vol.number() > rack.volumes() || rack.pages(vol) == 0 {
+        return Err(vol);
+    }
+    write_label(rack, vol, pages)
+}
+
+fn labelled<R: Rack>(rack: &mut R, vol: VolIx) -> Result<Option<u32>, VolIx> {
+    if vol.number() > rack.volumes() {
+        return Err(vol);
+    }
+    read_label(rack, vol)
+}
+
+fn first_block<R: Rack>(rack: &mut R, vol: VolIx, block: &mut [u8; 512]) -> bool {
+    if vol.number() > rack.volumes() || rack.pages(vol) == 0 {
+        return false;
+    }
+    rack.read(vol, 0, block).is_ok()
+}
