@@ -1,6 +1,7 @@
 //! Anchors and labels on racks in memory.
-ghost use Rattle.std.specs.Prelude.{◌≡◌, true};
-ghost use Rattle.volume_disk.specs.Disk.{AreBlocks};
+ghost use Rattle.std.specs.Prelude.{◌≡◌, ◌≤◌, IsTrue, IfOk, None, Some, Option};
+ghost use Rattle.volume_disk.specs.Disk.{OnlyReads};
+ghost use Rattle.disk_label.specs.Anchor.{IsAnchor, IsNext, IsWhole};
 
 use crate::{Anchor, AnchorFault, Member, read_anchor, read_label, write_anchor, write_label};
 use domain_base::{Home, OutOfMemory, VolIx};
@@ -37,41 +38,81 @@ fn anchor(number: u64, log_vol: u32, slot: u8) -> Result<Anchor, &'static str> {
     })
 }
 
-/// Writes an anchor that meets the conditions of `write_anchor`.
-fn write_next<R: Rack>(rack: &mut R, next: &Anchor) -> Result<bool, VolIx> {
-    let log = next.log_vol;
-    if next.table.is_none()
-        || next.slot > 1
-        || log < 1
-        || log > 8
-        || log > rack.volumes()
-        || !next.has_log_member()
-    {
-        return Ok(false);
+fn is_none(fault: &AnchorFault) -> bool
+    ensures { IsTrue result → fault.now ≡ AnchorFault.NoAnchor }
+{
+    match fault {
+        AnchorFault::NoAnchor => true,
+        _ => false,
     }
-    let Some(vol) = VolIx::new(log) else {
-        return Ok(false);
+}
+
+fn is_whole(anchor: &Anchor) -> bool
+    ensures { IsTrue result → IsWhole anchor.now }
+{
+    if anchor.log_vol < 1 || anchor.log_vol > 8 {
+        return false;
+    }
+    let has_table = match anchor.table {
+        Some(_) => true,
+        None => false,
     };
-    if rack.pages(vol) < 2 {
-        return Ok(false);
+    has_table && anchor.slot <= 1 && anchor.has_log_member()
+}
+
+fn is_next(old: &Anchor, next: &Anchor) -> bool
+    ensures { IsTrue result → IsNext (Some old.now) next.now }
+{
+    if old.slot > 1 {
+        return false;
     }
-    let follows = match read_anchor(rack) {
-        Ok(old) => {
-            let slot = if log == old.log_vol {
-                1_u8.saturating_sub(old.slot)
+    let slot = if next.log_vol == old.log_vol {
+        1 - old.slot
+    } else {
+        0
+    };
+    old.number < u64::MAX && next.number == old.number + 1 && next.slot == slot
+}
+
+fn is_first(next: &Anchor) -> bool
+    ensures { IsTrue result → IsNext None next.now }
+{
+    next.number == 1 && next.slot == 0
+}
+
+/// Whether the anchor is the next after that of the rack.
+fn may_follow<R: Rack>(rack: &mut R, next: &Anchor) -> Result<bool, AnchorFault>
+    ensures reads { OnlyReads (R.disk rack.old) (R.disk rack.new) }
+    ensures follows { IfOk result (λ follows. IsTrue follows → IsTrue (R.disk rack.old).told → (old : Option Anchor)
+        × IsAnchor (R.disk rack.old).sizes (R.disk rack.old).now.contents old × IsNext old next.now) }
+{
+    match read_anchor(rack) {
+        Ok(old) => Ok(is_next(&old, next)),
+        Err(fault) => {
+            if is_none(&fault) {
+                Ok(is_first(next))
             } else {
-                0
-            };
-            old.number < u64::MAX && next.number == old.number + 1 && next.slot == slot
+                Err(fault)
+            }
         }
-        Err(AnchorFault::NoAnchor) => next.number == 1 && next.slot == 0,
-        Err(AnchorFault::Fault { vol }) => return Err(vol),
-    };
-    if !follows {
+    }
+}
+
+/// Writes an anchor that meets the conditions of `write_anchor`.
+fn write_next<R: Rack>(rack: &mut R, next: &Anchor) -> Result<bool, AnchorFault> {
+    if !is_whole(next) || next.log_vol > rack.volumes() {
         return Ok(false);
     }
-    write_anchor(rack, next)?;
-    Ok(true)
+    let Some(vol) = VolIx::new(next.log_vol) else {
+        return Ok(false);
+    };
+    if rack.pages(vol) < 2 || !may_follow(rack, next)? {
+        return Ok(false);
+    }
+    match write_anchor(rack, next) {
+        Ok(()) => Ok(true),
+        Err(vol) => Err(AnchorFault::Fault { vol }),
+    }
 }
 
 fn image(
@@ -130,7 +171,8 @@ fn a_call_that_fails_has_raised_a_count(rt: HostRuntime) -> Result<(), Fail> {
         let mut rack = MemoryRack::new(rt.alloc(), &[2, 2], &[fails], true)?;
         let written = write_next(&mut rack, &first);
         let faults = (
-            rack.read_faults(one) + rack.read_faults(volume(2)?),
+            rack.read_faults(one)
+                .saturating_add(rack.read_faults(volume(2)?)),
             rack.write_faults(one),
         );
         match fails {
@@ -139,7 +181,11 @@ fn a_call_that_fails_has_raised_a_count(rt: HostRuntime) -> Result<(), Fail> {
                 (true, (1, 0)),
                 "call {fails} fails"
             ),
-            5..=10 => assert_eq!(rt; (written, faults), (Err(one), (0, 1)), "call {fails} fails"),
+            5..=10 => assert_eq!(rt;
+                (written, faults),
+                (Err(AnchorFault::Fault { vol: one }), (0, 1)),
+                "call {fails} fails"
+            ),
             _ => assert_eq!(rt; (written, faults), (Ok(true), (0, 0))),
         }
     }
