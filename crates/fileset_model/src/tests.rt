@@ -282,8 +282,8 @@ fn limits_of_a_user_and_of_the_fileset_hold(rt: HostRuntime) {
     gives(
         &rt,
         &mut all,
-        write(alloc, b"a", 8_000, &page[..100]),
-        &Expected::Count(100),
+        write(alloc, b"a", 8_190, b"abcd"),
+        &Expected::Count(4),
     );
     let too_far = Expected::Refused(Refusal::TooFar);
     gives(

@@ -119,20 +119,35 @@ static REFUSALS: [(Refusal, &str); 9] = [
     (Refusal::Unsettled { moved: 9 }, "E29 unsettled moved=9"),
 ];
 
+/// The line of a client's command that is done.
+fn done_line(alloc: Global, number: u8, command: Command) -> Result<Vec<u8>, OutOfMemory> {
+    let entry = Entry {
+        actor: Actor::Client(number),
+        command,
+        reply: Reply::Done,
+        stamp: 0,
+    };
+    history_line(alloc, &entry)
+}
+
+/// The lines of a client's commands that are all done.
+fn done_lines(alloc: Global, number: u8, commands: Vec<Command>) -> Result<Vec<u8>, OutOfMemory> {
+    let mut lines = Vec::new(alloc);
+    for command in commands {
+        let line = done_line(alloc, number, command)?;
+        lines.extend_from_slice(line.as_slice())?;
+    }
+    Ok(lines)
+}
+
 /// The history of a script whose commands are all done.
 fn done(alloc: Global, text: &str) -> Result<Vec<u8>, Fail> {
     let script = read_script(alloc, text.as_bytes())?;
     let mut history = Vec::new(alloc);
     for section in script.clients.into_vec() {
-        for command in section.commands.into_vec() {
-            let entry = Entry {
-                actor: Actor::Client(section.number),
-                command,
-                reply: Reply::Done,
-                stamp: 0,
-            };
-            history.extend_from_slice(history_line(alloc, &entry)?.as_slice())?;
-        }
+        let number = section.number;
+        let lines = done_lines(alloc, number, section.commands.into_vec())?;
+        history.extend_from_slice(lines.as_slice())?;
     }
     Ok(history)
 }
