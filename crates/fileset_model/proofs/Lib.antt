@@ -7,5 +7,6 @@ pub mod RowsLemmas
 pub mod SlotLemmas
 pub mod TreeLemmas
 pub mod ValidLemmas
+pub mod ValidTreeLemmas
 pub mod WalkLemmas
 pub mod WholeLemmas
