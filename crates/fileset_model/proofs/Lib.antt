@@ -7,6 +7,7 @@ pub mod RowsLemmas
 pub mod SlotLemmas
 pub mod TreeLemmas
 pub mod ValidLemmas
+pub mod ValidMoveLemmas
 pub mod ValidTreeLemmas
 pub mod WalkLemmas
 pub mod WholeLemmas

@@ -1,9 +1,9 @@
 -- What is so of each fileset stays so under a change of its tree.
-use Rattle.std.proofs.Common.{◌≡◌, ◌≢◌, ◌⊎◌, ℕ, Bool, true, false, is_some, List, [], ◌∷◌, ◌++◌, IsTrue, IsSome, IsSomeAnd, Option, Some, None, refl, sym, ap, subst, ◌∙◌, inl, inr, true≢false}
+use Rattle.std.proofs.Common.{◌≡◌, ◌≢◌, ◌⊎◌, ℕ, Bool, true, false, cond, is_some, List, [], ◌∷◌, ◌++◌, IsTrue, IsSome, IsSomeAnd, Option, Some, None, refl, sym, ap, subst, ◌∙◌, inl, inr, true≢false, append_assoc, append-nil}
 use Rattle.std.specs.Option.{option_map_or, option_and_then}
-use Rattle.std.specs.Ordering.{nat_cmp}
+use Rattle.std.specs.Ordering.{is_eq, nat_cmp}
 use Rattle.std.specs.declared.cmp.Ordering.{Ordering}
-use Rattle.std.specs.Cmp.{IsTotalOrder, nat_cmp_total}
+use Rattle.std.specs.Cmp.{IsTotalOrder, nat_cmp_total, tied_itself}
 use Rattle.std.specs.FinMap as map
 use Rattle.fileset_model.specs.Orders.{Name, Path, owner_cmp, path_cmp, path_cmp-total, path_cmp-IsAntisymmetric}
 use Rattle.fileset_model.specs.Fileset.{Fileset}
@@ -42,7 +42,7 @@ at_directory tree path d =
     let at : node_at tree path ≡ Some d.node = ap (option_and_then (map.get tree.nodes)) d.leads ∙ d.is in
     subst (λ o. IsSomeAnd o (λ node. IsTrue (is_directory node))) (sym at) d.directory
 
-some≢none : {X : Type 0} (x : X) → Some x ≢ None
+pub some≢none : {X : Type 0} (x : X) → Some x ≢ None
 some≢none x e = true≢false (ap is_some e)
 
 -- what has a value at one key and none at another has other keys there
@@ -156,8 +156,7 @@ pub some_of : {X : Type 0} (o : Option X) → IsSome o → (x : X) × (o ≡ Som
 some_of None h = absurd (true≢false (sym h))
 some_of (Some x) h = (x, refl)
 
-module _ (tree : Fileset) (path : Path) (number : ℕ) (v : IsValidFileset tree) (leads : map.get tree.paths path ≡ Some number) (no_root : path ≢ [])
-    (alone : (name : Name) → map.get tree.paths (path ++ name ∷ []) ≡ None) where
+module _ (tree : Fileset) (path : Path) (number : ℕ) (v : IsValidFileset tree) (leads : map.get tree.paths path ≡ Some number) where
   abbrev left : Fileset
   left = record tree { paths = map.remove tree.paths path; nodes = map.remove tree.nodes number }
 
@@ -185,8 +184,8 @@ module _ (tree : Fileset) (path : Path) (number : ℕ) (v : IsValidFileset tree)
   was_node : (k : ℕ) (n : Node) → map.get left.nodes k ≡ Some n → (k ≢ number) × (map.get tree.nodes k ≡ Some n)
   was_node k n at_k = got-remove nat_cmp_total map.nat_cmp-IsAntisymmetric tree.nodes number k n at_k
 
-  left-valid : IsValidFileset left
-  left-valid = record {
+  left-valid : path ≢ [] → ((name : Name) → map.get tree.paths (path ++ name ∷ []) ≡ None) → IsValidFileset left
+  left-valid no_root alone = record {
     root = directory_left [] (λ e. no_root (sym e)) v.root;
     parents = λ q name there.
         let found = some_of _ there in
@@ -209,6 +208,32 @@ without-valid tree path v no_root alone =
       | Some number ↦ λ is. left-valid tree path number v is no_root alone
     ] refl
 
+pub without-absent : (tree : Fileset) (path : Path) → map.get (without path tree).paths path ≡ None
+without-absent tree path =
+    elim (map.get tree.paths path) as (λ found. map.get tree.paths path ≡ found → map.get
+    (option_map_or (λ number. record tree { paths = map.remove tree.paths path; nodes = map.remove tree.nodes number }) found tree).paths path ≡ None) [
+      | None ↦ λ is. is
+      | Some number ↦ λ is. map.get-remove path_cmp-total tree.paths path path ∙ ap (λ r. cond (is_eq r) None (map.get tree.paths path)) (tied_itself path_cmp-total path)
+    ] refl
+
+pub without-directory : (tree : Fileset) (path q : Path) → IsValidFileset tree → q ≢ path → IsDirectoryAt tree q → IsDirectoryAt (without path tree) q
+without-directory tree path q v apart h =
+    elim (map.get tree.paths path) as (λ found. map.get tree.paths path ≡ found → IsDirectoryAt
+    (option_map_or (λ number. record tree { paths = map.remove tree.paths path; nodes = map.remove tree.nodes number }) found tree) q) [
+      | None ↦ λ is. h
+      | Some number ↦ λ is. directory_left tree path number v is q apart h
+    ] refl
+
+-- nothing stands below a path where nothing stands
+pub nothing_below : (tree : Fileset) (path rest : Path) → IsValidFileset tree → map.get tree.paths path ≡ None → map.get tree.paths (path ++ rest) ≡ None
+nothing_below tree path [] v none = ap (map.get tree.paths) (append-nil path) ∙ none
+nothing_below tree path (name ∷ rest) v none =
+    let next : map.get tree.paths (path ++ name ∷ []) ≡ None = elim (map.get tree.paths (path ++ name ∷ [])) as (λ o. map.get tree.paths (path ++ name ∷ []) ≡ o → o ≡ None) [
+      | None ↦ λ is. refl
+      | Some number ↦ λ is. let d = directory_of tree path (v.parents path name (ap is_some is)) in absurd (some≢none d.number (sym d.leads ∙ none))
+    ] refl in
+    ap (map.get tree.paths) (sym (append_assoc path (name ∷ []) rest)) ∙ nothing_below tree (path ++ name ∷ []) rest v next
+
 -- ---- other limits, and an empty fileset
 
 pub with_limits-valid : (tree : Fileset) (limits : map.FinMap owner_cmp Limits) → IsValidFileset tree → IsValidFileset (record tree { limits = limits })
@@ -222,7 +247,7 @@ only {R = R} o a k q v w is =
       | inr other ↦ absurd (some≢none w (sym other.1 ∙ map.get-empty R q))
     ]
 
-no_child : (q : Path) (name : Name) → q ++ name ∷ [] ≢ []
+pub no_child : (q : Path) (name : Name) → q ++ name ∷ [] ≢ []
 no_child [] name e = absurd (cc)
 no_child (first ∷ q) name e = absurd (cc)
 
