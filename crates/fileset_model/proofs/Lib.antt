@@ -6,8 +6,10 @@ pub mod PageLemmas
 pub mod RowsLemmas
 pub mod SlotLemmas
 pub mod TreeLemmas
+pub mod ValidCheckLemmas
 pub mod ValidLemmas
 pub mod ValidMoveLemmas
+pub mod ValidPageLemmas
 pub mod ValidTreeLemmas
 pub mod WalkLemmas
 pub mod WholeLemmas

@@ -20,7 +20,7 @@ use Rattle.fileset_model.proofs.ValidTreeLemmas.{at_directory, directory_of, no_
 
 -- ---- the entries of a map with other keys
 
-tied : (r : Ordering) → is_eq r ≡ true → r ≡ Equal
+pub tied : (r : Ordering) → is_eq r ≡ true → r ≡ Equal
 tied Less h = absurd (true≢false (sym h))
 tied Equal h = refl
 tied Greater h = absurd (true≢false (sym h))
