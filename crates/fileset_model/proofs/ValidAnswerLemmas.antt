@@ -1,5 +1,5 @@
 -- Each command that is answered keeps all filesets valid.
-use Rattle.std.proofs.Common.{◌≡◌, ◌≢◌, ◌⊎◌, ℕ, ◌+◌, ◌<◌, ◌≤◌, Bool, true, false, cond, not, ◌||◌, nat_le, nat_lt, is_some, List, [], ◌∷◌, ◌++◌, length, length-append, IsTrue, MatchOption, Option, Some, None, refl, sym, ap, subst, ◌∙◌, inl, inr, true≢false, leb-false, ltb-false, arith, if◌then◌else◌}
+use Rattle.std.proofs.Common.{◌≡◌, ◌≢◌, ℕ, ◌+◌, ◌<◌, ◌≤◌, Bool, true, false, cond, ◌||◌, nat_le, nat_lt, is_some, List, [], ◌∷◌, ◌++◌, length, length-append, MatchOption, Option, Some, None, refl, sym, ap, subst, ◌∙◌, inl, inr, true≢false, leb-false, ltb-false, arith, if◌then◌else◌}
 use Rattle.std.specs.Option.{option_map_or}
 use Rattle.std.specs.Cmp.Lexicographic.{bytes_decides}
 use Rattle.std.specs.FinMap as map
@@ -7,9 +7,9 @@ use Rattle.domain_base.specs.declared.limits.TheConstants.{FILE_BYTES}
 use Rattle.fileset_model.specs.Orders.{Name, Path}
 use Rattle.fileset_model.specs.Fileset.{Fileset}
 use Rattle.fileset_model.specs.Paths.{begins_with, directory_here, file_here, first_refusal, is_directory, node_at, refuse_if, same_path, target_refusal, walk_refusal}
-use Rattle.fileset_model.specs.State.{AreValid, FilesetMap, HasWholePages, IsDirectoryAt, IsValidFileset}
+use Rattle.fileset_model.specs.State.{AreValid, FilesetMap, HasWholePages, IsValidFileset}
 use Rattle.fileset_model.specs.Usage.{quota_refusal}
-use Rattle.fileset_model.specs.Apply.{Answers, AnswersIfMemory, Changes, IsUnused, MakesNode, answer_of, create_checks, filesets_full, flagged_node, has_clone, in_fileset, is_clone, is_clone_of, move_checks, moved, name_taken, not_empty, path_taken, read_only, refusal_of, rename_checks, replace_checks, truncated_node, with_change, with_node, with_tree, without, write_checks, write_quota, written_node}
+use Rattle.fileset_model.specs.Apply.{Answers, AnswersIfMemory, Changes, IsUnused, MakesNode, answer_of, create_checks, filesets_full, flagged_node, has_clone, in_fileset, is_clone, is_clone_of, move_checks, moved, name_taken, not_empty, path_taken, read_only, refusal_of, rename_checks, replace_checks, truncated_node, with_change, with_node, with_tree, without, write_quota, written_node}
 use Rattle.fileset_model.specs.declared.command.Command.{Command}
 use Rattle.fileset_model.specs.declared.command.Command.TheVariants.{Mkfset, Rmfset, Clonefset, Showfsets, Setquota, Showquota, Create, Mkdir, Write, Read, Truncate, Rename, Unlink, Rmdir, List as ListNames, Stat, Fsync, Chfile, Sync, Cancel}
 use Rattle.fileset_model.specs.declared.command.Place.{Place}

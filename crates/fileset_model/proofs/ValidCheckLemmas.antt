@@ -1,8 +1,7 @@
 -- What the checks of a command that is not refused say of a valid tree.
-use Rattle.std.proofs.Common.{◌≡◌, ◌≢◌, ◌⊎◌, ℕ, suc, zero, ◌+◌, ◌<◌, ◌==◌, Bool, true, false, cond, not, ◌||◌, is_some, List, [], ◌∷◌, ◌++◌, map as map_each, take, drop, length, length-append, get_or, IsTrue, IsSome, IsSomeAnd, Option, Some, None, refl, sym, ap, subst, ◌∙◌, inl, inr, true≢false, eqb-true, arith}
+use Rattle.std.proofs.Common.{◌≡◌, ◌≢◌, ℕ, suc, zero, ◌+◌, ◌<◌, ◌==◌, Bool, true, false, cond, not, ◌||◌, is_some, List, [], ◌∷◌, ◌++◌, map as map_each, take, length, length-append, get_or, IsTrue, IsSomeAnd, Option, Some, None, refl, sym, ap, subst, ◌∙◌, true≢false, eqb-true, arith}
 use Rattle.std.proofs.lemmas.List.{drop_at, take_at}
 use Rattle.std.proofs.lemmas.List.FromFn.{get_or-map-range_with_len, length-map-range_with_len}
-use Rattle.std.specs.declared.cmp.Ordering.{Ordering}
 use Rattle.std.specs.List.{cons_option, filter_map, range_with_len}
 use Rattle.std.specs.Option.{option_and_then, option_map_or}
 use Rattle.std.specs.Ordering.{eq_by_cmp}
@@ -10,18 +9,17 @@ use Rattle.std.specs.FinMap as map
 use Rattle.std.specs.FinMap.Entries.{find}
 use Rattle.fileset_model.specs.Orders.{Name, Path, path_cmp, path_cmp-IsAntisymmetric}
 use Rattle.fileset_model.specs.Fileset.{Fileset}
-use Rattle.fileset_model.specs.Paths.{begins_with, directory_here, directory_refusal, file_here, first_refusal, is_directory, is_marked, name_below, node_at, refuse_if, rows_of, target_refusal, walk_refusal}
+use Rattle.fileset_model.specs.Paths.{directory_here, directory_refusal, first_refusal, is_directory, is_marked, name_below, node_at, refuse_if, rows_of, target_refusal, walk_refusal}
 use Rattle.fileset_model.specs.State.{IsDirectoryAt, IsValidFileset}
 use Rattle.fileset_model.specs.Apply.{not_empty, path_taken}
 use Rattle.fileset_model.specs.declared.fileset.FilesetSlot.{FilesetSlot}
-use Rattle.fileset_model.specs.declared.node.Node.{Node}
 use Rattle.fileset_model.specs.declared.reply.NameItem.{NameItem}
 use Rattle.fileset_model.specs.declared.reply.Refusal.{Refusal}
 use Rattle.fileset_model.specs.declared.reply.Refusal.TheVariants.{Exists, IsDirectory, NoPath, NotDirectory, NotEmpty, OutOfSync}
 use Rattle.fileset_model.proofs.RowsLemmas.{row_of}
 use Rattle.fileset_model.proofs.ValidLemmas.{passed, passed_test}
 use Rattle.fileset_model.proofs.ValidMoveLemmas.{begins_of, tied}
-use Rattle.fileset_model.proofs.ValidTreeLemmas.{directory_of, no_child, some_of, some≢none}
+use Rattle.fileset_model.proofs.ValidTreeLemmas.{some≢none}
 
 -- ---- tests
 

@@ -1,12 +1,11 @@
 -- A file's pages stay whole where it is written or cut.
-use Rattle.std.proofs.Common.{◌≡◌, ℕ, zero, suc, ◌+◌, ◌-◌, ◌*◌, ◌/◌, ◌%◌, ◌==◌, ◌<◌, ◌≤◌, nat_lt, min, Bool, true, false, cond, List, [], ◌∷◌, ◌++◌, map as map_each, take, drop, length, length-append, length-take, length-drop, Option, Some, None, unwrap_or, refl, sym, ap, subst, ◌∙◌, inl, inr, eqb-true, arith}
+use Rattle.std.proofs.Common.{◌≡◌, ℕ, zero, suc, ◌+◌, ◌-◌, ◌*◌, ◌/◌, ◌%◌, ◌==◌, ◌<◌, ◌≤◌, nat_lt, Bool, true, false, cond, List, [], ◌++◌, map as map_each, take, drop, length, length-append, length-take, length-drop, Some, None, unwrap_or, refl, sym, ap, subst, ◌∙◌, inl, inr, arith}
 use Rattle.std.specs.List.{range_with_len}
 use Rattle.std.specs.Option.{option_map_or}
-use Rattle.std.specs.Ordering.{nat_cmp}
 use Rattle.std.specs.Cmp.{nat_cmp_total}
 use Rattle.std.specs.FinMap as map
 use Rattle.domain_base.specs.Page.{length-zero_bytes, overwritten, zero_bytes}
-use Rattle.fileset_model.specs.Pages.{page_after, pages_of, Pages, truncated, with_pages, written}
+use Rattle.fileset_model.specs.Pages.{page_after, Pages, truncated, with_pages, written}
 use Rattle.fileset_model.proofs.MapLemmas.{got-insert}
 use Rattle.fileset_model.proofs.ValidLemmas.{some_inj}
 use Rattle.fileset_model.proofs.ValidTreeLemmas.{some≢none}

@@ -1,19 +1,18 @@
 -- What is so of each fileset stays so under a change of its tree.
-use Rattle.std.proofs.Common.{◌≡◌, ◌≢◌, ◌⊎◌, ℕ, Bool, true, false, cond, is_some, List, [], ◌∷◌, ◌++◌, IsTrue, IsSome, IsSomeAnd, Option, Some, None, refl, sym, ap, subst, ◌∙◌, inl, inr, true≢false, append_assoc, append-nil}
+use Rattle.std.proofs.Common.{◌≡◌, ◌≢◌, ℕ, cond, is_some, [], ◌∷◌, ◌++◌, IsTrue, IsSome, IsSomeAnd, Option, Some, None, refl, sym, ap, subst, ◌∙◌, inl, inr, true≢false, append_assoc, append-nil}
 use Rattle.std.specs.Option.{option_map_or, option_and_then}
-use Rattle.std.specs.Ordering.{is_eq, nat_cmp}
+use Rattle.std.specs.Ordering.{is_eq}
 use Rattle.std.specs.declared.cmp.Ordering.{Ordering}
 use Rattle.std.specs.Cmp.{IsTotalOrder, nat_cmp_total, tied_itself}
 use Rattle.std.specs.FinMap as map
-use Rattle.fileset_model.specs.Orders.{Name, Path, owner_cmp, path_cmp, path_cmp-total, path_cmp-IsAntisymmetric}
+use Rattle.fileset_model.specs.Orders.{Name, Path, owner_cmp, path_cmp-total, path_cmp-IsAntisymmetric}
 use Rattle.fileset_model.specs.Fileset.{Fileset}
 use Rattle.fileset_model.specs.Paths.{is_directory, node_at}
 use Rattle.fileset_model.specs.State.{HasWholePages, IsDirectoryAt, IsValidFileset}
 use Rattle.fileset_model.specs.Apply.{empty_fileset, with_change, with_node, without}
-use Rattle.fileset_model.specs.declared.command.Owner.{Owner}
 use Rattle.fileset_model.specs.declared.fileset.Limits.{Limits}
 use Rattle.fileset_model.specs.declared.node.Node.{Node}
-use Rattle.fileset_model.specs.declared.node.Node.TheVariants.{File, Directory}
+use Rattle.fileset_model.specs.declared.node.Node.TheVariants.{Directory}
 use Rattle.fileset_model.proofs.MapLemmas.{got-insert, got-remove, get-insert_same, get-insert_other, get-remove_other}
 use Rattle.fileset_model.proofs.ValidLemmas.{some_inj}
 
