@@ -8,6 +8,7 @@ pub mod SlotLemmas
 pub mod TreeLemmas
 pub mod ValidAnswerLemmas
 pub mod ValidCheckLemmas
+pub mod ValidHistoryLemmas
 pub mod ValidLemmas
 pub mod ValidMoveLemmas
 pub mod ValidPageLemmas

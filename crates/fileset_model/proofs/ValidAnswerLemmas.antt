@@ -62,9 +62,9 @@ makes-valid all new place uid gid node v none pages makes =
     let checks : FilesetSlot → List (Option Refusal) = λ slot. walk_refusal slot path ∷ path_taken slot path ∷ quota_refusal slot.tree uid gid 1 0 ∷ [] in
     tree_changes-valid all new place.fileset checks (with_node path makes.0 node) v none
     (λ slot is tree h.
-      let walk = passed (walk_refusal slot path) (path_taken slot path ∷ quota_refusal slot.tree uid gid 1 0 ∷ []) h in
-      let free = passed_free slot path (passed (path_taken slot path) (quota_refusal slot.tree uid gid 1 0 ∷ []) walk.1).0 in
-      with_node-valid slot.tree path makes.0 node tree free (unused_here all place.fileset slot makes.0 makes.1 is) pages (λ front name e. passed_walk slot path front name walk.0 e))
+    let walk = passed (walk_refusal slot path) (path_taken slot path ∷ quota_refusal slot.tree uid gid 1 0 ∷ []) h in
+    let free = passed_free slot path (passed (path_taken slot path) (quota_refusal slot.tree uid gid 1 0 ∷ []) walk.1).0 in
+    with_node-valid slot.tree path makes.0 node tree free (unused_here all place.fileset slot makes.0 makes.1 is) pages (λ front name e. passed_walk slot path front name walk.0 e))
     makes.2
 
 -- ---- the content of a file
@@ -140,8 +140,8 @@ renames-valid all new place to v none change =
           let checks : FilesetSlot → List (Option Refusal) = λ slot. target_refusal slot from ∷ walk_refusal slot to ∷ first_refusal (move_checks from to slot) ∷ [] in
           tree_changes-valid all new place.fileset checks (λ tree. moved from to (without to tree)) v h
           (λ slot at tree passes.
-            let walk = passed (walk_refusal slot to) (first_refusal (move_checks from to slot) ∷ []) (passed (target_refusal slot from) (walk_refusal slot to ∷ first_refusal (move_checks from to slot) ∷ []) passes).1 in
-            renamed-valid slot from to tree walk.0 (passed (first_refusal (move_checks from to slot)) [] walk.1).0)
+          let walk = passed (walk_refusal slot to) (first_refusal (move_checks from to slot) ∷ []) (passed (target_refusal slot from) (walk_refusal slot to ∷ first_refusal (move_checks from to slot) ∷ []) passes).1 in
+          renamed-valid slot from to tree walk.0 (passed (first_refusal (move_checks from to slot)) [] walk.1).0)
           is
     ] none change
 
@@ -187,10 +187,10 @@ changes-valid old new (Write place offset bytes) v none change =
     let quota : FilesetSlot → Option Refusal = λ slot. option_map_or (write_quota slot.tree offset bytes) (node_at slot.tree path) None in
     tree_changes-valid old new place.fileset (λ slot. target_refusal slot path ∷ directory_here slot path ∷ refuse_if (nat_lt FILE_BYTES (offset + length bytes)) TooFar ∷ quota slot ∷ []) (with_change path (written_node offset bytes)) v none
     (λ slot at tree passes.
-      let far : Option Refusal = refuse_if (nat_lt FILE_BYTES (offset + length bytes)) TooFar in
-      let one = passed (target_refusal slot path) (directory_here slot path ∷ far ∷ quota slot ∷ []) passes in
-      let two = passed (directory_here slot path) (far ∷ quota slot ∷ []) one.1 in
-      with_change-valid slot.tree path (written_node offset bytes) tree (written_node-kind offset bytes) (written_node-whole offset bytes (fits_in_file (offset + length bytes) (passed far (quota slot ∷ []) two.1).0)))
+    let far : Option Refusal = refuse_if (nat_lt FILE_BYTES (offset + length bytes)) TooFar in
+    let one = passed (target_refusal slot path) (directory_here slot path ∷ far ∷ quota slot ∷ []) passes in
+    let two = passed (directory_here slot path) (far ∷ quota slot ∷ []) one.1 in
+    with_change-valid slot.tree path (written_node offset bytes) tree (written_node-kind offset bytes) (written_node-whole offset bytes (fits_in_file (offset + length bytes) (passed far (quota slot ∷ []) two.1).0)))
     change
 changes-valid old new (Truncate place size) v none change =
     tree_changes-valid old new place.fileset (λ slot. target_refusal slot place.path ∷ directory_here slot place.path ∷ refuse_if (nat_lt FILE_BYTES size) TooFar ∷ []) (with_change place.path (truncated_node size)) v none
@@ -199,17 +199,17 @@ changes-valid old new (Rename place to) v none change = renames-valid old new pl
 changes-valid old new (Unlink place) v none change =
     tree_changes-valid old new place.fileset (λ slot. target_refusal slot place.path ∷ directory_here slot place.path ∷ []) (without place.path) v none
     (λ slot at tree passes.
-      let rest = (passed (target_refusal slot place.path) (directory_here slot place.path ∷ []) passes).1 in
-      let leaf = leaf_file slot place.path tree (passed (directory_here slot place.path) [] rest).0 in
-      without-valid slot.tree place.path tree leaf.no_root leaf.alone)
+    let rest = (passed (target_refusal slot place.path) (directory_here slot place.path ∷ []) passes).1 in
+    let leaf = leaf_file slot place.path tree (passed (directory_here slot place.path) [] rest).0 in
+    without-valid slot.tree place.path tree leaf.no_root leaf.alone)
     change
 changes-valid old new (Rmdir place) v none change =
     tree_changes-valid old new place.fileset (λ slot. target_refusal slot place.path ∷ file_here slot place.path ∷ not_empty slot place.path ∷ []) (without place.path) v none
     (λ slot at tree passes.
-      let one = passed (target_refusal slot place.path) (file_here slot place.path ∷ not_empty slot place.path ∷ []) passes in
-      let two = passed (file_here slot place.path) (not_empty slot place.path ∷ []) one.1 in
-      let leaf = leaf_empty slot place.path (passed (not_empty slot place.path) [] two.1).0 in
-      without-valid slot.tree place.path tree leaf.no_root leaf.alone)
+    let one = passed (target_refusal slot place.path) (file_here slot place.path ∷ not_empty slot place.path ∷ []) passes in
+    let two = passed (file_here slot place.path) (not_empty slot place.path ∷ []) one.1 in
+    let leaf = leaf_empty slot place.path (passed (not_empty slot place.path) [] two.1).0 in
+    without-valid slot.tree place.path tree leaf.no_root leaf.alone)
     change
 changes-valid old new (Chfile place logged) v none change =
     tree_changes-valid old new place.fileset (λ slot. target_refusal slot place.path ∷ directory_here slot place.path ∷ []) (with_change place.path (flagged_node logged)) v none
@@ -223,7 +223,7 @@ changes-valid old new (Fsync place) v none change = subst AreValid (sym change) 
 changes-valid old new Sync v none change = subst AreValid (sym change) v
 changes-valid old new Cancel v none change = subst AreValid (sym change) v
 
-answered-valid : (old new : FilesetMap) (command : Command) (reply : Reply) → AreValid old → Answers old command reply new → AreValid new
+pub answered-valid : (old new : FilesetMap) (command : Command) (reply : Reply) → AreValid old → Answers old command reply new → AreValid new
 answered-valid old new command reply v answers =
     elim (refusal_of old command) as (λ o. refusal_of old command ≡ o
     → MatchOption o ((reply ≡ answer_of old command) × Changes old command new) (λ refusal. (reply ≡ Refused refusal) × (new ≡ old)) → AreValid new) [

@@ -1,10 +1,12 @@
 -- What the checks of a command that is not refused say of a valid tree.
-use Rattle.std.proofs.Common.{◌≡◌, ◌≢◌, ℕ, suc, zero, ◌+◌, ◌<◌, ◌==◌, Bool, true, false, cond, not, ◌||◌, is_some, List, [], ◌∷◌, ◌++◌, map as map_each, take, length, length-append, get_or, IsTrue, IsSomeAnd, Option, Some, None, refl, sym, ap, subst, ◌∙◌, true≢false, eqb-true, arith}
+use Rattle.std.proofs.Common.{◌≡◌, ◌≢◌, ℕ, suc, zero, ◌+◌, ◌<◌, ◌==◌, true, false, cond, not, ◌||◌, is_some, List, [], ◌∷◌, ◌++◌, map as map_each, take, length, length-append, get_or, IsTrue, IsSomeAnd, Option, Some, None, refl, sym, ap, subst, ◌∙◌, true≢false, eqb-true, arith}
+use Rattle.std.proofs.lemmas.Bool.{not-false, or_parts}
 use Rattle.std.proofs.lemmas.List.{drop_at, take_at}
 use Rattle.std.proofs.lemmas.List.FromFn.{get_or-map-range_with_len, length-map-range_with_len}
 use Rattle.std.specs.List.{cons_option, filter_map, range_with_len}
 use Rattle.std.specs.Option.{option_and_then, option_map_or}
 use Rattle.std.specs.Ordering.{eq_by_cmp}
+use Rattle.std.specs.Cmp.{Equal-is}
 use Rattle.std.specs.FinMap as map
 use Rattle.std.specs.FinMap.Entries.{find}
 use Rattle.fileset_model.specs.Orders.{Name, Path, path_cmp, path_cmp-IsAntisymmetric}
@@ -18,18 +20,8 @@ use Rattle.fileset_model.specs.declared.reply.Refusal.{Refusal}
 use Rattle.fileset_model.specs.declared.reply.Refusal.TheVariants.{Exists, IsDirectory, NoPath, NotDirectory, NotEmpty, OutOfSync}
 use Rattle.fileset_model.proofs.RowsLemmas.{row_of}
 use Rattle.fileset_model.proofs.ValidLemmas.{passed, passed_test}
-use Rattle.fileset_model.proofs.ValidMoveLemmas.{begins_of, tied}
+use Rattle.fileset_model.proofs.ValidMoveLemmas.{begins_of}
 use Rattle.fileset_model.proofs.ValidTreeLemmas.{some≢none}
-
--- ---- tests
-
-pub turned_true : (b : Bool) → not b ≡ false → b ≡ true
-turned_true true h = refl
-turned_true false h = absurd (true≢false h)
-
-neither : (a b : Bool) → (a || b) ≡ false → (a ≡ false) × (b ≡ false)
-neither true b h = absurd (true≢false h)
-neither false b h = (refl, h)
 
 pub absent : {X : Type 0} (o : Option X) → is_some o ≡ false → o ≡ None
 absent None h = refl
@@ -47,7 +39,7 @@ passed_directory slot path h =
     elim (node_at slot.tree path) as (λ o. option_map_or (λ node. first_refusal (refuse_if (not (is_directory node)) NotDirectory ∷ refuse_if (is_marked slot path) OutOfSync ∷ [])) o (Some NoPath) ≡ None
     → IsSomeAnd o (λ node. IsTrue (is_directory node))) [
       | None ↦ λ none. absurd (some≢none NoPath none)
-      | Some node ↦ λ none. turned_true (is_directory node) (passed_test (not (is_directory node)) NotDirectory (passed (refuse_if (not (is_directory node)) NotDirectory) (refuse_if (is_marked slot path) OutOfSync ∷ []) none).0)
+      | Some node ↦ λ none. not-false (is_directory node) (passed_test (not (is_directory node)) NotDirectory (passed (refuse_if (not (is_directory node)) NotDirectory) (refuse_if (is_marked slot path) OutOfSync ∷ []) none).0)
     ] h
 
 pub passed_walk : (slot : FilesetSlot) (path front : Path) (name : Name) → walk_refusal slot path ≡ None → front ++ name ∷ [] ≡ path → IsDirectoryAt slot.tree front
@@ -57,7 +49,7 @@ passed_walk slot path front name h e =
     let ways : List Path = map_each (λ count. take count path) (range_with_len 0 n) in
     let many : length ways ≡ n = length-map-range_with_len (λ count. take count path) 0 n in
     let at : get_or ways (length front) [] ≡ front = get_or-map-range_with_len (λ count. take count path) 0 n (length front) (length front) [] (omega arith) (omega arith)
-        ∙ ap (take (length front)) (sym e) ∙ take_at front (name ∷ []) (length front) refl in
+    ∙ ap (take (length front)) (sym e) ∙ take_at front (name ∷ []) (length front) refl in
     passed_directory slot front (ap (directory_refusal slot) (sym at) ∙ passed_each (directory_refusal slot) ways h (length front) [] (omega (arith, many, long)))
 
 -- ---- a path that is there, and one that is not
@@ -66,7 +58,7 @@ pub passed_target : (slot : FilesetSlot) (path : Path) → target_refusal slot p
 passed_target slot path h =
     let test = not (map.contains_key slot.tree.paths path) in
     let rest = (passed (walk_refusal slot path) (refuse_if test NoPath ∷ []) h).1 in
-    turned_true (map.contains_key slot.tree.paths path) (passed_test test NoPath (passed (refuse_if test NoPath) [] rest).0)
+    not-false (map.contains_key slot.tree.paths path) (passed_test test NoPath (passed (refuse_if test NoPath) [] rest).0)
 
 pub passed_free : (slot : FilesetSlot) (path : Path) → path_taken slot path ≡ None → map.get slot.tree.paths path ≡ None
 passed_free slot path h = absent (map.get slot.tree.paths path) (passed_test (map.contains_key slot.tree.paths path) Exists h)
@@ -108,11 +100,11 @@ has_row tree parent name [] number found none = some≢none number (sym found)
 has_row tree parent name (e ∷ es) number found none =
     elim (eq_by_cmp path_cmp (parent ++ name ∷ []) e.0) as (λ b. eq_by_cmp path_cmp (parent ++ name ∷ []) e.0 ≡ b → (b ≡ false → find path_cmp (parent ++ name ∷ []) es ≡ Some number) → ⊥) [
       | true ↦ λ t rest.
-          let key : parent ++ name ∷ [] ≡ e.0 = path_cmp-IsAntisymmetric (parent ++ name ∷ []) e.0 (tied (path_cmp (parent ++ name ∷ []) e.0) t) in
+          let key : parent ++ name ∷ [] ≡ e.0 = path_cmp-IsAntisymmetric (parent ++ name ∷ []) e.0 ((Equal-is (path_cmp (parent ++ name ∷ []) e.0)).0 t) in
           let named : name_below parent e.0 ≡ Some name = ap (name_below parent) (sym key) ∙ below_is parent name in
           let row : Name → Option NameItem = λ n. Some (record { name = n; directory = option_map_or is_directory (map.get tree.nodes e.1) false }) in
           let first : length (cons_option (option_and_then row (Some name)) (filter_map (row_of tree parent) es)) ≡ 0 =
-              ap (λ o. length (cons_option (option_and_then row o) (filter_map (row_of tree parent) es))) (sym named) ∙ none in
+          ap (λ o. length (cons_option (option_and_then row o) (filter_map (row_of tree parent) es))) (sym named) ∙ none in
           absurd (cc)
       | false ↦ λ t rest. has_row tree parent name es number (rest refl)
           (elim (row_of tree parent e) as (λ o. length (cons_option o (filter_map (row_of tree parent) es)) ≡ 0 → length (filter_map (row_of tree parent) es) ≡ 0) [
@@ -123,8 +115,8 @@ has_row tree parent name (e ∷ es) number found none =
 
 pub leaf_empty : (slot : FilesetSlot) (path : Path) → not_empty slot path ≡ None → IsLeaf slot.tree path
 leaf_empty slot path h =
-    let tests = neither (length path == 0) (not (length (rows_of slot.tree path) == 0)) (passed_test (length path == 0 || not (length (rows_of slot.tree path) == 0)) NotEmpty h) in
-    let rows : length (rows_of slot.tree path) ≡ 0 = eqb-true (length (rows_of slot.tree path)) 0 (turned_true (length (rows_of slot.tree path) == 0) tests.1) in
+    let tests = or_parts (length path == 0) (not (length (rows_of slot.tree path) == 0)) (passed_test (length path == 0 || not (length (rows_of slot.tree path) == 0)) NotEmpty h) in
+    let rows : length (rows_of slot.tree path) ≡ 0 = eqb-true (length (rows_of slot.tree path)) 0 (not-false (length (rows_of slot.tree path) == 0) tests.1) in
     record {
       no_root = λ e. true≢false (ap (λ (p : Path). length p == 0) (sym e) ∙ tests.0);
       alone = λ name. elim (map.get slot.tree.paths (path ++ name ∷ [])) as (λ o. map.get slot.tree.paths (path ++ name ∷ []) ≡ o → o ≡ None) [

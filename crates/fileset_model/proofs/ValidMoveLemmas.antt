@@ -5,7 +5,7 @@ use Rattle.std.proofs.lemmas.Slice.Eq.{starts_is}
 use Rattle.std.specs.declared.cmp.Ordering.{Ordering}
 use Rattle.std.specs.declared.cmp.Ordering.TheVariants.{Less, Equal, Greater}
 use Rattle.std.specs.Ordering.{eq_by_cmp, is_eq, is_lt}
-use Rattle.std.specs.Cmp.{IsTotalOrder, first_so, second_so, tied_itself}
+use Rattle.std.specs.Cmp.{Equal-is, IsTotalOrder, first_so, second_so, tied_itself}
 use Rattle.std.specs.Cmp.Lexicographic.{bytes_decides}
 use Rattle.std.specs.FinMap as map
 use Rattle.std.specs.FinMap.Entries.{below_all, find, is_sorted}
@@ -19,11 +19,6 @@ use Rattle.fileset_model.proofs.ValidLemmas.{some_inj}
 use Rattle.fileset_model.proofs.ValidTreeLemmas.{at_directory, directory_of, no_child, some_of, some≢none}
 
 -- ---- the entries of a map with other keys
-
-pub tied : (r : Ordering) → is_eq r ≡ true → r ≡ Equal
-tied Less h = absurd (true≢false (sym h))
-tied Equal h = refl
-tied Greater h = absurd (true≢false (sym h))
 
 module _ {K X : Type 0} {R : K → K → Ordering} (o : IsTotalOrder R) (a : map.IsAntisymmetric R) where
   below-none : (q : K) (es : List (K × X)) → below_all R q es ≡ true → find R q es ≡ None
@@ -40,7 +35,7 @@ module _ {K X : Type 0} {R : K → K → Ordering} (o : IsTotalOrder R) (a : map
   found_later : (e : K × X) (es : List (K × X)) (q : K) (v : X) → IsTrue (is_sorted R (e ∷ es)) → find R q es ≡ Some v → find R q (e ∷ es) ≡ Some v
   found_later e es q v h found =
       elim (eq_by_cmp R q e.0) as (λ b. eq_by_cmp R q e.0 ≡ b → cond b (Some e.1) (find R q es) ≡ Some v) [
-        | true ↦ λ t. let none : find R q es ≡ None = ap (λ k. find R k es) (a q e.0 (tied (R q e.0) t)) ∙ below-none e.0 es (first_so _ _ h) in absurd (some≢none v (sym found ∙ none))
+        | true ↦ λ t. let none : find R q es ≡ None = ap (λ k. find R k es) (a q e.0 ((Equal-is (R q e.0)).0 t)) ∙ below-none e.0 es (first_so _ _ h) in absurd (some≢none v (sym found ∙ none))
         | false ↦ λ t. found
       ] refl
 
@@ -54,7 +49,7 @@ module _ {K X : Type 0} {R : K → K → Ordering} (o : IsTotalOrder R) (a : map
   came_from h [] q v sorted found = absurd (some≢none v (sym found))
   came_from h (e ∷ es) q v sorted found =
       elim (eq_by_cmp R q (h e.0)) as (λ b. eq_by_cmp R q (h e.0) ≡ b → cond b (Some e.1) (find R q (rekeyed h es)) ≡ Some v → (p : K) × (h p ≡ q) × (find R p (e ∷ es) ≡ Some v)) [
-        | true ↦ λ t is. (e.0, sym (a q (h e.0) (tied (R q (h e.0)) t)), found_first e es ∙ is)
+        | true ↦ λ t is. (e.0, sym (a q (h e.0) ((Equal-is (R q (h e.0))).0 t)), found_first e es ∙ is)
         | false ↦ λ t is. let rest = came_from h es q v (second_so _ _ sorted) is in (rest.0, rest.1, found_later e es rest.0 v sorted rest.2)
       ] refl found
 
@@ -63,12 +58,12 @@ module _ {K X : Type 0} {R : K → K → Ordering} (o : IsTotalOrder R) (a : map
   went_to h [] p v sorted one found = absurd (some≢none v (sym found))
   went_to h (e ∷ es) p v sorted one found =
       elim (eq_by_cmp R p e.0) as (λ b. eq_by_cmp R p e.0 ≡ b → cond b (Some e.1) (find R p es) ≡ Some v → find R (h p) (rekeyed h (e ∷ es)) ≡ Some v) [
-        | true ↦ λ t is. ap (λ k. find R (h k) (rekeyed h (e ∷ es))) (a p e.0 (tied (R p e.0) t)) ∙ ap (λ r. cond (is_eq r) (Some e.1) (find R (h e.0) (rekeyed h es))) (tied_itself o (h e.0)) ∙ is
+        | true ↦ λ t is. ap (λ k. find R (h k) (rekeyed h (e ∷ es))) (a p e.0 ((Equal-is (R p e.0)).0 t)) ∙ ap (λ r. cond (is_eq r) (Some e.1) (find R (h e.0) (rekeyed h es))) (tied_itself o (h e.0)) ∙ is
         | false ↦ λ t is.
             let rest = went_to h es p v (second_so _ _ sorted) (λ q w at same. one q w (found_later e es q w sorted at) same) is in
             elim (eq_by_cmp R (h p) (h e.0)) as (λ b. eq_by_cmp R (h p) (h e.0) ≡ b → cond b (Some e.1) (find R (h p) (rekeyed h es)) ≡ Some v) [
               | true ↦ λ same.
-                  let key : e.0 ≡ p = one e.0 e.1 (found_first e es) (sym (a (h p) (h e.0) (tied (R (h p) (h e.0)) same))) in
+                  let key : e.0 ≡ p = one e.0 e.1 (found_first e es) (sym (a (h p) (h e.0) ((Equal-is (R (h p) (h e.0))).0 same))) in
                   absurd (true≢false (sym (ap (λ k. eq_by_cmp R p k) key ∙ ap is_eq (tied_itself o p)) ∙ t))
               | false ↦ λ same. rest
             ] refl
@@ -87,7 +82,7 @@ longer : (front path : Path) (name : Name) → begins_with (path ++ name ∷ [])
 longer front path name other =
     elim (begins_with path front) as (λ b. begins_with path front ≡ b → b ≡ false) [
       | true ↦ λ h. absurd (true≢false (sym (begins_of (path ++ name ∷ []) front (drop (length front) path ++ name ∷ [])
-        (ap (λ p. p ++ name ∷ []) (begins path front h) ∙ append_assoc front (drop (length front) path) (name ∷ []))) ∙ other))
+          (ap (λ p. p ++ name ∷ []) (begins path front h) ∙ append_assoc front (drop (length front) path) (name ∷ []))) ∙ other))
       | false ↦ λ h. refl
     ] refl
 
@@ -148,7 +143,7 @@ module _ (tree : Fileset) (from to : Path) (v : IsValidFileset tree) (no_root : 
   came q k at_q =
       let es = map.entries tree.paths in
       let old = came_from path_cmp-total path_cmp-IsAntisymmetric (moved_path from to) es q k (sorted_entries tree.paths)
-          (sym (map.get-from_entries path_cmp-total (map_each (λ (e : Path × ℕ). (moved_path from to e.0, e.1)) es) q) ∙ at_q) in
+      (sym (map.get-from_entries path_cmp-total (map_each (λ (e : Path × ℕ). (moved_path from to e.0, e.1)) es) q) ∙ at_q) in
       (old.0, old.1, map.get-entries tree.paths old.0 ∙ old.2)
 
   went : (p : Path) (k : ℕ) → map.get tree.paths p ≡ Some k → map.get after.paths (moved_path from to p) ≡ Some k
@@ -179,8 +174,8 @@ module _ (tree : Fileset) (from to : Path) (v : IsValidFileset tree) (no_root : 
             let back : q ≡ to ++ front = same_front q (to ++ front) name more.1 (sym e ∙ ap (λ r. to ++ r) more.2 ∙ sym (append_assoc to front (more.1 ∷ []))) in
             let there = ap (map.get tree.paths) (append_assoc from front (more.1 ∷ []) ∙ ap (λ r. from ++ r) (sym more.2)) ∙ at in
             let here : moved_path from to (from ++ front) ≡ q =
-                ap (λ b. cond b (to ++ drop (length from) (from ++ front)) (from ++ front)) (begins_of (from ++ front) from front refl)
-                ∙ ap (λ r. to ++ r) (drop_at from front (length from) refl) ∙ sym back in
+            ap (λ b. cond b (to ++ drop (length from) (from ++ front)) (from ++ front)) (begins_of (from ++ front) from front refl)
+            ∙ ap (λ r. to ++ r) (drop_at from front (length from) refl) ∙ sym back in
             directory_went (from ++ front) q here (v.parents (from ++ front) more.1 (ap is_some there))
       ]
 

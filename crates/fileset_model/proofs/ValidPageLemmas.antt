@@ -68,10 +68,10 @@ truncated-whole pages size all =
     let begins_below : ℕ → Bool = λ q. nat_lt (q * 8192) size in
     let kept = map.retain_keys pages begins_below in
     let kept-whole : AreWhole kept = λ q page is.
-        elim (begins_below q) as (λ b. cond b (map.get pages q) None ≡ Some page → IsWhole q page) [
-          | true ↦ λ found. all q page found
-          | false ↦ λ found. absurd (some≢none page (sym found))
-        ] (sym (map.get-retain_keys pages begins_below q (λ x t. ap begins_below (sym (map.nat_cmp-IsAntisymmetric q x t)))) ∙ is) in
+    elim (begins_below q) as (λ b. cond b (map.get pages q) None ≡ Some page → IsWhole q page) [
+      | true ↦ λ found. all q page found
+      | false ↦ λ found. absurd (some≢none page (sym found))
+    ] (sym (map.get-retain_keys pages begins_below q (λ x t. ap begins_below (sym (map.nat_cmp-IsAntisymmetric q x t)))) ∙ is) in
     elim (map.get kept (size / 8192)) as (λ o. map.get kept (size / 8192) ≡ o
     → AreWhole (option_map_or (λ page. map.insert kept (size / 8192) (overwritten page (size % 8192) (zero_bytes (8192 - size % 8192)))) o kept)) [
       | None ↦ λ is. kept-whole

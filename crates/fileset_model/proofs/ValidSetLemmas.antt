@@ -75,7 +75,7 @@ insert-valid all name slot v absent few join =
       ];
     }
 
-original≢clone : (original : Name) (out : NumberSet) → Original ≢ CloneOf original out
+pub original≢clone : (original : Name) (out : NumberSet) → Original ≢ CloneOf original out
 original≢clone original out e = some≢none original (sym (ap original_of e))
 
 pub new-joins : (all : FilesetMap) (root : ℕ) → CanJoin all (record { tree = empty_fileset root; role = Original })

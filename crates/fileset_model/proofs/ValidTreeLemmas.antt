@@ -1,5 +1,6 @@
 -- What is so of each fileset stays so under a change of its tree.
 use Rattle.std.proofs.Common.{◌≡◌, ◌≢◌, ℕ, cond, is_some, [], ◌∷◌, ◌++◌, IsTrue, IsSome, IsSomeAnd, Option, Some, None, refl, sym, ap, subst, ◌∙◌, inl, inr, true≢false, append_assoc, append-nil}
+use Rattle.std.proofs.lemmas.Option.{none-some}
 use Rattle.std.specs.Option.{option_map_or, option_and_then}
 use Rattle.std.specs.Ordering.{is_eq}
 use Rattle.std.specs.declared.cmp.Ordering.{Ordering}
@@ -42,7 +43,7 @@ at_directory tree path d =
     subst (λ o. IsSomeAnd o (λ node. IsTrue (is_directory node))) (sym at) d.directory
 
 pub some≢none : {X : Type 0} (x : X) → Some x ≢ None
-some≢none x e = true≢false (ap is_some e)
+some≢none x e = none-some x (sym e)
 
 -- what has a value at one key and none at another has other keys there
 apart : {K X : Type 0} {R : K → K → Ordering} (m : map.FinMap R X) (p q : K) (x : X) → map.get m p ≡ Some x → map.get m q ≡ None → p ≢ q
@@ -112,8 +113,13 @@ module _ (tree : Fileset) (number : ℕ) (node changed : Node) (v : IsValidFiles
       let d = directory_of tree q h in
       let new : Fileset = record tree { nodes = map.insert tree.nodes number changed } in
       elim (got-insert nat_cmp_total map.nat_cmp-IsAntisymmetric tree.nodes number changed d.number _ refl) as (λ _. IsDirectoryAt new q) [
-        | inl here ↦ at_directory new q (record { number = d.number; node = changed; leads = d.leads; is = here.1;
-          directory = kind ∙ ap is_directory (some_inj (sym is ∙ ap (map.get tree.nodes) (sym here.0) ∙ d.is)) ∙ d.directory })
+        | inl here ↦ at_directory new q (record {
+          number = d.number;
+          node = changed;
+          leads = d.leads;
+          is = here.1;
+          directory = kind ∙ ap is_directory (some_inj (sym is ∙ ap (map.get tree.nodes) (sym here.0) ∙ d.is)) ∙ d.directory;
+        })
         | inr other ↦ at_directory new q (record { number = d.number; node = d.node; leads = d.leads; is = sym other.1 ∙ d.is; directory = d.directory })
       ]
 
@@ -143,10 +149,10 @@ with_change-valid tree path change v kind pages =
     (option_map_or (λ number. option_map_or (λ node. record tree { nodes = map.insert tree.nodes number (change node) }) (map.get tree.nodes number) tree) found tree)) [
       | None ↦ v
       | Some number ↦ elim (map.get tree.nodes number) as (λ found. map.get tree.nodes number ≡ found → IsValidFileset
-        (option_map_or (λ node. record tree { nodes = map.insert tree.nodes number (change node) }) found tree)) [
-          | None ↦ λ is. v
-          | Some node ↦ λ is. changed-valid tree number node (change node) v is (kind node) (pages node (v.whole number node is))
-        ] refl
+          (option_map_or (λ node. record tree { nodes = map.insert tree.nodes number (change node) }) found tree)) [
+            | None ↦ λ is. v
+            | Some node ↦ λ is. changed-valid tree number node (change node) v is (kind node) (pages node (v.whole number node is))
+          ] refl
     ]
 
 -- ---- without a path that is not the root and has none below it
