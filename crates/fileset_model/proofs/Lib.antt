@@ -6,6 +6,13 @@ pub mod PageLemmas
 pub mod RowsLemmas
 pub mod SlotLemmas
 pub mod TreeLemmas
+pub mod ValidAnswerLemmas
+pub mod ValidCheckLemmas
+pub mod ValidHistoryLemmas
 pub mod ValidLemmas
+pub mod ValidMoveLemmas
+pub mod ValidPageLemmas
+pub mod ValidSetLemmas
+pub mod ValidTreeLemmas
 pub mod WalkLemmas
 pub mod WholeLemmas

@@ -1,15 +1,34 @@
 //! Laws of the definitions, each the contract of a function without a body.
-ghost use Rattle.std.specs.Prelude.{◌≡◌, Some};
+ghost use Rattle.std.specs.Prelude.{◌≡◌, ℕ, List, Option, Some};
 ghost use Rattle.std.specs.FinMap.{get};
-ghost use Rattle.fileset_model.specs.Apply.{with_tree};
+ghost use Rattle.fileset_model.specs.Apply.{AnswersIfMemory, with_tree};
 ghost use Rattle.fileset_model.specs.Fileset.{Fileset as Tree};
+ghost use Rattle.fileset_model.specs.Legal.{Legal};
 ghost use Rattle.fileset_model.specs.Orders.{Name as NameBytes};
-ghost use Rattle.fileset_model.specs.State.{AreValid, FilesetMap, IsValidFileset};
-ghost use Rattle.fileset_model.specs.declared.fileset.Role.TheVariants.{Original as OriginalRole};
+ghost use Rattle.fileset_model.specs.State.{AreValid, FilesetMap, IsValid, IsValidFileset, State, empty_state};
+ghost use Rattle.fileset_model.specs.declared.command.Command.{Command as CommandOf};
+ghost use Rattle.fileset_model.specs.declared.entry.Entry.{Entry as EntryOf};
 ghost use Rattle.fileset_model.specs.declared.fileset.FilesetSlot.{FilesetSlot as SlotOf};
+ghost use Rattle.fileset_model.specs.declared.fileset.Role.TheVariants.{Original as OriginalRole};
+ghost use Rattle.fileset_model.specs.declared.reply.Reply.{Reply as ReplyOf};
 
 /// A valid tree in the place of an original's keeps all filesets valid.
 pub fn a_valid_tree_keeps_all_valid()
     ensures { (all : FilesetMap) (name : NameBytes) (slot : SlotOf) (change : Tree → Tree) → AreValid all → get all name ≡ Some slot
         → slot.role ≡ OriginalRole → IsValidFileset (change slot.tree) → AreValid (with_tree all name change) }
+{}
+
+/// Every answer of a command, a refusal and want of memory among them, keeps all filesets valid.
+pub fn every_answer_keeps_all_valid()
+    ensures { (old new : FilesetMap) (command : CommandOf) (reply : ReplyOf) → AreValid old → AnswersIfMemory old command reply new → AreValid new }
+{}
+
+/// The state after each legal history that began in a valid one is valid.
+pub fn every_legal_history_ends_valid()
+    ensures { (start end : State) (history : List EntryOf) (job : Option CommandOf) → IsValid start → Legal start history job end → IsValid end }
+{}
+
+/// A domain that was just made is valid: it has no filesets, and its log is on a member.
+pub fn a_new_domain_is_valid()
+    ensures { (pages : ℕ) → IsValid (empty_state pages) }
 {}

@@ -26,7 +26,10 @@ pub use command::{Actor, Command, CommandList, Owner, Place};
 pub use entry::Entry;
 pub use fileset::{FilesetSlot, FilesetTree, Limits, NumberSet, Role};
 pub use filesets::Filesets;
-pub use laws::a_valid_tree_keeps_all_valid;
+pub use laws::{
+    a_new_domain_is_valid, a_valid_tree_keeps_all_valid, every_answer_keeps_all_valid,
+    every_legal_history_ends_valid,
+};
 pub use listing::Listing;
 pub use names::{Bytes, FilesetName, Name, Path};
 pub use node::Node;
