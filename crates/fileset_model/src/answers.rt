@@ -11,14 +11,14 @@ ghost use Rattle.fileset_model.specs.declared.reply.Reply.TheVariants.{Done as D
 use crate::change::{chfile, mkdir, rmdir, truncate, unlink};
 use crate::command::{Command, Place};
 use crate::fileset::{FilesetSlot, FilesetTree, Role};
+use crate::fileset_commands::{clonefset, rmfset, setquota, showfsets, showquota};
 use crate::filesets::Filesets;
+use crate::name_commands::{fsync, list, rename, stat};
 use crate::names::{Bytes, FilesetName, Path};
-use crate::names_commands::{fsync, list, rename, stat};
 use crate::node::Node;
 use crate::page_map::PageMap;
 use crate::reply::{Refusal, Reply};
 use crate::walk::{directory_here, is_marked, target_refusal, walk_refusal};
-use crate::whole::{clonefset, rmfset, setquota, showfsets, showquota};
 use domain_base::OutOfMemory;
 use domain_base::limits::{BLOCKS_PER_PAGE, FILE_BYTES as LARGEST_FILE, MAX_FILESETS};
 use std::alloc::Global;

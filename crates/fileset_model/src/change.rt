@@ -1,16 +1,17 @@
 //! The commands that make a directory, and that change or remove a file or directory.
-ghost use Rattle.std.specs.Prelude.{◌≡◌, ◌+◌, ◌-◌, ◌*◌, ◌/◌, ◌%◌, ◌==◌, ◌||◌, [], ◌∷◌, false as NotFile, length, nat_lt, not, IfOk, IsTrue, OnOk, OnErr};
+ghost use Rattle.std.specs.Prelude.{◌≡◌, ◌+◌, ◌-◌, ◌*◌, ◌/◌, ◌%◌, ◌==◌, ◌||◌, [], ◌∷◌, false as NotFile, length, nat_lt, not, IfOk, IsTrue, MatchOption, OnOk, OnErr};
 ghost use Rattle.std.specs.List.{filter};
 ghost use Rattle.std.specs.Option.{option_map_or};
 ghost use Rattle.std.specs.Ordering.{eq_by_cmp, nat_cmp};
 ghost use Rattle.std.specs.FinMap.Entries.{find as found_at, is_sorted, put as put_at, where_key};
 ghost use Rattle.domain_base.specs.Page.{overwritten, zero_bytes};
 ghost use Rattle.domain_base.specs.declared.limits.TheConstants.{FILE_BYTES};
-ghost use Rattle.fileset_model.specs.Apply.{Answers, flagged_node, not_empty, read_only, truncated_node, with_change, with_tree, without};
+ghost use Rattle.fileset_model.specs.Apply.{Answers, flagged_node, not_empty, read_only, refusal_of, truncated_node, with_change, with_tree, without};
 ghost use Rattle.fileset_model.specs.Pages.{truncated};
 ghost use Rattle.fileset_model.specs.Paths.{directory_here as directory_check, file_here as file_check, first_refusal, refuse_if, rows_of, target_refusal as target_check};
 ghost use Rattle.fileset_model.specs.declared.command.Command.TheVariants.{Chfile, Mkdir, Rmdir, Truncate, Unlink};
 ghost use Rattle.fileset_model.specs.declared.reply.Refusal.TheVariants.{TooFar as TooFarRefusal};
+ghost use Rattle.fileset_model.specs.declared.reply.Reply.TheVariants.{Done as DoneReply, Refused as RefusedReply};
 
 use crate::answers::create_refusal;
 use crate::command::Place;
@@ -48,7 +49,8 @@ pub(crate) fn mkdir(
     Ok(Reply::Done)
 }
 
-/// Sets the size of a file. What lay after it is gone, and reads as zeros if the file grows again.
+/// Sets the size of a file. What was written behind the new size is lost: where the file grows
+/// again, zeros are read there.
 pub(crate) fn truncate(
     alloc: Global,
     filesets: &mut Filesets,
@@ -97,14 +99,8 @@ pub(crate) fn unlink(
     ensures ok { IfOk result (λ reply. Answers filesets.old (Unlink place.now) reply filesets.new) }
     ensures err { OnErr result (filesets.new ≡ filesets.old) }
 {
-    let Some(slot) = filesets.slot(&place.fileset) else {
-        return Ok(Reply::Refused(Refusal::NoFileset));
-    };
-    if let Some(refusal) = file_refusal(alloc, slot, &place.path)? {
-        return Ok(Reply::Refused(refusal));
-    }
-    filesets.remove(place);
-    Ok(Reply::Done)
+    let refusal = unlink_refusal(alloc, filesets, place)?;
+    Ok(filesets.remove_unless(refusal, place))
 }
 
 /// Removes an empty directory.
@@ -116,14 +112,36 @@ pub(crate) fn rmdir(
     ensures ok { IfOk result (λ reply. Answers filesets.old (Rmdir place.now) reply filesets.new) }
     ensures err { OnErr result (filesets.new ≡ filesets.old) }
 {
-    let Some(slot) = filesets.slot(&place.fileset) else {
-        return Ok(Reply::Refused(Refusal::NoFileset));
-    };
-    if let Some(refusal) = rmdir_refusal(alloc, slot, &place.path)? {
-        return Ok(Reply::Refused(refusal));
+    let refusal = rmdir_refusal(alloc, filesets, place)?;
+    Ok(filesets.remove_unless(refusal, place))
+}
+
+/// Why there is no file to be removed at a place.
+fn unlink_refusal(
+    alloc: Global,
+    filesets: &Filesets,
+    place: &Place,
+) -> Result<Option<Refusal>, OutOfMemory>
+    ensures { IfOk result (λ refusal. refusal ≡ refusal_of filesets.now (Unlink place.now)) }
+{
+    match filesets.slot(&place.fileset) {
+        Some(slot) => file_refusal(alloc, slot, &place.path),
+        None => Ok(Some(Refusal::NoFileset)),
     }
-    filesets.remove(place);
-    Ok(Reply::Done)
+}
+
+/// Why there is no empty directory to be removed at a place.
+fn rmdir_refusal(
+    alloc: Global,
+    filesets: &Filesets,
+    place: &Place,
+) -> Result<Option<Refusal>, OutOfMemory>
+    ensures { IfOk result (λ refusal. refusal ≡ refusal_of filesets.now (Rmdir place.now)) }
+{
+    match filesets.slot(&place.fileset) {
+        Some(slot) => empty_directory_refusal(alloc, slot, &place.path),
+        None => Ok(Some(Refusal::NoFileset)),
+    }
 }
 
 /// Why the file at a path can't be changed or removed.
@@ -168,7 +186,7 @@ fn truncate_refusal(
 }
 
 /// Why the directory at a path can't be removed.
-fn rmdir_refusal(
+fn empty_directory_refusal(
     alloc: Global,
     slot: &FilesetSlot,
     path: &Path,
@@ -240,6 +258,19 @@ impl Filesets {
             return;
         };
         self.slots[at].1.tree.set_logged(&place.path, logged);
+    }
+
+    /// Removes what stands at a place, or answers why that is refused.
+    fn remove_unless(&mut self, refusal: Option<Refusal>, place: &Place) -> Reply
+        ensures { MatchOption refusal ((result ≡ DoneReply) × (self.new ≡ with_tree self.old place.now.fileset (without place.now.path))) (λ why. (result ≡ RefusedReply why) × (self.new ≡ self.old)) }
+    {
+        match refusal {
+            Some(refusal) => Reply::Refused(refusal),
+            None => {
+                self.remove(place);
+                Reply::Done
+            }
+        }
     }
 
     /// Removes what stands at a place; where there is no such fileset, nothing changes.
@@ -322,8 +353,9 @@ impl Node {
 }
 
 impl PageMap {
-    /// Cuts a file's pages at a size in bytes: those that begin there or later go, and the rest of
-    /// the page in which it falls becomes zeros. After an error the pages are as before.
+    /// Cuts a file's pages at a size in bytes. A page that lies behind the size is dropped, and one
+    /// that it cuts in two keeps its front and has zeros from there on. After an error the pages are
+    /// as before.
     pub fn truncate(&mut self, alloc: Global, size: u64) -> Result<(), OutOfMemory>
         ensures ok { OnOk result (self.new ≡ truncated self.old size) }
         ensures err { OnErr result (self.new ≡ self.old) }
@@ -351,7 +383,7 @@ fn keep_below(pages: &mut Vec<(u64, Page)>, size: u64)
     pages.retain(|entry| begins_below(entry.0, size));
 }
 
-/// Lays zeros over the rest of the page in which the size falls, where it is there.
+/// Sets all bytes behind the size to 0 in the page that it cuts in two, where that page is present.
 fn zero_rest(pages: &mut Vec<(u64, Page)>, size: u64, zeros: &Page)
     requires sorted { IsTrue (is_sorted nat_cmp pages.old.items) }
     requires zeros { zeros.now ≡ zero_bytes PAGE_BYTES }
@@ -363,205 +395,4 @@ fn zero_rest(pages: &mut Vec<(u64, Page)>, size: u64, zeros: &Page)
     };
     let at = (size % PAGE_BYTES as u64) as usize;
     pages[place].1.set(at, &zeros.bytes()[at..]);
-}
-
-#[cfg(test)]
-mod tests {
-    use super::*;
-    use crate::entries::put;
-    use crate::fileset::{NumberSet, Role};
-    use crate::tests::{self, Expected, fileset, gives, is_expected, place};
-    use std::process::Abort;
-    use std::test::Fail;
-
-    /// Asserts a reply.
-    fn expect<R: Abort>(rt: &R, reply: Result<Reply, OutOfMemory>, expected: &Expected) {
-        let reply = reply.expect(rt, "memory is ample");
-        let same = is_expected(&reply, expected);
-        assert!(rt; same, "the reply is {reply:?}");
-    }
-
-    #[derive(Clone, Copy, Debug)]
-    enum Change {
-        Mkdir,
-        Truncate,
-        Chfile,
-        Unlink,
-        Rmdir,
-    }
-
-    const ALL_CHANGES: [Change; 5] = [
-        Change::Mkdir,
-        Change::Truncate,
-        Change::Chfile,
-        Change::Unlink,
-        Change::Rmdir,
-    ];
-
-    fn reply_to(
-        alloc: Global,
-        all: &mut Filesets,
-        change: Change,
-        place: &Place,
-    ) -> Result<Reply, OutOfMemory> {
-        match change {
-            Change::Mkdir => mkdir(alloc, all, place, 10, 20),
-            Change::Truncate => truncate(alloc, all, place, 1),
-            Change::Chfile => chfile(alloc, all, place, true),
-            Change::Unlink => unlink(alloc, all, place),
-            Change::Rmdir => rmdir(alloc, all, place),
-        }
-    }
-
-    /// Asserts that a change at a place is refused so.
-    fn refused<R: Abort + AllocGlobal>(
-        rt: &R,
-        all: &mut Filesets,
-        change: Change,
-        place: &Place,
-        refusal: Refusal,
-    ) {
-        let reply = reply_to(rt.alloc(), all, change, place);
-        expect(rt, reply, &Expected::Refused(refusal));
-    }
-
-    /// A clone of `home` with an empty root.
-    fn add_clone(alloc: Global, all: &mut Filesets) -> Result<(), OutOfMemory> {
-        let role = Role::CloneOf {
-            original: fileset(alloc, b"home")?,
-            out: NumberSet::new(alloc),
-        };
-        let tree = FilesetTree::empty(alloc, 0)?;
-        put(
-            &mut all.slots,
-            fileset(alloc, b"bak")?,
-            FilesetSlot { tree, role },
-        )
-    }
-
-    #[test]
-    fn changes_are_refused_in_order(rt: HostRuntime) -> Result<(), Fail> {
-        let alloc = rt.alloc();
-        let mut all = Filesets::new(alloc);
-        for change in ALL_CHANGES {
-            let missing = place(alloc, b"d")?;
-            refused(&rt, &mut all, change, &missing, Refusal::NoFileset);
-        }
-        gives(
-            &rt,
-            &mut all,
-            tests::mkfset(alloc, b"home"),
-            &Expected::Done,
-        );
-        let rows: [(Change, &[u8], Option<Refusal>); 24] = [
-            (Change::Mkdir, b"d", None),
-            (Change::Mkdir, b"d", Some(Refusal::Exists)),
-            (Change::Mkdir, b"", Some(Refusal::Exists)),
-            (Change::Mkdir, b"xy", Some(Refusal::NoPath)),
-            (Change::Mkdir, b"de", None),
-            (Change::Truncate, b"d", Some(Refusal::IsDirectory)),
-            (Change::Truncate, b"x", Some(Refusal::NoPath)),
-            (Change::Chfile, b"", Some(Refusal::IsDirectory)),
-            (Change::Chfile, b"x", Some(Refusal::NoPath)),
-            (Change::Unlink, b"de", Some(Refusal::IsDirectory)),
-            (Change::Rmdir, b"d", Some(Refusal::NotEmpty)),
-            (Change::Rmdir, b"", Some(Refusal::NotEmpty)),
-            (Change::Rmdir, b"x", Some(Refusal::NoPath)),
-            (Change::Rmdir, b"de", None),
-            (Change::Rmdir, b"d", None),
-            (Change::Rmdir, b"d", Some(Refusal::NoPath)),
-            (Change::Rmdir, b"f", Some(Refusal::NotDirectory)),
-            (Change::Mkdir, b"fy", Some(Refusal::NotDirectory)),
-            (Change::Unlink, b"fy", Some(Refusal::NotDirectory)),
-            (Change::Truncate, b"f", None),
-            (Change::Chfile, b"f", None),
-            (Change::Unlink, b"f", None),
-            (Change::Unlink, b"f", Some(Refusal::NoPath)),
-            (Change::Mkdir, b"f", None),
-        ];
-        gives(&rt, &mut all, tests::create(alloc, b"f"), &Expected::Done);
-        for (change, names, refusal) in rows {
-            let at = place(alloc, names)?;
-            match refusal {
-                Some(refusal) => refused(&rt, &mut all, change, &at, refusal),
-                None => expect(&rt, reply_to(alloc, &mut all, change, &at), &Expected::Done),
-            }
-        }
-        add_clone(alloc, &mut all)?;
-        for change in ALL_CHANGES {
-            let in_clone = Place {
-                fileset: fileset(alloc, b"bak")?,
-                path: place(alloc, b"a")?.path,
-            };
-            refused(&rt, &mut all, change, &in_clone, Refusal::ReadOnly);
-        }
-        Ok(())
-    }
-
-    #[test]
-    fn a_file_is_flagged_as_logged_and_back(rt: HostRuntime) -> Result<(), Fail> {
-        let alloc = rt.alloc();
-        let mut all = Filesets::new(alloc);
-        gives(
-            &rt,
-            &mut all,
-            tests::mkfset(alloc, b"home"),
-            &Expected::Done,
-        );
-        gives(&rt, &mut all, tests::create(alloc, b"a"), &Expected::Done);
-        let file = place(alloc, b"a")?;
-        for flag in [true, true, false] {
-            expect(&rt, chfile(alloc, &mut all, &file, flag), &Expected::Done);
-            let is_flagged = match all.slot(&file.fileset) {
-                Some(slot) => match slot.tree.node_at(&file.path) {
-                    Some(Node::File { logged, .. }) => *logged == flag,
-                    _ => false,
-                },
-                None => false,
-            };
-            assert!(rt; is_flagged);
-        }
-        Ok(())
-    }
-
-    #[test]
-    fn a_cut_file_grows_with_zeros(rt: HostRuntime) -> Result<(), Fail> {
-        let alloc = rt.alloc();
-        let mut all = Filesets::new(alloc);
-        gives(
-            &rt,
-            &mut all,
-            tests::mkfset(alloc, b"home"),
-            &Expected::Done,
-        );
-        gives(&rt, &mut all, tests::create(alloc, b"a"), &Expected::Done);
-        let text = tests::write(alloc, b"a", 0, b"abc");
-        gives(&rt, &mut all, text, &Expected::Count(3));
-        let ends = tests::write(alloc, b"a", 8_190, b"WXYZ");
-        gives(&rt, &mut all, ends, &Expected::Count(4));
-        let file = place(alloc, b"a")?;
-        let rows: [(u64, u64, &[u8]); 6] = [
-            (10_000, 8_190, b"WXYZ\0\0"),
-            (8_193, 8_190, b"WXY"),
-            (8_191, 8_190, b"W"),
-            (8_194, 8_190, b"W\0\0\0"),
-            (2, 0, b"ab"),
-            (536_870_912, 0, b"ab\0\0\0\0"),
-        ];
-        for (size, offset, bytes) in rows {
-            expect(&rt, truncate(alloc, &mut all, &file, size), &Expected::Done);
-            gives(
-                &rt,
-                &mut all,
-                tests::read(alloc, b"a", offset, 6),
-                &Expected::Read(bytes),
-            );
-        }
-        expect(
-            &rt,
-            truncate(alloc, &mut all, &file, 536_870_913),
-            &Expected::Refused(Refusal::TooFar),
-        );
-        Ok(())
-    }
 }

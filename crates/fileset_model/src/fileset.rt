@@ -150,7 +150,7 @@ fn number_after(number: u64) -> Result<u64, OutOfMemory>
 /// Numbers of files and directories.
 #[derive(Debug, Drop)]
 pub struct NumberSet {
-    numbers: Vec<(u64, ())>,
+    pub(crate) numbers: Vec<(u64, ())>,
 }
 
 impl Model for NumberSet {

@@ -10,7 +10,8 @@ use std::alloc::Global;
 use std::cmp::Ordering;
 use std::marker::Model;
 
-/// The name of a fileset: 1 to 31 letters, digits, `_`, `-` and `.`, as far as a script gives it.
+/// What a fileset is called. Any bytes will do here; a script can give 31 characters at most, and at
+/// least one, out of letters, digits, underscores, hyphens and dots.
 #[derive(Debug, Drop)]
 pub struct FilesetName {
     bytes: Vec<u8>,
@@ -88,7 +89,8 @@ impl Ord for FilesetName {
     }
 }
 
-/// The name of a file or directory in its directory: 1 to 255 bytes, without `/` and zero, not `.` and not `..`, as far as a script gives it.
+/// What a directory calls one of its files or directories. Any bytes will do here; a script can give
+/// 255 of them at most, and at least one, never a slash or a zero byte, and never one or two dots alone.
 #[derive(Debug, Drop)]
 pub struct Name {
     bytes: Vec<u8>,
@@ -166,7 +168,8 @@ impl Ord for Name {
     }
 }
 
-/// The names that lead from the root of a fileset to a file or directory. The empty path is the root.
+/// Which names to follow, from the root of a fileset on, to come to a file or directory. Without a
+/// name one stays at the root.
 #[derive(Debug, Drop)]
 pub struct Path {
     names: Vec<Name>,

@@ -1,393 +1,208 @@
+//! What a clone answers where files or directories of it are marked as out of sync. No command marks
+//! one, so the marks are set here from within.
 use crate::answers::apply;
-use crate::command::{Command, Owner, Place};
+use crate::command::{Command, Place};
+use crate::entries::put;
+use crate::fileset::{FilesetSlot, FilesetTree, NumberSet, Role};
 use crate::filesets::Filesets;
 use crate::names::{Bytes, FilesetName, Name, Path};
-use crate::reply::{NameItem, Refusal, Reply};
+use crate::node::Node;
+use crate::page_map::PageMap;
+use crate::reply::{Refusal, Reply};
 use domain_base::OutOfMemory;
 use std::alloc::Global;
-use std::process::Abort;
+use std::test::Fail;
 
-/// What a reply has to be.
-#[derive(Clone, Copy)]
-pub(crate) enum Expected<'a> {
-    Done,
-    Count(u64),
-    Read(&'a [u8]),
-    Refused(Refusal),
+/// What is asked of a place.
+#[derive(Clone, Copy, Debug)]
+enum Ask {
+    Create,
+    Read,
+    List,
+    Stat,
 }
 
-pub(crate) fn is_expected(reply: &Reply, expected: &Expected) -> bool {
-    match (reply, expected) {
-        (Reply::Done, Expected::Done) => true,
-        (Reply::Count(count), Expected::Count(wanted)) => count == wanted,
-        (Reply::Read(bytes), Expected::Read(wanted)) => bytes.as_slice() == *wanted,
-        (Reply::Refused(refusal), Expected::Refused(wanted)) => refusal == wanted,
-        _ => false,
-    }
-}
+/// The directory `/d` with a file `/d/a`, the directory `/e` with a file `/e/a`, and the files `/f`
+/// and `/g`.
+static NODES: [(&[u8], u64, bool); 6] = [
+    (b"d", 1, true),
+    (b"da", 2, false),
+    (b"e", 3, true),
+    (b"ea", 4, false),
+    (b"f", 5, false),
+    (b"g", 6, false),
+];
 
-/// Gives a command and asserts its reply.
-pub(crate) fn gives<R: Abort + AllocGlobal>(
-    rt: &R,
-    filesets: &mut Filesets,
-    command: Result<Command, OutOfMemory>,
-    expected: &Expected,
-) {
-    let command = command.expect(rt, "memory is ample");
-    let reply = apply(rt.alloc(), filesets, &command);
-    let same = is_expected(&reply, expected);
-    assert!(rt; same, "{command:?} gives {reply:?}");
-}
+/// What the clone refuses, of which `/d` and `/f` are marked.
+static IN_THE_CLONE: [(Ask, &[u8], Option<Refusal>); 16] = [
+    (Ask::Read, b"f", Some(Refusal::OutOfSync)),
+    (Ask::Stat, b"f", Some(Refusal::OutOfSync)),
+    (Ask::List, b"f", Some(Refusal::NotDirectory)),
+    (Ask::Stat, b"fx", Some(Refusal::NotDirectory)),
+    (Ask::Read, b"d", Some(Refusal::IsDirectory)),
+    (Ask::Stat, b"d", Some(Refusal::OutOfSync)),
+    (Ask::List, b"d", Some(Refusal::OutOfSync)),
+    (Ask::Read, b"da", Some(Refusal::OutOfSync)),
+    (Ask::Stat, b"dx", Some(Refusal::OutOfSync)),
+    (Ask::List, b"dxy", Some(Refusal::OutOfSync)),
+    (Ask::Create, b"dx", Some(Refusal::ReadOnly)),
+    (Ask::Read, b"g", None),
+    (Ask::Read, b"ea", None),
+    (Ask::List, b"e", None),
+    (Ask::List, b"", None),
+    (Ask::Stat, b"x", Some(Refusal::NoPath)),
+];
 
-pub(crate) fn fileset(alloc: Global, text: &[u8]) -> Result<FilesetName, OutOfMemory> {
+/// What an original refuses, and a clone without marks.
+static WITHOUT_MARKS: [(Ask, &[u8], Option<Refusal>); 5] = [
+    (Ask::Read, b"f", None),
+    (Ask::Stat, b"d", None),
+    (Ask::List, b"d", None),
+    (Ask::Read, b"da", None),
+    (Ask::Stat, b"dx", Some(Refusal::NoPath)),
+];
+
+fn name(alloc: Global, text: &[u8]) -> Result<FilesetName, OutOfMemory> {
     Ok(FilesetName::from_vec(Vec::from_slice(alloc, text)?))
 }
 
-/// A place in the fileset `home` whose names are the bytes of the text.
-pub(crate) fn place(alloc: Global, names: &[u8]) -> Result<Place, OutOfMemory> {
-    let mut path = Vec::new(alloc);
-    for byte in names {
-        path.push(Name::from_vec(Vec::from_slice(alloc, &[*byte])?))?;
+/// The path whose names are these letters, as `/d/a` of `da`.
+fn path(alloc: Global, letters: &[u8]) -> Result<Path, OutOfMemory> {
+    let mut names = Vec::new(alloc);
+    for letter in letters {
+        names.push(Name::from_vec(Vec::from_slice(alloc, &[*letter])?))?;
     }
-    Ok(Place {
-        fileset: fileset(alloc, b"home")?,
-        path: Path::from_vec(path),
-    })
+    Ok(Path::from_vec(names))
 }
 
-pub(crate) fn mkfset(alloc: Global, text: &[u8]) -> Result<Command, OutOfMemory> {
-    Ok(Command::Mkfset {
-        fileset: fileset(alloc, text)?,
-    })
-}
-
-pub(crate) fn create(alloc: Global, names: &[u8]) -> Result<Command, OutOfMemory> {
-    Ok(Command::Create {
-        place: place(alloc, names)?,
-        uid: 10,
-        gid: 20,
-    })
-}
-
-pub(crate) fn write(
-    alloc: Global,
-    names: &[u8],
-    offset: u64,
-    bytes: &[u8],
-) -> Result<Command, OutOfMemory> {
-    Ok(Command::Write {
-        place: place(alloc, names)?,
-        offset,
-        bytes: Bytes::from_vec(Vec::from_slice(alloc, bytes)?),
-    })
-}
-
-pub(crate) fn read(
-    alloc: Global,
-    names: &[u8],
-    offset: u64,
-    count: u32,
-) -> Result<Command, OutOfMemory> {
-    Ok(Command::Read {
-        place: place(alloc, names)?,
-        offset,
-        count,
-    })
-}
-
-#[test]
-fn a_file_has_what_was_written_and_zeros_in_its_holes(rt: HostRuntime) {
-    let alloc = rt.alloc();
-    let mut all = Filesets::new(alloc);
-    let page = [0x41; 8_192];
-    gives(&rt, &mut all, mkfset(alloc, b"home"), &Expected::Done);
-    gives(&rt, &mut all, create(alloc, b"a"), &Expected::Done);
-    gives(
-        &rt,
-        &mut all,
-        write(alloc, b"a", 0, b"abc"),
-        &Expected::Count(3),
-    );
-    gives(
-        &rt,
-        &mut all,
-        read(alloc, b"a", 0, 3),
-        &Expected::Read(b"abc"),
-    );
-    gives(
-        &rt,
-        &mut all,
-        read(alloc, b"a", 1, 100),
-        &Expected::Read(b"bc"),
-    );
-    gives(&rt, &mut all, read(alloc, b"a", 3, 5), &Expected::Read(b""));
-    gives(&rt, &mut all, create(alloc, b"b"), &Expected::Done);
-    gives(
-        &rt,
-        &mut all,
-        write(alloc, b"b", 4_096, &page),
-        &Expected::Count(8_192),
-    );
-    gives(
-        &rt,
-        &mut all,
-        read(alloc, b"b", 4_095, 2),
-        &Expected::Read(b"\x00A"),
-    );
-    gives(
-        &rt,
-        &mut all,
-        read(alloc, b"b", 12_287, 9),
-        &Expected::Read(b"A"),
-    );
-}
-
-#[test]
-fn a_file_ends_at_the_largest_offset(rt: HostRuntime) {
-    let alloc = rt.alloc();
-    let mut all = Filesets::new(alloc);
-    let too_far = Expected::Refused(Refusal::TooFar);
-    gives(&rt, &mut all, mkfset(alloc, b"home"), &Expected::Done);
-    gives(&rt, &mut all, create(alloc, b"b"), &Expected::Done);
-    gives(
-        &rt,
-        &mut all,
-        write(alloc, b"b", 536_870_911, b"Z"),
-        &Expected::Count(1),
-    );
-    gives(
-        &rt,
-        &mut all,
-        write(alloc, b"b", 536_870_911, b"ZZ"),
-        &too_far,
-    );
-    gives(
-        &rt,
-        &mut all,
-        write(alloc, b"b", 536_870_912, b"Z"),
-        &too_far,
-    );
-    gives(
-        &rt,
-        &mut all,
-        read(alloc, b"b", 536_870_910, 9),
-        &Expected::Read(b"\x00Z"),
-    );
-}
-
-#[test]
-fn what_is_missing_or_in_the_way_is_refused(rt: HostRuntime) {
-    let alloc = rt.alloc();
-    let mut all = Filesets::new(alloc);
-    let no_path = Expected::Refused(Refusal::NoPath);
-    let no_fileset = Expected::Refused(Refusal::NoFileset);
-    gives(&rt, &mut all, create(alloc, b"a"), &no_fileset);
-    gives(&rt, &mut all, mkfset(alloc, b"home"), &Expected::Done);
-    gives(
-        &rt,
-        &mut all,
-        mkfset(alloc, b"home"),
-        &Expected::Refused(Refusal::FilesetExists),
-    );
-    gives(&rt, &mut all, write(alloc, b"a", 0, b"x"), &no_path);
-    gives(&rt, &mut all, create(alloc, b"ab"), &no_path);
-    gives(&rt, &mut all, create(alloc, b"a"), &Expected::Done);
-    gives(
-        &rt,
-        &mut all,
-        create(alloc, b"a"),
-        &Expected::Refused(Refusal::Exists),
-    );
-    gives(
-        &rt,
-        &mut all,
-        create(alloc, b"ab"),
-        &Expected::Refused(Refusal::NotDirectory),
-    );
-    gives(
-        &rt,
-        &mut all,
-        write(alloc, b"", 0, b"x"),
-        &Expected::Refused(Refusal::IsDirectory),
-    );
-    gives(
-        &rt,
-        &mut all,
-        read(alloc, b"", 0, 1),
-        &Expected::Refused(Refusal::IsDirectory),
-    );
-    for number in 0..15u8 {
-        gives(
-            &rt,
-            &mut all,
-            mkfset(alloc, &[b'b' + number]),
-            &Expected::Done,
-        );
+/// A tree with the nodes above; the files have two bytes and no pages.
+fn tree(alloc: Global) -> Result<FilesetTree, OutOfMemory> {
+    let mut tree = FilesetTree::empty(alloc, 0)?;
+    for (letters, number, directory) in NODES.iter() {
+        let node = if *directory {
+            Node::Directory { uid: 0, gid: 0 }
+        } else {
+            Node::File {
+                uid: 0,
+                gid: 0,
+                size: 2,
+                logged: false,
+                pages: PageMap::new(alloc),
+            }
+        };
+        tree.add(path(alloc, letters)?, *number, node)?;
     }
-    gives(
-        &rt,
-        &mut all,
-        mkfset(alloc, b"home"),
-        &Expected::Refused(Refusal::FilesetExists),
-    );
-    gives(
-        &rt,
-        &mut all,
-        mkfset(alloc, b"one"),
-        &Expected::Refused(Refusal::FilesetsFull),
-    );
+    Ok(tree)
 }
 
-fn setquota(alloc: Global, who: Owner, files: u64, blocks: u64) -> Result<Command, OutOfMemory> {
-    Ok(Command::Setquota {
-        fileset: fileset(alloc, b"home")?,
-        who,
-        files,
-        blocks,
-    })
+/// The numbers of `/d` and `/f`.
+fn marks(alloc: Global) -> Result<NumberSet, OutOfMemory> {
+    let mut numbers = Vec::new(alloc);
+    put(&mut numbers, 5, ())?;
+    put(&mut numbers, 1, ())?;
+    Ok(NumberSet { numbers })
 }
 
-#[test]
-fn limits_of_a_user_and_of_the_fileset_hold(rt: HostRuntime) {
-    let alloc = rt.alloc();
-    let mut all = Filesets::new(alloc);
-    let page = [0x41; 8_192];
-    let no_blocks = Expected::Refused(Refusal::QuotaBlocks {
-        limit: 32,
-        used: 32,
-        asked: 16,
-    });
-    let no_files = Expected::Refused(Refusal::QuotaFiles { limit: 2, used: 2 });
-    gives(&rt, &mut all, mkfset(alloc, b"home"), &Expected::Done);
-    gives(
-        &rt,
-        &mut all,
-        setquota(alloc, Owner::User(10), 0, 32),
-        &Expected::Done,
-    );
-    gives(&rt, &mut all, create(alloc, b"a"), &Expected::Done);
-    gives(
-        &rt,
-        &mut all,
-        write(alloc, b"a", 0, &page),
-        &Expected::Count(8_192),
-    );
-    gives(
-        &rt,
-        &mut all,
-        write(alloc, b"a", 8_192, &page),
-        &Expected::Count(8_192),
-    );
-    gives(&rt, &mut all, write(alloc, b"a", 16_384, &page), &no_blocks);
-    gives(
-        &rt,
-        &mut all,
-        write(alloc, b"a", 8_190, b"abcd"),
-        &Expected::Count(4),
-    );
-    let too_far = Expected::Refused(Refusal::TooFar);
-    gives(
-        &rt,
-        &mut all,
-        write(alloc, b"a", 536_870_912, b"x"),
-        &too_far,
-    );
-    let is_directory = Expected::Refused(Refusal::IsDirectory);
-    gives(
-        &rt,
-        &mut all,
-        write(alloc, b"", 536_870_912, b"x"),
-        &is_directory,
-    );
-    gives(
-        &rt,
-        &mut all,
-        setquota(alloc, Owner::Fileset, 2, 0),
-        &Expected::Done,
-    );
-    gives(&rt, &mut all, create(alloc, b"b"), &Expected::Done);
-    gives(&rt, &mut all, create(alloc, b"c"), &no_files);
-    gives(
-        &rt,
-        &mut all,
-        create(alloc, b"a"),
-        &Expected::Refused(Refusal::Exists),
-    );
-}
-
-/// A name of 60 bytes that ends in the three digits of a number below 1,000.
-fn long_name(alloc: Global, number: u8) -> Result<Name, OutOfMemory> {
-    let mut bytes = vec![in alloc; b'n'; 57]?;
-    bytes.push(b'0' + number / 100)?;
-    bytes.push(b'0' + number / 10 % 10)?;
-    bytes.push(b'0' + number % 10)?;
-    Ok(Name::from_vec(bytes))
-}
-
-fn long_place(alloc: Global, number: u8) -> Result<Place, OutOfMemory> {
-    let mut path = Vec::new(alloc);
-    path.push(long_name(alloc, number)?)?;
-    Ok(Place {
-        fileset: fileset(alloc, b"home")?,
-        path: Path::from_vec(path),
-    })
-}
-
-fn create_long(alloc: Global, number: u8) -> Result<Command, OutOfMemory> {
-    Ok(Command::Create {
-        place: long_place(alloc, number)?,
-        uid: 0,
-        gid: 0,
-    })
-}
-
-fn unlink_long(alloc: Global, number: u8) -> Result<Command, OutOfMemory> {
-    Ok(Command::Unlink {
-        place: long_place(alloc, number)?,
-    })
-}
-
-/// Whether the rows are the files of these numbers: every `step`th below 200 from the first on.
-fn are_long(alloc: Global, rows: &[NameItem], first: u8, step: u8) -> Result<bool, OutOfMemory> {
-    let mut number = first;
-    for row in rows {
-        if row.directory || row.name != long_name(alloc, number)? {
-            return Ok(false);
-        }
-        number = number.saturating_add(step);
-    }
-    Ok(number >= 200)
-}
-
-/// Lists the root and asserts its rows.
-fn lists<R: Abort + AllocGlobal>(rt: &R, all: &mut Filesets, first: u8, step: u8) {
-    let place = place(rt.alloc(), b"").expect(rt, "memory is ample");
-    let reply = apply(rt.alloc(), all, &Command::List { place });
-    let same = match &reply {
-        Reply::Names(names) => {
-            are_long(rt.alloc(), names.as_slice(), first, step).expect(rt, "memory is ample")
-        }
-        _ => false,
+/// The fileset `home` and its clone `bak`, of which `/d` and `/f` are marked.
+fn home_and_clone(alloc: Global) -> Result<Filesets, OutOfMemory> {
+    let mut slots = Vec::new(alloc);
+    let original = FilesetSlot {
+        tree: tree(alloc)?,
+        role: Role::Original,
     };
-    assert!(rt; same, "{reply:?}");
+    put(&mut slots, name(alloc, b"home")?, original)?;
+    let clone = FilesetSlot {
+        tree: tree(alloc)?,
+        role: Role::CloneOf {
+            original: name(alloc, b"home")?,
+            out: marks(alloc)?,
+        },
+    };
+    put(&mut slots, name(alloc, b"bak")?, clone)?;
+    Ok(Filesets { slots })
+}
+
+fn command(ask: Ask, place: Place) -> Command {
+    match ask {
+        Ask::Create => Command::Create {
+            place,
+            uid: 0,
+            gid: 0,
+        },
+        Ask::Read => Command::Read {
+            place,
+            offset: 0,
+            count: 9,
+        },
+        Ask::List => Command::List { place },
+        Ask::Stat => Command::Stat { place },
+    }
+}
+
+/// What is answered where this is asked of a place.
+fn reply(
+    alloc: Global,
+    filesets: &mut Filesets,
+    fileset: &[u8],
+    ask: Ask,
+    letters: &[u8],
+) -> Result<Reply, OutOfMemory> {
+    let place = Place {
+        fileset: name(alloc, fileset)?,
+        path: path(alloc, letters)?,
+    };
+    Ok(apply(alloc, filesets, &command(ask, place)))
+}
+
+fn refused(reply: &Reply) -> Option<Refusal> {
+    match reply {
+        Reply::Refused(refusal) => Some(*refusal),
+        _ => None,
+    }
 }
 
 #[test]
-fn two_hundred_long_names_stand_in_order(rt: HostRuntime) {
+fn what_is_marked_in_a_clone_is_not_shown(rt: HostRuntime) -> Result<(), Fail> {
+    let mut filesets = home_and_clone(rt.alloc())?;
+    for (ask, letters, want) in IN_THE_CLONE.iter() {
+        let reply = reply(rt.alloc(), &mut filesets, b"bak", *ask, letters)?;
+        assert_eq!(rt; refused(&reply), *want, "{ask:?} of {letters:?}");
+    }
+    let unmarked = reply(rt.alloc(), &mut filesets, b"bak", Ask::Read, b"g")?;
+    let zeros = Bytes::from_vec(Vec::from_slice(rt.alloc(), &[0, 0])?);
+    assert!(rt;
+        matches!(&unmarked, Reply::Read(bytes) if *bytes == zeros),
+        "{unmarked:?}"
+    );
+    Ok(())
+}
+
+#[test]
+fn an_original_is_never_out_of_sync(rt: HostRuntime) -> Result<(), Fail> {
+    let mut filesets = home_and_clone(rt.alloc())?;
+    for (ask, letters, want) in WITHOUT_MARKS.iter() {
+        let reply = reply(rt.alloc(), &mut filesets, b"home", *ask, letters)?;
+        assert_eq!(rt; refused(&reply), *want, "{ask:?} of {letters:?}");
+    }
+    Ok(())
+}
+
+#[test]
+fn a_clone_that_is_removed_takes_its_marks_with_it(rt: HostRuntime) -> Result<(), Fail> {
     let alloc = rt.alloc();
-    let mut all = Filesets::new(alloc);
-    gives(&rt, &mut all, mkfset(alloc, b"home"), &Expected::Done);
-    for number in (0..200u8).rev() {
-        gives(&rt, &mut all, create_long(alloc, number), &Expected::Done);
+    let mut filesets = home_and_clone(alloc)?;
+    let remove = Command::Rmfset {
+        fileset: name(alloc, b"bak")?,
+    };
+    let clone = Command::Clonefset {
+        fileset: name(alloc, b"home")?,
+        new_name: name(alloc, b"bak")?,
+    };
+    assert_eq!(rt; refused(&apply(alloc, &mut filesets, &remove)), None);
+    assert_eq!(rt; refused(&apply(alloc, &mut filesets, &clone)), None);
+    for (ask, letters, want) in WITHOUT_MARKS.iter() {
+        let reply = reply(alloc, &mut filesets, b"bak", *ask, letters)?;
+        assert_eq!(rt; refused(&reply), *want, "{ask:?} of {letters:?}");
     }
-    lists(&rt, &mut all, 0, 1);
-    for number in 0..100u8 {
-        gives(
-            &rt,
-            &mut all,
-            unlink_long(alloc, 2 * number),
-            &Expected::Done,
-        );
-    }
-    lists(&rt, &mut all, 1, 2);
+    Ok(())
 }

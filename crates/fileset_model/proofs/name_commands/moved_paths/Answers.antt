@@ -5,7 +5,7 @@ use Rattle.fileset_model.specs.Orders.{Path, path_cmp}
 use Rattle.fileset_model.specs.Paths.{same_path}
 use Rattle.fileset_model.specs.Apply.{moved_path}
 use Rattle.fileset_model.proofs.MoveLemmas.{moved_map, moved_map-none, moved_map-skip, moved_map-step, sorted_entries}
-use Rattle.fileset_model.proofs.names_commands.moved_paths.Goals as goal
+use Rattle.fileset_model.proofs.name_commands.moved_paths.Goals as goal
 
 differ : (b r : Bool) → r ≡ not b → r ≡ true → b ≡ false
 differ true r e h = sym h ∙ e

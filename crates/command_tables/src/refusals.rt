@@ -1,0 +1,410 @@
+//! Each refusal, and which of two that hold at once is given.
+
+use crate::table::is_history;
+
+static NO_FILESET: &str = "
+c1 rmfset home -> E1 no-fileset
+c1 clonefset home bak -> E1 no-fileset
+c1 setquota home user 1 1 1 -> E1 no-fileset
+c1 showquota home user 1 -> E1 no-fileset
+c1 create home:/a 0 0 -> E1 no-fileset
+c1 mkdir home:/a 0 0 -> E1 no-fileset
+c1 write home:/ 536870912 61 -> E1 no-fileset
+c1 read home:/a 0 1 -> E1 no-fileset
+c1 truncate home:/ 536870913 -> E1 no-fileset
+c1 rename home:/a /a/b -> E1 no-fileset
+c1 unlink home:/ -> E1 no-fileset
+c1 rmdir home:/ -> E1 no-fileset
+c1 list home:/ -> E1 no-fileset
+c1 stat home:/ -> E1 no-fileset
+c1 fsync home:/a -> E1 no-fileset
+c1 chfile -L on home:/ -> E1 no-fileset
+c1 showfsets -> ok
+";
+
+#[test]
+fn every_command_asks_for_the_fileset_first(rt: HostRuntime) {
+    is_history(&rt, NO_FILESET);
+}
+
+static CLONING: &str = "
+c1 mkfset home -> ok
+c1 mkfset other -> ok
+c1 clonefset home bak -> ok
+c1 clonefset none other -> E1 no-fileset
+c1 clonefset bak other -> E16 clone-of-clone
+c1 clonefset bak bak -> E16 clone-of-clone
+c1 clonefset home other -> E9 has-clone
+c1 clonefset home bak -> E9 has-clone
+c1 clonefset other home -> E2 fileset-exists
+c1 clonefset other other -> E2 fileset-exists
+c1 mkfset bak -> E2 fileset-exists
+c1 rmfset none -> E1 no-fileset
+c1 rmfset home -> E9 has-clone
+c1 showfsets -> ok bak<home home other
+";
+
+#[test]
+fn cloning_is_refused_in_order(rt: HostRuntime) {
+    is_history(&rt, CLONING);
+}
+
+static CLONING_WHEN_FULL: &str = "
+c1 mkfset f01 -> ok
+c1 mkfset f02 -> ok
+c1 mkfset f03 -> ok
+c1 mkfset f04 -> ok
+c1 mkfset f05 -> ok
+c1 mkfset f06 -> ok
+c1 mkfset f07 -> ok
+c1 mkfset f08 -> ok
+c1 mkfset f09 -> ok
+c1 mkfset f10 -> ok
+c1 mkfset f11 -> ok
+c1 mkfset f12 -> ok
+c1 mkfset f13 -> ok
+c1 mkfset f14 -> ok
+c1 mkfset home -> ok
+c1 clonefset home bak -> ok
+c1 mkfset new -> E15 filesets-full
+c1 mkfset home -> E2 fileset-exists
+c1 clonefset none new -> E1 no-fileset
+c1 clonefset none f01 -> E1 no-fileset
+c1 clonefset bak new -> E16 clone-of-clone
+c1 clonefset bak f01 -> E16 clone-of-clone
+c1 clonefset home new -> E9 has-clone
+c1 clonefset home f01 -> E9 has-clone
+c1 clonefset f01 f02 -> E2 fileset-exists
+c1 clonefset f01 new -> E15 filesets-full
+";
+
+#[test]
+fn cloning_is_refused_in_order_where_filesets_are_full(rt: HostRuntime) {
+    is_history(&rt, CLONING_WHEN_FULL);
+}
+
+static MAKING: &str = "
+c1 mkfset home -> ok
+c1 create home:/f 1 2 -> ok
+c1 mkdir home:/d 1 2 -> ok
+c1 clonefset home bak -> ok
+c1 create bak:/n 1 2 -> E8 read-only
+c1 create bak:/x/y 1 2 -> E8 read-only
+c1 create bak:/f/y 1 2 -> E8 read-only
+c1 create bak:/f 1 2 -> E8 read-only
+c1 mkdir bak:/n 1 2 -> E8 read-only
+c1 mkdir bak:/x/y 1 2 -> E8 read-only
+c1 mkdir bak:/f/y 1 2 -> E8 read-only
+c1 mkdir bak:/d 1 2 -> E8 read-only
+c1 setquota home user 1 2 0 -> ok
+c1 create home:/n 1 2 -> E11 quota-files limit=2 used=2
+c1 create home:/x/y 1 2 -> E3 no-path
+c1 create home:/f/y 1 2 -> E5 not-directory
+c1 create home:/f 1 2 -> E4 exists
+c1 create home:/d 1 2 -> E4 exists
+c1 create home:/ 1 2 -> E4 exists
+c1 create home:/f/x/y 1 2 -> E5 not-directory
+c1 create home:/x/f/y 1 2 -> E3 no-path
+c1 create home:/d/x/y 1 2 -> E3 no-path
+c1 mkdir home:/n 1 2 -> E11 quota-files limit=2 used=2
+c1 mkdir home:/x/y 1 2 -> E3 no-path
+c1 mkdir home:/f/y 1 2 -> E5 not-directory
+c1 mkdir home:/f 1 2 -> E4 exists
+c1 mkdir home:/d 1 2 -> E4 exists
+c1 mkdir home:/ 1 2 -> E4 exists
+c1 mkdir home:/f/x/y 1 2 -> E5 not-directory
+c1 mkdir home:/x/f/y 1 2 -> E3 no-path
+c1 list home:/ -> ok d/ f
+c1 list home:/d -> ok
+c1 list bak:/ -> ok d/ f
+";
+
+#[test]
+fn making_a_file_or_directory_is_refused_in_order(rt: HostRuntime) {
+    is_history(&rt, MAKING);
+}
+
+static LIMITS_OF_FILES: &str = "
+c1 mkfset home -> ok
+c1 create home:/f 1 2 -> ok
+c1 mkdir home:/d 1 2 -> ok
+c1 create home:/e 9 2 -> ok
+c1 create home:/g 9 9 -> ok
+c1 setquota home user 1 2 0 -> ok
+c1 setquota home group 2 3 0 -> ok
+c1 create home:/n 1 2 -> E11 quota-files limit=2 used=2
+c1 create home:/n 9 2 -> E11 quota-files limit=3 used=3
+c1 setquota home fileset 0 4 0 -> ok
+c1 create home:/n 1 2 -> E11 quota-files limit=2 used=2
+c1 create home:/n 1 9 -> E11 quota-files limit=2 used=2
+c1 mkdir home:/n 9 2 -> E11 quota-files limit=3 used=3
+c1 mkdir home:/n 9 9 -> E11 quota-files limit=4 used=4
+c1 setquota home user 1 3 0 -> ok
+c1 create home:/n 1 2 -> E11 quota-files limit=3 used=3
+c1 setquota home group 2 4 0 -> ok
+c1 create home:/n 1 2 -> E11 quota-files limit=4 used=4
+c1 setquota home fileset 0 5 0 -> ok
+c1 create home:/n 1 2 -> ok
+";
+
+#[test]
+fn limits_of_files_are_asked_in_order(rt: HostRuntime) {
+    is_history(&rt, LIMITS_OF_FILES);
+}
+
+static WRITING: &str = "
+c1 mkfset home -> ok
+c1 create home:/f 1 2 -> ok
+c1 mkdir home:/d 1 2 -> ok
+c1 clonefset home bak -> ok
+c1 write bak:/f 0 61 -> E8 read-only
+c1 write bak:/x 0 61 -> E8 read-only
+c1 write bak:/f/x 0 61 -> E8 read-only
+c1 write bak:/d 0 61 -> E8 read-only
+c1 write bak:/f 536870912 61 -> E8 read-only
+c1 write home:/x 0 61 -> E3 no-path
+c1 write home:/f/x 0 61 -> E5 not-directory
+c1 write home:/d 0 61 -> E6 is-directory
+c1 write home:/x 536870912 61 -> E3 no-path
+c1 write home:/f/x 536870912 61 -> E5 not-directory
+c1 write home:/d 536870912 61 -> E6 is-directory
+c1 write home:/ 536870912 61 -> E6 is-directory
+c1 write home:/f/x/y 0 61 -> E5 not-directory
+c1 write home:/x/f 0 61 -> E3 no-path
+c1 setquota home user 1 0 1 -> ok
+c1 write home:/f 0 61 -> E12 quota-blocks limit=1 used=0 asked=16
+c1 write home:/f 536870911 61x2 -> E14 too-far
+c1 stat home:/f -> ok file 1 2 0 0 -
+";
+
+#[test]
+fn writing_is_refused_in_order(rt: HostRuntime) {
+    is_history(&rt, WRITING);
+}
+
+static LIMITS_OF_BLOCKS: &str = "
+c1 mkfset home -> ok
+c1 create home:/f 1 2 -> ok
+c1 write home:/f 0 61 -> ok 1
+c1 create home:/e 9 2 -> ok
+c1 write home:/e 0 61 -> ok 1
+c1 create home:/g 9 9 -> ok
+c1 write home:/g 0 61 -> ok 1
+c1 create home:/h 1 9 -> ok
+c1 setquota home user 1 0 16 -> ok
+c1 setquota home group 2 0 32 -> ok
+c1 write home:/f 8192 61 -> E12 quota-blocks limit=16 used=16 asked=16
+c1 write home:/e 8192 61 -> E12 quota-blocks limit=32 used=32 asked=16
+c1 setquota home fileset 0 0 48 -> ok
+c1 write home:/f 8192 61 -> E12 quota-blocks limit=16 used=16 asked=16
+c1 write home:/h 8192 61 -> E12 quota-blocks limit=16 used=16 asked=16
+c1 write home:/e 8192 61 -> E12 quota-blocks limit=32 used=32 asked=16
+c1 write home:/g 8192 61 -> E12 quota-blocks limit=48 used=48 asked=16
+c1 setquota home user 1 0 32 -> ok
+c1 write home:/f 8192 61 -> E12 quota-blocks limit=32 used=32 asked=16
+c1 setquota home group 2 0 48 -> ok
+c1 write home:/f 8192 61 -> E12 quota-blocks limit=48 used=48 asked=16
+c1 setquota home fileset 0 0 64 -> ok
+c1 write home:/f 8192 61 -> ok 1
+";
+
+#[test]
+fn limits_of_blocks_are_asked_in_order(rt: HostRuntime) {
+    is_history(&rt, LIMITS_OF_BLOCKS);
+}
+
+static TRUNCATING: &str = "
+c1 mkfset home -> ok
+c1 create home:/f 1 2 -> ok
+c1 write home:/f 0 61 -> ok 1
+c1 mkdir home:/d 1 2 -> ok
+c1 clonefset home bak -> ok
+c1 truncate bak:/f 0 -> E8 read-only
+c1 truncate bak:/x 0 -> E8 read-only
+c1 truncate bak:/f/x 0 -> E8 read-only
+c1 truncate bak:/d 0 -> E8 read-only
+c1 truncate bak:/f 536870913 -> E8 read-only
+c1 truncate home:/x 0 -> E3 no-path
+c1 truncate home:/f/x 0 -> E5 not-directory
+c1 truncate home:/d 0 -> E6 is-directory
+c1 truncate home:/x 536870913 -> E3 no-path
+c1 truncate home:/f/x 536870913 -> E5 not-directory
+c1 truncate home:/d 536870913 -> E6 is-directory
+c1 truncate home:/ 536870913 -> E6 is-directory
+c1 truncate home:/f 536870913 -> E14 too-far
+c1 stat home:/f -> ok file 1 2 1 1 -
+c1 stat bak:/f -> ok file 1 2 1 1 -
+";
+
+#[test]
+fn truncating_is_refused_in_order(rt: HostRuntime) {
+    is_history(&rt, TRUNCATING);
+}
+
+static RENAMING: &str = "
+c1 mkfset home -> ok
+c1 create home:/f 0 0 -> ok
+c1 create home:/g 0 0 -> ok
+c1 mkdir home:/d 0 0 -> ok
+c1 create home:/d/k 0 0 -> ok
+c1 mkdir home:/d/s 0 0 -> ok
+c1 create home:/d/s/t 0 0 -> ok
+c1 mkdir home:/e 0 0 -> ok
+c1 rename home:/x /y -> E3 no-path
+c1 rename home:/x /f/y -> E3 no-path
+c1 rename home:/f/x /y -> E5 not-directory
+c1 rename home:/f/x /x/y -> E5 not-directory
+c1 rename home:/f /x/y -> E3 no-path
+c1 rename home:/f /g/y -> E5 not-directory
+c1 rename home:/f /f/x -> E5 not-directory
+c1 rename home:/d /d/x/y -> E3 no-path
+c1 rename home:/d /d/k/y -> E5 not-directory
+c1 rename home:/d /d/x -> E13 into-itself
+c1 rename home:/d /d/s -> E13 into-itself
+c1 rename home:/d /d/k -> E13 into-itself
+c1 rename home:/f /e -> E6 is-directory
+c1 rename home:/f /d -> E6 is-directory
+c1 rename home:/e /f -> E5 not-directory
+c1 rename home:/e /d -> E7 not-empty
+c1 rename home:/d/s /d -> E7 not-empty
+c1 rename home:/ /x -> E13 into-itself
+c1 rename home:/ /d -> E13 into-itself
+c1 rename home:/ /f -> E13 into-itself
+c1 rename home:/f / -> E6 is-directory
+c1 rename home:/d / -> E7 not-empty
+c1 rename home:/e / -> E7 not-empty
+c1 list home:/ -> ok d/ e/ f g
+c1 list home:/d -> ok k s/
+c1 list home:/d/s -> ok t
+";
+
+#[test]
+fn renaming_is_refused_in_order(rt: HostRuntime) {
+    is_history(&rt, RENAMING);
+}
+
+static RENAMING_IN_A_CLONE: &str = "
+c1 mkfset home -> ok
+c1 create home:/f 0 0 -> ok
+c1 create home:/g 0 0 -> ok
+c1 mkdir home:/d 0 0 -> ok
+c1 create home:/d/k 0 0 -> ok
+c1 mkdir home:/e 0 0 -> ok
+c1 clonefset home bak -> ok
+c1 rename bak:/f /h -> E8 read-only
+c1 rename bak:/f /f -> E8 read-only
+c1 rename bak:/x /y -> E8 read-only
+c1 rename bak:/f /g/y -> E8 read-only
+c1 rename bak:/d /d/x -> E8 read-only
+c1 rename bak:/e /d -> E8 read-only
+c1 rename bak:/f /e -> E8 read-only
+c1 rename bak:/e /f -> E8 read-only
+c1 list bak:/ -> ok d/ e/ f g
+c1 list bak:/d -> ok k
+";
+
+#[test]
+fn a_clone_refuses_renames_first(rt: HostRuntime) {
+    is_history(&rt, RENAMING_IN_A_CLONE);
+}
+
+static REMOVING: &str = "
+c1 mkfset home -> ok
+c1 create home:/f 0 0 -> ok
+c1 mkdir home:/d 0 0 -> ok
+c1 mkdir home:/d/e 0 0 -> ok
+c1 clonefset home bak -> ok
+c1 unlink bak:/f -> E8 read-only
+c1 unlink bak:/x -> E8 read-only
+c1 unlink bak:/f/x -> E8 read-only
+c1 unlink bak:/d -> E8 read-only
+c1 rmdir bak:/d/e -> E8 read-only
+c1 rmdir bak:/x -> E8 read-only
+c1 rmdir bak:/f -> E8 read-only
+c1 rmdir bak:/d -> E8 read-only
+c1 rmdir bak:/ -> E8 read-only
+c1 unlink home:/x -> E3 no-path
+c1 unlink home:/f/x -> E5 not-directory
+c1 unlink home:/x/y -> E3 no-path
+c1 unlink home:/d -> E6 is-directory
+c1 unlink home:/d/e -> E6 is-directory
+c1 unlink home:/ -> E6 is-directory
+c1 rmdir home:/x -> E3 no-path
+c1 rmdir home:/f/x -> E5 not-directory
+c1 rmdir home:/f -> E5 not-directory
+c1 rmdir home:/d -> E7 not-empty
+c1 rmdir home:/ -> E7 not-empty
+c1 list home:/ -> ok d/ f
+c1 rmdir home:/d/e -> ok
+c1 rmdir home:/d -> ok
+c1 unlink home:/f -> ok
+c1 list home:/ -> ok
+c1 rmdir home:/ -> E7 not-empty
+c1 unlink home:/f -> E3 no-path
+c1 rmdir home:/d -> E3 no-path
+c1 list bak:/ -> ok d/ f
+c1 list bak:/d -> ok e/
+";
+
+#[test]
+fn removing_is_refused_in_order(rt: HostRuntime) {
+    is_history(&rt, REMOVING);
+}
+
+static LOOKING: &str = "
+c1 mkfset home -> ok
+c1 create home:/f 0 0 -> ok
+c1 mkdir home:/d 0 0 -> ok
+c1 clonefset home bak -> ok
+c1 read home:/x 0 1 -> E3 no-path
+c1 read home:/x/y 0 1 -> E3 no-path
+c1 read home:/f/x 0 1 -> E5 not-directory
+c1 read home:/f/x/y 0 1 -> E5 not-directory
+c1 read home:/d 0 1 -> E6 is-directory
+c1 read home:/ 0 1 -> E6 is-directory
+c1 list home:/x -> E3 no-path
+c1 list home:/f/x -> E5 not-directory
+c1 list home:/f -> E5 not-directory
+c1 stat home:/x -> E3 no-path
+c1 stat home:/d/x -> E3 no-path
+c1 stat home:/f/x -> E5 not-directory
+c1 read bak:/x 0 1 -> E3 no-path
+c1 read bak:/f/x 0 1 -> E5 not-directory
+c1 read bak:/d 0 1 -> E6 is-directory
+c1 list bak:/x -> E3 no-path
+c1 list bak:/f -> E5 not-directory
+c1 stat bak:/x -> E3 no-path
+c1 stat bak:/f/x -> E5 not-directory
+";
+
+#[test]
+fn what_is_missing_or_of_the_other_kind_is_not_shown(rt: HostRuntime) {
+    is_history(&rt, LOOKING);
+}
+
+static SYNCING_AND_FLAGGING: &str = "
+c1 mkfset home -> ok
+c1 create home:/f 0 0 -> ok
+c1 mkdir home:/d 0 0 -> ok
+c1 clonefset home bak -> ok
+c1 fsync bak:/f -> E8 read-only
+c1 fsync bak:/x -> E8 read-only
+c1 fsync bak:/f/x -> E8 read-only
+c1 fsync home:/x -> E3 no-path
+c1 fsync home:/f/x -> E5 not-directory
+c1 chfile -L on bak:/f -> E8 read-only
+c1 chfile -L on bak:/x -> E8 read-only
+c1 chfile -L on bak:/f/x -> E8 read-only
+c1 chfile -L off bak:/d -> E8 read-only
+c1 chfile -L on home:/x -> E3 no-path
+c1 chfile -L on home:/f/x -> E5 not-directory
+c1 chfile -L on home:/d -> E6 is-directory
+c1 chfile -L off home:/ -> E6 is-directory
+c1 stat home:/f -> ok file 0 0 0 0 -
+c1 stat bak:/f -> ok file 0 0 0 0 -
+";
+
+#[test]
+fn syncing_and_flagging_are_refused_in_order(rt: HostRuntime) {
+    is_history(&rt, SYNCING_AND_FLAGGING);
+}
