@@ -1,15 +1,15 @@
 -- How a history goes on, turn by turn.
 use Rattle.std.proofs.Common.{◌≡◌, ℕ, List, [], ◌∷◌, ◌++◌, map, refl, sym, ap, ◌∙◌, append_assoc}
 use Rattle.std.proofs.lemmas.List.{append-nil, map-append}
-use Rattle.std.proofs.lemmas.List.Elements.{All-nil, All-push}
+use Rattle.std.proofs.lemmas.List.Elements.{All-push}
 use Rattle.fileset_model.specs.Apply.{AnswersIfMemory}
 use Rattle.fileset_model.specs.State.{FilesetMap}
 use Rattle.fileset_model.specs.declared.command.Actor.TheVariants.{Client}
 use Rattle.fileset_model.specs.declared.command.Command.{Command}
 use Rattle.fileset_model.specs.declared.entry.Entry.{Entry}
 use Rattle.fileset_model.specs.declared.reply.Reply.{Reply}
-use Rattle.advfs_cli.specs.Plain.{GoesOn, IsClients, Plain, Turn, turn_of}
-use Rattle.advfs_cli.specs.Plain.Plain.{none, entry}
+use Rattle.advfs_cli.specs.Plain.{GoesOn, IsClients, Turn, turn_of}
+use Rattle.advfs_cli.specs.Plain.Plain.{entry}
 
 -- a client's command with its reply is one turn
 pub GoesOn-turn : (client stamp : ℕ) (command : Command) (reply : Reply) (old : List Entry) (all all' : FilesetMap) → AnswersIfMemory all command reply all'

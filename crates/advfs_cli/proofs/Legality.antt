@@ -1,16 +1,16 @@
 -- Histories over filesets without volumes are legal.
-use Rattle.std.proofs.Common.{◌≡◌, ◌<◌, ◌≤◌, ℕ, inl, inr, max, Bool, true, false, Option, Some, None, Result, Ok, Err, MatchResult, List, [], ◌∷◌, ◌++◌, length, refl, sym, ap, subst, ◌∙◌, arith, length-append, IsTrue}
+use Rattle.std.proofs.Common.{◌≡◌, ◌≤◌, ℕ, inl, inr, max, Option, Some, None, List, [], ◌∷◌, ◌++◌, length, refl, sym, ap, subst, arith, length-append}
 use Rattle.std.proofs.Math.Seq.{get_or-append_seam, take-append_seam}
-use Rattle.std.proofs.lemmas.List.Elements.{All-nil, All-take, All-weaker}
+use Rattle.std.proofs.lemmas.List.Elements.{All-take, All-weaker}
 use Rattle.std.specs.FinMap as finite
 use Rattle.std.specs.List.{All}
 use Rattle.fileset_model.specs.Apply.{AnswersIfMemory}
-use Rattle.fileset_model.specs.Legal.{Chain, GainsMarks, IsForActor, Legal, MayFollow, Numbered, Point, Step, changed_by_entry, job_after}
+use Rattle.fileset_model.specs.Legal.{Chain, GainsMarks, IsForActor, MayFollow, Numbered, Point, Step, changed_by_entry, job_after}
 use Rattle.fileset_model.specs.Legal.Chain.{none as no_entry, entry as one_more}
 use Rattle.fileset_model.specs.Legal.Step.{applied, out_of_memory}
 use Rattle.fileset_model.specs.Orders.{Name}
 use Rattle.fileset_model.specs.Room.{room}
-use Rattle.fileset_model.specs.State.{FilesetMap, State, empty_state}
+use Rattle.fileset_model.specs.State.{FilesetMap, empty_state}
 use Rattle.fileset_model.specs.declared.command.Actor.{Actor}
 use Rattle.fileset_model.specs.declared.command.Actor.TheVariants.{Client, Mover}
 use Rattle.fileset_model.specs.declared.entry.Entry.{Entry}
@@ -20,8 +20,6 @@ use Rattle.fileset_model.specs.declared.fileset.Role.TheVariants.{Original, Clon
 use Rattle.advfs_cli.proofs.Calm.{no_panic}
 use Rattle.advfs_cli.specs.Plain.{AnswersScript, IsClients, IsLegal, Plain}
 use Rattle.advfs_cli.specs.Plain.Plain.{none as plain_none, entry as plain_entry}
-use Rattle.advfs_cli.specs.declared.status.Status.{Status}
-use Rattle.advfs_cli.specs.declared.status.Status.TheVariants as status
 use Rattle.script_text.specs.declared.script.Script.{Script}
 
 -- ---- lists that grow at their end

@@ -1,5 +1,5 @@
 -- Histories that answer a script.
-use Rattle.std.proofs.Common.{◌≡◌, ℕ, ◌+◌, ◌≤◌, Option, Some, None, Result, Ok, Err, unwrap_or, Bool, true, false, cond, eqb, List, [], ◌∷◌, ◌++◌, length, map, filter, refl, sym, ap, subst, ◌∙◌, arith, length-append}
+use Rattle.std.proofs.Common.{◌≡◌, ℕ, ◌≤◌, Option, Some, None, Ok, Err, unwrap_or, Bool, true, false, cond, eqb, List, [], ◌∷◌, ◌++◌, length, map, filter, refl, sym, ap, subst, ◌∙◌, arith, length-append}
 use Rattle.std.proofs.lemmas.List.{append-nil, map-append, nil_from_length}
 use Rattle.std.proofs.lemmas.List.Elements.{All-nil, filter-append}
 use Rattle.std.proofs.lemmas.Simd.{map-map}
@@ -17,7 +17,7 @@ use Rattle.script_text.specs.Script.{BadLine, first_bad, script_of, section_in}
 use Rattle.script_text.specs.declared.script.Script.{Script}
 use Rattle.script_text.specs.declared.script.Section.{Section}
 use Rattle.advfs_cli.specs.Plain.{AnswersScript, GoesOn, IsClients, Turn, section_of, turns_of, turn_of}
-use Rattle.advfs_cli.specs.Plain.Plain.{none, entry}
+use Rattle.advfs_cli.specs.Plain.Plain.{none}
 
 -- a script without a section has no entries
 pub AnswersScript-none : (script : Script) (stamp : ℕ) (history : List Entry) → script.clients ≡ [] → history ≡ [] → AnswersScript script stamp history

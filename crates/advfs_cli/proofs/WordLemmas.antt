@@ -1,7 +1,6 @@
 -- The number that a word says.
-use Rattle.std.proofs.Common.{◌≡◌, ℕ, not, ◌<◌, ◌≤◌, ◌^◌, ◌&&◌, cond, leb, sym, Bool, true, false, Option, Some, None, option_and_then, ◌∙◌, eqb, codes, Result, Ok, Err, List, [], ◌∷◌, length, refl, ap, arith, rules}
+use Rattle.std.proofs.Common.{◌≡◌, ℕ, not, ◌<◌, ◌^◌, ◌&&◌, cond, leb, sym, Bool, true, false, Option, Some, None, option_and_then, ◌∙◌, eqb, codes, Result, Ok, Err, List, [], ◌∷◌, length, refl, ap, arith, rules}
 use Rattle.std.proofs.lemmas.Bool.Decides.{nat_tests}
-use Rattle.std.proofs.lemmas.Grind.{common_steps}
 use Rattle.std.proofs.lemmas.Str.Parse.{IsNumeralModel, numerals_by_value, parse_digits}
 use Rattle.std.specs.Char.{is_ascii_digit}
 use Rattle.std.specs.List.{list_all}
@@ -9,6 +8,7 @@ use Rattle.std.specs.Option.{option_map_or}
 use Rattle.std.specs.Result.{OkIff}
 use Rattle.std.specs.Str.{bytes_eq}
 use Rattle.std.specs.Str.Parse.{ParsesUnsigned, digits_value}
+use Rattle.domain_base.specs.declared.limits.TheConstants.{MAX_VOLUME_PAGES, MIN_FIRST_VOLUME_PAGES}
 use Rattle.script_text.specs.Forms.{number_below}
 use Rattle.advfs_cli.specs.Usage.{form_of, pages_of, try_form}
 
@@ -35,7 +35,7 @@ number_below-large word large = grind (arith, nat_tests)
 
 -- the number, where it is of a volume's pages
 in_range : Option ℕ → Option ℕ
-in_range number = option_and_then (λ n. cond (leb 160 n && leb n 65536) (Some n) None) number
+in_range number = option_and_then (λ n. cond (leb MIN_FIRST_VOLUME_PAGES n && leb n MAX_VOLUME_PAGES) (Some n) None) number
 
 pages_of-number : (word : List ℕ) (number : Option ℕ) → number_below (2 ^ 32) word ≡ number → pages_of word ≡ in_range number
 unfolding in_range
@@ -47,7 +47,7 @@ pages_of-other word other = pages_of-number word None (number_below-None word ot
 
 -- the parse of digits, in the range or not
 pub pages_of-parsed : (E : Type 0) (word : List ℕ) (pages : ℕ) → list_all is_ascii_digit word ≡ true → ParsesUnsigned {E = E} 32 10 word (Ok pages)
-    → pages_of word ≡ cond (leb 160 pages && leb pages 65536) (Some pages) None
+    → pages_of word ≡ cond (leb MIN_FIRST_VOLUME_PAGES pages && leb pages MAX_VOLUME_PAGES) (Some pages) None
 unfolding in_range
 pages_of-parsed E word pages digits parsed =
     let h = number_below-parsed {E = E} word (Ok pages) digits parsed in

@@ -1,4 +1,3 @@
-pub mod Counts
 pub mod Exit
 pub mod Plain
 pub mod Run

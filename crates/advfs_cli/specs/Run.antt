@@ -1,5 +1,5 @@
 -- What a run has read, by how it ended.
-use Rattle.std.specs.Prelude.{◌≡◌, ◌⊎◌, ℕ, Option, Result, Ok, List, []}
+use Rattle.std.specs.Prelude.{◌≡◌, ◌⊎◌, ℕ, Option, Ok, List, []}
 use Rattle.std.specs.Io.KnownBytes.{IsAtEnd}
 use Rattle.fileset_model.specs.Shuffle.{Shuffle}
 use Rattle.fileset_model.specs.declared.entry.Entry.{Entry}

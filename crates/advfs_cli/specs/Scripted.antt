@@ -1,5 +1,5 @@
 -- Sources and sinks in memory, which fail at the calls that were listed when they were made.
-use Rattle.std.specs.Prelude.{◌≡◌, ℕ, ◌+◌, ◌-◌, ◌^◌, List, min}
+use Rattle.std.specs.Prelude.{ℕ, List}
 
 -- a source in memory: the bytes left, the numbers of the calls that fail, counted from 1, how many
 -- calls there were, and how many of them failed

@@ -1,7 +1,7 @@
 //! The printing of a history.
 ghost use Rattle.std.specs.Prelude.{◌≡◌, ◌≤◌, OnOk, OnErr};
 ghost use Rattle.std.specs.Io.KnownBytes.{Appends};
-ghost use Rattle.advfs_cli.specs.Counts.{Rose};
+ghost use Rattle.domain_base.specs.Counts.{HasRisen};
 ghost use Rattle.script_text.specs.History.{history_text};
 ghost use Rattle.advfs_cli.specs.Transfer.{AppendsFront};
 
@@ -65,7 +65,7 @@ pub fn print_history<K: Sink>(
     ensures ok { OnOk result (Appends (K.held sink.old) (K.held sink.new) (history_text history.now)) }
     ensures err { OnErr result (AppendsFront (K.held sink.old) (K.held sink.new) (history_text history.now)) }
     ensures never_falls { K.faults sink.old ≤ K.faults sink.new }
-    ensures sink_fault { result ≡ Err PrintError.SinkFault → Rose (K.faults sink.old) (K.faults sink.new) }
+    ensures sink_fault { result ≡ Err PrintError.SinkFault → HasRisen (K.faults sink.old) (K.faults sink.new) }
 {
     for entry in history {
         let line = history_line(alloc, entry)?;

@@ -1,7 +1,7 @@
 //! The whole of a run: the words, the script, its commands over new filesets, and the printing.
 ghost use Rattle.std.specs.Prelude.{◌≡◌, ◌≢◌, ℕ, ◌+◌, ◌<◌, ◌≤◌, List, [], ◌∷◌, OnOk, OnErr, IfOk, IfErr, MatchResult, map, length, string_bytes, vec_len, vec_capacity, All};
 ghost use Rattle.std.specs.Io.KnownBytes.{Appends, Consumes};
-ghost use Rattle.advfs_cli.specs.Counts.{Rose};
+ghost use Rattle.domain_base.specs.Counts.{HasRisen};
 ghost use Rattle.script_text.specs.History.{history_text};
 ghost use Rattle.advfs_cli.specs.Plain.{AnswersScript, GoesOn, IsLegal, turns_of};
 ghost use Rattle.advfs_cli.specs.Run.{AnswersRead, GetsNoScript, HasRead, IsScript};
@@ -94,7 +94,7 @@ fn take_script<S: Source>(alloc: Global, source: &mut S) -> Result<Script, Statu
         × MatchResult result (IsScript (S.left source.new) read) (GetsNoScript (S.left source.new) read) }
     ensures no_usage { (word : ℕ) → result ≢ Err (Status.Usage word) }
     ensures never_falls { S.faults source.old ≤ S.faults source.new }
-    ensures source_fault { result ≡ Err Status.SourceFault → Rose (S.faults source.old) (S.faults source.new) }
+    ensures source_fault { result ≡ Err Status.SourceFault → HasRisen (S.faults source.old) (S.faults source.new) }
 {
     let text = read_all(alloc, source, MAX_SCRIPT_BYTES)?;
     let script = read_script(alloc, text.as_slice())?;
@@ -113,7 +113,7 @@ fn answer<S: Source, G: Gate>(
         × MatchResult result (λ history. AnswersRead (S.left source.new) read stamp history.items) (GetsNoScript (S.left source.new) read) }
     ensures usage { MatchResult (form_of (map string_bytes words.now)) (λ _. (word : ℕ) → result ≢ Err (Status.Usage word)) (λ word. result ≡ Err (Status.Usage word)) }
     ensures never_falls { S.faults source.old ≤ S.faults source.new }
-    ensures source_fault { result ≡ Err Status.SourceFault → Rose (S.faults source.old) (S.faults source.new) }
+    ensures source_fault { result ≡ Err Status.SourceFault → HasRisen (S.faults source.old) (S.faults source.new) }
 {
     if let Err(word) = pages_asked(words) {
         return Err(Status::Usage { word });
@@ -161,8 +161,8 @@ pub fn run<S: Source, R: Rack + Send, K: Sink, G: Gate + Sync>(
     // The causes of the other statuses.
     ensures usage { MatchResult (form_of (map string_bytes words.now))
         (λ _. (word : ℕ) → result.status ≢ Status.Usage word) (λ word. result.status ≡ Status.Usage word) }
-    ensures source_fault { result.status ≡ Status.SourceFault → Rose (S.faults script.old) (S.faults script.new) }
-    ensures sink_fault { result.status ≡ Status.SinkFault → Rose (K.faults sink.old) (K.faults sink.new) }
+    ensures source_fault { result.status ≡ Status.SourceFault → HasRisen (S.faults script.old) (S.faults script.new) }
+    ensures sink_fault { result.status ≡ Status.SinkFault → HasRisen (K.faults sink.old) (K.faults sink.new) }
     ensures source_count { S.faults script.old ≤ S.faults script.new }
     ensures sink_count { K.faults sink.old ≤ K.faults sink.new }
     ensures rack { result.rack ≡ rack }

@@ -2,35 +2,37 @@
 ghost use Rattle.std.specs.Prelude.{◌≡◌, ℕ, ◌≤◌, ◌<◌, ◌+◌, List, [], Option, Some, None, OnOk, IfOk, OnErr, IsErr, Contains, min, length};
 ghost use Rattle.std.specs.Io.{WritesAtMost};
 ghost use Rattle.std.specs.Io.KnownBytes.{WriteAppends};
-ghost use Rattle.advfs_cli.specs.Counts.{raised, Rose};
+ghost use Rattle.domain_base.specs.Counts.{HasRisen, raised};
 
 use domain_base::Failed;
 use std::alloc::Global;
 use std::io::Write;
 use std::marker::Model;
 
-/// An output of bytes.
+/// An output of bytes, written piece by piece.
 pub trait Sink {
-    /// The bytes that the sink holds, where it tells them.
+    /// What was written so far. A sink whose bytes contracts do not see has None.
     ghost held: { Self → Option (List ℕ) };
 
-    /// How many calls failed.
+    /// How many calls were refused.
     ghost faults: { Self → ℕ };
 
-    /// Takes bytes from the front of a piece, and says how many: at least one, where it has any. A failure takes none.
+    /// Writes a part of the piece, from its front, and answers how many bytes that are, which is none only for an empty
+    /// piece. A call that is refused writes nothing.
     fn write(&mut self, bytes: &[u8]) -> Result<usize, Failed>
         ensures bound { WritesAtMost result bytes.now }
         ensures takes { IfOk result (λ count. 0 < length bytes.now → 0 < count) }
         ensures bytes { WriteAppends (held self.old) (held self.new) result bytes.now }
         ensures never_falls { faults self.old ≤ faults self.new }
-        ensures failed { OnErr result (Rose (faults self.old) (faults self.new)) };
+        ensures failed { OnErr result (HasRisen (faults self.old) (faults self.new)) };
 
-    /// The count of calls that failed. It never falls, and stays at its greatest value.
+    /// How many calls were refused so far. The number only rises, and stops at 2^64 - 1.
     fn faults(&self) -> u64
         ensures { result ≡ faults self.now };
 }
 
-/// A sink in memory, which fails at the calls that it was told, and where it finds no memory.
+/// A sink that keeps its bytes in memory. It refuses the calls that it was told to refuse, and those for which memory
+/// runs out.
 #[derive(Debug, Drop)]
 pub struct MemorySink {
     bytes: Vec<u8>,
@@ -48,7 +50,7 @@ impl Model for MemorySink {
 }
 
 impl MemorySink {
-    /// An empty sink, whose calls with a number in `fails`, counted from 1, fail.
+    /// A sink with nothing in it. `fails` names the calls that it refuses, the first call by 1.
     pub fn new(alloc: Global, fails: Vec<u64>) -> Self
         ensures { result ≡ record { held = []; fails = fails.items; calls = 0; faults = 0 } }
     {
@@ -60,7 +62,7 @@ impl MemorySink {
         }
     }
 
-    /// The bytes that it holds.
+    /// All that was written so far.
     pub fn bytes(&self) -> &[u8]
         ensures { result.now ≡ self.now.held }
     {
@@ -78,7 +80,7 @@ impl Sink for MemorySink {
         ensures takes { IfOk result (λ count. 0 < length bytes.now → 0 < count) }
         ensures bytes { WriteAppends (Some self.old.held) (Some self.new.held) result bytes.now }
         ensures never_falls { self.old.faults ≤ self.new.faults }
-        ensures failed { OnErr result (Rose self.old.faults self.new.faults) }
+        ensures failed { OnErr result (HasRisen self.old.faults self.new.faults) }
         ensures listed { Contains self.old.fails (raised self.old.calls) → IsErr result }
         ensures calls { self.new.calls ≡ raised self.old.calls }
         ensures same_fails { self.new.fails ≡ self.old.fails }
@@ -96,7 +98,7 @@ impl Sink for MemorySink {
     }
 }
 
-/// A writer of the system as a sink. It tells none of its bytes.
+/// Makes a sink of a writer, as standard output is one. Contracts see none of its bytes.
 #[derive(Debug, Drop)]
 pub struct WriterSink<T> {
     writer: T,
@@ -104,8 +106,11 @@ pub struct WriterSink<T> {
 }
 
 impl<T> WriterSink<T> {
-    /// A sink that gives everything to the writer.
-    pub fn new(writer: T) -> Self {
+    /// A sink that hands everything on to the writer, with no call refused so far.
+    pub fn new(writer: T) -> Self
+        ensures kept { result.writer ≡ writer }
+        ensures faults { result.faults ≡ 0 }
+    {
         WriterSink { writer, faults: 0 }
     }
 }

@@ -2,33 +2,34 @@
 ghost use Rattle.std.specs.Prelude.{◌≡◌, ℕ, ◌≤◌, ◌↔◌, ◌+◌, List, Option, Some, None, OnErr, IsErr, Contains, min, length, drop};
 ghost use Rattle.std.specs.Io.{ReadsAtMost};
 ghost use Rattle.std.specs.Io.KnownBytes.{ReadConsumes};
-ghost use Rattle.advfs_cli.specs.Counts.{raised, Rose};
+ghost use Rattle.domain_base.specs.Counts.{HasRisen, raised};
 
 use domain_base::Failed;
 use std::io::Read;
 use std::marker::Model;
 
-/// An input of bytes. `Ok(0)` for a piece that is not empty says that the input has ended.
+/// An input of bytes, read piece by piece. It is over once a call that has room for a byte gives none.
 pub trait Source {
-    /// The bytes left, where the source tells them.
+    /// What is still to come. A source whose bytes contracts do not see has None.
     ghost left: { Self → Option (List ℕ) };
 
-    /// How many calls failed.
+    /// How many calls were refused.
     ghost faults: { Self → ℕ };
 
-    /// Puts the next bytes at the front of a piece, and says how many. A failure takes none.
+    /// Fills a piece from its front with the next bytes, as far as they come, and answers how many these are. Nothing
+    /// is lost by a call that is refused: the next one goes on at the same byte.
     fn read(&mut self, out: &mut [u8]) -> Result<usize, Failed>
         ensures bound { ReadsAtMost result out.new }
         ensures bytes { ReadConsumes (left self.old) (left self.new) result out.new }
         ensures never_falls { faults self.old ≤ faults self.new }
-        ensures failed { OnErr result (Rose (faults self.old) (faults self.new)) };
+        ensures failed { OnErr result (HasRisen (faults self.old) (faults self.new)) };
 
-    /// The count of calls that failed. It never falls, and stays at its greatest value.
+    /// How many calls were refused so far. The number only rises, and stops at 2^64 - 1.
     fn faults(&self) -> u64
         ensures { result ≡ faults self.now };
 }
 
-/// Bytes in memory, as a source that fails at the calls that it was told.
+/// A source that gives bytes from memory, and refuses the calls that it was told to refuse.
 #[derive(Debug, Drop)]
 pub struct MemorySource {
     bytes: Vec<u8>,
@@ -50,7 +51,7 @@ impl Model for MemorySource {
 }
 
 impl MemorySource {
-    /// A source of these bytes, whose calls with a number in `fails`, counted from 1, fail.
+    /// A source that gives these bytes. `fails` names the calls that it refuses, the first call by 1.
     pub fn new(bytes: Vec<u8>, fails: Vec<u64>) -> Self
         ensures { result ≡ record { left = bytes.items; fails = fails.items; calls = 0; faults = 0 } }
     {
@@ -73,7 +74,7 @@ impl Source for MemorySource {
         ensures bound { ReadsAtMost result out.new }
         ensures bytes { ReadConsumes (Some self.old.left) (Some self.new.left) result out.new }
         ensures never_falls { self.old.faults ≤ self.new.faults }
-        ensures failed { OnErr result (Rose self.old.faults self.new.faults) }
+        ensures failed { OnErr result (HasRisen self.old.faults self.new.faults) }
         ensures listed { IsErr result ↔ Contains self.old.fails (raised self.old.calls) }
         ensures calls { self.new.calls ≡ raised self.old.calls }
         ensures same_fails { self.new.fails ≡ self.old.fails }
@@ -95,7 +96,7 @@ impl Source for MemorySource {
     }
 }
 
-/// A reader of the system as a source. It tells none of its bytes.
+/// Makes a source of a reader, as standard input is one. Contracts see none of its bytes.
 #[derive(Debug, Drop)]
 pub struct ReaderSource<T> {
     reader: T,
@@ -103,8 +104,11 @@ pub struct ReaderSource<T> {
 }
 
 impl<T> ReaderSource<T> {
-    /// A source of what the reader gives.
-    pub fn new(reader: T) -> Self {
+    /// A source of what the reader gives, with no call refused so far.
+    pub fn new(reader: T) -> Self
+        ensures kept { result.reader ≡ reader }
+        ensures faults { result.faults ≡ 0 }
+    {
         ReaderSource { reader, faults: 0 }
     }
 }

@@ -11,20 +11,20 @@ use std::fmt;
 /// How a run ended.
 #[derive(Clone, Copy, Debug, PartialEq, Eq)]
 pub enum Status {
-    /// All was done and printed.
+    /// The script was run, and its whole history is in the sink.
     Ok,
-    /// The words are no form: the place, counted from 0, of the first word after which no form begins so, or the
-    /// number of words where one is missing.
+    /// The command line is not understood. So many words stand in front of the first one that is out of place, and
+    /// where the line stops too early that is all of them.
     Usage { word: u32 },
-    /// The source failed.
+    /// A call of the source was refused, so the script is not known.
     SourceFault,
-    /// The script has more than 33,554,432 bytes.
+    /// The script is longer than `MAX_SCRIPT_BYTES`.
     TooLong,
-    /// The script has a bad line: its number, counted from 1, and the number of what is wrong with it.
+    /// What `read_script` finds wrong with the script: which line, the first being 1, and which kind of fault.
     BadScript { line: u32, kind: u8 },
-    /// The sink failed, and holds a part of the text, from its front.
+    /// A call of the sink was refused. What went out before it are the first bytes of the history, and no others.
     SinkFault,
-    /// No memory could be had.
+    /// Memory ran out, at any point of the run.
     OutOfMemory,
 }
 

@@ -1,7 +1,7 @@
 //! Whole inputs and whole texts, over sources and sinks that take and give pieces.
 ghost use Rattle.std.specs.Prelude.{◌≡◌, ℕ, ◌≤◌, ◌<◌, ◌+◌, ◌^◌, List, OnOk, OnErr, IfOk, MatchResult, length, vec_len};
 ghost use Rattle.std.specs.Io.KnownBytes.{Appends, Consumes, IsAtEnd};
-ghost use Rattle.advfs_cli.specs.Counts.{Rose};
+ghost use Rattle.domain_base.specs.Counts.{HasRisen};
 ghost use Rattle.advfs_cli.specs.Transfer.{AppendsFront, StopsAfter};
 
 use crate::sinks::Sink;
@@ -78,7 +78,7 @@ pub fn read_all<S: Source>(
         × MatchResult result (λ bytes. (bytes.items ≡ read) × (length read ≤ limit)) (λ e. StopsAfter limit e read) }
     ensures ended { OnOk result (IsAtEnd (S.left source.new)) }
     ensures never_falls { S.faults source.old ≤ S.faults source.new }
-    ensures source_fault { result ≡ Err ReadError.SourceFault → Rose (S.faults source.old) (S.faults source.new) }
+    ensures source_fault { result ≡ Err ReadError.SourceFault → HasRisen (S.faults source.old) (S.faults source.new) }
 {
     let mut bytes = Vec::new(alloc);
     let mut piece = zeros(alloc, PIECE_BYTES)?;
@@ -99,7 +99,7 @@ pub fn write_all<K: Sink>(sink: &mut K, text: &[u8]) -> Result<(), Failed>
     ensures ok { OnOk result (Appends (K.held sink.old) (K.held sink.new) text.now) }
     ensures err { OnErr result (AppendsFront (K.held sink.old) (K.held sink.new) text.now) }
     ensures never_falls { K.faults sink.old ≤ K.faults sink.new }
-    ensures failed { OnErr result (Rose (K.faults sink.old) (K.faults sink.new)) }
+    ensures failed { OnErr result (HasRisen (K.faults sink.old) (K.faults sink.new)) }
 {
     let mut written = 0;
     while written < text.len() {

@@ -4,6 +4,8 @@ ghost use Rattle.std.specs.List.{list_all};
 ghost use Rattle.std.specs.Char.{is_ascii_digit};
 ghost use Rattle.advfs_cli.specs.Usage.{form_of, pages_of};
 
+use domain_base::limits::{MAX_VOLUME_PAGES, MIN_FIRST_VOLUME_PAGES};
+
 /// Whether each byte is a decimal digit.
 fn are_digits(bytes: &[u8]) -> bool
     ensures { result ≡ list_all is_ascii_digit bytes.now }
@@ -11,7 +13,7 @@ fn are_digits(bytes: &[u8]) -> bool
     bytes.iter().all(|byte| byte.is_ascii_digit())
 }
 
-/// How many pages a word asks for: a number from 160 to 65,536.
+/// How many pages a word asks for, where the first volume of a domain may have so many.
 fn pages_in(word: &str) -> Option<u32>
     ensures { result ≡ pages_of word.now }
 {
@@ -19,13 +21,13 @@ fn pages_in(word: &str) -> Option<u32>
         return None;
     }
     match word.parse::<u32>() {
-        Ok(pages) if 160 <= pages && pages <= 65_536 => Some(pages),
+        Ok(pages) if MIN_FIRST_VOLUME_PAGES <= pages && pages <= MAX_VOLUME_PAGES => Some(pages),
         _ => None,
     }
 }
 
-/// The pages of the volume that the words ask for. Where they are no form, the place, counted from 0, of the first
-/// word after which no form begins so, or the number of words where one is missing.
+/// The pages of the volume that the command line asks for. A line that is not understood gives, as its error, how many
+/// words stand in front of the first one that is out of place; where the line stops too early that is all of them.
 pub fn pages_asked(words: &[String]) -> Result<u32, u32>
     ensures { result ≡ form_of (map string_bytes words.now) }
 {

@@ -4,6 +4,7 @@ use Rattle.std.specs.List.{list_all, before_first, after_first}
 use Rattle.std.specs.Char.{is_ascii_digit, is_ascii_alphanumeric}
 use Rattle.std.specs.Str.{bytes_eq}
 use Rattle.std.specs.Str.Parse.{digits_value}
+use Rattle.domain_base.specs.declared.limits.TheConstants.{MAX_CLIENTS, MAX_FILESET_NAME, MAX_NAME, MAX_TRANSFER}
 use Rattle.fileset_model.specs.declared.command.Place.{Place}
 use Rattle.script_text.specs.Words.{is_printable, is_quote}
 
@@ -24,25 +25,25 @@ unfoldable pub number_below : ℕ → List ℕ → Option ℕ
 number_below limit word =
     if nat_le 1 (length word) && list_all is_ascii_digit word && nat_lt (digits_value 10 word) limit then Some (digits_value 10 word) else None
 
--- the number of a client, from 1 to 8
+-- the number of a client, counted from 1
 unfoldable pub client_of : List ℕ → Option ℕ
 client_of word = do
   n ← number_below (2 ^ 32) word
-  if nat_le 1 n && nat_le n 8 then Some n else None
+  if nat_le 1 n && nat_le n MAX_CLIENTS then Some n else None
 
--- how many bytes a read asks for, up to 8,192
+-- how many bytes a read asks for
 unfoldable pub count_of : List ℕ → Option ℕ
 count_of word = do
   n ← number_below (2 ^ 32) word
-  if nat_le n 8192 then Some n else None
+  if nat_le n MAX_TRANSFER then Some n else None
 
 -- a letter, a digit, `_`, `-` or `.`
 abbrev pub is_fileset_character : ℕ → Bool
 is_fileset_character b = is_ascii_alphanumeric b || b == 95 || b == 45 || b == 46
 
--- the name of a fileset: 1 to 31 such characters
+-- the name of a fileset: such characters, at least one
 unfoldable pub fileset_of : List ℕ → Option (List ℕ)
-fileset_of word = passing (has_length 1 31 word && list_all is_fileset_character word) word
+fileset_of word = passing (has_length 1 MAX_FILESET_NAME word && list_all is_fileset_character word) word
 
 -- a byte that a path writes as itself: from 0x21 to 0x7E, and no `%`
 abbrev pub stands_for_itself : ℕ → Bool
@@ -52,9 +53,9 @@ stands_for_itself b = nat_le 33 b && nat_le b 126 && not (b == 37)
 abbrev pub is_name_character : ℕ → Bool
 is_name_character b = stands_for_itself b && not (b == 47)
 
--- 1 to 255 such bytes, and neither `.` nor `..`
+-- such bytes, at least one, and neither `.` nor `..`
 abbrev pub is_name : List ℕ → Bool
-is_name word = has_length 1 255 word && list_all is_name_character word && not (bytes_eq word (codes ".")) && not (bytes_eq word (codes ".."))
+is_name word = has_length 1 MAX_NAME word && list_all is_name_character word && not (bytes_eq word (codes ".")) && not (bytes_eq word (codes ".."))
 
 -- the name of a file or directory
 unfoldable pub name_of : List ℕ → Option (List ℕ)
@@ -78,9 +79,9 @@ place_of word = do
 abbrev pub is_quotable : ℕ → Bool
 is_quotable b = is_printable b && not (is_quote b) && not (b == 92)
 
--- the bytes that the word says: 1 to 8,192 of them, in quotes
+-- the bytes that the word says in quotes, at least one
 unfoldable pub bytes_of : List ℕ → Option (List ℕ)
 bytes_of word =
     let inner = take (length word - 2) (drop 1 word) in
     passing (nat_le 3 (length word) && is_quote (slice_index word 0) && is_quote (slice_index word (length word - 1))
-    && has_length 1 8192 inner && list_all is_quotable inner) inner
+    && has_length 1 MAX_TRANSFER inner && list_all is_quotable inner) inner

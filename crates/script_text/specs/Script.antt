@@ -4,6 +4,7 @@ use Rattle.std.specs.List.{list_any, filter_map}
 use Rattle.std.specs.Option.{option_to_list}
 use Rattle.std.specs.Str.{bytes_eq}
 use Rattle.std.specs.Str.Lines.{lines}
+use Rattle.domain_base.specs.declared.limits.TheConstants.{MAX_COMMANDS}
 use Rattle.fileset_model.specs.declared.command.Command.{Command}
 use Rattle.fileset_model.specs.declared.command.Command.TheVariants.{Mkfset, Create, Write, Read}
 use Rattle.script_text.specs.declared.fault.FaultKind.{FaultKind}
@@ -134,7 +135,7 @@ is_second_section _ _ = false
 
 -- one more command, where the section has as many as it may have
 abbrev pub is_one_too_many : Option Section → Option Statement → Bool
-is_one_too_many (Some section) (Some (Gives command)) = nat_le 2000 (length section.commands)
+is_one_too_many (Some section) (Some (Gives command)) = nat_le MAX_COMMANDS (length section.commands)
 is_one_too_many _ _ = false
 
 -- the first kind of fault that a line has

@@ -6,7 +6,7 @@ use crate::bytes_text::push_bytes;
 use crate::number::push_number;
 use crate::path_text::{push_path, push_place};
 use domain_base::OutOfMemory;
-use fileset_model::{Actor, Command, FilesetName, Owner, Place};
+use fileset_model::{Actor, Command, FilesetName, Owner, Path, Place};
 
 /// Adds who gave a command: `c` and the number of a client, or `m`.
 pub fn push_actor(out: &mut Vec<u8>, actor: Actor) -> Result<(), OutOfMemory>
@@ -84,6 +84,34 @@ fn push_placed_numbers(
     Ok(())
 }
 
+/// Adds a command that makes a file or a directory, with its uid and gid.
+fn push_made(
+    out: &mut Vec<u8>,
+    text: &[u8],
+    place: &Place,
+    uid: u32,
+    gid: u32,
+) -> Result<(), OutOfMemory>
+    ensures { OnOk result (out.new.items
+        ≡ out.old.items ++ text.now ++ spaced (place_text place.now ∷ decimal uid ∷ decimal gid ∷ [])) }
+{
+    push_placed_numbers(out, text, place, u64::from(uid), u64::from(gid))
+}
+
+#[tactic(auto, unfolding(crate::specs::History::command_text))]
+fn push_clonefset(
+    out: &mut Vec<u8>,
+    fileset: &FilesetName,
+    new_name: &FilesetName,
+) -> Result<(), OutOfMemory>
+    ensures { OnOk result (out.new.items
+        ≡ out.old.items ++ command_text (Command.Clonefset fileset.now new_name.now)) }
+{
+    push_named(out, b"clonefset ", fileset)?;
+    push_named(out, b" ", new_name)?;
+    Ok(())
+}
+
 #[tactic(auto, unfolding(crate::specs::History::command_text))]
 fn push_setquota(
     out: &mut Vec<u8>,
@@ -103,6 +131,16 @@ fn push_setquota(
 }
 
 #[tactic(auto, unfolding(crate::specs::History::command_text))]
+fn push_showquota(out: &mut Vec<u8>, fileset: &FilesetName, who: Owner) -> Result<(), OutOfMemory>
+    ensures { OnOk result (out.new.items
+        ≡ out.old.items ++ command_text (Command.Showquota fileset.now who)) }
+{
+    push_named(out, b"showquota ", fileset)?;
+    push_owner(out, who)?;
+    Ok(())
+}
+
+#[tactic(auto, unfolding(crate::specs::History::command_text))]
 fn push_write(
     out: &mut Vec<u8>,
     place: &Place,
@@ -116,6 +154,27 @@ fn push_write(
     push_number_word(out, offset)?;
     out.push(b' ')?;
     push_bytes(out, bytes)?;
+    Ok(())
+}
+
+#[tactic(auto, unfolding(crate::specs::History::command_text))]
+fn push_truncate(out: &mut Vec<u8>, place: &Place, size: u64) -> Result<(), OutOfMemory>
+    ensures { OnOk result (out.new.items
+        ≡ out.old.items ++ command_text (Command.Truncate place.now size)) }
+{
+    push_placed(out, b"truncate ", place)?;
+    push_number_word(out, size)?;
+    Ok(())
+}
+
+#[tactic(auto, unfolding(crate::specs::History::command_text))]
+fn push_rename(out: &mut Vec<u8>, place: &Place, to: &Path) -> Result<(), OutOfMemory>
+    ensures { OnOk result (out.new.items
+        ≡ out.old.items ++ command_text (Command.Rename place.now to.now)) }
+{
+    push_placed(out, b"rename ", place)?;
+    out.push(b' ')?;
+    push_path(out, to.as_slice())?;
     Ok(())
 }
 
@@ -140,10 +199,7 @@ pub fn push_command(out: &mut Vec<u8>, command: &Command) -> Result<(), OutOfMem
     match command {
         Command::Mkfset { fileset } => push_named(out, b"mkfset ", fileset)?,
         Command::Rmfset { fileset } => push_named(out, b"rmfset ", fileset)?,
-        Command::Clonefset { fileset, new_name } => {
-            push_named(out, b"clonefset ", fileset)?;
-            push_named(out, b" ", new_name)?;
-        }
+        Command::Clonefset { fileset, new_name } => push_clonefset(out, fileset, new_name)?,
         Command::Showfsets => out.extend_from_slice(b"showfsets")?,
         Command::Setquota {
             fileset,
@@ -151,16 +207,9 @@ pub fn push_command(out: &mut Vec<u8>, command: &Command) -> Result<(), OutOfMem
             files,
             blocks,
         } => push_setquota(out, fileset, *who, *files, *blocks)?,
-        Command::Showquota { fileset, who } => {
-            push_named(out, b"showquota ", fileset)?;
-            push_owner(out, *who)?;
-        }
-        Command::Create { place, uid, gid } => {
-            push_placed_numbers(out, b"create ", place, u64::from(*uid), u64::from(*gid))?;
-        }
-        Command::Mkdir { place, uid, gid } => {
-            push_placed_numbers(out, b"mkdir ", place, u64::from(*uid), u64::from(*gid))?;
-        }
+        Command::Showquota { fileset, who } => push_showquota(out, fileset, *who)?,
+        Command::Create { place, uid, gid } => push_made(out, b"create ", place, *uid, *gid)?,
+        Command::Mkdir { place, uid, gid } => push_made(out, b"mkdir ", place, *uid, *gid)?,
         Command::Write {
             place,
             offset,
@@ -171,15 +220,8 @@ pub fn push_command(out: &mut Vec<u8>, command: &Command) -> Result<(), OutOfMem
             offset,
             count,
         } => push_placed_numbers(out, b"read ", place, *offset, u64::from(*count))?,
-        Command::Truncate { place, size } => {
-            push_placed(out, b"truncate ", place)?;
-            push_number_word(out, *size)?;
-        }
-        Command::Rename { place, to } => {
-            push_placed(out, b"rename ", place)?;
-            out.push(b' ')?;
-            push_path(out, to.as_slice())?;
-        }
+        Command::Truncate { place, size } => push_truncate(out, place, *size)?,
+        Command::Rename { place, to } => push_rename(out, place, to)?,
         Command::Unlink { place } => push_placed(out, b"unlink ", place)?,
         Command::Rmdir { place } => push_placed(out, b"rmdir ", place)?,
         Command::List { place } => push_placed(out, b"list ", place)?,

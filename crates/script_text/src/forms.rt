@@ -6,7 +6,7 @@ ghost use Rattle.script_text.specs.Reading.{Gives};
 
 use crate::fault::WordFault;
 use crate::path_text::stands_for_itself;
-use domain_base::limits::{MAX_FILESET_NAME, MAX_NAME, MAX_TRANSFER};
+use domain_base::limits::{MAX_CLIENTS, MAX_FILESET_NAME, MAX_NAME, MAX_TRANSFER};
 use fileset_model::{Bytes, FilesetName, Name, Path, Place};
 use std::alloc::Global;
 
@@ -52,7 +52,7 @@ pub fn client(word: &[u8]) -> Option<u8>
     ensures { result ≡ client_of word.now }
 {
     let n = small_number(word)?;
-    if n >= 1 && n <= 8 {
+    if n >= 1 && n as usize <= MAX_CLIENTS {
         Some(n as u8)
     } else {
         None
@@ -65,7 +65,11 @@ pub fn count(word: &[u8]) -> Option<u32>
     ensures { result ≡ count_of word.now }
 {
     let n = small_number(word)?;
-    if n <= 8192 { Some(n) } else { None }
+    if n as usize <= MAX_TRANSFER {
+        Some(n)
+    } else {
+        None
+    }
 }
 
 fn is_fileset_character(byte: u8) -> bool
@@ -81,7 +85,7 @@ fn has_fileset_characters(word: &[u8]) -> bool
 }
 
 fn is_fileset_name(word: &[u8]) -> bool
-    ensures { result ≡ (has_length 1 31 word.now && list_all is_fileset_character word.now) }
+    ensures { result ≡ (has_length 1 MAX_FILESET_NAME word.now && list_all is_fileset_character word.now) }
 {
     let len = word.len();
     1 <= len && len <= MAX_FILESET_NAME && has_fileset_characters(word)

@@ -123,6 +123,59 @@ fn log_word(logged: bool) -> &'static str
     if logged { " log" } else { " -" }
 }
 
+/// Adds what is told of a file.
+fn push_file_stat(
+    out: &mut Vec<u8>,
+    uid: u32,
+    gid: u32,
+    size: u64,
+    pages: u32,
+    logged: bool,
+) -> Result<(), OutOfMemory>
+    ensures { OnOk result (out.new.items
+        ≡ out.old.items ++ behind_spaces (reply_words (Reply.FileStat uid gid size pages logged))) }
+{
+    out.extend_from_slice(b" file")?;
+    push_marked(out, b' ', u64::from(uid))?;
+    push_marked(out, b' ', u64::from(gid))?;
+    push_marked(out, b' ', size)?;
+    push_marked(out, b' ', u64::from(pages))?;
+    out.extend_from_slice(log_word(logged).as_bytes())?;
+    Ok(())
+}
+
+/// Adds what is told of a directory.
+fn push_dir_stat(out: &mut Vec<u8>, uid: u32, gid: u32, rows: u32) -> Result<(), OutOfMemory>
+    ensures { OnOk result (out.new.items
+        ≡ out.old.items ++ behind_spaces (reply_words (Reply.DirStat uid gid rows))) }
+{
+    out.extend_from_slice(b" dir")?;
+    push_marked(out, b' ', u64::from(uid))?;
+    push_marked(out, b' ', u64::from(gid))?;
+    push_marked(out, b' ', u64::from(rows))?;
+    Ok(())
+}
+
+/// Adds what an owner uses and may use, files before blocks.
+fn push_quota(
+    out: &mut Vec<u8>,
+    files: u64,
+    files_limit: u64,
+    blocks: u64,
+    blocks_limit: u64,
+) -> Result<(), OutOfMemory>
+    ensures { OnOk result (out.new.items
+        ≡ out.old.items ++ behind_spaces (reply_words (Reply.Quota files files_limit blocks blocks_limit))) }
+{
+    out.extend_from_slice(b" files")?;
+    push_marked(out, b' ', files)?;
+    push_marked(out, b' ', files_limit)?;
+    out.extend_from_slice(b" blocks")?;
+    push_marked(out, b' ', blocks)?;
+    push_marked(out, b' ', blocks_limit)?;
+    Ok(())
+}
+
 /// Adds a reply: `ok` with what was asked for, or a refusal.
 #[tactic(auto, unfolding(crate::specs::History::reply_text))]
 pub fn push_reply(out: &mut Vec<u8>, reply: &Reply) -> Result<(), OutOfMemory>
@@ -154,34 +207,15 @@ fn push_answer(out: &mut Vec<u8>, reply: &Reply) -> Result<(), OutOfMemory>
             size,
             pages,
             logged,
-        } => {
-            out.extend_from_slice(b" file")?;
-            push_marked(out, b' ', u64::from(*uid))?;
-            push_marked(out, b' ', u64::from(*gid))?;
-            push_marked(out, b' ', *size)?;
-            push_marked(out, b' ', u64::from(*pages))?;
-            out.extend_from_slice(log_word(*logged).as_bytes())?;
-        }
-        Reply::DirStat { uid, gid, rows } => {
-            out.extend_from_slice(b" dir")?;
-            push_marked(out, b' ', u64::from(*uid))?;
-            push_marked(out, b' ', u64::from(*gid))?;
-            push_marked(out, b' ', u64::from(*rows))?;
-        }
+        } => push_file_stat(out, *uid, *gid, *size, *pages, *logged)?,
+        Reply::DirStat { uid, gid, rows } => push_dir_stat(out, *uid, *gid, *rows)?,
         Reply::Filesets(filesets) => push_filesets(out, filesets.as_slice())?,
         Reply::Quota {
             files,
             files_limit,
             blocks,
             blocks_limit,
-        } => {
-            out.extend_from_slice(b" files")?;
-            push_marked(out, b' ', *files)?;
-            push_marked(out, b' ', *files_limit)?;
-            out.extend_from_slice(b" blocks")?;
-            push_marked(out, b' ', *blocks)?;
-            push_marked(out, b' ', *blocks_limit)?;
-        }
+        } => push_quota(out, *files, *files_limit, *blocks, *blocks_limit)?,
         Reply::Volumes(volumes) => push_volumes(out, volumes.as_slice())?,
         Reply::Extents(extents) => push_extents(out, extents.as_slice())?,
     }

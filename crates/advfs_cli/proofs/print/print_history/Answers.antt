@@ -1,6 +1,6 @@
 use Rattle.std.proofs.Common.{arith, ◌∙◌}
 use Rattle.std.proofs.lemmas.Result.{err_from_is_err_and}
-use Rattle.advfs_cli.proofs.Printed.{Appends-line, AppendsFront-line, AppendsFront-lines}
+use Rattle.advfs_cli.proofs.Printed.{AppendsFront-line, AppendsFront-lines}
 use Rattle.advfs_cli.proofs.print.print_history.Goals as goal
 
 pub returns-in_err-line-clause-err : goal.returns-in_err-line-clause-err

@@ -1,4 +1,3 @@
-use Rattle.std.proofs.Common.{◌≡◌, [], Result, sym, ◌∙◌, ap}
 use Rattle.advfs_cli.proofs.Endings.{Follows-from_answers, HasRead-from_follows, HasRead-from_error, form_none, form_legal_answer}
 use Rattle.advfs_cli.proofs.Legality.{IsLegal-from_answers}
 use Rattle.advfs_cli.proofs.run.run.Goals as goal

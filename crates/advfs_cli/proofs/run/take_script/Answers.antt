@@ -1,4 +1,4 @@
-use Rattle.std.proofs.Common.{◌≡◌, List, ℕ, Result, Ok, subst, ◌∙◌}
+use Rattle.std.proofs.Common.{◌≡◌, List, ℕ, Ok, subst, ◌∙◌}
 use Rattle.std.proofs.lemmas.Result.{err_from_is_err_and}
 use Rattle.script_text.specs.Script.{Reports, script_of}
 use Rattle.advfs_cli.proofs.Endings.{GetsNoScript-from_fault, GetsNoScript-from_read, IsShort-from_bound}

@@ -1,5 +1,3 @@
-use Rattle.std.proofs.Common.{sym, subst}
-use Rattle.advfs_cli.specs.Plain.{GoesOn}
 use Rattle.advfs_cli.proofs.Histories.{GoesOn-turn}
 use Rattle.advfs_cli.proofs.run.take_turn.Goals as goal
 

@@ -9,5 +9,5 @@ returns-in-empty-clause-first c =
 
 pub returns-in-len1-up-clause-first : goal.returns-in-len1-up-clause-first
 returns-in-len1-up-clause-first c =
-    rw (c.without_carriage_return.ensures, behind_first c.split_at.result.1.now, c.split_at.ensures.front, c.split_at.ensures.back)
-    (lines-first c.args.text.now c.newline_at.result c.newline_at.ensures.value (rw (← c.split_at.ensures.back) (omega (arith, c.in-len1-up.len_at_least))))
+    let first = lines-first c.args.text.now c.newline_at.result c.newline_at.ensures.value (rw (← c.split_at.ensures.back) (omega (arith, c.in-len1-up.len_at_least))) in
+    rw (behind_first c.split_at.result.1.now) (cc first)

@@ -1,6 +1,6 @@
-use Rattle.std.proofs.Common.{◌≡◌, ◌+◌, ◌≤◌, vec_len, take, drop, length, arith, ◌∙◌, ap, sym}
+use Rattle.std.proofs.Common.{◌≡◌, ◌+◌, ◌≤◌, take, drop, length, arith, ◌∙◌, ap, sym}
 use Rattle.std.proofs.lemmas.Grind.{common_steps}
-use Rattle.std.proofs.lemmas.List.{take_rest, length-take, length-drop}
+use Rattle.std.proofs.lemmas.List.{take_rest}
 use Rattle.advfs_cli.proofs.Pieces.{front-and_rest, rest-nil}
 use Rattle.advfs_cli.proofs.sources.MemorySourceSource.read.Goals as goal
 
