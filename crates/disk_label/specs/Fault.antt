@@ -1,6 +1,7 @@
 -- Why no anchor is given.
 use Rattle.std.specs.Prelude.{⊤}
-use Rattle.volume_disk.specs.Disk.{Disk, HasRisen}
+use Rattle.domain_base.specs.Counts.{HasRisen}
+use Rattle.volume_disk.specs.Disk.{Disk}
 use Rattle.disk_label.specs.declared.store.AnchorFault.{AnchorFault}
 use Rattle.disk_label.specs.declared.store.AnchorFault.TheVariants.{NoAnchor, Fault}
 

@@ -1,6 +1,7 @@
 //! The label of a volume, its page 0.
 ghost use Rattle.std.specs.Prelude.{◌≡◌, ◌≤◌, IsTrue, IfOk, IfErr, OnOk};
-ghost use Rattle.volume_disk.specs.Disk.{HasVolume, HasRisen, OnlyReads, OnlyWrites, Settles, pages_of};
+ghost use Rattle.domain_base.specs.Counts.{HasRisen};
+ghost use Rattle.volume_disk.specs.Disk.{HasVolume, OnlyReads, OnlyWrites, Settles, pages_of};
 ghost use Rattle.volume_disk.specs.Image.{bytes_at};
 ghost use Rattle.disk_label.specs.Label.{IsLabelOf, label_bytes};
 

@@ -1,6 +1,7 @@
 //! Anchors on the volumes of a rack.
 ghost use Rattle.std.specs.Prelude.{◌≡◌, ◌*◌, ◌+◌, ◌-◌, ◌<◌, ◌≤◌, None, Some, IsTrue, IfOk, IfErr, OnOk, length, Option};
-ghost use Rattle.volume_disk.specs.Disk.{AreBlocks, HasVolume, HasRisen, OnlyReads, OnlyWrites, Settles, LeavesOnly, MayLeave, pages_of};
+ghost use Rattle.domain_base.specs.Counts.{HasRisen};
+ghost use Rattle.volume_disk.specs.Disk.{AreBlocks, HasVolume, OnlyReads, OnlyWrites, Settles, LeavesOnly, MayLeave, pages_of};
 ghost use Rattle.volume_disk.specs.Image.{Image, bytes_at};
 ghost use Rattle.disk_label.specs.Anchor.{HasBefore, greater_of, IsAnchor, IsAnchorBelow, IsNext, IsOldOrNew, IsWhole, StandsAt};
 ghost use Rattle.disk_label.specs.Fault.{HasCause};

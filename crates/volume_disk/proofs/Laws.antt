@@ -1,7 +1,8 @@
 -- How what a stop may leave goes on from call to call. Crates above cite these and look into no rack.
 use Rattle.std.proofs.Common.{◌≡◌, ◌⊎◌, ◌+◌, ◌==◌, ◌&&◌, ℕ, ◌-◌, ◌^◌, ◌<◌, ◌≤◌, nat_lt, Bool, true, false, cond, IsTrue, Result, Ok, Err, OnOk, OnErr, List, length, refl, sym, ◌∙◌, ap, subst, inl, inr, ⊎_elim, arith}
-use Rattle.std.proofs.lemmas.Bool.{cases_eq, cases_lt, eq-eqb, ne_eqb, lt-ltb, both_ways}
-use Rattle.volume_disk.specs.Disk.{Disk, Moment, MayLeave, MayLeaveTorn, Since, moment_at, Makes, MayTear, Writes, Syncs, ReadDone, ReadFailed, WriteDone, WriteFailed, SyncDone, SyncFailed, Elapses, LeavesOnly, OnlyReads, OnlyWrites, Settles, HasRisen, raised, raised_at}
+use Rattle.std.proofs.lemmas.Bool.{cases_eq, eq-eqb, ne_eqb, lt-ltb, both_ways}
+use Rattle.domain_base.specs.Counts.{raised, HasRisen}
+use Rattle.volume_disk.specs.Disk.{Disk, Moment, MayLeave, MayLeaveTorn, Since, moment_at, Makes, MayTear, Writes, Syncs, ReadDone, ReadFailed, WriteDone, WriteFailed, SyncDone, SyncFailed, Elapses, LeavesOnly, OnlyReads, OnlyWrites, Settles, raised_at}
 use Rattle.volume_disk.specs.Image.{Image, IsIn, SameOutside}
 use Rattle.volume_disk.proofs.Moments.{in_or_out, put_at-same, put_at-other}
 
@@ -213,7 +214,7 @@ weaker old new P Q weak only = record {
 -- Counts of faults.
 
 pub HasRisen-raised_at : (counts : ℕ → ℕ) (vol : ℕ) → HasRisen (counts vol) (raised_at counts vol vol)
-HasRisen-raised_at counts vol = subst (HasRisen (counts vol)) (sym (put_at-same counts vol (raised (counts vol)))) (elim (cases_lt (counts vol) (2 ^ 64 - 1)) [ inl lt ↦ inl (omega arith) | inr last ↦ inr (last, omega arith) ])
+HasRisen-raised_at counts vol = subst (HasRisen (counts vol)) (sym (put_at-same counts vol (raised (counts vol)))) (omega arith)
 
 pub raised_at-other : (counts : ℕ → ℕ) (vol v : ℕ) → (v ≡ vol → ⊥) → raised_at counts vol v ≡ counts v
 raised_at-other counts vol v other = put_at-other counts vol v (raised (counts vol)) other
@@ -226,12 +227,10 @@ raised_at-later counts vol v = elim (cases_eq v vol) [
 ]
 
 pub HasRisen-before : (a b c : ℕ) → a ≤ b → HasRisen b c → HasRisen a c
-HasRisen-before a b c le (inl lt) = inl (omega arith)
-HasRisen-before a b c le (inr last) = elim (cases_lt a c) [ inl lt ↦ inl lt | inr ge ↦ inr (omega (arith, last.0, last.1), omega (arith, last.1)) ]
+HasRisen-before a b c le risen = omega (arith, risen)
 
 pub HasRisen-after : (a b c : ℕ) → HasRisen a b → b ≤ c → HasRisen a c
-HasRisen-after a b c (inl lt) le = inl (omega arith)
-HasRisen-after a b c (inr last) le = inr (last.0, omega (arith, last.1))
+HasRisen-after a b c risen le = omega (arith, risen)
 
 -- Runs of reads.
 

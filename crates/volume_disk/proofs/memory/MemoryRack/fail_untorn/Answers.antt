@@ -1,5 +1,5 @@
 use Rattle.std.proofs.Common.{◌≡◌, ◌≤◌, refl, sym, ◌∙◌, arith}
-use Rattle.volume_disk.specs.Disk.{raised}
+use Rattle.domain_base.specs.Counts.{raised}
 use Rattle.volume_disk.specs.Volume.{moment_of, settled_of, sizes_of}
 use Rattle.volume_disk.proofs.Replays.{AreFit-same, AreUpTo-later, replayed-past, past_goes_on}
 use Rattle.volume_disk.proofs.memory.MemoryRack.fail_untorn.Goals as goal

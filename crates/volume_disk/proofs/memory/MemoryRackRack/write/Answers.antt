@@ -1,5 +1,6 @@
 use Rattle.std.proofs.Common.{◌≡◌, ◌+◌, ◌*◌, length, refl, sym, ◌∙◌, ap, subst, arith}
-use Rattle.volume_disk.specs.Disk.{Moment, MayTear, Writes, raised}
+use Rattle.domain_base.specs.Counts.{raised}
+use Rattle.volume_disk.specs.Disk.{Moment, MayTear, Writes}
 use Rattle.volume_disk.specs.Kept.{Adds}
 use Rattle.volume_disk.specs.Moment.{written}
 use Rattle.volume_disk.specs.Volume.{moment_of, settled_of, sizes_of}
