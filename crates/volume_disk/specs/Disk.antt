@@ -183,6 +183,16 @@ pub record OnlyWrites (old new : Disk) (vol at n : ℕ) : Type 0 where
   pub write_faults : (v : ℕ) → old.write_faults v ≤ new.write_faults v
   pub tears : IsTrue old.told → LeavesOnly old new (MayLeaveTorn vol at n old.now)
 
+-- a run of calls that changed at most n bytes from `at` on, and may have read: the images of before may be torn there
+pub record OnlyChanges (old new : Disk) (vol at n : ℕ) : Type 0 where
+  pub sizes : new.sizes ≡ old.sizes
+  pub told : new.told ≡ old.told
+  pub kept : new.kept ≡ old.kept
+  pub read_faults : (v : ℕ) → old.read_faults v ≤ new.read_faults v
+  pub write_faults : (v : ℕ) → old.write_faults v ≤ new.write_faults v
+  pub contents : IsTrue old.told → SameOutside vol at n old.now.contents new.now.contents
+  pub tears : IsTrue old.told → LeavesOnly old new (MayLeaveTorn vol at n old.now)
+
 -- the bytes are written from `at` on, and the volume is synced
 pub record Settles (vol at : ℕ) (bytes : List ℕ) (old new : Moment) : Type 0 where
   pub written : HasBytes vol at bytes new.contents
