@@ -1,13 +1,12 @@
 -- What is read of a slot, and which anchor is the greatest.
-use Rattle.std.proofs.Common.{◌≡◌, ◌⊎◌, ℕ, zero, suc, ◌+◌, ◌-◌, ◌*◌, ◌/◌, ◌%◌, ◌<◌, ◌≤◌, List, length, get_or, Option, Some, None, true, false, nat_le, refl, sym, ◌∙◌, ap, subst, inl, inr, arith}
-use Rattle.std.proofs.lemmas.Bool.{cases_eq, cases_lt, cases_order, le-leb, lt-leb}
+use Rattle.std.proofs.Common.{◌≡◌, ℕ, zero, suc, ◌+◌, ◌-◌, ◌*◌, ◌%◌, ◌<◌, ◌≤◌, List, length, get_or, Option, Some, None, true, false, nat_le, refl, sym, ◌∙◌, ap, subst, inl, inr, arith}
+use Rattle.std.proofs.lemmas.Bool.{cases_lt, cases_order, le-leb, lt-leb}
 use Rattle.std.proofs.lemmas.List.{get_or_past}
 use Rattle.volume_disk.specs.Disk.{Moment, pages_of}
-use Rattle.volume_disk.specs.Image.{Image, IsIn, SameOutside, bytes_at, bytes_from}
-use Rattle.volume_disk.proofs.Bytes.{get_or-bytes_from, bytes_from-same}
-use Rattle.disk_label.specs.Anchor.{volume_of, gate_of, anchor_at, Counts, StandsAt, IsGreatest, IsAnchorBelow, IsAnchor, greater_of, place_of}
-use Rattle.disk_label.specs.Body.{anchor_from, HasLogMember}
-use Rattle.disk_label.proofs.Bodies.{anchor_from-same}
+use Rattle.volume_disk.specs.Image.{Image, bytes_at}
+use Rattle.volume_disk.proofs.Bytes.{get_or-bytes_from}
+use Rattle.disk_label.specs.Anchor.{volume_of, gate_of, anchor_at, Counts, StandsAt, IsGreatest, IsAnchorBelow, greater_of}
+use Rattle.disk_label.specs.Body.{anchor_from}
 use Rattle.disk_label.specs.declared.anchor.Anchor.{Anchor}
 
 module _ (vol slot : ℕ) (low : 1 ≤ vol) (high : slot ≤ 1) where
