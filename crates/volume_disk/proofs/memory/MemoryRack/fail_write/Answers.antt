@@ -2,51 +2,25 @@ use Rattle.std.proofs.Common.{◌≡◌, ℕ, ◌≤◌, ◌+◌, ◌^◌, ◌-�
 use Rattle.domain_base.specs.Counts.{raised}
 use Rattle.volume_disk.specs.Disk.{Moment, MayTear, raised_at}
 use Rattle.volume_disk.specs.Kept.{Adds}
+use Rattle.volume_disk.specs.Memory.{memory_disk, past_of}
 use Rattle.volume_disk.specs.Moment.{torn}
 use Rattle.volume_disk.specs.Volume.{moment_of, settled_of, sizes_of}
-use Rattle.volume_disk.proofs.Moments.{MayTear-torn, MayTear-same}
-use Rattle.volume_disk.proofs.Replays.{from_err, from_ok, AreUpTo-added, AreFit-added, AreFit-same, replayed-added, replayed-added_before, past_goes_on, with_now}
+use Rattle.volume_disk.proofs.Failed.{SyncFailed-past, WriteFailed-untorn}
+use Rattle.volume_disk.proofs.Moments.{MayTear-torn}
+use Rattle.volume_disk.proofs.Replays.{from_err, from_ok, AreUpTo-added, AreFit-added, AreFit-same, replayed-added, replayed-added_before, past_goes_on}
 use Rattle.volume_disk.proofs.memory.MemoryRack.fail_write.Goals as goal
 
 pub returns-then-self : goal.returns-then-self
-returns-then-self c =
-    let failed = c.fail_untorn.ensures in
-    let now = moment_of c.args.self.now.volumes.items.items in
-    record {
-      makes = record {
-        calls = failed.calls;
-        read_faults = failed.read_faults;
-        write_faults = failed.write_faults;
-        sizes = failed.sizes;
-        fails = failed.fails;
-        told = failed.told;
-        kept = failed.kept;
-        now = λ told. refl;
-        past = failed.past;
-      };
-      tears = λ told. subst (MayTear c.args.vol (512 * c.args.block) c.args.size now) (sym (failed.now told)) (MayTear-same now c.args.vol (512 * c.args.block) c.args.size);
-    }
+returns-then-self c = WriteFailed-untorn (memory_disk c.args.self.now) (memory_disk c.fail_untorn.new.self) c.args.vol (512 * c.args.block) c.args.size c.fail_untorn.ensures
 
 pub returns-then-is_err : goal.returns-then-is_err
 returns-then-is_err c =
     let rack = c.args.self.now in
-    let failed = c.fail_untorn-then-is_err.ensures in
+    let old = memory_disk rack in
+    let new = memory_disk c.fail_untorn-then-is_err.new.self in
     let same : c.keep.new.kept.items ≡ rack.kept.items = from_err c.keep.result (sym c.is_err.ensures.value ∙ c.if-is_err.true) c.keep.ensures.err in
-    let now = moment_of rack.volumes.items.items in
-    record {
-      makes = record {
-        calls = failed.calls;
-        read_faults = failed.read_faults;
-        write_faults = failed.write_faults;
-        sizes = failed.sizes;
-        fails = failed.fails;
-        told = failed.told;
-        kept = failed.kept;
-        now = λ told. refl;
-        past = λ told. failed.past told ∙ ap (with_now rack.keeps rack.calls now (settled_of rack.first.items.items)) same;
-      };
-      tears = λ told. subst (MayTear c.args.vol (512 * c.args.block) c.args.size now) (sym (failed.now told)) (MayTear-same now c.args.vol (512 * c.args.block) c.args.size);
-    }
+    WriteFailed-untorn old new c.args.vol (512 * c.args.block) c.args.size
+    (SyncFailed-past old new c.args.vol (past_of rack.keeps rack.calls (settled_of rack.first.items.items) c.keep.new.kept.items) (ap (past_of rack.keeps rack.calls (settled_of rack.first.items.items)) same) c.fail_untorn-then-is_err.ensures)
 
 pub invariant_of-self-2 : goal.invariant_of-self-2
 invariant_of-self-2 c =

@@ -2,28 +2,19 @@ use Rattle.std.proofs.Common.{◌≡◌, ◌≤◌, ◌+◌, ◌*◌, refl, sym,
 use Rattle.domain_base.specs.Counts.{raised}
 use Rattle.volume_disk.specs.Disk.{Moment, Syncs, pages_of}
 use Rattle.volume_disk.specs.Kept.{Adds}
+use Rattle.volume_disk.specs.Memory.{memory_disk, past_of}
 use Rattle.volume_disk.specs.Moment.{synced}
 use Rattle.volume_disk.specs.Volume.{moment_of, settled_of, sizes_of}
+use Rattle.volume_disk.proofs.Failed.{SyncFailed-past}
 use Rattle.volume_disk.proofs.Moments.{Syncs-synced}
-use Rattle.volume_disk.proofs.Replays.{from_err, from_ok, AreUpTo-added, AreFit-added, AreFit-same, replayed-added, replayed-added_before, past_goes_on, with_now}
+use Rattle.volume_disk.proofs.Replays.{from_err, from_ok, AreUpTo-added, AreFit-added, AreFit-same, replayed-added, replayed-added_before, past_goes_on}
 use Rattle.volume_disk.proofs.memory.MemoryRackRack.sync.Goals as goal
 
 pub returns-then-is_err-clause-failed : goal.returns-then-is_err-clause-failed
 returns-then-is_err-clause-failed c =
     let rack = c.args.self.now in
-    let failed = c.fail_untorn-then-is_err.ensures in
     let same : c.keep.new.kept.items ≡ rack.kept.items = from_err c.keep.result (sym c.is_err.ensures.value ∙ c.if-is_err.true) c.keep.ensures.err in
-    record {
-      calls = failed.calls;
-      read_faults = failed.read_faults;
-      write_faults = failed.write_faults;
-      sizes = failed.sizes;
-      fails = failed.fails;
-      told = failed.told;
-      kept = failed.kept;
-      now = failed.now;
-      past = λ told. failed.past told ∙ ap (with_now rack.keeps rack.calls (moment_of rack.volumes.items.items) (settled_of rack.first.items.items)) same;
-    }
+    SyncFailed-past (memory_disk rack) (memory_disk c.fail_untorn-then-is_err.new.self) c.args.vol (past_of rack.keeps rack.calls (settled_of rack.first.items.items) c.keep.new.kept.items) (ap (past_of rack.keeps rack.calls (settled_of rack.first.items.items)) same) c.fail_untorn-then-is_err.ensures
 
 pub invariant_of-self-2 : goal.invariant_of-self-2
 invariant_of-self-2 c =

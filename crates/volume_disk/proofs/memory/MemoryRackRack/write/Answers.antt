@@ -2,32 +2,22 @@ use Rattle.std.proofs.Common.{◌≡◌, ◌+◌, ◌*◌, length, refl, sym, �
 use Rattle.domain_base.specs.Counts.{raised}
 use Rattle.volume_disk.specs.Disk.{Moment, MayTear, Writes}
 use Rattle.volume_disk.specs.Kept.{Adds}
+use Rattle.volume_disk.specs.Memory.{memory_disk, past_of}
 use Rattle.volume_disk.specs.Moment.{written}
 use Rattle.volume_disk.specs.Volume.{moment_of, settled_of, sizes_of}
-use Rattle.volume_disk.proofs.Moments.{Writes-written, MayTear-same}
-use Rattle.volume_disk.proofs.Replays.{from_err, from_ok, AreUpTo-added, AreFit-added, AreFit-same, replayed-added, replayed-added_before, past_goes_on, with_now}
+use Rattle.volume_disk.proofs.Failed.{SyncFailed-past, WriteFailed-untorn}
+use Rattle.volume_disk.proofs.Moments.{Writes-written}
+use Rattle.volume_disk.proofs.Replays.{from_err, from_ok, AreUpTo-added, AreFit-added, AreFit-same, replayed-added, replayed-added_before, past_goes_on}
 use Rattle.volume_disk.proofs.memory.MemoryRackRack.write.Goals as goal
 
 pub returns-then-is_err-clause-failed : goal.returns-then-is_err-clause-failed
 returns-then-is_err-clause-failed c =
     let rack = c.args.self.now in
-    let failed = c.fail_untorn.ensures in
+    let old = memory_disk rack in
+    let new = memory_disk c.fail_untorn.new.self in
     let same : c.keep_write.new.kept.items ≡ rack.kept.items = from_err c.keep_write.result (sym c.is_err.ensures.value ∙ c.if-is_err.true) c.keep_write.ensures.err in
-    let now = moment_of rack.volumes.items.items in
-    record {
-      makes = record {
-        calls = failed.calls;
-        read_faults = failed.read_faults;
-        write_faults = failed.write_faults;
-        sizes = failed.sizes;
-        fails = failed.fails;
-        told = failed.told;
-        kept = failed.kept;
-        now = λ told. refl;
-        past = λ told. failed.past told ∙ ap (with_now rack.keeps rack.calls now (settled_of rack.first.items.items)) same;
-      };
-      tears = λ told. subst (MayTear c.args.vol (512 * c.args.block) (length c.args.bytes.now) now) (sym (failed.now told)) (MayTear-same now c.args.vol (512 * c.args.block) (length c.args.bytes.now));
-    }
+    WriteFailed-untorn old new c.args.vol (512 * c.args.block) (length c.args.bytes.now)
+    (SyncFailed-past old new c.args.vol (past_of rack.keeps rack.calls (settled_of rack.first.items.items) c.keep_write.new.kept.items) (ap (past_of rack.keeps rack.calls (settled_of rack.first.items.items)) same) c.fail_untorn.ensures)
 
 pub invariant_of-self-2 : goal.invariant_of-self-2
 invariant_of-self-2 c =
