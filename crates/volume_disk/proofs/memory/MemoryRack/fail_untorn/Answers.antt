@@ -1,6 +1,6 @@
-use Rattle.std.proofs.Common.{◌≡◌, ◌≤◌, arith}
+use Rattle.std.proofs.Common.{◌≡◌, arith}
 use Rattle.domain_base.specs.Counts.{raised}
-use Rattle.volume_disk.proofs.Failed.{kept_still, makes_still}
+use Rattle.volume_disk.proofs.OneMore.{kept_still, makes_still}
 use Rattle.volume_disk.proofs.memory.MemoryRack.fail_untorn.Goals as goal
 
 pub invariant_of-self : goal.invariant_of-self
