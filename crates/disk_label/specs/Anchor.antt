@@ -90,3 +90,7 @@ HasBefore disk old new = IsReady disk old new.log_vol new.slot
 -- an image has the old anchor, or none where there was none, or the new one
 abbrev pub IsOldOrNew : List ℕ → Option Anchor → Anchor → Image → Type 0
 IsOldOrNew sizes old new image = IsAnchor sizes image old ⊎ IsAnchor sizes image (Some new)
+
+-- two images agree on page 1 of each volume
+abbrev pub SamePage1 : Image → Image → Type 0
+SamePage1 old new = (v k : ℕ) → 8192 ≤ k → k < 16384 → new v k ≡ old v k

@@ -7,7 +7,7 @@ mod store;
 
 pub use anchor::{Anchor, Member};
 pub use label::{label_reads_back, read_label, write_label};
-pub use store::{AnchorFault, read_anchor, ready_slot, write_anchor};
+pub use store::{AnchorFault, anchors_depend_on_page_1, read_anchor, ready_slot, write_anchor};
 
 #[cfg(test)]
 mod tests;

@@ -1,9 +1,9 @@
 //! Anchors on the volumes of a rack.
-ghost use Rattle.std.specs.Prelude.{◌≡◌, ◌*◌, ◌+◌, ◌-◌, ◌<◌, ◌≤◌, false, None, Some, IsTrue, IfOk, IfErr, OnOk, length, Option};
+ghost use Rattle.std.specs.Prelude.{◌≡◌, ◌*◌, ◌+◌, ◌-◌, ◌<◌, ◌≤◌, false, None, Some, IsTrue, IfOk, IfErr, OnOk, length, ℕ, List, Option};
 ghost use Rattle.domain_base.specs.Counts.{HasRisen};
-ghost use Rattle.volume_disk.specs.Disk.{AreBlocks, HasVolume, OnlyReads, OnlyWrites, OnlyChanges, Settles, LeavesOnly, MayLeave, pages_of};
+ghost use Rattle.volume_disk.specs.Disk.{Disk, AreBlocks, HasVolume, OnlyReads, OnlyWrites, OnlyChanges, Settles, LeavesOnly, MayLeave, pages_of};
 ghost use Rattle.volume_disk.specs.Image.{Image, SameOutside, bytes_at};
-ghost use Rattle.disk_label.specs.Anchor.{HasAnchor, HasBefore, IsReady, greater_of, IsAnchor, IsAnchorBelow, IsNext, IsOldOrNew, IsWhole, StandsAt, StandsIn};
+ghost use Rattle.disk_label.specs.Anchor.{HasAnchor, HasBefore, IsReady, SamePage1, greater_of, IsAnchor, IsAnchorBelow, IsNext, IsOldOrNew, IsWhole, StandsAt, StandsIn};
 ghost use Rattle.disk_label.specs.Fault.{HasCause, HasFailed};
 ghost use Rattle.disk_label.specs.Words.{slot_bytes};
 
@@ -154,10 +154,10 @@ pub fn read_anchor<R: Rack>(rack: &mut R) -> Result<Anchor, AnchorFault>
     }
 }
 
-/// Makes a slot ready for the next anchor: overwrites with zeros, and syncs, what stands behind its gate where that is
-/// closed, and writes nothing where it is open. A domain calls it when it is opened, and when its log goes to another
-/// volume, before it writes the first anchor there. The volume has to be one of the rack with two pages or more. The
-/// error is the volume, of which a read, a write or a sync failed.
+/// Makes slot 0 or 1 of a volume ready for the next anchor: overwrites with zeros, and syncs, the seven blocks behind its
+/// gate where that is closed, and writes nothing where it is open. A domain calls it when it is opened, and when its log
+/// goes to another volume, before it writes the first anchor there. The volume has to be one of the rack, with two pages
+/// or more. The error is the volume, of which a read, a write or a sync failed.
 ///
 /// A write of an anchor that was cut short may have left a body with the next number behind the closed gate. The next
 /// write begins by closing that gate once more, and a stop that tears this may open it: then that body would count.
@@ -224,3 +224,13 @@ pub fn write_anchor<R: Rack>(rack: &mut R, anchor: &Anchor) -> Result<(), VolIx>
     write_synced(rack, vol, gate + 1, &anchor.encode())?;
     write_synced(rack, vol, gate, &[OPEN; BLOCK_BYTES])
 }
+
+/// An anchor depends on page 1 of the volumes alone: images that agree there have the same one. So a slot that is ready
+/// stays so while each image that a stop may leave agrees there with one that it might have left before.
+pub fn anchors_depend_on_page_1()
+    ensures anchor { (sizes : List ℕ) (old new : Image) (anchor : Option Anchor) → SamePage1 old new
+        → IsAnchor sizes old anchor → IsAnchor sizes new anchor }
+    ensures ready { (old new : Disk) (anchor : Option Anchor) (vol slot : ℕ) → new.sizes ≡ old.sizes
+        → ((image : Image) → MayLeave new.now image → (before : Image) × MayLeave old.now before × SamePage1 before image)
+        → IsReady old anchor vol slot → IsReady new anchor vol slot }
+{}
