@@ -10,7 +10,7 @@ use Rattle.disk_label.specs.Anchor.{volume_of, gate_of, anchor_at, Counts, IsAnc
 use Rattle.disk_label.specs.Body.{anchor_from, HasLogMember}
 use Rattle.disk_label.specs.Words.{body_bytes, slot_bytes}
 use Rattle.disk_label.proofs.Bodies.{anchor_from-same, slot_is-anchor_from, log_vol-zeros}
-use Rattle.disk_label.proofs.Slots.{volume_is, slot_is, gate_is, anchor_read}
+use Rattle.disk_label.proofs.Slots.{volume_is, slot_is, gate_at, anchor_read, Counts-same, IsAnchorBelow-kept}
 use Rattle.disk_label.specs.declared.anchor.Anchor.{Anchor}
 
 pub if_err_weaker : {T E : Type 0} {P Q : E → Type 0} (result : Result T E) → ((e : E) → P e → Q e) → IfErr result P → IfErr result Q
@@ -24,12 +24,9 @@ module _ (vol slot : ℕ) (low : 1 ≤ vol) (high : slot ≤ 1) where
   abbrev gate : ℕ
   gate = 8192 + 4096 * slot
 
-  gate_there : (image : Image) → image vol gate ≡ 165 → image (volume_of place) (gate_of place) ≡ 165
-  gate_there image is_open = ap (λ (v : ℕ). image v (gate_of place)) (volume_is vol slot low high) ∙ ap (image vol) (gate_is vol slot low high) ∙ is_open
-
   -- what counts in the slot has its gate open
   gate_open : (sizes : List ℕ) (image : Image) → Counts sizes image place → image vol gate ≡ 165
-  gate_open sizes image counts = sym (ap (λ (v : ℕ). image v (gate_of place)) (volume_is vol slot low high) ∙ ap (image vol) (gate_is vol slot low high)) ∙ counts.is_open
+  gate_open sizes image counts = sym (gate_at vol slot low high image) ∙ counts.is_open
 
   -- so has the domain's anchor, where it stands there
   pub anchor_open : (sizes : List ℕ) (image : Image) (anchor : Anchor) → IsAnchor sizes image (Some anchor) → anchor.log_vol ≡ vol → anchor.slot ≡ slot → image vol gate ≡ 165
@@ -52,20 +49,7 @@ module _ (vol slot : ℕ) (low : 1 ≤ vol) (high : slot ≤ 1) where
         ap (λ (l : List ℕ). anchor_from l (q % 2)) (bytes_from-same (image (volume_of q)) (b (volume_of q)) (gate_of q + 512) 512 (λ k le lt. same (volume_of q) k (elsewhere q k other (omega arith) (omega arith))))
 
     counts_before : (sizes : List ℕ) (q : ℕ) → (q ≡ place → ⊥) → Counts sizes image q → Counts sizes b q
-    counts_before sizes q other counts = record {
-      there = counts.there;
-      is_open = sym (gate_same q other) ∙ counts.is_open;
-      names = (λ i. (sym (anchor_same q other) i).log_vol) ∙ counts.names;
-      member = subst HasLogMember (anchor_same q other) counts.member;
-    }
-
-    counts_after : (sizes : List ℕ) (q : ℕ) → (q ≡ place → ⊥) → Counts sizes b q → Counts sizes image q
-    counts_after sizes q other counts = record {
-      there = counts.there;
-      is_open = gate_same q other ∙ counts.is_open;
-      names = (λ i. (anchor_same q other i).log_vol) ∙ counts.names;
-      member = subst HasLogMember (sym (anchor_same q other)) counts.member;
-    }
+    counts_before sizes q other = Counts-same sizes image b q (sym (gate_same q other)) (sym (anchor_same q other))
 
     -- where what counts in the slot did so before, each that counts did
     counts_still : (sizes : List ℕ) → (Counts sizes image place → Counts sizes b place × (anchor_at image place ≡ anchor_at b place)) → (q : ℕ) → Counts sizes image q → Counts sizes b q × (anchor_at image q ≡ anchor_at b q)
@@ -77,18 +61,13 @@ module _ (vol slot : ℕ) (low : 1 ≤ vol) (high : slot ≤ 1) where
     -- and where the domain's anchor is not the slot's, it stays
     pub keeps_anchor : (sizes : List ℕ) (old : Option Anchor) → (Counts sizes b place → old ≡ Some (anchor_at b place) → ⊥) → (Counts sizes image place → Counts sizes b place × (anchor_at image place ≡ anchor_at b place))
         → IsAnchor sizes b old → IsAnchor sizes image old
-    keeps_anchor sizes None not_here was_here none = λ q lt counts. none q lt (counts_still sizes was_here q counts).0
-    keeps_anchor sizes (Some anchor) not_here was_here was = record {
-      place = was.place;
-      below = was.below;
-      counts = counts_after sizes was.place other_place was.counts;
-      is = anchor_same was.place other_place ∙ was.is;
-      greatest = λ q lt counts. let still = counts_still sizes was_here q counts in subst (λ (a : Anchor). a.number ≤ anchor.number) (sym still.1) (was.greatest q lt still.0);
-      first = λ q lt counts. let still = counts_still sizes was_here q counts in subst (λ (a : Anchor). a.number < anchor.number) (sym still.1) (was.first q lt still.0);
-    }
-      where
-        other_place : was.place ≡ place → ⊥
-        other_place is = not_here (subst (Counts sizes b) is was.counts) (λ i. Some ((sym was.is ∙ ap (anchor_at b) is) i))
+    keeps_anchor sizes old not_here was_here =
+        IsAnchorBelow-kept 16 sizes b image old (counts_still sizes was_here)
+        (λ q counts is.
+        elim (cases_eq q place) [
+          | inl here ↦ absurd (not_here (subst (Counts sizes b) here counts) (is ∙ (λ i. Some (anchor_at b (here i)))))
+          | inr other ↦ (Counts-same sizes b image q (gate_same q other) (anchor_same q other) counts, anchor_same q other)
+        ])
 
     -- where the slot's gate is closed in both, the anchor stays
     pub stays : (sizes : List ℕ) (old : Option Anchor) → (b vol gate ≡ 165 → ⊥) → (image vol gate ≡ 165 → ⊥) → IsAnchor sizes b old → IsAnchor sizes image old
@@ -102,7 +81,7 @@ module _ (vol slot : ℕ) (low : 1 ≤ vol) (high : slot ≤ 1) where
       below = omega arith;
       counts = record {
         there = subst (λ (v : ℕ). 2 ≤ pages_of sizes v) (sym (volume_is vol slot low high)) pages;
-        is_open = gate_there image is_open;
+        is_open = gate_at vol slot low high image ∙ is_open;
         names = (λ i. (is i).log_vol) ∙ names ∙ sym (volume_is vol slot low high);
         member = subst HasLogMember (sym is) member;
       };
@@ -134,15 +113,9 @@ module _ (vol slot : ℕ) (low : 1 ≤ vol) (high : slot ≤ 1) where
     ready_open sizes old other is_open =
         keeps_anchor gate 512 (omega arith) (omega arith) b image same sizes old
         (λ counts is. other (subst (λ (a : Option Anchor). StandsIn a vol slot) (sym is) (counts.names ∙ volume_is vol slot low high, slot_is-anchor_from (bytes_at b (volume_of place) (gate_of place + 512) 512) (place % 2) ∙ slot_is vol slot low high)))
-        (λ counts. (
-          record {
-            there = counts.there;
-            is_open = gate_there b is_open;
-            names = (λ i. (sym behind_same i).log_vol) ∙ counts.names;
-            member = subst HasLogMember behind_same counts.member;
-          },
-          behind_same,
-        ))
+        (λ counts.
+        let open_there : b (volume_of place) (gate_of place) ≡ image (volume_of place) (gate_of place) = gate_at vol slot low high b ∙ is_open ∙ sym counts.is_open in
+        (Counts-same sizes image b place open_there (sym behind_same) counts, behind_same))
 
     -- the gate was closed, and zeros stand behind it
     pub ready_zeros : (sizes : List ℕ) (old : Option Anchor) → (b vol gate ≡ 165 → ⊥) → ((k : ℕ) → k < 512 → b vol (gate + 512 + k) ≡ 0) → IsAnchor sizes b old → IsAnchor sizes image old

@@ -4,7 +4,7 @@ use Rattle.std.proofs.lemmas.Bool.{cases_eq, eq-eqb, ne_eqb, lt-ltb, both_ways}
 use Rattle.domain_base.specs.Counts.{raised, HasRisen}
 use Rattle.volume_disk.specs.Disk.{Disk, Moment, MayLeave, MayLeaveTorn, Since, moment_at, Makes, MayTear, Writes, Syncs, ReadDone, ReadFailed, WriteDone, WriteFailed, SyncDone, SyncFailed, Elapses, LeavesOnly, OnlyReads, OnlyWrites, OnlyChanges, Settles, raised_at}
 use Rattle.volume_disk.specs.Image.{Image, IsIn, SameOutside}
-use Rattle.volume_disk.proofs.Moments.{in_or_out, put_at-same, put_at-other}
+use Rattle.volume_disk.proofs.Moments.{in_or_out, mixed, mixed-in, mixed-out, put_at-same, put_at-other}
 
 -- Time.
 
@@ -89,25 +89,13 @@ torn_outside vol at n old new image tears left v k out synced = left v k (tears.
 
 -- what a write may leave is what might have been left before it, torn in its range
 pub torn_follows : (vol at n : ℕ) (old new : Moment) (image : Image) → MayTear vol at n old new → MayLeave new image → MayLeaveTorn vol at n old image
-torn_follows vol at n old new image tears left = (before, was, λ v k out. agrees v k out (in_or_out vol at n v k))
+torn_follows vol at n old new image tears left = (mixed vol at n old.contents image, was, λ v k out. sym (mixed-out vol at n old.contents image v k out))
   where
-    choice : (v k : ℕ) → IsIn vol at n v k ⊎ (¬ IsIn vol at n v k) → ℕ
-    choice v k (inl is_in) = old.contents v k
-    choice v k (inr out) = image v k
-
-    before : Image
-    before v k = choice v k (in_or_out vol at n v k)
-
-    was_at : (v k : ℕ) (where_is : IsIn vol at n v k ⊎ (¬ IsIn vol at n v k)) → old.unsynced v k ≡ false → choice v k where_is ≡ old.contents v k
-    was_at v k (inl is_in) synced = refl
-    was_at v k (inr out) synced = torn_outside vol at n old new image tears left v k out synced
-
-    was : MayLeave old before
-    was v k synced = was_at v k (in_or_out vol at n v k) synced
-
-    agrees : (v k : ℕ) → ¬ IsIn vol at n v k → (where_is : IsIn vol at n v k ⊎ (¬ IsIn vol at n v k)) → image v k ≡ choice v k where_is
-    agrees v k out (inl is_in) = absurd (out is_in)
-    agrees v k out (inr _) = refl
+    was : MayLeave old (mixed vol at n old.contents image)
+    was v k synced = elim (in_or_out vol at n v k) [
+      | inl is_in ↦ mixed-in vol at n old.contents image v k is_in
+      | inr out ↦ mixed-out vol at n old.contents image v k out ∙ torn_outside vol at n old new image tears left v k out synced
+    ]
 
 -- what might have been left before a failed write may still be left
 pub torn_keeps : (vol at n : ℕ) (old new : Moment) (image : Image) → MayTear vol at n old new → MayLeave old image → MayLeave new image
