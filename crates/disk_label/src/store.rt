@@ -155,9 +155,9 @@ pub fn read_anchor<R: Rack>(rack: &mut R) -> Result<Anchor, AnchorFault>
 }
 
 /// Makes slot 0 or 1 of a volume ready for the next anchor: overwrites with zeros, and syncs, the seven blocks behind its
-/// gate where that is closed, and writes nothing where it is open. A domain calls it when it is opened, and when its log
-/// goes to another volume, before it writes the first anchor there. The volume has to be one of the rack, with two pages
-/// or more. The error is the volume, of which a read, a write or a sync failed.
+/// gate where that is closed, and writes nothing where it is open. A domain calls it for the slot of its next anchor:
+/// when it is opened, and on a volume to which its log goes, before each of the first two anchors there. The volume has
+/// to be one of the rack, with two pages or more. The error is the volume, of which a read, a write or a sync failed.
 ///
 /// A write of an anchor that was cut short may have left a body with the next number behind the closed gate. The next
 /// write begins by closing that gate once more, and a stop that tears this may open it: then that body would count.
