@@ -7,8 +7,8 @@ use domain_base::{Failed, VolIx};
 /// Volumes, numbered from 1, of whole pages of 8,192 bytes, on which the power may fail at any moment.
 ///
 /// A write shows in reads at once. It lasts from the next sync of its volume that answers Ok: a stop before that may turn
-/// its bytes into any others, and spares the bytes that no such write touched. What a write that answers Err did to its
-/// range is not known, neither to a read nor after a stop.
+/// its bytes into any others, and spares the bytes that no such write touched. What a write that answers Err left in its
+/// range only a read can tell, and it is no more certain to last than what was written and not synced.
 ///
 /// The clock of a rack is a count of `read`, `write` and `sync`, whatever they answer. It has 64 bits, and once it is at
 /// its end each call answers Err.
