@@ -1,14 +1,16 @@
 -- What the fields of a body are, byte by byte and as they were written.
-use Rattle.std.proofs.Common.{◌≡◌, ℕ, zero, suc, ◌+◌, ◌*◌, ◌^◌, ◌%◌, ◌/◌, ◌<◌, ◌≤◌, List, [], ◌∷◌, ◌++◌, length, get_or, drop, replicate, inl, inr, ◌-◌, Option, Some, None, IsSome, IfSome, true, nat_le, refl, sym, ◌∙◌, ap, arith}
-use Rattle.std.proofs.lemmas.Bool.{le-leb, cases_lt}
-use Rattle.std.proofs.lemmas.List.{get_or-drop, get_or-append_right, get_or-replicate, get_or_past, length-replicate, drop_at}
+use Rattle.std.proofs.Common.{◌≡◌, ℕ, zero, suc, ◌+◌, ◌*◌, ◌^◌, ◌%◌, ◌/◌, ◌<◌, ◌≤◌, List, [], ◌∷◌, ◌++◌, length, get_or, take, drop, replicate, Option, Some, None, IsSome, IfSome, true, nat_le, refl, sym, ◌∙◌, ap, subst, arith}
+use Rattle.std.proofs.lemmas.Bool.{le-leb}
+use Rattle.std.proofs.lemmas.List.{get_or-drop}
 use Rattle.std.specs.List.{flat_map}
 use Rattle.byteorder.specs.Endian.{little_number, little_bytes}
 use Rattle.byteorder.specs.Numbers.{little_number-reads_back}
+use Rattle.domain_base.specs.Page.{zero_bytes}
 use Rattle.domain_base.specs.declared.place.Home.{Home}
+use Rattle.volume_disk.specs.Disk.{pages_of}
 use Rattle.disk_label.specs.Body.{word_at, long_at, home_from, member_from, anchor_from}
-use Rattle.disk_label.specs.Label.{label_bytes}
-use Rattle.disk_label.specs.Words.{words_of, home_words, member_words}
+use Rattle.disk_label.specs.Label.{IsLabelOf, label_bytes}
+use Rattle.disk_label.specs.Words.{words_of, home_words, member_words, body_bytes}
 use Rattle.disk_label.specs.declared.anchor.Anchor.{Anchor}
 use Rattle.disk_label.specs.declared.anchor.Member.{Member}
 
@@ -109,26 +111,35 @@ pub length-written : (words : List ℕ) → length (flat_map (little_bytes 4) wo
 length-written [] = refl
 length-written (w ∷ words) = let rest = length-written words in omega (arith, rest)
 
--- a list is its front and what is behind it
-pub front_split : (dst front rest : List ℕ) (n : ℕ) → dst ≡ front → length dst ≡ n → dst ++ rest ≡ front ++ drop n (dst ++ rest)
-front_split dst front rest n same size = (λ i. same i ++ rest) ∙ ap (λ (l : List ℕ). front ++ l) (sym (drop_at dst rest n size))
-
 abbrev none : List ℕ
 none = replicate 3584 0
 
 abbrev IsZeros : List ℕ → Type 0
 IsZeros zeros = zeros ≡ none
 
--- behind what was written over zeros there are zeros
-pub zeros_behind : (dst zeros : List ℕ) (k : ℕ) → length dst ≡ 112 → IsZeros zeros → 112 ≤ k → get_or (dst ++ drop 112 zeros) k 0 ≡ 0
-zeros_behind dst zeros k size is le =
-    get_or-append_right dst (drop 112 zeros) 112 k 0 size le ∙ get_or-drop 112 zeros (k - 112) 0 ∙ ap (λ (l : List ℕ). get_or l (112 + (k - 112)) 0) is ∙ zero_or_past (112 + (k - 112))
-  where
-    past : {j : ℕ} → 3584 ≤ j → length none ≤ j
-    past far = let size = length-replicate {A = ℕ} 3584 0 in omega (arith, size)
+-- what is written over them has zeros behind it
+pub body_is : (dst zeros words : List ℕ) → dst ≡ flat_map (little_bytes 4) words → IsZeros zeros → dst ++ drop 112 zeros ≡ flat_map (little_bytes 4) words ++ zero_bytes 3472
+unfolding zero_bytes
+body_is dst zeros words written is = (λ i. written i ++ drop 112 (is i)) ∙ (λ i. flat_map (little_bytes 4) words ++ drop 112 none)
 
-    zero_or_past : (j : ℕ) → get_or none j 0 ≡ 0
-    zero_or_past j = elim (cases_lt j 3584) [ inl lt ↦ get_or-replicate 3584 j 0 0 lt | inr far ↦ get_or_past none j 0 (past far) ]
+pub body_bytes-words : (a : Anchor) (body words : List ℕ) → body ≡ flat_map (little_bytes 4) words ++ zero_bytes 3472 → words ≡ words_of a → body ≡ body_bytes a
+unfolding body_bytes
+body_bytes-words a body words written is = written ∙ (λ i. flat_map (little_bytes 4) (is i) ++ zero_bytes 3472)
+
+pub slot_is-anchor_from : (body : List ℕ) (slot : ℕ) → (anchor_from body slot).slot ≡ slot
+unfolding anchor_from
+slot_is-anchor_from body slot = refl
+
+-- zeros name no volume
+pub log_vol-zeros : (body : List ℕ) (slot : ℕ) → ((i : ℕ) → i < 112 → get_or body i 0 ≡ 0) → (anchor_from body slot).log_vol ≡ 0
+unfolding anchor_from
+log_vol-zeros body slot zeros =
+    let a = zeros 12 (omega arith) in
+    let b = zeros 13 (omega arith) in
+    let c = zeros 14 (omega arith) in
+    let d = zeros 15 (omega arith) in
+    let word = word_at-bytes body 3 in
+    omega (arith, a, b, c, d, word)
 
 pub anchor_from-encoded : (a : Anchor) (body words rest : List ℕ) → body ≡ flat_map (little_bytes 4) words ++ rest → words ≡ words_of a → ((i : ℕ) → get_or words i 0 < 2 ^ 32) → IsSome a.table → IfSome a.table (λ home. (1 ≤ home.vol) × (home.vol ≤ 8)) → length a.members ≡ 8 → length words ≡ 28
     → anchor_from body a.slot ≡ a
@@ -152,3 +163,37 @@ pub label_is : (dst zeros : List ℕ) (number vol pages : ℕ) → dst ≡ flat_
 unfolding label_bytes
 label_is dst zeros number vol pages written is none =
     (λ i. written i ++ drop 24 (none i)) ∙ (λ i. flat_map (little_bytes 4) (0x46564441 ∷ 0x42414c53 ∷ 3 ∷ is i ∷ pages ∷ 1 ∷ []) ++ drop 24 page_zeros)
+
+-- The label's fields.
+abbrev label_words : ℕ → ℕ → List ℕ
+label_words vol pages = 0x46564441 ∷ 0x42414c53 ∷ 3 ∷ vol ∷ pages ∷ 1 ∷ []
+
+fits : (vol pages : ℕ) → vol < 2 ^ 32 → pages < 2 ^ 32 → (i : ℕ) → get_or (label_words vol pages) i 0 < 2 ^ 32
+fits vol pages a b zero = omega arith
+fits vol pages a b (suc zero) = omega arith
+fits vol pages a b (suc (suc zero)) = omega arith
+fits vol pages a b (suc (suc (suc zero))) = a
+fits vol pages a b (suc (suc (suc (suc zero)))) = b
+fits vol pages a b (suc (suc (suc (suc (suc zero))))) = omega arith
+fits vol pages a b (suc (suc (suc (suc (suc (suc i)))))) = omega arith
+
+field : (vol pages : ℕ) (rest : List ℕ) → vol < 2 ^ 32 → pages < 2 ^ 32 → (k : ℕ) → k < 6 → word_at (take 512 (flat_map (little_bytes 4) (label_words vol pages) ++ rest)) k ≡ get_or (label_words vol pages) k 0
+field vol pages rest a b k lt = word_at-written (label_words vol pages) (take 488 rest) k lt (fits vol pages a b)
+
+-- the label that is written is the volume's
+pub IsLabelOf-label_bytes : (sizes : List ℕ) (vol pages : ℕ) → vol < 2 ^ 32 → pages < 2 ^ 32 → pages ≤ pages_of sizes vol → IsLabelOf sizes vol (take 512 (label_bytes vol pages)) (Some pages)
+unfolding label_bytes
+IsLabelOf-label_bytes sizes vol pages a b few = (
+  record {
+    magic_low = reads 0 (omega arith);
+    magic_high = reads 1 (omega arith);
+    version = reads 2 (omega arith);
+    volume = reads 3 (omega arith);
+    pages = subst (λ (n : ℕ). n ≤ pages_of sizes vol) (sym (reads 4 (omega arith))) few;
+    bitmap = reads 5 (omega arith);
+  },
+  sym (reads 4 (omega arith)),
+)
+  where
+    reads : (k : ℕ) → k < 6 → word_at (take 512 (flat_map (little_bytes 4) (label_words vol pages) ++ replicate 8168 0)) k ≡ get_or (label_words vol pages) k 0
+    reads = field vol pages (replicate 8168 0) a b

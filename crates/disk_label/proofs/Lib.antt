@@ -1,3 +1,4 @@
 pub mod Bodies
+pub mod Elsewhere
 pub mod Slots
 pub mod Written

@@ -1,13 +1,12 @@
 -- What is read of a slot, and which anchor is the greatest.
-use Rattle.std.proofs.Common.{◌≡◌, ◌⊎◌, ℕ, zero, suc, ◌+◌, ◌-◌, ◌*◌, ◌/◌, ◌%◌, ◌<◌, ◌≤◌, List, length, get_or, Option, Some, None, true, false, nat_le, refl, sym, ◌∙◌, ap, subst, inl, inr, arith}
-use Rattle.std.proofs.lemmas.Bool.{cases_eq, cases_lt, cases_order, le-leb, lt-leb}
+use Rattle.std.proofs.Common.{◌≡◌, ℕ, zero, suc, ◌+◌, ◌-◌, ◌*◌, ◌%◌, ◌<◌, ◌≤◌, List, length, get_or, Option, Some, None, true, false, nat_le, refl, sym, ◌∙◌, ap, subst, inl, inr, arith}
+use Rattle.std.proofs.lemmas.Bool.{cases_lt, cases_order, le-leb, lt-leb}
 use Rattle.std.proofs.lemmas.List.{get_or_past}
 use Rattle.volume_disk.specs.Disk.{Moment, pages_of}
-use Rattle.volume_disk.specs.Image.{Image, IsIn, SameOutside, bytes_at, bytes_from}
-use Rattle.volume_disk.proofs.Bytes.{get_or-bytes_from, bytes_from-same}
-use Rattle.disk_label.specs.Anchor.{volume_of, gate_of, anchor_at, Counts, StandsAt, IsGreatest, IsAnchorBelow, IsAnchor, greater_of, place_of}
+use Rattle.volume_disk.specs.Image.{Image, bytes_at}
+use Rattle.volume_disk.proofs.Bytes.{get_or-bytes_from}
+use Rattle.disk_label.specs.Anchor.{volume_of, gate_of, anchor_at, Counts, StandsAt, IsGreatest, IsAnchorBelow, greater_of}
 use Rattle.disk_label.specs.Body.{anchor_from, HasLogMember}
-use Rattle.disk_label.proofs.Bodies.{anchor_from-same}
 use Rattle.disk_label.specs.declared.anchor.Anchor.{Anchor}
 
 module _ (vol slot : ℕ) (low : 1 ≤ vol) (high : slot ≤ 1) where
@@ -22,6 +21,10 @@ module _ (vol slot : ℕ) (low : 1 ≤ vol) (high : slot ≤ 1) where
 
   pub gate_is : gate_of place ≡ 8192 + 4096 * slot
   gate_is = omega arith
+
+  -- its byte
+  pub gate_at : (image : Image) → image (volume_of place) (gate_of place) ≡ image vol (8192 + 4096 * slot)
+  gate_at image = ap (λ (v : ℕ). image v (gate_of place)) volume_is ∙ ap (image vol) gate_is
 
   -- the gate that a read of its block shows
   pub gate_read : (image : Image) (block : List ℕ) (at : ℕ) → at ≡ 8192 + 4096 * slot → block ≡ bytes_at image vol at 512 → image (volume_of place) (gate_of place) ≡ get_or block 0 0
@@ -38,7 +41,32 @@ module _ (vol slot : ℕ) (low : 1 ≤ vol) (high : slot ≤ 1) where
       ∙ ap (λ (l : List ℕ). anchor_from l (place % 2)) (sym read)
       ∙ ap (anchor_from block) slot_is
 
+-- what counts in one image counts in another with the same gate and anchor there
+pub Counts-same : (sizes : List ℕ) (b image : Image) (q : ℕ) → image (volume_of q) (gate_of q) ≡ b (volume_of q) (gate_of q) → anchor_at image q ≡ anchor_at b q → Counts sizes b q → Counts sizes image q
+Counts-same sizes b image q gate anchor counts = record {
+  there = counts.there;
+  is_open = gate ∙ counts.is_open;
+  names = (λ i. (anchor i).log_vol) ∙ counts.names;
+  member = subst HasLogMember (sym anchor) counts.member;
+}
+
 -- Which is the greatest.
+
+-- where each slot that counts is one of before, and that of the anchor still counts, it stays the greatest
+pub IsAnchorBelow-kept : (n : ℕ) (sizes : List ℕ) (b image : Image) (anchor : Option Anchor) → ((q : ℕ) → Counts sizes image q → Counts sizes b q × (anchor_at image q ≡ anchor_at b q))
+    → ((q : ℕ) → Counts sizes b q → anchor ≡ Some (anchor_at b q) → Counts sizes image q × (anchor_at image q ≡ anchor_at b q)) → IsAnchorBelow n sizes b anchor → IsAnchorBelow n sizes image anchor
+IsAnchorBelow-kept n sizes b image None before after none = λ q lt counts. none q lt (before q counts).0
+IsAnchorBelow-kept n sizes b image (Some anchor) before after was = record {
+  place = was.place;
+  below = was.below;
+  counts = own.0;
+  is = own.1 ∙ was.is;
+  greatest = λ q lt counts. let same = before q counts in subst (λ (a : Anchor). a.number ≤ anchor.number) (sym same.1) (was.greatest q lt same.0);
+  first = λ q lt counts. let same = before q counts in subst (λ (a : Anchor). a.number < anchor.number) (sym same.1) (was.first q lt same.0);
+}
+  where
+    own : Counts sizes image was.place × (anchor_at image was.place ≡ anchor_at b was.place)
+    own = after was.place was.counts (λ i. Some (sym was.is i))
 
 none_more : (n : ℕ) (sizes : List ℕ) (image : Image) (best : Option Anchor) → IsAnchorBelow n sizes image best → ¬ Counts sizes image n → IsAnchorBelow (n + 1) sizes image best
 none_more n sizes image None below none = λ p lt counts. elim (cases_lt p n) [

@@ -1,14 +1,16 @@
--- What a stop leaves while an anchor is written.
-use Rattle.std.proofs.Common.{◌≡◌, ◌⊎◌, ℕ, ◌+◌, ◌-◌, ◌*◌, ◌/◌, ◌%◌, ◌<◌, ◌≤◌, List, length, get_or, Option, Some, None, IsTrue, Result, Ok, Err, IfErr, refl, sym, ◌∙◌, ap, subst, inl, inr, arith}
-use Rattle.std.proofs.lemmas.Bool.{cases_eq}
+-- What a stop leaves while a slot is made ready and an anchor is written.
+use Rattle.std.proofs.Common.{◌≡◌, ◌==◌, ℕ, ◌+◌, ◌-◌, ◌*◌, ◌%◌, ◌<◌, ◌≤◌, List, ◌++◌, length, length-append, get_or, replicate, Option, Some, None, true, false, IsTrue, Result, Ok, Err, IfErr, refl, sym, ◌∙◌, ap, subst, inl, inr, arith}
+use Rattle.std.proofs.lemmas.Bool.{cases_eq, cases_lt, eq-eqb}
+use Rattle.std.proofs.lemmas.List.{get_or_append_left, get_or-append_right}
 use Rattle.volume_disk.specs.Disk.{Disk, Moment, MayLeave, MayLeaveTorn, LeavesOnly, OnlyWrites, Settles, pages_of}
-use Rattle.volume_disk.specs.Image.{Image, IsIn, SameOutside, bytes_at, bytes_from}
+use Rattle.volume_disk.specs.Image.{Image, IsIn, SameOutside, bytes_at}
 use Rattle.volume_disk.proofs.Bytes.{get_or-bytes_from, bytes_from-same}
 use Rattle.volume_disk.proofs.Laws.{now_counts, weaker, then_on}
-use Rattle.disk_label.specs.Anchor.{volume_of, gate_of, anchor_at, Counts, IsGreatest, IsAnchor, IsNext, IsOldOrNew, HasBefore, IsWhole}
+use Rattle.disk_label.specs.Anchor.{volume_of, gate_of, anchor_at, Counts, IsAnchor, IsNext, IsOldOrNew, IsReady, HasBefore, StandsIn}
 use Rattle.disk_label.specs.Body.{anchor_from, HasLogMember}
-use Rattle.disk_label.proofs.Bodies.{anchor_from-same}
-use Rattle.disk_label.proofs.Slots.{volume_is, slot_is, gate_is, anchor_read}
+use Rattle.disk_label.specs.Words.{body_bytes, slot_bytes}
+use Rattle.disk_label.proofs.Bodies.{anchor_from-same, slot_is-anchor_from, log_vol-zeros}
+use Rattle.disk_label.proofs.Slots.{volume_is, slot_is, gate_at, anchor_read, Counts-same, IsAnchorBelow-kept}
 use Rattle.disk_label.specs.declared.anchor.Anchor.{Anchor}
 
 pub if_err_weaker : {T E : Type 0} {P Q : E → Type 0} (result : Result T E) → ((e : E) → P e → Q e) → IfErr result P → IfErr result Q
@@ -21,6 +23,18 @@ module _ (vol slot : ℕ) (low : 1 ≤ vol) (high : slot ≤ 1) where
 
   abbrev gate : ℕ
   gate = 8192 + 4096 * slot
+
+  -- what counts in the slot has its gate open
+  gate_open : (sizes : List ℕ) (image : Image) → Counts sizes image place → image vol gate ≡ 165
+  gate_open sizes image counts = sym (gate_at vol slot low high image) ∙ counts.is_open
+
+  -- so has the domain's anchor, where it stands there
+  pub anchor_open : (sizes : List ℕ) (image : Image) (anchor : Anchor) → IsAnchor sizes image (Some anchor) → anchor.log_vol ≡ vol → anchor.slot ≡ slot → image vol gate ≡ 165
+  anchor_open sizes image anchor was names stands =
+      let volume : volume_of was.place ≡ vol = sym was.counts.names ∙ (λ i. (was.is i).log_vol) ∙ names in
+      let in_slot : was.place % 2 ≡ slot = sym (slot_is-anchor_from (bytes_at image (volume_of was.place) (gate_of was.place + 512) 512) (was.place % 2)) ∙ (λ i. (was.is i).slot) ∙ stands in
+      let is : was.place ≡ place = omega (arith, volume, in_slot) in
+      gate_open sizes image (subst (Counts sizes image) is was.counts)
 
   module _ (at n : ℕ) (from : gate ≤ at) (to : at + n ≤ gate + 4096) (b image : Image) (same : SameOutside vol at n b image) where
     -- no other slot is touched
@@ -35,52 +49,30 @@ module _ (vol slot : ℕ) (low : 1 ≤ vol) (high : slot ≤ 1) where
         ap (λ (l : List ℕ). anchor_from l (q % 2)) (bytes_from-same (image (volume_of q)) (b (volume_of q)) (gate_of q + 512) 512 (λ k le lt. same (volume_of q) k (elsewhere q k other (omega arith) (omega arith))))
 
     counts_before : (sizes : List ℕ) (q : ℕ) → (q ≡ place → ⊥) → Counts sizes image q → Counts sizes b q
-    counts_before sizes q other counts = record {
-      there = counts.there;
-      is_open = sym (gate_same q other) ∙ counts.is_open;
-      names = (λ i. (sym (anchor_same q other) i).log_vol) ∙ counts.names;
-      member = subst HasLogMember (anchor_same q other) counts.member;
-    }
+    counts_before sizes q other = Counts-same sizes image b q (sym (gate_same q other)) (sym (anchor_same q other))
 
-    counts_after : (sizes : List ℕ) (q : ℕ) → (q ≡ place → ⊥) → Counts sizes b q → Counts sizes image q
-    counts_after sizes q other counts = record {
-      there = counts.there;
-      is_open = gate_same q other ∙ counts.is_open;
-      names = (λ i. (anchor_same q other i).log_vol) ∙ counts.names;
-      member = subst HasLogMember (sym (anchor_same q other)) counts.member;
-    }
+    -- where what counts in the slot did so before, each that counts did
+    counts_still : (sizes : List ℕ) → (Counts sizes image place → Counts sizes b place × (anchor_at image place ≡ anchor_at b place)) → (q : ℕ) → Counts sizes image q → Counts sizes b q × (anchor_at image q ≡ anchor_at b q)
+    counts_still sizes was_here q counts = elim (cases_eq q place) [
+      | inl is ↦ subst (λ (p : ℕ). Counts sizes b p × (anchor_at image p ≡ anchor_at b p)) (sym is) (was_here (subst (Counts sizes image) is counts))
+      | inr other ↦ (counts_before sizes q other counts, anchor_same q other)
+    ]
+
+    -- and where the domain's anchor is not the slot's, it stays
+    pub keeps_anchor : (sizes : List ℕ) (old : Option Anchor) → (Counts sizes b place → old ≡ Some (anchor_at b place) → ⊥) → (Counts sizes image place → Counts sizes b place × (anchor_at image place ≡ anchor_at b place))
+        → IsAnchor sizes b old → IsAnchor sizes image old
+    keeps_anchor sizes old not_here was_here =
+        IsAnchorBelow-kept 16 sizes b image old (counts_still sizes was_here)
+        (λ q counts is.
+        elim (cases_eq q place) [
+          | inl here ↦ absurd (not_here (subst (Counts sizes b) here counts) (is ∙ (λ i. Some (anchor_at b (here i)))))
+          | inr other ↦ (Counts-same sizes b image q (gate_same q other) (anchor_same q other) counts, anchor_same q other)
+        ])
 
     -- where the slot's gate is closed in both, the anchor stays
     pub stays : (sizes : List ℕ) (old : Option Anchor) → (b vol gate ≡ 165 → ⊥) → (image vol gate ≡ 165 → ⊥) → IsAnchor sizes b old → IsAnchor sizes image old
-    stays sizes None shut_before shut_after none = λ q lt counts. elim (cases_eq q place) [
-      | inl is ↦ shut_after (shut_at image q is counts)
-      | inr other ↦ none q lt (counts_before sizes q other counts)
-    ]
-      where
-        shut_at : (image : Image) (q : ℕ) → q ≡ place → Counts sizes image q → image vol gate ≡ 165
-        shut_at image q is counts =
-            sym (ap (λ (p : ℕ). image (volume_of p) (gate_of p)) is ∙ ap (λ (v : ℕ). image v (gate_of place)) (volume_is vol slot low high) ∙ ap (image vol) (gate_is vol slot low high)) ∙ counts.is_open
-    stays sizes (Some anchor) shut_before shut_after was = record {
-      place = was.place;
-      below = was.below;
-      counts = counts_after sizes was.place not_here was.counts;
-      is = anchor_same was.place not_here ∙ was.is;
-      greatest = λ q lt counts. elim (cases_eq q place) [
-        | inl is ↦ absurd (shut_after (shut_at image q is counts))
-        | inr other ↦ subst (λ (a : Anchor). a.number ≤ anchor.number) (sym (anchor_same q other)) (was.greatest q lt (counts_before sizes q other counts))
-      ];
-      first = λ q lt counts. elim (cases_eq q place) [
-        | inl is ↦ absurd (shut_after (shut_at image q is counts))
-        | inr other ↦ subst (λ (a : Anchor). a.number < anchor.number) (sym (anchor_same q other)) (was.first q lt (counts_before sizes q other counts))
-      ];
-    }
-      where
-        shut_at : (image : Image) (q : ℕ) → q ≡ place → Counts sizes image q → image vol gate ≡ 165
-        shut_at image q is counts =
-            sym (ap (λ (p : ℕ). image (volume_of p) (gate_of p)) is ∙ ap (λ (v : ℕ). image v (gate_of place)) (volume_is vol slot low high) ∙ ap (image vol) (gate_is vol slot low high)) ∙ counts.is_open
-
-        not_here : was.place ≡ place → ⊥
-        not_here is = shut_before (shut_at b was.place is was.counts)
+    stays sizes old shut_before shut_after =
+        keeps_anchor sizes old (λ counts is. shut_before (gate_open sizes b counts)) (λ counts. absurd (shut_after (gate_open sizes image counts)))
 
     -- where it is open on the next anchor, that is the domain's
     pub opens : (sizes : List ℕ) (old : Option Anchor) (new : Anchor) → IsAnchor sizes b old → IsNext old new → vol ≤ 8 → new.log_vol ≡ vol → HasLogMember new → 2 ≤ pages_of sizes vol → image vol gate ≡ 165 → anchor_at image place ≡ new → IsAnchor sizes image (Some new)
@@ -89,7 +81,7 @@ module _ (vol slot : ℕ) (low : 1 ≤ vol) (high : slot ≤ 1) where
       below = omega arith;
       counts = record {
         there = subst (λ (v : ℕ). 2 ≤ pages_of sizes v) (sym (volume_is vol slot low high)) pages;
-        is_open = ap (λ (v : ℕ). image v (gate_of place)) (volume_is vol slot low high) ∙ ap (image vol) (gate_is vol slot low high) ∙ is_open;
+        is_open = gate_at vol slot low high image ∙ is_open;
         names = (λ i. (is i).log_vol) ∙ names ∙ sym (volume_is vol slot low high);
         member = subst HasLogMember (sym is) member;
       };
@@ -108,89 +100,216 @@ module _ (vol slot : ℕ) (low : 1 ≤ vol) (high : slot ≤ 1) where
         less_than : (q : ℕ) → q < 16 → (q ≡ place → ⊥) → Counts sizes image q → (anchor_at image q).number < new.number
         less_than q lt other counts = subst (λ (a : Anchor). a.number < new.number) (sym (anchor_same q other)) (all_less old was next q lt (counts_before sizes q other counts))
 
+  -- An image that is torn in the gate alone.
+  module _ (b image : Image) (same : SameOutside vol gate 512 b image) where
+    pub behind_same : anchor_at image place ≡ anchor_at b place
+    behind_same =
+        anchor_read vol slot low high image (bytes_at image vol (gate + 512) 512) (gate + 512) refl refl
+        ∙ ap (λ (l : List ℕ). anchor_from l slot) (bytes_from-same (image vol) (b vol) (gate + 512) 512 (λ k le lt. same vol k (λ is_in. let e = is_in.2 in omega arith)))
+        ∙ sym (anchor_read vol slot low high b (bytes_at b vol (gate + 512) 512) (gate + 512) refl refl)
+
+    -- the gate was open, and the domain's anchor stands elsewhere
+    pub ready_open : (sizes : List ℕ) (old : Option Anchor) → (StandsIn old vol slot → ⊥) → b vol gate ≡ 165 → IsAnchor sizes b old → IsAnchor sizes image old
+    ready_open sizes old other is_open =
+        keeps_anchor gate 512 (omega arith) (omega arith) b image same sizes old
+        (λ counts is. other (subst (λ (a : Option Anchor). StandsIn a vol slot) (sym is) (counts.names ∙ volume_is vol slot low high, slot_is-anchor_from (bytes_at b (volume_of place) (gate_of place + 512) 512) (place % 2) ∙ slot_is vol slot low high)))
+        (λ counts.
+        let open_there : b (volume_of place) (gate_of place) ≡ image (volume_of place) (gate_of place) = gate_at vol slot low high b ∙ is_open ∙ sym counts.is_open in
+        (Counts-same sizes image b place open_there (sym behind_same) counts, behind_same))
+
+    -- the gate was closed, and zeros stand behind it
+    pub ready_zeros : (sizes : List ℕ) (old : Option Anchor) → (b vol gate ≡ 165 → ⊥) → ((k : ℕ) → k < 512 → b vol (gate + 512 + k) ≡ 0) → IsAnchor sizes b old → IsAnchor sizes image old
+    ready_zeros sizes old shut zeros =
+        keeps_anchor gate 512 (omega arith) (omega arith) b image same sizes old
+        (λ counts is. shut (gate_open sizes b counts))
+        (λ counts.
+        let names = counts.names in
+        let here = volume_is vol slot low high in
+        let none : (anchor_at image place).log_vol ≡ 0 = (λ i. (behind_same i).log_vol) ∙ nothing in
+        absurd (omega (arith, names, here, none)))
+      where
+        nothing : (anchor_at b place).log_vol ≡ 0
+        nothing =
+            (λ i. (anchor_read vol slot low high b (bytes_at b vol (gate + 512) 512) (gate + 512) refl refl i).log_vol)
+            ∙ log_vol-zeros (bytes_at b vol (gate + 512) 512) slot (λ k lt. get_or-bytes_from (b vol) (gate + 512) 512 k 0 (omega arith) ∙ zeros k (omega arith))
+
+-- What a read shows of the gate, where it is synced.
+pub gate_seen : (vol gate at : ℕ) (moment : Moment) (block : List ℕ) (image : Image) → at ≡ gate → block ≡ bytes_at moment.contents vol at 512 → moment.unsynced vol gate ≡ false → MayLeave moment image → image vol gate ≡ get_or block 0 0
+gate_seen vol gate at moment block image is read synced left =
+    let start : gate ≡ at + 0 = omega arith in
+    left vol gate synced ∙ ap (moment.contents vol) start ∙ sym (get_or-bytes_from (moment.contents vol) at 512 0 0 (omega arith)) ∙ ap (λ (l : List ℕ). get_or l 0 0) (sym read)
+
 -- What a synced write leaves.
 
-settled_byte : (vol at : ℕ) (bytes : List ℕ) (before after : Moment) (image : Image) → Settles vol at bytes before after → MayLeave after image → (k : ℕ) → k < length bytes → image vol (at + k) ≡ get_or bytes k 0
+pub settled_byte : (vol at : ℕ) (bytes : List ℕ) (before after : Moment) (image : Image) → Settles vol at bytes before after → MayLeave after image → (k : ℕ) → k < length bytes → image vol (at + k) ≡ get_or bytes k 0
 settled_byte vol at bytes before after image settles left k lt = left vol (at + k) (settles.here (at + k)) ∙ settles.written k lt
 
-module _ (vol slot : ℕ) (low : 1 ≤ vol) (high : slot ≤ 1) (sizes : List ℕ) (old : Option Anchor) (new : Anchor) where
+-- each image of this moment has the old anchor, and the slot's gate closed
+pub record Shut (sizes : List ℕ) (old : Option Anchor) (vol slot : ℕ) (moment : Moment) : Type 0 where
+  pub has_old : (image : Image) → MayLeave moment image → IsAnchor sizes image old
+  pub is_shut : (image : Image) → MayLeave moment image → image vol (8192 + 4096 * slot) ≡ 165 → ⊥
+
+-- an anchor is written up to the opening of its gate
+pub record IsPrepared (old : Option Anchor) (new : Anchor) (vol slot : ℕ) (d0 d2 : Disk) : Type 0 where
+  pub before : LeavesOnly d0 d2 (λ image. IsAnchor d0.sizes image old)
+  pub shut : Shut d0.sizes old vol slot d2.now
+  pub stands : (image : Image) → MayLeave d2.now image → anchor_at image (2 * (vol - 1) + slot) ≡ new
+
+module _ (vol slot : ℕ) (low : 1 ≤ vol) (high : slot ≤ 1) (sizes : List ℕ) (old : Option Anchor) where
   abbrev at_gate : ℕ
   at_gate = 8192 + 4096 * slot
 
-  abbrev at_place : ℕ
-  at_place = 2 * (vol - 1) + slot
+  abbrev Old : Image → Type 0
+  Old = λ image. IsAnchor sizes image old
 
-  -- each image of this moment has the old anchor, and the gate closed
-  pub record Shut (moment : Moment) : Type 0 where
-    pub has_old : (image : Image) → MayLeave moment image → IsAnchor sizes image old
-    pub is_shut : (image : Image) → MayLeave moment image → image vol at_gate ≡ 0
+  -- a body is being written behind the closed gate
+  module _ (d1 d2 : Disk) (shut : Shut sizes old vol slot d1.now) (told : IsTrue d1.told) (writes : OnlyWrites d1 d2 vol (at_gate + 512) 3584) where
+    torn_shut : (image : Image) → MayLeaveTorn vol (at_gate + 512) 3584 d1.now image → image vol at_gate ≡ 165 → ⊥
+    torn_shut image torn is_open = shut.is_shut torn.0 torn.1 (sym (torn.2 vol at_gate (λ is_in. let a = is_in.1 in omega arith)) ∙ is_open)
 
-  not_open : (n : ℕ) → n ≡ 0 → n ≡ 165 → ⊥
-  not_open n is_zero is_open = omega arith
-
-  -- the gate is being closed
-  pub closing : (d0 d1 : Disk) (at : ℕ) → at ≡ at_gate → IsTrue d0.told → OnlyWrites d0 d1 vol at 512 → ((image : Image) → MayLeaveTorn vol at_gate 512 d0.now image → IsAnchor sizes image old) → LeavesOnly d0 d1 (λ image. IsAnchor sizes image old)
-  closing d0 d1 at is told writes before =
-      weaker d0 d1 (MayLeaveTorn vol at 512 d0.now) (λ image. IsAnchor sizes image old) (λ image torn. before image (subst (λ (k : ℕ). MayLeaveTorn vol k 512 d0.now image) is torn)) (writes.tears told)
-
-  pub closed : (d0 d1 : Disk) (at : ℕ) (bytes : List ℕ) → at ≡ at_gate → 0 < length bytes → get_or bytes 0 0 ≡ 0 → LeavesOnly d0 d1 (λ image. IsAnchor sizes image old) → Settles vol at bytes d0.now d1.now → Shut d1.now
-  closed d0 d1 at bytes is some zero only settles = record {
-    has_old = λ image left. only.each image (now_counts d1 d0.calls image only.later left);
-    is_shut = λ image left. ap (image vol) (let e : at_gate ≡ at + 0 = omega arith in e) ∙ settled_byte vol at bytes d0.now d1.now image settles left 0 some ∙ zero;
-  }
-
-  -- the body is being written behind the closed gate
-  module _ (d1 d2 : Disk) (at n : ℕ) (from : at ≡ at_gate + 512) (to : n ≡ 3584) (shut : Shut d1.now) where
-    torn_shut : (image : Image) → MayLeaveTorn vol at n d1.now image → image vol at_gate ≡ 0
-    torn_shut image torn = torn.2 vol at_gate (λ is_in. let a = is_in.1 in omega arith) ∙ shut.is_shut torn.0 torn.1
-
-    torn_old : (image : Image) → MayLeaveTorn vol at n d1.now image → IsAnchor sizes image old
+    torn_old : (image : Image) → MayLeaveTorn vol (at_gate + 512) 3584 d1.now image → IsAnchor sizes image old
     torn_old image torn =
-        stays vol slot low high at n (omega arith) (omega arith) torn.0 image torn.2 sizes old (not_open (torn.0 vol at_gate) (shut.is_shut torn.0 torn.1)) (not_open (image vol at_gate) (torn_shut image torn)) (shut.has_old torn.0 torn.1)
+        stays vol slot low high (at_gate + 512) 3584 (omega arith) (omega arith) torn.0 image torn.2 sizes old (shut.is_shut torn.0 torn.1) (torn_shut image torn) (shut.has_old torn.0 torn.1)
 
-    pub writing : IsTrue d1.told → OnlyWrites d1 d2 vol at n → LeavesOnly d1 d2 (λ image. IsAnchor sizes image old)
-    writing told writes = weaker d1 d2 (MayLeaveTorn vol at n d1.now) (λ image. IsAnchor sizes image old) torn_old (writes.tears told)
+    pub writing : LeavesOnly d1 d2 Old
+    writing = weaker d1 d2 (MayLeaveTorn vol (at_gate + 512) 3584 d1.now) Old torn_old (writes.tears told)
 
-    torn_now : IsTrue d1.told → OnlyWrites d1 d2 vol at n → (image : Image) → MayLeave d2.now image → MayLeaveTorn vol at n d1.now image
-    torn_now told writes image left = let only = writes.tears told in only.each image (now_counts d2 d1.calls image only.later left)
+    torn_now : (image : Image) → MayLeave d2.now image → MayLeaveTorn vol (at_gate + 512) 3584 d1.now image
+    torn_now image left = let only = writes.tears told in only.each image (now_counts d2 d1.calls image only.later left)
 
-    pub written_shut : IsTrue d1.told → OnlyWrites d1 d2 vol at n → Shut d2.now
-    written_shut told writes = record {
-      has_old = λ image left. torn_old image (torn_now told writes image left);
-      is_shut = λ image left. torn_shut image (torn_now told writes image left);
+    pub still_shut : Shut sizes old vol slot d2.now
+    still_shut = record { has_old = λ image left. torn_old image (torn_now image left); is_shut = λ image left. torn_shut image (torn_now image left) }
+
+    -- which is of zeros: the slot is ready
+    pub zeros_ready : (zeros : List ℕ) → length zeros ≡ 3584 → ((k : ℕ) → k < 512 → get_or zeros k 0 ≡ 0) → Settles vol (at_gate + 512) zeros d1.now d2.now → d2.sizes ≡ sizes → IsReady d2 old vol slot
+    zeros_ready zeros size zero settles same = λ image torn.
+        subst (λ (l : List ℕ). IsAnchor l image old) (sym same)
+        (ready_zeros vol slot low high torn.0 image torn.2 sizes old (still_shut.is_shut torn.0 torn.1)
+        (λ k lt. settled_byte vol (at_gate + 512) zeros d1.now d2.now torn.0 settles torn.1 k (omega arith) ∙ zero k lt)
+        (still_shut.has_old torn.0 torn.1))
+
+-- An anchor is being written.
+module _ (vol slot : ℕ) (low : 1 ≤ vol) (high : slot ≤ 1) (old : Option Anchor) (new : Anchor) (d0 : Disk) (told : IsTrue d0.told) (ready : IsReady d0 old vol slot) where
+  abbrev own_gate : ℕ
+  own_gate = 8192 + 4096 * slot
+
+  abbrev HasOld : Image → Type 0
+  HasOld = λ image. IsAnchor d0.sizes image old
+
+  pub closing : (d1 : Disk) → OnlyWrites d0 d1 vol own_gate 512 → LeavesOnly d0 d1 HasOld
+  closing d1 writes = weaker d0 d1 (MayLeaveTorn vol own_gate 512 d0.now) HasOld ready (writes.tears told)
+
+  -- the gate is closed
+  module _ (d1 : Disk) (first : OnlyWrites d0 d1 vol own_gate 512) (zeros : List ℕ) (some : 0 < length zeros) (zero : get_or zeros 0 0 ≡ 0) (closes : Settles vol own_gate zeros d0.now d1.now) where
+    closed : Shut d0.sizes old vol slot d1.now
+    closed = record {
+      has_old = λ image left. let only = closing d1 first in only.each image (now_counts d1 d0.calls image only.later left);
+      is_shut = λ image left is_open.
+          let start : own_gate ≡ own_gate + 0 = omega arith in
+          let is_zero : image vol own_gate ≡ 0 = ap (image vol) start ∙ settled_byte vol own_gate zeros d0.now d1.now image closes left 0 some ∙ zero in
+          omega (arith, is_zero, is_open);
     }
 
-    pub written_body : (body : List ℕ) → length body ≡ n → anchor_from body slot ≡ new → Settles vol at body d1.now d2.now → (image : Image) → MayLeave d2.now image → anchor_at image at_place ≡ new
-    written_body body size stands settles image left =
-        anchor_read vol slot low high image (bytes_at image vol at 512) at from refl
-        ∙ anchor_from-same (bytes_at image vol at 512) body slot (λ i lt. get_or-bytes_from (image vol) at 512 i 0 (omega arith) ∙ settled_byte vol at body d1.now d2.now image settles left i (omega arith))
-        ∙ stands
+    told-1 : IsTrue d1.told
+    told-1 = first.told ∙ told
 
-  -- the gate is being opened on the body
-  module _ (d2 d3 : Disk) (at : ℕ) (is : at ≡ at_gate) (shut : Shut d2.now) (stands : (image : Image) → MayLeave d2.now image → anchor_at image at_place ≡ new)
-      (next : IsNext old new) (few : vol ≤ 8) (names : new.log_vol ≡ vol) (member : HasLogMember new) (pages : 2 ≤ pages_of sizes vol) where
-    torn_body : (image : Image) → MayLeaveTorn vol at 512 d2.now image → anchor_at image at_place ≡ new
-    torn_body image torn =
-        anchor_read vol slot low high image (bytes_at image vol (at_gate + 512) 512) (at_gate + 512) refl refl
-        ∙ ap (λ (l : List ℕ). anchor_from l slot) (bytes_from-same (image vol) (torn.0 vol) (at_gate + 512) 512 (λ k le lt. torn.2 vol k (λ is_in. let e = is_in.2 in omega arith)))
-        ∙ sym (anchor_read vol slot low high torn.0 (bytes_at torn.0 vol (at_gate + 512) 512) (at_gate + 512) refl refl)
-        ∙ stands torn.0 torn.1
+    -- and the body is written behind it
+    module _ (d2 : Disk) (second : OnlyWrites d1 d2 vol (own_gate + 512) 3584) where
+      pub before_opening : LeavesOnly d0 d2 HasOld
+      before_opening = then_on d0 d1 d2 HasOld (closing d1 first) (writing vol slot low high d0.sizes old d1 d2 closed told-1 second)
 
-    torn_open : (image : Image) → MayLeaveTorn vol at 512 d2.now image → image vol at_gate ≡ 165 → IsAnchor sizes image (Some new)
-    torn_open image torn is_open =
-        opens vol slot low high at 512 (omega arith) (omega arith) torn.0 image torn.2 sizes old new (shut.has_old torn.0 torn.1) next few names member pages is_open (torn_body image torn)
+      pub prepared : (body : List ℕ) → length body ≡ 3584 → anchor_from body slot ≡ new → Settles vol (own_gate + 512) body d1.now d2.now → IsPrepared old new vol slot d0 d2
+      prepared body size is settles = record {
+        before = before_opening;
+        shut = still_shut vol slot low high d0.sizes old d1 d2 closed told-1 second;
+        stands = λ image left.
+            anchor_read vol slot low high image (bytes_at image vol (own_gate + 512) 512) (own_gate + 512) refl refl
+            ∙ anchor_from-same (bytes_at image vol (own_gate + 512) 512) body slot (λ i lt. get_or-bytes_from (image vol) (own_gate + 512) 512 i 0 (omega arith) ∙ settled_byte vol (own_gate + 512) body d1.now d2.now image settles left i (omega arith))
+            ∙ is;
+      }
 
-    torn_either : (image : Image) → MayLeaveTorn vol at 512 d2.now image → IsOldOrNew sizes old new image
-    torn_either image torn = elim (cases_eq (image vol at_gate) 165) [
-      | inl is_open ↦ inr (torn_open image torn is_open)
-      | inr closed ↦ inl (stays vol slot low high at 512 (omega arith) (omega arith) torn.0 image torn.2 sizes old (not_open (torn.0 vol at_gate) (shut.is_shut torn.0 torn.1)) closed (shut.has_old torn.0 torn.1))
-    ]
+-- The gate is being opened on the body.
+module _ (vol slot : ℕ) (low : 1 ≤ vol) (high : slot ≤ 1) (old : Option Anchor) (new : Anchor) (d0 d2 d3 : Disk) (so_far : IsPrepared old new vol slot d0 d2)
+    (next : IsNext old new) (few : vol ≤ 8) (names : new.log_vol ≡ vol) (member : HasLogMember new) (pages : 2 ≤ pages_of d0.sizes vol) (told : IsTrue d2.told) (writes : OnlyWrites d2 d3 vol (8192 + 4096 * slot) 512) where
+  abbrev the_gate : ℕ
+  the_gate = 8192 + 4096 * slot
 
-    pub opening : IsTrue d2.told → OnlyWrites d2 d3 vol at 512 → LeavesOnly d2 d3 (IsOldOrNew sizes old new)
-    opening told writes = weaker d2 d3 (MayLeaveTorn vol at 512 d2.now) (IsOldOrNew sizes old new) torn_either (writes.tears told)
+  torn_open : (image : Image) → MayLeaveTorn vol the_gate 512 d2.now image → image vol the_gate ≡ 165 → IsAnchor d0.sizes image (Some new)
+  torn_open image torn is_open =
+      opens vol slot low high the_gate 512 (omega arith) (omega arith) torn.0 image torn.2 d0.sizes old new (so_far.shut.has_old torn.0 torn.1) next few names member pages is_open
+      (behind_same vol slot low high torn.0 image torn.2 ∙ so_far.stands torn.0 torn.1)
 
-    pub opened : (bytes : List ℕ) → 0 < length bytes → get_or bytes 0 0 ≡ 165 → IsTrue d2.told → OnlyWrites d2 d3 vol at 512 → Settles vol at bytes d2.now d3.now → (image : Image) → MayLeave d3.now image → IsAnchor sizes image (Some new)
-    opened bytes some first told writes settles image left =
-        let only = writes.tears told in
-        torn_open image (only.each image (now_counts d3 d2.calls image only.later left))
-        (ap (image vol) (let e : at_gate ≡ at + 0 = omega arith in e) ∙ settled_byte vol at bytes d2.now d3.now image settles left 0 some ∙ first)
+  torn_either : (image : Image) → MayLeaveTorn vol the_gate 512 d2.now image → IsOldOrNew d0.sizes old new image
+  torn_either image torn = elim (cases_eq (image vol the_gate) 165) [
+    | inl is_open ↦ inr (torn_open image torn is_open)
+    | inr closed ↦ inl (stays vol slot low high the_gate 512 (omega arith) (omega arith) torn.0 image torn.2 d0.sizes old (so_far.shut.is_shut torn.0 torn.1) closed (so_far.shut.has_old torn.0 torn.1))
+  ]
+
+  pub opening : LeavesOnly d0 d3 (IsOldOrNew d0.sizes old new)
+  opening =
+      then_on d0 d2 d3 (IsOldOrNew d0.sizes old new)
+      (weaker d0 d2 (λ image. IsAnchor d0.sizes image old) (IsOldOrNew d0.sizes old new) (λ image has. inl has) so_far.before)
+      (weaker d2 d3 (MayLeaveTorn vol the_gate 512 d2.now) (IsOldOrNew d0.sizes old new) torn_either (writes.tears told))
+
+  pub opened : (bytes : List ℕ) → 0 < length bytes → get_or bytes 0 0 ≡ 165 → Settles vol the_gate bytes d2.now d3.now → (image : Image) → MayLeave d3.now image → IsAnchor d0.sizes image (Some new)
+  opened bytes some first settles image left =
+      let only = writes.tears told in
+      let start : the_gate ≡ the_gate + 0 = omega arith in
+      torn_open image (only.each image (now_counts d3 d2.calls image only.later left)) (ap (image vol) start ∙ settled_byte vol the_gate bytes d2.now d3.now image settles left 0 some ∙ first)
+
+-- The anchor of before, which stands in the other slot, is older now: that slot is ready.
+pub next_ready : (vol slot other : ℕ) → 1 ≤ vol → slot + other ≡ 1 → (old new : Anchor) (d0 d3 : Disk) → IsTrue d0.told → IsReady d0 (Some old) vol slot → old.log_vol ≡ vol → old.slot ≡ other → new.slot ≡ slot
+    → OnlyWrites d0 d3 vol (8192 + 4096 * slot) 4096 → ((image : Image) → MayLeave d3.now image → IsAnchor d0.sizes image (Some new)) → IsReady d3 (Some new) vol other
+next_ready vol slot other low both old new d0 d3 told ready names stands is writes done = λ image torn.
+    let only = writes.tears told in
+    let was = only.each torn.0 (now_counts d3 d0.calls torn.0 only.later torn.1) in
+    let before : was.0 vol (8192 + 4096 * other) ≡ 165 = anchor_open vol other low (omega arith) d0.sizes was.0 old (ready was.0 (was.0, was.1, λ v k out. refl)) names stands in
+    let is_open : torn.0 vol (8192 + 4096 * other) ≡ 165 = was.2 vol (8192 + 4096 * other) (λ is_in. let a = is_in.1 in let b = is_in.2 in omega arith) ∙ before in
+    subst (λ (l : List ℕ). IsAnchor l image (Some new)) (sym writes.sizes)
+    (ready_open vol other low (omega arith) torn.0 image torn.2 d0.sizes (Some new) (λ here. let a = here.1 in omega arith) is_open (done torn.0 torn.1))
+
+slot_bound : (sizes : List ℕ) (image : Image) (anchor : Anchor) → IsAnchor sizes image (Some anchor) → anchor.slot ≤ 1
+slot_bound sizes image anchor was =
+    let is : was.place % 2 ≡ anchor.slot = sym (slot_is-anchor_from (bytes_at image (volume_of was.place) (gate_of was.place + 512) 512) (was.place % 2)) ∙ (λ i. (was.is i).slot) in
+    omega (arith, is)
+
+other_slot : (old new : Anchor) → IsNext (Some old) new → new.log_vol ≡ old.log_vol → new.slot ≡ 1 - old.slot
+other_slot old new next same = let test : (new.log_vol == old.log_vol) ≡ true = eq-eqb new.log_vol old.log_vol same in next.1 ∙ (rw test refl)
+
+-- so the anchors of one volume go on
+pub chain_ready : (old new next : Anchor) (d0 d3 : Disk) → IsTrue d0.told → HasBefore d0 (Some old) new → old.log_vol ≡ new.log_vol → IsNext (Some old) new → 1 ≤ new.log_vol → IsNext (Some new) next → next.log_vol ≡ new.log_vol
+    → OnlyWrites d0 d3 new.log_vol (8192 + 4096 * new.slot) 4096 → ((image : Image) → MayLeave d3.now image → IsAnchor d0.sizes image (Some new)) → HasBefore d3 (Some new) next
+chain_ready old new next d0 d3 told before names is low is_next same writes done =
+    let contents = d0.now.contents in
+    let bound = slot_bound d0.sizes contents old (before contents (contents, (λ v k synced. refl), (λ v k out. refl))) in
+    let own = other_slot old new is (sym names) in
+    let slot : old.slot ≡ next.slot = let theirs = other_slot new next is_next same in omega (arith, own, theirs, bound) in
+    subst (λ (v : ℕ). IsReady d3 (Some new) v next.slot) (sym same)
+    (subst (λ (s : ℕ). IsReady d3 (Some new) new.log_vol s) slot
+    (next_ready new.log_vol new.slot old.slot low (omega (arith, own, bound)) old new d0 d3 told before names refl refl writes done))
+
+-- What the three writes make of the slot.
+pub Settles-slot : (vol gate : ℕ) (zeros body ones : List ℕ) (m0 m1 m2 m3 : Moment) → length zeros ≡ 512 → length body ≡ 3584 → length ones ≡ 512 → Settles vol gate zeros m0 m1 → Settles vol (gate + 512) body m1 m2 → Settles vol gate ones m2 m3
+    → Settles vol gate (ones ++ body) m0 m3
+Settles-slot vol gate zeros body ones m0 m1 m2 m3 zeros_size body_size ones_size first second third = record {
+  written = λ k lt. elim (cases_lt k 512) [
+    | inl in_gate ↦ third.written k (omega arith) ∙ sym (get_or_append_left ones body 0 k (omega arith))
+    | inr behind ↦
+        let at : gate + 512 + (k - 512) ≡ gate + k = omega arith in
+        third.outside vol (gate + k) (λ is_in. let e = is_in.2 in omega arith)
+        ∙ ap (m2.contents vol) (sym at)
+        ∙ second.written (k - 512) (let whole = length-append ones body in omega (arith, whole))
+        ∙ sym (get_or-append_right ones body 512 k 0 ones_size behind)
+  ];
+  outside = λ v k out.
+      let whole = length-append ones body in
+      third.outside v k (λ is_in. let a = is_in.1 in let b = is_in.2 in out (is_in.0, omega arith, omega (arith, whole)))
+      ∙ second.outside v k (λ is_in. let a = is_in.1 in let b = is_in.2 in out (is_in.0, omega arith, omega (arith, whole)))
+      ∙ first.outside v k (λ is_in. let a = is_in.1 in let b = is_in.2 in out (is_in.0, omega arith, omega (arith, whole)));
+  here = third.here;
+  elsewhere = λ v k other. third.elsewhere v k other ∙ second.elsewhere v k other ∙ first.elsewhere v k other;
+}
+
+pub slot_bytes-body : (new : Anchor) (body : List ℕ) → body ≡ body_bytes new → replicate 512 165 ++ body ≡ slot_bytes new
+unfolding slot_bytes
+slot_bytes-body new body is = λ i. replicate 512 165 ++ is i

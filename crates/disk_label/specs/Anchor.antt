@@ -1,6 +1,6 @@
 -- Which anchor is the domain's. The slots of all volumes are numbered from 0, in the order of volume and slot.
 use Rattle.std.specs.Prelude.{◌≡◌, ◌⊎◌, ◌==◌, ◌+◌, ◌-◌, ◌*◌, ◌/◌, ◌%◌, ◌<◌, ◌≤◌, ℕ, nat_le, if◌then◌else◌, List, Option, Some, None, IsSome}
-use Rattle.volume_disk.specs.Disk.{Disk, MayLeaveTorn, pages_of}
+use Rattle.volume_disk.specs.Disk.{Disk, MayLeave, MayLeaveTorn, pages_of}
 use Rattle.volume_disk.specs.Image.{Image, bytes_at}
 use Rattle.disk_label.specs.Body.{anchor_from, HasLogMember}
 use Rattle.disk_label.specs.declared.anchor.Anchor.{Anchor}
@@ -69,11 +69,28 @@ abbrev pub IsNext : Option Anchor → Anchor → Type 0
 IsNext None new = (new.number ≡ 1) × (new.slot ≡ 0)
 IsNext (Some old) new = (new.number ≡ old.number + 1) × (new.slot ≡ (if new.log_vol == old.log_vol then 1 - old.slot else 0))
 
--- each image that a stop might leave has the old anchor, or none where there is none, whatever it has for the gate of
--- the new one
+-- each image that a stop might leave has this anchor, or none where there is none
+abbrev pub HasAnchor : Disk → Option Anchor → Type 0
+HasAnchor disk anchor = (image : Image) → MayLeave disk.now image → IsAnchor disk.sizes image anchor
+
+-- it stands in this slot of a volume
+abbrev pub StandsIn : Option Anchor → ℕ → ℕ → Type 0
+StandsIn None vol slot = ⊥
+StandsIn (Some anchor) vol slot = (anchor.log_vol ≡ vol) × (anchor.slot ≡ slot)
+
+-- a slot of a volume is ready for the next anchor: each image that a stop might leave has the old anchor, or none where
+-- there is none, whatever it has for the slot's gate
+abbrev pub IsReady : Disk → Option Anchor → ℕ → ℕ → Type 0
+IsReady disk old vol slot = (image : Image) → MayLeaveTorn vol (8192 + 4096 * slot) 512 disk.now image → IsAnchor disk.sizes image old
+
+-- the slot that the new anchor names is
 abbrev pub HasBefore : Disk → Option Anchor → Anchor → Type 0
-HasBefore disk old new = (image : Image) → MayLeaveTorn new.log_vol (8192 + 4096 * new.slot) 512 disk.now image → IsAnchor disk.sizes image old
+HasBefore disk old new = IsReady disk old new.log_vol new.slot
 
 -- an image has the old anchor, or none where there was none, or the new one
 abbrev pub IsOldOrNew : List ℕ → Option Anchor → Anchor → Image → Type 0
 IsOldOrNew sizes old new image = IsAnchor sizes image old ⊎ IsAnchor sizes image (Some new)
+
+-- two images agree on page 1 of each volume
+abbrev pub SamePage1 : Image → Image → Type 0
+SamePage1 old new = (v k : ℕ) → 8192 ≤ k → k < 16384 → new v k ≡ old v k

@@ -1,6 +1,7 @@
--- Why no anchor is given.
-use Rattle.std.specs.Prelude.{⊤}
-use Rattle.volume_disk.specs.Disk.{Disk, HasRisen}
+-- Which calls have failed.
+use Rattle.std.specs.Prelude.{◌⊎◌, ⊤, ℕ}
+use Rattle.domain_base.specs.Counts.{HasRisen}
+use Rattle.volume_disk.specs.Disk.{Disk}
 use Rattle.disk_label.specs.declared.store.AnchorFault.{AnchorFault}
 use Rattle.disk_label.specs.declared.store.AnchorFault.TheVariants.{NoAnchor, Fault}
 
@@ -8,3 +9,7 @@ use Rattle.disk_label.specs.declared.store.AnchorFault.TheVariants.{NoAnchor, Fa
 abbrev pub HasCause : Disk → Disk → AnchorFault → Type 0
 HasCause old new NoAnchor = ⊤
 HasCause old new (Fault vol) = HasRisen (old.read_faults vol) (new.read_faults vol)
+
+-- a read of this volume has failed, or a write or a sync
+abbrev pub HasFailed : Disk → Disk → ℕ → Type 0
+HasFailed old new vol = HasRisen (old.read_faults vol) (new.read_faults vol) ⊎ HasRisen (old.write_faults vol) (new.write_faults vol)

@@ -1,6 +1,8 @@
--- The fields of an anchor in their order, as numbers of four bytes.
+-- The fields of an anchor in their order, as numbers of four bytes, and the bytes that are written for them.
 use Rattle.std.specs.List.{flat_map}
-use Rattle.std.specs.Prelude.{◌^◌, ◌%◌, ◌/◌, ℕ, List, [], ◌∷◌, ◌++◌, Option, Some, None}
+use Rattle.std.specs.Prelude.{◌^◌, ◌%◌, ◌/◌, ℕ, List, [], ◌∷◌, ◌++◌, replicate, Option, Some, None}
+use Rattle.byteorder.specs.Endian.{little_bytes}
+use Rattle.domain_base.specs.Page.{zero_bytes}
 use Rattle.domain_base.specs.declared.place.Home.{Home}
 use Rattle.disk_label.specs.declared.anchor.Anchor.{Anchor}
 use Rattle.disk_label.specs.declared.anchor.Member.{Member}
@@ -19,3 +21,11 @@ words_of anchor =
     ∷ 0 ∷ anchor.group % 2 ^ 32 ∷ anchor.group / 2 ^ 32 ∷ []
     )
     ++ home_words anchor.table ++ flat_map member_words anchor.members
+
+-- its body: the fields, and zeros
+unfoldable pub body_bytes : Anchor → List ℕ
+body_bytes anchor = flat_map (little_bytes 4) (words_of anchor) ++ zero_bytes 3472
+
+-- its slot: the open gate, and the body
+unfoldable pub slot_bytes : Anchor → List ℕ
+slot_bytes anchor = replicate 512 165 ++ body_bytes anchor

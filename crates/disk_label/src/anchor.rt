@@ -1,5 +1,5 @@
 //! Anchors and their bodies.
-ghost use Rattle.std.specs.Prelude.{◌≡◌, ◌+◌, ◌*◌, ◌%◌, ◌/◌, ◌^◌, ◌<◌, ◌≤◌, ◌↔◌, ◌++◌, ℕ, IsTrue, IsSome, IfSome, length, drop, slice_index};
+ghost use Rattle.std.specs.Prelude.{◌≡◌, ◌+◌, ◌-◌, ◌*◌, ◌%◌, ◌/◌, ◌^◌, ◌<◌, ◌≤◌, ◌↔◌, ◌++◌, ℕ, IsTrue, IsSome, IfSome, length, slice_index};
 
 use byteorder::{ByteOrder, LittleEndian};
 use domain_base::limits::BLOCK_BYTES;
@@ -49,7 +49,7 @@ pub struct Anchor {
 
 impl Anchor {
     ghost use Rattle.disk_label.specs.Body.{anchor_from, HasLogMember};
-    ghost use Rattle.disk_label.specs.Words.{words_of};
+    ghost use Rattle.disk_label.specs.Words.{words_of, body_bytes};
 
     /// The anchor that the first block of a body in this slot stands for.
     pub(crate) fn decode(block: &[u8; BLOCK_BYTES], slot: u8) -> Anchor
@@ -82,7 +82,7 @@ impl Anchor {
     pub(crate) fn encode(&self) -> [u8; BODY_BYTES]
         requires { IsSome self.now.table }
         ensures reads_back { anchor_from result self.now.slot ≡ self.now }
-        ensures rest { (k : ℕ) → 4 * BODY_WORDS ≤ k → slice_index result k ≡ 0 }
+        ensures body { result ≡ body_bytes self.now }
     {
         written(&self.words())
     }
@@ -142,12 +142,12 @@ impl Anchor {
 
 ghost use Rattle.std.specs.List.{flat_map};
 ghost use Rattle.byteorder.specs.Endian.{little_bytes};
+ghost use Rattle.domain_base.specs.Page.{zero_bytes};
 ghost use Rattle.disk_label.specs.Body.{word_at, long_at, home_from, member_from};
 
 /// The body that begins with these numbers of four bytes, and is zero behind them.
 fn written(words: &[u32; BODY_WORDS]) -> [u8; BODY_BYTES]
-    ensures front { result ≡ flat_map (little_bytes 4) words.now ++ drop (4 * BODY_WORDS) result }
-    ensures rest { (k : ℕ) → 4 * BODY_WORDS ≤ k → slice_index result k ≡ 0 }
+    ensures value { result ≡ flat_map (little_bytes 4) words.now ++ zero_bytes (BODY_BYTES - 4 * BODY_WORDS) }
     ensures fits { (i : ℕ) → slice_index words.now i < 2 ^ 32 }
     ensures count { length words.now ≡ BODY_WORDS }
 {

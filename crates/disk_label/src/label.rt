@@ -1,6 +1,7 @@
 //! The label of a volume, its page 0.
-ghost use Rattle.std.specs.Prelude.{◌≡◌, ◌≤◌, IsTrue, IfOk, IfErr, OnOk};
-ghost use Rattle.volume_disk.specs.Disk.{HasVolume, HasRisen, OnlyReads, OnlyWrites, Settles, pages_of};
+ghost use Rattle.std.specs.Prelude.{◌≡◌, ◌^◌, ◌<◌, ◌≤◌, ℕ, List, take, Some, IsTrue, IfOk, IfErr, OnOk};
+ghost use Rattle.domain_base.specs.Counts.{HasRisen};
+ghost use Rattle.volume_disk.specs.Disk.{HasVolume, OnlyReads, OnlyWrites, Settles, pages_of};
 ghost use Rattle.volume_disk.specs.Image.{bytes_at};
 ghost use Rattle.disk_label.specs.Label.{IsLabelOf, label_bytes};
 
@@ -8,7 +9,7 @@ use crate::anchor::word;
 use crate::store::{read_block, write_synced};
 use byteorder::{ByteOrder, LittleEndian};
 use domain_base::VolIx;
-use domain_base::limits::{BLOCK_BYTES, PAGE_BYTES};
+use domain_base::limits::{BLOCK_BYTES, MAX_VOLUMES, PAGE_BYTES};
 use volume_disk::Rack;
 
 /// The first eight bytes of a label, `ADVFSLAB`, as two numbers of four bytes.
@@ -72,3 +73,10 @@ pub fn read_label<R: Rack>(rack: &mut R, vol: VolIx) -> Result<Option<u32>, VolI
         None
     })
 }
+
+/// What `write_label` writes is what `read_label` answers: a label with the pages of its volume, of which the rack has
+/// so many.
+pub fn label_reads_back()
+    ensures { (sizes : List ℕ) (vol pages : ℕ) → 1 ≤ vol → vol ≤ MAX_VOLUMES → pages < 2 ^ 32 → pages ≤ pages_of sizes vol
+        → IsLabelOf sizes vol (take BLOCK_BYTES (label_bytes vol pages)) (Some pages) }
+{}

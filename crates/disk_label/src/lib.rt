@@ -6,8 +6,8 @@ mod label;
 mod store;
 
 pub use anchor::{Anchor, Member};
-pub use label::{read_label, write_label};
-pub use store::{AnchorFault, read_anchor, write_anchor};
+pub use label::{label_reads_back, read_label, write_label};
+pub use store::{AnchorFault, anchors_depend_on_page_1, read_anchor, ready_slot, write_anchor};
 
 #[cfg(test)]
 mod tests;

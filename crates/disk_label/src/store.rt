@@ -1,11 +1,14 @@
 //! Anchors on the volumes of a rack.
-ghost use Rattle.std.specs.Prelude.{◌≡◌, ◌*◌, ◌+◌, ◌-◌, ◌<◌, ◌≤◌, None, Some, IsTrue, IfOk, IfErr, OnOk, length, Option};
-ghost use Rattle.volume_disk.specs.Disk.{AreBlocks, HasVolume, HasRisen, OnlyReads, OnlyWrites, Settles, LeavesOnly, MayLeave, pages_of};
-ghost use Rattle.volume_disk.specs.Image.{Image, bytes_at};
-ghost use Rattle.disk_label.specs.Anchor.{HasBefore, greater_of, IsAnchor, IsAnchorBelow, IsNext, IsOldOrNew, IsWhole, StandsAt};
-ghost use Rattle.disk_label.specs.Fault.{HasCause};
+ghost use Rattle.std.specs.Prelude.{◌≡◌, ◌*◌, ◌+◌, ◌-◌, ◌<◌, ◌≤◌, false, None, Some, IsTrue, IfOk, IfErr, OnOk, length, ℕ, List, Option};
+ghost use Rattle.domain_base.specs.Counts.{HasRisen};
+ghost use Rattle.volume_disk.specs.Disk.{Disk, AreBlocks, HasVolume, OnlyReads, OnlyWrites, OnlyChanges, Settles, LeavesOnly, MayLeave, pages_of};
+ghost use Rattle.volume_disk.specs.Image.{Image, SameOutside, bytes_at};
+ghost use Rattle.disk_label.specs.Anchor.{HasAnchor, HasBefore, IsReady, SamePage1, greater_of, IsAnchor, IsAnchorBelow, IsNext, IsOldOrNew, IsWhole, StandsAt, StandsIn};
+ghost use Rattle.disk_label.specs.Fault.{HasCause, HasFailed};
+ghost use Rattle.disk_label.specs.Words.{slot_bytes};
 
 use crate::Anchor;
+use crate::anchor::BODY_BYTES;
 use domain_base::VolIx;
 use domain_base::limits::{BLOCK_BYTES, MAX_VOLUMES};
 use volume_disk::Rack;
@@ -56,6 +59,7 @@ pub(crate) fn write_synced<R: Rack>(
     requires { AreBlocks (R.disk rack.old) vol block (length bytes.now) }
     ensures writes { OnlyWrites (R.disk rack.old) (R.disk rack.new) vol (512 * block) (length bytes.now) }
     ensures settled { OnOk result (IsTrue (R.disk rack.old).told → Settles vol (512 * block) bytes.now (R.disk rack.old).now (R.disk rack.new).now) }
+    ensures outside { IsTrue (R.disk rack.old).told → SameOutside vol (512 * block) (length bytes.now) (R.disk rack.old).now.contents (R.disk rack.new).now.contents }
     ensures fault { IfErr result (λ v. HasRisen ((R.disk rack.old).write_faults v) ((R.disk rack.new).write_faults v)) }
 {
     match rack.write(vol, block, bytes) {
@@ -150,13 +154,44 @@ pub fn read_anchor<R: Rack>(rack: &mut R) -> Result<Anchor, AnchorFault>
     }
 }
 
+/// Makes slot 0 or 1 of a volume ready for the next anchor: overwrites with zeros, and syncs, the seven blocks behind its
+/// gate where that is closed, and writes nothing where it is open. A domain calls it for the slot of its next anchor:
+/// when it is opened, and on a volume to which its log goes, before each of the first two anchors there. The volume has
+/// to be one of the rack, with two pages or more. The error is the volume, of which a read, a write or a sync failed.
+///
+/// A write of an anchor that was cut short may have left a body with the next number behind the closed gate. The next
+/// write begins by closing that gate once more, and a stop that tears this may open it: then that body would count.
+pub fn ready_slot<R: Rack>(rack: &mut R, vol: VolIx, slot: u8) -> Result<(), VolIx>
+    requires there { HasVolume (R.disk rack.old) vol }
+    requires pages { 2 ≤ pages_of (R.disk rack.old).sizes vol }
+    requires slot { slot ≤ 1 }
+
+    // Each image since the start has the anchor that all of them had, where the gate was synced.
+    ensures any_moment { IsTrue (R.disk rack.old).told → (old : Option Anchor)
+        → HasAnchor (R.disk rack.old) old → (R.disk rack.old).now.unsynced vol (8192 + 4096 * slot) ≡ false
+        → LeavesOnly (R.disk rack.old) (R.disk rack.new) (λ image. IsAnchor (R.disk rack.old).sizes image old) }
+    // A slot that isn't that anchor's own is then ready.
+    ensures ready { OnOk result (IsTrue (R.disk rack.old).told → (old : Option Anchor)
+        → HasAnchor (R.disk rack.old) old → (R.disk rack.old).now.unsynced vol (8192 + 4096 * slot) ≡ false
+        → ¬ StandsIn old vol slot → IsReady (R.disk rack.new) old vol slot) }
+    ensures changes { OnlyChanges (R.disk rack.old) (R.disk rack.new) vol (8192 + 4096 * slot + BLOCK_BYTES) BODY_BYTES }
+    ensures fault { IfErr result (HasFailed (R.disk rack.old) (R.disk rack.new)) }
+{
+    let gate = FIRST_GATE + SLOT_BLOCKS * u32::from(slot);
+    let mut block = [0; BLOCK_BYTES];
+    read_block(rack, vol, gate, &mut block)?;
+    if block[0] == OPEN {
+        return Ok(());
+    }
+    write_synced(rack, vol, gate + 1, &[0; BODY_BYTES])
+}
+
 /// Writes an anchor into the slot that it names: closes the gate, writes the body, and opens the gate, each on the disk
 /// before the next. It reads nothing. The anchor has to be the next one after that of the rack's contents, and its
 /// slot has to lie in the rack. The error is the volume, of which a write or a sync failed.
 ///
-/// What a stop may leave is said where the slot is out of the way: where each image that a stop might have left at the
-/// start, whatever it has for the slot's gate, has the old anchor. A write that closes a gate may, if a stop tears it,
-/// open it as well, and then what stands behind it must not count above the old anchor.
+/// What a stop may leave is said where the slot is ready (`HasBefore`). `ready_slot` makes it so, and an anchor that is
+/// written makes the other slot of its volume so where the anchor before it stands there.
 pub fn write_anchor<R: Rack>(rack: &mut R, anchor: &Anchor) -> Result<(), VolIx>
     requires whole { IsWhole anchor.now }
     requires there { HasVolume (R.disk rack.old) anchor.now.log_vol }
@@ -171,6 +206,14 @@ pub fn write_anchor<R: Rack>(rack: &mut R, anchor: &Anchor) -> Result<(), VolIx>
     ensures done { OnOk result (IsTrue (R.disk rack.old).told → (old : Option Anchor)
         → HasBefore (R.disk rack.old) old anchor.now
         → (image : Image) → MayLeave (R.disk rack.new).now image → IsAnchor (R.disk rack.old).sizes image (Some anchor.now)) }
+    // The next anchor on the same volume finds its slot ready.
+    ensures next { OnOk result (IsTrue (R.disk rack.old).told → (old next : Anchor)
+        → HasBefore (R.disk rack.old) (Some old) anchor.now → old.log_vol ≡ anchor.now.log_vol
+        → IsNext (Some anchor.now) next → next.log_vol ≡ anchor.now.log_vol
+        → HasBefore (R.disk rack.new) (Some anchor.now) next) }
+    ensures writes { OnlyWrites (R.disk rack.old) (R.disk rack.new) anchor.now.log_vol (8192 + 4096 * anchor.now.slot) 4096 }
+    ensures settled { OnOk result (IsTrue (R.disk rack.old).told
+        → Settles anchor.now.log_vol (8192 + 4096 * anchor.now.slot) (slot_bytes anchor.now) (R.disk rack.old).now (R.disk rack.new).now) }
     ensures fault { IfErr result (λ v. HasRisen ((R.disk rack.old).write_faults v) ((R.disk rack.new).write_faults v)) }
 {
     let Some(vol) = VolIx::new(anchor.log_vol) else {
@@ -181,3 +224,13 @@ pub fn write_anchor<R: Rack>(rack: &mut R, anchor: &Anchor) -> Result<(), VolIx>
     write_synced(rack, vol, gate + 1, &anchor.encode())?;
     write_synced(rack, vol, gate, &[OPEN; BLOCK_BYTES])
 }
+
+/// An anchor depends on page 1 of the volumes alone: images that agree there have the same one. So a slot that is ready
+/// stays so while each image that a stop may leave agrees there with one that it might have left before.
+pub fn anchors_depend_on_page_1()
+    ensures anchor { (sizes : List ℕ) (old new : Image) (anchor : Option Anchor) → SamePage1 old new
+        → IsAnchor sizes old anchor → IsAnchor sizes new anchor }
+    ensures ready { (old new : Disk) (anchor : Option Anchor) (vol slot : ℕ) → new.sizes ≡ old.sizes
+        → ((image : Image) → MayLeave new.now image → (before : Image) × MayLeave old.now before × SamePage1 before image)
+        → IsReady old anchor vol slot → IsReady new anchor vol slot }
+{}

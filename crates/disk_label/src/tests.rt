@@ -3,7 +3,9 @@ ghost use Rattle.std.specs.Prelude.{◌≡◌, ◌≤◌, IsTrue, IfOk, None, So
 ghost use Rattle.volume_disk.specs.Disk.{OnlyReads};
 ghost use Rattle.disk_label.specs.Anchor.{IsAnchor, IsNext, IsWhole};
 
-use crate::{Anchor, AnchorFault, Member, read_anchor, read_label, write_anchor, write_label};
+use crate::{
+    Anchor, AnchorFault, Member, read_anchor, read_label, ready_slot, write_anchor, write_label,
+};
 use domain_base::{Home, OutOfMemory, VolIx};
 use std::alloc::Global;
 use std::test::Fail;
@@ -159,6 +161,97 @@ fn a_stop_leaves_the_old_anchor_or_the_new_one(rt: HostRuntime) -> Result<(), Fa
         }
         old = new;
     }
+    Ok(())
+}
+
+/// Makes a slot ready, where the conditions of `ready_slot` hold.
+fn make_ready<R: Rack>(rack: &mut R, vol: VolIx, slot: u8) -> Result<bool, VolIx> {
+    if vol.number() > rack.volumes() || rack.pages(vol) < 2 || slot > 1 {
+        return Ok(false);
+    }
+    ready_slot(rack, vol, slot)?;
+    Ok(true)
+}
+
+/// What a stop right after a call leaves as the domain's anchor.
+fn left_by(
+    rack: &MemoryRack,
+    alloc: Global,
+    call: u64,
+    pick: u64,
+) -> Result<Result<Anchor, AnchorFault>, OutOfMemory> {
+    let mut left = image(rack, alloc, call, pick)?;
+    Ok(read_anchor(&mut left))
+}
+
+/// A rack of one volume with anchor 1 in slot 0, that stopped right after it wrote the body of this anchor of slot 1.
+fn stopped_within_the_body(
+    alloc: Global,
+    cut_short: &Anchor,
+) -> Result<Option<MemoryRack>, OutOfMemory> {
+    let Ok(old) = anchor(1, 1, 0) else {
+        return Ok(None);
+    };
+    let mut rack = MemoryRack::new(alloc, &[2], &[], true)?;
+    if write_next(&mut rack, &old) != Ok(true) || write_next(&mut rack, cut_short) != Ok(true) {
+        return Ok(None);
+    }
+    // the sync of the body, and the two calls that open the gate, are not made
+    let call = rack.calls().saturating_sub(3);
+    Ok(Some(image(&rack, alloc, call, 0)?))
+}
+
+/// Picks of what a stop leaves. The last one leaves an unsynced block 24 of volume 1, the gate of its slot 1, as bytes a5.
+static PICKS: [u64; 9] = [0, 1, 2, 3, 4, 5, 6, 7, 263];
+
+#[test]
+fn a_second_stop_leaves_the_old_anchor_or_the_new_one(rt: HostRuntime) -> Result<(), Fail> {
+    let one = volume(1)?;
+    let (old, new) = (anchor(1, 1, 0)?, anchor(2, 1, 1)?);
+    let cut_short = Anchor { start: 5, ..new };
+    let mut rack = stopped_within_the_body(rt.alloc(), &cut_short)?.ok_or("no such rack")?;
+    assert_eq!(rt; read_anchor(&mut rack), Ok(old));
+    let start = rack.calls();
+    assert_eq!(rt; make_ready(&mut rack, one, 1), Ok(true));
+    for call in start..=rack.calls() {
+        for pick in PICKS {
+            assert_eq!(rt;
+                left_by(&rack, rt.alloc(), call, pick)?,
+                Ok(old),
+                "call {call}, pick {pick}"
+            );
+        }
+    }
+    let start = rack.calls();
+    assert_eq!(rt; write_next(&mut rack, &new), Ok(true));
+    for call in start..rack.calls() {
+        for pick in PICKS {
+            let found = left_by(&rack, rt.alloc(), call, pick)?;
+            assert!(rt;
+                found == Ok(old) || found == Ok(new),
+                "call {call}, pick {pick}"
+            );
+        }
+    }
+    for pick in PICKS {
+        assert_eq!(rt;
+            left_by(&rack, rt.alloc(), rack.calls(), pick)?,
+            Ok(new),
+            "pick {pick}"
+        );
+    }
+    Ok(())
+}
+
+#[test]
+fn a_slot_that_is_not_ready_may_give_back_what_was_cut_short(rt: HostRuntime) -> Result<(), Fail> {
+    let new = anchor(2, 1, 1)?;
+    let cut_short = Anchor { start: 5, ..new };
+    let mut rack = stopped_within_the_body(rt.alloc(), &cut_short)?.ok_or("no such rack")?;
+    assert_eq!(rt; write_next(&mut rack, &new), Ok(true));
+    // right after the first of its six calls, the write that closes the gate
+    let call = rack.calls().saturating_sub(5);
+    assert_eq!(rt; left_by(&rack, rt.alloc(), call, 263)?, Ok(cut_short));
     Ok(())
 }
 

@@ -1,9 +1,10 @@
 -- How what a stop may leave goes on from call to call. Crates above cite these and look into no rack.
 use Rattle.std.proofs.Common.{◌≡◌, ◌⊎◌, ◌+◌, ◌==◌, ◌&&◌, ℕ, ◌-◌, ◌^◌, ◌<◌, ◌≤◌, nat_lt, Bool, true, false, cond, IsTrue, Result, Ok, Err, OnOk, OnErr, List, length, refl, sym, ◌∙◌, ap, subst, inl, inr, ⊎_elim, arith}
-use Rattle.std.proofs.lemmas.Bool.{cases_eq, cases_lt, eq-eqb, ne_eqb, lt-ltb, both_ways}
-use Rattle.volume_disk.specs.Disk.{Disk, Moment, MayLeave, MayLeaveTorn, Since, moment_at, Makes, MayTear, Writes, Syncs, ReadDone, ReadFailed, WriteDone, WriteFailed, SyncDone, SyncFailed, Elapses, LeavesOnly, OnlyReads, OnlyWrites, Settles, HasRisen, raised, raised_at}
+use Rattle.std.proofs.lemmas.Bool.{cases_eq, eq-eqb, ne_eqb, lt-ltb, both_ways}
+use Rattle.domain_base.specs.Counts.{raised, HasRisen}
+use Rattle.volume_disk.specs.Disk.{Disk, Moment, MayLeave, MayLeaveTorn, Since, moment_at, Makes, MayTear, Writes, Syncs, ReadDone, ReadFailed, WriteDone, WriteFailed, SyncDone, SyncFailed, Elapses, LeavesOnly, OnlyReads, OnlyWrites, OnlyChanges, Settles, raised_at}
 use Rattle.volume_disk.specs.Image.{Image, IsIn, SameOutside}
-use Rattle.volume_disk.proofs.Moments.{in_or_out, put_at-same, put_at-other}
+use Rattle.volume_disk.proofs.Moments.{in_or_out, mixed, mixed-in, mixed-out, put_at-same, put_at-other}
 
 -- Time.
 
@@ -88,25 +89,13 @@ torn_outside vol at n old new image tears left v k out synced = left v k (tears.
 
 -- what a write may leave is what might have been left before it, torn in its range
 pub torn_follows : (vol at n : ℕ) (old new : Moment) (image : Image) → MayTear vol at n old new → MayLeave new image → MayLeaveTorn vol at n old image
-torn_follows vol at n old new image tears left = (before, was, λ v k out. agrees v k out (in_or_out vol at n v k))
+torn_follows vol at n old new image tears left = (mixed vol at n old.contents image, was, λ v k out. sym (mixed-out vol at n old.contents image v k out))
   where
-    choice : (v k : ℕ) → IsIn vol at n v k ⊎ (¬ IsIn vol at n v k) → ℕ
-    choice v k (inl is_in) = old.contents v k
-    choice v k (inr out) = image v k
-
-    before : Image
-    before v k = choice v k (in_or_out vol at n v k)
-
-    was_at : (v k : ℕ) (where_is : IsIn vol at n v k ⊎ (¬ IsIn vol at n v k)) → old.unsynced v k ≡ false → choice v k where_is ≡ old.contents v k
-    was_at v k (inl is_in) synced = refl
-    was_at v k (inr out) synced = torn_outside vol at n old new image tears left v k out synced
-
-    was : MayLeave old before
-    was v k synced = was_at v k (in_or_out vol at n v k) synced
-
-    agrees : (v k : ℕ) → ¬ IsIn vol at n v k → (where_is : IsIn vol at n v k ⊎ (¬ IsIn vol at n v k)) → image v k ≡ choice v k where_is
-    agrees v k out (inl is_in) = absurd (out is_in)
-    agrees v k out (inr _) = refl
+    was : MayLeave old (mixed vol at n old.contents image)
+    was v k synced = elim (in_or_out vol at n v k) [
+      | inl is_in ↦ mixed-in vol at n old.contents image v k is_in
+      | inr out ↦ mixed-out vol at n old.contents image v k out ∙ torn_outside vol at n old new image tears left v k out synced
+    ]
 
 -- what might have been left before a failed write may still be left
 pub torn_keeps : (vol at n : ℕ) (old new : Moment) (image : Image) → MayTear vol at n old new → MayLeave old image → MayLeave new image
@@ -213,7 +202,7 @@ weaker old new P Q weak only = record {
 -- Counts of faults.
 
 pub HasRisen-raised_at : (counts : ℕ → ℕ) (vol : ℕ) → HasRisen (counts vol) (raised_at counts vol vol)
-HasRisen-raised_at counts vol = subst (HasRisen (counts vol)) (sym (put_at-same counts vol (raised (counts vol)))) (elim (cases_lt (counts vol) (2 ^ 64 - 1)) [ inl lt ↦ inl (omega arith) | inr last ↦ inr (last, omega arith) ])
+HasRisen-raised_at counts vol = subst (HasRisen (counts vol)) (sym (put_at-same counts vol (raised (counts vol)))) (omega arith)
 
 pub raised_at-other : (counts : ℕ → ℕ) (vol v : ℕ) → (v ≡ vol → ⊥) → raised_at counts vol v ≡ counts v
 raised_at-other counts vol v other = put_at-other counts vol v (raised (counts vol)) other
@@ -226,12 +215,10 @@ raised_at-later counts vol v = elim (cases_eq v vol) [
 ]
 
 pub HasRisen-before : (a b c : ℕ) → a ≤ b → HasRisen b c → HasRisen a c
-HasRisen-before a b c le (inl lt) = inl (omega arith)
-HasRisen-before a b c le (inr last) = elim (cases_lt a c) [ inl lt ↦ inl lt | inr ge ↦ inr (omega (arith, last.0, last.1), omega (arith, last.1)) ]
+HasRisen-before a b c le risen = omega (arith, risen)
 
 pub HasRisen-after : (a b c : ℕ) → HasRisen a b → b ≤ c → HasRisen a c
-HasRisen-after a b c (inl lt) le = inl (omega arith)
-HasRisen-after a b c (inr last) le = inr (last.0, omega (arith, last.1))
+HasRisen-after a b c risen le = omega (arith, risen)
 
 -- Runs of reads.
 
@@ -282,6 +269,11 @@ only_reads-read old new vol at n out result done failed = record {
   time = read_elapses old new vol at n out result done failed;
 }
 
+-- it leaves what might have been left before it
+pub only_reads-leaves : (old new : Disk) (P : Image → Type 0) → IsTrue old.told → OnlyReads old new → ((image : Image) → MayLeave old.now image → P image) → LeavesOnly old new P
+only_reads-leaves old new P told reads here =
+    goes_on old old new P (started old P here) (reads.time told) (λ image left. here image (same_moment new.now old.now (sym (reads.now told)) image left))
+
 -- a failed read raised its count
 pub HasRisen-read : (old new : Disk) (vol : ℕ) → ReadFailed old new vol → HasRisen (old.read_faults vol) (new.read_faults vol)
 HasRisen-read old new vol failed = subst (λ (faults : ℕ → ℕ). HasRisen (old.read_faults vol) (faults vol)) (sym failed.read_faults) (HasRisen-raised_at old.read_faults vol)
@@ -328,6 +320,80 @@ only_writes-sync old mid new vol at n result done failed so_far tears = record {
       (sync_elapses mid new vol result done failed mid_told)
       (λ image left. torn_follows vol at n old.now mid.now image (tears told) (sync_leaves mid new vol result done failed mid_told image left));
 }
+
+-- what is outside of the range holds what it did
+pub contents-write : {T E : Type 0} (old new : Disk) (vol at : ℕ) (bytes : List ℕ) (result : Result T E) → OnOk result (WriteDone old new vol at bytes) → OnErr result (WriteFailed old new vol at (length bytes)) → IsTrue old.told
+    → SameOutside vol at (length bytes) old.now.contents new.now.contents
+contents-write old new vol at bytes result done failed told = (write_tears old new vol at bytes result done failed told).contents
+
+pub contents-sync : {T E : Type 0} (old mid new : Disk) (vol at n : ℕ) (result : Result T E) → OnOk result (SyncDone mid new vol) → OnErr result (SyncFailed mid new vol) → IsTrue mid.told
+    → SameOutside vol at n old.now.contents mid.now.contents → SameOutside vol at n old.now.contents new.now.contents
+contents-sync old mid new vol at n result done failed told same v k out = ap (λ (image : Image). image v k) (sync_contents mid new vol result done failed told) ∙ same v k out
+
+-- a torn range lies in a wider one
+MayLeaveTorn-within : (vol at n w from m : ℕ) (moment : Moment) (image : Image) → vol ≡ w → from ≤ at → at + n ≤ from + m → MayLeaveTorn vol at n moment image → MayLeaveTorn w from m moment image
+MayLeaveTorn-within vol at n w from m moment image is low high torn =
+    (torn.0, torn.1, λ v k out. torn.2 v k (λ is_in. let a = is_in.1 in let b = is_in.2 in out (is_in.0 ∙ is, omega arith, omega arith)))
+
+-- what is torn twice in a range is torn in it
+MayLeaveTorn-again : (vol at n : ℕ) (old mid new : Disk) (image : Image) → LeavesOnly old mid (MayLeaveTorn vol at n old.now) → MayLeaveTorn vol at n mid.now image → MayLeaveTorn vol at n old.now image
+MayLeaveTorn-again vol at n old mid new image first torn =
+    let was = first.each torn.0 (now_counts mid old.calls torn.0 first.later torn.1) in
+    (was.0, was.1, λ v k out. torn.2 v k out ∙ was.2 v k out)
+
+pub only_writes-within : (old new : Disk) (vol at n w from m : ℕ) → vol ≡ w → from ≤ at → at + n ≤ from + m → OnlyWrites old new vol at n → OnlyWrites old new w from m
+only_writes-within old new vol at n w from m is low high writes = record {
+  sizes = writes.sizes;
+  told = writes.told;
+  kept = writes.kept;
+  read_faults = writes.read_faults;
+  write_faults = writes.write_faults;
+  tears = λ told.
+      weaker old new (MayLeaveTorn vol at n old.now) (MayLeaveTorn w from m old.now) (λ image. MayLeaveTorn-within vol at n w from m old.now image is low high) (writes.tears told);
+}
+
+pub only_writes-then : (old mid new : Disk) (vol at n : ℕ) → OnlyWrites old mid vol at n → OnlyWrites mid new vol at n → OnlyWrites old new vol at n
+only_writes-then old mid new vol at n first second = record {
+  sizes = second.sizes ∙ first.sizes;
+  told = second.told ∙ first.told;
+  kept = second.kept ∙ first.kept;
+  read_faults = second.read_faults ∙ first.read_faults;
+  write_faults = λ v. let a = first.write_faults v in let b = second.write_faults v in omega arith;
+  tears = λ told.
+      let P = MayLeaveTorn vol at n old.now in
+      let so_far = first.tears told in
+      then_on old mid new P so_far (weaker mid new (MayLeaveTorn vol at n mid.now) P (λ image. MayLeaveTorn-again vol at n old mid new image so_far) (second.tears (first.told ∙ told)));
+}
+
+-- reads alone, and reads before a write
+pub only_changes-read : (old new : Disk) (vol at n : ℕ) → OnlyReads old new → OnlyChanges old new vol at n
+only_changes-read old new vol at n reads = record {
+  sizes = reads.sizes;
+  told = reads.told;
+  kept = reads.kept;
+  read_faults = reads.read_faults;
+  write_faults = λ v. let e = ap (λ (faults : ℕ → ℕ). faults v) reads.write_faults in omega (arith, e);
+  contents = λ told v k out. ap (λ (m : Moment). m.contents v k) (reads.now told);
+  tears = λ told. only_reads-leaves old new (MayLeaveTorn vol at n old.now) told reads (MayLeaveTorn-now vol at n old.now);
+}
+
+pub only_changes-write : (old mid new : Disk) (vol at n : ℕ) → OnlyReads old mid → OnlyWrites mid new vol at n → (IsTrue mid.told → SameOutside vol at n mid.now.contents new.now.contents) → OnlyChanges old new vol at n
+only_changes-write old mid new vol at n reads writes same = record {
+  sizes = writes.sizes ∙ reads.sizes;
+  told = writes.told ∙ reads.told;
+  kept = writes.kept ∙ reads.kept;
+  read_faults = λ v. let a = reads.read_faults v in let e = ap (λ (faults : ℕ → ℕ). faults v) writes.read_faults in omega (arith, a, e);
+  write_faults = λ v. let a = writes.write_faults v in let e = ap (λ (faults : ℕ → ℕ). faults v) reads.write_faults in omega (arith, a, e);
+  contents = λ told v k out. same (reads.told ∙ told) v k out ∙ ap (λ (m : Moment). m.contents v k) (reads.now told);
+  tears = λ told.
+      let P = MayLeaveTorn vol at n old.now in
+      then_on old mid new P (only_reads-leaves old mid P told reads (MayLeaveTorn-now vol at n old.now))
+      (weaker mid new (MayLeaveTorn vol at n mid.now) P (λ image torn. subst (λ (m : Moment). MayLeaveTorn vol at n m image) (reads.now told) torn) (writes.tears (reads.told ∙ told)));
+}
+
+-- the same bytes at the same place
+pub Settles-moved : (vol at w from : ℕ) (bytes : List ℕ) (old new : Moment) → vol ≡ w → at ≡ from → Settles vol at bytes old new → Settles w from bytes old new
+Settles-moved vol at w from bytes old new is at_is settles = subst (λ (k : ℕ). Settles w k bytes old new) at_is (subst (λ (v : ℕ). Settles v at bytes old new) is settles)
 
 -- what a write and a sync that are done make of a moment
 pub Settles-done : (vol at : ℕ) (bytes : List ℕ) (old mid new : Moment) → Writes vol at bytes old mid → Syncs vol mid new → Settles vol at bytes old new

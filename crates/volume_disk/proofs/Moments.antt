@@ -2,7 +2,7 @@
 use Rattle.std.proofs.Common.{◌≡◌, ◌≢◌, ◌⊎◌, ◌==◌, ◌&&◌, ◌||◌, ℕ, ◌+◌, ◌-◌, ◌<◌, ◌≤◌, Bool, true, false, List, length, get_or, leb, ltb, refl, sym, ◌∙◌, ap, inl, inr, arith}
 use Rattle.std.proofs.lemmas.Bool.{cases_eq, cases_lt, eq-eqb, ne_eqb, lt-leb, le-leb, lt-ltb, le-ltb, both_ways}
 use Rattle.volume_disk.specs.Disk.{Moment, put_at, MayTear, Writes, Syncs}
-use Rattle.volume_disk.specs.Image.{IsIn}
+use Rattle.volume_disk.specs.Image.{Image, IsIn}
 use Rattle.volume_disk.specs.Moment.{overlaid, marked, torn, written, synced}
 
 pub put_at-same : {X : Type 0} (each : ℕ → X) (vol : ℕ) (x : X) → put_at each vol x vol ≡ x
@@ -32,6 +32,31 @@ in_or_out vol at n v k = elim (cases_eq v vol) [
     | inr le ↦ elim (cases_lt k (at + n)) [ inl lt ↦ inl (same, le, lt) | inr far ↦ inr (λ is_in. omega (arith, is_in.2)) ]
   ]
 ]
+
+-- An image that has one image's bytes in a range and another's outside of it.
+module _ (vol at n : ℕ) (inner outer : Image) where
+  abbrev chosen : (v k : ℕ) → IsIn vol at n v k ⊎ (¬ IsIn vol at n v k) → ℕ
+  chosen v k (inl is_in) = inner v k
+  chosen v k (inr out) = outer v k
+
+  pub mixed : Image
+  mixed v k = chosen v k (in_or_out vol at n v k)
+
+  pub mixed-in : (v k : ℕ) → IsIn vol at n v k → mixed v k ≡ inner v k
+  unfolding mixed
+  mixed-in v k is_in = by_place (in_or_out vol at n v k)
+    where
+      by_place : (where_is : IsIn vol at n v k ⊎ (¬ IsIn vol at n v k)) → chosen v k where_is ≡ inner v k
+      by_place (inl _) = refl
+      by_place (inr out) = absurd (out is_in)
+
+  pub mixed-out : (v k : ℕ) → ¬ IsIn vol at n v k → mixed v k ≡ outer v k
+  unfolding mixed
+  mixed-out v k out = by_place (in_or_out vol at n v k)
+    where
+      by_place : (where_is : IsIn vol at n v k ⊎ (¬ IsIn vol at n v k)) → chosen v k where_is ≡ outer v k
+      by_place (inl is_in) = absurd (out is_in)
+      by_place (inr _) = refl
 
 or_true : (b : Bool) → (b || true) ≡ true
 or_true true = refl

@@ -1,5 +1,6 @@
 -- A rack as a value: what its volumes hold, what a stop may leave of them, and how each call changes both.
-use Rattle.std.specs.Prelude.{◌≡◌, ◌≢◌, ◌⊎◌, ◌==◌, ◌&&◌, ◌^◌, ℕ, zero, suc, ◌+◌, ◌-◌, ◌*◌, ◌%◌, ◌<◌, ◌≤◌, min, max, nat_lt, if◌then◌else◌, Bool, true, false, IsTrue, List, length, slice_index}
+use Rattle.std.specs.Prelude.{◌≡◌, ◌≢◌, ◌⊎◌, ◌==◌, ◌&&◌, ◌^◌, ℕ, zero, suc, ◌+◌, ◌-◌, ◌*◌, ◌%◌, ◌<◌, ◌≤◌, nat_lt, if◌then◌else◌, Bool, true, false, IsTrue, List, length, slice_index}
+use Rattle.domain_base.specs.Counts.{raised}
 use Rattle.volume_disk.specs.Image.{Image, IsIn, SameOutside, HasBytes, bytes_at}
 
 -- what a read gives, and the places where a stop may leave any byte
@@ -68,10 +69,6 @@ IsSettled moment = (v k : ℕ) → moment.unsynced v k ≡ false
 
 -- Counts.
 
--- a count one higher, which stays at the last value of a u64
-abbrev pub raised : ℕ → ℕ
-raised count = max count (min (count + 1) (2 ^ 64 - 1))
-
 -- what each volume has, with this at one of them
 abbrev pub put_at : {X : Type 0} → (ℕ → X) → ℕ → X → ℕ → X
 put_at each vol x v = if v == vol then x else each v
@@ -79,10 +76,6 @@ put_at each vol x v = if v == vol then x else each v
 -- the counts of all volumes, that of one raised
 abbrev pub raised_at : (ℕ → ℕ) → ℕ → ℕ → ℕ
 raised_at counts vol = put_at counts vol (raised (counts vol))
-
--- a count has risen, or stood at its last value, where a rise does not show
-abbrev pub HasRisen : ℕ → ℕ → Type 0
-HasRisen old new = (old < new) ⊎ ((2 ^ 64 - 1 ≤ old) × (old ≤ new))
 
 -- a call now need not fail
 abbrev pub MayPass : Disk → Type 0
@@ -188,6 +181,16 @@ pub record OnlyWrites (old new : Disk) (vol at n : ℕ) : Type 0 where
   pub kept : new.kept ≡ old.kept
   pub read_faults : new.read_faults ≡ old.read_faults
   pub write_faults : (v : ℕ) → old.write_faults v ≤ new.write_faults v
+  pub tears : IsTrue old.told → LeavesOnly old new (MayLeaveTorn vol at n old.now)
+
+-- a run of calls that changed at most n bytes from `at` on, and may have read: the images of before may be torn there
+pub record OnlyChanges (old new : Disk) (vol at n : ℕ) : Type 0 where
+  pub sizes : new.sizes ≡ old.sizes
+  pub told : new.told ≡ old.told
+  pub kept : new.kept ≡ old.kept
+  pub read_faults : (v : ℕ) → old.read_faults v ≤ new.read_faults v
+  pub write_faults : (v : ℕ) → old.write_faults v ≤ new.write_faults v
+  pub contents : IsTrue old.told → SameOutside vol at n old.now.contents new.now.contents
   pub tears : IsTrue old.told → LeavesOnly old new (MayLeaveTorn vol at n old.now)
 
 -- the bytes are written from `at` on, and the volume is synced

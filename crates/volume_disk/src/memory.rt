@@ -63,9 +63,9 @@ impl MemoryRack {
         self.keeps
     }
 
-    /// The rack that starts again after a stop right after a call: one that such a stop may leave, chosen by `pick`
-    /// among all. 0 is everything written, and 1 nothing that was not synced; others tear the ranges that were not,
-    /// each in its way. The condition is that the rack keeps its calls and has made that one; 0 is its making.
+    /// A rack that starts again on what a stop right after a call may have left; call 0 is the making of this rack.
+    /// With pick 0 every write up to that call has lasted. Each other pick gives some image that the model allows, and
+    /// no more is promised of it. The rack has to keep its calls, and has to have made that one.
     pub fn image(&self, alloc: Global, call: u64, pick: u64) -> Result<MemoryRack, OutOfMemory>
         requires kept { IsTrue (memory_disk self.now).kept }
         requires made { call ≤ (memory_disk self.now).calls }

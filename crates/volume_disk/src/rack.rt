@@ -4,13 +4,14 @@ ghost use Rattle.volume_disk.specs.Disk.{Disk, AreBlocks, HasVolume, ReadDone, R
 
 use domain_base::{Failed, VolIx};
 
-/// A rack of volumes, numbered from 1, each of whole pages of 8,192 bytes. It may stop at any moment.
+/// Volumes, numbered from 1, of whole pages of 8,192 bytes, on which the power may fail at any moment.
 ///
-/// Until a volume is synced, each range written on it since its last sync may hold any bytes after a stop, and bytes
-/// outside of them stay. After a sync that is done a stop leaves what a read gives. A write that failed leaves its
-/// range no more certain than one that is not synced; what a read of it gives is then left open.
+/// A write shows in reads at once. It lasts from the next sync of its volume that answers Ok: a stop before that may turn
+/// its bytes into any others, and spares the bytes that no such write touched. What a write that answers Err left in its
+/// range only a read can tell, and it is no more certain to last than what was written and not synced.
 ///
-/// `read`, `write` and `sync` raise the number of calls by one. At its last value it stays, and each call fails.
+/// The clock of a rack is a count of `read`, `write` and `sync`, whatever they answer. It has 64 bits, and once it is at
+/// its end each call answers Err.
 pub trait Rack {
     /// What the rack holds and what a stop may leave, as far as it tells them, and its counts.
     ghost disk: { Self → Disk };
@@ -23,26 +24,28 @@ pub trait Rack {
     fn pages(&self, vol: VolIx) -> u32
         ensures { result ≡ pages_of (disk self.now).sizes vol };
 
-    /// Reads whole blocks of 512 bytes from a block on. A failure raises the volume's count of read faults, and then
-    /// nothing is said of `out`.
+    /// Fills `out` from a volume, beginning at a block of 512 bytes; it asks for one or more whole blocks. At an Err
+    /// one read fault more is counted for the volume, and `out` is not to be used.
     fn read(&mut self, vol: VolIx, block: u32, out: &mut [u8]) -> Result<(), Failed>
         requires { AreBlocks (disk self.old) vol block (length out.old) }
         ensures done { OnOk result (ReadDone (disk self.old) (disk self.new) vol (512 * block) (length out.old) out.new) }
         ensures failed { OnErr result (ReadFailed (disk self.old) (disk self.new) vol) };
 
-    /// Writes whole blocks of 512 bytes from a block on. A failure raises the volume's count of write faults.
+    /// Puts one or more whole blocks on a volume, beginning at a block of 512 bytes. At an Err one write fault more is
+    /// counted for the volume.
     fn write(&mut self, vol: VolIx, block: u32, bytes: &[u8]) -> Result<(), Failed>
         requires { AreBlocks (disk self.old) vol block (length bytes.now) }
         ensures done { OnOk result (WriteDone (disk self.old) (disk self.new) vol (512 * block) bytes.now) }
         ensures failed { OnErr result (WriteFailed (disk self.old) (disk self.new) vol (512 * block) (length bytes.now)) };
 
-    /// Makes a volume hold after a stop what a read of it gives. A failure raises the volume's count of write faults.
+    /// Makes all that a volume shows to reads last. At an Err one write fault more is counted for the volume, and
+    /// nothing lasts that did not before.
     fn sync(&mut self, vol: VolIx) -> Result<(), Failed>
         requires { HasVolume (disk self.old) vol }
         ensures done { OnOk result (SyncDone (disk self.old) (disk self.new) vol) }
         ensures failed { OnErr result (SyncFailed (disk self.old) (disk self.new) vol) };
 
-    /// How many calls of `read`, `write` and `sync` there were.
+    /// The clock: how often `read`, `write` and `sync` were called.
     fn calls(&self) -> u64
         ensures { result ≡ (disk self.now).calls };
 

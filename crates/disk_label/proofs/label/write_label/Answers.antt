@@ -1,4 +1,4 @@
-use Rattle.std.proofs.Common.{ℕ, ◌++◌, List, drop, refl, subst}
+use Rattle.std.proofs.Common.{ℕ, List, refl, subst}
 use Rattle.std.proofs.lemmas.Result.{on_ok_weaker}
 use Rattle.volume_disk.specs.Disk.{Settles}
 use Rattle.disk_label.proofs.Bodies.{label_is}

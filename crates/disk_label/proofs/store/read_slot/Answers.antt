@@ -1,9 +1,9 @@
-use Rattle.std.proofs.Common.{◌≡◌, ℕ, ◌+◌, ◌-◌, ◌*◌, ◌≤◌, get_or, length, refl, sym, ◌∙◌, ap, subst, arith}
+use Rattle.std.proofs.Common.{◌≡◌, ℕ, ◌+◌, ◌-◌, ◌*◌, ◌≤◌, length, sym, ◌∙◌, ap, subst, arith}
 use Rattle.std.proofs.lemmas.Bool.{both_ways}
 use Rattle.volume_disk.proofs.Laws.{only_reads-then}
 use Rattle.volume_disk.specs.Disk.{Moment, pages_of}
-use Rattle.volume_disk.specs.Image.{Image, bytes_at}
-use Rattle.disk_label.specs.Anchor.{anchor_at, volume_of, Counts}
+use Rattle.volume_disk.specs.Image.{bytes_at}
+use Rattle.disk_label.specs.Anchor.{Counts}
 use Rattle.disk_label.specs.Body.{HasLogMember}
 use Rattle.disk_label.proofs.Slots.{volume_is, gate_read, anchor_read}
 use Rattle.disk_label.proofs.store.read_slot.Goals.{else-anchor-number-via-then-anchor-number+else-has_log_member, else-anchor-number-via-else-anchor-number}

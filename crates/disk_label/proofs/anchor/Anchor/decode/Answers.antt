@@ -1,6 +1,5 @@
-use Rattle.std.proofs.Common.{◌+◌, ◌*◌, [], ◌∷◌, ◌∙◌}
+use Rattle.std.proofs.Common.{[], ◌∷◌, ◌∙◌}
 use Rattle.disk_label.specs.Body.{anchor_from, home_from}
-use Rattle.disk_label.proofs.Bodies.{anchor_from-same, word_at-written}
 use Rattle.disk_label.proofs.anchor.Anchor.decode.Goals as goal
 
 pub returns : goal.returns

@@ -1,71 +1,38 @@
 use Rattle.std.proofs.Common.{◌≡◌, ◌≤◌, ◌+◌, ◌*◌, refl, sym, ◌∙◌, ap, subst, arith}
-use Rattle.volume_disk.specs.Disk.{Moment, Syncs, pages_of, raised}
-use Rattle.volume_disk.specs.Kept.{Adds}
+use Rattle.volume_disk.specs.Disk.{Moment, Syncs, pages_of}
+use Rattle.volume_disk.specs.Memory.{memory_disk, past_of}
 use Rattle.volume_disk.specs.Moment.{synced}
 use Rattle.volume_disk.specs.Volume.{moment_of, settled_of, sizes_of}
+use Rattle.volume_disk.proofs.OneMore.{SyncFailed-past, kept_added, makes_added}
 use Rattle.volume_disk.proofs.Moments.{Syncs-synced}
-use Rattle.volume_disk.proofs.Replays.{from_err, from_ok, AreUpTo-added, AreFit-added, AreFit-same, replayed-added, replayed-added_before, past_goes_on, with_now}
+use Rattle.volume_disk.proofs.Replays.{from_err, from_ok}
 use Rattle.volume_disk.proofs.memory.MemoryRackRack.sync.Goals as goal
 
 pub returns-then-is_err-clause-failed : goal.returns-then-is_err-clause-failed
 returns-then-is_err-clause-failed c =
     let rack = c.args.self.now in
-    let failed = c.fail_untorn-then-is_err.ensures in
     let same : c.keep.new.kept.items ≡ rack.kept.items = from_err c.keep.result (sym c.is_err.ensures.value ∙ c.if-is_err.true) c.keep.ensures.err in
-    record {
-      calls = failed.calls;
-      read_faults = failed.read_faults;
-      write_faults = failed.write_faults;
-      sizes = failed.sizes;
-      fails = failed.fails;
-      told = failed.told;
-      kept = failed.kept;
-      now = failed.now;
-      past = λ told. failed.past told ∙ ap (with_now rack.keeps rack.calls (moment_of rack.volumes.items.items) (settled_of rack.first.items.items)) same;
-    }
+    SyncFailed-past (memory_disk rack) (memory_disk c.fail_untorn-then-is_err.new.self) c.args.vol (past_of rack.keeps rack.calls (settled_of rack.first.items.items) c.keep.new.kept.items) (ap (past_of rack.keeps rack.calls (settled_of rack.first.items.items)) same) c.fail_untorn-then-is_err.ensures
 
 pub invariant_of-self-2 : goal.invariant_of-self-2
 invariant_of-self-2 c =
     let rack = c.args.self.now in
-    let old = rack.kept.items in
-    let new = c.keep.new.kept.items in
-    let next : Moment → Moment = λ moment. synced moment c.args.vol in
-    let adds : Adds rack.keeps old new (rack.calls + 1) c.args.vol 0 0 next = from_ok c.keep.result (sym c.is_err.ensures.value ∙ c.if-is_err.false) c.keep.ensures.ok in
-    let counts = c.sync.ensures.counts in
-    let sizes = sizes_of rack.volumes.items.items in
-    let first = settled_of rack.first.items.items in
-    let within : 512 * 0 + 0 ≤ 8192 * pages_of sizes c.args.vol = omega arith in
-    record {
-      numbered = AreUpTo-added old new rack.calls (rack.calls + 1) c.args.vol 0 0 next refl rack.numbered rack.keeps adds;
-      fit = AreFit-same sizes _ new counts.sizes (AreFit-added old new rack.calls (rack.calls + 1) c.args.vol 0 0 next refl rack.numbered rack.keeps adds sizes c.requires.1 refl within rack.fit);
-      same_sizes = λ keeps. rack.same_sizes keeps ∙ sym counts.sizes;
-      replays = λ keeps. replayed-added old new rack.calls (rack.calls + 1) c.args.vol 0 0 next refl rack.numbered rack.keeps adds first keeps ∙ ap next (rack.replays keeps) ∙ sym c.sync.ensures.moment;
-    }
+    let effect : Moment → Moment = λ moment. synced moment c.args.vol in
+    let adds = from_ok c.keep.result (sym c.is_err.ensures.value ∙ c.if-is_err.false) c.keep.ensures.ok in
+    let within : 512 * 0 + 0 ≤ 8192 * pages_of (sizes_of rack.volumes.items.items) c.args.vol = omega arith in
+    let added = kept_added rack c.keep.new.kept.items c.args.vol 0 0 effect adds c.sync.new.self.items.items c.sync.ensures.counts.sizes c.sync.ensures.moment c.requires.1 refl within in
+    record { numbered = added.numbered; fit = added.fit; same_sizes = added.same_sizes; replays = added.replays }
 
 pub returns-clause-done : goal.returns-clause-done
 returns-clause-done c =
     let rack = c.args.self.now in
-    let old = rack.kept.items in
-    let new = c.keep.new.kept.items in
-    let next : Moment → Moment = λ moment. synced moment c.args.vol in
-    let adds : Adds rack.keeps old new (rack.calls + 1) c.args.vol 0 0 next = from_ok c.keep.result (sym c.is_err.ensures.value ∙ c.if-is_err.false) c.keep.ensures.ok in
-    let counts = c.sync.ensures.counts in
-    let first = settled_of rack.first.items.items in
     let now = moment_of rack.volumes.items.items in
+    let effect : Moment → Moment = λ moment. synced moment c.args.vol in
+    let adds = from_ok c.keep.result (sym c.is_err.ensures.value ∙ c.if-is_err.false) c.keep.ensures.ok in
+    let counts = c.sync.ensures.counts in
     let passed = c.must_fail.ensures c.if-must_fail.false in
-    let one_more : rack.calls + 1 ≡ raised rack.calls = omega (arith, passed.0) in
     record {
-      makes = record {
-        calls = one_more;
-        read_faults = counts.read_faults;
-        write_faults = counts.write_faults;
-        sizes = counts.sizes;
-        fails = refl;
-        told = refl;
-        kept = refl;
-        now = λ told. refl;
-        past = λ told. past_goes_on rack.keeps rack.calls (rack.calls + 1) one_more first now old new (omega (arith, passed.0)) (λ t le. replayed-added_before old new rack.calls (rack.calls + 1) c.args.vol 0 0 next refl rack.numbered rack.keeps adds first t le) rack.replays;
-      };
+      makes = makes_added rack c.keep.new.kept.items c.args.vol 0 0 effect adds c.sync.new.self.items.items counts.sizes _ _ passed.0 counts.read_faults counts.write_faults;
       syncs = λ told. subst (Syncs c.args.vol now) (sym c.sync.ensures.moment) (Syncs-synced now c.args.vol);
       passed = passed;
     }

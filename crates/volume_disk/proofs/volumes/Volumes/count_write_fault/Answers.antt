@@ -1,5 +1,5 @@
 use Rattle.std.proofs.Common.{false, refl, arith}
-use Rattle.volume_disk.specs.Disk.{raised}
+use Rattle.domain_base.specs.Counts.{raised}
 use Rattle.volume_disk.specs.Volume.{byte_of, mark_of}
 use Rattle.volume_disk.proofs.Numbered.{changed_by, kept_by, same_moment}
 use Rattle.volume_disk.proofs.volumes.Volumes.count_write_fault.Goals as goal

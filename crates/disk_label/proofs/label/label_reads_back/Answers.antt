@@ -1,0 +1,6 @@
+use Rattle.std.proofs.Common.{arith}
+use Rattle.disk_label.proofs.Bodies.{IsLabelOf-label_bytes}
+use Rattle.disk_label.proofs.label.label_reads_back.Goals as goal
+
+pub returns : goal.returns
+returns c = λ sizes vol pages low high small few. IsLabelOf-label_bytes sizes vol pages (omega arith) small few

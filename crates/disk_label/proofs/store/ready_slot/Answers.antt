@@ -1,0 +1,103 @@
+use Rattle.std.proofs.Common.{◌≡◌, ℕ, ◌+◌, ◌*◌, ◌≤◌, false, IsTrue, List, get_or, replicate, Option, sym, ◌∙◌, subst, arith}
+use Rattle.std.proofs.lemmas.List.{get_or-replicate, length-replicate}
+use Rattle.std.proofs.lemmas.Result.{on_ok_weaker}
+use Rattle.volume_disk.specs.Disk.{Disk, Moment, LeavesOnly, MayLeave, OnlyReads, OnlyWrites, Settles}
+use Rattle.volume_disk.specs.Image.{Image, SameOutside, bytes_at}
+use Rattle.volume_disk.proofs.Laws.{then_on, only_reads-leaves, only_writes-within, only_changes-read, only_changes-write, Settles-moved}
+use Rattle.disk_label.specs.Anchor.{HasAnchor, IsAnchor, IsReady, StandsIn}
+use Rattle.disk_label.proofs.Written.{Shut, gate_seen, ready_open, writing, zeros_ready}
+use Rattle.disk_label.specs.declared.anchor.Anchor.{Anchor}
+use Rattle.disk_label.proofs.store.ready_slot.Goals as goal
+
+abbrev zeros : List ℕ
+zeros = replicate 3584 0
+
+-- The gate's block was read, as it is at the slot.
+module _ (vol slot block : ℕ) (low : 1 ≤ vol) (high : slot ≤ 1) (is : block ≡ 16 + 8 * slot) (old : Option Anchor) (d0 d1 : Disk) (told : IsTrue d0.told) (has : HasAnchor d0 old)
+    (synced : d0.now.unsynced vol (8192 + 4096 * slot) ≡ false) (reads : OnlyReads d0 d1) (first : List ℕ) (read : first ≡ bytes_at d0.now.contents vol (512 * block) 512) where
+  abbrev gate : ℕ
+  gate = 8192 + 4096 * slot
+
+  abbrev Old : Image → Type 0
+  Old = λ image. IsAnchor d0.sizes image old
+
+  before : (image : Image) → MayLeave d1.now image → MayLeave d0.now image
+  before image left = subst (λ (m : Moment). MayLeave m image) (reads.now told) left
+
+  seen : (image : Image) → MayLeave d1.now image → image vol gate ≡ get_or first 0 0
+  seen image left = gate_seen vol gate (512 * block) d0.now first image (omega arith) read synced (before image left)
+
+  -- where it is open, nothing is to be done
+  open_ready : get_or first 0 0 ≡ 165 → (StandsIn old vol slot → ⊥) → IsReady d1 old vol slot
+  open_ready is_open other = λ image torn.
+      subst (λ (l : List ℕ). IsAnchor l image old) (sym reads.sizes)
+      (ready_open vol slot low high torn.0 image torn.2 d0.sizes old other (seen torn.0 torn.1 ∙ is_open) (has torn.0 (before torn.0 torn.1)))
+
+  -- where it is closed, zeros are written behind it
+  module _ (closed : get_or first 0 0 ≡ 165 → ⊥) (d2 : Disk) (writes : OnlyWrites d1 d2 vol (512 * (block + 1)) 3584) where
+    shut : Shut d0.sizes old vol slot d1.now
+    shut = record { has_old = λ image left. has image (before image left); is_shut = λ image left is_open. closed (sym (seen image left) ∙ is_open) }
+
+    told-1 : IsTrue d1.told
+    told-1 = reads.told ∙ told
+
+    behind_gate : OnlyWrites d1 d2 vol (gate + 512) 3584
+    behind_gate = only_writes-within d1 d2 vol (512 * (block + 1)) 3584 vol (gate + 512) 3584 (λ _. vol) (omega arith) (omega arith) writes
+
+    all_old : LeavesOnly d0 d2 Old
+    all_old = then_on d0 d1 d2 Old (only_reads-leaves d0 d1 Old told reads has) (writing vol slot low high d0.sizes old d1 d2 shut told-1 behind_gate)
+
+    shut_ready : Settles vol (512 * (block + 1)) zeros d1.now d2.now → IsReady d2 old vol slot
+    shut_ready settles =
+        zeros_ready vol slot low high d0.sizes old d1 d2 shut told-1 behind_gate zeros (length-replicate {A = ℕ} 3584 0) (λ k lt. get_or-replicate 3584 k 0 0 (omega arith))
+        (Settles-moved vol (512 * (block + 1)) vol (gate + 512) zeros d1.now d2.now (λ _. vol) (omega arith) settles)
+        (writes.sizes ∙ reads.sizes)
+
+pub returns-in_err-read_block-clause-any_moment : goal.returns-in_err-read_block-clause-any_moment
+returns-in_err-read_block-clause-any_moment g c = λ told old has synced.
+    let d0 = g.R.Rack.disk c.args.rack.now in
+    only_reads-leaves d0 (g.R.Rack.disk c.read_block.new.rack) (λ image. IsAnchor d0.sizes image old) told c.read_block.ensures.reads has
+
+pub returns-in_err-read_block-clause-changes : goal.returns-in_err-read_block-clause-changes
+returns-in_err-read_block-clause-changes g c =
+    only_changes-read (g.R.Rack.disk c.args.rack.now) (g.R.Rack.disk c.read_block.new.rack) c.args.vol (8192 + 4096 * c.args.slot + 512) 3584 c.read_block.ensures.reads
+
+pub returns-then-block-clause-any_moment : goal.returns-then-block-clause-any_moment
+returns-then-block-clause-any_moment g c = λ told old has synced.
+    let d0 = g.R.Rack.disk c.args.rack.now in
+    only_reads-leaves d0 (g.R.Rack.disk c.read_block.new.rack) (λ image. IsAnchor d0.sizes image old) told c.read_block.ensures.reads has
+
+pub returns-then-block-clause-ready : goal.returns-then-block-clause-ready
+returns-then-block-clause-ready g c = λ told old has synced other.
+    open_ready c.args.vol c.args.slot (16 + 8 * c.from.result) c.requires.there.0 c.requires.slot (omega (arith, c.from.ensures)) old
+    (g.R.Rack.disk c.args.rack.now) (g.R.Rack.disk c.read_block.new.rack) told has synced c.read_block.ensures.reads c.read_block.new.out (c.in_ok-read_block.ensures.bytes told)
+    c.if-block.true other
+
+pub returns-then-block-clause-changes : goal.returns-then-block-clause-changes
+returns-then-block-clause-changes g c =
+    only_changes-read (g.R.Rack.disk c.args.rack.now) (g.R.Rack.disk c.read_block.new.rack) c.args.vol (8192 + 4096 * c.args.slot + 512) 3584 c.read_block.ensures.reads
+
+pub returns-clause-any_moment : goal.returns-clause-any_moment
+returns-clause-any_moment g c = λ told old has synced.
+    all_old c.args.vol c.args.slot (16 + 8 * c.from.result) c.requires.there.0 c.requires.slot (omega (arith, c.from.ensures)) old
+    (g.R.Rack.disk c.args.rack.now) (g.R.Rack.disk c.read_block.new.rack) told has synced c.read_block.ensures.reads c.read_block.new.out (c.in_ok-read_block.ensures.bytes told)
+    c.if-block.false (g.R.Rack.disk c.write_synced.new.rack) c.write_synced.ensures.writes
+
+pub returns-clause-ready : goal.returns-clause-ready
+returns-clause-ready g c = on_ok_weaker c.write_synced.result (λ settled told old has synced other.
+    shut_ready c.args.vol c.args.slot (16 + 8 * c.from.result) c.requires.there.0 c.requires.slot (omega (arith, c.from.ensures)) old
+    (g.R.Rack.disk c.args.rack.now) (g.R.Rack.disk c.read_block.new.rack) told has synced c.read_block.ensures.reads c.read_block.new.out (c.in_ok-read_block.ensures.bytes told)
+    c.if-block.false (g.R.Rack.disk c.write_synced.new.rack) c.write_synced.ensures.writes (settled (c.read_block.ensures.reads.told ∙ told))) c.write_synced.ensures.settled
+
+pub returns-clause-changes : goal.returns-clause-changes
+returns-clause-changes g c =
+    let d0 = g.R.Rack.disk c.args.rack.now in
+    let d1 = g.R.Rack.disk c.read_block.new.rack in
+    let d2 = g.R.Rack.disk c.write_synced.new.rack in
+    let vol = c.args.vol in
+    let at = 512 * (16 + 8 * c.from.result + 1) in
+    let behind = 8192 + 4096 * c.args.slot + 512 in
+    let at_is : at ≡ behind = omega (arith, c.from.ensures) in
+    only_changes-write d0 d1 d2 vol behind 3584 c.read_block.ensures.reads
+    (only_writes-within d1 d2 vol at 3584 vol behind 3584 (λ _. vol) (omega arith) (omega arith) c.write_synced.ensures.writes)
+    (λ told. subst (λ (k : ℕ). SameOutside vol k 3584 d1.now.contents d2.now.contents) at_is (c.write_synced.ensures.outside told))
