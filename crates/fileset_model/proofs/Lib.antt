@@ -2,6 +2,7 @@ pub mod ChangeLemmas
 pub mod EntryLemmas
 pub mod MapLemmas
 pub mod MoveLemmas
+pub mod OwnerLemmas
 pub mod PageLemmas
 pub mod RowsLemmas
 pub mod SlotLemmas

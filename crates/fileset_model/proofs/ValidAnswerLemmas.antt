@@ -8,7 +8,7 @@ use Rattle.fileset_model.specs.Orders.{Name, Path}
 use Rattle.fileset_model.specs.Fileset.{Fileset}
 use Rattle.fileset_model.specs.Paths.{begins_with, directory_here, file_here, first_refusal, is_directory, node_at, refuse_if, same_path, target_refusal, walk_refusal}
 use Rattle.fileset_model.specs.State.{AreValid, FilesetMap, HasWholePages, IsValidFileset}
-use Rattle.fileset_model.specs.Usage.{quota_refusal}
+use Rattle.fileset_model.specs.Usage.{quota_refusal, with_limits}
 use Rattle.fileset_model.specs.Apply.{Answers, AnswersIfMemory, Changes, IsUnused, MakesNode, answer_of, create_checks, filesets_full, flagged_node, has_clone, in_fileset, is_clone, is_clone_of, move_checks, moved, name_taken, not_empty, path_taken, read_only, refusal_of, rename_checks, replace_checks, truncated_node, with_change, with_node, with_tree, without, write_quota, written_node}
 use Rattle.fileset_model.specs.declared.command.Command.{Command}
 use Rattle.fileset_model.specs.declared.command.Command.TheVariants.{Mkfset, Rmfset, Clonefset, Showfsets, Setquota, Showquota, Create, Mkdir, Write, Read, Truncate, Rename, Unlink, Rmdir, List as ListNames, Stat, Fsync, Chfile, Sync, Cancel}
@@ -177,8 +177,8 @@ changes-valid old new (Rmfset fileset) v none change =
     subst AreValid (sym change) (remove-valid old fileset v (passed_test (has_clone old fileset) HasClone (passed (refuse_if (has_clone old fileset) HasClone) [] at.2).0))
 changes-valid old new (Clonefset fileset new_name) v none change = clones-valid old new fileset new_name v none change
 changes-valid old new (Setquota fileset who files blocks) v none change =
-    tree_changes-valid old new fileset (λ slot. []) (λ tree. record tree { limits = map.insert tree.limits who (record { files = files; blocks = blocks }) }) v none
-    (λ slot at tree passes. with_limits-valid slot.tree (map.insert slot.tree.limits who (record { files = files; blocks = blocks })) tree) change
+    tree_changes-valid old new fileset (λ slot. []) (λ tree. record tree { limits = with_limits tree.limits who (record { files = files; blocks = blocks }) }) v none
+    (λ slot at tree passes. with_limits-valid slot.tree who (record { files = files; blocks = blocks }) tree) change
 changes-valid old new (Create place uid gid) v none change =
     makes-valid old new place uid gid (File uid gid 0 false map.empty) v none (λ q page is. absurd (some≢none page (sym is ∙ map.get-empty _ q))) change
 changes-valid old new (Mkdir place uid gid) v none change = makes-valid old new place uid gid (Directory uid gid) v none tt change

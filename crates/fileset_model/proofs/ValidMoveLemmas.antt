@@ -201,4 +201,5 @@ module _ (tree : Fileset) (from to : Path) (v : IsValidFileset tree) (no_root : 
     led_to = λ q k at_q. let old = came q k at_q in v.led_to old.0 k old.2;
     named = λ k n is. let old = v.named k n is in (moved_path from to old.0, went old.0 k old.1);
     whole = v.whole;
+    limited = v.limited;
   }

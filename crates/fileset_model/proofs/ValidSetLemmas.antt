@@ -14,7 +14,7 @@ use Rattle.fileset_model.specs.declared.fileset.NumberSet.{NumberSet}
 use Rattle.fileset_model.specs.declared.fileset.Role.TheVariants.{Original, CloneOf}
 use Rattle.fileset_model.proofs.MapLemmas.{got-insert, got-remove, get-insert_other, get-remove_other}
 use Rattle.fileset_model.proofs.ValidLemmas.{from_some_and, some_inj, to_some_and}
-use Rattle.fileset_model.proofs.ValidTreeLemmas.{empty_fileset-valid, some≢none, with_limits-valid}
+use Rattle.fileset_model.proofs.ValidTreeLemmas.{empty_fileset-valid, some≢none, without_limits-valid}
 use Rattle.fileset_model.proofs.WholeLemmas.{any_value, cloned}
 
 -- ---- none
@@ -109,7 +109,7 @@ pub clone-joins : (all : FilesetMap) (name : Name) (slot : FilesetSlot) → AreV
 clone-joins all name slot v is original none =
     let of : (of : Name) (out : NumberSet) → (cloned name slot).role ≡ CloneOf of out → name ≡ of = λ of out role. some_inj (ap original_of role) in
     record {
-      tree = with_limits-valid slot.tree map.empty (v.each name slot is);
+      tree = without_limits-valid slot.tree (v.each name slot is);
       of_original = λ other out role. subst (λ n. IsSomeAnd (map.get all n) (λ (x : FilesetSlot). x.role ≡ Original)) (of other out role)
           (to_some_and (λ (x : FilesetSlot). x.role ≡ Original) (map.get all name) slot is original);
       marks = λ other out role number marked.

@@ -1,20 +1,23 @@
 -- What is so of each fileset stays so under a change of its tree.
-use Rattle.std.proofs.Common.{◌≡◌, ◌≢◌, ℕ, cond, is_some, [], ◌∷◌, ◌++◌, IsTrue, IsSome, IsSomeAnd, Option, Some, None, refl, sym, ap, subst, ◌∙◌, inl, inr, true≢false, append_assoc, append-nil}
+use Rattle.std.proofs.Common.{◌≡◌, ◌≢◌, ℕ, Bool, true, false, cond, if◌then◌else◌, is_some, [], ◌∷◌, ◌++◌, IsTrue, IsSome, IsSomeAnd, Option, Some, None, refl, sym, ap, subst, ◌∙◌, inl, inr, true≢false, append_assoc, append-nil}
 use Rattle.std.proofs.lemmas.Option.{none-some}
 use Rattle.std.specs.Option.{option_map_or, option_and_then}
 use Rattle.std.specs.Ordering.{is_eq}
 use Rattle.std.specs.declared.cmp.Ordering.{Ordering}
 use Rattle.std.specs.Cmp.{IsTotalOrder, nat_cmp_total, tied_itself}
 use Rattle.std.specs.FinMap as map
-use Rattle.fileset_model.specs.Orders.{Name, Path, owner_cmp, path_cmp-total, path_cmp-IsAntisymmetric}
+use Rattle.fileset_model.specs.Orders.{Name, Path, owner_cmp, owner_cmp-total, path_cmp-total, path_cmp-IsAntisymmetric}
 use Rattle.fileset_model.specs.Fileset.{Fileset}
 use Rattle.fileset_model.specs.Paths.{is_directory, node_at}
 use Rattle.fileset_model.specs.State.{HasWholePages, IsDirectoryAt, IsValidFileset}
+use Rattle.fileset_model.specs.Usage.{is_unlimited, with_limits}
 use Rattle.fileset_model.specs.Apply.{empty_fileset, with_change, with_node, without}
+use Rattle.fileset_model.specs.declared.command.Owner.{Owner}
 use Rattle.fileset_model.specs.declared.fileset.Limits.{Limits}
 use Rattle.fileset_model.specs.declared.node.Node.{Node}
 use Rattle.fileset_model.specs.declared.node.Node.TheVariants.{Directory}
 use Rattle.fileset_model.proofs.MapLemmas.{got-insert, got-remove, get-insert_same, get-insert_other, get-remove_other}
+use Rattle.fileset_model.proofs.OwnerLemmas.{owner_cmp-IsAntisymmetric}
 use Rattle.fileset_model.proofs.ValidLemmas.{some_inj}
 
 -- ---- a directory at a path, with its number
@@ -103,6 +106,7 @@ module _ (tree : Fileset) (path : Path) (number : ℕ) (node : Node) (v : IsVali
           | inl here ↦ subst HasWholePages (sym (some_inj here.1)) pages
           | inr other ↦ v.whole k n other.1
         ];
+        limited = v.limited;
       }
 
 -- ---- another file or directory in the place of one of its kind
@@ -140,6 +144,7 @@ module _ (tree : Fileset) (number : ℕ) (node changed : Node) (v : IsValidFiles
       | inl here ↦ subst HasWholePages (sym (some_inj here.1)) pages
       | inr other ↦ v.whole k n other.1
     ];
+    limited = v.limited;
   }
 
 pub with_change-valid : (tree : Fileset) (path : Path) (change : Node → Node) → IsValidFileset tree → ((node : Node) → is_directory (change node) ≡ is_directory node)
@@ -203,6 +208,7 @@ module _ (tree : Fileset) (path : Path) (number : ℕ) (v : IsValidFileset tree)
         let at = v.named k n before.1 in
         (at.0, get-remove_other path_cmp-total path_cmp-IsAntisymmetric tree.paths path at.0 (λ e. before.0 (some_inj (sym at.1 ∙ ap (map.get tree.paths) e ∙ leads))) ∙ at.1);
     whole = λ k n at_k. v.whole k n (was_node k n at_k).1;
+    limited = v.limited;
   }
 
 pub without-valid : (tree : Fileset) (path : Path) → IsValidFileset tree → path ≢ [] → ((name : Name) → map.get tree.paths (path ++ name ∷ []) ≡ None) → IsValidFileset (without path tree)
@@ -241,8 +247,24 @@ nothing_below tree path (name ∷ rest) v none =
 
 -- ---- other limits, and an empty fileset
 
-pub with_limits-valid : (tree : Fileset) (limits : map.FinMap owner_cmp Limits) → IsValidFileset tree → IsValidFileset (record tree { limits = limits })
-with_limits-valid tree limits v = record { root = v.root; parents = v.parents; one_path = v.one_path; led_to = v.led_to; named = v.named; whole = v.whole }
+limits_valid : (tree : Fileset) (limits : map.FinMap owner_cmp Limits) → IsValidFileset tree
+    → ((who : Owner) (l : Limits) → map.get limits who ≡ Some l → is_unlimited l ≡ false) → IsValidFileset (record tree { limits = limits })
+limits_valid tree limits v limited =
+    record { root = v.root; parents = v.parents; one_path = v.one_path; led_to = v.led_to; named = v.named; whole = v.whole; limited = limited }
+
+pub without_limits-valid : (tree : Fileset) → IsValidFileset tree → IsValidFileset (record tree { limits = map.empty })
+without_limits-valid tree v = limits_valid tree map.empty v (λ who l at. absurd (some≢none l (sym at ∙ map.get-empty _ who)))
+
+pub with_limits-valid : (tree : Fileset) (who : Owner) (limits : Limits) → IsValidFileset tree → IsValidFileset (record tree { limits = with_limits tree.limits who limits })
+with_limits-valid tree who limits v =
+    elim (is_unlimited limits) as (λ b. is_unlimited limits ≡ b → IsValidFileset (record tree { limits = if b then map.remove tree.limits who else map.insert tree.limits who limits })) [
+      | true ↦ λ is. limits_valid tree (map.remove tree.limits who) v (λ other l at. v.limited other l (got-remove owner_cmp-total owner_cmp-IsAntisymmetric tree.limits who other l at).1)
+      | false ↦ λ is. limits_valid tree (map.insert tree.limits who limits) v (λ other l at.
+          elim (got-insert owner_cmp-total owner_cmp-IsAntisymmetric tree.limits who limits other _ at) as (λ _. is_unlimited l ≡ false) [
+            | inl here ↦ ap is_unlimited (some_inj here.1) ∙ is
+            | inr old ↦ v.limited other l old.1
+          ])
+    ] refl
 
 -- the only entry of a map that has one
 only : {K X : Type 0} {R : K → K → Ordering} → IsTotalOrder R → map.IsAntisymmetric R → (k q : K) (v w : X) → map.get (map.insert (map.empty {X = X} {R = R}) k v) q ≡ Some w → (q ≡ k) × (w ≡ v)
@@ -270,4 +292,5 @@ empty_fileset-valid root =
       led_to = λ q k at_q. ap is_some (ap (map.get tree.nodes) (only o a [] q root k at_q).1 ∙ at_root);
       named = λ k n at_k. let here = only nat_cmp_total map.nat_cmp-IsAntisymmetric root k node n at_k in ([], get-insert_same o a map.empty [] root ∙ ap Some (sym here.0));
       whole = λ k n at_k. subst HasWholePages (sym (only nat_cmp_total map.nat_cmp-IsAntisymmetric root k node n at_k).1) tt;
+      limited = λ who limits at. absurd (some≢none limits (sym at ∙ map.get-empty _ who));
     }

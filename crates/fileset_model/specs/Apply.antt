@@ -8,7 +8,7 @@ use Rattle.fileset_model.specs.Orders.{Name, Path}
 use Rattle.fileset_model.specs.Fileset.{Fileset}
 use Rattle.fileset_model.specs.Pages.{absent_pages, bytes_between, written, truncated}
 use Rattle.fileset_model.specs.Paths.{same_name, same_path, first_refusal, refuse_if, node_at, is_directory, is_marked, walk_refusal, target_refusal, directory_here, file_here, begins_with, rows_of}
-use Rattle.fileset_model.specs.Usage.{limits_of, quota_refusal, used_blocks, used_files}
+use Rattle.fileset_model.specs.Usage.{limits_of, quota_refusal, used_blocks, used_files, with_limits}
 use Rattle.fileset_model.specs.State.{FilesetMap, State}
 use Rattle.fileset_model.specs.declared.command.Command.{Command}
 use Rattle.fileset_model.specs.declared.command.Command.TheVariants.{Mkfset, Rmfset, Clonefset, Showfsets, Setquota, Showquota, Create, Mkdir, Write, Read, Truncate, Rename, Unlink, Rmdir, List as ListNames, Stat, Fsync, Chfile, Sync, Cancel}
@@ -244,7 +244,7 @@ Changes all (Mkfset fileset) new = (root : ℕ) × (new ≡ map.insert all files
 Changes all (Rmfset fileset) new = new ≡ map.remove all fileset
 Changes all (Clonefset fileset new_name) new = new ≡ with_clone all fileset new_name
 Changes all (Setquota fileset who files blocks) new =
-    new ≡ with_tree all fileset (λ tree. record tree { limits = map.insert tree.limits who (record { files = files; blocks = blocks }) })
+    new ≡ with_tree all fileset (λ tree. record tree { limits = with_limits tree.limits who (record { files = files; blocks = blocks }) })
 Changes all (Create place uid gid) new = MakesNode all place (File uid gid 0 false map.empty) new
 Changes all (Mkdir place uid gid) new = MakesNode all place (Directory uid gid) new
 Changes all (Write place offset bytes) new = new ≡ with_tree all place.fileset (with_change place.path (written_node offset bytes))

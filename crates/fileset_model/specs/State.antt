@@ -1,11 +1,14 @@
 -- The filesets of a domain and the volumes below them.
-use Rattle.std.specs.Prelude.{◌≡◌, ℕ, ◌<◌, ◌≤◌, Bool, true, List, [], ◌∷◌, ◌++◌, length, min, IsTrue, IsSome, IsSomeAnd, Some}
+use Rattle.std.specs.Prelude.{◌≡◌, ℕ, ◌<◌, ◌≤◌, Bool, true, false, List, [], ◌∷◌, ◌++◌, length, min, IsTrue, IsSome, IsSomeAnd, Some}
 use Rattle.std.specs.Ordering.{nat_cmp}
 use Rattle.std.specs.FinMap as map
 use Rattle.domain_base.specs.declared.limits.TheConstants.{FILE_PAGES, PAGE_BYTES, MAX_FILESETS, MAX_VOLUME_PAGES}
 use Rattle.fileset_model.specs.Orders.{Name, Path, name_cmp}
 use Rattle.fileset_model.specs.Fileset.{Fileset}
 use Rattle.fileset_model.specs.Paths.{node_at, is_directory}
+use Rattle.fileset_model.specs.Usage.{is_unlimited}
+use Rattle.fileset_model.specs.declared.command.Owner.{Owner}
+use Rattle.fileset_model.specs.declared.fileset.Limits.{Limits}
 use Rattle.fileset_model.specs.declared.node.Node.{Node}
 use Rattle.fileset_model.specs.declared.node.Node.TheVariants.{File, Directory}
 use Rattle.fileset_model.specs.declared.fileset.FilesetSlot.{FilesetSlot}
@@ -56,6 +59,7 @@ pub record IsValidFileset (tree : Fileset) : Type 0 where
   pub led_to : (path : Path) (number : ℕ) → map.get tree.paths path ≡ Some number → IsSome (map.get tree.nodes number)
   pub named : (number : ℕ) (node : Node) → map.get tree.nodes number ≡ Some node → (path : Path) × (map.get tree.paths path ≡ Some number)
   pub whole : (number : ℕ) (node : Node) → map.get tree.nodes number ≡ Some node → HasWholePages node
+  pub limited : (who : Owner) (limits : Limits) → map.get tree.limits who ≡ Some limits → is_unlimited limits ≡ false
 
 -- what is so of all filesets: there are at most 16, each is as a fileset has to be, a clone's original is an original with no other clone, and what is out of sync is the clone's
 pub record AreValid (all : FilesetMap) : Type 0 where

@@ -1,8 +1,9 @@
 -- What an owner uses of a fileset, as sums over its files and directories as they are now.
-use Rattle.std.specs.Prelude.{ℕ, ◌+◌, ◌*◌, ◌==◌, Bool, true, false, not, ◌&&◌, nat_lt, List, [], ◌∷◌, length, filter, sum_by, unwrap_or, Option}
+use Rattle.std.specs.Prelude.{ℕ, ◌+◌, ◌*◌, ◌==◌, Bool, true, false, not, ◌&&◌, nat_lt, List, [], ◌∷◌, length, filter, sum_by, unwrap_or, Option, if◌then◌else◌}
 use Rattle.std.specs.Option.{option_map_or}
 use Rattle.std.specs.FinMap as map
 use Rattle.domain_base.specs.declared.limits.TheConstants.{BLOCKS_PER_PAGE}
+use Rattle.fileset_model.specs.Orders.{owner_cmp}
 use Rattle.fileset_model.specs.Fileset.{Fileset}
 use Rattle.fileset_model.specs.Paths.{refuse_if, first_refusal}
 use Rattle.fileset_model.specs.declared.command.Owner.{Owner}
@@ -45,6 +46,14 @@ used_blocks tree who = sum_by (λ e. blocks_of e.1) (owned tree who)
 -- an owner's limits, of which 0 is none
 abbrev pub limits_of : Fileset → Owner → Limits
 limits_of tree who = unwrap_or (map.get tree.limits who) (record { files = 0; blocks = 0 })
+
+-- limits that bind nothing
+abbrev pub is_unlimited : Limits → Bool
+is_unlimited limits = limits.files == 0 && limits.blocks == 0
+
+-- the limits of owners with these of one of them, who has no entry where they bind nothing
+abbrev pub with_limits : map.FinMap owner_cmp Limits → Owner → Limits → map.FinMap owner_cmp Limits
+with_limits all who limits = if is_unlimited limits then map.remove all who else map.insert all who limits
 
 -- whether so many more would pass a limit
 abbrev pub passes : ℕ → ℕ → ℕ → Bool

@@ -3,6 +3,7 @@
 ghost use Rattle.std.specs.Prelude.{◌≡◌, None as NoRefusal, IfOk, OnOk, OnErr, map as map_each, option_copied};
 ghost use Rattle.std.specs.FinMap as map;
 ghost use Rattle.fileset_model.specs.Apply.{Answers, has_clone, is_clone_of, original_of, refusal_of, with_clone, with_tree};
+ghost use Rattle.fileset_model.specs.Usage.{is_unlimited, with_limits};
 ghost use Rattle.fileset_model.specs.declared.command.Command.TheVariants.{Clonefset, Rmfset, Setquota, Showfsets, Showquota};
 ghost use Rattle.fileset_model.specs.declared.fileset.FilesetSlot.{FilesetSlot as SlotOf};
 ghost use Rattle.fileset_model.specs.declared.fileset.Role.TheVariants.{CloneOf as CloneRole};
@@ -131,6 +132,15 @@ pub(crate) fn showquota(
     })
 }
 
+impl Limits {
+    /// Whether they bind nothing.
+    fn is_unlimited(&self) -> bool
+        ensures { result ≡ is_unlimited self.now }
+    {
+        self.files == 0 && self.blocks == 0
+    }
+}
+
 impl Role {
     /// Whether it is that of a clone of the fileset with this name.
     fn is_clone_of(&self, name: &FilesetName) -> bool
@@ -198,7 +208,7 @@ impl Filesets {
     /// Sets an owner's limits in a fileset; where there is no such fileset, nothing changes. After
     /// an error the filesets are as before.
     fn limit(&mut self, name: &FilesetName, who: Owner, limits: Limits) -> Result<(), OutOfMemory>
-        ensures ok { OnOk result (self.new ≡ with_tree self.old name.now (λ tree. record tree { limits = map.insert tree.limits who limits })) }
+        ensures ok { OnOk result (self.new ≡ with_tree self.old name.now (λ tree. record tree { limits = with_limits tree.limits who limits })) }
         ensures err { OnErr result (self.new ≡ self.old) }
     {
         let Ok(at) = place_of(&self.slots, name) else {
@@ -225,11 +235,16 @@ impl Filesets {
 }
 
 impl FilesetTree {
-    /// Sets an owner's limits. After an error the tree is as before.
+    /// Sets an owner's limits; an owner whose limits bind nothing has no entry. After an error the
+    /// tree is as before.
     fn limit(&mut self, who: Owner, limits: Limits) -> Result<(), OutOfMemory>
-        ensures ok { OnOk result (self.new ≡ record self.old { limits = map.insert self.old.limits who limits }) }
+        ensures ok { OnOk result (self.new ≡ record self.old { limits = with_limits self.old.limits who limits }) }
         ensures err { OnErr result (self.new ≡ self.old) }
     {
+        if limits.is_unlimited() {
+            remove_key(&mut self.limits, &who);
+            return Ok(());
+        }
         put(&mut self.limits, who, limits)?;
         Ok(())
     }

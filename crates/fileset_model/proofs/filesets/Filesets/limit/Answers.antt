@@ -1,11 +1,12 @@
 use Rattle.std.proofs.Common.{◌≡◌, List, None, ap, subst, sym, ◌∙◌}
-use Rattle.std.specs.FinMap.{get, insert}
+use Rattle.std.specs.FinMap.{get}
 use Rattle.std.specs.FinMap.Entries.{find}
 use Rattle.fileset_model.specs.Entries.{IsPlaceOf}
 use Rattle.fileset_model.specs.Orders.{Name, name_cmp, name_cmp-total}
 use Rattle.fileset_model.specs.Fileset.{Fileset}
 use Rattle.fileset_model.specs.State.{FilesetMap}
 use Rattle.fileset_model.specs.Apply.{with_tree}
+use Rattle.fileset_model.specs.Usage.{with_limits}
 use Rattle.fileset_model.specs.declared.command.Owner.{Owner}
 use Rattle.fileset_model.specs.declared.fileset.FilesetSlot.{FilesetSlot}
 use Rattle.fileset_model.specs.declared.fileset.Limits.{Limits}
@@ -14,7 +15,7 @@ use Rattle.fileset_model.proofs.SlotLemmas.{tree_at_place, with_tree-missing}
 use Rattle.fileset_model.proofs.filesets.Filesets.limit.Goals as goal
 
 abbrev limited : Owner → Limits → Fileset → Fileset
-limited who limits tree = record tree { limits = insert tree.limits who limits }
+limited who limits tree = record tree { limits = with_limits tree.limits who limits }
 
 pub returns-in_default-clause-ok : goal.returns-in_default-clause-ok
 returns-in_default-clause-ok c =
