@@ -5,13 +5,13 @@ use crate::command::{Command, Place};
 use crate::entries::put;
 use crate::fileset::{FilesetSlot, FilesetTree, NumberSet, Role};
 use crate::filesets::Filesets;
-use crate::names::{Bytes, FilesetName, Name, Path};
+use crate::names::{FilesetName, Name, Path};
 use crate::node::Node;
 use crate::page_map::PageMap;
 use crate::reply::{Refusal, Reply};
 use domain_base::OutOfMemory;
 use std::alloc::Global;
-use std::test::Fail;
+use std::process::Abort;
 
 /// What is asked of a place.
 #[derive(Clone, Copy, Debug)]
@@ -103,23 +103,40 @@ fn marks(alloc: Global) -> Result<NumberSet, OutOfMemory> {
     Ok(NumberSet { numbers })
 }
 
-/// The fileset `home` and its clone `bak`, of which `/d` and `/f` are marked.
-fn home_and_clone(alloc: Global) -> Result<Filesets, OutOfMemory> {
-    let mut slots = Vec::new(alloc);
-    let original = FilesetSlot {
+fn original(alloc: Global) -> Result<FilesetSlot, OutOfMemory> {
+    Ok(FilesetSlot {
         tree: tree(alloc)?,
         role: Role::Original,
+    })
+}
+
+/// A clone of `home`, of which `/d` and `/f` are marked.
+fn marked_clone(alloc: Global) -> Result<FilesetSlot, OutOfMemory> {
+    let role = Role::CloneOf {
+        original: name(alloc, b"home")?,
+        out: marks(alloc)?,
     };
-    put(&mut slots, name(alloc, b"home")?, original)?;
-    let clone = FilesetSlot {
+    Ok(FilesetSlot {
         tree: tree(alloc)?,
-        role: Role::CloneOf {
-            original: name(alloc, b"home")?,
-            out: marks(alloc)?,
-        },
-    };
-    put(&mut slots, name(alloc, b"bak")?, clone)?;
-    Ok(Filesets { slots })
+        role,
+    })
+}
+
+fn add(
+    alloc: Global,
+    filesets: &mut Filesets,
+    text: &[u8],
+    slot: FilesetSlot,
+) -> Result<(), OutOfMemory> {
+    put(&mut filesets.slots, name(alloc, text)?, slot)
+}
+
+/// The fileset `home` and its clone `bak`.
+fn home_and_clone(alloc: Global) -> Result<Filesets, OutOfMemory> {
+    let mut filesets = Filesets::new(alloc);
+    add(alloc, &mut filesets, b"home", original(alloc)?)?;
+    add(alloc, &mut filesets, b"bak", marked_clone(alloc)?)?;
+    Ok(filesets)
 }
 
 fn command(ask: Ask, place: Place) -> Command {
@@ -161,48 +178,82 @@ fn refused(reply: &Reply) -> Option<Refusal> {
     }
 }
 
-#[test]
-fn what_is_marked_in_a_clone_is_not_shown(rt: HostRuntime) -> Result<(), Fail> {
-    let mut filesets = home_and_clone(rt.alloc())?;
-    for (ask, letters, want) in IN_THE_CLONE.iter() {
-        let reply = reply(rt.alloc(), &mut filesets, b"bak", *ask, letters)?;
-        assert_eq!(rt; refused(&reply), *want, "{ask:?} of {letters:?}");
+/// Asks for these in a fileset, and asserts what is refused.
+fn refuses<R: Abort + AllocGlobal>(
+    rt: &R,
+    filesets: &mut Filesets,
+    fileset: &[u8],
+    rows: &[(Ask, &[u8], Option<Refusal>)],
+) {
+    for (ask, letters, want) in rows {
+        let reply = reply(rt.alloc(), filesets, fileset, *ask, letters).expect(
+            rt,
+            "memory is ample",
+        );
+        let same = refused(&reply) == *want;
+        assert!(rt; same, "{ask:?} of {letters:?} gives {reply:?}");
     }
-    let unmarked = reply(rt.alloc(), &mut filesets, b"bak", Ask::Read, b"g")?;
-    let zeros = Bytes::from_vec(Vec::from_slice(rt.alloc(), &[0, 0])?);
-    assert!(rt;
-        matches!(&unmarked, Reply::Read(bytes) if *bytes == zeros),
-        "{unmarked:?}"
+}
+
+fn is_read(reply: &Reply, want: &[u8]) -> bool {
+    match reply {
+        Reply::Read(bytes) => bytes.as_slice() == want,
+        _ => false,
+    }
+}
+
+/// Reads a file of the clone and asserts its bytes.
+fn reads<R: Abort + AllocGlobal>(rt: &R, filesets: &mut Filesets, letters: &[u8], want: &[u8]) {
+    let reply = reply(rt.alloc(), filesets, b"bak", Ask::Read, letters).expect(
+        rt,
+        "memory is ample",
     );
-    Ok(())
+    let same = is_read(&reply, want);
+    assert!(rt; same, "{letters:?} is {reply:?}");
 }
 
-#[test]
-fn an_original_is_never_out_of_sync(rt: HostRuntime) -> Result<(), Fail> {
-    let mut filesets = home_and_clone(rt.alloc())?;
-    for (ask, letters, want) in WITHOUT_MARKS.iter() {
-        let reply = reply(rt.alloc(), &mut filesets, b"home", *ask, letters)?;
-        assert_eq!(rt; refused(&reply), *want, "{ask:?} of {letters:?}");
-    }
-    Ok(())
-}
-
-#[test]
-fn a_clone_that_is_removed_takes_its_marks_with_it(rt: HostRuntime) -> Result<(), Fail> {
-    let alloc = rt.alloc();
-    let mut filesets = home_and_clone(alloc)?;
-    let remove = Command::Rmfset {
+fn rmfset(alloc: Global) -> Result<Command, OutOfMemory> {
+    Ok(Command::Rmfset {
         fileset: name(alloc, b"bak")?,
-    };
-    let clone = Command::Clonefset {
+    })
+}
+
+fn clonefset(alloc: Global) -> Result<Command, OutOfMemory> {
+    Ok(Command::Clonefset {
         fileset: name(alloc, b"home")?,
         new_name: name(alloc, b"bak")?,
-    };
-    assert_eq!(rt; refused(&apply(alloc, &mut filesets, &remove)), None);
-    assert_eq!(rt; refused(&apply(alloc, &mut filesets, &clone)), None);
-    for (ask, letters, want) in WITHOUT_MARKS.iter() {
-        let reply = reply(alloc, &mut filesets, b"bak", *ask, letters)?;
-        assert_eq!(rt; refused(&reply), *want, "{ask:?} of {letters:?}");
-    }
-    Ok(())
+    })
+}
+
+/// Gives a command and asserts that it is done.
+fn is_done<R: Abort + AllocGlobal>(
+    rt: &R,
+    filesets: &mut Filesets,
+    command: Result<Command, OutOfMemory>,
+) {
+    let command = command.expect(rt, "memory is ample");
+    let reply = apply(rt.alloc(), filesets, &command);
+    let same = matches!(&reply, Reply::Done);
+    assert!(rt; same, "{command:?} gives {reply:?}");
+}
+
+#[test]
+fn what_is_marked_in_a_clone_is_not_shown(rt: HostRuntime) {
+    let mut filesets = home_and_clone(rt.alloc()).expect(&rt, "memory is ample");
+    refuses(&rt, &mut filesets, b"bak", &IN_THE_CLONE);
+    reads(&rt, &mut filesets, b"g", b"\0\0");
+}
+
+#[test]
+fn an_original_is_never_out_of_sync(rt: HostRuntime) {
+    let mut filesets = home_and_clone(rt.alloc()).expect(&rt, "memory is ample");
+    refuses(&rt, &mut filesets, b"home", &WITHOUT_MARKS);
+}
+
+#[test]
+fn a_clone_that_is_removed_takes_its_marks_with_it(rt: HostRuntime) {
+    let mut filesets = home_and_clone(rt.alloc()).expect(&rt, "memory is ample");
+    is_done(&rt, &mut filesets, rmfset(rt.alloc()));
+    is_done(&rt, &mut filesets, clonefset(rt.alloc()));
+    refuses(&rt, &mut filesets, b"bak", &WITHOUT_MARKS);
 }
