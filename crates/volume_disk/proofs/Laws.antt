@@ -294,6 +294,7 @@ module _ {T E : Type 0} (old new : Disk) (vol at : ℕ) (bytes : List ℕ) (resu
     write_faults = λ v. by_result result done failed
         (λ d. subst (λ (faults : ℕ → ℕ). old.write_faults v ≤ faults v) (sym d.makes.write_faults) (omega arith))
         (λ f. subst (λ (faults : ℕ → ℕ). old.write_faults v ≤ faults v) (sym f.makes.write_faults) (raised_at-later old.write_faults vol v));
+    contents = λ told. (write_tears old new vol at bytes result done failed told).contents;
     tears = λ told.
         let P = MayLeaveTorn vol at (length bytes) old.now in
         goes_on old old new P
@@ -313,6 +314,7 @@ only_writes-sync old mid new vol at n result done failed so_far tears = record {
   write_faults = λ v. let was = so_far.write_faults v in by_result result done failed
       (λ d. subst (λ (faults : ℕ → ℕ). old.write_faults v ≤ faults v) (sym d.makes.write_faults) was)
       (λ f. subst (λ (faults : ℕ → ℕ). old.write_faults v ≤ faults v) (sym f.write_faults) (let more = raised_at-later mid.write_faults vol v in omega arith));
+  contents = λ told v k out. ap (λ (image : Image). image v k) (sync_contents mid new vol result done failed (so_far.told ∙ told)) ∙ so_far.contents told v k out;
   tears = λ told.
       let mid_told : IsTrue mid.told = so_far.told ∙ told in
       goes_on old mid new (MayLeaveTorn vol at n old.now)
@@ -321,19 +323,13 @@ only_writes-sync old mid new vol at n result done failed so_far tears = record {
       (λ image left. torn_follows vol at n old.now mid.now image (tears told) (sync_leaves mid new vol result done failed mid_told image left));
 }
 
--- what is outside of the range holds what it did
-pub contents-write : {T E : Type 0} (old new : Disk) (vol at : ℕ) (bytes : List ℕ) (result : Result T E) → OnOk result (WriteDone old new vol at bytes) → OnErr result (WriteFailed old new vol at (length bytes)) → IsTrue old.told
-    → SameOutside vol at (length bytes) old.now.contents new.now.contents
-contents-write old new vol at bytes result done failed told = (write_tears old new vol at bytes result done failed told).contents
+-- a range lies in a wider one
+SameOutside-within : (vol at n w from m : ℕ) (old new : Image) → vol ≡ w → from ≤ at → at + n ≤ from + m → SameOutside vol at n old new → SameOutside w from m old new
+SameOutside-within vol at n w from m old new is low high same v k out = same v k (λ is_in. let a = is_in.1 in let b = is_in.2 in out (is_in.0 ∙ is, omega arith, omega arith))
 
-pub contents-sync : {T E : Type 0} (old mid new : Disk) (vol at n : ℕ) (result : Result T E) → OnOk result (SyncDone mid new vol) → OnErr result (SyncFailed mid new vol) → IsTrue mid.told
-    → SameOutside vol at n old.now.contents mid.now.contents → SameOutside vol at n old.now.contents new.now.contents
-contents-sync old mid new vol at n result done failed told same v k out = ap (λ (image : Image). image v k) (sync_contents mid new vol result done failed told) ∙ same v k out
-
--- a torn range lies in a wider one
 MayLeaveTorn-within : (vol at n w from m : ℕ) (moment : Moment) (image : Image) → vol ≡ w → from ≤ at → at + n ≤ from + m → MayLeaveTorn vol at n moment image → MayLeaveTorn w from m moment image
 MayLeaveTorn-within vol at n w from m moment image is low high torn =
-    (torn.0, torn.1, λ v k out. torn.2 v k (λ is_in. let a = is_in.1 in let b = is_in.2 in out (is_in.0 ∙ is, omega arith, omega arith)))
+    (torn.0, torn.1, SameOutside-within vol at n w from m torn.0 image is low high torn.2)
 
 -- what is torn twice in a range is torn in it
 MayLeaveTorn-again : (vol at n : ℕ) (old mid new : Disk) (image : Image) → LeavesOnly old mid (MayLeaveTorn vol at n old.now) → MayLeaveTorn vol at n mid.now image → MayLeaveTorn vol at n old.now image
@@ -348,6 +344,7 @@ only_writes-within old new vol at n w from m is low high writes = record {
   kept = writes.kept;
   read_faults = writes.read_faults;
   write_faults = writes.write_faults;
+  contents = λ told. SameOutside-within vol at n w from m old.now.contents new.now.contents is low high (writes.contents told);
   tears = λ told.
       weaker old new (MayLeaveTorn vol at n old.now) (MayLeaveTorn w from m old.now) (λ image. MayLeaveTorn-within vol at n w from m old.now image is low high) (writes.tears told);
 }
@@ -359,6 +356,7 @@ only_writes-then old mid new vol at n first second = record {
   kept = second.kept ∙ first.kept;
   read_faults = second.read_faults ∙ first.read_faults;
   write_faults = λ v. let a = first.write_faults v in let b = second.write_faults v in omega arith;
+  contents = λ told v k out. second.contents (first.told ∙ told) v k out ∙ first.contents told v k out;
   tears = λ told.
       let P = MayLeaveTorn vol at n old.now in
       let so_far = first.tears told in
@@ -377,14 +375,14 @@ only_changes-read old new vol at n reads = record {
   tears = λ told. only_reads-leaves old new (MayLeaveTorn vol at n old.now) told reads (MayLeaveTorn-now vol at n old.now);
 }
 
-pub only_changes-write : (old mid new : Disk) (vol at n : ℕ) → OnlyReads old mid → OnlyWrites mid new vol at n → (IsTrue mid.told → SameOutside vol at n mid.now.contents new.now.contents) → OnlyChanges old new vol at n
-only_changes-write old mid new vol at n reads writes same = record {
+pub only_changes-write : (old mid new : Disk) (vol at n : ℕ) → OnlyReads old mid → OnlyWrites mid new vol at n → OnlyChanges old new vol at n
+only_changes-write old mid new vol at n reads writes = record {
   sizes = writes.sizes ∙ reads.sizes;
   told = writes.told ∙ reads.told;
   kept = writes.kept ∙ reads.kept;
   read_faults = λ v. let a = reads.read_faults v in let e = ap (λ (faults : ℕ → ℕ). faults v) writes.read_faults in omega (arith, a, e);
   write_faults = λ v. let a = writes.write_faults v in let e = ap (λ (faults : ℕ → ℕ). faults v) reads.write_faults in omega (arith, a, e);
-  contents = λ told v k out. same (reads.told ∙ told) v k out ∙ ap (λ (m : Moment). m.contents v k) (reads.now told);
+  contents = λ told v k out. writes.contents (reads.told ∙ told) v k out ∙ ap (λ (m : Moment). m.contents v k) (reads.now told);
   tears = λ told.
       let P = MayLeaveTorn vol at n old.now in
       then_on old mid new P (only_reads-leaves old mid P told reads (MayLeaveTorn-now vol at n old.now))

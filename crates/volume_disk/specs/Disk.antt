@@ -181,6 +181,7 @@ pub record OnlyWrites (old new : Disk) (vol at n : ℕ) : Type 0 where
   pub kept : new.kept ≡ old.kept
   pub read_faults : new.read_faults ≡ old.read_faults
   pub write_faults : (v : ℕ) → old.write_faults v ≤ new.write_faults v
+  pub contents : IsTrue old.told → SameOutside vol at n old.now.contents new.now.contents
   pub tears : IsTrue old.told → LeavesOnly old new (MayLeaveTorn vol at n old.now)
 
 -- a run of calls that changed at most n bytes from `at` on, and may have read: the images of before may be torn there

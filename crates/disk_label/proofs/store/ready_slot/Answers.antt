@@ -2,7 +2,7 @@ use Rattle.std.proofs.Common.{◌≡◌, ℕ, ◌+◌, ◌*◌, ◌≤◌, false
 use Rattle.std.proofs.lemmas.List.{get_or-replicate, length-replicate}
 use Rattle.std.proofs.lemmas.Result.{on_ok_weaker}
 use Rattle.volume_disk.specs.Disk.{Disk, Moment, LeavesOnly, MayLeave, OnlyReads, OnlyWrites, Settles}
-use Rattle.volume_disk.specs.Image.{Image, SameOutside, bytes_at}
+use Rattle.volume_disk.specs.Image.{Image, bytes_at}
 use Rattle.volume_disk.proofs.Laws.{then_on, only_reads-leaves, only_writes-within, only_changes-read, only_changes-write, Settles-moved}
 use Rattle.disk_label.specs.Anchor.{HasAnchor, IsAnchor, IsReady, StandsIn}
 use Rattle.disk_label.proofs.Written.{Shut, gate_seen, ready_open, writing, zeros_ready}
@@ -97,7 +97,5 @@ returns-clause-changes g c =
     let vol = c.args.vol in
     let at = 512 * (16 + 8 * c.from.result + 1) in
     let behind = 8192 + 4096 * c.args.slot + 512 in
-    let at_is : at ≡ behind = omega (arith, c.from.ensures) in
     only_changes-write d0 d1 d2 vol behind 3584 c.read_block.ensures.reads
     (only_writes-within d1 d2 vol at 3584 vol behind 3584 (λ _. vol) (omega arith) (omega arith) c.write_synced.ensures.writes)
-    (λ told. subst (λ (k : ℕ). SameOutside vol k 3584 d1.now.contents d2.now.contents) at_is (c.write_synced.ensures.outside told))
