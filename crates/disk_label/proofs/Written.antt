@@ -1,12 +1,12 @@
 -- What a stop leaves while a slot is made ready and an anchor is written.
-use Rattle.std.proofs.Common.{◌≡◌, ◌==◌, ℕ, ◌+◌, ◌-◌, ◌*◌, ◌%◌, ◌<◌, ◌≤◌, List, ◌++◌, length, length-append, get_or, replicate, Option, Some, None, true, false, IsTrue, Result, Ok, Err, IfErr, refl, sym, ◌∙◌, ap, subst, inl, inr, arith}
-use Rattle.std.proofs.lemmas.Bool.{cases_eq, cases_lt, eq-eqb}
+use Rattle.std.proofs.Common.{◌≡◌, ℕ, ◌+◌, ◌-◌, ◌*◌, ◌%◌, ◌<◌, ◌≤◌, List, ◌++◌, length, length-append, get_or, replicate, Option, Some, None, false, IsTrue, Result, Ok, Err, IfErr, refl, sym, ◌∙◌, ap, subst, inl, inr, arith}
+use Rattle.std.proofs.lemmas.Bool.{cases_eq, cases_lt}
 use Rattle.std.proofs.lemmas.List.{get_or_append_left, get_or-append_right}
 use Rattle.volume_disk.specs.Disk.{Disk, Moment, MayLeave, MayLeaveTorn, LeavesOnly, OnlyWrites, Settles, pages_of}
 use Rattle.volume_disk.specs.Image.{Image, IsIn, SameOutside, bytes_at}
 use Rattle.volume_disk.proofs.Bytes.{get_or-bytes_from, bytes_from-same}
 use Rattle.volume_disk.proofs.Laws.{now_counts, weaker, then_on}
-use Rattle.disk_label.specs.Anchor.{volume_of, gate_of, anchor_at, Counts, IsAnchor, IsNext, IsOldOrNew, IsReady, HasBefore, StandsIn}
+use Rattle.disk_label.specs.Anchor.{volume_of, gate_of, anchor_at, Counts, IsGreatest, IsAnchor, IsNext, IsOldOrNew, IsReady, StandsIn}
 use Rattle.disk_label.specs.Body.{anchor_from, HasLogMember}
 use Rattle.disk_label.specs.Words.{body_bytes, slot_bytes}
 use Rattle.disk_label.proofs.Bodies.{anchor_from-same, slot_is-anchor_from, log_vol-zeros}
@@ -28,13 +28,16 @@ module _ (vol slot : ℕ) (low : 1 ≤ vol) (high : slot ≤ 1) where
   gate_open : (sizes : List ℕ) (image : Image) → Counts sizes image place → image vol gate ≡ 165
   gate_open sizes image counts = sym (gate_at vol slot low high image) ∙ counts.is_open
 
-  -- so has the domain's anchor, where it stands there
-  pub anchor_open : (sizes : List ℕ) (image : Image) (anchor : Anchor) → IsAnchor sizes image (Some anchor) → anchor.log_vol ≡ vol → anchor.slot ≡ slot → image vol gate ≡ 165
-  anchor_open sizes image anchor was names stands =
+  -- the domain's anchor stands there, where it names the slot
+  pub stands_at : (sizes : List ℕ) (image : Image) (anchor : Anchor) (was : IsGreatest 16 sizes image anchor) → anchor.log_vol ≡ vol → anchor.slot ≡ slot → was.place ≡ place
+  stands_at sizes image anchor was names stands =
       let volume : volume_of was.place ≡ vol = sym was.counts.names ∙ (λ i. (was.is i).log_vol) ∙ names in
       let in_slot : was.place % 2 ≡ slot = sym (slot_is-anchor_from (bytes_at image (volume_of was.place) (gate_of was.place + 512) 512) (was.place % 2)) ∙ (λ i. (was.is i).slot) ∙ stands in
-      let is : was.place ≡ place = omega (arith, volume, in_slot) in
-      gate_open sizes image (subst (Counts sizes image) is was.counts)
+      omega (arith, volume, in_slot)
+
+  -- and has its gate open
+  pub anchor_open : (sizes : List ℕ) (image : Image) (anchor : Anchor) → IsAnchor sizes image (Some anchor) → anchor.log_vol ≡ vol → anchor.slot ≡ slot → image vol gate ≡ 165
+  anchor_open sizes image anchor was names stands = gate_open sizes image (subst (Counts sizes image) (stands_at sizes image anchor was names stands) was.counts)
 
   module _ (at n : ℕ) (from : gate ≤ at) (to : at + n ≤ gate + 4096) (b image : Image) (same : SameOutside vol at n b image) where
     -- no other slot is touched
@@ -256,37 +259,6 @@ module _ (vol slot : ℕ) (low : 1 ≤ vol) (high : slot ≤ 1) (old : Option An
       let only = writes.tears told in
       let start : the_gate ≡ the_gate + 0 = omega arith in
       torn_open image (only.each image (now_counts d3 d2.calls image only.later left)) (ap (image vol) start ∙ settled_byte vol the_gate bytes d2.now d3.now image settles left 0 some ∙ first)
-
--- The anchor of before, which stands in the other slot, is older now: that slot is ready.
-pub next_ready : (vol slot other : ℕ) → 1 ≤ vol → slot + other ≡ 1 → (old new : Anchor) (d0 d3 : Disk) → IsTrue d0.told → IsReady d0 (Some old) vol slot → old.log_vol ≡ vol → old.slot ≡ other → new.slot ≡ slot
-    → OnlyWrites d0 d3 vol (8192 + 4096 * slot) 4096 → ((image : Image) → MayLeave d3.now image → IsAnchor d0.sizes image (Some new)) → IsReady d3 (Some new) vol other
-next_ready vol slot other low both old new d0 d3 told ready names stands is writes done = λ image torn.
-    let only = writes.tears told in
-    let was = only.each torn.0 (now_counts d3 d0.calls torn.0 only.later torn.1) in
-    let before : was.0 vol (8192 + 4096 * other) ≡ 165 = anchor_open vol other low (omega arith) d0.sizes was.0 old (ready was.0 (was.0, was.1, λ v k out. refl)) names stands in
-    let is_open : torn.0 vol (8192 + 4096 * other) ≡ 165 = was.2 vol (8192 + 4096 * other) (λ is_in. let a = is_in.1 in let b = is_in.2 in omega arith) ∙ before in
-    subst (λ (l : List ℕ). IsAnchor l image (Some new)) (sym writes.sizes)
-    (ready_open vol other low (omega arith) torn.0 image torn.2 d0.sizes (Some new) (λ here. let a = here.1 in omega arith) is_open (done torn.0 torn.1))
-
-slot_bound : (sizes : List ℕ) (image : Image) (anchor : Anchor) → IsAnchor sizes image (Some anchor) → anchor.slot ≤ 1
-slot_bound sizes image anchor was =
-    let is : was.place % 2 ≡ anchor.slot = sym (slot_is-anchor_from (bytes_at image (volume_of was.place) (gate_of was.place + 512) 512) (was.place % 2)) ∙ (λ i. (was.is i).slot) in
-    omega (arith, is)
-
-other_slot : (old new : Anchor) → IsNext (Some old) new → new.log_vol ≡ old.log_vol → new.slot ≡ 1 - old.slot
-other_slot old new next same = let test : (new.log_vol == old.log_vol) ≡ true = eq-eqb new.log_vol old.log_vol same in next.1 ∙ (rw test refl)
-
--- so the anchors of one volume go on
-pub chain_ready : (old new next : Anchor) (d0 d3 : Disk) → IsTrue d0.told → HasBefore d0 (Some old) new → old.log_vol ≡ new.log_vol → IsNext (Some old) new → 1 ≤ new.log_vol → IsNext (Some new) next → next.log_vol ≡ new.log_vol
-    → OnlyWrites d0 d3 new.log_vol (8192 + 4096 * new.slot) 4096 → ((image : Image) → MayLeave d3.now image → IsAnchor d0.sizes image (Some new)) → HasBefore d3 (Some new) next
-chain_ready old new next d0 d3 told before names is low is_next same writes done =
-    let contents = d0.now.contents in
-    let bound = slot_bound d0.sizes contents old (before contents (contents, (λ v k synced. refl), (λ v k out. refl))) in
-    let own = other_slot old new is (sym names) in
-    let slot : old.slot ≡ next.slot = let theirs = other_slot new next is_next same in omega (arith, own, theirs, bound) in
-    subst (λ (v : ℕ). IsReady d3 (Some new) v next.slot) (sym same)
-    (subst (λ (s : ℕ). IsReady d3 (Some new) new.log_vol s) slot
-    (next_ready new.log_vol new.slot old.slot low (omega (arith, own, bound)) old new d0 d3 told before names refl refl writes done))
 
 -- What the three writes make of the slot.
 pub Settles-slot : (vol gate : ℕ) (zeros body ones : List ℕ) (m0 m1 m2 m3 : Moment) → length zeros ≡ 512 → length body ≡ 3584 → length ones ≡ 512 → Settles vol gate zeros m0 m1 → Settles vol (gate + 512) body m1 m2 → Settles vol gate ones m2 m3

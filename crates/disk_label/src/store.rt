@@ -210,6 +210,10 @@ pub fn write_anchor<R: Rack>(rack: &mut R, anchor: &Anchor) -> Result<(), VolIx>
         → HasBefore (R.disk rack.old) (Some old) anchor.now → old.log_vol ≡ anchor.now.log_vol
         → IsNext (Some anchor.now) next → next.log_vol ≡ anchor.now.log_vol
         → HasBefore (R.disk rack.new) (Some anchor.now) next) }
+    // Each other slot that was ready stays so.
+    ensures others { OnOk result (IsTrue (R.disk rack.old).told → (old : Option Anchor) (vol slot : ℕ)
+        → HasBefore (R.disk rack.old) old anchor.now → IsReady (R.disk rack.old) old vol slot
+        → ¬ StandsIn (Some anchor.now) vol slot → IsReady (R.disk rack.new) (Some anchor.now) vol slot) }
     ensures writes { OnlyWrites (R.disk rack.old) (R.disk rack.new) anchor.now.log_vol (8192 + 4096 * anchor.now.slot) 4096 }
     ensures settled { OnOk result (IsTrue (R.disk rack.old).told
         → Settles anchor.now.log_vol (8192 + 4096 * anchor.now.slot) (slot_bytes anchor.now) (R.disk rack.old).now (R.disk rack.new).now) }

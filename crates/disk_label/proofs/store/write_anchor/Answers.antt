@@ -4,10 +4,11 @@ use Rattle.std.proofs.lemmas.Result.{on_ok_weaker}
 use Rattle.volume_disk.specs.Disk.{Disk, LeavesOnly, MayLeave, OnlyWrites, Settles, pages_of}
 use Rattle.volume_disk.specs.Image.{Image}
 use Rattle.volume_disk.proofs.Laws.{weaker, only_writes-within, only_writes-then, Settles-moved, HasRisen-before}
-use Rattle.disk_label.specs.Anchor.{HasBefore, IsAnchor, IsNext, IsOldOrNew, IsWhole}
+use Rattle.disk_label.specs.Anchor.{HasBefore, IsAnchor, IsNext, IsOldOrNew, IsReady, IsWhole, StandsIn}
 use Rattle.disk_label.specs.Body.{anchor_from}
+use Rattle.disk_label.proofs.Others.{others_ready, chain_ready}
 use Rattle.disk_label.proofs.Slots.{IsAnchorBelow-unique}
-use Rattle.disk_label.proofs.Written.{IsPrepared, closing, before_opening, prepared, opening, opened, chain_ready, Settles-slot, slot_bytes-body, if_err_weaker}
+use Rattle.disk_label.proofs.Written.{IsPrepared, closing, before_opening, prepared, opening, opened, Settles-slot, slot_bytes-body, if_err_weaker}
 use Rattle.disk_label.specs.declared.anchor.Anchor.{Anchor}
 use Rattle.disk_label.proofs.store.write_anchor.Goals as goal
 
@@ -44,6 +45,11 @@ module _ (new : Anchor) (vol block : ℕ) (names : vol ≡ new.log_vol) (is : bl
   body_in_slot : (old new_disk : Disk) (n : ℕ) → n ≡ 3584 → OnlyWrites old new_disk vol (512 * (block + 1)) n → OnlyWrites old new_disk new.log_vol gate 4096
   body_in_slot old new_disk n size = only_writes-within old new_disk vol (512 * (block + 1)) n new.log_vol gate 4096 names (omega arith) (omega arith)
 
+  -- all of them, in the slot
+  all_writes : (d0 d1 d2 d3 : Disk) (n : ℕ) → n ≡ 3584 → OnlyWrites d0 d1 vol (512 * block) 512 → OnlyWrites d1 d2 vol (512 * (block + 1)) n → OnlyWrites d2 d3 vol (512 * block) 512 → OnlyWrites d0 d3 new.log_vol gate 4096
+  all_writes d0 d1 d2 d3 n size first second third =
+      only_writes-then d0 d2 d3 new.log_vol gate 4096 (only_writes-then d0 d1 d2 new.log_vol gate 4096 (gate_in_slot d0 d1 first) (body_in_slot d1 d2 n size second)) (gate_in_slot d2 d3 third)
+
   module _ (whole : IsWhole new) (old : Option Anchor) (d0 d1 : Disk) (told : IsTrue d0.told) (before : HasBefore d0 old new) (first : OnlyWrites d0 d1 vol (512 * block) 512) where
     abbrev HasOld : Image → Type 0
     HasOld = λ image. IsAnchor d0.sizes image old
@@ -79,10 +85,15 @@ module _ (new : Anchor) (vol block : ℕ) (names : vol ≡ new.log_vol) (is : bl
         three_writes =
             opening new.log_vol new.slot whole.volume.0 whole.slot old new d0 d2 d3 (is_prepared reads writes_body) next whole.volume.1 refl whole.member pages told-2 (at_gate d2 d3 third)
 
-        all_done : Settles vol (512 * block) ones d2.now d3.now → (image : Image) → MayLeave d3.now image → IsAnchor d0.sizes image (Some new)
-        all_done opens =
-            opened new.log_vol new.slot whole.volume.0 whole.slot old new d0 d2 d3 (is_prepared reads writes_body) next whole.volume.1 refl whole.member pages told-2 (at_gate d2 d3 third)
-            ones (let size = block_size 165 in omega (arith, size)) refl (Settles-moved vol (512 * block) new.log_vol gate ones d2.now d3.now names (omega arith) opens)
+        module _ (opens : Settles vol (512 * block) ones d2.now d3.now) where
+          all_done : (image : Image) → MayLeave d3.now image → IsAnchor d0.sizes image (Some new)
+          all_done =
+              opened new.log_vol new.slot whole.volume.0 whole.slot old new d0 d2 d3 (is_prepared reads writes_body) next whole.volume.1 refl whole.member pages told-2 (at_gate d2 d3 third)
+              ones (let size = block_size 165 in omega (arith, size)) refl (Settles-moved vol (512 * block) new.log_vol gate ones d2.now d3.now names (omega arith) opens)
+
+          all_others : (other_vol other_slot : ℕ) → IsReady d0 old other_vol other_slot → (StandsIn (Some new) other_vol other_slot → ⊥) → IsReady d3 (Some new) other_vol other_slot
+          all_others other_vol other_slot ready other =
+              others_ready new whole other_vol other_slot other old d0 d3 told next pages ready (all_writes d0 d1 d2 d3 (length body) size first second third) all_done
 
 pub returns-in_err-write_synced-clause-any_moment : goal.returns-in_err-write_synced-clause-any_moment
 returns-in_err-write_synced-clause-any_moment g c = λ told old before.
@@ -129,20 +140,29 @@ returns-clause-next g c = on_ok_weaker c.write_synced-3.result (λ settled told 
     let volume = c.in-Some.ensures.value in
     let is : block ≡ 16 + 8 * new.slot = omega (arith, c.from.ensures) in
     let size : length c.encode.result ≡ 3584 = omega arith in
-    let gate = 8192 + 4096 * new.slot in
     let found = c.requires.next told in
     let told-1 = c.write_synced.ensures.writes.told ∙ told in
     let after = next_is (Some old) new d0 before found.0 found.1 found.2 in
     chain_ready old new next d0 d3 told before names after c.requires.whole.volume.0 is_next same
-    (only_writes-then d0 d2 d3 new.log_vol gate 4096
-    (only_writes-then d0 d1 d2 new.log_vol gate 4096 (gate_in_slot new vol block volume is d0 d1 c.write_synced.ensures.writes) (body_in_slot new vol block volume is d1 d2 (length c.encode.result) size c.write_synced-2.ensures.writes))
-    (gate_in_slot new vol block volume is d2 d3 c.write_synced-3.ensures.writes))
+    (all_writes new vol block volume is d0 d1 d2 d3 (length c.encode.result) size c.write_synced.ensures.writes c.write_synced-2.ensures.writes c.write_synced-3.ensures.writes)
     (all_done new vol block volume is c.requires.whole (Some old)
     d0 d1 told before c.write_synced.ensures.writes (c.in_ok-write_synced.ensures.settled told)
     d2 c.encode.result size c.write_synced-2.ensures.writes
     c.encode.ensures.reads_back (c.in_ok-write_synced-2.ensures.settled told-1)
     d3 after c.requires.pages c.write_synced-3.ensures.writes
     (settled (c.write_synced-2.ensures.writes.told ∙ told-1)))) c.write_synced-3.ensures.settled
+
+pub returns-clause-others : goal.returns-clause-others
+returns-clause-others g c = on_ok_weaker c.write_synced-3.result (λ settled told old vol slot before ready other.
+    let d0 = g.R.Rack.disk c.args.rack.now in
+    let found = c.requires.next told in
+    let told-1 = c.write_synced.ensures.writes.told ∙ told in
+    all_others c.args.anchor.now c.in-Some.vol (16 + 8 * c.from.result) c.in-Some.ensures.value (omega (arith, c.from.ensures)) c.requires.whole old
+    d0 (g.R.Rack.disk c.write_synced.new.rack) told before c.write_synced.ensures.writes (c.in_ok-write_synced.ensures.settled told)
+    (g.R.Rack.disk c.write_synced-2.new.rack) c.encode.result (omega arith) c.write_synced-2.ensures.writes
+    c.encode.ensures.reads_back (c.in_ok-write_synced-2.ensures.settled told-1)
+    (g.R.Rack.disk c.write_synced-3.new.rack) (next_is old c.args.anchor.now d0 before found.0 found.1 found.2) c.requires.pages c.write_synced-3.ensures.writes
+    (settled (c.write_synced-2.ensures.writes.told ∙ told-1)) vol slot ready other) c.write_synced-3.ensures.settled
 
 pub returns-in_err-write_synced-clause-writes : goal.returns-in_err-write_synced-clause-writes
 returns-in_err-write_synced-clause-writes g c =
@@ -165,20 +185,9 @@ returns-in_err-write_synced-2-clause-writes g c =
 
 pub returns-clause-writes : goal.returns-clause-writes
 returns-clause-writes g c =
-    let d0 = g.R.Rack.disk c.args.rack.now in
-    let d1 = g.R.Rack.disk c.write_synced.new.rack in
-    let d2 = g.R.Rack.disk c.write_synced-2.new.rack in
-    let d3 = g.R.Rack.disk c.write_synced-3.new.rack in
-    let new = c.args.anchor.now in
-    let vol = c.in-Some.vol in
-    let block = 16 + 8 * c.from.result in
-    let volume = c.in-Some.ensures.value in
-    let is : block ≡ 16 + 8 * new.slot = omega (arith, c.from.ensures) in
-    let size : length c.encode.result ≡ 3584 = omega arith in
-    let gate = 8192 + 4096 * new.slot in
-    only_writes-then d0 d2 d3 new.log_vol gate 4096
-    (only_writes-then d0 d1 d2 new.log_vol gate 4096 (gate_in_slot new vol block volume is d0 d1 c.write_synced.ensures.writes) (body_in_slot new vol block volume is d1 d2 (length c.encode.result) size c.write_synced-2.ensures.writes))
-    (gate_in_slot new vol block volume is d2 d3 c.write_synced-3.ensures.writes)
+    all_writes c.args.anchor.now c.in-Some.vol (16 + 8 * c.from.result) c.in-Some.ensures.value (omega (arith, c.from.ensures))
+    (g.R.Rack.disk c.args.rack.now) (g.R.Rack.disk c.write_synced.new.rack) (g.R.Rack.disk c.write_synced-2.new.rack) (g.R.Rack.disk c.write_synced-3.new.rack)
+    (length c.encode.result) (omega arith) c.write_synced.ensures.writes c.write_synced-2.ensures.writes c.write_synced-3.ensures.writes
 
 pub returns-clause-settled : goal.returns-clause-settled
 returns-clause-settled g c = on_ok_weaker c.write_synced-3.result (λ settled told.
