@@ -154,9 +154,11 @@ pub fn read_anchor<R: Rack>(rack: &mut R) -> Result<Anchor, AnchorFault>
 }
 
 /// Makes slot 0 or 1 of a volume ready for the next anchor: overwrites with zeros, and syncs, the seven blocks behind its
-/// gate where that is closed, and writes nothing where it is open. A domain calls it for the slot of its next anchor:
-/// when it is opened, and on a volume to which its log goes, before each of the first two anchors there. The volume has
-/// to be one of the rack, with two pages or more. The error is the volume, of which a read, a write or a sync failed.
+/// gate where that is closed, and writes nothing where it is open. A domain calls it once for each slot of the volume of
+/// its log: when it is opened, and when the log goes to another volume, before the first anchor there. No more is needed
+/// before later anchors, since each leaves the slot of the next one ready (`next` and `others` of `write_anchor`). The
+/// volume has to be one of the rack, with two pages or more. The error is the volume, of which a read, a write or a sync
+/// failed.
 ///
 /// A write of an anchor that was cut short may have left a body with the next number behind the closed gate. The next
 /// write begins by closing that gate once more, and a stop that tears this may open it: then that body would count.
@@ -189,8 +191,10 @@ pub fn ready_slot<R: Rack>(rack: &mut R, vol: VolIx, slot: u8) -> Result<(), Vol
 /// before the next. It reads nothing. The anchor has to be the next one after that of the rack's contents, and its
 /// slot has to lie in the rack. The error is the volume, of which a write or a sync failed.
 ///
-/// What a stop may leave is said where the slot is ready (`HasBefore`). `ready_slot` makes it so, and an anchor that is
-/// written makes the other slot of its volume so where the anchor before it stands there.
+/// What a stop may leave is said where the slot is ready (`HasBefore`). `ready_slot` makes it so, once for each slot of the
+/// volume when the domain is opened and when the log goes to another volume. No more is needed before later anchors: an
+/// anchor that is written makes the other slot of its volume ready where the anchor before it stands there (`next`), and
+/// leaves each other slot ready that was (`others`).
 pub fn write_anchor<R: Rack>(rack: &mut R, anchor: &Anchor) -> Result<(), VolIx>
     requires whole { IsWhole anchor.now }
     requires there { HasVolume (R.disk rack.old) anchor.now.log_vol }
