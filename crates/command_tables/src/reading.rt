@@ -7,7 +7,7 @@ use std::str::SplitWhitespace;
 
 /// Why a line is not read.
 #[derive(Debug, Drop)]
-pub enum NotRead {
+pub(crate) enum NotRead {
     /// It has no command of a client in the form of a history.
     Malformed,
     OutOfMemory,
@@ -74,7 +74,7 @@ static VERBS: [(&str, Verb); 20] = [
 ];
 
 /// The client who gives the command of a line, and the command.
-pub fn line_command(alloc: Global, line: &str) -> Result<(Actor, Command), NotRead> {
+pub(crate) fn line_command(alloc: Global, line: &str) -> Result<(Actor, Command), NotRead> {
     let (front, _) = line.split_once(" -> ").ok_or(NotRead::Malformed)?;
     let mut words = front.split_whitespace();
     let actor = actor(&mut words)?;

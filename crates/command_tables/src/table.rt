@@ -8,13 +8,13 @@ use std::process::Abort;
 
 /// Gives the commands of a table one after another to filesets of which there are none at first,
 /// and asserts that each one's line in a history is the table's.
-pub fn is_history<R: Abort + AllocGlobal>(rt: &R, table: &str) {
+pub(crate) fn is_history<R: Abort + AllocGlobal>(rt: &R, table: &str) {
     let mut filesets = Filesets::new(rt.alloc());
     goes_on(rt, &mut filesets, table);
 }
 
 /// The same with the filesets as they are.
-pub fn goes_on<R: Abort + AllocGlobal>(rt: &R, filesets: &mut Filesets, table: &str) {
+pub(crate) fn goes_on<R: Abort + AllocGlobal>(rt: &R, filesets: &mut Filesets, table: &str) {
     for line in table.lines() {
         if !line.is_empty() {
             let written = answered(rt.alloc(), filesets, line).expect(rt, line);
