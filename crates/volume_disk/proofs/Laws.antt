@@ -337,6 +337,19 @@ MayLeaveTorn-again vol at n old mid new image first torn =
     let was = first.each torn.0 (now_counts mid old.calls torn.0 first.later torn.1) in
     (was.0, was.1, λ v k out. torn.2 v k out ∙ was.2 v k out)
 
+-- what is torn in a range now was torn there before, but for the bytes that were written since
+pub torn_before : (old new : Disk) (vol at n w from m : ℕ) (image : Image) → LeavesOnly old new (MayLeaveTorn vol at n old.now) → MayLeaveTorn w from m new.now image → (before : Image) × MayLeaveTorn w from m old.now before × SameOutside vol at n before image
+torn_before old new vol at n w from m image only torn =
+    let was = only.each torn.0 (now_counts new old.calls torn.0 only.later torn.1) in (
+      mixed w from m image was.0,
+      (was.0, was.1, mixed-out w from m image was.0),
+      λ v k out.
+          elim (in_or_out w from m v k) [
+            | inl is_in ↦ sym (mixed-in w from m image was.0 v k is_in)
+            | inr beside ↦ torn.2 v k beside ∙ was.2 v k out ∙ sym (mixed-out w from m image was.0 v k beside)
+          ],
+    )
+
 pub only_writes-within : (old new : Disk) (vol at n w from m : ℕ) → vol ≡ w → from ≤ at → at + n ≤ from + m → OnlyWrites old new vol at n → OnlyWrites old new w from m
 only_writes-within old new vol at n w from m is low high writes = record {
   sizes = writes.sizes;
