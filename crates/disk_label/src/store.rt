@@ -175,6 +175,10 @@ pub fn ready_slot<R: Rack>(rack: &mut R, vol: VolIx, slot: u8) -> Result<(), Vol
     ensures ready { OnOk result (IsTrue (R.disk rack.old).told → (old : Option Anchor)
         → HasAnchor (R.disk rack.old) old → (R.disk rack.old).now.unsynced vol (8192 + 4096 * slot) ≡ false
         → ¬ StandsIn old vol slot → IsReady (R.disk rack.new) old vol slot) }
+    // Each other slot that was ready stays so.
+    ensures others { IsTrue (R.disk rack.old).told → (old : Option Anchor) (other_vol other_slot : ℕ)
+        → (R.disk rack.old).now.unsynced vol (8192 + 4096 * slot) ≡ false → ¬ ((other_vol ≡ vol) × (other_slot ≡ slot))
+        → IsReady (R.disk rack.old) old other_vol other_slot → IsReady (R.disk rack.new) old other_vol other_slot }
     ensures changes { OnlyChanges (R.disk rack.old) (R.disk rack.new) vol (8192 + 4096 * slot + BLOCK_BYTES) BODY_BYTES }
     ensures fault { IfErr result (HasFailed (R.disk rack.old) (R.disk rack.new)) }
 {
