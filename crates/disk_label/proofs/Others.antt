@@ -1,11 +1,10 @@
 -- The slots that an anchor is not written into.
-use Rattle.std.proofs.Common.{◌≡◌, ℕ, ◌+◌, ◌-◌, ◌*◌, ◌%◌, ◌<◌, ◌≤◌, List, Option, Some, IsTrue, refl, sym, ◌∙◌, ◌==◌, true, ap, subst, inl, inr, arith}
+use Rattle.std.proofs.Common.{◌≡◌, ℕ, ◌+◌, ◌-◌, ◌*◌, ◌%◌, ◌<◌, ◌≤◌, List, Option, Some, IsTrue, refl, sym, ◌∙◌, ◌==◌, true, ap, subst, arith}
 use Rattle.std.proofs.lemmas.Bool.{eq-eqb}
 use Rattle.volume_disk.specs.Disk.{Disk, MayLeave, OnlyWrites, pages_of}
 use Rattle.volume_disk.specs.Image.{Image, IsIn, SameOutside, bytes_at}
 use Rattle.volume_disk.proofs.Bytes.{bytes_from-same}
-use Rattle.volume_disk.proofs.Laws.{now_counts}
-use Rattle.volume_disk.proofs.Moments.{in_or_out, mixed, mixed-in, mixed-out}
+use Rattle.volume_disk.proofs.Laws.{now_counts, torn_before}
 use Rattle.disk_label.specs.Anchor.{volume_of, gate_of, anchor_at, place_of, HasBefore, IsAnchor, IsNext, IsReady, IsWhole, StandsIn}
 use Rattle.disk_label.specs.Body.{anchor_from}
 use Rattle.disk_label.proofs.Bodies.{slot_is-anchor_from}
@@ -41,19 +40,10 @@ module _ (new : Anchor) (whole : IsWhole new) (vol slot : ℕ) (other : StandsIn
   pub others_ready : (old : Option Anchor) (d0 d3 : Disk) → IsTrue d0.told → IsNext old new → 2 ≤ pages_of d0.sizes new.log_vol → IsReady d0 old vol slot → OnlyWrites d0 d3 new.log_vol own_gate 4096
       → ((image : Image) → MayLeave d3.now image → IsAnchor d0.sizes image (Some new)) → IsReady d3 (Some new) vol slot
   others_ready old d0 d3 told next pages ready writes done = λ image torn.
-      let only = writes.tears told in
-      let was = only.each torn.0 (now_counts d3 d0.calls torn.0 only.later torn.1) in
+      let before = torn_before d0 d3 new.log_vol own_gate 4096 vol gate 512 image (writes.tears told) torn in
       let has = done torn.0 torn.1 in
-      -- the image of before, with the gate of this one
-      let before = mixed vol gate 512 image was.0 in
-      let same : SameOutside new.log_vol own_gate 4096 before image = λ v k out.
-      elim (in_or_out vol gate 512 v k) [
-        | inl is_in ↦ sym (mixed-in vol gate 512 image was.0 v k is_in)
-        | inr beside ↦ torn.2 v k beside ∙ was.2 v k out ∙ sym (mixed-out vol gate 512 image was.0 v k beside)
-      ] in
       subst (λ (l : List ℕ). IsAnchor l image (Some new)) (sym writes.sizes)
-      (opens new.log_vol new.slot whole.volume.0 whole.slot own_gate 4096 (omega arith) (omega arith) before image same d0.sizes old new
-      (ready before (was.0, was.1, mixed-out vol gate 512 image was.0)) next whole.volume.1 refl whole.member pages
+      (opens new.log_vol new.slot whole.volume.0 whole.slot own_gate 4096 (omega arith) (omega arith) before.0 image before.2 d0.sizes old new (ready before.0 before.1) next whole.volume.1 refl whole.member pages
       (still_open torn.0 image torn.2 d0.sizes has) (still_stands torn.0 image torn.2 d0.sizes has))
 
 -- The anchor of before, which stands in the other slot, is older now: that slot is ready.

@@ -156,9 +156,9 @@ pub fn read_anchor<R: Rack>(rack: &mut R) -> Result<Anchor, AnchorFault>
 /// Makes slot 0 or 1 of a volume ready for the next anchor: overwrites with zeros, and syncs, the seven blocks behind its
 /// gate where that is closed, and writes nothing where it is open. A domain calls it once for each slot of the volume of
 /// its log: when it is opened, and when the log goes to another volume, before the first anchor there. No more is needed
-/// before later anchors, since each leaves the slot of the next one ready (`next` and `others` of `write_anchor`). The
-/// volume has to be one of the rack, with two pages or more. The error is the volume, of which a read, a write or a sync
-/// failed.
+/// before later anchors, since each leaves the slot of the next one ready (`next` and `others` of `write_anchor`). What it
+/// does to one slot leaves each other slot as ready as it was. The volume has to be one of the rack, with two pages or
+/// more. The error is the volume, of which a read, a write or a sync failed.
 ///
 /// A write of an anchor that was cut short may have left a body with the next number behind the closed gate. The next
 /// write begins by closing that gate once more, and a stop that tears this may open it: then that body would count.
@@ -175,6 +175,10 @@ pub fn ready_slot<R: Rack>(rack: &mut R, vol: VolIx, slot: u8) -> Result<(), Vol
     ensures ready { OnOk result (IsTrue (R.disk rack.old).told → (old : Option Anchor)
         → HasAnchor (R.disk rack.old) old → (R.disk rack.old).now.unsynced vol (8192 + 4096 * slot) ≡ false
         → ¬ StandsIn old vol slot → IsReady (R.disk rack.new) old vol slot) }
+    // Each other slot that was ready stays so.
+    ensures others { IsTrue (R.disk rack.old).told → (old : Option Anchor) (other_vol other_slot : ℕ)
+        → (R.disk rack.old).now.unsynced vol (8192 + 4096 * slot) ≡ false → ¬ ((other_vol ≡ vol) × (other_slot ≡ slot))
+        → IsReady (R.disk rack.old) old other_vol other_slot → IsReady (R.disk rack.new) old other_vol other_slot }
     ensures changes { OnlyChanges (R.disk rack.old) (R.disk rack.new) vol (8192 + 4096 * slot + BLOCK_BYTES) BODY_BYTES }
     ensures fault { IfErr result (HasFailed (R.disk rack.old) (R.disk rack.new)) }
 {

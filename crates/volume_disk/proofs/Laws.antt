@@ -115,6 +115,10 @@ synced_follows vol old new image syncs left = (was, λ k. left vol k (syncs.here
       | inr other ↦ left v k (syncs.elsewhere v k other ∙ synced) ∙ ap (λ (image : Image). image v k) syncs.contents
     ]
 
+-- and no place is pending that was not
+pub synced_stays : (vol : ℕ) (old new : Moment) → Syncs vol old new → (v k : ℕ) → old.unsynced v k ≡ false → new.unsynced v k ≡ false
+synced_stays vol old new syncs v k was = elim (cases_eq v vol) [ inl is ↦ ap (λ (w : ℕ). new.unsynced w k) is ∙ syncs.here k | inr other ↦ syncs.elsewhere v k other ∙ was ]
+
 -- A call, whatever it answers.
 
 by_result : {T E A B C : Type 0} (result : Result T E) → OnOk result A → OnErr result B → (A → C) → (B → C) → C
@@ -156,6 +160,9 @@ module _ {T E : Type 0} (old new : Disk) (vol : ℕ) (result : Result T E) (done
 
   pub sync_contents : IsTrue old.told → new.now.contents ≡ old.now.contents
   sync_contents told = by_result result done failed (λ d. (d.syncs told).contents) (λ f. ap (λ (m : Moment). m.contents) (f.now told))
+
+  pub sync_synced : IsTrue old.told → (v k : ℕ) → old.now.unsynced v k ≡ false → new.now.unsynced v k ≡ false
+  sync_synced told v k was = by_result result done failed (λ d. synced_stays vol old.now new.now (d.syncs told) v k was) (λ f. ap (λ (m : Moment). m.unsynced v k) (f.now told) ∙ was)
 
   -- a sync leaves nothing that might not have been left before it
   pub sync_leaves : IsTrue old.told → (image : Image) → MayLeave new.now image → MayLeave old.now image
@@ -295,6 +302,7 @@ module _ {T E : Type 0} (old new : Disk) (vol at : ℕ) (bytes : List ℕ) (resu
         (λ d. subst (λ (faults : ℕ → ℕ). old.write_faults v ≤ faults v) (sym d.makes.write_faults) (omega arith))
         (λ f. subst (λ (faults : ℕ → ℕ). old.write_faults v ≤ faults v) (sym f.makes.write_faults) (raised_at-later old.write_faults vol v));
     contents = λ told. (write_tears old new vol at bytes result done failed told).contents;
+    synced = λ told v k out was. (write_tears old new vol at bytes result done failed told).unsynced v k out ∙ was;
     tears = λ told.
         let P = MayLeaveTorn vol at (length bytes) old.now in
         goes_on old old new P
@@ -315,6 +323,7 @@ only_writes-sync old mid new vol at n result done failed so_far tears = record {
       (λ d. subst (λ (faults : ℕ → ℕ). old.write_faults v ≤ faults v) (sym d.makes.write_faults) was)
       (λ f. subst (λ (faults : ℕ → ℕ). old.write_faults v ≤ faults v) (sym f.write_faults) (let more = raised_at-later mid.write_faults vol v in omega arith));
   contents = λ told v k out. ap (λ (image : Image). image v k) (sync_contents mid new vol result done failed (so_far.told ∙ told)) ∙ so_far.contents told v k out;
+  synced = λ told v k out was. sync_synced mid new vol result done failed (so_far.told ∙ told) v k (so_far.synced told v k out was);
   tears = λ told.
       let mid_told : IsTrue mid.told = so_far.told ∙ told in
       goes_on old mid new (MayLeaveTorn vol at n old.now)
@@ -324,8 +333,11 @@ only_writes-sync old mid new vol at n result done failed so_far tears = record {
 }
 
 -- a range lies in a wider one
+out_within : (vol at n w from m v k : ℕ) → vol ≡ w → from ≤ at → at + n ≤ from + m → ¬ IsIn w from m v k → ¬ IsIn vol at n v k
+out_within vol at n w from m v k is low high out is_in = let a = is_in.1 in let b = is_in.2 in out (is_in.0 ∙ is, omega arith, omega arith)
+
 SameOutside-within : (vol at n w from m : ℕ) (old new : Image) → vol ≡ w → from ≤ at → at + n ≤ from + m → SameOutside vol at n old new → SameOutside w from m old new
-SameOutside-within vol at n w from m old new is low high same v k out = same v k (λ is_in. let a = is_in.1 in let b = is_in.2 in out (is_in.0 ∙ is, omega arith, omega arith))
+SameOutside-within vol at n w from m old new is low high same v k out = same v k (out_within vol at n w from m v k is low high out)
 
 MayLeaveTorn-within : (vol at n w from m : ℕ) (moment : Moment) (image : Image) → vol ≡ w → from ≤ at → at + n ≤ from + m → MayLeaveTorn vol at n moment image → MayLeaveTorn w from m moment image
 MayLeaveTorn-within vol at n w from m moment image is low high torn =
@@ -337,6 +349,19 @@ MayLeaveTorn-again vol at n old mid new image first torn =
     let was = first.each torn.0 (now_counts mid old.calls torn.0 first.later torn.1) in
     (was.0, was.1, λ v k out. torn.2 v k out ∙ was.2 v k out)
 
+-- what is torn in a range now was torn there before, but for the bytes that were written since
+pub torn_before : (old new : Disk) (vol at n w from m : ℕ) (image : Image) → LeavesOnly old new (MayLeaveTorn vol at n old.now) → MayLeaveTorn w from m new.now image → (before : Image) × MayLeaveTorn w from m old.now before × SameOutside vol at n before image
+torn_before old new vol at n w from m image only torn =
+    let was = only.each torn.0 (now_counts new old.calls torn.0 only.later torn.1) in (
+      mixed w from m image was.0,
+      (was.0, was.1, mixed-out w from m image was.0),
+      λ v k out.
+          elim (in_or_out w from m v k) [
+            | inl is_in ↦ sym (mixed-in w from m image was.0 v k is_in)
+            | inr beside ↦ torn.2 v k beside ∙ was.2 v k out ∙ sym (mixed-out w from m image was.0 v k beside)
+          ],
+    )
+
 pub only_writes-within : (old new : Disk) (vol at n w from m : ℕ) → vol ≡ w → from ≤ at → at + n ≤ from + m → OnlyWrites old new vol at n → OnlyWrites old new w from m
 only_writes-within old new vol at n w from m is low high writes = record {
   sizes = writes.sizes;
@@ -345,6 +370,7 @@ only_writes-within old new vol at n w from m is low high writes = record {
   read_faults = writes.read_faults;
   write_faults = writes.write_faults;
   contents = λ told. SameOutside-within vol at n w from m old.now.contents new.now.contents is low high (writes.contents told);
+  synced = λ told v k out. writes.synced told v k (out_within vol at n w from m v k is low high out);
   tears = λ told.
       weaker old new (MayLeaveTorn vol at n old.now) (MayLeaveTorn w from m old.now) (λ image. MayLeaveTorn-within vol at n w from m old.now image is low high) (writes.tears told);
 }
@@ -357,6 +383,7 @@ only_writes-then old mid new vol at n first second = record {
   read_faults = second.read_faults ∙ first.read_faults;
   write_faults = λ v. let a = first.write_faults v in let b = second.write_faults v in omega arith;
   contents = λ told v k out. second.contents (first.told ∙ told) v k out ∙ first.contents told v k out;
+  synced = λ told v k out was. second.synced (first.told ∙ told) v k out (first.synced told v k out was);
   tears = λ told.
       let P = MayLeaveTorn vol at n old.now in
       let so_far = first.tears told in
@@ -372,6 +399,7 @@ only_changes-read old new vol at n reads = record {
   read_faults = reads.read_faults;
   write_faults = λ v. let e = ap (λ (faults : ℕ → ℕ). faults v) reads.write_faults in omega (arith, e);
   contents = λ told v k out. ap (λ (m : Moment). m.contents v k) (reads.now told);
+  synced = λ told v k out was. ap (λ (m : Moment). m.unsynced v k) (reads.now told) ∙ was;
   tears = λ told. only_reads-leaves old new (MayLeaveTorn vol at n old.now) told reads (MayLeaveTorn-now vol at n old.now);
 }
 
@@ -383,6 +411,7 @@ only_changes-write old mid new vol at n reads writes = record {
   read_faults = λ v. let a = reads.read_faults v in let e = ap (λ (faults : ℕ → ℕ). faults v) writes.read_faults in omega (arith, a, e);
   write_faults = λ v. let a = writes.write_faults v in let e = ap (λ (faults : ℕ → ℕ). faults v) reads.write_faults in omega (arith, a, e);
   contents = λ told v k out. writes.contents (reads.told ∙ told) v k out ∙ ap (λ (m : Moment). m.contents v k) (reads.now told);
+  synced = λ told v k out was. writes.synced (reads.told ∙ told) v k out (ap (λ (m : Moment). m.unsynced v k) (reads.now told) ∙ was);
   tears = λ told.
       let P = MayLeaveTorn vol at n old.now in
       then_on old mid new P (only_reads-leaves old mid P told reads (MayLeaveTorn-now vol at n old.now))

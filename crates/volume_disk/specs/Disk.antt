@@ -182,6 +182,7 @@ pub record OnlyWrites (old new : Disk) (vol at n : ℕ) : Type 0 where
   pub read_faults : new.read_faults ≡ old.read_faults
   pub write_faults : (v : ℕ) → old.write_faults v ≤ new.write_faults v
   pub contents : IsTrue old.told → SameOutside vol at n old.now.contents new.now.contents
+  pub synced : IsTrue old.told → (v k : ℕ) → ¬ IsIn vol at n v k → old.now.unsynced v k ≡ false → new.now.unsynced v k ≡ false
   pub tears : IsTrue old.told → LeavesOnly old new (MayLeaveTorn vol at n old.now)
 
 -- a run of calls that changed at most n bytes from `at` on, and may have read: the images of before may be torn there
@@ -192,6 +193,7 @@ pub record OnlyChanges (old new : Disk) (vol at n : ℕ) : Type 0 where
   pub read_faults : (v : ℕ) → old.read_faults v ≤ new.read_faults v
   pub write_faults : (v : ℕ) → old.write_faults v ≤ new.write_faults v
   pub contents : IsTrue old.told → SameOutside vol at n old.now.contents new.now.contents
+  pub synced : IsTrue old.told → (v k : ℕ) → ¬ IsIn vol at n v k → old.now.unsynced v k ≡ false → new.now.unsynced v k ≡ false
   pub tears : IsTrue old.told → LeavesOnly old new (MayLeaveTorn vol at n old.now)
 
 -- the bytes are written from `at` on, and the volume is synced

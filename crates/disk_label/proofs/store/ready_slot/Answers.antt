@@ -1,11 +1,11 @@
-use Rattle.std.proofs.Common.{◌≡◌, ℕ, ◌+◌, ◌*◌, ◌≤◌, false, IsTrue, List, get_or, replicate, Option, sym, ◌∙◌, subst, arith}
+use Rattle.std.proofs.Common.{◌≡◌, ℕ, ◌+◌, ◌*◌, ◌≤◌, false, IsTrue, List, get_or, replicate, Option, refl, sym, ◌∙◌, subst, arith}
 use Rattle.std.proofs.lemmas.List.{get_or-replicate, length-replicate}
 use Rattle.std.proofs.lemmas.Result.{on_ok_weaker}
-use Rattle.volume_disk.specs.Disk.{Disk, Moment, LeavesOnly, MayLeave, OnlyReads, OnlyWrites, Settles}
+use Rattle.volume_disk.specs.Disk.{Disk, Moment, LeavesOnly, MayLeave, MayLeaveTorn, OnlyReads, OnlyWrites, Settles}
 use Rattle.volume_disk.specs.Image.{Image, bytes_at}
-use Rattle.volume_disk.proofs.Laws.{then_on, only_reads-leaves, only_writes-within, only_changes-read, only_changes-write, Settles-moved}
+use Rattle.volume_disk.proofs.Laws.{then_on, only_reads-leaves, only_writes-within, only_changes-read, only_changes-write, Settles-moved, torn_before}
 use Rattle.disk_label.specs.Anchor.{HasAnchor, IsAnchor, IsReady, StandsIn}
-use Rattle.disk_label.proofs.Written.{Shut, gate_seen, ready_open, writing, zeros_ready}
+use Rattle.disk_label.proofs.Written.{Shut, gate_seen, ready_open, stays, writing, zeros_ready}
 use Rattle.disk_label.specs.declared.anchor.Anchor.{Anchor}
 use Rattle.disk_label.proofs.store.ready_slot.Goals as goal
 
@@ -53,10 +53,37 @@ module _ (vol slot block : ℕ) (low : 1 ≤ vol) (high : slot ≤ 1) (is : bloc
         (Settles-moved vol (512 * (block + 1)) vol (gate + 512) zeros d1.now d2.now (λ _. vol) (omega arith) settles)
         (writes.sizes ∙ reads.sizes)
 
+    -- and another slot is as it was, whatever its gate
+    module _ (other_vol other_slot : ℕ) (other : ¬ ((other_vol ≡ vol) × (other_slot ≡ slot))) (ready : IsReady d0 old other_vol other_slot) where
+      other_ready : IsReady d2 old other_vol other_slot
+      other_ready = λ image torn.
+          let now = torn_before d1 d2 vol (gate + 512) 3584 other_vol (8192 + 4096 * other_slot) 512 image (behind_gate.tears told-1) torn in
+          let was = now.1 in
+          let shut_then : now.0 vol gate ≡ was.0 vol gate = was.2 vol gate (λ is_in. let a = is_in.1 in let b = is_in.2 in other (sym is_in.0, omega arith)) in
+          let after : image vol gate ≡ now.0 vol gate = now.2 vol gate (λ is_in. let a = is_in.1 in omega arith) in
+          subst (λ (l : List ℕ). IsAnchor l image old) (sym (writes.sizes ∙ reads.sizes))
+          (stays vol slot low high (gate + 512) 3584 (omega arith) (omega arith) now.0 image now.2 d0.sizes old
+          (λ is_open. shut.is_shut was.0 was.1 (sym shut_then ∙ is_open))
+          (λ is_open. shut.is_shut was.0 was.1 (sym shut_then ∙ sym after ∙ is_open))
+          (ready now.0 (was.0, before was.0 was.1, was.2)))
+
+-- where some slot is ready, each image has the anchor
+IsReady-has : (old : Option Anchor) (vol slot : ℕ) (disk : Disk) → IsReady disk old vol slot → HasAnchor disk old
+IsReady-has old vol slot disk ready image left = ready image (image, left, λ v k out. refl)
+
+-- a slot that is ready is so after reads
+ready-read : (old : Option Anchor) (vol slot : ℕ) (d0 d1 : Disk) → IsTrue d0.told → OnlyReads d0 d1 → IsReady d0 old vol slot → IsReady d1 old vol slot
+ready-read old vol slot d0 d1 told reads ready = λ image torn.
+    subst (λ (l : List ℕ). IsAnchor l image old) (sym reads.sizes) (ready image (subst (λ (m : Moment). MayLeaveTorn vol (8192 + 4096 * slot) 512 m image) (reads.now told) torn))
+
 pub returns-in_err-read_block-clause-any_moment : goal.returns-in_err-read_block-clause-any_moment
 returns-in_err-read_block-clause-any_moment g c = λ told old has synced.
     let d0 = g.R.Rack.disk c.args.rack.now in
     only_reads-leaves d0 (g.R.Rack.disk c.read_block.new.rack) (λ image. IsAnchor d0.sizes image old) told c.read_block.ensures.reads has
+
+pub returns-in_err-read_block-clause-others : goal.returns-in_err-read_block-clause-others
+returns-in_err-read_block-clause-others g c = λ told old other_vol other_slot synced other ready.
+    ready-read old other_vol other_slot (g.R.Rack.disk c.args.rack.now) (g.R.Rack.disk c.read_block.new.rack) told c.read_block.ensures.reads ready
 
 pub returns-in_err-read_block-clause-changes : goal.returns-in_err-read_block-clause-changes
 returns-in_err-read_block-clause-changes g c =
@@ -73,6 +100,10 @@ returns-then-block-clause-ready g c = λ told old has synced other.
     (g.R.Rack.disk c.args.rack.now) (g.R.Rack.disk c.read_block.new.rack) told has synced c.read_block.ensures.reads c.read_block.new.out (c.in_ok-read_block.ensures.bytes told)
     c.if-block.true other
 
+pub returns-then-block-clause-others : goal.returns-then-block-clause-others
+returns-then-block-clause-others g c = λ told old other_vol other_slot synced other ready.
+    ready-read old other_vol other_slot (g.R.Rack.disk c.args.rack.now) (g.R.Rack.disk c.read_block.new.rack) told c.read_block.ensures.reads ready
+
 pub returns-then-block-clause-changes : goal.returns-then-block-clause-changes
 returns-then-block-clause-changes g c =
     only_changes-read (g.R.Rack.disk c.args.rack.now) (g.R.Rack.disk c.read_block.new.rack) c.args.vol (8192 + 4096 * c.args.slot + 512) 3584 c.read_block.ensures.reads
@@ -88,6 +119,12 @@ returns-clause-ready g c = on_ok_weaker c.write_synced.result (λ settled told o
     shut_ready c.args.vol c.args.slot (16 + 8 * c.from.result) c.requires.there.0 c.requires.slot (omega (arith, c.from.ensures)) old
     (g.R.Rack.disk c.args.rack.now) (g.R.Rack.disk c.read_block.new.rack) told has synced c.read_block.ensures.reads c.read_block.new.out (c.in_ok-read_block.ensures.bytes told)
     c.if-block.false (g.R.Rack.disk c.write_synced.new.rack) c.write_synced.ensures.writes (settled (c.read_block.ensures.reads.told ∙ told))) c.write_synced.ensures.settled
+
+pub returns-clause-others : goal.returns-clause-others
+returns-clause-others g c = λ told old other_vol other_slot synced other ready.
+    other_ready c.args.vol c.args.slot (16 + 8 * c.from.result) c.requires.there.0 c.requires.slot (omega (arith, c.from.ensures)) old
+    (g.R.Rack.disk c.args.rack.now) (g.R.Rack.disk c.read_block.new.rack) told (IsReady-has old other_vol other_slot (g.R.Rack.disk c.args.rack.now) ready) synced c.read_block.ensures.reads c.read_block.new.out (c.in_ok-read_block.ensures.bytes told)
+    c.if-block.false (g.R.Rack.disk c.write_synced.new.rack) c.write_synced.ensures.writes other_vol other_slot other ready
 
 pub returns-clause-changes : goal.returns-clause-changes
 returns-clause-changes g c =
