@@ -56,6 +56,14 @@ fn limits_of_a_group_hold(rt: HostRuntime) {
 }
 
 static FILESET_LIMITS: &str = "
+c1 mkfset two -> ok
+c1 setquota two fileset 0 2 0 -> ok
+c1 create two:/a 1 1 -> ok
+c1 create two:/b 2 2 -> ok
+c1 create two:/c 3 3 -> E11 quota-files limit=2 used=2
+c1 setquota two fileset 0 0 0 -> ok
+c1 showquota two fileset 0 -> ok files 2 0 blocks 0 0
+c1 create two:/c 3 3 -> ok
 c1 mkfset g -> ok
 c1 setquota g fileset 0 2 16 -> ok
 c1 create g:/a 1 1 -> ok

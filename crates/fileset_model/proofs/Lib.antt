@@ -4,6 +4,7 @@ pub mod MapLemmas
 pub mod MoveLemmas
 pub mod OwnerLemmas
 pub mod PageLemmas
+pub mod RefusalLemmas
 pub mod RowsLemmas
 pub mod SlotLemmas
 pub mod TreeLemmas

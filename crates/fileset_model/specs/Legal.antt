@@ -52,7 +52,7 @@ at_and_below all name path =
         option_if true x = Some x
         option_if false x = None
 
--- the files and directories that a command writes, truncates, flags, moves, replaces or removes, and the directories whose rows it changes
+-- the files and directories that a command touches: the one it was given, those that go or move with it, and each directory whose names change
 abbrev pub changed_by : FilesetMap → Command → List Numbered
 changed_by all (Create place uid gid) = at all place.fileset (parent_of place.path)
 changed_by all (Mkdir place uid gid) = at all place.fileset (parent_of place.path)
@@ -106,7 +106,7 @@ HasTheSame tree other number =
     (map.get tree.nodes number ≡ map.get other.nodes number)
     × ((path : Path) → IsAt other number path → IsAt tree number path × SameRows tree other path)
 
--- the original no longer has what the clone has under a number, or has it with another node, path or rows
+-- under this number the original and its clone do not have the same file or directory any more
 abbrev pub Differs : FilesetMap → Name → FilesetSlot → ℕ → Type 0
 Differs all original clone number =
     MatchOption (map.get all original) (Unit {0}) (λ slot. ¬ (HasTheSame slot.tree clone.tree number))

@@ -11,11 +11,11 @@ use Rattle.domain_base.specs.declared.limits.TheConstants.{PAGE_BYTES}
 abbrev pub Pages : Type 0
 Pages = FinMap nat_cmp (List ℕ)
 
--- the byte at x: that of its page, and zero where the page is absent
+-- what is read at an offset: a byte of the page there, or 0 where there is no page
 abbrev pub byte_at : Pages → ℕ → ℕ
 byte_at pages x = option_map_or (λ page. slice_index page (x % PAGE_BYTES)) (get pages (x / PAGE_BYTES)) 0
 
--- the bytes from the offset on that lie below the size, at most `count`
+-- what a read of `count` bytes at an offset gives of a file of that size
 abbrev pub bytes_between : Pages → ℕ → ℕ → ℕ → List ℕ
 bytes_between pages size offset count = map (byte_at pages) (range_with_len offset (min count (size - offset)))
 
@@ -42,7 +42,7 @@ with_pages (e ∷ es) pages = with_pages es (insert pages e.0 e.1)
 abbrev pub written : Pages → ℕ → List ℕ → Pages
 written pages offset bytes = with_pages (map (λ q. (q, page_after pages offset bytes q)) (pages_of offset (length bytes))) pages
 
--- the pages of a file that is cut at the size: those that begin at or after it go, and the rest of the page in which it falls is zeros
+-- what is left of the pages of a file that is cut: none that begins behind its end, and nothing but zeros behind its end in the last one
 abbrev pub truncated : Pages → ℕ → Pages
 truncated pages size =
     let kept = retain_keys pages (λ q. nat_lt (q * PAGE_BYTES) size) in

@@ -8,7 +8,7 @@ ghost use Rattle.fileset_model.specs.Paths.{first_refusal, node_at};
 ghost use Rattle.fileset_model.specs.declared.command.Command.TheVariants.{Create, Mkfset, Read, Write};
 ghost use Rattle.fileset_model.specs.declared.reply.Reply.TheVariants.{Done as DoneReply};
 
-use crate::change::{chfile, mkdir, rmdir, truncate, unlink};
+use crate::change::{chfile, file_refusal, mkdir, rmdir, truncate, unlink};
 use crate::command::{Command, Place};
 use crate::fileset::{FilesetSlot, FilesetTree, Role};
 use crate::fileset_commands::{clonefset, rmfset, setquota, showfsets, showquota};
@@ -221,13 +221,7 @@ fn write_refusal(
 ) -> Result<Option<Refusal>, OutOfMemory>
     ensures { IfOk result (λ refusal. refusal ≡ first_refusal (write_checks path.now offset bytes.now slot.now)) }
 {
-    if slot.role.is_clone() {
-        return Ok(Some(Refusal::ReadOnly));
-    }
-    if let Some(refusal) = target_refusal(alloc, slot, path)? {
-        return Ok(Some(refusal));
-    }
-    if let Some(refusal) = directory_here(slot, path) {
+    if let Some(refusal) = file_refusal(alloc, slot, path)? {
         return Ok(Some(refusal));
     }
     if ends_too_far(offset, bytes) {

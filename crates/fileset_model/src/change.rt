@@ -145,7 +145,7 @@ fn rmdir_refusal(
 }
 
 /// Why the file at a path can't be changed or removed.
-fn file_refusal(
+pub(crate) fn file_refusal(
     alloc: Global,
     slot: &FilesetSlot,
     path: &Path,
@@ -170,13 +170,7 @@ fn truncate_refusal(
 ) -> Result<Option<Refusal>, OutOfMemory>
     ensures { IfOk result (λ refusal. refusal ≡ first_refusal (read_only slot.now ∷ target_check slot.now path.now ∷ directory_check slot.now path.now ∷ refuse_if (nat_lt FILE_BYTES size) TooFarRefusal ∷ [])) }
 {
-    if slot.role.is_clone() {
-        return Ok(Some(Refusal::ReadOnly));
-    }
-    if let Some(refusal) = target_refusal(alloc, slot, path)? {
-        return Ok(Some(refusal));
-    }
-    if let Some(refusal) = directory_here(slot, path) {
+    if let Some(refusal) = file_refusal(alloc, slot, path)? {
         return Ok(Some(refusal));
     }
     if size > LARGEST_FILE {

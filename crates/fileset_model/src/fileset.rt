@@ -1,4 +1,4 @@
-ghost use Rattle.std.specs.Prelude.{◌≡◌, ℕ, ◌+◌, ◌≤◌, length, None, IfOk, OnOk, OnErr, option_copied};
+ghost use Rattle.std.specs.Prelude.{◌≡◌, ℕ, ◌+◌, ◌^◌, ◌≤◌, length, None, IfOk, OnOk, OnErr, option_copied};
 ghost use Rattle.std.specs.FinMap as map;
 ghost use Rattle.domain_base.specs.declared.limits.TheConstants.{FILE_BYTES};
 ghost use Rattle.fileset_model.specs.Apply.{empty_fileset, is_clone, with_change, with_node, written_node};
@@ -139,12 +139,10 @@ impl FilesetTree {
 
 /// The next number; where there is none, it is answered as out of memory.
 fn number_after(number: u64) -> Result<u64, OutOfMemory>
-    ensures { IfOk result (λ next. next ≡ number + 1) }
+    ensures ok { IfOk result (λ next. next ≡ number + 1) }
+    ensures err { OnErr result (2 ^ 64 ≤ number + 1) }
 {
-    match number.checked_add(1) {
-        Some(next) => Ok(next),
-        None => Err(OutOfMemory),
-    }
+    number.checked_add(1).ok_or(OutOfMemory)
 }
 
 /// Numbers of files and directories.

@@ -1,5 +1,5 @@
 //! The commands that move names, list them and show what they lead to.
-ghost use Rattle.std.specs.Prelude.{◌≡◌, [], ◌∷◌, ◌++◌, not, IfOk, OnOk, OnErr, None as NoRefusal, map as map_each};
+ghost use Rattle.std.specs.Prelude.{◌≡◌, ◌^◌, ◌≤◌, [], ◌∷◌, ◌++◌, not, IfOk, OnOk, OnErr, None as NoRefusal, map as map_each};
 ghost use Rattle.std.specs.Option.{option_map_or};
 ghost use Rattle.std.specs.Ordering.{eq_by_cmp};
 ghost use Rattle.std.specs.FinMap as map;
@@ -305,7 +305,8 @@ fn attributes(alloc: Global, tree: &FilesetTree, path: &Path) -> Result<Reply, O
 
 /// A count in 32 bits; one that does not fit is answered as out of memory.
 fn small_count(count: usize) -> Result<u32, OutOfMemory>
-    ensures { IfOk result (λ small. small ≡ count) }
+    ensures ok { IfOk result (λ small. small ≡ count) }
+    ensures err { OnErr result (2 ^ 32 ≤ count) }
 {
     match u32::try_from(count) {
         Ok(small) => Ok(small),

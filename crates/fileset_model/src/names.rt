@@ -280,14 +280,6 @@ impl Model for Bytes {
 }
 
 impl Bytes {
-    /// Another one with the same bytes.
-    pub fn copy(&self, alloc: Global) -> Result<Bytes, OutOfMemory>
-        ensures { IfOk result (λ copy. copy ≡ self.now) }
-    {
-        let bytes = Vec::from_slice(alloc, self.bytes.as_slice())?;
-        Ok(Bytes { bytes })
-    }
-
     pub fn from_vec(bytes: Vec<u8>) -> Bytes
         ensures { result ≡ bytes.items }
     {

@@ -1,5 +1,5 @@
 //! What owners use of a fileset, and the check of their limits.
-ghost use Rattle.std.specs.Prelude.{◌≡◌, [], ◌∷◌, filter, length, sum_by, IfOk};
+ghost use Rattle.std.specs.Prelude.{◌≡◌, ◌^◌, ◌≤◌, [], ◌∷◌, filter, length, sum_by, IfOk, OnErr};
 ghost use Rattle.fileset_model.specs.Paths.{first_refusal};
 ghost use Rattle.fileset_model.specs.Usage.{blocks_of, blocks_refusal, counts_for, files_refusal, is_owners, limits_of, passes as passes_limit, quota_refusal as quota_check, used_blocks, used_files};
 
@@ -47,7 +47,8 @@ fn counts(who: Owner, root: Option<u64>, number: u64, node: &Node) -> bool
 
 /// The blocks of a node; a number that does not fit is answered as out of memory.
 fn node_blocks(node: &Node) -> Result<u64, OutOfMemory>
-    ensures { IfOk result (λ blocks. blocks ≡ blocks_of node.now) }
+    ensures ok { IfOk result (λ blocks. blocks ≡ blocks_of node.now) }
+    ensures err { OnErr result (2 ^ 64 ≤ blocks_of node.now) }
 {
     match node {
         Node::File { pages, .. } => (pages.len() as u64)

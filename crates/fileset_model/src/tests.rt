@@ -20,21 +20,24 @@ enum Ask {
     Read,
     List,
     Stat,
+    Unlink,
+    Fsync,
 }
 
-/// The directory `/d` with a file `/d/a`, the directory `/e` with a file `/e/a`, and the files `/f`
-/// and `/g`.
-static NODES: [(&[u8], u64, bool); 6] = [
+/// The directory `/d` with a file `/d/a` and a directory `/d/b`, the directory `/e` with a file
+/// `/e/a`, and the files `/f` and `/g`.
+static NODES: [(&[u8], u64, bool); 7] = [
     (b"d", 1, true),
     (b"da", 2, false),
     (b"e", 3, true),
     (b"ea", 4, false),
     (b"f", 5, false),
     (b"g", 6, false),
+    (b"db", 7, true),
 ];
 
 /// What the clone refuses, of which `/d` and `/f` are marked.
-static IN_THE_CLONE: [(Ask, &[u8], Option<Refusal>); 16] = [
+static IN_THE_CLONE: [(Ask, &[u8], Option<Refusal>); 21] = [
     (Ask::Read, b"f", Some(Refusal::OutOfSync)),
     (Ask::Stat, b"f", Some(Refusal::OutOfSync)),
     (Ask::List, b"f", Some(Refusal::NotDirectory)),
@@ -45,7 +48,12 @@ static IN_THE_CLONE: [(Ask, &[u8], Option<Refusal>); 16] = [
     (Ask::Read, b"da", Some(Refusal::OutOfSync)),
     (Ask::Stat, b"dx", Some(Refusal::OutOfSync)),
     (Ask::List, b"dxy", Some(Refusal::OutOfSync)),
+    (Ask::Read, b"db", Some(Refusal::OutOfSync)),
+    (Ask::List, b"da", Some(Refusal::OutOfSync)),
+    (Ask::Stat, b"dax", Some(Refusal::OutOfSync)),
     (Ask::Create, b"dx", Some(Refusal::ReadOnly)),
+    (Ask::Unlink, b"f", Some(Refusal::ReadOnly)),
+    (Ask::Fsync, b"da", Some(Refusal::ReadOnly)),
     (Ask::Read, b"g", None),
     (Ask::Read, b"ea", None),
     (Ask::List, b"e", None),
@@ -153,6 +161,8 @@ fn command(ask: Ask, place: Place) -> Command {
         },
         Ask::List => Command::List { place },
         Ask::Stat => Command::Stat { place },
+        Ask::Unlink => Command::Unlink { place },
+        Ask::Fsync => Command::Fsync { place },
     }
 }
 
