@@ -1,7 +1,8 @@
 //! A rack whose volumes are in memory, which fails where it is told to, and can tell what a stop may leave.
-ghost use Rattle.std.specs.Prelude.{◌≡◌, ◌≤◌, ◌*◌, false, take, All, IsTrue, IfOk};
+ghost use Rattle.std.specs.Prelude.{◌≡◌, ◌<◌, ◌≤◌, ◌-◌, ◌*◌, ◌^◌, false, take, All, IsTrue, IfOk};
 ghost use Rattle.volume_disk.specs.Disk.{AreBlocks, HasVolume, MayPass, ReadFailed, WriteFailed, SyncFailed};
 ghost use Rattle.volume_disk.specs.Kept.{FitsIn, replayed};
+ghost use Rattle.volume_disk.specs.Moment.{IsPending};
 ghost use Rattle.volume_disk.specs.Volume.{moment_of, settled_of, sizes_of};
 
 use crate::Rack;
@@ -132,7 +133,8 @@ impl MemoryRack {
     /// keep that: then it changes nothing.
     pub(crate) fn fail_write(&mut self, vol: VolIx, block: u32, size: usize)
         requires { AreBlocks (memory_disk self.old) vol block size }
-        ensures { WriteFailed (memory_disk self.old) (memory_disk self.new) vol (512 * block) size }
+        ensures failed { WriteFailed (memory_disk self.old) (memory_disk self.new) vol (512 * block) size }
+        ensures pending { (memory_disk self.old).calls < 2 ^ 64 - 1 → (memory_disk self.old).kept ≡ false → IsPending (memory_disk self.new).now vol (512 * block) size }
     {
         if self.calls == u64::MAX {
             return self.fail_untorn(vol);
