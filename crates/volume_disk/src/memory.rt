@@ -1,5 +1,5 @@
 //! A rack whose volumes are in memory, which fails where it is told to, and can tell what a stop may leave.
-ghost use Rattle.std.specs.Prelude.{◌≡◌, ◌<◌, ◌≤◌, ◌-◌, ◌*◌, ◌^◌, false, take, All, IsTrue, IfOk};
+ghost use Rattle.std.specs.Prelude.{◌≡◌, ◌<◌, ◌≤◌, ◌-◌, ◌*◌, ◌^◌, true, false, take, All, IsTrue, IfOk};
 ghost use Rattle.volume_disk.specs.Disk.{AreBlocks, HasVolume, MayPass, ReadFailed, WriteFailed, SyncFailed};
 ghost use Rattle.volume_disk.specs.Kept.{FitsIn, replayed};
 ghost use Rattle.volume_disk.specs.Moment.{IsPending};
@@ -107,9 +107,10 @@ impl MemoryRack {
         Ok((now, synced))
     }
 
-    /// The next call has to fail.
+    /// Whether the next call has to fail.
     pub(crate) fn must_fail(&self) -> bool
-        ensures { result ≡ false → MayPass (memory_disk self.now) }
+        ensures passes { result ≡ false → MayPass (memory_disk self.now) }
+        ensures fails { result ≡ true → ¬ MayPass (memory_disk self.now) }
     {
         self.calls == u64::MAX || self.fails.contains(&(self.calls + 1))
     }
