@@ -3,7 +3,7 @@ use Rattle.std.proofs.Common.{◌≡◌, ◌≢◌, ◌⊎◌, ◌==◌, ◌&&�
 use Rattle.std.proofs.lemmas.Bool.{cases_eq, cases_lt, eq-eqb, ne_eqb, lt-leb, le-leb, lt-ltb, le-ltb, both_ways}
 use Rattle.volume_disk.specs.Disk.{Moment, put_at, MayTear, Writes, Syncs}
 use Rattle.volume_disk.specs.Image.{Image, IsIn}
-use Rattle.volume_disk.specs.Moment.{overlaid, marked, torn, written, synced}
+use Rattle.volume_disk.specs.Moment.{IsPending, overlaid, marked, torn, written, synced}
 
 pub put_at-same : {X : Type 0} (each : ℕ → X) (vol : ℕ) (x : X) → put_at each vol x vol ≡ x
 put_at-same each vol x = let at : (vol == vol) ≡ true = eq-eqb vol vol refl in rw at refl
@@ -88,6 +88,10 @@ module _ (moment : Moment) (vol at n : ℕ) where
   -- a failed write may leave all as it was
   pub MayTear-same : MayTear vol at n moment moment
   MayTear-same = record { contents = λ v k out. refl; unsynced = λ v k out. refl; still = λ v k was. was; known = λ v k synced. refl }
+
+  pub torn-pending : IsPending (torn moment vol at n) vol at n
+  unfolding torn
+  torn-pending = marks-in
 
   -- or its range not synced
   pub MayTear-torn : MayTear vol at n moment (torn moment vol at n)

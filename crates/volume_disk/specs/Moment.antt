@@ -1,6 +1,7 @@
 -- What each call makes of the moment before it, as a function.
-use Rattle.std.specs.Prelude.{◌&&◌, ◌||◌, ℕ, ◌+◌, ◌-◌, nat_lt, nat_le, if◌then◌else◌, Bool, false, List, length, slice_index}
+use Rattle.std.specs.Prelude.{◌≡◌, ◌&&◌, ◌||◌, ℕ, ◌+◌, ◌-◌, nat_lt, nat_le, if◌then◌else◌, Bool, true, false, List, length, slice_index}
 use Rattle.volume_disk.specs.Disk.{Moment, put_at}
+use Rattle.volume_disk.specs.Image.{IsIn}
 
 -- volumes of zeros, all of them synced
 abbrev pub blank : Moment
@@ -28,3 +29,7 @@ written moment vol at bytes = record {
 -- a volume is synced
 unfoldable pub synced : Moment → ℕ → Moment
 synced moment vol = record moment { unsynced = put_at moment.unsynced vol (λ _. false) }
+
+-- a stop may leave any byte at each place of n bytes from `at` on
+abbrev pub IsPending : Moment → ℕ → ℕ → ℕ → Type 0
+IsPending moment vol at n = (v k : ℕ) → IsIn vol at n v k → moment.unsynced v k ≡ true

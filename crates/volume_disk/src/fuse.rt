@@ -4,8 +4,8 @@ ghost use Rattle.std.specs.Prelude.{◌≡◌, ◌+◌, ◌-◌, ◌^◌, min};
 use crate::{MemoryRack, Rack};
 use domain_base::{Failed, VolIx};
 
-/// A rack that passes so many calls on to a rack in memory, and fails every call after them. A write that it fails
-/// tears its range, as one that the rack in memory fails by itself.
+/// A rack that passes so many calls on to a rack in memory, which may fail them by itself, and fails every call after
+/// them. A write that it fails tears its range as one does that the rack in memory fails; of both only tests show it.
 #[derive(Drop)]
 pub struct FuseRack {
     rack: MemoryRack,
@@ -16,7 +16,7 @@ impl FuseRack {
     ghost use Rattle.volume_disk.specs.Fuse.{inner_of, last_of};
     ghost use Rattle.volume_disk.specs.Memory.{memory_disk};
 
-    /// Lets `passes` more calls of the rack pass.
+    /// Passes on so many more calls of the rack, as far as its clock goes.
     pub fn new(rack: MemoryRack, passes: u64) -> FuseRack
         ensures inner { inner_of result ≡ rack }
         ensures last { last_of result ≡ min ((memory_disk rack).calls + passes) (2 ^ 64 - 1) }

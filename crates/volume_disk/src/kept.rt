@@ -1,5 +1,5 @@
 //! The calls that a rack in memory keeps, so that it can tell what a stop at an earlier moment may have left.
-ghost use Rattle.std.specs.Prelude.{◌≡◌, ◌*◌, length, OnOk, OnErr};
+ghost use Rattle.std.specs.Prelude.{◌≡◌, ◌*◌, IsTrue, length, OnOk, OnErr};
 ghost use Rattle.volume_disk.specs.Kept.{Adds, block_of, size_of, effect_on};
 ghost use Rattle.volume_disk.specs.Moment.{written};
 
@@ -35,6 +35,7 @@ pub fn keep(
 ) -> Result<(), OutOfMemory>
     ensures ok { OnOk result (Adds keeps kept.old.items kept.new.items number vol (block_of effect) (size_of effect) (λ moment. effect_on moment vol effect)) }
     ensures err { OnErr result (kept.new.items ≡ kept.old.items) }
+    ensures short { OnErr result (IsTrue keeps) }
 {
     if keeps {
         kept.push(KeptCall {
@@ -58,6 +59,7 @@ pub fn keep_write(
 ) -> Result<(), OutOfMemory>
     ensures ok { OnOk result (Adds keeps kept.old.items kept.new.items number vol block (length bytes.now) (λ moment. written moment vol (512 * block) bytes.now)) }
     ensures err { OnErr result (kept.new.items ≡ kept.old.items) }
+    ensures short { OnErr result (IsTrue keeps) }
 {
     if !keeps {
         return Ok(());

@@ -1,7 +1,8 @@
 //! A rack whose volumes are in memory, which fails where it is told to, and can tell what a stop may leave.
-ghost use Rattle.std.specs.Prelude.{◌≡◌, ◌≤◌, ◌*◌, false, take, All, IsTrue, IfOk};
+ghost use Rattle.std.specs.Prelude.{◌≡◌, ◌<◌, ◌≤◌, ◌-◌, ◌*◌, ◌^◌, true, false, take, All, IsTrue, IfOk};
 ghost use Rattle.volume_disk.specs.Disk.{AreBlocks, HasVolume, MayPass, ReadFailed, WriteFailed, SyncFailed};
 ghost use Rattle.volume_disk.specs.Kept.{FitsIn, replayed};
+ghost use Rattle.volume_disk.specs.Moment.{IsPending};
 ghost use Rattle.volume_disk.specs.Volume.{moment_of, settled_of, sizes_of};
 
 use crate::Rack;
@@ -10,8 +11,8 @@ use crate::volumes::Volumes;
 use domain_base::{Failed, OutOfMemory, VolIx};
 use std::alloc::Global;
 
-/// A rack in memory. It tells what it holds and what a stop now may leave, and, where it keeps its calls, what a stop
-/// at any moment since its making may have left.
+/// A rack in memory. Contracts tell what it holds and what a stop now may leave, and, where it keeps its calls, what a
+/// stop after any call since its making may have left; then `image` gives such a rack.
 #[derive(Drop)]
 pub struct MemoryRack {
     alloc: Global,
@@ -32,8 +33,9 @@ impl MemoryRack {
 
     /// A rack of volumes of zeros, of so many pages each, in the order of their numbers. A domain has at most eight
     /// volumes, so only the first eight sizes count. A call fails whose number, counted from 1, is in `fails`. With
-    /// `keep_calls` the rack can tell what a stop at any moment may have left, and a write or a sync fails where no
-    /// memory is left to keep it; without, no call takes memory.
+    /// `keep_calls` the rack can tell what a stop after any call may have left, and a write or a sync fails where no
+    /// memory is left to keep it; without, no call takes memory, which no clause says. OutOfMemory comes where there is
+    /// none for the volumes.
     pub fn new(
         alloc: Global,
         sizes: &[u32],
@@ -65,7 +67,9 @@ impl MemoryRack {
 
     /// A rack that starts again on what a stop right after a call may have left; call 0 is the making of this rack.
     /// With pick 0 every write up to that call has lasted. Each other pick gives some image that the model allows, and
-    /// no more is promised of it. The rack has to keep its calls, and has to have made that one.
+    /// no clause promises more of it; tests show that at pick 1 nothing has lasted that was not synced, and that greater
+    /// picks tear. The rack has to keep its calls, and has to have made that one. OutOfMemory comes where there is none
+    /// for the new rack.
     pub fn image(&self, alloc: Global, call: u64, pick: u64) -> Result<MemoryRack, OutOfMemory>
         requires kept { IsTrue (memory_disk self.now).kept }
         requires made { call ≤ (memory_disk self.now).calls }
@@ -103,9 +107,10 @@ impl MemoryRack {
         Ok((now, synced))
     }
 
-    /// The next call has to fail.
+    /// Whether the next call has to fail.
     pub(crate) fn must_fail(&self) -> bool
-        ensures { result ≡ false → MayPass (memory_disk self.now) }
+        ensures passes { result ≡ false → MayPass (memory_disk self.now) }
+        ensures fails { result ≡ true → ¬ MayPass (memory_disk self.now) }
     {
         self.calls == u64::MAX || self.fails.contains(&(self.calls + 1))
     }
@@ -119,7 +124,7 @@ impl MemoryRack {
         self.calls = self.calls.saturating_add(1);
     }
 
-    /// Makes a write or a sync that fails and changes nothing.
+    /// Makes a write or a sync that fails and tears nothing.
     pub(crate) fn fail_untorn(&mut self, vol: VolIx)
         requires { HasVolume (memory_disk self.old) vol }
         ensures { SyncFailed (memory_disk self.old) (memory_disk self.new) vol }
@@ -128,11 +133,12 @@ impl MemoryRack {
         self.calls = self.calls.saturating_add(1);
     }
 
-    /// Makes a write of `size` bytes that fails and tears its range, unless there is no number or no memory left to
-    /// keep that: then it changes nothing.
+    /// Makes a write of `size` bytes that fails and tears its range, unless there is no number left, or no memory to
+    /// keep the call: then it tears nothing. Where calls are kept, only tests show that it tears.
     pub(crate) fn fail_write(&mut self, vol: VolIx, block: u32, size: usize)
         requires { AreBlocks (memory_disk self.old) vol block size }
-        ensures { WriteFailed (memory_disk self.old) (memory_disk self.new) vol (512 * block) size }
+        ensures failed { WriteFailed (memory_disk self.old) (memory_disk self.new) vol (512 * block) size }
+        ensures pending { (memory_disk self.old).calls < 2 ^ 64 - 1 → (memory_disk self.old).kept ≡ false → IsPending (memory_disk self.new).now vol (512 * block) size }
     {
         if self.calls == u64::MAX {
             return self.fail_untorn(vol);

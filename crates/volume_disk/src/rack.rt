@@ -8,7 +8,8 @@ use domain_base::{Failed, VolIx};
 ///
 /// A write shows in reads at once. It lasts from the next sync of its volume that answers Ok: a stop before that may turn
 /// its bytes into any others, and spares the bytes that no such write touched. What a write that answers Err left in its
-/// range only a read can tell, and it is no more certain to last than what was written and not synced.
+/// range only a read can tell: any bytes, and those that it changed last no sooner than if it had answered Ok. Whether a
+/// stop may change the others of the range too, a rack is free to choose.
 ///
 /// The clock of a rack is a count of `read`, `write` and `sync`, whatever they answer. It has 64 bits, and once it is at
 /// its end each call answers Err.

@@ -5,7 +5,7 @@ use Rattle.volume_disk.proofs.Fused.{WriteDone-fused, WriteFailed-fused}
 use Rattle.volume_disk.proofs.fuse.FuseRackRack.write.Goals as goal
 
 pub returns-then-calls-self-clause-failed : goal.returns-then-calls-self-clause-failed
-returns-then-calls-self-clause-failed c = WriteFailed-fused (memory_disk c.args.self.now.rack) (memory_disk c.fail_write.new.self) c.args.self.now.last c.args.vol (512 * c.args.block) (length c.args.bytes.now) c.fail_write.ensures
+returns-then-calls-self-clause-failed c = WriteFailed-fused (memory_disk c.args.self.now.rack) (memory_disk c.fail_write.new.self) c.args.self.now.last c.args.vol (512 * c.args.block) (length c.args.bytes.now) c.fail_write.ensures.failed
 
 pub returns-clause-done : goal.returns-clause-done
 returns-clause-done c =

@@ -30,7 +30,7 @@ returns-clause-done c =
     let effect : Moment → Moment = λ moment. synced moment c.args.vol in
     let adds = from_ok c.keep.result (sym c.is_err.ensures.value ∙ c.if-is_err.false) c.keep.ensures.ok in
     let counts = c.sync.ensures.counts in
-    let passed = c.must_fail.ensures c.if-must_fail.false in
+    let passed = c.must_fail.ensures.passes c.if-must_fail.false in
     record {
       makes = makes_added rack c.keep.new.kept.items c.args.vol 0 0 effect adds c.sync.new.self.items.items counts.sizes _ _ passed.0 counts.read_faults counts.write_faults;
       syncs = λ told. subst (Syncs c.args.vol now) (sym c.sync.ensures.moment) (Syncs-synced now c.args.vol);

@@ -36,7 +36,7 @@ returns-clause-done c =
     let effect : Moment → Moment = λ moment. written moment c.args.vol at bytes in
     let adds = from_ok c.keep_write.result (sym c.is_err.ensures.value ∙ c.if-is_err.false) c.keep_write.ensures.ok in
     let counts = c.write.ensures.counts in
-    let passed = c.must_fail.ensures c.if-must_fail.false in
+    let passed = c.must_fail.ensures.passes c.if-must_fail.false in
     record {
       makes = makes_added rack c.keep_write.new.kept.items c.args.vol c.args.block (length bytes) effect adds c.write.new.self.items.items counts.sizes _ _ passed.0 counts.read_faults counts.write_faults;
       writes = λ told. subst (Writes c.args.vol at bytes now) (sym c.write.ensures.moment) (Writes-written now c.args.vol at bytes);
