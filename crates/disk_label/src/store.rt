@@ -1,7 +1,6 @@
 //! Anchors on the volumes of a rack.
 ghost use Rattle.std.specs.Prelude.{◌≡◌, ◌*◌, ◌+◌, ◌-◌, ◌<◌, ◌≤◌, false, None, Some, IsTrue, IfOk, IfErr, OnOk, length, ℕ, List, Option};
-ghost use Rattle.domain_base.specs.Counts.{HasRisen};
-ghost use Rattle.volume_disk.specs.Disk.{Disk, AreBlocks, HasVolume, OnlyReads, OnlyWrites, OnlyChanges, Settles, LeavesOnly, MayLeave, pages_of};
+ghost use Rattle.volume_disk.specs.Disk.{Disk, AreBlocks, HasVolume, OnlyReads, OnlyWrites, OnlyChanges, Settles, LeavesOnly, MayLeave, raised_at, pages_of};
 ghost use Rattle.volume_disk.specs.Image.{Image, bytes_at};
 ghost use Rattle.disk_label.specs.Anchor.{HasAnchor, HasBefore, IsReady, SamePage1, greater_of, IsAnchor, IsAnchorBelow, IsNext, IsOldOrNew, IsWhole, StandsAt, StandsIn};
 ghost use Rattle.disk_label.specs.Fault.{HasCause, HasFailed};
@@ -41,7 +40,8 @@ pub(crate) fn read_block<R: Rack>(
     requires blocks { AreBlocks (R.disk rack.old) vol block (length out.old) }
     ensures reads { OnlyReads (R.disk rack.old) (R.disk rack.new) }
     ensures bytes { OnOk result (IsTrue (R.disk rack.old).told → out.new ≡ bytes_at (R.disk rack.old).now.contents vol (512 * block) (length out.old)) }
-    ensures fault { IfErr result (λ v. HasRisen ((R.disk rack.old).read_faults v) ((R.disk rack.new).read_faults v)) }
+    ensures passed { OnOk result ((R.disk rack.new).read_faults ≡ (R.disk rack.old).read_faults) }
+    ensures fault { IfErr result (λ v. (R.disk rack.new).read_faults ≡ raised_at (R.disk rack.old).read_faults v) }
 {
     match rack.read(vol, block, out) {
         Ok(()) => Ok(()),
@@ -59,7 +59,8 @@ pub(crate) fn write_synced<R: Rack>(
     requires { AreBlocks (R.disk rack.old) vol block (length bytes.now) }
     ensures writes { OnlyWrites (R.disk rack.old) (R.disk rack.new) vol (512 * block) (length bytes.now) }
     ensures settled { OnOk result (IsTrue (R.disk rack.old).told → Settles vol (512 * block) bytes.now (R.disk rack.old).now (R.disk rack.new).now) }
-    ensures fault { IfErr result (λ v. HasRisen ((R.disk rack.old).write_faults v) ((R.disk rack.new).write_faults v)) }
+    ensures passed { OnOk result ((R.disk rack.new).write_faults ≡ (R.disk rack.old).write_faults) }
+    ensures fault { IfErr result (λ v. (R.disk rack.new).write_faults ≡ raised_at (R.disk rack.old).write_faults v) }
 {
     match rack.write(vol, block, bytes) {
         Err(_) => Err(vol),
@@ -77,7 +78,8 @@ fn read_slot<R: Rack>(rack: &mut R, vol: VolIx, slot: u8) -> Result<Option<Ancho
     requires slot { slot ≤ 1 }
     ensures reads { OnlyReads (R.disk rack.old) (R.disk rack.new) }
     ensures found { IfOk result (λ found. IsTrue (R.disk rack.old).told → StandsAt (R.disk rack.old).sizes (R.disk rack.old).now.contents (2 * (vol - 1) + slot) found) }
-    ensures fault { IfErr result (λ v. HasRisen ((R.disk rack.old).read_faults v) ((R.disk rack.new).read_faults v)) }
+    ensures passed { OnOk result ((R.disk rack.new).read_faults ≡ (R.disk rack.old).read_faults) }
+    ensures fault { IfErr result (λ v. (R.disk rack.new).read_faults ≡ raised_at (R.disk rack.old).read_faults v) }
 {
     let gate = FIRST_GATE + SLOT_BLOCKS * u32::from(slot);
     let mut block = [0; BLOCK_BYTES];
@@ -101,7 +103,8 @@ fn look_at<R: Rack>(rack: &mut R, place: u32, best: Option<Anchor>) -> Result<Op
     ensures better { IfOk result (λ better. IsTrue (R.disk rack.old).told
         → IsAnchorBelow place (R.disk rack.old).sizes (R.disk rack.old).now.contents best
         → IsAnchorBelow (place + 1) (R.disk rack.old).sizes (R.disk rack.old).now.contents better) }
-    ensures fault { IfErr result (λ v. HasRisen ((R.disk rack.old).read_faults v) ((R.disk rack.new).read_faults v)) }
+    ensures passed { OnOk result ((R.disk rack.new).read_faults ≡ (R.disk rack.old).read_faults) }
+    ensures fault { IfErr result (λ v. (R.disk rack.new).read_faults ≡ raised_at (R.disk rack.old).read_faults v) }
 {
     let Some(vol) = VolIx::new(place / 2 + 1) else {
         return Ok(best);
@@ -138,6 +141,7 @@ pub fn read_anchor<R: Rack>(rack: &mut R) -> Result<Anchor, AnchorFault>
     ensures reads { OnlyReads (R.disk rack.old) (R.disk rack.new) }
     ensures anchor { IfOk result (λ anchor. IsTrue (R.disk rack.old).told → IsAnchor (R.disk rack.old).sizes (R.disk rack.old).now.contents (Some anchor)) }
     ensures none { result ≡ Err AnchorFault.NoAnchor → IsTrue (R.disk rack.old).told → IsAnchor (R.disk rack.old).sizes (R.disk rack.old).now.contents None }
+    ensures passed { OnOk result ((R.disk rack.new).read_faults ≡ (R.disk rack.old).read_faults) }
     ensures fault { IfErr result (HasCause (R.disk rack.old) (R.disk rack.new)) }
 {
     let mut best = None;
@@ -225,7 +229,8 @@ pub fn write_anchor<R: Rack>(rack: &mut R, anchor: &Anchor) -> Result<(), VolIx>
     ensures writes { OnlyWrites (R.disk rack.old) (R.disk rack.new) anchor.now.log_vol (8192 + 4096 * anchor.now.slot) 4096 }
     ensures settled { OnOk result (IsTrue (R.disk rack.old).told
         → Settles anchor.now.log_vol (8192 + 4096 * anchor.now.slot) (slot_bytes anchor.now) (R.disk rack.old).now (R.disk rack.new).now) }
-    ensures fault { IfErr result (λ v. HasRisen ((R.disk rack.old).write_faults v) ((R.disk rack.new).write_faults v)) }
+    ensures passed { OnOk result ((R.disk rack.new).write_faults ≡ (R.disk rack.old).write_faults) }
+    ensures fault { IfErr result (λ v. (R.disk rack.new).write_faults ≡ raised_at (R.disk rack.old).write_faults v) }
 {
     let Some(vol) = VolIx::new(anchor.log_vol) else {
         unreachable!()
