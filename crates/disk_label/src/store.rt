@@ -3,11 +3,11 @@ ghost use Rattle.std.specs.Prelude.{◌≡◌, ◌*◌, ◌+◌, ◌-◌, ◌<�
 ghost use Rattle.volume_disk.specs.Disk.{Disk, AreBlocks, HasVolume, OnlyReads, OnlyWrites, OnlyChanges, Settles, LeavesOnly, MayLeave, raised_at, pages_of};
 ghost use Rattle.volume_disk.specs.Image.{Image, bytes_at};
 ghost use Rattle.disk_label.specs.Anchor.{HasAnchor, HasBefore, IsReady, SamePage1, greater_of, IsAnchor, IsAnchorBelow, IsNext, IsOldOrNew, IsWhole, StandsAt, StandsIn};
-ghost use Rattle.disk_label.specs.Fault.{HasCause, HasFailed};
+ghost use Rattle.disk_label.specs.Fault.{HasCause, HasPassed, HasSlotCause};
 ghost use Rattle.disk_label.specs.Words.{slot_bytes};
 
-use crate::Anchor;
 use crate::anchor::BODY_BYTES;
+use crate::{Anchor, AnchorFault, SlotFault};
 use domain_base::VolIx;
 use domain_base::limits::{BLOCK_BYTES, MAX_VOLUMES};
 use volume_disk::Rack;
@@ -20,15 +20,6 @@ const FIRST_GATE: u32 = 16;
 
 /// The blocks of a slot.
 const SLOT_BLOCKS: u32 = 8;
-
-/// Why there is no anchor to give.
-#[derive(Clone, Copy, Debug, PartialEq, Eq)]
-pub enum AnchorFault {
-    /// None counts.
-    NoAnchor,
-    /// A read of this volume failed.
-    Fault { vol: VolIx },
-}
 
 /// Reads one block of 512 bytes of a volume. The error is the volume.
 pub(crate) fn read_block<R: Rack>(
@@ -166,7 +157,7 @@ pub fn read_anchor<R: Rack>(rack: &mut R) -> Result<Anchor, AnchorFault>
 ///
 /// A write of an anchor that was cut short may have left a body with the next number behind the closed gate. The next
 /// write begins by closing that gate once more, and a stop that tears this may open it: then that body would count.
-pub fn ready_slot<R: Rack>(rack: &mut R, vol: VolIx, slot: u8) -> Result<(), VolIx>
+pub fn ready_slot<R: Rack>(rack: &mut R, vol: VolIx, slot: u8) -> Result<(), SlotFault>
     requires there { HasVolume (R.disk rack.old) vol }
     requires pages { 2 ≤ pages_of (R.disk rack.old).sizes vol }
     requires slot { slot ≤ 1 }
@@ -184,15 +175,22 @@ pub fn ready_slot<R: Rack>(rack: &mut R, vol: VolIx, slot: u8) -> Result<(), Vol
         → (R.disk rack.old).now.unsynced vol (8192 + 4096 * slot) ≡ false → ¬ ((other_vol ≡ vol) × (other_slot ≡ slot))
         → IsReady (R.disk rack.old) old other_vol other_slot → IsReady (R.disk rack.new) old other_vol other_slot }
     ensures changes { OnlyChanges (R.disk rack.old) (R.disk rack.new) vol (8192 + 4096 * slot + BLOCK_BYTES) BODY_BYTES }
-    ensures fault { IfErr result (HasFailed (R.disk rack.old) (R.disk rack.new)) }
+    ensures passed { OnOk result (HasPassed (R.disk rack.old) (R.disk rack.new)) }
+    ensures fault { IfErr result (HasSlotCause (R.disk rack.old) (R.disk rack.new)) }
 {
     let gate = FIRST_GATE + SLOT_BLOCKS * u32::from(slot);
     let mut block = [0; BLOCK_BYTES];
-    read_block(rack, vol, gate, &mut block)?;
+    match read_block(rack, vol, gate, &mut block) {
+        Ok(()) => {}
+        Err(vol) => return Err(SlotFault::Read { vol }),
+    }
     if block[0] == OPEN {
         return Ok(());
     }
-    write_synced(rack, vol, gate + 1, &[0; BODY_BYTES])
+    match write_synced(rack, vol, gate + 1, &[0; BODY_BYTES]) {
+        Ok(()) => Ok(()),
+        Err(vol) => Err(SlotFault::Write { vol }),
+    }
 }
 
 /// Writes an anchor into the slot that it names: closes the gate, writes the body, and opens the gate, each on the disk

@@ -4,7 +4,8 @@ ghost use Rattle.volume_disk.specs.Disk.{OnlyReads};
 ghost use Rattle.disk_label.specs.Anchor.{IsAnchor, IsNext, IsWhole};
 
 use crate::{
-    Anchor, AnchorFault, Member, read_anchor, read_label, ready_slot, write_anchor, write_label,
+    Anchor, AnchorFault, Member, SlotFault, read_anchor, read_label, ready_slot, write_anchor,
+    write_label,
 };
 use domain_base::{Home, OutOfMemory, VolIx};
 use std::alloc::Global;
@@ -165,7 +166,7 @@ fn a_stop_leaves_the_old_anchor_or_the_new_one(rt: HostRuntime) -> Result<(), Fa
 }
 
 /// Makes a slot ready, where the conditions of `ready_slot` hold.
-fn make_ready<R: Rack>(rack: &mut R, vol: VolIx, slot: u8) -> Result<bool, VolIx> {
+fn make_ready<R: Rack>(rack: &mut R, vol: VolIx, slot: u8) -> Result<bool, SlotFault> {
     if vol.number() > rack.volumes() || rack.pages(vol) < 2 || slot > 1 {
         return Ok(false);
     }
