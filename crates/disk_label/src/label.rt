@@ -46,8 +46,9 @@ pub fn write_label<R: Rack>(rack: &mut R, vol: VolIx, pages: u32) -> Result<(), 
     write_synced(rack, vol, 0, &page)
 }
 
-/// The pages of a volume by its label: exactly where the label is right for that volume, and the rack has so many.
-/// It reads one block. The error is the volume, of which a read failed.
+/// How many pages of 8,192 bytes a volume has, as its label says. None comes where page 0 holds no label of this version
+/// and volume with one page of bitmap, or one with more pages than the rack's volume has. It reads one block, and none of
+/// a volume that has no page. The error is the volume, of which that read failed.
 pub fn read_label<R: Rack>(rack: &mut R, vol: VolIx) -> Result<Option<u32>, VolIx>
     requires there { HasVolume (R.disk rack.old) vol }
     ensures reads { OnlyReads (R.disk rack.old) (R.disk rack.new) }

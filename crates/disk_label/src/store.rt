@@ -107,7 +107,7 @@ fn look_at<R: Rack>(rack: &mut R, place: u32, best: Option<Anchor>) -> Result<Op
     Ok(greater(best, found))
 }
 
-/// The one with the greater number, and the first of two with one number.
+/// Of two that were found one after the other, the second only if its number is higher.
 fn greater(best: Option<Anchor>, found: Option<Anchor>) -> Option<Anchor>
     ensures { result ≡ greater_of best found }
 {
@@ -124,8 +124,8 @@ fn greater(best: Option<Anchor>, found: Option<Anchor>) -> Option<Anchor>
     }
 }
 
-/// The domain's anchor: of those that count, the one with the greatest number, and of two with one number that on the
-/// lower volume, and there in the lower slot. It writes nothing.
+/// The domain's anchor. The volumes are looked through in their order, slot 0 of each ahead of slot 1; of what counts
+/// there the highest number wins, and where that is met more than once, the place where it was met first. It writes nothing.
 ///
 /// `NoAnchor` comes where none counts, and `Fault` where a read of that volume failed.
 pub fn read_anchor<R: Rack>(rack: &mut R) -> Result<Anchor, AnchorFault>
@@ -153,7 +153,12 @@ pub fn read_anchor<R: Rack>(rack: &mut R) -> Result<Anchor, AnchorFault>
 /// its log: when it is opened, and when the log goes to another volume, before the first anchor there. No more is needed
 /// before later anchors, since each leaves the slot of the next one ready (`next` and `others` of `write_anchor`). What it
 /// does to one slot leaves each other slot as ready as it was. The volume has to be one of the rack, with two pages or
-/// more. The error is the volume, of which a read, a write or a sync failed.
+/// more. The error says of which volume a call failed, and whether that was a read, or a write or a sync.
+///
+/// It is for a rack on which nothing is pending, since a read does not show what a stop may leave of bytes that are. So each
+/// volume is synced before a domain that was stopped by a failed write is opened on the same rack again. A new domain first
+/// closes both gates of its volume, and syncs them, as an open gate may stand there from before: that is the business of the
+/// crate that makes domains.
 ///
 /// A write of an anchor that was cut short may have left a body with the next number behind the closed gate. The next
 /// write begins by closing that gate once more, and a stop that tears this may open it: then that body would count.
