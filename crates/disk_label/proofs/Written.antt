@@ -1,5 +1,5 @@
 -- What a stop leaves while a slot is made ready and an anchor is written.
-use Rattle.std.proofs.Common.{◌≡◌, ℕ, ◌+◌, ◌-◌, ◌*◌, ◌%◌, ◌<◌, ◌≤◌, List, ◌++◌, length, length-append, get_or, replicate, Option, Some, None, false, IsTrue, Result, Ok, Err, IfErr, refl, sym, ◌∙◌, ap, subst, inl, inr, arith}
+use Rattle.std.proofs.Common.{◌≡◌, ℕ, ◌+◌, ◌-◌, ◌*◌, ◌%◌, ◌<◌, ◌≤◌, List, ◌++◌, length, length-append, get_or, replicate, Option, Some, None, false, IsTrue, refl, sym, ◌∙◌, ap, subst, inl, inr, arith}
 use Rattle.std.proofs.lemmas.Bool.{cases_eq, cases_lt}
 use Rattle.std.proofs.lemmas.List.{get_or_append_left, get_or-append_right}
 use Rattle.volume_disk.specs.Disk.{Disk, Moment, MayLeave, MayLeaveTorn, LeavesOnly, OnlyWrites, Settles, pages_of}
@@ -12,10 +12,6 @@ use Rattle.disk_label.specs.Words.{body_bytes, slot_bytes}
 use Rattle.disk_label.proofs.Bodies.{anchor_from-same, slot_is-anchor_from, log_vol-zeros}
 use Rattle.disk_label.proofs.Slots.{volume_is, slot_is, gate_at, anchor_read, Counts-same, IsAnchorBelow-kept}
 use Rattle.disk_label.specs.declared.anchor.Anchor.{Anchor}
-
-pub if_err_weaker : {T E : Type 0} {P Q : E → Type 0} (result : Result T E) → ((e : E) → P e → Q e) → IfErr result P → IfErr result Q
-if_err_weaker (Ok x) weak held = held
-if_err_weaker (Err e) weak held = weak e held
 
 module _ (vol slot : ℕ) (low : 1 ≤ vol) (high : slot ≤ 1) where
   abbrev place : ℕ

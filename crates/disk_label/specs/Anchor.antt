@@ -17,7 +17,8 @@ gate_of place = 8192 + 4096 * (place % 2)
 abbrev pub anchor_at : Image → ℕ → Anchor
 anchor_at image place = anchor_from (bytes_at image (volume_of place) (gate_of place + 512) 512) (place % 2)
 
--- the anchor there counts: its gate is open, it stands on the log volume that it names, and that is a member in it
+-- the slot holds an anchor that counts: the rack has the slot, the gate begins with the byte of an open one, and the body
+-- gives its own volume both as the log's and as a member
 pub record Counts (sizes : List ℕ) (image : Image) (place : ℕ) : Type 0 where
   pub there : 2 ≤ pages_of sizes (volume_of place)
   pub is_open : image (volume_of place) (gate_of place) ≡ 165
@@ -29,7 +30,7 @@ abbrev pub StandsAt : List ℕ → Image → ℕ → Option Anchor → Type 0
 StandsAt sizes image place None = ¬ Counts sizes image place
 StandsAt sizes image place (Some anchor) = Counts sizes image place × (anchor_at image place ≡ anchor)
 
--- of the slots below n it counts, with the greatest number, and before any other with that number
+-- the anchor is met at some slot below n: no slot there has a higher number, and no earlier one the same
 pub record IsGreatest (n : ℕ) (sizes : List ℕ) (image : Image) (anchor : Anchor) : Type 0 where
   pub place : ℕ
   pub below : place < n
@@ -43,7 +44,7 @@ abbrev pub IsAnchorBelow : ℕ → List ℕ → Image → Option Anchor → Type
 IsAnchorBelow n sizes image None = (p : ℕ) → p < n → ¬ Counts sizes image p
 IsAnchorBelow n sizes image (Some anchor) = IsGreatest n sizes image anchor
 
--- the one with the greater number, and the first of two with one number
+-- of two that were found one after the other, the second only if its number is higher
 abbrev pub greater_of : Option Anchor → Option Anchor → Option Anchor
 greater_of best None = best
 greater_of None (Some found) = Some found
@@ -64,7 +65,7 @@ pub record IsWhole (anchor : Anchor) : Type 0 where
 abbrev pub place_of : Anchor → ℕ
 place_of anchor = 2 * (anchor.log_vol - 1) + anchor.slot
 
--- it has the next number, and takes the slot of its log volume that does not hold the domain's anchor
+-- its number is one higher, and its slot the other one while the log stays on its volume, else slot 0
 abbrev pub IsNext : Option Anchor → Anchor → Type 0
 IsNext None new = (new.number ≡ 1) × (new.slot ≡ 0)
 IsNext (Some old) new = (new.number ≡ old.number + 1) × (new.slot ≡ (if new.log_vol == old.log_vol then 1 - old.slot else 0))

@@ -1,7 +1,6 @@
 //! The label of a volume, its page 0.
 ghost use Rattle.std.specs.Prelude.{◌≡◌, ◌^◌, ◌<◌, ◌≤◌, ℕ, List, take, Some, IsTrue, IfOk, IfErr, OnOk};
-ghost use Rattle.domain_base.specs.Counts.{HasRisen};
-ghost use Rattle.volume_disk.specs.Disk.{HasVolume, OnlyReads, OnlyWrites, Settles, pages_of};
+ghost use Rattle.volume_disk.specs.Disk.{HasVolume, OnlyReads, OnlyWrites, Settles, raised_at, pages_of};
 ghost use Rattle.volume_disk.specs.Image.{bytes_at};
 ghost use Rattle.disk_label.specs.Label.{IsLabelOf, label_bytes};
 
@@ -31,7 +30,8 @@ pub fn write_label<R: Rack>(rack: &mut R, vol: VolIx, pages: u32) -> Result<(), 
     requires page { 1 ≤ pages_of (R.disk rack.old).sizes vol }
     ensures writes { OnlyWrites (R.disk rack.old) (R.disk rack.new) vol 0 PAGE_BYTES }
     ensures label { OnOk result (IsTrue (R.disk rack.old).told → Settles vol 0 (label_bytes vol pages) (R.disk rack.old).now (R.disk rack.new).now) }
-    ensures fault { IfErr result (λ v. HasRisen ((R.disk rack.old).write_faults v) ((R.disk rack.new).write_faults v)) }
+    ensures passed { OnOk result ((R.disk rack.new).write_faults ≡ (R.disk rack.old).write_faults) }
+    ensures fault { IfErr result (λ v. (R.disk rack.new).write_faults ≡ raised_at (R.disk rack.old).write_faults v) }
 {
     let mut page = [0; PAGE_BYTES];
     let words = [
@@ -46,13 +46,15 @@ pub fn write_label<R: Rack>(rack: &mut R, vol: VolIx, pages: u32) -> Result<(), 
     write_synced(rack, vol, 0, &page)
 }
 
-/// The pages of a volume by its label: exactly where the label is right for that volume, and the rack has so many.
-/// It reads one block. The error is the volume, of which a read failed.
+/// How many pages of 8,192 bytes a volume has, as its label says. None comes where page 0 holds no label of this version
+/// and volume with one page of bitmap, or one with more pages than the rack's volume has. It reads one block, and none of
+/// a volume that has no page. The error is the volume, of which that read failed.
 pub fn read_label<R: Rack>(rack: &mut R, vol: VolIx) -> Result<Option<u32>, VolIx>
     requires there { HasVolume (R.disk rack.old) vol }
     ensures reads { OnlyReads (R.disk rack.old) (R.disk rack.new) }
     ensures label { IfOk result (λ label. IsTrue (R.disk rack.old).told → IsLabelOf (R.disk rack.old).sizes vol (bytes_at (R.disk rack.old).now.contents vol 0 512) label) }
-    ensures fault { IfErr result (λ v. HasRisen ((R.disk rack.old).read_faults v) ((R.disk rack.new).read_faults v)) }
+    ensures passed { OnOk result ((R.disk rack.new).read_faults ≡ (R.disk rack.old).read_faults) }
+    ensures fault { IfErr result (λ v. (R.disk rack.new).read_faults ≡ raised_at (R.disk rack.old).read_faults v) }
 {
     let available = rack.pages(vol);
     if available == 0 {

@@ -1,14 +1,13 @@
 //! Anchors on the volumes of a rack.
 ghost use Rattle.std.specs.Prelude.{◌≡◌, ◌*◌, ◌+◌, ◌-◌, ◌<◌, ◌≤◌, false, None, Some, IsTrue, IfOk, IfErr, OnOk, length, ℕ, List, Option};
-ghost use Rattle.domain_base.specs.Counts.{HasRisen};
-ghost use Rattle.volume_disk.specs.Disk.{Disk, AreBlocks, HasVolume, OnlyReads, OnlyWrites, OnlyChanges, Settles, LeavesOnly, MayLeave, pages_of};
+ghost use Rattle.volume_disk.specs.Disk.{Disk, AreBlocks, HasVolume, OnlyReads, OnlyWrites, OnlyChanges, Settles, LeavesOnly, MayLeave, raised_at, pages_of};
 ghost use Rattle.volume_disk.specs.Image.{Image, bytes_at};
 ghost use Rattle.disk_label.specs.Anchor.{HasAnchor, HasBefore, IsReady, SamePage1, greater_of, IsAnchor, IsAnchorBelow, IsNext, IsOldOrNew, IsWhole, StandsAt, StandsIn};
-ghost use Rattle.disk_label.specs.Fault.{HasCause, HasFailed};
+ghost use Rattle.disk_label.specs.Fault.{HasCause, HasPassed, HasSlotCause};
 ghost use Rattle.disk_label.specs.Words.{slot_bytes};
 
-use crate::Anchor;
 use crate::anchor::BODY_BYTES;
+use crate::{Anchor, AnchorFault, SlotFault};
 use domain_base::VolIx;
 use domain_base::limits::{BLOCK_BYTES, MAX_VOLUMES};
 use volume_disk::Rack;
@@ -22,15 +21,6 @@ const FIRST_GATE: u32 = 16;
 /// The blocks of a slot.
 const SLOT_BLOCKS: u32 = 8;
 
-/// Why there is no anchor to give.
-#[derive(Clone, Copy, Debug, PartialEq, Eq)]
-pub enum AnchorFault {
-    /// None counts.
-    NoAnchor,
-    /// A read of this volume failed.
-    Fault { vol: VolIx },
-}
-
 /// Reads one block of 512 bytes of a volume. The error is the volume.
 pub(crate) fn read_block<R: Rack>(
     rack: &mut R,
@@ -41,7 +31,8 @@ pub(crate) fn read_block<R: Rack>(
     requires blocks { AreBlocks (R.disk rack.old) vol block (length out.old) }
     ensures reads { OnlyReads (R.disk rack.old) (R.disk rack.new) }
     ensures bytes { OnOk result (IsTrue (R.disk rack.old).told → out.new ≡ bytes_at (R.disk rack.old).now.contents vol (512 * block) (length out.old)) }
-    ensures fault { IfErr result (λ v. HasRisen ((R.disk rack.old).read_faults v) ((R.disk rack.new).read_faults v)) }
+    ensures passed { OnOk result ((R.disk rack.new).read_faults ≡ (R.disk rack.old).read_faults) }
+    ensures fault { IfErr result (λ v. (R.disk rack.new).read_faults ≡ raised_at (R.disk rack.old).read_faults v) }
 {
     match rack.read(vol, block, out) {
         Ok(()) => Ok(()),
@@ -59,7 +50,8 @@ pub(crate) fn write_synced<R: Rack>(
     requires { AreBlocks (R.disk rack.old) vol block (length bytes.now) }
     ensures writes { OnlyWrites (R.disk rack.old) (R.disk rack.new) vol (512 * block) (length bytes.now) }
     ensures settled { OnOk result (IsTrue (R.disk rack.old).told → Settles vol (512 * block) bytes.now (R.disk rack.old).now (R.disk rack.new).now) }
-    ensures fault { IfErr result (λ v. HasRisen ((R.disk rack.old).write_faults v) ((R.disk rack.new).write_faults v)) }
+    ensures passed { OnOk result ((R.disk rack.new).write_faults ≡ (R.disk rack.old).write_faults) }
+    ensures fault { IfErr result (λ v. (R.disk rack.new).write_faults ≡ raised_at (R.disk rack.old).write_faults v) }
 {
     match rack.write(vol, block, bytes) {
         Err(_) => Err(vol),
@@ -77,7 +69,8 @@ fn read_slot<R: Rack>(rack: &mut R, vol: VolIx, slot: u8) -> Result<Option<Ancho
     requires slot { slot ≤ 1 }
     ensures reads { OnlyReads (R.disk rack.old) (R.disk rack.new) }
     ensures found { IfOk result (λ found. IsTrue (R.disk rack.old).told → StandsAt (R.disk rack.old).sizes (R.disk rack.old).now.contents (2 * (vol - 1) + slot) found) }
-    ensures fault { IfErr result (λ v. HasRisen ((R.disk rack.old).read_faults v) ((R.disk rack.new).read_faults v)) }
+    ensures passed { OnOk result ((R.disk rack.new).read_faults ≡ (R.disk rack.old).read_faults) }
+    ensures fault { IfErr result (λ v. (R.disk rack.new).read_faults ≡ raised_at (R.disk rack.old).read_faults v) }
 {
     let gate = FIRST_GATE + SLOT_BLOCKS * u32::from(slot);
     let mut block = [0; BLOCK_BYTES];
@@ -101,7 +94,8 @@ fn look_at<R: Rack>(rack: &mut R, place: u32, best: Option<Anchor>) -> Result<Op
     ensures better { IfOk result (λ better. IsTrue (R.disk rack.old).told
         → IsAnchorBelow place (R.disk rack.old).sizes (R.disk rack.old).now.contents best
         → IsAnchorBelow (place + 1) (R.disk rack.old).sizes (R.disk rack.old).now.contents better) }
-    ensures fault { IfErr result (λ v. HasRisen ((R.disk rack.old).read_faults v) ((R.disk rack.new).read_faults v)) }
+    ensures passed { OnOk result ((R.disk rack.new).read_faults ≡ (R.disk rack.old).read_faults) }
+    ensures fault { IfErr result (λ v. (R.disk rack.new).read_faults ≡ raised_at (R.disk rack.old).read_faults v) }
 {
     let Some(vol) = VolIx::new(place / 2 + 1) else {
         return Ok(best);
@@ -113,7 +107,7 @@ fn look_at<R: Rack>(rack: &mut R, place: u32, best: Option<Anchor>) -> Result<Op
     Ok(greater(best, found))
 }
 
-/// The one with the greater number, and the first of two with one number.
+/// Of two that were found one after the other, the second only if its number is higher.
 fn greater(best: Option<Anchor>, found: Option<Anchor>) -> Option<Anchor>
     ensures { result ≡ greater_of best found }
 {
@@ -130,14 +124,15 @@ fn greater(best: Option<Anchor>, found: Option<Anchor>) -> Option<Anchor>
     }
 }
 
-/// The domain's anchor: of those that count, the one with the greatest number, and of two with one number that on the
-/// lower volume, and there in the lower slot. It writes nothing.
+/// The domain's anchor. The volumes are looked through in their order, slot 0 of each ahead of slot 1; of what counts
+/// there the highest number wins, and where that is met more than once, the place where it was met first. It writes nothing.
 ///
 /// `NoAnchor` comes where none counts, and `Fault` where a read of that volume failed.
 pub fn read_anchor<R: Rack>(rack: &mut R) -> Result<Anchor, AnchorFault>
     ensures reads { OnlyReads (R.disk rack.old) (R.disk rack.new) }
     ensures anchor { IfOk result (λ anchor. IsTrue (R.disk rack.old).told → IsAnchor (R.disk rack.old).sizes (R.disk rack.old).now.contents (Some anchor)) }
     ensures none { result ≡ Err AnchorFault.NoAnchor → IsTrue (R.disk rack.old).told → IsAnchor (R.disk rack.old).sizes (R.disk rack.old).now.contents None }
+    ensures passed { OnOk result ((R.disk rack.new).read_faults ≡ (R.disk rack.old).read_faults) }
     ensures fault { IfErr result (HasCause (R.disk rack.old) (R.disk rack.new)) }
 {
     let mut best = None;
@@ -158,11 +153,16 @@ pub fn read_anchor<R: Rack>(rack: &mut R) -> Result<Anchor, AnchorFault>
 /// its log: when it is opened, and when the log goes to another volume, before the first anchor there. No more is needed
 /// before later anchors, since each leaves the slot of the next one ready (`next` and `others` of `write_anchor`). What it
 /// does to one slot leaves each other slot as ready as it was. The volume has to be one of the rack, with two pages or
-/// more. The error is the volume, of which a read, a write or a sync failed.
+/// more. The error says of which volume a call failed, and whether that was a read, or a write or a sync.
+///
+/// It is for a rack on which nothing is pending, since a read does not show what a stop may leave of bytes that are. So each
+/// volume is synced before a domain that was stopped by a failed write is opened on the same rack again. A new domain first
+/// closes both gates of its volume, and syncs them, as an open gate may stand there from before: that is the business of the
+/// crate that makes domains.
 ///
 /// A write of an anchor that was cut short may have left a body with the next number behind the closed gate. The next
 /// write begins by closing that gate once more, and a stop that tears this may open it: then that body would count.
-pub fn ready_slot<R: Rack>(rack: &mut R, vol: VolIx, slot: u8) -> Result<(), VolIx>
+pub fn ready_slot<R: Rack>(rack: &mut R, vol: VolIx, slot: u8) -> Result<(), SlotFault>
     requires there { HasVolume (R.disk rack.old) vol }
     requires pages { 2 ≤ pages_of (R.disk rack.old).sizes vol }
     requires slot { slot ≤ 1 }
@@ -180,15 +180,22 @@ pub fn ready_slot<R: Rack>(rack: &mut R, vol: VolIx, slot: u8) -> Result<(), Vol
         → (R.disk rack.old).now.unsynced vol (8192 + 4096 * slot) ≡ false → ¬ ((other_vol ≡ vol) × (other_slot ≡ slot))
         → IsReady (R.disk rack.old) old other_vol other_slot → IsReady (R.disk rack.new) old other_vol other_slot }
     ensures changes { OnlyChanges (R.disk rack.old) (R.disk rack.new) vol (8192 + 4096 * slot + BLOCK_BYTES) BODY_BYTES }
-    ensures fault { IfErr result (HasFailed (R.disk rack.old) (R.disk rack.new)) }
+    ensures passed { OnOk result (HasPassed (R.disk rack.old) (R.disk rack.new)) }
+    ensures fault { IfErr result (HasSlotCause (R.disk rack.old) (R.disk rack.new)) }
 {
     let gate = FIRST_GATE + SLOT_BLOCKS * u32::from(slot);
     let mut block = [0; BLOCK_BYTES];
-    read_block(rack, vol, gate, &mut block)?;
+    match read_block(rack, vol, gate, &mut block) {
+        Ok(()) => {}
+        Err(vol) => return Err(SlotFault::Read { vol }),
+    }
     if block[0] == OPEN {
         return Ok(());
     }
-    write_synced(rack, vol, gate + 1, &[0; BODY_BYTES])
+    match write_synced(rack, vol, gate + 1, &[0; BODY_BYTES]) {
+        Ok(()) => Ok(()),
+        Err(vol) => Err(SlotFault::Write { vol }),
+    }
 }
 
 /// Writes an anchor into the slot that it names: closes the gate, writes the body, and opens the gate, each on the disk
@@ -225,7 +232,8 @@ pub fn write_anchor<R: Rack>(rack: &mut R, anchor: &Anchor) -> Result<(), VolIx>
     ensures writes { OnlyWrites (R.disk rack.old) (R.disk rack.new) anchor.now.log_vol (8192 + 4096 * anchor.now.slot) 4096 }
     ensures settled { OnOk result (IsTrue (R.disk rack.old).told
         → Settles anchor.now.log_vol (8192 + 4096 * anchor.now.slot) (slot_bytes anchor.now) (R.disk rack.old).now (R.disk rack.new).now) }
-    ensures fault { IfErr result (λ v. HasRisen ((R.disk rack.old).write_faults v) ((R.disk rack.new).write_faults v)) }
+    ensures passed { OnOk result ((R.disk rack.new).write_faults ≡ (R.disk rack.old).write_faults) }
+    ensures fault { IfErr result (λ v. (R.disk rack.new).write_faults ≡ raised_at (R.disk rack.old).write_faults v) }
 {
     let Some(vol) = VolIx::new(anchor.log_vol) else {
         unreachable!()

@@ -4,7 +4,8 @@ ghost use Rattle.volume_disk.specs.Disk.{OnlyReads};
 ghost use Rattle.disk_label.specs.Anchor.{IsAnchor, IsNext, IsWhole};
 
 use crate::{
-    Anchor, AnchorFault, Member, read_anchor, read_label, ready_slot, write_anchor, write_label,
+    Anchor, AnchorFault, Member, SlotFault, read_anchor, read_label, ready_slot, write_anchor,
+    write_label,
 };
 use domain_base::{Home, OutOfMemory, VolIx};
 use std::alloc::Global;
@@ -132,12 +133,10 @@ fn image(
 #[test]
 fn a_stop_leaves_the_old_anchor_or_the_new_one(rt: HostRuntime) -> Result<(), Fail> {
     let mut rack = MemoryRack::new(rt.alloc(), &[2, 2], &[], true)?;
-    assert_eq!(rt; read_anchor(&mut rack), Err(AnchorFault::NoAnchor));
-    let mut old = anchor(1, 1, 0)?;
-    assert_eq!(rt; write_next(&mut rack, &old), Ok(true));
-    assert_eq!(rt; read_anchor(&mut rack), Ok(old));
-    // to the other slot of the volume, back to the first, and to another volume
-    for (number, log_vol, slot) in [(2, 1, 1), (3, 1, 0), (4, 2, 0)] {
+    let mut old = Err(AnchorFault::NoAnchor);
+    assert_eq!(rt; read_anchor(&mut rack), old);
+    // the first, to the other slot of the volume, back to the first one, and to another volume
+    for (number, log_vol, slot) in [(1, 1, 0), (2, 1, 1), (3, 1, 0), (4, 2, 0)] {
         let new = anchor(number, log_vol, slot)?;
         let start = rack.calls();
         assert_eq!(rt; write_next(&mut rack, &new), Ok(true), "anchor {number}");
@@ -146,7 +145,7 @@ fn a_stop_leaves_the_old_anchor_or_the_new_one(rt: HostRuntime) -> Result<(), Fa
                 let mut left = image(&rack, rt.alloc(), call, pick)?;
                 let found = read_anchor(&mut left);
                 assert!(rt;
-                    found == Ok(old) || found == Ok(new),
+                    found == old || found == Ok(new),
                     "anchor {number}, call {call}, pick {pick}"
                 );
             }
@@ -159,13 +158,13 @@ fn a_stop_leaves_the_old_anchor_or_the_new_one(rt: HostRuntime) -> Result<(), Fa
                 "anchor {number}, pick {pick}"
             );
         }
-        old = new;
+        old = Ok(new);
     }
     Ok(())
 }
 
 /// Makes a slot ready, where the conditions of `ready_slot` hold.
-fn make_ready<R: Rack>(rack: &mut R, vol: VolIx, slot: u8) -> Result<bool, VolIx> {
+fn make_ready<R: Rack>(rack: &mut R, vol: VolIx, slot: u8) -> Result<bool, SlotFault> {
     if vol.number() > rack.volumes() || rack.pages(vol) < 2 || slot > 1 {
         return Ok(false);
     }
@@ -201,9 +200,6 @@ fn stopped_within_the_body(
     Ok(Some(image(&rack, alloc, call, 0)?))
 }
 
-/// Picks of what a stop leaves. The last one leaves an unsynced block 24 of volume 1, the gate of its slot 1, as bytes a5.
-static PICKS: [u64; 9] = [0, 1, 2, 3, 4, 5, 6, 7, 263];
-
 #[test]
 fn a_second_stop_leaves_the_old_anchor_or_the_new_one(rt: HostRuntime) -> Result<(), Fail> {
     let one = volume(1)?;
@@ -214,7 +210,7 @@ fn a_second_stop_leaves_the_old_anchor_or_the_new_one(rt: HostRuntime) -> Result
     let start = rack.calls();
     assert_eq!(rt; make_ready(&mut rack, one, 1), Ok(true));
     for call in start..=rack.calls() {
-        for pick in PICKS {
+        for pick in 0..8 {
             assert_eq!(rt;
                 left_by(&rack, rt.alloc(), call, pick)?,
                 Ok(old),
@@ -225,7 +221,7 @@ fn a_second_stop_leaves_the_old_anchor_or_the_new_one(rt: HostRuntime) -> Result
     let start = rack.calls();
     assert_eq!(rt; write_next(&mut rack, &new), Ok(true));
     for call in start..rack.calls() {
-        for pick in PICKS {
+        for pick in 0..8 {
             let found = left_by(&rack, rt.alloc(), call, pick)?;
             assert!(rt;
                 found == Ok(old) || found == Ok(new),
@@ -233,7 +229,7 @@ fn a_second_stop_leaves_the_old_anchor_or_the_new_one(rt: HostRuntime) -> Result
             );
         }
     }
-    for pick in PICKS {
+    for pick in 0..8 {
         assert_eq!(rt;
             left_by(&rack, rt.alloc(), rack.calls(), pick)?,
             Ok(new),
@@ -244,14 +240,120 @@ fn a_second_stop_leaves_the_old_anchor_or_the_new_one(rt: HostRuntime) -> Result
 }
 
 #[test]
-fn a_slot_that_is_not_ready_may_give_back_what_was_cut_short(rt: HostRuntime) -> Result<(), Fail> {
-    let new = anchor(2, 1, 1)?;
+fn a_torn_gate_opens_on_what_was_cut_short_unless_the_slot_is_ready(
+    rt: HostRuntime,
+) -> Result<(), Fail> {
+    let one = volume(1)?;
+    let (old, new) = (anchor(1, 1, 0)?, anchor(2, 1, 1)?);
     let cut_short = Anchor { start: 5, ..new };
-    let mut rack = stopped_within_the_body(rt.alloc(), &cut_short)?.ok_or("no such rack")?;
-    assert_eq!(rt; write_next(&mut rack, &new), Ok(true));
-    // right after the first of its six calls, the write that closes the gate
-    let call = rack.calls().saturating_sub(5);
-    assert_eq!(rt; left_by(&rack, rt.alloc(), call, 263)?, Ok(cut_short));
+    for (ready, found) in [(false, cut_short), (true, old)] {
+        let mut rack = stopped_within_the_body(rt.alloc(), &cut_short)?.ok_or("no such rack")?;
+        if ready {
+            assert_eq!(rt; make_ready(&mut rack, one, 1), Ok(true));
+        }
+        // what a stop may leave of the gate of slot 1, while it is written as zeros
+        assert_eq!(rt; put(&mut rack, one, 24, &[0xa5; 512]), true);
+        assert_eq!(rt; read_anchor(&mut rack), Ok(found), "ready: {ready}");
+    }
+    Ok(())
+}
+
+#[test]
+fn a_call_that_fails_leaves_the_old_anchor_or_the_new_one(rt: HostRuntime) -> Result<(), Fail> {
+    let one = volume(1)?;
+    let (old, new) = (anchor(1, 1, 0)?, anchor(2, 1, 1)?);
+    // after the eight calls of the old anchor: three reads, and the six calls of the new one, of which the fifth opens
+    // its gate
+    for fails in 9..=17 {
+        let mut rack = MemoryRack::new(rt.alloc(), &[2], &[fails], true)?;
+        assert_eq!(rt; write_next(&mut rack, &old), Ok(true));
+        assert_eq!(rt;
+            write_next(&mut rack, &new),
+            Err(AnchorFault::Fault { vol: one }),
+            "call {fails} fails"
+        );
+        assert_eq!(rt; rack.calls(), fails);
+        for pick in 0..8 {
+            let found = left_by(&rack, rt.alloc(), fails, pick)?;
+            assert!(rt;
+                found == Ok(old) || fails >= 16 && found == Ok(new),
+                "call {fails} fails, pick {pick}"
+            );
+        }
+    }
+    Ok(())
+}
+
+#[test]
+fn a_slot_names_the_call_that_failed(rt: HostRuntime) -> Result<(), Fail> {
+    let one = volume(1)?;
+    for (fails, ready, faults) in [
+        (1, Err(SlotFault::Read { vol: one }), (1, 0)),
+        (2, Err(SlotFault::Write { vol: one }), (0, 1)),
+        (3, Err(SlotFault::Write { vol: one }), (0, 1)),
+        (4, Ok(true), (0, 0)),
+    ] {
+        let mut rack = MemoryRack::new(rt.alloc(), &[2], &[fails], true)?;
+        assert_eq!(rt; make_ready(&mut rack, one, 1), ready, "call {fails} fails");
+        assert_eq!(rt;
+            (rack.read_faults(one), rack.write_faults(one)),
+            faults,
+            "call {fails} fails"
+        );
+    }
+    Ok(())
+}
+
+#[test]
+fn a_body_is_read_only_behind_an_open_gate(rt: HostRuntime) -> Result<(), Fail> {
+    let mut rack = MemoryRack::new(rt.alloc(), &[2], &[], false)?;
+    // two gates, and the body behind each that is open
+    for (number, slot, reads) in [(1, 0, 3), (2, 1, 4)] {
+        let next = anchor(number, 1, slot)?;
+        assert_eq!(rt; write_next(&mut rack, &next), Ok(true));
+        let start = rack.calls();
+        assert_eq!(rt; read_anchor(&mut rack), Ok(next));
+        assert_eq!(rt;
+            rack.calls().saturating_sub(start),
+            reads,
+            "anchor {number}"
+        );
+    }
+    Ok(())
+}
+
+/// The first fields of the body of anchor 1, in their order.
+static BODY: [u8; 64] = [
+    1, 0, 0, 0, 0, 0, 0, 0, // its number
+    3, 0, 0, 0, // the version
+    1, 0, 0, 0, 4, 0, 0, 0, 128, 0, 0, 0, // the log: volume, first page and pages
+    127, 0, 0, 0, // where redo starts
+    0, 0, 0, 0, //
+    8, 7, 6, 5, 4, 3, 2, 1, // the group there
+    2, 0, 0, 0, 9, 0, 0, 0, // the table
+    64, 0, 0, 0, 1, 0, 0, 0, // volume 1
+    64, 0, 0, 0, 1, 0, 0, 0, // volume 2
+];
+
+/// Whether a block begins with these fields, and has zeros behind them.
+fn is_body(block: &[u8; 512]) -> bool {
+    &block[..64] == BODY.as_slice() && block[64..].iter().all(|b| *b == 0)
+}
+
+#[test]
+fn a_slot_is_an_open_gate_the_fields_and_zeros(rt: HostRuntime) -> Result<(), Fail> {
+    let one = volume(1)?;
+    let mut rack = MemoryRack::new(rt.alloc(), &[2], &[], false)?;
+    assert_eq!(rt; write_next(&mut rack, &anchor(1, 1, 0)?), Ok(true));
+    let mut block = [0; 512];
+    assert_eq!(rt; get(&mut rack, one, 16, &mut block), true);
+    assert_eq!(rt; block.iter().all(|b| *b == 0xa5), true);
+    assert_eq!(rt; get(&mut rack, one, 17, &mut block), true);
+    assert_eq!(rt; is_body(&block), true);
+    for behind in 18..24 {
+        assert_eq!(rt; get(&mut rack, one, behind, &mut block), true);
+        assert_eq!(rt; block.iter().all(|b| *b == 0), true, "block {behind}");
+    }
     Ok(())
 }
 
@@ -291,10 +393,12 @@ fn labels_are_written_and_read(rt: HostRuntime) -> Result<(), Fail> {
     let mut rack = MemoryRack::new(rt.alloc(), &[512, 64], &[], false)?;
     for (vol, pages, found) in [(one, 512, Some(512)), (two, 64, Some(64)), (two, 65, None)] {
         assert_eq!(rt; label(&mut rack, vol, pages), Ok(()));
+        let start = rack.calls();
         assert_eq!(rt; labelled(&mut rack, vol), Ok(found));
+        assert_eq!(rt; rack.calls().saturating_sub(start), 1);
     }
     let mut block = [0; 512];
-    assert_eq!(rt; first_block(&mut rack, one, &mut block), true);
+    assert_eq!(rt; get(&mut rack, one, 0, &mut block), true);
     assert_eq!(rt; &block[..8], b"ADVFSLAB".as_slice());
     assert_eq!(rt;
         &block[8..24],
@@ -318,9 +422,37 @@ fn labelled<R: Rack>(rack: &mut R, vol: VolIx) -> Result<Option<u32>, VolIx> {
     read_label(rack, vol)
 }
 
-fn first_block<R: Rack>(rack: &mut R, vol: VolIx, block: &mut [u8; 512]) -> bool {
-    if vol.number() > rack.volumes() || rack.pages(vol) == 0 {
+fn get<R: Rack>(rack: &mut R, vol: VolIx, block: u32, out: &mut [u8; 512]) -> bool {
+    if vol.number() > rack.volumes() || block / 16 >= rack.pages(vol) {
         return false;
     }
-    rack.read(vol, 0, block).is_ok()
+    rack.read(vol, block, out).is_ok()
+}
+
+fn put<R: Rack>(rack: &mut R, vol: VolIx, block: u32, bytes: &[u8; 512]) -> bool {
+    if vol.number() > rack.volumes() || block / 16 >= rack.pages(vol) {
+        return false;
+    }
+    rack.write(vol, block, bytes).is_ok()
+}
+
+#[test]
+fn a_label_whose_call_fails_is_an_error(rt: HostRuntime) -> Result<(), Fail> {
+    let one = volume(1)?;
+    // the write and the sync of the label, and its read
+    for (fails, written, found, faults) in [
+        (1, Err(one), Ok(None), (0, 1)),
+        (2, Err(one), Ok(Some(64)), (0, 1)),
+        (3, Ok(()), Err(one), (1, 0)),
+    ] {
+        let mut rack = MemoryRack::new(rt.alloc(), &[64], &[fails], false)?;
+        assert_eq!(rt; label(&mut rack, one, 64), written, "call {fails} fails");
+        assert_eq!(rt; labelled(&mut rack, one), found, "call {fails} fails");
+        assert_eq!(rt;
+            (rack.read_faults(one), rack.write_faults(one)),
+            faults,
+            "call {fails} fails"
+        );
+    }
+    Ok(())
 }

@@ -13,6 +13,7 @@ loop-place-preserved g c =
     let so_far = c.loop-place.invariant in
     record {
       reads = only_reads-then old mid (g.R.Rack.disk c.look_at.new.rack) so_far.reads c.look_at.ensures.reads;
+      passed = c.in-Ok.ensures.passed ∙ so_far.passed;
       best = λ told.
           let mid_told : IsTrue mid.told = so_far.reads.told ∙ told in
           IsAnchorBelow-same (c.loop-place.place + 1) mid.sizes old.sizes mid.now old.now _ (sym so_far.reads.sizes) (sym (so_far.reads.now told))

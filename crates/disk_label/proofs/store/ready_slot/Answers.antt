@@ -1,6 +1,5 @@
 use Rattle.std.proofs.Common.{◌≡◌, ℕ, ◌+◌, ◌*◌, ◌≤◌, false, IsTrue, List, get_or, replicate, Option, refl, sym, ◌∙◌, subst, arith}
 use Rattle.std.proofs.lemmas.List.{get_or-replicate, length-replicate}
-use Rattle.std.proofs.lemmas.Result.{on_ok_weaker}
 use Rattle.volume_disk.specs.Disk.{Disk, Moment, LeavesOnly, MayLeave, MayLeaveTorn, OnlyReads, OnlyWrites, Settles}
 use Rattle.volume_disk.specs.Image.{Image, bytes_at}
 use Rattle.volume_disk.proofs.Laws.{then_on, only_reads-leaves, only_writes-within, only_changes-read, only_changes-write, Settles-moved, torn_before}
@@ -76,17 +75,17 @@ ready-read : (old : Option Anchor) (vol slot : ℕ) (d0 d1 : Disk) → IsTrue d0
 ready-read old vol slot d0 d1 told reads ready = λ image torn.
     subst (λ (l : List ℕ). IsAnchor l image old) (sym reads.sizes) (ready image (subst (λ (m : Moment). MayLeaveTorn vol (8192 + 4096 * slot) 512 m image) (reads.now told) torn))
 
-pub returns-in_err-read_block-clause-any_moment : goal.returns-in_err-read_block-clause-any_moment
-returns-in_err-read_block-clause-any_moment g c = λ told old has synced.
+pub returns-in-Err-clause-any_moment : goal.returns-in-Err-clause-any_moment
+returns-in-Err-clause-any_moment g c = λ told old has synced.
     let d0 = g.R.Rack.disk c.args.rack.now in
     only_reads-leaves d0 (g.R.Rack.disk c.read_block.new.rack) (λ image. IsAnchor d0.sizes image old) told c.read_block.ensures.reads has
 
-pub returns-in_err-read_block-clause-others : goal.returns-in_err-read_block-clause-others
-returns-in_err-read_block-clause-others g c = λ told old other_vol other_slot synced other ready.
+pub returns-in-Err-clause-others : goal.returns-in-Err-clause-others
+returns-in-Err-clause-others g c = λ told old other_vol other_slot synced other ready.
     ready-read old other_vol other_slot (g.R.Rack.disk c.args.rack.now) (g.R.Rack.disk c.read_block.new.rack) told c.read_block.ensures.reads ready
 
-pub returns-in_err-read_block-clause-changes : goal.returns-in_err-read_block-clause-changes
-returns-in_err-read_block-clause-changes g c =
+pub returns-in-Err-clause-changes : goal.returns-in-Err-clause-changes
+returns-in-Err-clause-changes g c =
     only_changes-read (g.R.Rack.disk c.args.rack.now) (g.R.Rack.disk c.read_block.new.rack) c.args.vol (8192 + 4096 * c.args.slot + 512) 3584 c.read_block.ensures.reads
 
 pub returns-then-block-clause-any_moment : goal.returns-then-block-clause-any_moment
@@ -97,7 +96,7 @@ returns-then-block-clause-any_moment g c = λ told old has synced.
 pub returns-then-block-clause-ready : goal.returns-then-block-clause-ready
 returns-then-block-clause-ready g c = λ told old has synced other.
     open_ready c.args.vol c.args.slot (16 + 8 * c.from.result) c.requires.there.0 c.requires.slot (omega (arith, c.from.ensures)) old
-    (g.R.Rack.disk c.args.rack.now) (g.R.Rack.disk c.read_block.new.rack) told has synced c.read_block.ensures.reads c.read_block.new.out (c.in_ok-read_block.ensures.bytes told)
+    (g.R.Rack.disk c.args.rack.now) (g.R.Rack.disk c.read_block.new.rack) told has synced c.read_block.ensures.reads c.read_block.new.out (c.in-Ok.ensures.bytes told)
     c.if-block.true other
 
 pub returns-then-block-clause-others : goal.returns-then-block-clause-others
@@ -108,26 +107,49 @@ pub returns-then-block-clause-changes : goal.returns-then-block-clause-changes
 returns-then-block-clause-changes g c =
     only_changes-read (g.R.Rack.disk c.args.rack.now) (g.R.Rack.disk c.read_block.new.rack) c.args.vol (8192 + 4096 * c.args.slot + 512) 3584 c.read_block.ensures.reads
 
-pub returns-clause-any_moment : goal.returns-clause-any_moment
-returns-clause-any_moment g c = λ told old has synced.
+pub returns-in-Ok-write_synced-clause-any_moment : goal.returns-in-Ok-write_synced-clause-any_moment
+returns-in-Ok-write_synced-clause-any_moment g c = λ told old has synced.
     all_old c.args.vol c.args.slot (16 + 8 * c.from.result) c.requires.there.0 c.requires.slot (omega (arith, c.from.ensures)) old
-    (g.R.Rack.disk c.args.rack.now) (g.R.Rack.disk c.read_block.new.rack) told has synced c.read_block.ensures.reads c.read_block.new.out (c.in_ok-read_block.ensures.bytes told)
+    (g.R.Rack.disk c.args.rack.now) (g.R.Rack.disk c.read_block.new.rack) told has synced c.read_block.ensures.reads c.read_block.new.out (c.in-Ok.ensures.bytes told)
     c.if-block.false (g.R.Rack.disk c.write_synced.new.rack) c.write_synced.ensures.writes
 
-pub returns-clause-ready : goal.returns-clause-ready
-returns-clause-ready g c = on_ok_weaker c.write_synced.result (λ settled told old has synced other.
-    shut_ready c.args.vol c.args.slot (16 + 8 * c.from.result) c.requires.there.0 c.requires.slot (omega (arith, c.from.ensures)) old
-    (g.R.Rack.disk c.args.rack.now) (g.R.Rack.disk c.read_block.new.rack) told has synced c.read_block.ensures.reads c.read_block.new.out (c.in_ok-read_block.ensures.bytes told)
-    c.if-block.false (g.R.Rack.disk c.write_synced.new.rack) c.write_synced.ensures.writes (settled (c.read_block.ensures.reads.told ∙ told))) c.write_synced.ensures.settled
+pub returns-in-Err-write_synced-clause-any_moment : goal.returns-in-Err-write_synced-clause-any_moment
+returns-in-Err-write_synced-clause-any_moment g c = λ told old has synced.
+    all_old c.args.vol c.args.slot (16 + 8 * c.from.result) c.requires.there.0 c.requires.slot (omega (arith, c.from.ensures)) old
+    (g.R.Rack.disk c.args.rack.now) (g.R.Rack.disk c.read_block.new.rack) told has synced c.read_block.ensures.reads c.read_block.new.out (c.in-Ok.ensures.bytes told)
+    c.if-block.false (g.R.Rack.disk c.write_synced.new.rack) c.write_synced.ensures.writes
 
-pub returns-clause-others : goal.returns-clause-others
-returns-clause-others g c = λ told old other_vol other_slot synced other ready.
+pub returns-in-Ok-write_synced-clause-ready : goal.returns-in-Ok-write_synced-clause-ready
+returns-in-Ok-write_synced-clause-ready g c = λ told old has synced other.
+    shut_ready c.args.vol c.args.slot (16 + 8 * c.from.result) c.requires.there.0 c.requires.slot (omega (arith, c.from.ensures)) old
+    (g.R.Rack.disk c.args.rack.now) (g.R.Rack.disk c.read_block.new.rack) told has synced c.read_block.ensures.reads c.read_block.new.out (c.in-Ok.ensures.bytes told)
+    c.if-block.false (g.R.Rack.disk c.write_synced.new.rack) c.write_synced.ensures.writes (c.in-Ok-write_synced.ensures.settled (c.read_block.ensures.reads.told ∙ told))
+
+pub returns-in-Ok-write_synced-clause-others : goal.returns-in-Ok-write_synced-clause-others
+returns-in-Ok-write_synced-clause-others g c = λ told old other_vol other_slot synced other ready.
     other_ready c.args.vol c.args.slot (16 + 8 * c.from.result) c.requires.there.0 c.requires.slot (omega (arith, c.from.ensures)) old
-    (g.R.Rack.disk c.args.rack.now) (g.R.Rack.disk c.read_block.new.rack) told (IsReady-has old other_vol other_slot (g.R.Rack.disk c.args.rack.now) ready) synced c.read_block.ensures.reads c.read_block.new.out (c.in_ok-read_block.ensures.bytes told)
+    (g.R.Rack.disk c.args.rack.now) (g.R.Rack.disk c.read_block.new.rack) told (IsReady-has old other_vol other_slot (g.R.Rack.disk c.args.rack.now) ready) synced c.read_block.ensures.reads c.read_block.new.out (c.in-Ok.ensures.bytes told)
     c.if-block.false (g.R.Rack.disk c.write_synced.new.rack) c.write_synced.ensures.writes other_vol other_slot other ready
 
-pub returns-clause-changes : goal.returns-clause-changes
-returns-clause-changes g c =
+pub returns-in-Err-write_synced-clause-others : goal.returns-in-Err-write_synced-clause-others
+returns-in-Err-write_synced-clause-others g c = λ told old other_vol other_slot synced other ready.
+    other_ready c.args.vol c.args.slot (16 + 8 * c.from.result) c.requires.there.0 c.requires.slot (omega (arith, c.from.ensures)) old
+    (g.R.Rack.disk c.args.rack.now) (g.R.Rack.disk c.read_block.new.rack) told (IsReady-has old other_vol other_slot (g.R.Rack.disk c.args.rack.now) ready) synced c.read_block.ensures.reads c.read_block.new.out (c.in-Ok.ensures.bytes told)
+    c.if-block.false (g.R.Rack.disk c.write_synced.new.rack) c.write_synced.ensures.writes other_vol other_slot other ready
+
+pub returns-in-Ok-write_synced-clause-changes : goal.returns-in-Ok-write_synced-clause-changes
+returns-in-Ok-write_synced-clause-changes g c =
+    let d0 = g.R.Rack.disk c.args.rack.now in
+    let d1 = g.R.Rack.disk c.read_block.new.rack in
+    let d2 = g.R.Rack.disk c.write_synced.new.rack in
+    let vol = c.args.vol in
+    let at = 512 * (16 + 8 * c.from.result + 1) in
+    let behind = 8192 + 4096 * c.args.slot + 512 in
+    only_changes-write d0 d1 d2 vol behind 3584 c.read_block.ensures.reads
+    (only_writes-within d1 d2 vol at 3584 vol behind 3584 (λ _. vol) (omega arith) (omega arith) c.write_synced.ensures.writes)
+
+pub returns-in-Err-write_synced-clause-changes : goal.returns-in-Err-write_synced-clause-changes
+returns-in-Err-write_synced-clause-changes g c =
     let d0 = g.R.Rack.disk c.args.rack.now in
     let d1 = g.R.Rack.disk c.read_block.new.rack in
     let d2 = g.R.Rack.disk c.write_synced.new.rack in

@@ -3,12 +3,12 @@ use Rattle.std.proofs.lemmas.List.{length-replicate}
 use Rattle.std.proofs.lemmas.Result.{on_ok_weaker}
 use Rattle.volume_disk.specs.Disk.{Disk, LeavesOnly, MayLeave, OnlyWrites, Settles, pages_of}
 use Rattle.volume_disk.specs.Image.{Image}
-use Rattle.volume_disk.proofs.Laws.{weaker, only_writes-within, only_writes-then, Settles-moved, HasRisen-before}
+use Rattle.volume_disk.proofs.Laws.{weaker, only_writes-within, only_writes-then, Settles-moved}
 use Rattle.disk_label.specs.Anchor.{HasBefore, IsAnchor, IsNext, IsOldOrNew, IsReady, IsWhole, StandsIn}
 use Rattle.disk_label.specs.Body.{anchor_from}
 use Rattle.disk_label.proofs.Others.{others_ready, chain_ready}
 use Rattle.disk_label.proofs.Slots.{IsAnchorBelow-unique}
-use Rattle.disk_label.proofs.Written.{IsPrepared, closing, before_opening, prepared, opening, opened, Settles-slot, slot_bytes-body, if_err_weaker}
+use Rattle.disk_label.proofs.Written.{IsPrepared, closing, before_opening, prepared, opening, opened, Settles-slot, slot_bytes-body}
 use Rattle.disk_label.specs.declared.anchor.Anchor.{Anchor}
 use Rattle.disk_label.proofs.store.write_anchor.Goals as goal
 
@@ -211,12 +211,3 @@ returns-clause-settled g c = on_ok_weaker c.write_synced-3.result (λ settled to
     (Settles-moved vol at new.log_vol gate zeros m0 m1 names at_is (c.in_ok-write_synced.ensures.settled told))
     (Settles-moved vol behind new.log_vol (gate + 512) body m1 m2 names behind_is (c.in_ok-write_synced-2.ensures.settled told-1))
     (Settles-moved vol at new.log_vol gate ones m2 m3 names at_is (settled (c.write_synced-2.ensures.writes.told ∙ told-1))))) c.write_synced-3.ensures.settled
-
-pub returns-clause-fault : goal.returns-clause-fault
-returns-clause-fault g c =
-    let d0 = g.R.Rack.disk c.args.rack.now in
-    let d2 = g.R.Rack.disk c.write_synced-2.new.rack in
-    let d3 = g.R.Rack.disk c.write_synced-3.new.rack in
-    if_err_weaker c.write_synced-3.result
-    (λ v risen. HasRisen-before (d0.write_faults v) (d2.write_faults v) (d3.write_faults v) (let a = c.write_synced.ensures.writes.write_faults v in let b = c.write_synced-2.ensures.writes.write_faults v in omega (arith, a, b)) risen)
-    c.write_synced-3.ensures.fault
