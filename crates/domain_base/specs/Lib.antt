@@ -1,2 +1,5 @@
 pub mod Counts
+pub mod Gate
+pub mod Limits
 pub mod Page
+pub mod Version

@@ -1,16 +1,19 @@
-//! What every part of the store speaks of: the limits of a domain, the numbers and places in it,
-//! pages, and the two answers that any part may give.
+//! What every part of the store speaks of: the versions and limits of a domain, the numbers and
+//! places in it, pages and gates, and the two answers that any part may give.
 #![tactic(auto)]
 
+pub mod gate;
 pub mod limits;
 mod page;
 mod place;
+mod version;
 
 pub use page::Page;
 pub use place::{CellAt, FilesetNo, Home, Kind, Tag, VolIx};
 pub use std::alloc::AllocError as OutOfMemory;
 use std::error::Error;
 use std::fmt;
+pub use version::Version;
 
 /// A device, a source or a sink refused a call.
 #[derive(Clone, Copy, Debug, PartialEq, Eq)]

@@ -1,4 +1,6 @@
-//! The limits of a domain of version 3, each with its unit.
+//! The limits of a domain of either version, each with its unit. They are pinned: the definitions
+//! have each number once, and `limits_stand` says that the constants are those numbers.
+ghost use Rattle.domain_base.specs.Limits.{LimitsStand};
 
 /// The bytes of a page, the unit in which volumes, files, the log and the tables are divided.
 pub const PAGE_BYTES: usize = 8_192;
@@ -18,8 +20,12 @@ pub const MIN_VOLUME_PAGES: u32 = 64;
 /// The pages that the volume on which a domain is made has at least.
 pub const MIN_FIRST_VOLUME_PAGES: u32 = 160;
 
-/// The pages of a volume that a domain uses at most; what lies beyond them is left alone.
+/// The pages of a volume that a domain of version 3 uses at most; what lies beyond them is left
+/// alone.
 pub const MAX_VOLUME_PAGES: u32 = 65_536;
+
+/// The same in version 4.
+pub const MAX_VOLUME_PAGES_4: u32 = 1_048_576;
 
 /// The filesets of a domain at most, clones among them.
 pub const MAX_FILESETS: u32 = 16;
@@ -75,3 +81,11 @@ pub const STEP_HOMES: usize = 8;
 
 /// The mcells that one step of the mover, or of a deferred release, frees at most.
 pub const STEP_CELLS: usize = 16;
+
+/// The first byte of an open gate.
+pub const OPEN_GATE: u8 = 0xa5;
+
+/// The law that each constant is the number that the definitions give it.
+pub fn limits_stand()
+    ensures { LimitsStand }
+{}

