@@ -222,6 +222,7 @@ changes-valid old new (Stat place) v none change = subst AreValid (sym change) v
 changes-valid old new (Fsync place) v none change = subst AreValid (sym change) v
 changes-valid old new Sync v none change = subst AreValid (sym change) v
 changes-valid old new Cancel v none change = subst AreValid (sym change) v
+changes-valid old new command v none change = absurd change
 
 pub answered-valid : (old new : FilesetMap) (command : Command) (reply : Reply) → AreValid old → Answers old command reply new → AreValid new
 answered-valid old new command reply v answers =

@@ -104,7 +104,6 @@ refusal_of all (Mkfset fileset) = first_refusal (name_taken all fileset ∷ file
 refusal_of all (Rmfset fileset) = in_fileset all fileset (λ slot. refuse_if (has_clone all fileset) HasClone ∷ [])
 refusal_of all (Clonefset fileset new_name) =
     in_fileset all fileset (λ slot. refuse_if (is_clone slot.role) CloneOfClone ∷ refuse_if (has_clone all fileset) HasClone ∷ name_taken all new_name ∷ filesets_full all ∷ [])
-refusal_of all Showfsets = None
 refusal_of all (Setquota fileset who files blocks) = in_fileset all fileset (λ slot. read_only slot ∷ [])
 refusal_of all (Showquota fileset who) = in_fileset all fileset (λ slot. read_only slot ∷ [])
 refusal_of all (Create place uid gid) = in_fileset all place.fileset (create_checks place.path uid gid)
@@ -121,8 +120,7 @@ refusal_of all (ListNames place) = in_fileset all place.fileset (λ slot. target
 refusal_of all (Stat place) = in_fileset all place.fileset (λ slot. target_refusal slot place.path ∷ out_of_sync slot place.path ∷ [])
 refusal_of all (Fsync place) = in_fileset all place.fileset (λ slot. read_only slot ∷ target_refusal slot place.path ∷ [])
 refusal_of all (Chfile place logged) = in_fileset all place.fileset (λ slot. read_only slot ∷ target_refusal slot place.path ∷ directory_here slot place.path ∷ [])
-refusal_of all Sync = None
-refusal_of all Cancel = None
+refusal_of all command = None
 
 -- ---- the answer of each command that is not refused
 
@@ -152,20 +150,7 @@ answer_of all (ListNames place) = of_tree all place.fileset (λ tree. Names (row
 answer_of all (Stat place) = of_node all place (λ tree. stat_of tree place.path)
 answer_of all Showfsets = Filesets (map (λ e. record { fileset = e.0; original = original_of e.1.role }) (map.entries all))
 answer_of all (Showquota fileset who) = of_tree all fileset (λ tree. quota_of tree who)
-answer_of all (Mkfset fileset) = Done
-answer_of all (Rmfset fileset) = Done
-answer_of all (Clonefset fileset new_name) = Done
-answer_of all (Setquota fileset who files blocks) = Done
-answer_of all (Create place uid gid) = Done
-answer_of all (Mkdir place uid gid) = Done
-answer_of all (Truncate place size) = Done
-answer_of all (Rename place to) = Done
-answer_of all (Unlink place) = Done
-answer_of all (Rmdir place) = Done
-answer_of all (Fsync place) = Done
-answer_of all (Chfile place logged) = Done
-answer_of all Sync = Done
-answer_of all Cancel = Done
+answer_of all command = Done
 
 -- ---- the change of each command that is not refused
 
@@ -238,7 +223,7 @@ abbrev pub with_clone : FilesetMap → Name → Name → FilesetMap
 with_clone all name new_name =
     option_map_or (λ slot. map.insert all new_name (record { tree = record slot.tree { limits = map.empty }; role = CloneOf name map.empty })) (map.get all name) all
 
--- the filesets after a command that is not refused
+-- the filesets after a command that is not refused; of a command on volumes they tell nothing, so nothing is an answer to it
 abbrev pub Changes : FilesetMap → Command → FilesetMap → Type 0
 Changes all (Mkfset fileset) new = (root : ℕ) × (new ≡ map.insert all fileset (record { tree = empty_fileset root; role = Original }))
 Changes all (Rmfset fileset) new = new ≡ map.remove all fileset
@@ -262,6 +247,7 @@ Changes all (Stat place) new = new ≡ all
 Changes all (Fsync place) new = new ≡ all
 Changes all Sync new = new ≡ all
 Changes all Cancel new = new ≡ all
+Changes all command new = ⊥
 
 -- the first refusal, and then nothing changes, or else the answer and the change
 abbrev pub Answers : FilesetMap → Command → Reply → FilesetMap → Type 0

@@ -24,7 +24,8 @@ use domain_base::limits::{BLOCKS_PER_PAGE, FILE_BYTES as LARGEST_FILE, MAX_FILES
 use std::alloc::Global;
 
 /// Answers a command and changes the filesets as it says. After a refusal, out-of-memory among
-/// them, the filesets are as before.
+/// them, the filesets are as before. A command on volumes, of which the filesets tell nothing, is
+/// answered as out of memory.
 pub fn apply(alloc: Global, filesets: &mut Filesets, command: &Command) -> Reply
     ensures { AnswersIfMemory filesets.old command.now result filesets.new }
 {
@@ -60,10 +61,18 @@ fn answer(alloc: Global, filesets: &mut Filesets, command: &Command) -> Result<R
         Command::Unlink { place } => unlink(alloc, filesets, place),
         Command::Rmdir { place } => rmdir(alloc, filesets, place),
         Command::Chfile { place, logged } => chfile(alloc, filesets, place, *logged),
-        _ => {
+        Command::Showfsets
+        | Command::Showquota { .. }
+        | Command::Read { .. }
+        | Command::List { .. }
+        | Command::Stat { .. }
+        | Command::Fsync { .. }
+        | Command::Sync
+        | Command::Cancel => {
             let reply = show(alloc, filesets, command)?;
             Ok(reply)
         }
+        _ => Err(OutOfMemory),
     }
 }
 

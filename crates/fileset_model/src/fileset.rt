@@ -20,7 +20,7 @@ pub struct Limits {
 }
 
 /// The files and directories of a fileset, with the limits of their owners.
-#[derive(Debug, Drop)]
+#[derive(Drop)]
 pub struct FilesetTree {
     pub(crate) paths: Vec<(Path, u64)>,
     pub(crate) nodes: Vec<(u64, Node)>,
@@ -146,7 +146,7 @@ fn number_after(number: u64) -> Result<u64, OutOfMemory>
 }
 
 /// Numbers of files and directories.
-#[derive(Debug, Drop)]
+#[derive(Drop)]
 pub struct NumberSet {
     pub(crate) numbers: Vec<(u64, ())>,
 }
@@ -188,7 +188,7 @@ impl NumberSet {
 }
 
 /// Whether a fileset is an original, or the clone of one.
-#[derive(Debug, Drop)]
+#[derive(Drop)]
 pub enum Role {
     Original,
     /// A frozen copy. The numbers in `out` lost their frozen content for want of a free page.
@@ -220,7 +220,7 @@ impl Role {
 }
 
 /// A fileset of a domain.
-#[derive(Debug, Drop)]
+#[derive(Drop)]
 pub struct FilesetSlot {
     pub tree: FilesetTree,
     pub role: Role,

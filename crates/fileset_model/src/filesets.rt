@@ -15,7 +15,7 @@ use std::alloc::Global;
 use std::marker::Model;
 
 /// All filesets, without volumes: what the commands of clients read and change.
-#[derive(Debug, Drop)]
+#[derive(Drop)]
 pub struct Filesets {
     pub(crate) slots: Vec<(FilesetName, FilesetSlot)>,
 }

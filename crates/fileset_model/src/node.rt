@@ -8,7 +8,7 @@ use domain_base::OutOfMemory;
 use std::alloc::Global;
 
 /// What a path of a fileset leads to.
-#[derive(Debug, Drop)]
+#[derive(Drop)]
 pub enum Node {
     /// A file of `size` bytes. The pages of it that are absent read as zeros.
     File {

@@ -14,7 +14,7 @@ use std::alloc::Global;
 use std::marker::Model;
 
 /// The pages of a file that are there, by their numbers.
-#[derive(Debug, Drop)]
+#[derive(Drop)]
 pub struct PageMap {
     pub(crate) pages: Vec<(u64, Page)>,
 }

@@ -201,7 +201,7 @@ fn refuses<R: Abort + AllocGlobal>(
             "memory is ample",
         );
         let same = refused(&reply) == *want;
-        assert!(rt; same, "{ask:?} of {letters:?} gives {reply:?}");
+        assert!(rt; same, "{ask:?} of {letters:?}");
     }
 }
 
@@ -219,7 +219,7 @@ fn reads<R: Abort + AllocGlobal>(rt: &R, filesets: &mut Filesets, letters: &[u8]
         "memory is ample",
     );
     let same = is_read(&reply, want);
-    assert!(rt; same, "{letters:?} is {reply:?}");
+    assert!(rt; same, "{letters:?}");
 }
 
 fn rmfset(alloc: Global) -> Result<Command, OutOfMemory> {
@@ -244,7 +244,7 @@ fn is_done<R: Abort + AllocGlobal>(
     let command = command.expect(rt, "memory is ample");
     let reply = apply(rt.alloc(), filesets, &command);
     let same = matches!(&reply, Reply::Done);
-    assert!(rt; same, "{command:?} gives {reply:?}");
+    assert!(rt; same);
 }
 
 #[test]
