@@ -15,7 +15,7 @@ use fileset_model::{Command, Listing};
 use std::alloc::Global;
 
 /// The section that the lines so far opened, with its commands.
-#[derive(Debug, Drop)]
+#[derive(Drop)]
 pub struct Draft {
     pub number: u8,
     pub commands: Vec<Command>,

@@ -3,7 +3,7 @@ use std::error::Error;
 use std::fmt;
 
 /// The commands of one client, or of the mover, whose number is 0.
-#[derive(Debug, Drop)]
+#[derive(Drop)]
 pub struct Section {
     pub number: u8,
     pub commands: CommandList,
@@ -13,7 +13,7 @@ pub struct Section {
 pub type SectionList = Listing<Section>;
 
 /// What a script says.
-#[derive(Debug, Drop)]
+#[derive(Drop)]
 pub struct Script {
     pub clients: SectionList,
     pub mover: Option<Section>,
