@@ -137,10 +137,7 @@ pub fn read_script(alloc: Global, bytes: &[u8]) -> Result<Script, ScriptFault>
         draft = match take_line(alloc, draft, line) {
             Ok(draft) => draft,
             Err(LineFault::Kind(kind)) => {
-                return Err(ScriptFault::Bad {
-                    line: number,
-                    kind: kind.number(),
-                });
+                return Err(ScriptFault::Bad { line: number, kind });
             }
             Err(LineFault::OutOfMemory) => return Err(ScriptFault::OutOfMemory),
         };

@@ -1,3 +1,4 @@
+use crate::fault::FaultKind;
 use fileset_model::{CommandList, Listing};
 use std::error::Error;
 use std::fmt;
@@ -22,9 +23,9 @@ pub struct Script {
 /// Why a script was not read.
 #[derive(Clone, Copy, Debug, PartialEq, Eq)]
 pub enum ScriptFault {
-    /// The first bad line, counted from 1, and the number of what is wrong with it. A line beyond
-    /// 4,294,967,295 is given as that number.
-    Bad { line: u32, kind: u8 },
+    /// The first bad line, counted from 1, and what is wrong with it. A line beyond 4,294,967,295 is
+    /// given as that number.
+    Bad { line: u32, kind: FaultKind },
     /// No memory could be had.
     OutOfMemory,
 }
@@ -32,7 +33,7 @@ pub enum ScriptFault {
 impl fmt::Display for ScriptFault {
     fn fmt<W: fmt::Write>(&self, f: &mut fmt::Formatter<W>) -> fmt::Result {
         match self {
-            ScriptFault::Bad { line, kind } => write!(f, "line {line} is bad, of kind {kind}"),
+            ScriptFault::Bad { line, kind } => write!(f, "line {line}: {kind}"),
             ScriptFault::OutOfMemory => write!(f, "out of memory"),
         }
     }
