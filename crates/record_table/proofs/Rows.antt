@@ -1,32 +1,18 @@
 -- One row more than n rows.
 use Rattle.std.proofs.Common.{◌≡◌, ℕ, zero, suc, ◌+◌, ◌*◌, ◌<◌, List, [], ◌∷◌, ◌++◌, length, take, set, refl, sym, ap, ◌∙◌, arith}
 use Rattle.std.proofs.lemmas.List.{take_more_set}
-use Rattle.record_table.specs.declared.record.ExtentField.{ExtentField}
-use Rattle.record_table.specs.declared.record.HoleField.{HoleField}
-use Rattle.record_table.specs.Fields.{extent_at, hole_at, extents, holes}
+use Rattle.record_table.specs.Fields.{rows_at}
 
-extents-more : (n at : ℕ) (bytes : List ℕ) → extents (suc n) at bytes ≡ extents n at bytes ++ extent_at (at + 16 * n) bytes ∷ []
-extents-more zero at bytes = let e : at + 16 * 0 ≡ at = omega arith in rw e refl
-extents-more (suc n) at bytes =
-    let e : at + 16 * suc n ≡ at + 16 + 16 * n = omega arith in
-    rw e (ap (λ (es : List ExtentField). extent_at at bytes ∷ es) (extents-more n (at + 16) bytes))
+module _ {X : Type 0} (row : ℕ → List ℕ → X) (width : ℕ) where
+  rows-more : (n at : ℕ) (bytes : List ℕ) → rows_at row width (suc n) at bytes ≡ rows_at row width n at bytes ++ row (at + width * n) bytes ∷ []
+  rows-more zero at bytes = let e : at + width * 0 ≡ at = omega arith in rw e refl
+  rows-more (suc n) at bytes =
+      let e : at + width * suc n ≡ at + width + width * n = omega arith in
+      rw e (ap (λ (xs : List X). row at bytes ∷ xs) (rows-more n (at + width) bytes))
 
-holes-more : (n at : ℕ) (bytes : List ℕ) → holes (suc n) at bytes ≡ holes n at bytes ++ hole_at (at + 8 * n) bytes ∷ []
-holes-more zero at bytes = let e : at + 8 * 0 ≡ at = omega arith in rw e refl
-holes-more (suc n) at bytes =
-    let e : at + 8 * suc n ≡ at + 8 + 8 * n = omega arith in
-    rw e (ap (λ (hs : List HoleField). hole_at at bytes ∷ hs) (holes-more n (at + 8) bytes))
-
-pub extents-set : (rows : List ExtentField) (i at : ℕ) (bytes : List ℕ) (e : ExtentField) → i < length rows → take i rows ≡ extents i at bytes → e ≡ extent_at (at + 16 * i) bytes
-    → take (i + 1) (set rows i e) ≡ extents (i + 1) at bytes
-extents-set rows i at bytes e lt so_far here =
-    let more = extents-more i at bytes in
-    let k : i + 1 ≡ suc i = omega arith in
-    take_more_set rows i e lt ∙ rw (so_far, here, k) (sym more)
-
-pub holes-set : (rows : List HoleField) (i at : ℕ) (bytes : List ℕ) (h : HoleField) → i < length rows → take i rows ≡ holes i at bytes → h ≡ hole_at (at + 8 * i) bytes
-    → take (i + 1) (set rows i h) ≡ holes (i + 1) at bytes
-holes-set rows i at bytes h lt so_far here =
-    let more = holes-more i at bytes in
-    let k : i + 1 ≡ suc i = omega arith in
-    take_more_set rows i h lt ∙ rw (so_far, here, k) (sym more)
+  pub rows-set : (rows : List X) (i at : ℕ) (bytes : List ℕ) (x : X) → i < length rows → take i rows ≡ rows_at row width i at bytes → x ≡ row (at + width * i) bytes
+      → take (i + 1) (set rows i x) ≡ rows_at row width (i + 1) at bytes
+  rows-set rows i at bytes x lt so_far here =
+      let more = rows-more i at bytes in
+      let k : i + 1 ≡ suc i = omega arith in
+      take_more_set rows i x lt ∙ rw (so_far, here, k) (sym more)

@@ -1,14 +1,15 @@
 -- Which rows and fields the rules let pass are those that the format allows.
-use Rattle.std.proofs.Common.{◌≡◌, ℕ, zero, suc, ◌+◌, ◌≤◌, Bool, true, false, cond, ltb, leb, eqb, ◌&&◌, ◌||◌, List, [], ◌∷◌, length, refl, ap, inl, inr, arith, lit<}
+use Rattle.std.proofs.Common.{◌≡◌, ℕ, zero, suc, ◌+◌, ◌^◌, ◌<◌, ◌≤◌, Bool, true, false, cond, ltb, leb, eqb, ◌&&◌, ◌||◌, List, [], ◌∷◌, ◌++◌, length, refl, ap, inl, inr, arith, lit<}
 use Rattle.std.specs.List.{flat_map, AllByRecursion}
-use Rattle.std.proofs.lemmas.Bool.{lt-ltb, leb-true, le-leb, eqb-true, eqb-false, ne_eqb, and_parts, and_from, or_cases, or_right}
-use Rattle.record_table.specs.declared.rule.Rule.TheVariants.{Range, IfUsed}
+use Rattle.std.proofs.lemmas.Bool.{lt-ltb, leb-true, le-leb, eqb-true, eqb-false, eq-eqb, ne_eqb, and_parts, and_from, or_cases, or_left, or_right}
+use Rattle.record_table.specs.declared.rule.Rule.{Rule}
+use Rattle.record_table.specs.declared.rule.Rule.TheVariants.{Range, IfUsed, Page, Count}
 use Rattle.record_table.specs.declared.rule.Seen.{Seen}
 use Rattle.record_table.specs.declared.record.ExtentField.{ExtentField}
 use Rattle.record_table.specs.declared.record.HoleField.{HoleField}
-use Rattle.record_table.specs.Layouts.{repeated, extent_widths, hole_widths}
-use Rattle.record_table.specs.Records.{extent_numbers, hole_numbers, IsRun, IsExtent, NoExtent, NoHole, AreExtents, AreHoles}
-use Rattle.record_table.specs.Rules.{allows, extent_rules, hole_rules, repeated_rules}
+use Rattle.record_table.specs.Layouts.{repeated, hole_widths}
+use Rattle.record_table.specs.Records.{hole_numbers, IsRun, IsShort, IsExtent, NoExtent, NoHole, AreExtents, AreHoles}
+use Rattle.record_table.specs.Rules.{allows, hole_rules, repeated_rules}
 use Rattle.record_table.proofs.Scan.{Passes}
 
 pub range_is : (least most : ℕ) (seen : Seen) (n : ℕ) → allows (Range least most) seen n ≡ true → (least ≤ n) × (n ≤ most)
@@ -34,6 +35,9 @@ used_is most n e = elim (or_cases (eqb n 0) (true && leb n most) e) [
 pub used_from : (most : ℕ) (n : ℕ) → n ≤ most → ((eqb n 0) || (true && leb n most)) ≡ true
 used_from most n le = or_right (eqb n 0) (true && leb n most) (le-leb n most le)
 
+pub unused_from : (most : ℕ) (n : ℕ) → n ≡ 0 → ((eqb n 0) || (false && leb n most)) ≡ true
+unused_from most n none = or_left (eqb n 0) (false && leb n most) (eq-eqb n 0 none)
+
 -- what stands behind a row's count
 abbrev pub behind : Bool → ℕ → Seen
 behind b from = cond b (record { from = 65536; page = 0; used = false }) (record { from = from; page = 0; used = true })
@@ -58,57 +62,149 @@ page_from from page count run =
 some_count : (from page count : ℕ) → IsRun from page count → eqb count 0 ≡ false
 some_count from page count run = ne_eqb count 0 (λ e. omega (arith, run.some, e))
 
--- ---- extents
+-- ---- extents, plain and dense: a row is its page and its count, and behind these its volume and first page
 
 no_more_extents : (es : List ExtentField) → AreExtents 65536 es → AllByRecursion NoExtent es
 no_more_extents [] h = tt
 no_more_extents (e ∷ es) (inl h) = absurd (omega (arith, h.0.run.begins, h.0.run.some, h.0.run.ends))
 no_more_extents (e ∷ es) (inr h) = h
 
-extent_row : (n : ℕ) (e : ExtentField) (es : List ExtentField) (from : ℕ) (b : Bool) → eqb e.count 0 ≡ b → counts b from e.page e.count ≡ true
-    → Passes (4 ∷ 4 ∷ repeated n extent_widths) (IfUsed 8 ∷ IfUsed 4294967295 ∷ repeated_rules n extent_rules) (behind b (e.page + e.count)) (e.vol ∷ e.first ∷ flat_map extent_numbers es)
-    → ((seen : Seen) → Passes (repeated n extent_widths) (repeated_rules n extent_rules) seen (flat_map extent_numbers es) → (length es ≡ n) × AreExtents seen.from es)
-    → (length (e ∷ es) ≡ suc n) × AreExtents from (e ∷ es)
-extent_row n e es from true none count pass others =
-    let rest = others (behind true (e.page + e.count)) pass.2.2 in
-    let row : NoExtent e = record { page = eqb-true e.page 0 count; count = eqb-true e.count 0 none; volume = unused_is 8 e.vol pass.1; first = unused_is 4294967295 e.first pass.2.1 } in
-    (ap suc rest.0, inr (row, no_more_extents es rest.1))
-extent_row n e es from false some count pass others =
-    let rest = others (behind false (e.page + e.count)) pass.2.2 in
-    let row : IsExtent from e = record { run = run_is from e.page e.count some count; volume = used_is 8 e.vol pass.1; first = pass.2.0 } in
-    (ap suc rest.0, inl (row, rest.1))
+-- where a row leads, if it has pages, and if it has none
+abbrev pub Leads : Bool → ExtentField → Type 0
+Leads false e = (e.vol ≤ 8) × (e.first < 2 ^ 32)
+Leads true e = (e.vol ≡ 0) × (e.first ≡ 0)
 
--- rows of extents that pass are allowed
-pub extents_allowed : (n : ℕ) (es : List ExtentField) (seen : Seen) → Passes (repeated n extent_widths) (repeated_rules n extent_rules) seen (flat_map extent_numbers es) → (length es ≡ n) × AreExtents seen.from es
-extents_allowed zero [] seen pass = (refl, tt)
-extents_allowed zero (e ∷ es) seen pass = absurd pass
-extents_allowed (suc n) [] seen pass = absurd pass
-extents_allowed (suc n) (e ∷ es) seen pass = extent_row n e es seen.from (eqb e.count 0) refl pass.2.1 pass.2.2 (λ s p. extents_allowed n es s p)
+abbrev row_numbers : (ExtentField → List ℕ) → ExtentField → List ℕ
+row_numbers rest e = e.page ∷ e.count ∷ rest e
 
-no_extents_pass : (es : List ExtentField) (seen : Seen) → AllByRecursion NoExtent es → Passes (repeated (length es) extent_widths) (repeated_rules (length es) extent_rules) seen (flat_map extent_numbers es)
-no_extents_pass [] seen none = tt
-no_extents_pass (e ∷ es) seen none =
-    let row = none.0 in
-    let others = no_extents_pass es (behind true 0) none.1 in
-    rw (row.page, row.count, row.volume, row.first) (lit< tt, refl, (lit< tt, refl, (lit< tt, refl, (lit< tt, refl, others))))
+abbrev row_rules : List Rule → List Rule
+row_rules rs = Page ∷ Count ∷ rs
 
-extent_passes : (e : ExtentField) (es : List ExtentField) (from : ℕ) (b : Bool) → b ≡ false → IsExtent from e
-    → Passes (repeated (length es) extent_widths) (repeated_rules (length es) extent_rules) (behind false (e.page + e.count)) (flat_map extent_numbers es)
-    → (counts b from e.page e.count ≡ true) × Passes (4 ∷ 4 ∷ repeated (length es) extent_widths) (IfUsed 8 ∷ IfUsed 4294967295 ∷ repeated_rules (length es) extent_rules) (behind b (e.page + e.count)) (e.vol ∷ e.first ∷ flat_map extent_numbers es)
-extent_passes e es from true same row others = absurd cc
-extent_passes e es from false same row others =
-    let first : e.first ≤ 4294967295 = omega (arith, row.first) in
-    (counts_from from e.page e.count row.run, (omega (arith, row.volume), used_from 8 e.vol row.volume, (row.first, used_from 4294967295 e.first first, others)))
+abbrev RowsPass : (ExtentField → List ℕ) → ℕ → List ℕ → List Rule → ℕ → Seen → List ExtentField → Type 0
+RowsPass rest w ws rs n seen es = Passes (repeated n (w ∷ w ∷ ws)) (repeated_rules n (row_rules rs)) seen (flat_map (row_numbers rest) es)
 
--- rows of extents that are allowed pass
-pub extents_pass : (es : List ExtentField) (seen : Seen) → AreExtents seen.from es → Passes (repeated (length es) extent_widths) (repeated_rules (length es) extent_rules) seen (flat_map extent_numbers es)
-extents_pass [] seen h = tt
-extents_pass (e ∷ es) seen (inl h) =
-    let row = h.0 in
-    let others = extents_pass es (behind false (e.page + e.count)) h.1 in
-    let both = extent_passes e es seen.from (eqb e.count 0) (some_count seen.from e.page e.count row.run) row others in
-    (omega (arith, row.run.some, row.run.ends), page_from seen.from e.page e.count row.run, (omega (arith, row.run.ends), both.0, both.1))
-extents_pass (e ∷ es) seen (inr h) = no_extents_pass (e ∷ es) seen h
+abbrev RowsAllowed : ℕ → ℕ → ℕ → List ExtentField → Type 0
+RowsAllowed w n from es = (length es ≡ n) × AreExtents from es × AllByRecursion (λ e. e.count < 256 ^ w) es
+
+-- what the fields behind a count pass
+pub record RestOf (rest : ExtentField → List ℕ) (ws : List ℕ) (rs : List Rule) : Type 0 where
+  pub reads : (b : Bool) (from : ℕ) (e : ExtentField) (vs : List ℕ) (qs : List Rule) (ns : List ℕ) → Passes (ws ++ vs) (rs ++ qs) (behind b from) (rest e ++ ns)
+      → Leads b e × Passes vs qs (behind b from) ns
+  pub writes : (b : Bool) (from : ℕ) (e : ExtentField) (vs : List ℕ) (qs : List Rule) (ns : List ℕ) → Leads b e → Passes vs qs (behind b from) ns
+      → Passes (ws ++ vs) (rs ++ qs) (behind b from) (rest e ++ ns)
+
+module _ (rest : ExtentField → List ℕ) (w : ℕ) (ws : List ℕ) (rs : List Rule) (of : RestOf rest ws rs) (fits : (p : ℕ) → p < 65536 → p < 256 ^ w) where
+  extent_row : (n : ℕ) (e : ExtentField) (es : List ExtentField) (from : ℕ) (b : Bool) → eqb e.count 0 ≡ b → counts b from e.page e.count ≡ true → e.count < 256 ^ w
+      → Passes (ws ++ repeated n (w ∷ w ∷ ws)) (rs ++ repeated_rules n (row_rules rs)) (behind b (e.page + e.count)) (rest e ++ flat_map (row_numbers rest) es)
+      → ((seen : Seen) → RowsPass rest w ws rs n seen es → RowsAllowed w n seen.from es)
+      → RowsAllowed w (suc n) from (e ∷ es)
+  extent_row n e es from true none count small pass others =
+      let both = of.reads true (e.page + e.count) e _ _ _ pass in
+      let others' = others (behind true (e.page + e.count)) both.1 in
+      let row : NoExtent e = record { page = eqb-true e.page 0 count; count = eqb-true e.count 0 none; volume = both.0.0; first = both.0.1 } in
+      (ap suc others'.0, inr (row, no_more_extents es others'.1), (small, others'.2))
+  extent_row n e es from false some count small pass others =
+      let both = of.reads false (e.page + e.count) e _ _ _ pass in
+      let others' = others (behind false (e.page + e.count)) both.1 in
+      let row : IsExtent from e = record { run = run_is from e.page e.count some count; volume = both.0.0; first = both.0.1 } in
+      (ap suc others'.0, inl (row, others'.1), (small, others'.2))
+
+  -- rows of extents that pass are allowed
+  pub extents_allowed : (n : ℕ) (es : List ExtentField) (seen : Seen) → RowsPass rest w ws rs n seen es → RowsAllowed w n seen.from es
+  extents_allowed zero [] seen pass = (refl, tt, tt)
+  extents_allowed zero (e ∷ es) seen pass = absurd pass
+  extents_allowed (suc n) [] seen pass = absurd pass
+  extents_allowed (suc n) (e ∷ es) seen pass = extent_row n e es seen.from (eqb e.count 0) refl pass.2.1 pass.2.0 pass.2.2 (λ s p. extents_allowed n es s p)
+
+  no_row : (page count : ℕ) (ns : List ℕ) (seen : Seen) (vs : List ℕ) (qs : List Rule) → page ≡ 0 → count ≡ 0 → Passes vs qs (behind true 0) ns
+      → Passes (w ∷ w ∷ vs) (Page ∷ Count ∷ qs) seen (page ∷ count ∷ ns)
+  no_row page count ns seen vs qs no_page no_count pass = let zero_fits = fits 0 (omega arith) in rw (no_page, no_count) (zero_fits, refl, (zero_fits, refl, pass))
+
+  no_extents_pass : (es : List ExtentField) (seen : Seen) → AllByRecursion NoExtent es → RowsPass rest w ws rs (length es) seen es
+  no_extents_pass [] seen none = tt
+  no_extents_pass (e ∷ es) seen none =
+      let row = none.0 in
+      let others = no_extents_pass es (behind true 0) none.1 in
+      let led = of.writes true 0 e (repeated (length es) (w ∷ w ∷ ws)) (repeated_rules (length es) (row_rules rs)) (flat_map (row_numbers rest) es) (row.volume, row.first) others in
+      no_row e.page e.count (rest e ++ flat_map (row_numbers rest) es) seen _ _ row.page row.count led
+
+  extent_passes : (e : ExtentField) (es : List ExtentField) (from : ℕ) (b : Bool) → b ≡ false → IsExtent from e
+      → RowsPass rest w ws rs (length es) (behind false (e.page + e.count)) es
+      → (counts b from e.page e.count ≡ true) × Passes (ws ++ repeated (length es) (w ∷ w ∷ ws)) (rs ++ repeated_rules (length es) (row_rules rs)) (behind b (e.page + e.count)) (rest e ++ flat_map (row_numbers rest) es)
+  extent_passes e es from true same row others = absurd cc
+  extent_passes e es from false same row others =
+      (counts_from from e.page e.count row.run, of.writes false (e.page + e.count) e _ _ _ (row.volume, row.first) others)
+
+  -- rows of extents that are allowed pass
+  pub extents_pass : (es : List ExtentField) (seen : Seen) → AreExtents seen.from es → AllByRecursion (λ e. e.count < 256 ^ w) es → RowsPass rest w ws rs (length es) seen es
+  extents_pass [] seen h small = tt
+  extents_pass (e ∷ es) seen (inl h) small =
+      let row = h.0 in
+      let others = extents_pass es (behind false (e.page + e.count)) h.1 small.1 in
+      let both = extent_passes e es seen.from (eqb e.count 0) (some_count seen.from e.page e.count row.run) row others in
+      (fits e.page (omega (arith, row.run.some, row.run.ends)), page_from seen.from e.page e.count row.run, (small.0, both.0, both.1))
+  extents_pass (e ∷ es) seen (inr h) small = no_extents_pass (e ∷ es) seen h
+
+-- plain extents: volume and first page in four bytes each
+abbrev pub plain_rest : ExtentField → List ℕ
+plain_rest e = e.vol ∷ e.first ∷ []
+
+pub plain : RestOf plain_rest (4 ∷ 4 ∷ []) (IfUsed 8 ∷ IfUsed 4294967295 ∷ [])
+plain = record {
+  reads = λ b from e vs qs ns pass. elim b as (λ b. Passes (4 ∷ 4 ∷ vs) (IfUsed 8 ∷ IfUsed 4294967295 ∷ qs) (behind b from) (e.vol ∷ e.first ∷ ns) → Leads b e × Passes vs qs (behind b from) ns) [
+    | true ↦ λ pass. ((unused_is 8 e.vol pass.1, unused_is 4294967295 e.first pass.2.1), pass.2.2)
+    | false ↦ λ pass. ((used_is 8 e.vol pass.1, pass.2.0), pass.2.2)
+  ] pass;
+  writes = λ b from e vs qs ns leads pass. elim b as (λ b. Leads b e → Passes vs qs (behind b from) ns → Passes (4 ∷ 4 ∷ vs) (IfUsed 8 ∷ IfUsed 4294967295 ∷ qs) (behind b from) (e.vol ∷ e.first ∷ ns)) [
+    | true ↦ λ leads pass. (omega (arith, leads.0), unused_from 8 e.vol leads.0, (omega (arith, leads.1), unused_from 4294967295 e.first leads.1, pass))
+    | false ↦ λ leads pass. (omega (arith, leads.0), used_from 8 e.vol leads.0, (leads.1, used_from 4294967295 e.first (omega (arith, leads.1)), pass))
+  ] leads pass;
+}
+
+-- dense ones: volume in one byte, two zeros, and first page in four bytes
+abbrev pub dense_rest : ExtentField → List ℕ
+dense_rest e = e.vol ∷ 0 ∷ 0 ∷ e.first ∷ []
+
+abbrev dense_rest_rules : List Rule
+dense_rest_rules = IfUsed 8 ∷ Range 0 0 ∷ Range 0 0 ∷ IfUsed 4294967295 ∷ []
+
+pub dense : RestOf dense_rest (1 ∷ 1 ∷ 2 ∷ 4 ∷ []) dense_rest_rules
+dense = record {
+  reads = λ b from e vs qs ns pass. elim b as (λ b. Passes (1 ∷ 1 ∷ 2 ∷ 4 ∷ vs) (dense_rest_rules ++ qs) (behind b from) (e.vol ∷ 0 ∷ 0 ∷ e.first ∷ ns) → Leads b e × Passes vs qs (behind b from) ns) [
+    | true ↦ λ pass. ((unused_is 8 e.vol pass.1, unused_is 4294967295 e.first pass.2.2.2.1), pass.2.2.2.2)
+    | false ↦ λ pass. ((used_is 8 e.vol pass.1, pass.2.2.2.0), pass.2.2.2.2)
+  ] pass;
+  writes = λ b from e vs qs ns leads pass. elim b as (λ b. Leads b e → Passes vs qs (behind b from) ns → Passes (1 ∷ 1 ∷ 2 ∷ 4 ∷ vs) (dense_rest_rules ++ qs) (behind b from) (e.vol ∷ 0 ∷ 0 ∷ e.first ∷ ns)) [
+    | true ↦ λ leads pass. (omega (arith, leads.0), unused_from 8 e.vol leads.0, (omega arith, refl, (omega arith, refl, (omega (arith, leads.1), unused_from 4294967295 e.first leads.1, pass))))
+    | false ↦ λ leads pass. (omega (arith, leads.0), used_from 8 e.vol leads.0, (omega arith, refl, (omega arith, refl, (leads.1, used_from 4294967295 e.first (omega (arith, leads.1)), pass))))
+  ] leads pass;
+}
+
+pub page_fits_2 : (p : ℕ) → p < 65536 → p < 256 ^ 2
+page_fits_2 p low = omega arith
+
+pub page_fits_4 : (p : ℕ) → p < 65536 → p < 256 ^ 4
+page_fits_4 p low = omega arith
+
+-- the count of a plain extent always fits
+pub counts_fit : (from : ℕ) (es : List ExtentField) → AreExtents from es → AllByRecursion (λ e. e.count < 256 ^ 4) es
+counts_fit from [] h = tt
+counts_fit from (e ∷ es) (inl h) = (omega (arith, h.0.run.ends), counts_fit (e.page + e.count) es h.1)
+counts_fit from (e ∷ es) (inr h) = none_fit (e ∷ es) h
+  where
+    none_fit : (es : List ExtentField) → AllByRecursion NoExtent es → AllByRecursion (λ e. e.count < 256 ^ 4) es
+    none_fit [] h = tt
+    none_fit (e ∷ es) h = (omega (arith, h.0.count), none_fit es h.1)
+
+-- the numbers of dense extents fit their fields
+pub all_short : (from : ℕ) (es : List ExtentField) → AreExtents from es → AllByRecursion (λ e. e.count < 2 ^ 16) es → AllByRecursion IsShort es
+all_short from [] h small = tt
+all_short from (e ∷ es) (inl h) small = (record { page = omega (arith, h.0.run.some, h.0.run.ends); count = small.0; volume = omega (arith, h.0.volume) }, all_short (e.page + e.count) es h.1 small.1)
+all_short from (e ∷ es) (inr h) small = none_short (e ∷ es) h
+  where
+    none_short : (es : List ExtentField) → AllByRecursion NoExtent es → AllByRecursion IsShort es
+    none_short [] h = tt
+    none_short (e ∷ es) h = (record { page = omega (arith, h.0.page); count = omega (arith, h.0.count); volume = omega (arith, h.0.volume) }, none_short es h.1)
 
 -- ---- holes
 

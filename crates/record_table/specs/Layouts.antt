@@ -14,6 +14,10 @@ with_head ws = 1 ∷ 1 ∷ 2 ∷ ws
 abbrev pub extent_widths : List ℕ
 extent_widths = 4 ∷ 4 ∷ 4 ∷ 4 ∷ []
 
+-- the same fields of a dense extent: page, count, volume, two zeros and first page
+abbrev pub dense_widths : List ℕ
+dense_widths = 2 ∷ 2 ∷ 1 ∷ 1 ∷ 2 ∷ 4 ∷ []
+
 -- page and count
 abbrev pub hole_widths : List ℕ
 hole_widths = 4 ∷ 4 ∷ []
@@ -38,6 +42,8 @@ layouts =
     ∷ with_head (4 ∷ 2 ∷ 2 ∷ [])
     ∷ with_head (1 ∷ 1 ∷ 2 ∷ repeated 8 (1 ∷ []))
     ∷ with_head (4 ∷ 4 ∷ 4 ∷ [])
+    ∷ with_head (repeated 22 dense_widths)
+    ∷ with_head (repeated 4 dense_widths)
     ∷ []
 
 -- the widths of a kind's fields, and of a number that is no kind the width of that number

@@ -51,6 +51,9 @@ repeated_rules (suc n) rs = rs ++ repeated_rules n rs
 abbrev pub extent_rules : List Rule
 extent_rules = Page ∷ Count ∷ IfUsed 8 ∷ IfUsed 4294967295 ∷ []
 
+abbrev pub dense_rules : List Rule
+dense_rules = Page ∷ Count ∷ IfUsed 8 ∷ exactly 0 ∷ exactly 0 ∷ IfUsed 4294967295 ∷ []
+
 abbrev pub hole_rules : List Rule
 hole_rules = Page ∷ Count ∷ []
 
@@ -74,6 +77,8 @@ rule_lists =
     ∷ with_head_rules 10 12 (Any ∷ Any ∷ exactly 0 ∷ [])
     ∷ with_head_rules 11 16 (Any ∷ Any ∷ exactly 0 ∷ repeated_rules 8 (Any ∷ []))
     ∷ with_head_rules 12 16 (Any ∷ Any ∷ Any ∷ [])
+    ∷ with_head_rules 13 268 (repeated_rules 22 dense_rules)
+    ∷ with_head_rules 14 52 (repeated_rules 4 dense_rules)
     ∷ []
 
 abbrev pub rules_of : ℕ → List Rule

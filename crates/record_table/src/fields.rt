@@ -1,9 +1,9 @@
 //! Numbers and rows of numbers at a place of a record's bytes.
 
 ghost use Rattle.std.specs.Prelude.{◌≡◌, ◌+◌, ◌*◌, ◌≤◌, length};
-ghost use Rattle.record_table.specs.Fields.{number_at, extent_at as extent_there, hole_at as hole_there, extents, holes, volumes};
+ghost use Rattle.record_table.specs.Fields.{number_at, extent_at as extent_there, dense_at as dense_there, hole_at as hole_there, extents, dense_extents, holes, volumes, leftover_of};
 
-use crate::record::{ExtentField, HoleField};
+use crate::record::{ExtentField, HoleField, Leftover};
 use byteorder::{ByteOrder, LittleEndian};
 
 #[tactic(auto, unfolding(crate::specs::Fields::number_at))]
@@ -50,6 +50,18 @@ fn extent_at(bytes: &[u8], at: usize) -> ExtentField
     }
 }
 
+fn dense_at(bytes: &[u8], at: usize) -> ExtentField
+    requires { at + 12 ≤ length bytes.now }
+    ensures { result ≡ dense_there at bytes.now }
+{
+    ExtentField {
+        page: u32::from(u16_at(bytes, at)),
+        count: u32::from(u16_at(bytes, at + 2)),
+        vol: u32::from(u8_at(bytes, at + 4)),
+        first: u32_at(bytes, at + 8),
+    }
+}
+
 fn hole_at(bytes: &[u8], at: usize) -> HoleField
     requires { at + 8 ≤ length bytes.now }
     ensures { result ≡ hole_there at bytes.now }
@@ -68,6 +80,18 @@ pub fn extents_at<const N: usize>(bytes: &[u8], at: usize) -> [ExtentField; N]
     let mut rows = [NO_EXTENT; N];
     for i in 0..N {
         rows[i] = extent_at(bytes, at + 16 * i);
+    }
+    rows
+}
+
+/// The extents of `N` dense rows.
+pub fn dense_extents_at<const N: usize>(bytes: &[u8], at: usize) -> [ExtentField; N]
+    requires { at + 12 * N ≤ length bytes.now }
+    ensures { result ≡ dense_extents N at bytes.now }
+{
+    let mut rows = [NO_EXTENT; N];
+    for i in 0..N {
+        rows[i] = dense_at(bytes, at + 12 * i);
     }
     rows
 }
@@ -99,6 +123,18 @@ pub fn volumes_at(bytes: &[u8], at: usize) -> [u8; 8]
         u8_at(bytes, at + 6),
         u8_at(bytes, at + 7),
     ]
+}
+
+/// What is left, by its number.
+pub fn leftover_at(bytes: &[u8], at: usize) -> Leftover
+    requires { at + 4 ≤ length bytes.now }
+    ensures { result ≡ leftover_of (number_at 4 at bytes.now) }
+{
+    if u32_at(bytes, at) == 1 {
+        Leftover::Trim
+    } else {
+        Leftover::Remove
+    }
 }
 
 const NO_EXTENT: ExtentField = ExtentField {

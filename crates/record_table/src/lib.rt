@@ -6,11 +6,12 @@
 
 ghost use Rattle.std.specs.Prelude.{◌≡◌, ◌≤◌, ◌++◌, List, ℕ, Ok, length, drop, IfOk, IfErr, slice_index};
 ghost use Rattle.record_table.specs.declared.record.Record.{Record};
-ghost use Rattle.record_table.specs.Records.{Allowed, Begins, kind_of, spelling};
+ghost use Rattle.record_table.specs.Records.{Allowed, Begins, kind_of, last_kind, spelling};
 ghost use Rattle.record_table.specs.Layouts.{size_of};
 ghost use Rattle.record_table.specs.Wrong.{IsFirstWrong};
 
 mod fields;
+mod kinds;
 mod layout;
 mod reading;
 mod record;
@@ -18,9 +19,20 @@ mod rule;
 mod table;
 mod writing;
 
+use domain_base::Version;
 pub use layout::Layout;
-pub use record::{Bad, ExtentField, HoleField, Record};
+pub use record::{Bad, ExtentField, HoleField, Leftover, Record};
 use table::{end_of, put_record, record_at};
+
+/// The greatest kind that is a record in a version: dense extents are none in version 3.
+fn last_kind_of(version: Version) -> u8
+    ensures { result ≡ last_kind version }
+{
+    match version {
+        Version::Three => 12,
+        Version::Four => 14,
+    }
+}
 
 /// The kind that the first byte names, 0 where there is none.
 fn first_kind(bytes: &[u8]) -> u8
@@ -32,21 +44,27 @@ fn first_kind(bytes: &[u8]) -> u8
     }
 }
 
-/// Reads the record at the front of the bytes, and answers it with its length. Other bytes may follow.
+/// Reads the record of this version at the front of the bytes, and answers it with its length. Other
+/// bytes may follow.
 ///
-/// `Bad` comes where no front of the bytes is the spelling of a record, with the offset of the field
-/// that holds the first wrong byte, or the end of bytes that end early.
-pub fn read_record(bytes: &[u8]) -> Result<(Record, usize), Bad>
+/// `Bad` comes where no front of the bytes is the spelling of a record of the version, with the
+/// offset of the field that holds the first wrong byte, or the end of bytes that end early.
+pub fn read_record(bytes: &[u8], version: Version) -> Result<(Record, usize), Bad>
     // What is read is spelled at the front of the bytes.
-    ensures found { IfOk result (λ found. Begins bytes.now found.0 × (found.1 ≡ length (spelling found.0))) }
+    ensures found { IfOk result (λ found. Begins version bytes.now found.0
+        × (found.1 ≡ length (spelling found.0))) }
     ensures size { IfOk result (λ found. found.1 ≡ size_of (kind_of found.0)) }
     ensures inside { IfOk result (λ found. (12 ≤ found.1) × (found.1 ≤ length bytes.now)) }
     // What is spelled there is read, whatever follows.
-    ensures only { (r : Record) → Begins bytes.now r → result ≡ Ok (r, length (spelling r)) }
-    ensures none { IfErr result (λ _. (r : Record) → Begins bytes.now r → ⊥) }
-    ensures first_wrong { IfErr result (IsFirstWrong bytes.now) }
+    ensures only { (r : Record) → Begins version bytes.now r
+        → result ≡ Ok (r, length (spelling r)) }
+    ensures none { IfErr result (λ _. (r : Record) → Begins version bytes.now r → ⊥) }
+    ensures first_wrong { IfErr result (IsFirstWrong version bytes.now) }
 {
     let kind = first_kind(bytes);
+    if last_kind_of(version) < kind {
+        return Err(Bad { kind, at: 0 });
+    }
     match end_of(kind, bytes) {
         Ok(end) => Ok((record_at(kind, bytes), end)),
         Err(at) => Err(Bad { kind, at }),
@@ -67,8 +85,6 @@ pub fn write_record(value: &Record, out: &mut [u8]) -> usize
 
 /// No spelling begins another: bytes that begin with two are one record and the same rest.
 pub fn one_spelling()
-    ensures { (a b : Record) (x y : List ℕ) → Allowed a → Allowed b → spelling a ++ x ≡ spelling b ++ y → (a ≡ b) × (x ≡ y) }
+    ensures { (a b : Record) (x y : List ℕ) → Allowed a → Allowed b → spelling a ++ x ≡ spelling b
+        ++ y → (a ≡ b) × (x ≡ y) }
 {}
-
-#[cfg(test)]
-mod tests;

@@ -18,8 +18,15 @@ pub struct HoleField {
     pub count: u32,
 }
 
-/// One record of an mcell.
+/// What is left to be done with a file: its extents from `keep` on go, or all of it.
 #[derive(Clone, Copy, Debug, PartialEq, Eq)]
+pub enum Leftover {
+    Trim,
+    Remove,
+}
+
+/// One record of an mcell.
+#[derive(Clone, Copy)]
 pub enum Record {
     /// A file or a directory. The kind is 1 for a file and 2 for a directory, the flags are 1 where it is
     /// logged and else 0, the size is in bytes, `keep` is a number of pages and `links` of names, and
@@ -55,9 +62,9 @@ pub enum Record {
     Holes {
         rows: [HoleField; 16],
     },
-    /// Work that is left: 1 for a trim, 2 for a removal.
+    /// Work that is left.
     Pending {
-        what: u32,
+        what: Leftover,
     },
     /// A user's limits of files and of blocks of 512 bytes, 0 for none.
     UserQuota {
@@ -93,6 +100,15 @@ pub enum Record {
         vol: u32,
         pages: u32,
         bitmap_pages: u32,
+    },
+    /// Extents of a chain's mcell, spelled in fewer bytes; from version 4 on. An extent of more than
+    /// 65,535 pages has no such spelling.
+    DenseExtents {
+        rows: [ExtentField; 22],
+    },
+    /// The first extents of a file, in its primary mcell, spelled so; from version 4 on.
+    ShortDense {
+        rows: [ExtentField; 4],
     },
 }
 

@@ -1,12 +1,13 @@
 use Rattle.std.proofs.Common.{◌≡◌, sym, refl, ◌∙◌, arith, length-set}
 use Rattle.std.proofs.lemmas.List.{take_all}
-use Rattle.record_table.proofs.Rows.{holes-set}
+use Rattle.record_table.specs.Fields.{hole_at}
+use Rattle.record_table.proofs.Rows.{rows-set}
 use Rattle.record_table.proofs.fields.holes_at.Goals as goal
 
 pub loop-i-preserved : goal.loop-i-preserved
 loop-i-preserved g c = record {
   full = rw length-set c.loop-i.invariant.full;
-  read = holes-set c.loop-i.rows c.loop-i.i c.args.at c.args.bytes.now c.hole_at.result (omega (arith, c.loop-i.invariant.full)) c.loop-i.invariant.read c.hole_at.ensures;
+  read = rows-set hole_at 8 c.loop-i.rows c.loop-i.i c.args.at c.args.bytes.now c.hole_at.result (omega (arith, c.loop-i.invariant.full)) c.loop-i.invariant.read c.hole_at.ensures;
 }
 
 pub returns : goal.returns

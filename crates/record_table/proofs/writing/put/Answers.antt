@@ -35,10 +35,10 @@ loop-i-preserved c =
       written = rw c.from-width.ensures (put-more c.args.widths.now c.args.numbers.now c.args.out.now c.loop-i.out c.write_uint.new.buf c.loop-i.at c.loop-i.i c.requires.fit lt c.requires.room c.loop-i.invariant.counted c.loop-i.invariant.written (c.write_uint.ensures ∙ rw c.from-width.ensures refl));
     }
 
-pub returns-clause-written : goal.returns-clause-written
-returns-clause-written c =
+pub returns : goal.returns
+returns c =
     let same = Fit-length c.args.widths.now c.args.numbers.now c.requires.fit in
     let ws : take c.loop-i.i c.args.widths.now ≡ c.args.widths.now = take_all c.loop-i.i c.args.widths.now (omega arith) in
     let ns : take c.loop-i.i c.args.numbers.now ≡ c.args.numbers.now = take_all c.loop-i.i c.args.numbers.now (omega arith) in
     let end : c.loop-i.at ≡ sum c.args.widths.now = c.loop-i.invariant.counted ∙ ap sum ws in
-    c.loop-i.invariant.written ∙ rw (ws, ns, end) refl
+    record { size = end; written = c.loop-i.invariant.written ∙ rw (ws, ns, end) refl }
