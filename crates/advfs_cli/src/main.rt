@@ -2,7 +2,7 @@
 #![tactic(auto)]
 
 ghost use Rattle.std.specs.Prelude.{◌≡◌, [], ◌∷◌, IfOk, map, string_bytes};
-ghost use Rattle.volume_disk.specs.Memory.{memory_disk};
+ghost use Rattle.memory_disk.specs.Memory.{memory_disk};
 ghost use Rattle.advfs_cli.specs.Usage.{form_of};
 
 pub mod gates;
@@ -27,7 +27,7 @@ use std::process::ExitCode;
 use std::rt::Env;
 use std::{io, str};
 use transfer::{write_all, zeros};
-use volume_disk::MemoryRack;
+use memory_disk::MemoryRack;
 use words::pages_asked;
 
 /// The bytes that a word of the command line may have.
