@@ -2,7 +2,7 @@
 //! the number with which it ends.
 ghost use Rattle.std.specs.Prelude.{◌≡◌, ℕ, false, [], ◌∷◌, IfOk, map, string_bytes};
 ghost use Rattle.std.specs.Process.{exit_status};
-ghost use Rattle.volume_disk.specs.Memory.{memory_disk, started};
+ghost use Rattle.memory_disk.specs.Memory.{memory_disk, started};
 ghost use Rattle.advfs_run.specs.Exit.{exit_number};
 ghost use Rattle.advfs_run.specs.Usage.{form_of};
 
@@ -14,12 +14,12 @@ use crate::status::Status;
 use crate::transfer::{write_all, zeros};
 use crate::words::pages_asked;
 use domain_base::OutOfMemory;
+use memory_disk::MemoryRack;
 use std::alloc::Global;
 use std::env::FillError;
 use std::process::ExitCode;
 use std::rt::Env;
 use std::{io, str};
-use volume_disk::MemoryRack;
 
 /// The bytes that a word of the command line may have.
 const WORD_BYTES: usize = 131_072;

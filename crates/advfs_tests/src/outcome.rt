@@ -1,8 +1,8 @@
 //! One run over sources and sinks in memory, and how it comes out.
 
 use advfs_run::{Ended, Gate, MemorySink, MemorySource, NoGate, rack_asked, run};
+use memory_disk::MemoryRack;
 use std::alloc::{AllocError, Global};
-use volume_disk::MemoryRack;
 
 /// What a run is given, and how it comes out: a line with the status and the exit number, and then
 /// the text that was printed.
