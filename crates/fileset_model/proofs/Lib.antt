@@ -4,17 +4,7 @@ pub mod MapLemmas
 pub mod MoveLemmas
 pub mod OwnerLemmas
 pub mod PageLemmas
-pub mod RefusalLemmas
 pub mod RowsLemmas
 pub mod SlotLemmas
 pub mod TreeLemmas
-pub mod ValidAnswerLemmas
-pub mod ValidCheckLemmas
-pub mod ValidHistoryLemmas
-pub mod ValidLemmas
-pub mod ValidMoveLemmas
-pub mod ValidPageLemmas
-pub mod ValidSetLemmas
-pub mod ValidTreeLemmas
-pub mod WalkLemmas
 pub mod WholeLemmas

@@ -1,0 +1,9 @@
+//! Laws of the definitions of filesets and of legal histories.
+#![tactic(auto)]
+
+mod laws;
+
+pub use laws::{
+    a_new_domain_is_valid, a_valid_tree_keeps_all_valid, every_answer_keeps_all_valid,
+    every_legal_history_ends_valid,
+};
