@@ -1,10 +1,9 @@
 -- A volume after a call that changes it, and after one that changes another.
 use Rattle.std.proofs.Common.{◌≡◌, ℕ, ◌-◌, true, false, Option, Some, None, IsSomeAnd, length, get_or, nat_eq, refl, sym, ◌∙◌, ap, subst, ⊎_elim}
-use Rattle.std.proofs.lemmas.Bool.{cases_lt, eq-eqb}
+use Rattle.std.proofs.lemmas.Bool.{cases_lt, eq-eqb, or_left}
 use Rattle.std.proofs.lemmas.List.{get_or-set_same, get_or-set_other, get_or_past, set_past}
 use Rattle.std.specs.Option.{option_map}
 use Rattle.std.specs.FinSet.{contains}
-use Rattle.storage_bitmap.proofs.Either.{or_left}
 use Rattle.storage_bitmap.proofs.Used.{contains-inserted}
 use Rattle.free_space.specs.VolumeSpace.{VolumeSpace, IsFreePage, with_page, is_waiting}
 use Rattle.free_space.specs.Spaces.{Spaces, volume_of, change_volume, IsFree, CanTake, IsHeld}

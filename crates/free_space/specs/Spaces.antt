@@ -3,8 +3,8 @@ use Rattle.std.specs.Prelude.{◌≡◌, ℕ, ◌+◌, ◌-◌, ◌^◌, true, f
 use Rattle.std.specs.Coded.{Coded, code_by, coded×, coded_ℕ, coded_list, coded_option}
 use Rattle.std.specs.Option.{option_map}
 use Rattle.std.specs.FinSet.{len, contains}
-use Rattle.storage_bitmap.specs.PageMap.{IsLongestRun}
-use Rattle.free_space.specs.VolumeSpace.{VolumeSpace, volume_space_code, IsFreePage, AreFreePages, page_map, is_waiting}
+use Rattle.storage_bitmap.specs.VolumePages.{IsLongestRun}
+use Rattle.free_space.specs.VolumeSpace.{VolumeSpace, volume_space_code, IsFreePage, AreFreePages, volume_pages, is_waiting}
 
 -- the volumes that are there, volume k at place k - 1, and how often no page was found
 pub record Spaces : Type 0 where
@@ -61,14 +61,14 @@ free_pages (Some v) = if v.is_open then v.pages - len v.used else 0
 
 abbrev pub waiting_pages : Option VolumeSpace → ℕ
 waiting_pages None = 0
-waiting_pages (Some v) = length v.waiting_data + length v.waiting_meta
+waiting_pages (Some v) = length v.waiting
 
 -- how many used pages of the volume do not wait
 abbrev pub held_pages : Option VolumeSpace → ℕ
 held_pages None = 0
-held_pages (Some v) = len v.used - (length v.waiting_data + length v.waiting_meta)
+held_pages (Some v) = len v.used - length v.waiting
 
 -- the length of the volume's longest run of free pages, 0 where it is not there
 abbrev pub IsLongestOn : Option VolumeSpace → ℕ → Type 0
 IsLongestOn None count = count ≡ 0
-IsLongestOn (Some v) count = IsLongestRun (page_map v) count
+IsLongestOn (Some v) count = IsLongestRun (volume_pages v) count

@@ -1,39 +1,54 @@
 -- The free space of one volume.
-use Rattle.std.specs.Prelude.{◌≡◌, ℕ, zero, suc, ◌+◌, ◌<◌, ◌≤◌, Bool, true, false, not, ◌&&◌, ◌||◌, ◌==◌, nat_lt, nat_le, List, [], ◌∷◌, ◌++◌, filter, if◌then◌else◌, refl}
+use Rattle.std.specs.Prelude.{◌≡◌, ℕ, zero, suc, ◌+◌, ◌<◌, ◌≤◌, Bool, true, false, not, ◌&&◌, ◌==◌, nat_le, List, [], ◌∷◌, ◌++◌, filter, if◌then◌else◌, refl}
 use Rattle.std.specs.List.{list_any}
 use Rattle.std.specs.Ordering.{nat_cmp}
 use Rattle.std.specs.FinSet.{FinSet, code, contains, insert, remove, retain}
 use Rattle.std.specs.Coded.{Coded, code_by, coded×, coded_ℕ, coded_bool, coded_list}
-use Rattle.storage_bitmap.specs.PageMap.{PageMap}
+use Rattle.storage_bitmap.specs.VolumePages.{VolumePages}
 use Rattle.free_space.specs.declared.waiting.Waiting.{Waiting}
+use Rattle.free_space.specs.declared.waiting.PageUse.{PageUse}
+use Rattle.free_space.specs.declared.waiting.PageUse.TheVariants.{Data, Metadata}
 
--- a volume's pages, whether pages are taken from it, its used pages, and those of them that wait: data pages until the
--- group that freed them is durable, metadata pages until the log's start has passed it
+-- a volume's pages, whether pages are taken from it, its used pages, and those of them that wait
 pub record VolumeSpace : Type 0 where
   pub pages : ℕ
   pub is_open : Bool
   pub used : FinSet nat_cmp
-  pub waiting_data : List Waiting
-  pub waiting_meta : List Waiting
+  pub waiting : List Waiting
+
+-- whether two uses are one
+abbrev pub same_use : PageUse → PageUse → Bool
+same_use Data Data = true
+same_use Data Metadata = false
+same_use Metadata Data = false
+same_use Metadata Metadata = true
+
+abbrev use_code : Coded PageUse
+use_code = code_by Bool coded_bool (λ k. same_use k Metadata) (λ b. if b then Metadata else Data) both
+  where
+    both : (k : PageUse) → (if same_use k Metadata then Metadata else Data) ≡ k
+    both Data = refl
+    both Metadata = refl
 
 abbrev waiting_code : Coded (List Waiting)
-waiting_code = coded_list (code_by (ℕ × ℕ) (coded× coded_ℕ coded_ℕ) (λ w. (w.page, w.group)) (λ p. record { page = p.0; group = p.1 }) (λ _. refl))
+waiting_code = coded_list (code_by (ℕ × (PageUse × ℕ)) (coded× coded_ℕ (coded× use_code coded_ℕ)) (λ w. (w.page, (w.kind, w.group)))
+    (λ p. record { page = p.0; kind = p.1.0; group = p.1.1 }) (λ _. refl))
 
 abbrev pub volume_space_code : Coded VolumeSpace
 volume_space_code =
-    code_by ((ℕ × Bool) × (FinSet nat_cmp × (List Waiting × List Waiting)))
-    (coded× (coded× coded_ℕ coded_bool) (coded× (code coded_ℕ) (coded× waiting_code waiting_code)))
-    (λ v. ((v.pages, v.is_open), (v.used, (v.waiting_data, v.waiting_meta))))
-    (λ p. record { pages = p.0.0; is_open = p.0.1; used = p.1.0; waiting_data = p.1.1.0; waiting_meta = p.1.1.1 })
+    code_by ((ℕ × Bool) × (FinSet nat_cmp × List Waiting))
+    (coded× (coded× coded_ℕ coded_bool) (coded× (code coded_ℕ) waiting_code))
+    (λ v. ((v.pages, v.is_open), (v.used, v.waiting)))
+    (λ p. record { pages = p.0.0; is_open = p.0.1; used = p.1.0; waiting = p.1.1 })
     (λ _. refl)
 
 -- its pages and the used ones, as a bitmap has them
-abbrev pub page_map : VolumeSpace → PageMap
-page_map v = record { pages = v.pages; used = v.used }
+abbrev pub volume_pages : VolumeSpace → VolumePages
+volume_pages v = record { pages = v.pages; used = v.used }
 
 -- a volume that was just added with this map: it is open, and no page of it waits
-abbrev pub added : PageMap → VolumeSpace
-added m = record { pages = m.pages; is_open = true; used = m.used; waiting_data = []; waiting_meta = [] }
+abbrev pub added : VolumePages → VolumeSpace
+added m = record { pages = m.pages; is_open = true; used = m.used; waiting = [] }
 
 -- whether page p is among those that wait
 abbrev pub is_among : List Waiting → ℕ → Bool
@@ -41,7 +56,7 @@ is_among waiting p = list_any (λ w. p == w.page) waiting
 
 -- whether page p waits
 abbrev pub is_waiting : VolumeSpace → ℕ → Bool
-is_waiting v p = is_among v.waiting_data p || is_among v.waiting_meta p
+is_waiting v p = is_among v.waiting p
 
 -- one of the volume's pages, neither used nor waiting
 pub record IsFreePage (v : VolumeSpace) (p : ℕ) : Type 0 where
@@ -71,27 +86,22 @@ without_page p v = record v { used = remove v.used p }
 abbrev pub with_open : Bool → VolumeSpace → VolumeSpace
 with_open is_open v = record v { is_open = is_open }
 
--- the page waits for that group from now on
-abbrev pub with_waiting : Bool → Waiting → VolumeSpace → VolumeSpace
-with_waiting meta w v =
-    if meta then record v { waiting_meta = v.waiting_meta ++ w ∷ [] } else record v { waiting_data = v.waiting_data ++ w ∷ [] }
+-- the page waits from now on
+abbrev pub with_waiting : Waiting → VolumeSpace → VolumeSpace
+with_waiting w v = record v { waiting = v.waiting ++ w ∷ [] }
 
--- whether page p waits for a group up to that one
-abbrev pub is_due : List Waiting → ℕ → ℕ → Bool
-is_due waiting group p = list_any (λ w. p == w.page && nat_le w.group group) waiting
+-- whether a page of that use waits for that group or one before it
+abbrev pub is_due : PageUse → ℕ → Waiting → Bool
+is_due kind group w = same_use w.kind kind && nat_le w.group group
 
 -- the used pages without those that are due
-abbrev pub without_due : FinSet nat_cmp → List Waiting → ℕ → FinSet nat_cmp
-without_due used waiting group = retain used (λ p. not (is_due waiting group p))
+abbrev pub without_due : FinSet nat_cmp → List Waiting → PageUse → ℕ → FinSet nat_cmp
+without_due used waiting kind group = retain used (λ p. not (list_any (λ w. p == w.page && is_due kind group w) waiting))
 
--- what waits for a later group
-abbrev pub still_waiting : ℕ → List Waiting → List Waiting
-still_waiting group waiting = filter (λ w. nat_lt group w.group) waiting
+-- what is not due
+abbrev pub still_waiting : PageUse → ℕ → List Waiting → List Waiting
+still_waiting kind group waiting = filter (λ w. not (is_due kind group w)) waiting
 
--- that group, and so each before it, is durable: the data pages that wait for it are free
-abbrev pub with_durable : ℕ → VolumeSpace → VolumeSpace
-with_durable group v = record v { used = without_due v.used v.waiting_data group; waiting_data = still_waiting group v.waiting_data }
-
--- the log's start has passed that group: the metadata pages that wait for it are free
-abbrev pub with_passed : ℕ → VolumeSpace → VolumeSpace
-with_passed group v = record v { used = without_due v.used v.waiting_meta group; waiting_meta = still_waiting group v.waiting_meta }
+-- the pages of that use that wait for that group or one before it are free
+abbrev pub with_released : PageUse → ℕ → VolumeSpace → VolumeSpace
+with_released kind group v = record v { used = without_due v.used v.waiting kind group; waiting = still_waiting kind group v.waiting }

@@ -6,4 +6,4 @@ mod volume;
 mod waiting;
 
 pub use spaces::FreeSpace;
-pub use waiting::Waiting;
+pub use waiting::{PageUse, Waiting};

@@ -1,8 +1,11 @@
 //! The free space of a domain.
 ghost use Rattle.std.specs.Prelude.{◌≡◌, ℕ, ◌+◌, ◌<◌, ◌≤◌, ◌^◌, ◌↔◌, true, false, None, Some, List, length, sum_by, IfOk, IfErr, IfSome, IfNone, OnOk, OnErr, IsSomeAnd, MatchBool};
-ghost use Rattle.free_space.specs.VolumeSpace.{added, with_page, with_run, without_page, with_open, with_waiting, with_durable, with_passed};
+ghost use Rattle.free_space.specs.declared.waiting.PageUse.TheVariants.{Data, Metadata};
+ghost use Rattle.free_space.specs.VolumeSpace.{added, with_page, with_run, without_page, with_open, with_waiting, with_released};
+ghost use Rattle.free_space.specs.Sound.{AreSound};
 ghost use Rattle.free_space.specs.Spaces.{no_spaces, volume_of, with_volume, change_volume, change_volumes, IsFree, CanTake, CanTakeRun, IsHeld, missed, free_pages, waiting_pages, held_pages, IsLongestOn};
 
+use crate::PageUse;
 use crate::volume::Volume;
 use domain_base::limits::MAX_VOLUMES;
 use domain_base::{Home, OutOfMemory, VolIx};
@@ -29,7 +32,9 @@ impl Model for FreeSpace {
 
     ghost view = { λ s. record { volumes = s.volumes.items; misses = s.misses } };
 
-    ghost invariant = { λ s. vec_len s.volumes ≡ 8 };
+    ghost use Rattle.free_space.specs.Sound.{AreSoundVolumes};
+
+    ghost invariant = { λ s. (vec_len s.volumes ≡ 8) × AreSoundVolumes s.volumes.items };
 }
 
 impl FreeSpace {
@@ -66,8 +71,10 @@ impl FreeSpace {
 
     /// Takes this page, and says whether it was free.
     pub fn reserve(&mut self, home: Home) -> bool
-        ensures answer { MatchBool result (IsFree self.old home.vol home.page) (¬ IsFree self.old home.vol home.page) }
-        ensures taken { MatchBool result (self.new ≡ change_volume (with_page home.page) self.old home.vol) (self.new ≡ self.old) }
+        ensures answer { MatchBool result (IsFree self.old home.vol home.page) (¬ IsFree self.old
+            home.vol home.page) }
+        ensures taken { MatchBool result (self.new
+            ≡ change_volume (with_page home.page) self.old home.vol) (self.new ≡ self.old) }
     {
         match &mut self.volumes[home.vol.index()] {
             Some(volume) => volume.reserve(home.page),
@@ -81,8 +88,10 @@ impl FreeSpace {
         ensures none { IfNone result ((vol p : ℕ) → ¬ CanTake self.old vol p) }
         ensures missed { IfNone result (self.new ≡ missed self.old) }
         ensures some { IfSome result (λ home. CanTake self.old home.vol home.page) }
-        ensures taken { IfSome result (λ home. self.new ≡ change_volume (with_page home.page) self.old home.vol) }
-        ensures preferred { IfSome result (λ home. (p : ℕ) → CanTake self.old prefer p → home.vol ≡ prefer) }
+        ensures taken { IfSome result (λ home. self.new
+            ≡ change_volume (with_page home.page) self.old home.vol) }
+        ensures preferred { IfSome result (λ home. (p : ℕ) → CanTake self.old prefer p
+            → home.vol ≡ prefer) }
     {
         let preferred = self.allocate_on(prefer);
         if preferred.is_some() {
@@ -100,7 +109,8 @@ impl FreeSpace {
         ensures none { IfNone result ((vol p : ℕ) → ¬ CanTake self.old vol p) }
         ensures unchanged { IfNone result (self.new ≡ self.old) }
         ensures some { IfSome result (λ home. CanTake self.old home.vol home.page) }
-        ensures taken { IfSome result (λ home. self.new ≡ change_volume (with_page home.page) self.old home.vol) }
+        ensures taken { IfSome result (λ home. self.new
+            ≡ change_volume (with_page home.page) self.old home.vol) }
     {
         for index in 0..self.volumes.len() {
             let vol = VolIx::new(index as u32 + 1).unwrap();
@@ -117,7 +127,8 @@ impl FreeSpace {
         ensures none { IfNone result ((p : ℕ) → ¬ CanTake self.old vol p) }
         ensures unchanged { IfNone result (self.new ≡ self.old) }
         ensures some { IfSome result (λ home. (home.vol ≡ vol) × CanTake self.old vol home.page) }
-        ensures taken { IfSome result (λ home. self.new ≡ change_volume (with_page home.page) self.old vol) }
+        ensures taken { IfSome result (λ home. self.new
+            ≡ change_volume (with_page home.page) self.old vol) }
     {
         let page = match &mut self.volumes[vol.index()] {
             Some(volume) => volume.allocate(),
@@ -131,8 +142,10 @@ impl FreeSpace {
     pub fn allocate_run(&mut self, vol: VolIx, count: u32) -> Option<Home>
         ensures none { IfNone result ((p : ℕ) → ¬ CanTakeRun self.old vol p count) }
         ensures unchanged { IfNone result (self.new ≡ self.old) }
-        ensures some { IfSome result (λ home. (home.vol ≡ vol) × CanTakeRun self.old vol home.page count) }
-        ensures taken { IfSome result (λ home. self.new ≡ change_volume (with_run home.page count) self.old vol) }
+        ensures some { IfSome result (λ home. (home.vol ≡ vol)
+            × CanTakeRun self.old vol home.page count) }
+        ensures taken { IfSome result (λ home. self.new
+            ≡ change_volume (with_run home.page count) self.old vol) }
     {
         let page = match &mut self.volumes[vol.index()] {
             Some(volume) => volume.allocate_run(count),
@@ -143,12 +156,16 @@ impl FreeSpace {
 
     /// Frees a used page once `group` is durable or, if it is a metadata page, once the start of
     /// the log has passed it. Until then the page waits.
-    pub fn give_back(&mut self, home: Home, meta: bool, group: u64)
+    pub fn give_back(&mut self, home: Home, kind: PageUse, group: u64)
         requires { IsHeld self.old home.vol home.page }
-        ensures { self.new ≡ change_volume (with_waiting meta (record { page = home.page; group = group })) self.old home.vol }
+        ensures { self.new ≡ change_volume (with_waiting (record {
+          page = home.page;
+          kind = kind;
+          group = group;
+        })) self.old home.vol }
     {
         if let Some(volume) = &mut self.volumes[home.vol.index()] {
-            volume.give_back(home.page, meta, group);
+            volume.give_back(home.page, kind, group);
         }
     }
 
@@ -162,32 +179,36 @@ impl FreeSpace {
         }
     }
 
-    /// How often `allocate` has found no page. The count stays at its last value.
+    /// How often `allocate` has found no page. The count stays at its last value. Beside it stands
+    /// what is always so of the volumes, for callers who need it.
     pub fn misses(&self) -> u64
-        ensures { result ≡ self.now.misses }
+        ensures value { result ≡ self.now.misses }
+        ensures sound { AreSound self.now }
     {
         self.misses
     }
 
     /// This group, and so each before it, is durable: the data pages that wait for it are free.
     pub fn made_durable(&mut self, group: u64)
-        ensures { self.new ≡ change_volumes (with_durable group) self.old }
+        ensures { self.new ≡ change_volumes (with_released Data group) self.old }
     {
-        for slot in self.volumes.iter_mut() {
-            if let Some(volume) = slot {
-                volume.made_durable(group);
-            }
-        }
+        self.release(PageUse::Data, group);
     }
 
     /// The start of the log has passed this group, and so each before it: the metadata pages that
     /// wait for it are free.
     pub fn log_passed(&mut self, group: u64)
-        ensures { self.new ≡ change_volumes (with_passed group) self.old }
+        ensures { self.new ≡ change_volumes (with_released Metadata group) self.old }
+    {
+        self.release(PageUse::Metadata, group);
+    }
+
+    fn release(&mut self, kind: PageUse, group: u64)
+        ensures { self.new ≡ change_volumes (with_released kind group) self.old }
     {
         for slot in self.volumes.iter_mut() {
             if let Some(volume) = slot {
-                volume.log_passed(group);
+                volume.release(kind, group);
             }
         }
     }
@@ -281,6 +302,3 @@ fn waiting_on(slot: &Option<Volume>) -> u32
         None => 0,
     }
 }
-
-#[cfg(test)]
-mod tests;

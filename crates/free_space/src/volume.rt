@@ -1,11 +1,11 @@
 //! The free space of one volume.
-ghost use Rattle.std.specs.Prelude.{◌≡◌, ℕ, ◌+◌, ◌-◌, ◌^◌, ◌<◌, ◌≤◌, true, false, [], ◌∷◌, ◌++◌, length, vec_capacity, IfOk, IfErr, IfSome, IfNone, MatchBool};
+ghost use Rattle.std.specs.Prelude.{◌≡◌, ℕ, ◌+◌, ◌-◌, ◌^◌, ◌<◌, ◌≤◌, true, false, length, vec_capacity, IfOk, IfErr, IfSome, IfNone, MatchBool};
 ghost use Rattle.std.specs.FinSet.{contains, len};
-ghost use Rattle.storage_bitmap.specs.PageMap.{IsLongestRun};
-ghost use Rattle.free_space.specs.VolumeSpace.{added, page_map, IsFreePage, AreFreePages, is_waiting, with_page, with_run, without_page, with_open, with_waiting, insert_run, without_due, still_waiting, with_durable, with_passed};
-ghost use Rattle.free_space.specs.Kept.{AllWithin};
+ghost use Rattle.storage_bitmap.specs.VolumePages.{IsLongestRun};
+ghost use Rattle.free_space.specs.VolumeSpace.{added, volume_pages, IsFreePage, AreFreePages, is_waiting, with_page, with_run, without_page, with_open, with_waiting, insert_run, without_due, still_waiting, with_released, is_among};
+ghost use Rattle.free_space.specs.Sound.{IsSoundVolume};
 
-use crate::Waiting;
+use crate::{PageUse, Waiting};
 use domain_base::OutOfMemory;
 use std::alloc::Global;
 use std::marker::Model;
@@ -16,8 +16,7 @@ use storage_bitmap::Bitmap;
 pub struct Volume {
     map: Bitmap,
     is_open: bool,
-    waiting_data: Vec<Waiting>,
-    waiting_meta: Vec<Waiting>,
+    waiting: Vec<Waiting>,
     next: u32,
 }
 
@@ -25,30 +24,33 @@ impl Model for Volume {
     ghost use Rattle.std.specs.Prelude.{◌≡◌};
     ghost use Rattle.std.specs.Vec.{vec_capacity};
     ghost use Rattle.free_space.specs.VolumeSpace.{VolumeSpace, volume_space_code};
-    ghost use Rattle.free_space.specs.Kept.{IsKept};
+    ghost use Rattle.free_space.specs.Sound.{IsKept};
 
     ghost Value = { VolumeSpace };
 
     ghost coded = { volume_space_code };
 
-    ghost view = { λ v. record { pages = v.map.pages; is_open = v.is_open; used = v.map.used; waiting_data = v.waiting_data.items; waiting_meta = v.waiting_meta.items } };
+    ghost view = { λ v. record { pages = v.map.pages; is_open = v.is_open; used = v.map.used; waiting = v.waiting.items } };
 
-    ghost invariant = { λ v. IsKept v.map v.waiting_data.items v.waiting_meta.items (vec_capacity v.waiting_data) (vec_capacity v.waiting_meta) };
+    ghost invariant = { λ v. IsKept v.map.pages v.map.used v.waiting.items (vec_capacity v.waiting) };
 }
 
-/// Frees the pages that wait for a group up to `group`, and strikes them off the list.
-fn release(map: &mut Bitmap, waiting: &mut Vec<Waiting>, group: u64)
-    requires { AllWithin map.old.pages waiting.old.items }
-    ensures map { map.new ≡ record map.old { used = without_due map.old.used waiting.old.items group } }
-    ensures waiting { waiting.new.items ≡ still_waiting group waiting.old.items }
+/// Frees the pages of that use that wait for a group up to `group`, and strikes them off the list.
+fn release(map: &mut Bitmap, waiting: &mut Vec<Waiting>, kind: PageUse, group: u64)
+    requires { (p : ℕ) → is_among waiting.old.items p ≡ true → p < map.old.pages }
+    ensures map { map.new ≡ record map.old {
+      used = without_due map.old.used waiting.old.items kind
+          group;
+    } }
+    ensures waiting { waiting.new.items ≡ still_waiting kind group waiting.old.items }
     ensures room { vec_capacity waiting.new ≡ vec_capacity waiting.old }
 {
     for page in waiting.iter() {
-        if page.group <= group {
+        if page.is_due(kind, group) {
             map.clear(page.page);
         }
     }
-    waiting.retain(|page| group < page.group);
+    waiting.retain(|page| !page.is_due(kind, group));
 }
 
 /// Counts `count` pages from page `first` on among the used ones.
@@ -68,33 +70,34 @@ impl Volume {
     pub fn new(alloc: Global, map: Bitmap) -> Result<Self, (Bitmap, OutOfMemory)>
         requires { map.pages ≤ 2 ^ 20 }
         ensures ok { IfOk result (λ v. v ≡ added map) }
+        ensures sound { IfOk result IsSoundVolume }
         ensures err { IfErr result (λ e. e.0 ≡ map) }
     {
         let pages = map.pages() as usize;
-        let waiting_data = match Vec::with_capacity(alloc, pages) {
-            Ok(room) => room,
-            Err(error) => return Err((map, error)),
-        };
-        let waiting_meta = match Vec::with_capacity(alloc, pages) {
+        let waiting = match Vec::with_capacity(alloc, pages) {
             Ok(room) => room,
             Err(error) => return Err((map, error)),
         };
         Ok(Volume {
             map,
             is_open: true,
-            waiting_data,
-            waiting_meta,
+            waiting,
             next: 0,
         })
     }
 
     /// A run of free pages, after the last one that was taken if there is one. None where the
-    /// volume is closed or has no such run.
+    /// volume is closed or has no such run. Where fewer pages are free none is looked for.
     fn find(&self, count: u32) -> Option<u32>
-        ensures none { IfNone result ((p : ℕ) → self.now.is_open ≡ true → ¬ AreFreePages self.now p count) }
-        ensures some { IfSome result (λ p. (self.now.is_open ≡ true) × AreFreePages self.now p count) }
+        ensures none { IfNone result ((p : ℕ) → self.now.is_open ≡ true
+            → ¬ AreFreePages self.now p count) }
+        ensures some { IfSome result (λ p. (self.now.is_open ≡ true)
+            × AreFreePages self.now p count) }
     {
         if !self.is_open {
+            return None;
+        }
+        if self.map.count_free() < count {
             return None;
         }
         match self.map.first_run_from(self.next, count) {
@@ -109,6 +112,7 @@ impl Volume {
         ensures unchanged { IfNone result (self.new ≡ self.old) }
         ensures some { IfSome result (λ p. (self.old.is_open ≡ true) × IsFreePage self.old p) }
         ensures taken { IfSome result (λ p. self.new ≡ with_page p self.old) }
+        ensures sound { IsSoundVolume self.new }
     {
         let page = self.find(1)?;
         self.map.set(page);
@@ -119,10 +123,13 @@ impl Volume {
     /// Takes `count` free pages in a row, and gives the first. None where the volume is closed or
     /// has no such run.
     pub fn allocate_run(&mut self, count: u32) -> Option<u32>
-        ensures none { IfNone result ((p : ℕ) → self.old.is_open ≡ true → ¬ AreFreePages self.old p count) }
+        ensures none { IfNone result ((p : ℕ) → self.old.is_open ≡ true
+            → ¬ AreFreePages self.old p count) }
         ensures unchanged { IfNone result (self.new ≡ self.old) }
-        ensures some { IfSome result (λ p. (self.old.is_open ≡ true) × AreFreePages self.old p count) }
+        ensures some { IfSome result (λ p. (self.old.is_open ≡ true)
+            × AreFreePages self.old p count) }
         ensures taken { IfSome result (λ p. self.new ≡ with_run p count self.old) }
+        ensures sound { IsSoundVolume self.new }
     {
         let first = self.find(count)?;
         set_run(&mut self.map, first, count);
@@ -133,7 +140,9 @@ impl Volume {
     /// Takes this page, and says whether it was free.
     pub fn reserve(&mut self, page: u32) -> bool
         ensures answer { MatchBool result (IsFreePage self.old page) (¬ IsFreePage self.old page) }
-        ensures taken { MatchBool result (self.new ≡ with_page page self.old) (self.new ≡ self.old) }
+        ensures taken { MatchBool result (self.new ≡ with_page page self.old) (self.new
+            ≡ self.old) }
+        ensures sound { IsSoundVolume self.new }
     {
         let free = page < self.map.pages() && !self.map.is_used(page);
         if free {
@@ -143,45 +152,41 @@ impl Volume {
     }
 
     /// Lets the page wait for that group.
-    pub fn give_back(&mut self, page: u32, meta: bool, group: u64)
+    pub fn give_back(&mut self, page: u32, kind: PageUse, group: u64)
         requires used { contains self.old.used page ≡ true }
         requires settled { is_waiting self.old page ≡ false }
-        ensures { self.new ≡ with_waiting meta (record { page = page; group = group }) self.old }
+        ensures value { self.new ≡ with_waiting (record {
+          page = page;
+          kind = kind;
+          group = group;
+        }) self.old }
+        ensures sound { IsSoundVolume self.new }
     {
-        let waiting = Waiting { page, group };
-        if meta {
-            self.waiting_meta.push_reserved(waiting);
-        } else {
-            self.waiting_data.push_reserved(waiting);
-        }
+        self.waiting.push_reserved(Waiting { page, kind, group });
     }
 
     /// Frees the page at once.
     pub fn unreserve(&mut self, page: u32)
         requires used { contains self.old.used page ≡ true }
         requires settled { is_waiting self.old page ≡ false }
-        ensures { self.new ≡ without_page page self.old }
+        ensures value { self.new ≡ without_page page self.old }
+        ensures sound { IsSoundVolume self.new }
     {
         self.map.clear(page);
     }
 
-    /// Frees the data pages that wait for a group up to this one, which is durable.
-    pub fn made_durable(&mut self, group: u64)
-        ensures { self.new ≡ with_durable group self.old }
+    /// Frees the pages of that use that wait for a group up to this one.
+    pub fn release(&mut self, kind: PageUse, group: u64)
+        ensures value { self.new ≡ with_released kind group self.old }
+        ensures sound { IsSoundVolume self.new }
     {
-        release(&mut self.map, &mut self.waiting_data, group);
-    }
-
-    /// Frees the metadata pages that wait for a group up to this one, which the log has passed.
-    pub fn log_passed(&mut self, group: u64)
-        ensures { self.new ≡ with_passed group self.old }
-    {
-        release(&mut self.map, &mut self.waiting_meta, group);
+        release(&mut self.map, &mut self.waiting, kind, group);
     }
 
     /// Opens the volume, or closes it.
     pub fn set_open(&mut self, is_open: bool)
-        ensures { self.new ≡ with_open is_open self.old }
+        ensures value { self.new ≡ with_open is_open self.old }
+        ensures sound { IsSoundVolume self.new }
     {
         self.is_open = is_open;
     }
@@ -203,22 +208,22 @@ impl Volume {
 
     /// How many pages wait.
     pub fn count_waiting(&self) -> u32
-        ensures value { result ≡ length self.now.waiting_data + length self.now.waiting_meta }
+        ensures value { result ≡ length self.now.waiting }
         ensures bound { result ≤ 2 ^ 20 }
     {
-        (self.waiting_data.len() + self.waiting_meta.len()) as u32
+        self.waiting.len() as u32
     }
 
     /// How many pages are used and do not wait.
     pub fn count_held(&self) -> u32
-        ensures { result ≡ len self.now.used - (length self.now.waiting_data + length self.now.waiting_meta) }
+        ensures { result ≡ len self.now.used - length self.now.waiting }
     {
         self.map.pages() - self.map.count_free() - self.count_waiting()
     }
 
     /// How many pages the longest run of free ones has.
     pub fn longest_run(&self) -> u32
-        ensures { IsLongestRun (page_map self.now) result }
+        ensures { IsLongestRun (volume_pages self.now) result }
     {
         self.map.longest_run()
     }

@@ -1,5 +1,4 @@
 pub mod Blank
-pub mod Either
 pub mod Longest
 pub mod Runs
 pub mod Used

@@ -1,11 +1,10 @@
 -- Runs of free pages, as the walk finds them in a bitmap's bytes.
 use Rattle.std.proofs.Common.{◌≡◌, ℕ, ◌+◌, ◌-◌, ◌*◌, ◌<◌, ◌≤◌, false, ◌||◌, List, length, nat_lt, sym, ◌∙◌, ap, arith, ⊎_elim, Some, None}
-use Rattle.std.proofs.lemmas.Bool.{cases_lt, both_ways, le-ltb, lt-ltb, le-leb, lt-leb}
+use Rattle.std.proofs.lemmas.Bool.{cases_lt, both_ways, le-ltb, lt-ltb, le-leb, lt-leb, or_parts}
 use Rattle.std.specs.FinSet.{contains}
-use Rattle.storage_bitmap.specs.PageMap.{IsFreeRun, IsFirstRun}
+use Rattle.storage_bitmap.specs.VolumePages.{IsFreeRun, IsFirstRun}
 use Rattle.storage_bitmap.specs.Bits.{is_set, used_below, IsKept, ShowsMap}
 use Rattle.storage_bitmap.specs.Walk.{is_taken, NoneTaken, IsFound}
-use Rattle.storage_bitmap.proofs.Either.{or_parts}
 use Rattle.storage_bitmap.proofs.Used.{contains-used, viewed_map}
 
 bit_free : (bytes : List ℕ) (from q : ℕ) → is_taken bytes from q ≡ false → is_set bytes q ≡ false

@@ -8,7 +8,7 @@ use Rattle.std.specs.Int.{bit_at, w8}
 use Rattle.std.specs.Ordering.{nat_cmp}
 use Rattle.std.specs.Cmp.{nat_cmp_total, unsigned_tied}
 use Rattle.std.specs.FinSet.{FinSet, insert, remove, contains, len, contains-empty, contains-insert, contains-remove, len-empty, len-insert, len-remove, empty_of_len, same_set, nat_cmp-IsAntisymmetric}
-use Rattle.storage_bitmap.specs.PageMap.{PageMap}
+use Rattle.storage_bitmap.specs.VolumePages.{VolumePages}
 use Rattle.storage_bitmap.specs.Bits.{is_set, used_below, IsKept}
 
 pub contains-inserted : (s : FinSet nat_cmp) (k q : ℕ) → contains (insert s k) q ≡ (nat_eq q k || contains s q)
@@ -182,32 +182,32 @@ remove_free s p unused = same_pages (remove s p) s (λ q. contains-removed s p q
     (λ apart. ap (λ b. not b && contains s q) (ne_eqb q p apart)) (cases_eq q p))
 
 -- the same of a whole map
-abbrev pub with_used : PageMap → FinSet nat_cmp → PageMap
+abbrev pub with_used : VolumePages → FinSet nat_cmp → VolumePages
 with_used m s = record { pages = m.pages; used = s }
 
-pub viewed : (pages : ℕ) (used after : FinSet nat_cmp) (m : PageMap) (change : FinSet nat_cmp → FinSet nat_cmp) →
+pub viewed : (pages : ℕ) (used after : FinSet nat_cmp) (m : VolumePages) (change : FinSet nat_cmp → FinSet nat_cmp) →
     record { pages = pages; used = used } ≡ m → after ≡ change used → record { pages = pages; used = after } ≡ with_used m (change m.used)
 viewed pages used after m change is changed =
-    let at : FinSet nat_cmp → PageMap = λ s. record { pages = pages; used = s } in
-    ap at changed ∙ ap (λ (n : PageMap). with_used n (change n.used)) is
+    let at : FinSet nat_cmp → VolumePages = λ s. record { pages = pages; used = s } in
+    ap at changed ∙ ap (λ (n : VolumePages). with_used n (change n.used)) is
 
-pub unchanged : (m : PageMap) (s : FinSet nat_cmp) → s ≡ m.used → m ≡ with_used m s
+pub unchanged : (m : VolumePages) (s : FinSet nat_cmp) → s ≡ m.used → m ≡ with_used m s
 unchanged m s is = sym (ap (λ t. with_used m t) is)
 
-abbrev pub viewed_map : List ℕ → ℕ → PageMap
+abbrev pub viewed_map : List ℕ → ℕ → VolumePages
 viewed_map bytes pages = record { pages = pages; used = used_below bytes pages }
 
 -- a call that sets the bit of a free page, and one that clears the bit of a used one
-module _ (bytes : List ℕ) (pages free p byte : ℕ) (m : PageMap) (kept : IsKept bytes pages free) (is : viewed_map bytes pages ≡ m) (inside : p < m.pages)
+module _ (bytes : List ℕ) (pages free p byte : ℕ) (m : VolumePages) (kept : IsKept bytes pages free) (is : viewed_map bytes pages ≡ m) (inside : p < m.pages)
     (read : byte ≡ get_or bytes (p / 8) byte) where
   in_map : p < pages
-  in_map = subst (λ (n : PageMap). p < n.pages) (sym is) inside
+  in_map = subst (λ (n : VolumePages). p < n.pages) (sym is) inside
 
   read_there : byte ≡ get_or bytes (p / 8) 0
   read_there = get_or_read bytes (p / 8) byte (place_within bytes pages free p kept in_map) read 0
 
   was : (b : Bool) → contains m.used p ≡ b → contains (used_below bytes pages) p ≡ b
-  was b e = ap (λ (n : PageMap). contains n.used p) is ∙ e
+  was b e = ap (λ (n : VolumePages). contains n.used p) is ∙ e
 
   set_write : Writes bytes (set bytes (p / 8) (bit_or byte (1 * 2 ^ (p % 8) % 256))) p true
   set_write = sets bytes p byte (place_within bytes pages free p kept in_map) read_there

@@ -1,9 +1,12 @@
 -- A bitmap's bytes.
 use Rattle.std.specs.Prelude.{◌≡◌, ℕ, zero, suc, ◌+◌, ◌*◌, ◌/◌, ◌%◌, ◌<◌, ◌≤◌, Bool, true, if◌then◌else◌, ◌||◌, ◌==◌, nat_le, List, length, slice_index}
-use Rattle.std.specs.Int.{bit_at, div_ceil}
+use Rattle.std.specs.Int.{bit_at}
 use Rattle.std.specs.Ordering.{nat_cmp}
 use Rattle.std.specs.FinSet.{FinSet, empty, insert, contains, len}
-use Rattle.storage_bitmap.specs.PageMap.{PageMap}
+use Rattle.domain_base.specs.Limits.{page_bytes}
+use Rattle.domain_base.specs.Version.{bitmap_pages}
+use Rattle.domain_base.specs.declared.version.Version.TheVariants.{Four}
+use Rattle.storage_bitmap.specs.VolumePages.{VolumePages}
 
 -- whether bit p mod 8 of byte p / 8 is 1, where bit 0 is the lowest
 unfoldable pub is_set : List ℕ → ℕ → Bool
@@ -16,10 +19,10 @@ used_below bytes (suc n) = if is_set bytes n then insert (used_below bytes n) n 
 
 -- how many bytes a bitmap of so many pages has: whole pages of 8,192 bytes, each for 65,536 pages
 abbrev pub bitmap_bytes : ℕ → ℕ
-bitmap_bytes pages = 8192 * div_ceil pages 65536
+bitmap_bytes pages = page_bytes * bitmap_pages Four pages
 
 -- these bytes are the map's: a bit is 1 exactly where its page is used or lies past the last one
-pub record ShowsMap (m : PageMap) (bytes : List ℕ) : Type 0 where
+pub record ShowsMap (m : VolumePages) (bytes : List ℕ) : Type 0 where
   pub len : length bytes ≡ bitmap_bytes m.pages
   pub bits : (p : ℕ) → p < 8 * length bytes → is_set bytes p ≡ (nat_le m.pages p || contains m.used p)
 

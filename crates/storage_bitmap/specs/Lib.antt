@@ -1,3 +1,3 @@
 pub mod Bits
-pub mod PageMap
+pub mod VolumePages
 pub mod Walk

@@ -1,12 +1,14 @@
 //! A volume's bitmap.
 ghost use Rattle.std.specs.Prelude.{◌≡◌, ℕ, true, ◌+◌, ◌*◌, ◌<◌, ◌≤◌, IfOk};
 ghost use Rattle.std.specs.FinSet.{empty, contains, insert, remove, len};
-ghost use Rattle.storage_bitmap.specs.PageMap.{IsFirstRun, IsLongestRun};
+ghost use Rattle.storage_bitmap.specs.VolumePages.{IsFirstRun, IsLongestRun};
 ghost use Rattle.storage_bitmap.specs.Bits.{ShowsMap, bitmap_bytes};
 
 use crate::walk;
 use crate::word::blank_byte;
-use std::alloc::{AllocError, Global};
+use domain_base::limits::PAGE_BYTES;
+use domain_base::{OutOfMemory, Version};
+use std::alloc::Global;
 use std::marker::Model;
 
 /// Which pages of a volume are used, seen by contracts as the number of its pages and the set of
@@ -19,12 +21,12 @@ pub struct Bitmap {
 }
 
 impl Model for Bitmap {
-    ghost use Rattle.storage_bitmap.specs.PageMap.{PageMap, page_map_code};
+    ghost use Rattle.storage_bitmap.specs.VolumePages.{VolumePages, volume_pages_code};
     ghost use Rattle.storage_bitmap.specs.Bits.{used_below, IsKept};
 
-    ghost Value = { PageMap };
+    ghost Value = { VolumePages };
 
-    ghost coded = { page_map_code };
+    ghost coded = { volume_pages_code };
 
     ghost view = { λ b. record { pages = b.pages; used = used_below b.bytes.items b.pages } };
 
@@ -36,12 +38,12 @@ fn bitmap_len(pages: u32) -> usize
     ensures value { result ≡ bitmap_bytes pages }
     ensures covers { pages ≤ 8 * result }
 {
-    8_192 * pages.div_ceil(65_536) as usize
+    PAGE_BYTES * Version::Four.bitmap_pages(pages) as usize
 }
 
 impl Bitmap {
     /// A bitmap of so many pages, none of them used.
-    pub fn new(alloc: Global, pages: u32) -> Result<Self, AllocError>
+    pub fn new(alloc: Global, pages: u32) -> Result<Self, OutOfMemory>
         ensures { IfOk result (λ b. b ≡ record { pages = pages; used = empty }) }
     {
         let len = bitmap_len(pages);
@@ -146,85 +148,5 @@ impl Bitmap {
         ensures { ShowsMap self.now result.now }
     {
         self.bytes.as_slice()
-    }
-}
-
-#[cfg(test)]
-mod tests {
-    use super::*;
-    use std::test::Fail;
-
-    fn with_used(alloc: Global, pages: u32, used: &[u32]) -> Result<Bitmap, AllocError>
-        ensures { IfOk result (λ b. b.pages ≡ pages) }
-    {
-        let mut map = Bitmap::new(alloc, pages)?;
-        for page in used {
-            if *page < pages {
-                map.set(*page);
-            }
-        }
-        Ok(map)
-    }
-
-    #[test]
-    fn finds_the_first_run(rt: HostRuntime) -> Result<(), Fail> {
-        let mut map = with_used(rt.alloc(), 64, &[0, 1, 2, 3, 4, 5, 6, 7, 8, 9, 20])?;
-        assert_eq!(rt; map.count_free(), 53);
-        for (count, want) in [
-            (0, Some(0)),
-            (1, Some(10)),
-            (10, Some(10)),
-            (11, Some(21)),
-            (43, Some(21)),
-            (44, None),
-        ] {
-            assert_eq!(rt; map.first_run(count), want, "a run of {count}");
-        }
-        assert_eq!(rt; map.longest_run(), 43);
-        map.clear(20);
-        map.clear(20);
-        assert_eq!(rt; map.count_free(), 54);
-        assert_eq!(rt; map.first_run(44), Some(10));
-        Ok(())
-    }
-
-    #[test]
-    fn finds_runs_over_several_words(rt: HostRuntime) -> Result<(), Fail> {
-        let map = with_used(rt.alloc(), 400, &[0, 50, 100, 360])?;
-        for (from, count, want) in [
-            (0, 49, Some(1)),
-            (0, 50, Some(101)),
-            (2, 49, Some(51)),
-            (150, 210, Some(150)),
-            (151, 210, None),
-            (361, 39, Some(361)),
-            (361, 40, None),
-            (400, 1, None),
-        ] {
-            assert_eq!(rt;
-                map.first_run_from(from, count),
-                want,
-                "a run of {count} from {from}"
-            );
-        }
-        assert_eq!(rt; map.longest_run(), 259);
-        Ok(())
-    }
-
-    #[test]
-    fn bytes_end_in_ones(rt: HostRuntime) -> Result<(), Fail> {
-        let map = with_used(rt.alloc(), 70, &[0, 9, 65])?;
-        let bytes = map.bytes();
-        assert_eq!(rt; bytes.len(), 8_192);
-        assert_eq!(rt;
-            &bytes[..10],
-            [1, 2, 0, 0, 0, 0, 0, 0, 0xc2, 0xff].as_slice()
-        );
-        assert_eq!(rt;
-            bytes[10..].iter().filter(|byte| **byte == 0xff).count(),
-            8_182
-        );
-        assert!(rt; map.is_used(65) && !map.is_used(64));
-        Ok(())
     }
 }

@@ -12,7 +12,8 @@ fn walk_ends(word: u64, at: usize, start: usize, count: usize) -> usize
     requires fits { at + 64 + count < 2 ^ 64 }
     requires order { start ≤ at }
     ensures met { start + count ≤ at + trailing_zeros w64 word → result ≡ start }
-    ensures past { at + trailing_zeros w64 word < start + count → result + leading_zeros w64 word ≡ at + 64 }
+    ensures past { at + trailing_zeros w64 word < start + count
+        → result + leading_zeros w64 word ≡ at + 64 }
 {
     let first = at + word.trailing_zeros() as usize;
     if start + count <= first {
@@ -30,7 +31,8 @@ fn walk_word(bytes: &[u8], k: usize, from: usize, start: usize, count: usize) ->
     requires fits { 64 * k + 64 + count < 2 ^ 64 }
     requires walked { IsWalked (is_taken bytes.now from) count start (64 * k) }
     requires short { 64 * k < start + count }
-    ensures going { 64 * k + 64 < result + count → IsWalked (is_taken bytes.now from) count result (64 * k + 64) }
+    ensures going { 64 * k + 64 < result + count
+        → IsWalked (is_taken bytes.now from) count result (64 * k + 64) }
     ensures found { result + count ≤ 64 * k + 64 → IsFound (is_taken bytes.now from) count result }
     ensures order { result ≤ 64 * k + 64 }
 {
@@ -62,8 +64,10 @@ pub fn first_run(bytes: &[u8], words: usize, from: usize, count: usize) -> Optio
     requires some { 0 < count }
     requires within { 8 * words ≤ length bytes.now }
     requires fits { 64 * words + from + count < 2 ^ 63 }
-    ensures found { IfSome result (λ p. IsFound (is_taken bytes.now from) count p × (p + count ≤ 64 * words)) }
-    ensures none { IfNone result ((p : ℕ) → p + count ≤ 64 * words → ¬ NoneTaken (is_taken bytes.now from) p (p + count)) }
+    ensures found { IfSome result (λ p. IsFound (is_taken bytes.now from) count p
+        × (p + count ≤ 64 * words)) }
+    ensures none { IfNone result ((p : ℕ) → p + count ≤ 64 * words
+        → ¬ NoneTaken (is_taken bytes.now from) p (p + count)) }
 {
     let first = from / 64;
     let mut start = 64 * first;

@@ -2,6 +2,10 @@
 #![tactic(auto)]
 
 #[cfg(test)]
+mod bitmaps;
+#[cfg(test)]
 mod pages;
 #[cfg(test)]
 mod records;
+#[cfg(test)]
+mod spaces;

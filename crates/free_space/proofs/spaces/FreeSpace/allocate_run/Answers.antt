@@ -13,7 +13,7 @@ no_run v count r none is = subst (λ o. IfNone o ((p : ℕ) → v.is_open ≡ tr
 pub returns-in_err-page-clause-none : goal.returns-in_err-page-clause-none
 returns-in_err-page-clause-none c =
     let read : c.index_mut.result.now ≡ volume_of c.args.self.now c.args.vol =
-    volume_read c.self.inside.volumes.items c.index.result c.args.vol c.index_mut.result.now (omega (arith, c.self.invariant)) c.index.ensures.value c.index_mut.ensures.value
+    volume_read c.self.inside.volumes.items c.index.result c.args.vol c.index_mut.result.now (omega (arith, c.self.invariant.0)) c.index.ensures.value c.index_mut.ensures.value
     ∙ ap (λ (s : Spaces). volume_of s c.args.vol) c.self.view_is in
     subst (λ r. IfNone r ((p : ℕ) → ¬ CanTakeRun c.args.self.now c.args.vol p c.args.count)) (sym c.from_residual.ensures)
     (elim c.match-index_mut.branch [

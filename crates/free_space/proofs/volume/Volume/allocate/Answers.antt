@@ -1,8 +1,8 @@
 use Rattle.std.proofs.Common.{◌≡◌, ℕ, true, vec_capacity, IfNone, sym, subst, arith}
-use Rattle.storage_bitmap.specs.PageMap.{PageMap}
+use Rattle.storage_bitmap.specs.VolumePages.{VolumePages}
 use Rattle.free_space.specs.VolumeSpace.{VolumeSpace, IsFreePage, AreFreePages}
-use Rattle.free_space.specs.Kept.{IsKept}
-use Rattle.free_space.proofs.Keeping.{kept_insert, one_page}
+use Rattle.free_space.specs.Sound.{IsSound, IsKept}
+use Rattle.free_space.proofs.Keeping.{sound_insert, one_page}
 use Rattle.free_space.proofs.volume.Volume.allocate.Goals as goal
 
 pub returns-in_err-page-clause-none : goal.returns-in_err-page-clause-none
@@ -13,5 +13,11 @@ returns-in_err-page-clause-none c =
 pub invariant_of-self : goal.invariant_of-self
 invariant_of-self c =
     let run = subst (λ (v : VolumeSpace). AreFreePages v c.in_ok-page.page 1) (sym c.self.view_is) c.in_ok-page.ensures.some.1 in
-    subst (λ (m : PageMap). IsKept m c.self.inside.waiting_data.items c.self.inside.waiting_meta.items (vec_capacity c.self.inside.waiting_data) (vec_capacity c.self.inside.waiting_meta)) (sym c.set.ensures)
-    (kept_insert c.self.invariant c.in_ok-page.page (omega (arith, run.within)))
+    subst (λ (m : VolumePages). IsKept m.pages m.used c.self.inside.waiting.items (vec_capacity c.self.inside.waiting)) (sym c.set.ensures)
+    (record { sound = sound_insert c.self.invariant.sound c.in_ok-page.page (omega (arith, run.within)); enough = c.self.invariant.enough })
+
+pub returns-clause-sound : goal.returns-clause-sound
+returns-clause-sound c =
+    let run = subst (λ (v : VolumeSpace). AreFreePages v c.in_ok-page.page 1) (sym c.self.view_is) c.in_ok-page.ensures.some.1 in
+    subst (λ (m : VolumePages). IsSound m.pages m.used c.self.inside.waiting.items) (sym c.set.ensures)
+    (sound_insert c.self.invariant.sound c.in_ok-page.page (omega (arith, run.within)))

@@ -1,8 +1,8 @@
 use Rattle.std.proofs.Common.{◌≡◌, ℕ, true, vec_capacity, IfNone, sym, subst}
-use Rattle.storage_bitmap.specs.PageMap.{PageMap}
+use Rattle.storage_bitmap.specs.VolumePages.{VolumePages}
 use Rattle.free_space.specs.VolumeSpace.{VolumeSpace, AreFreePages}
-use Rattle.free_space.specs.Kept.{IsKept}
-use Rattle.free_space.proofs.Keeping.{kept_run}
+use Rattle.free_space.specs.Sound.{IsSound, IsKept}
+use Rattle.free_space.proofs.Keeping.{sound_run}
 use Rattle.free_space.proofs.volume.Volume.allocate_run.Goals as goal
 
 pub returns-in_err-first-clause-none : goal.returns-in_err-first-clause-none
@@ -13,5 +13,11 @@ returns-in_err-first-clause-none c =
 pub invariant_of-self : goal.invariant_of-self
 invariant_of-self c =
     let run = subst (λ (v : VolumeSpace). AreFreePages v c.in_ok-first.first c.args.count) (sym c.self.view_is) c.in_ok-first.ensures.some.1 in
-    subst (λ (m : PageMap). IsKept m c.self.inside.waiting_data.items c.self.inside.waiting_meta.items (vec_capacity c.self.inside.waiting_data) (vec_capacity c.self.inside.waiting_meta)) (sym c.set_run.ensures)
-    (kept_run c.self.invariant c.in_ok-first.first c.args.count run.within)
+    subst (λ (m : VolumePages). IsKept m.pages m.used c.self.inside.waiting.items (vec_capacity c.self.inside.waiting)) (sym c.set_run.ensures)
+    (record { sound = sound_run c.self.invariant.sound c.in_ok-first.first c.args.count run.within; enough = c.self.invariant.enough })
+
+pub returns-clause-sound : goal.returns-clause-sound
+returns-clause-sound c =
+    let run = subst (λ (v : VolumeSpace). AreFreePages v c.in_ok-first.first c.args.count) (sym c.self.view_is) c.in_ok-first.ensures.some.1 in
+    subst (λ (m : VolumePages). IsSound m.pages m.used c.self.inside.waiting.items) (sym c.set_run.ensures)
+    (sound_run c.self.invariant.sound c.in_ok-first.first c.args.count run.within)

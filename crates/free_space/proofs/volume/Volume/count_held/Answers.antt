@@ -1,4 +1,4 @@
-use Rattle.std.proofs.Common.{◌+◌, ◌≤◌, length, subst, arith}
+use Rattle.std.proofs.Common.{◌≤◌, length, subst, arith}
 use Rattle.std.specs.FinSet.{len}
 use Rattle.free_space.specs.VolumeSpace.{VolumeSpace}
 use Rattle.free_space.proofs.Keeping.{waiting_used}
@@ -6,5 +6,5 @@ use Rattle.free_space.proofs.volume.Volume.count_held.Goals as goal
 
 pub overflow_sub-result-2 : goal.overflow_sub-result-2
 overflow_sub-result-2 c =
-    let bound = subst (λ (v : VolumeSpace). length v.waiting_data + length v.waiting_meta ≤ len c.self.inside.map.used) c.self.view_is (waiting_used c.self.invariant) in
+    let bound = subst (λ (v : VolumeSpace). length v.waiting ≤ len c.self.inside.map.used) c.self.view_is (waiting_used c.self.invariant.sound) in
     omega (arith, bound)

@@ -1,5 +1,5 @@
 use Rattle.std.proofs.Common.{sym, subst}
-use Rattle.storage_bitmap.specs.PageMap.{PageMap}
+use Rattle.storage_bitmap.specs.VolumePages.{VolumePages}
 use Rattle.storage_bitmap.specs.Bits.{ShowsMap}
 use Rattle.storage_bitmap.proofs.Used.{viewed_map}
 use Rattle.storage_bitmap.proofs.Runs.{shows_map}
@@ -7,5 +7,5 @@ use Rattle.storage_bitmap.proofs.bitmap.Bitmap.bytes.Goals as goal
 
 pub returns : goal.returns
 returns c =
-    subst (λ (m : PageMap). ShowsMap m c.as_slice.result.now) c.self.view_is
+    subst (λ (m : VolumePages). ShowsMap m c.as_slice.result.now) c.self.view_is
     (subst (λ bytes. ShowsMap (viewed_map c.self.inside.bytes.items c.self.inside.pages) bytes) (sym c.as_slice.ensures.value) (shows_map c.self.invariant))

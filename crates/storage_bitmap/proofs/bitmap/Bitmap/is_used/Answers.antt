@@ -3,7 +3,7 @@ use Rattle.std.proofs.lemmas.List.{get_or_read}
 use Rattle.std.proofs.lemmas.Nat.Bits.{shr_and_one}
 use Rattle.std.specs.Int.{bit_at}
 use Rattle.std.specs.FinSet.{contains}
-use Rattle.storage_bitmap.specs.PageMap.{PageMap}
+use Rattle.storage_bitmap.specs.VolumePages.{VolumePages}
 use Rattle.storage_bitmap.specs.Bits.{is_set}
 use Rattle.storage_bitmap.proofs.Used.{contains-used, place_within}
 use Rattle.storage_bitmap.proofs.bitmap.Bitmap.is_used.Goals as goal
@@ -15,8 +15,8 @@ tested bytes p byte read = ap (λ n. nat_eq n 1) (shr_and_one byte (p % 8)) ∙ 
 
 pub returns : goal.returns
 returns c =
-    let within : c.args.page < c.self.inside.pages = subst (λ (m : PageMap). c.args.page < m.pages) (sym c.self.view_is) c.requires in
+    let within : c.args.page < c.self.inside.pages = subst (λ (m : VolumePages). c.args.page < m.pages) (sym c.self.view_is) c.requires in
     let place = place_within c.self.inside.bytes.items c.self.inside.pages c.self.inside.free c.args.page c.self.invariant within in
     tested c.self.inside.bytes.items c.args.page c.index.result.now (get_or_read _ _ _ place c.index.ensures 0)
     ∙ sym (contains-used c.self.inside.bytes.items c.self.inside.pages c.args.page within)
-    ∙ ap (λ (m : PageMap). contains m.used c.args.page) c.self.view_is
+    ∙ ap (λ (m : VolumePages). contains m.used c.args.page) c.self.view_is

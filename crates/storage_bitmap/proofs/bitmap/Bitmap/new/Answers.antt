@@ -3,7 +3,7 @@ use Rattle.std.proofs.lemmas.List.{length_push}
 use Rattle.std.specs.Int.{bit_at}
 use Rattle.std.specs.Ordering.{nat_cmp}
 use Rattle.std.specs.FinSet.{FinSet}
-use Rattle.storage_bitmap.specs.PageMap.{PageMap}
+use Rattle.storage_bitmap.specs.VolumePages.{VolumePages}
 use Rattle.storage_bitmap.specs.Bits.{bitmap_bytes}
 use Rattle.storage_bitmap.proofs.Blank.{IsBlank, blank_more, used-blank, kept-blank}
 use Rattle.storage_bitmap.proofs.bitmap.Bitmap.new.Goals as goal
@@ -26,5 +26,5 @@ invariant_of-result c = kept-blank c.loop-k.bytes.items c.args.pages c.loop-k.in
 
 pub returns : goal.returns
 returns c =
-    let at : FinSet nat_cmp → PageMap = λ s. record { pages = c.args.pages; used = s } in
+    let at : FinSet nat_cmp → VolumePages = λ s. record { pages = c.args.pages; used = s } in
     ap at (used-blank c.loop-k.bytes.items c.args.pages c.loop-k.invariant.0 (full_size c))

@@ -2,7 +2,7 @@ use Rattle.std.proofs.Common.{ℕ, sym, subst}
 use Rattle.free_space.specs.VolumeSpace.{with_page}
 use Rattle.free_space.specs.Spaces.{Spaces, IsHeld, change_volume}
 use Rattle.free_space.proofs.Places.{held_taken, free_can}
-use Rattle.free_space.proofs.spaces.tests.take_and_give_back.Goals as goal
+use Rattle.storage_tests.proofs.spaces.take_and_give_back.Goals as goal
 
 pub give_back-requires : goal.give_back-requires
 give_back-requires c =
