@@ -1,0 +1,5 @@
+pub mod Calm
+pub mod ImageLemmas
+pub mod MarkedLemmas
+pub mod PlainLemmas
+pub mod ShownLemmas

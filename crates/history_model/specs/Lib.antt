@@ -1,0 +1,15 @@
+pub mod AfterStop
+pub mod Changed
+pub mod Example
+pub mod Legal
+pub mod Links
+pub mod LooksLike
+pub mod Marks
+pub mod PlainRun
+pub mod Point
+pub mod Room
+pub mod State
+pub mod Step
+pub mod Synced
+pub mod VolumeReply
+pub mod Volumes
