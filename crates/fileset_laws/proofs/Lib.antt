@@ -6,3 +6,4 @@ pub mod ValidMoveLemmas
 pub mod ValidPageLemmas
 pub mod ValidSetLemmas
 pub mod ValidTreeLemmas
+pub mod ByteLemmas

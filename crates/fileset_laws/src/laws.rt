@@ -1,5 +1,7 @@
 //! Laws of the definitions, each the contract of a function without a body.
-ghost use Rattle.std.specs.Prelude.{◌≡◌, ℕ, List, Option, Some};
+ghost use Rattle.std.specs.Prelude.{◌≡◌, ◌⊎◌, ℕ, ◌+◌, ◌-◌, ◌<◌, ◌≤◌, List, length, slice_index, Option, Some};
+ghost use Rattle.fileset_model.specs.Pages.{Pages, byte_at, written};
+ghost use Rattle.fileset_laws.specs.Whole.{AreWhole};
 ghost use Rattle.std.specs.FinMap.{get};
 ghost use Rattle.fileset_model.specs.Apply.{AnswersIfMemory, with_tree};
 ghost use Rattle.fileset_model.specs.Fileset.{Fileset as Tree};
@@ -31,4 +33,12 @@ pub fn every_legal_history_ends_valid()
 /// A domain that was just made is valid: it has no filesets, and its log is on a member.
 pub fn a_new_domain_is_valid()
     ensures { (pages : ℕ) → IsValid (empty_state pages) }
+{}
+
+/// What was written is read back, and every other byte of the file reads as before.
+pub fn what_was_written_is_read()
+    ensures within { (pages : Pages) (offset x : ℕ) (bytes : List ℕ) → AreWhole pages → offset ≤ x → x < offset + length bytes
+        → byte_at (written pages offset bytes) x ≡ slice_index bytes (x - offset) }
+    ensures outside { (pages : Pages) (offset x : ℕ) (bytes : List ℕ) → AreWhole pages → (x < offset) ⊎ (offset + length bytes ≤ x)
+        → byte_at (written pages offset bytes) x ≡ byte_at pages x }
 {}
