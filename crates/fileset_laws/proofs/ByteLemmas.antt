@@ -29,11 +29,11 @@ module _ (page : List ℕ) (at : ℕ) (bytes : List ℕ) (y : ℕ) (fits : at �
   parts : get_or (overwritten page at bytes) y 0 ≡ get_or (take at page ++ (bytes ++ drop (at + length bytes) page)) y 0
   parts = ap (λ l. get_or l y 0) (append_assoc (take at page) bytes (drop (at + length bytes) page))
 
-  overwritten-before : y < at → get_or (overwritten page at bytes) y 0 ≡ get_or page y 0
+  pub overwritten-before : y < at → get_or (overwritten page at bytes) y 0 ≡ get_or page y 0
   overwritten-before before =
       parts ∙ get_or_append_left (take at page) (bytes ++ drop (at + length bytes) page) 0 y (omega (arith, length-take-le at page fits, before)) ∙ get_or-take at page y 0 before
 
-  overwritten-within : at ≤ y → y < at + length bytes → get_or (overwritten page at bytes) y 0 ≡ get_or bytes (y - at) 0
+  pub overwritten-within : at ≤ y → y < at + length bytes → get_or (overwritten page at bytes) y 0 ≡ get_or bytes (y - at) 0
   overwritten-within from below =
       parts ∙ get_or-append_right (take at page) (bytes ++ drop (at + length bytes) page) at y 0 (length-take-le at page fits) from
       ∙ get_or_append_left bytes (drop (at + length bytes) page) 0 (y - at) (omega arith)

@@ -7,3 +7,4 @@ pub mod ValidPageLemmas
 pub mod ValidSetLemmas
 pub mod ValidTreeLemmas
 pub mod ByteLemmas
+pub mod CutLemmas

@@ -1,6 +1,6 @@
 //! Laws of the definitions, each the contract of a function without a body.
 ghost use Rattle.std.specs.Prelude.{◌≡◌, ◌⊎◌, ℕ, ◌+◌, ◌-◌, ◌<◌, ◌≤◌, List, length, slice_index, Option, Some};
-ghost use Rattle.fileset_model.specs.Pages.{Pages, byte_at, written};
+ghost use Rattle.fileset_model.specs.Pages.{Pages, byte_at, truncated, written};
 ghost use Rattle.fileset_laws.specs.Whole.{AreWhole};
 ghost use Rattle.std.specs.FinMap.{get};
 ghost use Rattle.fileset_model.specs.Apply.{AnswersIfMemory, with_tree};
@@ -41,4 +41,10 @@ pub fn what_was_written_is_read()
         → byte_at (written pages offset bytes) x ≡ slice_index bytes (x - offset) }
     ensures outside { (pages : Pages) (offset x : ℕ) (bytes : List ℕ) → AreWhole pages → (x < offset) ⊎ (offset + length bytes ≤ x)
         → byte_at (written pages offset bytes) x ≡ byte_at pages x }
+{}
+
+/// What lies below the new size reads as before a cut, and behind it there is nothing but zeros.
+pub fn a_cut_leaves_zeros()
+    ensures below { (pages : Pages) (size x : ℕ) → AreWhole pages → x < size → byte_at (truncated pages size) x ≡ byte_at pages x }
+    ensures behind { (pages : Pages) (size x : ℕ) → AreWhole pages → size ≤ x → byte_at (truncated pages size) x ≡ 0 }
 {}
