@@ -159,7 +159,6 @@ refusals all (command.Rmfset fileset) = in_one all fileset (λ slot. refuse_if (
 refusals all (command.Clonefset fileset new_name) =
     in_one all fileset (λ slot. refuse_if (is_clone slot.role) CloneOfClone ∷ refuse_if (has_clone all fileset) HasClone ∷ name_taken all new_name ∷ filesets_full all ∷ [])
     (λ slot. (refused_if _ _ tt, (refused_if _ _ tt, (refused_if _ _ tt, (refused_if _ _ tt, tt)))))
-refusals all command.Showfsets = tt
 refusals all (command.Setquota fileset who files blocks) = in_one all fileset (λ slot. read_only slot ∷ []) (λ slot. (refused_if _ _ tt, tt))
 refusals all (command.Showquota fileset who) = in_one all fileset (λ slot. read_only slot ∷ []) (λ slot. (refused_if _ _ tt, tt))
 refusals all (command.Create place uid gid) = in_one all place.fileset (create_checks place.path uid gid) (created place.path uid gid)
@@ -187,8 +186,7 @@ refusals all (command.Fsync place) =
 refusals all (command.Chfile place logged) =
     in_one all place.fileset (λ slot. read_only slot ∷ target_refusal slot place.path ∷ directory_here slot place.path ∷ [])
     (λ slot. (refused_if _ _ tt, (target slot place.path, (refused_if _ _ tt, tt))))
-refusals all command.Sync = tt
-refusals all command.Cancel = tt
+refusals all c = tt
 
 -- ---- answers
 
@@ -215,22 +213,7 @@ answers all (command.Stat place) = of_one all place (λ tree. stat_of tree place
 answers all (command.List place) =
     map_or IsCalmReply (λ slot. reply.Names (rows_of slot.tree place.path)) (finite.get all place.fileset) reply.Done (λ slot. tt) tt
 answers all (command.Showquota fileset who) = map_or IsCalmReply (λ slot. quota_of slot.tree who) (finite.get all fileset) reply.Done (λ slot. tt) tt
-answers all (command.Write place offset bytes) = tt
-answers all command.Showfsets = tt
-answers all (command.Mkfset fileset) = tt
-answers all (command.Rmfset fileset) = tt
-answers all (command.Clonefset fileset new_name) = tt
-answers all (command.Setquota fileset who files blocks) = tt
-answers all (command.Create place uid gid) = tt
-answers all (command.Mkdir place uid gid) = tt
-answers all (command.Truncate place size) = tt
-answers all (command.Rename place to) = tt
-answers all (command.Unlink place) = tt
-answers all (command.Rmdir place) = tt
-answers all (command.Fsync place) = tt
-answers all (command.Chfile place logged) = tt
-answers all command.Sync = tt
-answers all command.Cancel = tt
+answers all c = tt
 
 answered : (all : FilesetMap) (c : Command) (r : Reply) (new : FilesetMap) → AnswersIfMemory all c r new → IsCalmReply r
 unfolding IsCalm IsCalmReply Check

@@ -1,5 +1,6 @@
 pub mod ValidAnswerLemmas
 pub mod ValidCheckLemmas
+pub mod ValidCountLemmas
 pub mod ValidHistoryLemmas
 pub mod ValidLemmas
 pub mod ValidMoveLemmas

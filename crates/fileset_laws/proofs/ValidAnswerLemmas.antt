@@ -6,12 +6,13 @@ use Rattle.std.specs.FinMap as map
 use Rattle.domain_base.specs.declared.limits.TheConstants.{FILE_BYTES}
 use Rattle.fileset_model.specs.Orders.{Name, Path}
 use Rattle.fileset_model.specs.Fileset.{Fileset}
-use Rattle.fileset_model.specs.Paths.{begins_with, directory_here, file_here, first_refusal, is_directory, node_at, refuse_if, same_path, target_refusal, walk_refusal}
+use Rattle.domain_base.specs.Limits.{max_links}
+use Rattle.fileset_model.specs.Paths.{begins_with, directory_here, file_here, first_refusal, is_directory, names_one, node_at, paths_to, refuse_if, target_refusal, walk_refusal}
 use Rattle.fileset_model.specs.State.{AreValid, FilesetMap, HasWholePages, IsValidFileset}
 use Rattle.fileset_model.specs.Usage.{quota_refusal, with_limits}
-use Rattle.fileset_model.specs.Apply.{Answers, AnswersIfMemory, Changes, IsUnused, MakesNode, answer_of, create_checks, filesets_full, flagged_node, has_clone, in_fileset, is_clone, is_clone_of, move_checks, moved, name_taken, not_empty, path_taken, read_only, refusal_of, rename_checks, replace_checks, truncated_node, with_change, with_node, with_tree, without, write_quota, written_node}
+use Rattle.fileset_model.specs.Apply.{Answers, AnswersIfMemory, Changes, IsUnused, MakesNode, answer_of, create_checks, filesets_full, flagged_node, has_clone, in_fileset, is_clone, is_clone_of, linked, links_full, move_checks, moved, renamed, name_taken, not_empty, path_taken, read_only, refusal_of, replace_checks, truncated_node, with_change, with_node, with_tree, without, write_quota, written_node}
 use Rattle.fileset_model.specs.declared.command.Command.{Command}
-use Rattle.fileset_model.specs.declared.command.Command.TheVariants.{Mkfset, Rmfset, Clonefset, Showfsets, Setquota, Showquota, Create, Mkdir, Write, Read, Truncate, Rename, Unlink, Rmdir, List as ListNames, Stat, Fsync, Chfile, Sync, Cancel}
+use Rattle.fileset_model.specs.declared.command.Command.TheVariants.{Mkfset, Rmfset, Clonefset, Showfsets, Setquota, Showquota, Create, Mkdir, Write, Read, Truncate, Rename, Link, Links, Unlink, Rmdir, List as ListNames, Stat, Fsync, Chfile, Sync, Cancel}
 use Rattle.fileset_model.specs.declared.command.Place.{Place}
 use Rattle.fileset_model.specs.declared.fileset.FilesetSlot.{FilesetSlot}
 use Rattle.fileset_model.specs.declared.fileset.Role.{Role}
@@ -19,7 +20,7 @@ use Rattle.fileset_model.specs.declared.fileset.Role.TheVariants.{Original, Clon
 use Rattle.fileset_model.specs.declared.node.Node.{Node}
 use Rattle.fileset_model.specs.declared.node.Node.TheVariants.{File, Directory}
 use Rattle.fileset_model.specs.declared.reply.Refusal.{Refusal}
-use Rattle.fileset_model.specs.declared.reply.Refusal.TheVariants.{CloneOfClone, FilesetExists, FilesetsFull, HasClone, IntoItself, ReadOnly, TooFar}
+use Rattle.fileset_model.specs.declared.reply.Refusal.TheVariants.{CloneOfClone, FilesetExists, FilesetsFull, HasClone, IntoItself, IsDirectory, LinksFull, ReadOnly, TooFar}
 use Rattle.fileset_model.specs.declared.reply.Reply.{Reply}
 use Rattle.fileset_model.specs.declared.reply.Reply.TheVariants.{Refused}
 use Rattle.fileset_laws.proofs.ValidLemmas.{passed, passed_in, passed_test, with_tree-valid}
@@ -27,7 +28,7 @@ use Rattle.fileset_laws.proofs.ValidCheckLemmas.{IsLeaf, absent, leaf_empty, lea
 use Rattle.fileset_laws.proofs.ValidMoveLemmas.{begins_of, moved-valid}
 use Rattle.fileset_laws.proofs.ValidPageLemmas.{truncated-whole, written-whole}
 use Rattle.fileset_laws.proofs.ValidSetLemmas.{clone-joins, insert-valid, new-joins, remove-valid}
-use Rattle.fileset_laws.proofs.ValidTreeLemmas.{directory_of, nothing_below, some≢none, with_change-valid, with_limits-valid, with_node-valid, without-absent, without-directory, without-valid}
+use Rattle.fileset_laws.proofs.ValidTreeLemmas.{directory_of, linked-valid, nothing_below, some≢none, with_change-valid, with_limits-valid, with_node-valid, without-absent, without-directory, without-valid}
 use Rattle.fileset_model.proofs.WholeLemmas.{with_clone-at}
 
 -- ---- commands that change the tree of an original
@@ -130,20 +131,37 @@ renamed-valid slot from to v walk h =
     (λ rest. nothing_below (without to tree) to rest left (without-absent tree to))
     (λ front name e. without-directory tree to front v (λ same. longer_path front name (e ∙ sym same)) (passed_walk slot to front name walk e))
 
-renames-valid : (all new : FilesetMap) (place : Place) (to : Path) → AreValid all → in_fileset all place.fileset (rename_checks place.path to) ≡ None → Changes all (Rename place to) new → AreValid new
-renames-valid all new place to v none change =
-    let from = place.path in
-    elim (same_path from to) as (λ b. in_fileset all place.fileset (λ slot. read_only slot ∷ target_refusal slot from ∷ walk_refusal slot to ∷ cond b None (first_refusal (move_checks from to slot)) ∷ []) ≡ None
-    → new ≡ cond b all (with_tree all place.fileset (λ tree. moved from to (without to tree))) → AreValid new) [
-      | true ↦ λ h is. subst AreValid (sym is) v
-      | false ↦ λ h is.
-          let checks : FilesetSlot → List (Option Refusal) = λ slot. target_refusal slot from ∷ walk_refusal slot to ∷ first_refusal (move_checks from to slot) ∷ [] in
-          tree_changes-valid all new place.fileset checks (λ tree. moved from to (without to tree)) v h
-          (λ slot at tree passes.
-          let walk = passed (walk_refusal slot to) (first_refusal (move_checks from to slot) ∷ []) (passed (target_refusal slot from) (walk_refusal slot to ∷ first_refusal (move_checks from to slot) ∷ []) passes).1 in
-          renamed-valid slot from to tree walk.0 (passed (first_refusal (move_checks from to slot)) [] walk.1).0)
-          is
-    ] none change
+-- a rename changes nothing where both paths lead to one number
+rename-valid : (slot : FilesetSlot) (from to : Path) → IsValidFileset slot.tree → first_refusal (target_refusal slot from ∷ walk_refusal slot to
+    ∷ (if names_one slot.tree from to then None else first_refusal (move_checks from to slot)) ∷ []) ≡ None → IsValidFileset (renamed from to slot.tree)
+rename-valid slot from to v passes =
+    elim (names_one slot.tree from to) as (λ b. first_refusal (target_refusal slot from ∷ walk_refusal slot to ∷ cond b None (first_refusal (move_checks from to slot)) ∷ []) ≡ None
+    → IsValidFileset (cond b slot.tree (moved from to (without to slot.tree)))) [
+      | true ↦ λ h. v
+      | false ↦ λ h.
+          let walk = passed (walk_refusal slot to) (first_refusal (move_checks from to slot) ∷ []) (passed (target_refusal slot from) (walk_refusal slot to ∷ first_refusal (move_checks from to slot) ∷ []) h).1 in
+          renamed-valid slot from to v walk.0 (passed (first_refusal (move_checks from to slot)) [] walk.1).0
+    ] passes
+
+has_place : (slot : FilesetSlot) (path : Path) (number : ℕ) → links_full slot path ≡ None → map.get slot.tree.paths path ≡ Some number → paths_to slot.tree number < 1000
+has_place slot path number h leads =
+    let few : nat_le max_links (paths_to slot.tree number) ≡ false =
+    sym (ap (λ o. option_map_or (λ n. nat_le max_links (paths_to slot.tree n)) o false) leads)
+    ∙ passed_test (option_map_or (λ n. nat_le max_links (paths_to slot.tree n)) (map.get slot.tree.paths path) false) LinksFull h in
+    leb-false 1000 (paths_to slot.tree number) few
+
+link-valid : (slot : FilesetSlot) (path to : Path) → IsValidFileset slot.tree → first_refusal (target_refusal slot path ∷ directory_here slot path ∷ walk_refusal slot to ∷ path_taken slot to ∷ links_full slot path ∷ []) ≡ None
+    → IsValidFileset (linked path to slot.tree)
+link-valid slot path to v passes =
+    let one = passed (target_refusal slot path) (directory_here slot path ∷ walk_refusal slot to ∷ path_taken slot to ∷ links_full slot path ∷ []) passes in
+    let two = passed (directory_here slot path) (walk_refusal slot to ∷ path_taken slot to ∷ links_full slot path ∷ []) one.1 in
+    let three = passed (walk_refusal slot to) (path_taken slot to ∷ links_full slot path ∷ []) two.1 in
+    let four = passed (path_taken slot to) (links_full slot path ∷ []) three.1 in
+    linked-valid slot.tree path to v
+    (passed_test (option_map_or is_directory (node_at slot.tree path) false) IsDirectory two.0)
+    (passed_free slot to four.0)
+    (λ number leads. has_place slot path number (passed (links_full slot path) [] four.1).0 leads)
+    (λ front name e. passed_walk slot to front name three.0 e)
 
 -- ---- filesets
 
@@ -195,7 +213,16 @@ changes-valid old new (Write place offset bytes) v none change =
 changes-valid old new (Truncate place size) v none change =
     tree_changes-valid old new place.fileset (λ slot. target_refusal slot place.path ∷ directory_here slot place.path ∷ refuse_if (nat_lt FILE_BYTES size) TooFar ∷ []) (with_change place.path (truncated_node size)) v none
     (λ slot at tree passes. with_change-valid slot.tree place.path (truncated_node size) tree (truncated_node-kind size) (truncated_node-whole size)) change
-changes-valid old new (Rename place to) v none change = renames-valid old new place to v none change
+changes-valid old new (Rename place to) v none change =
+    let from = place.path in
+    tree_changes-valid old new place.fileset
+    (λ slot. target_refusal slot from ∷ walk_refusal slot to ∷ (if names_one slot.tree from to then None else first_refusal (move_checks from to slot)) ∷ []) (renamed from to) v none
+    (λ slot at tree passes. rename-valid slot from to tree passes) change
+changes-valid old new (Link place to) v none change =
+    let path = place.path in
+    tree_changes-valid old new place.fileset (λ slot. target_refusal slot path ∷ directory_here slot path ∷ walk_refusal slot to ∷ path_taken slot to ∷ links_full slot path ∷ []) (linked path to) v none
+    (λ slot at tree passes. link-valid slot path to tree passes) change
+changes-valid old new (Links place) v none change = subst AreValid (sym change) v
 changes-valid old new (Unlink place) v none change =
     tree_changes-valid old new place.fileset (λ slot. target_refusal slot place.path ∷ directory_here slot place.path ∷ []) (without place.path) v none
     (λ slot at tree passes.

@@ -1,47 +1,26 @@
 -- What is so of each fileset stays so where a path and all below it move to a free one.
-use Rattle.std.proofs.Common.{◌≡◌, ◌≢◌, ◌⊎◌, ℕ, true, false, cond, is_some, List, [], ◌∷◌, ◌++◌, map as map_each, drop, length, IsTrue, Option, Some, None, refl, sym, ap, ◌∙◌, inl, inr, true≢false, append_assoc, append-nil}
+use Rattle.std.proofs.Common.{◌≡◌, ◌≢◌, ◌⊎◌, ℕ, true, false, cond, is_some, List, [], ◌∷◌, ◌++◌, map as map_each, drop, length, IsTrue, Option, Some, None, refl, sym, ap, ◌∙◌, inl, inr, true≢false, append_assoc, append-nil, arith}
 use Rattle.std.proofs.lemmas.List.{append_cancel_left, drop_at}
 use Rattle.std.proofs.lemmas.Slice.Eq.{starts_is}
 use Rattle.std.specs.declared.cmp.Ordering.{Ordering}
-use Rattle.std.specs.declared.cmp.Ordering.TheVariants.{Less, Equal, Greater}
-use Rattle.std.specs.Ordering.{eq_by_cmp, is_eq, is_lt}
-use Rattle.std.specs.Cmp.{Equal-is, IsTotalOrder, first_so, second_so, tied_itself}
+use Rattle.std.specs.Ordering.{eq_by_cmp, is_eq}
+use Rattle.std.specs.Cmp.{Equal-is, IsTotalOrder, second_so, tied_itself}
 use Rattle.std.specs.Cmp.Lexicographic.{bytes_decides}
 use Rattle.std.specs.FinMap as map
-use Rattle.std.specs.FinMap.Entries.{below_all, find, is_sorted}
+use Rattle.std.specs.FinMap.Entries.{find, is_sorted}
 use Rattle.fileset_model.specs.Orders.{Name, Path, path_cmp-total, path_cmp-IsAntisymmetric}
 use Rattle.fileset_model.specs.Fileset.{Fileset}
 use Rattle.fileset_model.specs.Paths.{begins_with}
 use Rattle.fileset_model.specs.State.{IsDirectoryAt, IsValidFileset}
 use Rattle.fileset_model.specs.Apply.{moved, moved_path}
 use Rattle.fileset_model.proofs.MoveLemmas.{sorted_entries}
+use Rattle.fileset_laws.proofs.ValidCountLemmas.{count-rekeyed, found_first, found_later}
 use Rattle.fileset_laws.proofs.ValidLemmas.{some_inj}
 use Rattle.fileset_laws.proofs.ValidTreeLemmas.{at_directory, directory_of, no_child, some_of, some≢none}
 
 -- ---- the entries of a map with other keys
 
 module _ {K X : Type 0} {R : K → K → Ordering} (o : IsTotalOrder R) (a : map.IsAntisymmetric R) where
-  below-none : (q : K) (es : List (K × X)) → below_all R q es ≡ true → find R q es ≡ None
-  below-none q [] h = refl
-  below-none q (e ∷ es) h =
-      let rest = below-none q es (second_so _ _ h) in
-      elim (R q e.0) as (λ r. is_lt r ≡ true → cond (is_eq r) (Some e.1) (find R q es) ≡ None) [
-        | Less ↦ λ less. rest
-        | Equal ↦ λ less. absurd (true≢false (sym less))
-        | Greater ↦ λ less. absurd (true≢false (sym less))
-      ] (first_so _ _ h)
-
-  -- what is found behind an entry is found from it on
-  found_later : (e : K × X) (es : List (K × X)) (q : K) (v : X) → IsTrue (is_sorted R (e ∷ es)) → find R q es ≡ Some v → find R q (e ∷ es) ≡ Some v
-  found_later e es q v h found =
-      elim (eq_by_cmp R q e.0) as (λ b. eq_by_cmp R q e.0 ≡ b → cond b (Some e.1) (find R q es) ≡ Some v) [
-        | true ↦ λ t. let none : find R q es ≡ None = ap (λ k. find R k es) (a q e.0 ((Equal-is (R q e.0)).0 t)) ∙ below-none e.0 es (first_so _ _ h) in absurd (some≢none v (sym found ∙ none))
-        | false ↦ λ t. found
-      ] refl
-
-  found_first : (e : K × X) (es : List (K × X)) → find R e.0 (e ∷ es) ≡ Some e.1
-  found_first e es = ap (λ r. cond (is_eq r) (Some e.1) (find R e.0 es)) (tied_itself o e.0)
-
   abbrev rekeyed : (K → K) → List (K × X) → List (K × X)
   rekeyed h es = map_each (λ e. (h e.0, e.1)) es
 
@@ -49,8 +28,8 @@ module _ {K X : Type 0} {R : K → K → Ordering} (o : IsTotalOrder R) (a : map
   came_from h [] q v sorted found = absurd (some≢none v (sym found))
   came_from h (e ∷ es) q v sorted found =
       elim (eq_by_cmp R q (h e.0)) as (λ b. eq_by_cmp R q (h e.0) ≡ b → cond b (Some e.1) (find R q (rekeyed h es)) ≡ Some v → (p : K) × (h p ≡ q) × (find R p (e ∷ es) ≡ Some v)) [
-        | true ↦ λ t is. (e.0, sym (a q (h e.0) ((Equal-is (R q (h e.0))).0 t)), found_first e es ∙ is)
-        | false ↦ λ t is. let rest = came_from h es q v (second_so _ _ sorted) is in (rest.0, rest.1, found_later e es rest.0 v sorted rest.2)
+        | true ↦ λ t is. (e.0, sym (a q (h e.0) ((Equal-is (R q (h e.0))).0 t)), found_first o a e es ∙ is)
+        | false ↦ λ t is. let rest = came_from h es q v (second_so _ _ sorted) is in (rest.0, rest.1, found_later o a e es rest.0 v sorted rest.2)
       ] refl found
 
   went_to : (h : K → K) (es : List (K × X)) (p : K) (v : X) → IsTrue (is_sorted R es) → ((q : K) (w : X) → find R q es ≡ Some w → h q ≡ h p → q ≡ p)
@@ -60,10 +39,10 @@ module _ {K X : Type 0} {R : K → K → Ordering} (o : IsTotalOrder R) (a : map
       elim (eq_by_cmp R p e.0) as (λ b. eq_by_cmp R p e.0 ≡ b → cond b (Some e.1) (find R p es) ≡ Some v → find R (h p) (rekeyed h (e ∷ es)) ≡ Some v) [
         | true ↦ λ t is. ap (λ k. find R (h k) (rekeyed h (e ∷ es))) (a p e.0 ((Equal-is (R p e.0)).0 t)) ∙ ap (λ r. cond (is_eq r) (Some e.1) (find R (h e.0) (rekeyed h es))) (tied_itself o (h e.0)) ∙ is
         | false ↦ λ t is.
-            let rest = went_to h es p v (second_so _ _ sorted) (λ q w at same. one q w (found_later e es q w sorted at) same) is in
+            let rest = went_to h es p v (second_so _ _ sorted) (λ q w at same. one q w (found_later o a e es q w sorted at) same) is in
             elim (eq_by_cmp R (h p) (h e.0)) as (λ b. eq_by_cmp R (h p) (h e.0) ≡ b → cond b (Some e.1) (find R (h p) (rekeyed h es)) ≡ Some v) [
               | true ↦ λ same.
-                  let key : e.0 ≡ p = one e.0 e.1 (found_first e es) (sym (a (h p) (h e.0) ((Equal-is (R (h p) (h e.0))).0 same))) in
+                  let key : e.0 ≡ p = one e.0 e.1 (found_first o a e es) (sym (a (h p) (h e.0) ((Equal-is (R (h p) (h e.0))).0 same))) in
                   absurd (true≢false (sym (ap (λ k. eq_by_cmp R p k) key ∙ ap is_eq (tied_itself o p)) ∙ t))
               | false ↦ λ same. rest
             ] refl
@@ -194,10 +173,14 @@ module _ (tree : Fileset) (from to : Path) (v : IsValidFileset tree) (no_root : 
               let same : old.0 ≡ q ++ name ∷ [] = sym other.1 ∙ old.1 in
               directory_kept q (longer from q name (ap (λ p. begins_with p from) (sym same) ∙ other.0)) (v.parents q name (ap is_some (ap (map.get tree.paths) (sym same) ∙ old.2)))
         ];
-    one_path = λ p q k at_p at_q.
+    one_path = λ p q k dir at_p at_q.
         let old_p = came p k at_p in
         let old_q = came q k at_q in
-        sym old_p.1 ∙ ap (moved_path from to) (v.one_path old_p.0 old_q.0 k old_p.2 old_q.2) ∙ old_q.1;
+        let d = directory_of after p dir in
+        let was : IsDirectoryAt tree old_p.0 =
+        at_directory tree old_p.0 (record { number = d.number; node = d.node; leads = old_p.2 ∙ sym at_p ∙ d.leads; is = d.is; directory = d.directory }) in
+        sym old_p.1 ∙ ap (moved_path from to) (v.one_path old_p.0 old_q.0 k was old_p.2 old_q.2) ∙ old_q.1;
+    few_paths = λ k. let fewer = count-rekeyed k (moved_path from to) (map.entries tree.paths) in omega (arith, fewer, v.few_paths k);
     led_to = λ q k at_q. let old = came q k at_q in v.led_to old.0 k old.2;
     named = λ k n is. let old = v.named k n is in (moved_path from to old.0, went old.0 k old.1);
     whole = v.whole;

@@ -5,7 +5,7 @@ use Rattle.std.specs.List.{filter_map}
 use Rattle.std.specs.FinMap as map
 use Rattle.fileset_model.specs.Orders.{Name, Path}
 use Rattle.fileset_model.specs.Fileset.{Fileset}
-use Rattle.fileset_model.specs.Paths.{begins_with, same_path}
+use Rattle.fileset_model.specs.Paths.{begins_with, names_one}
 use Rattle.fileset_model.specs.State.{FilesetMap, State}
 use Rattle.fileset_model.specs.Pages.{absent_pages}
 use Rattle.fileset_model.specs.Apply.{Apply, refusal_of}
@@ -13,7 +13,7 @@ use Rattle.fileset_model.specs.Room.{Tight, need, room}
 use Rattle.fileset_model.specs.declared.command.Actor.{Actor}
 use Rattle.fileset_model.specs.declared.command.Actor.TheVariants.{Client, Mover}
 use Rattle.fileset_model.specs.declared.command.Command.{Command}
-use Rattle.fileset_model.specs.declared.command.Command.TheVariants.{Mkfset, Clonefset, Setquota, Create, Mkdir, Write, Truncate, Rename, Unlink, Rmdir, Chfile}
+use Rattle.fileset_model.specs.declared.command.Command.TheVariants.{Mkfset, Clonefset, Setquota, Create, Mkdir, Write, Truncate, Rename, Link, Unlink, Rmdir, Chfile}
 use Rattle.fileset_model.specs.declared.entry.Entry.{Entry}
 use Rattle.fileset_model.specs.declared.fileset.FilesetSlot.{FilesetSlot}
 use Rattle.fileset_model.specs.declared.fileset.Role.{Role}
@@ -59,10 +59,11 @@ changed_by all (Mkdir place uid gid) = at all place.fileset (parent_of place.pat
 changed_by all (Write place offset bytes) = at all place.fileset place.path
 changed_by all (Truncate place size) = at all place.fileset place.path
 changed_by all (Chfile place logged) = at all place.fileset place.path
+changed_by all (Link place to) = at all place.fileset place.path ++ at all place.fileset (parent_of to)
 changed_by all (Unlink place) = at all place.fileset place.path ++ at all place.fileset (parent_of place.path)
 changed_by all (Rmdir place) = at all place.fileset place.path ++ at all place.fileset (parent_of place.path)
 changed_by all (Rename place to) =
-    if same_path place.path to then []
+    if option_map_or (λ slot. names_one slot.tree place.path to) (map.get all place.fileset) false then []
     else at_and_below all place.fileset place.path ++ at all place.fileset (parent_of place.path) ++ at all place.fileset to ++ at all place.fileset (parent_of to)
 changed_by all command = []
 
@@ -100,11 +101,12 @@ IsAt tree number path = map.get tree.paths path ≡ Some number
 abbrev pub SameRows : Fileset → Fileset → Path → Type 0
 SameRows tree other path = (name : Name) → map.get tree.paths (path ++ name ∷ []) ≡ map.get other.paths (path ++ name ∷ [])
 
--- a fileset has what another has under a number: the same node under the same path, with the same rows
+-- a fileset has what another has under a number: the same node under the same paths, with the same rows
 abbrev pub HasTheSame : Fileset → Fileset → ℕ → Type 0
 HasTheSame tree other number =
     (map.get tree.nodes number ≡ map.get other.nodes number)
     × ((path : Path) → IsAt other number path → IsAt tree number path × SameRows tree other path)
+    × ((path : Path) → IsAt tree number path → IsAt other number path)
 
 -- under this number the original and its clone do not have the same file or directory any more
 abbrev pub Differs : FilesetMap → Name → FilesetSlot → ℕ → Type 0
@@ -133,6 +135,7 @@ TakesSpace all (Setquota fileset who files blocks) = Unit {0}
 TakesSpace all (Create place uid gid) = Unit {0}
 TakesSpace all (Mkdir place uid gid) = Unit {0}
 TakesSpace all (Rename place to) = Unit {0}
+TakesSpace all (Link place to) = Unit {0}
 TakesSpace all (Write place offset bytes) =
     IsSomeAnd (map.get all place.fileset) (λ slot. IsSomeAnd (map.get slot.tree.paths place.path) (λ number. IsSomeAnd (map.get slot.tree.nodes number) has_absent))
   where

@@ -5,7 +5,8 @@ use Rattle.std.specs.FinMap as map
 use Rattle.domain_base.specs.declared.limits.TheConstants.{FILE_PAGES, PAGE_BYTES, MAX_FILESETS, MAX_VOLUME_PAGES}
 use Rattle.fileset_model.specs.Orders.{Name, Path, name_cmp}
 use Rattle.fileset_model.specs.Fileset.{Fileset}
-use Rattle.fileset_model.specs.Paths.{node_at, is_directory}
+use Rattle.domain_base.specs.Limits.{max_links}
+use Rattle.fileset_model.specs.Paths.{node_at, is_directory, paths_to}
 use Rattle.fileset_model.specs.Usage.{is_unlimited}
 use Rattle.fileset_model.specs.declared.command.Owner.{Owner}
 use Rattle.fileset_model.specs.declared.fileset.Limits.{Limits}
@@ -55,7 +56,9 @@ HasWholePages (Directory uid gid) = Unit {0}
 pub record IsValidFileset (tree : Fileset) : Type 0 where
   pub root : IsDirectoryAt tree []
   pub parents : (path : Path) (name : Name) → IsTrue (map.contains_key tree.paths (path ++ name ∷ [])) → IsDirectoryAt tree path
-  pub one_path : (p q : Path) (number : ℕ) → map.get tree.paths p ≡ Some number → map.get tree.paths q ≡ Some number → p ≡ q
+  -- a directory's number has one path, a file's at most 1,000
+  pub one_path : (p q : Path) (number : ℕ) → IsDirectoryAt tree p → map.get tree.paths p ≡ Some number → map.get tree.paths q ≡ Some number → p ≡ q
+  pub few_paths : (number : ℕ) → paths_to tree number ≤ max_links
   pub led_to : (path : Path) (number : ℕ) → map.get tree.paths path ≡ Some number → IsSome (map.get tree.nodes number)
   pub named : (number : ℕ) (node : Node) → map.get tree.nodes number ≡ Some node → (path : Path) × (map.get tree.paths path ≡ Some number)
   pub whole : (number : ℕ) (node : Node) → map.get tree.nodes number ≡ Some node → HasWholePages node

@@ -1,12 +1,13 @@
-ghost use Rattle.std.specs.Prelude.{◌++◌, ◌+◌, ◌^◌, ◌≡◌, ◌≤◌, IfOk, IsTrue, None, OnErr, OnOk, false as NotThere, filter, length, map as map_each, not, option_copied, sum_by, ℕ};
+ghost use Rattle.std.specs.Prelude.{◌&&◌, ◌==◌, count_by, ◌++◌, ◌+◌, ◌^◌, ◌≡◌, ◌≤◌, IfOk, IsTrue, None, OnErr, OnOk, false as NotThere, filter, length, map as map_each, not, option_copied, sum_by, ℕ};
+ghost use Rattle.std.specs.List.{list_any};
 ghost use Rattle.std.specs.Option.{option_map_or};
 ghost use Rattle.std.specs.Ordering.{eq_by_cmp, nat_cmp};
 ghost use Rattle.std.specs.FinMap.{get};
 ghost use Rattle.std.specs.FinMap.Entries.{where_key};
 ghost use Rattle.domain_base.specs.declared.limits.TheConstants.{FILE_BYTES};
-ghost use Rattle.fileset_model.specs.Apply.{empty_fileset, flagged_node, is_clone, is_clone_of, moved, moved_path, original_of, truncated_node, with_change, with_node, without, written_node};
+ghost use Rattle.fileset_model.specs.Apply.{empty_fileset, flagged_node, is_clone, is_clone_of, linked, moved_path, renamed, original_of, truncated_node, with_change, with_node, without, written_node};
 ghost use Rattle.fileset_model.specs.Orders.{owner_cmp, path_cmp};
-ghost use Rattle.fileset_model.specs.Paths.{is_directory as is_directory_node, is_out_of_sync, name_below as name_of_row, node_at as node_under, rows_of};
+ghost use Rattle.fileset_model.specs.Paths.{is_directory as is_directory_node, is_out_of_sync, name_below as name_of_row, node_at as node_under, names_one, paths_to, rows_of, same_path};
 ghost use Rattle.fileset_model.specs.Usage.{blocks_of, counts_for, is_owners, is_unlimited, limits_of, used_blocks, used_files, with_limits};
 ghost use Rattle.fileset_model.specs.declared.fileset.Role.TheVariants.{CloneOf as CloneRole};
 ghost use Rattle.std.specs.FinMap as map;
@@ -189,29 +190,77 @@ impl FilesetTree {
         self.nodes[place].1.set_logged(logged);
     }
 
-    /// Removes a path and what stands there.
+    /// How many paths lead to a number.
+    pub fn paths_to(&self, number: u64) -> usize
+        ensures { result ≡ paths_to self.now number }
+    {
+        count_paths(&self.paths, number)
+    }
+
+    /// Whether two paths are the same, or lead to one number.
+    pub fn names_one(&self, path: &Path, other: &Path) -> bool
+        ensures { result ≡ names_one self.now path.now other.now }
+    {
+        if *path == *other {
+            return true;
+        }
+        match self.number_at(path) {
+            Some(number) => match self.number_at(other) {
+                Some(n) => n == number,
+                None => false,
+            },
+            None => false,
+        }
+    }
+
+    /// Lets a second path lead to what stands at the first. After an error the tree is as before.
+    pub fn link(&mut self, path: &Path, to: Path) -> Result<(), OutOfMemory>
+        ensures ok { OnOk result (self.new ≡ linked path.now to self.old) }
+        ensures err { OnErr result (self.new ≡ self.old) }
+    {
+        let Some(number) = self.number_at(path) else {
+            return Ok(());
+        };
+        put(&mut self.paths, to, number)?;
+        Ok(())
+    }
+
+    /// Removes a path, and with its last path what stands there.
     pub fn remove(&mut self, path: &Path)
         ensures { self.new ≡ without path.now self.old }
     {
         let Some(number) = self.number_at(path) else {
             return;
         };
+        let stays = is_named_elsewhere(&self.paths, path, number);
         remove_key(&mut self.paths, path);
-        remove_key(&mut self.nodes, &number);
+        if !stays {
+            remove_key(&mut self.nodes, &number);
+        }
     }
 
     /// Moves what stands at a path, and all below it, to another path, in place of what stands
-    /// there. After an error the tree is as before.
-    pub fn move_path(&mut self, alloc: Global, from: &Path, to: &Path) -> Result<(), OutOfMemory>
-        ensures ok { OnOk result (self.new ≡ moved from.now to.now (without to.now self.old)) }
+    /// there; where both paths lead to one number, nothing changes. After an error the tree is as
+    /// before.
+    pub fn rename(&mut self, alloc: Global, from: &Path, to: &Path) -> Result<(), OutOfMemory>
+        ensures ok { OnOk result (self.new ≡ renamed from.now to.now self.old) }
         ensures err { OnErr result (self.new ≡ self.old) }
     {
-        let replaced = self.number_at(to);
-        self.paths = moved_paths(alloc, &self.paths, from, to)?;
-        if let Some(number) = replaced {
-            remove_key(&mut self.nodes, &number);
+        if self.names_one(from, to) {
+            return Ok(());
         }
+        let paths = moved_paths(alloc, &self.paths, from, to)?;
+        self.remove(to);
+        self.set_paths(paths);
         Ok(())
+    }
+
+    /// Exchanges all paths.
+    fn set_paths(&mut self, paths: Vec<(Path, u64)>)
+        requires { IsTrue (map.is_sorted path_cmp paths.items) }
+        ensures { self.new ≡ record self.old { paths = map.from_sorted paths.items } }
+    {
+        self.paths = paths;
     }
 
     /// Whether a number is a directory's.
@@ -311,6 +360,31 @@ fn number_after(number: u64) -> Result<u64, OutOfMemory>
     ensures err { OnErr result (2 ^ 64 ≤ number + 1) }
 {
     number.checked_add(1).ok_or(OutOfMemory)
+}
+
+/// How many paths lead to a number.
+fn count_paths(paths: &[(Path, u64)], number: u64) -> usize
+    ensures { result ≡ count_by (λ e. e.1 == number) paths.now }
+{
+    let mut count = 0;
+    for (_, used) in paths {
+        if *used == number {
+            count += 1;
+        }
+    }
+    count
+}
+
+/// Whether another path leads to a number too.
+fn is_named_elsewhere(paths: &[(Path, u64)], path: &Path, number: u64) -> bool
+    ensures { result ≡ list_any (λ e. e.1 == number && not (same_path e.0 path.now)) paths.now }
+{
+    for (other, used) in paths {
+        if *used == number && *other != *path {
+            return true;
+        }
+    }
+    false
 }
 
 /// The paths without `to`, each that begins with `from` with that front exchanged for `to`. Of two
@@ -480,6 +554,15 @@ impl NumberSet {
         NumberSet {
             numbers: Vec::new(alloc),
         }
+    }
+
+    /// Adds a number. After an error the numbers are as before.
+    pub fn insert(&mut self, number: u64) -> Result<(), OutOfMemory>
+        ensures ok { OnOk result (self.new ≡ map.insert self.old number tt) }
+        ensures err { OnErr result (self.new ≡ self.old) }
+    {
+        put(&mut self.numbers, number, ())?;
+        Ok(())
     }
 
     pub fn contains(&self, number: u64) -> bool

@@ -1,6 +1,6 @@
 ghost use Rattle.std.specs.Prelude.{◌+◌, ◌≡◌, ◌≤◌, IfOk, List, None, OnErr, OnOk, Some, length, map as map_each, option_copied, ℕ};
 ghost use Rattle.domain_base.specs.declared.limits.TheConstants.{FILE_BYTES};
-ghost use Rattle.fileset_model.specs.Apply.{empty_fileset, flagged_node, has_clone, moved, original_of, truncated_node, with_change, with_clone, with_node, with_tree, without, written_node};
+ghost use Rattle.fileset_model.specs.Apply.{empty_fileset, flagged_node, has_clone, linked, original_of, renamed, truncated_node, with_change, with_clone, with_node, with_tree, without, written_node};
 ghost use Rattle.fileset_model.specs.Usage.{with_limits};
 ghost use Rattle.fileset_model.specs.declared.fileset.FilesetSlot.{FilesetSlot as SlotOf};
 ghost use Rattle.fileset_model.specs.declared.fileset.Role.TheVariants.{Original as OriginalRole};
@@ -61,6 +61,16 @@ impl Filesets {
         ensures { option_copied result ≡ map.get self.now name.now }
     {
         find(&self.slots, name)
+    }
+
+    /// Puts a fileset under a name, in place of what had it. After an error the filesets are as
+    /// before.
+    pub fn insert(&mut self, name: FilesetName, slot: FilesetSlot) -> Result<(), OutOfMemory>
+        ensures ok { OnOk result (self.new ≡ map.insert self.old name slot) }
+        ensures err { OnErr result (self.new ≡ self.old) }
+    {
+        put(&mut self.slots, name, slot)?;
+        Ok(())
     }
 
     /// Adds a fileset with an empty root. After an error the filesets are as before.
@@ -165,17 +175,31 @@ impl Filesets {
         self.slots[at].1.tree.remove(&place.path);
     }
 
-    /// Moves what stands at a place, and all below it, to another path, in place of what stands
-    /// there; where there is no such fileset, nothing changes. After an error the filesets are as
-    /// before.
-    pub fn move_path(&mut self, alloc: Global, place: &Place, to: &Path) -> Result<(), OutOfMemory>
-        ensures ok { OnOk result (self.new ≡ with_tree self.old place.now.fileset (λ tree. moved place.now.path to.now (without to.now tree))) }
+    /// Lets a second path lead to the file at a place; where there is no such fileset, nothing
+    /// changes. After an error the filesets are as before.
+    pub fn link(&mut self, alloc: Global, place: &Place, to: &Path) -> Result<(), OutOfMemory>
+        ensures ok { OnOk result (self.new ≡ with_tree self.old place.now.fileset (linked place.now.path to.now)) }
         ensures err { OnErr result (self.new ≡ self.old) }
     {
         let Ok(at) = place_of(&self.slots, &place.fileset) else {
             return Ok(());
         };
-        self.slots[at].1.tree.move_path(alloc, &place.path, to)?;
+        let path = to.copy(alloc)?;
+        self.slots[at].1.tree.link(&place.path, path)?;
+        Ok(())
+    }
+
+    /// Moves what stands at a place, and all below it, to another path, in place of what stands
+    /// there; where there is no such fileset, or both paths lead to one number, nothing changes.
+    /// After an error the filesets are as before.
+    pub fn rename(&mut self, alloc: Global, place: &Place, to: &Path) -> Result<(), OutOfMemory>
+        ensures ok { OnOk result (self.new ≡ with_tree self.old place.now.fileset (renamed place.now.path to.now)) }
+        ensures err { OnErr result (self.new ≡ self.old) }
+    {
+        let Ok(at) = place_of(&self.slots, &place.fileset) else {
+            return Ok(());
+        };
+        self.slots[at].1.tree.rename(alloc, &place.path, to)?;
         Ok(())
     }
 

@@ -44,12 +44,14 @@ fn answer(alloc: Global, filesets: &mut Filesets, command: &Command) -> Result<R
         } => file::write(alloc, filesets, place, *offset, bytes),
         Command::Truncate { place, size } => file::truncate(alloc, filesets, place, *size),
         Command::Rename { place, to } => name::rename(alloc, filesets, place, to),
+        Command::Link { place, to } => name::link(alloc, filesets, place, to),
         Command::Unlink { place } => name::unlink(alloc, filesets, place),
         Command::Rmdir { place } => name::rmdir(alloc, filesets, place),
         Command::Chfile { place, logged } => file::chfile(alloc, filesets, place, *logged),
         Command::Showfsets
         | Command::Showquota { .. }
         | Command::Read { .. }
+        | Command::Links { .. }
         | Command::List { .. }
         | Command::Stat { .. }
         | Command::Fsync { .. }
@@ -75,6 +77,7 @@ fn show(alloc: Global, filesets: &Filesets, command: &Command) -> Result<Reply, 
             offset,
             count,
         } => file::read(alloc, filesets, place, *offset, *count),
+        Command::Links { place } => file::links(alloc, filesets, place),
         Command::List { place } => name::list(alloc, filesets, place),
         Command::Stat { place } => file::stat(alloc, filesets, place),
         Command::Fsync { place } => file::fsync(alloc, filesets, place),

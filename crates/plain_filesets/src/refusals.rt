@@ -2,7 +2,7 @@
 ghost use Rattle.std.specs.Prelude.{◌*◌, ◌+◌, ◌==◌, ◌||◌, ◌∷◌, ◌≡◌, ◌≤◌, IfOk, None as NoRefusal, [], length, nat_lt, not};
 ghost use Rattle.std.specs.Option.{option_map_or};
 ghost use Rattle.domain_base.specs.declared.limits.TheConstants.{FILE_BYTES};
-ghost use Rattle.fileset_model.specs.Apply.{create_checks, move_checks, not_empty, out_of_sync, read_checks, read_only, refusal_of, rename_checks, replace_checks, write_checks, write_quota};
+ghost use Rattle.fileset_model.specs.Apply.{create_checks, link_checks, links_full, move_checks, not_empty, out_of_sync, read_checks, read_only, refusal_of, rename_checks, replace_checks, write_checks, write_quota};
 ghost use Rattle.fileset_model.specs.Pages.{absent_pages};
 ghost use Rattle.fileset_model.specs.Paths.{directory_here as directory_check, directory_refusal as directory_check_on_way, file_here as file_check, first_refusal, is_marked as is_marked_at, node_at, refuse_if, rows_of, target_refusal as target_check, walk_refusal as walk_check};
 ghost use Rattle.fileset_model.specs.declared.command.Command.TheVariants.{Clonefset, Rmdir, Unlink};
@@ -10,7 +10,7 @@ ghost use Rattle.fileset_model.specs.declared.reply.Refusal.TheVariants.{TooFar 
 
 use crate::quotas::quota_refusal;
 use domain_base::OutOfMemory;
-use domain_base::limits::{BLOCKS_PER_PAGE, FILE_BYTES as LARGEST_FILE, MAX_FILESETS};
+use domain_base::limits::{BLOCKS_PER_PAGE, FILE_BYTES as LARGEST_FILE, MAX_FILESETS, MAX_LINKS};
 use fileset_model::{
     FilesetName, FilesetSlot, FilesetTree, Filesets, Node, PageMap, Path, Place, Refusal,
 };
@@ -301,6 +301,39 @@ pub(crate) fn empty_directory_refusal(
     Ok(None)
 }
 
+/// Why a file can't get one more path.
+pub(crate) fn link_refusal(
+    alloc: Global,
+    slot: &FilesetSlot,
+    path: &Path,
+    to: &Path,
+) -> Result<Option<Refusal>, OutOfMemory>
+    ensures { IfOk result (λ refusal. refusal ≡ first_refusal (link_checks path.now to.now slot.now)) }
+{
+    if let Some(refusal) = file_refusal(alloc, slot, path)? {
+        return Ok(Some(refusal));
+    }
+    if let Some(refusal) = walk_refusal(alloc, slot, to)? {
+        return Ok(Some(refusal));
+    }
+    if let Some(_) = slot.tree.number_at(to) {
+        return Ok(Some(Refusal::Exists));
+    }
+    Ok(full_here(slot, path))
+}
+
+/// Links-full, where a path leads to a file with as many paths as a file may have.
+pub(crate) fn full_here(slot: &FilesetSlot, path: &Path) -> Option<Refusal>
+    ensures { result ≡ links_full slot.now path.now }
+{
+    match slot.tree.number_at(path) {
+        Some(number) if slot.tree.paths_to(number) >= MAX_LINKS as usize => Some(
+            Refusal::LinksFull,
+        ),
+        _ => None,
+    }
+}
+
 /// Why what stands at a path can't be moved to another.
 pub(crate) fn rename_refusal(
     alloc: Global,
@@ -319,7 +352,7 @@ pub(crate) fn rename_refusal(
     if let Some(refusal) = walk_refusal(alloc, slot, to)? {
         return Ok(Some(refusal));
     }
-    if *from == *to {
+    if slot.tree.names_one(from, to) {
         return Ok(None);
     }
     let refusal = move_refusal(alloc, slot, from, to)?;

@@ -1,9 +1,9 @@
 //! The commands on files, and on what a path leads to.
 ghost use Rattle.std.specs.Prelude.{◌^◌, ◌≡◌, ◌≤◌, IfOk, OnErr};
 ghost use Rattle.std.specs.Option.{option_map_or};
-ghost use Rattle.fileset_model.specs.Apply.{Answers, read_of, stat_of};
+ghost use Rattle.fileset_model.specs.Apply.{Answers, links_of, read_of, stat_of};
 ghost use Rattle.fileset_model.specs.Paths.{node_at};
-ghost use Rattle.fileset_model.specs.declared.command.Command.TheVariants.{Chfile, Create, Fsync, Read, Stat, Truncate, Write};
+ghost use Rattle.fileset_model.specs.declared.command.Command.TheVariants.{Chfile, Create, Fsync, Links, Read, Stat, Truncate, Write};
 ghost use Rattle.fileset_model.specs.declared.reply.Reply.TheVariants.{Done as DoneReply};
 
 use crate::refusals::{
@@ -204,6 +204,29 @@ pub(crate) fn small_count(count: usize) -> Result<u32, OutOfMemory>
     match u32::try_from(count) {
         Ok(small) => Ok(small),
         Err(_) => Err(OutOfMemory),
+    }
+}
+
+/// Counts the paths of a file.
+pub(crate) fn links(alloc: Global, filesets: &Filesets, place: &Place) -> Result<Reply, OutOfMemory>
+    ensures { IfOk result (λ reply. Answers filesets.now (Links place.now) reply filesets.now) }
+{
+    let Some(slot) = filesets.slot(&place.fileset) else {
+        return Ok(Reply::Refused(Refusal::NoFileset));
+    };
+    if let Some(refusal) = read_refusal(alloc, slot, &place.path)? {
+        return Ok(Reply::Refused(refusal));
+    }
+    Ok(path_count(&slot.tree, &place.path))
+}
+
+/// How many paths lead to what stands at a path.
+pub(crate) fn path_count(tree: &FilesetTree, path: &Path) -> Reply
+    ensures { result ≡ links_of path.now tree.now }
+{
+    match tree.number_at(path) {
+        Some(number) => Reply::Count(tree.paths_to(number) as u64),
+        None => Reply::Done,
     }
 }
 

@@ -1,11 +1,11 @@
 //! The commands that make, move, list and remove names.
 ghost use Rattle.std.specs.Prelude.{◌≡◌, IfOk, MatchOption, OnErr};
 ghost use Rattle.fileset_model.specs.Apply.{Answers, with_tree, without};
-ghost use Rattle.fileset_model.specs.declared.command.Command.TheVariants.{List as ListNames, Mkdir, Rename, Rmdir, Unlink};
+ghost use Rattle.fileset_model.specs.declared.command.Command.TheVariants.{Link, List as ListNames, Mkdir, Rename, Rmdir, Unlink};
 ghost use Rattle.fileset_model.specs.declared.reply.Reply.TheVariants.{Done as DoneReply, Refused as RefusedReply};
 
 use crate::refusals::{
-    create_refusal, list_refusal, rename_refusal, rmdir_refusal, unlink_refusal,
+    create_refusal, link_refusal, list_refusal, rename_refusal, rmdir_refusal, unlink_refusal,
 };
 use domain_base::OutOfMemory;
 use fileset_model::{Filesets, NameList, Node, Path, Place, Refusal, Reply};
@@ -34,7 +34,7 @@ pub(crate) fn mkdir(
 }
 
 /// Moves a file or directory, and what stands below it, to another path of its fileset; what stands
-/// there is replaced.
+/// there is replaced. Where both paths lead to one file, nothing changes.
 pub(crate) fn rename(
     alloc: Global,
     filesets: &mut Filesets,
@@ -50,14 +50,31 @@ pub(crate) fn rename(
     if let Some(refusal) = rename_refusal(alloc, slot, &place.path, to)? {
         return Ok(Reply::Refused(refusal));
     }
-    if place.path == *to {
-        return Ok(Reply::Done);
-    }
-    filesets.move_path(alloc, place, to)?;
+    filesets.rename(alloc, place, to)?;
     Ok(Reply::Done)
 }
 
-/// Removes a file.
+/// Gives a file one more path.
+pub(crate) fn link(
+    alloc: Global,
+    filesets: &mut Filesets,
+    place: &Place,
+    to: &Path,
+) -> Result<Reply, OutOfMemory>
+    ensures ok { IfOk result (λ reply. Answers filesets.old (Link place.now to.now) reply filesets.new) }
+    ensures err { OnErr result (filesets.new ≡ filesets.old) }
+{
+    let Some(slot) = filesets.slot(&place.fileset) else {
+        return Ok(Reply::Refused(Refusal::NoFileset));
+    };
+    if let Some(refusal) = link_refusal(alloc, slot, &place.path, to)? {
+        return Ok(Reply::Refused(refusal));
+    }
+    filesets.link(alloc, place, to)?;
+    Ok(Reply::Done)
+}
+
+/// Removes a path of a file, and the file with its last path.
 pub(crate) fn unlink(
     alloc: Global,
     filesets: &mut Filesets,
