@@ -6,11 +6,11 @@ use Rattle.std.specs.List.{All, Contains}
 use Rattle.std.specs.Option.{option_map_or}
 use Rattle.std.specs.FinMap as finite
 use Rattle.domain_base.specs.declared.limits.TheConstants.{BLOCKS_PER_PAGE, FILE_BYTES}
-use Rattle.fileset_model.specs.Apply.{AnswersIfMemory, Changes, answer_of, create_checks, filesets_full, has_clone, in_fileset, is_clone, move_checks, name_taken, not_empty, of_node, out_of_sync, quota_of, read_checks, read_of, read_only, refusal_of, rename_checks, replace_checks, stat_of, write_checks, write_quota}
+use Rattle.fileset_model.specs.Apply.{AnswersIfMemory, Changes, answer_of, create_checks, filesets_full, has_clone, in_fileset, is_clone, link_checks, links_of, move_checks, name_taken, not_empty, of_node, out_of_sync, quota_of, read_checks, read_of, read_only, refusal_of, rename_checks, replace_checks, stat_of, write_checks, write_quota}
 use Rattle.fileset_model.specs.Fileset.{Fileset}
 use Rattle.fileset_model.specs.Orders.{Name, Path}
 use Rattle.fileset_model.specs.Pages.{absent_pages}
-use Rattle.fileset_model.specs.Paths.{directories_to, directory_here, directory_refusal, file_here, first_refusal, is_directory, is_marked, node_at, refuse_if, rows_of, same_path, target_refusal, walk_refusal}
+use Rattle.fileset_model.specs.Paths.{directories_to, directory_here, directory_refusal, file_here, first_refusal, is_directory, is_marked, node_at, paths_to, refuse_if, names_one, rows_of, target_refusal, walk_refusal}
 use Rattle.fileset_model.specs.State.{FilesetMap}
 use Rattle.fileset_model.specs.Usage.{blocks_refusal, files_refusal, quota_refusal}
 use Rattle.fileset_model.specs.declared.command.Command.{Command}
@@ -131,7 +131,7 @@ renamed from to slot = (
     target slot from,
     (
       walk slot to,
-      (chosen (same_path from to) None (first_refusal (move_checks from to slot)) tt (first (move_checks from to slot) (moves from to slot)), tt),
+      (chosen (names_one slot.tree from to) None (first_refusal (move_checks from to slot)) tt (first (move_checks from to slot) (moves from to slot)), tt),
     ),
   ),
 )
@@ -159,7 +159,6 @@ refusals all (command.Rmfset fileset) = in_one all fileset (λ slot. refuse_if (
 refusals all (command.Clonefset fileset new_name) =
     in_one all fileset (λ slot. refuse_if (is_clone slot.role) CloneOfClone ∷ refuse_if (has_clone all fileset) HasClone ∷ name_taken all new_name ∷ filesets_full all ∷ [])
     (λ slot. (refused_if _ _ tt, (refused_if _ _ tt, (refused_if _ _ tt, (refused_if _ _ tt, tt)))))
-refusals all command.Showfsets = tt
 refusals all (command.Setquota fileset who files blocks) = in_one all fileset (λ slot. read_only slot ∷ []) (λ slot. (refused_if _ _ tt, tt))
 refusals all (command.Showquota fileset who) = in_one all fileset (λ slot. read_only slot ∷ []) (λ slot. (refused_if _ _ tt, tt))
 refusals all (command.Create place uid gid) = in_one all place.fileset (create_checks place.path uid gid) (created place.path uid gid)
@@ -171,6 +170,11 @@ refusals all (command.Truncate place size) =
     in_one all place.fileset (λ slot. read_only slot ∷ target_refusal slot place.path ∷ directory_here slot place.path ∷ refuse_if (nat_lt FILE_BYTES size) TooFar ∷ [])
     (λ slot. (refused_if _ _ tt, (target slot place.path, (refused_if _ _ tt, (refused_if _ _ tt, tt)))))
 refusals all (command.Rename place to) = in_one all place.fileset (rename_checks place.path to) (renamed place.path to)
+refusals all (command.Link place to) =
+    in_one all place.fileset (link_checks place.path to)
+    (λ slot. (refused_if _ _ tt, (target slot place.path, (refused_if _ _ tt, (walk slot to, (refused_if _ _ tt, (refused_if _ _ tt, tt)))))))
+refusals all (command.Links place) =
+    in_one all place.fileset (read_checks place.path) (λ slot. (target slot place.path, (refused_if _ _ tt, (refused_if _ _ tt, tt))))
 refusals all (command.Unlink place) =
     in_one all place.fileset (λ slot. read_only slot ∷ target_refusal slot place.path ∷ directory_here slot place.path ∷ [])
     (λ slot. (refused_if _ _ tt, (target slot place.path, (refused_if _ _ tt, tt))))
@@ -213,21 +217,10 @@ answers all (command.Read place offset count) = of_one all place (λ tree. read_
 answers all (command.Stat place) = of_one all place (λ tree. stat_of tree place.path) (λ tree. stats tree place.path)
 answers all (command.List place) =
     map_or IsCalmReply (λ slot. reply.Names (rows_of slot.tree place.path)) (finite.get all place.fileset) reply.Done (λ slot. tt) tt
+answers all (command.Links place) =
+    map_or IsCalmReply (λ slot. links_of place.path slot.tree) (finite.get all place.fileset) reply.Done
+    (λ slot. map_or IsCalmReply (λ number. reply.Count (paths_to slot.tree number)) (finite.get slot.tree.paths place.path) reply.Done (λ number. tt) tt) tt
 answers all (command.Showquota fileset who) = map_or IsCalmReply (λ slot. quota_of slot.tree who) (finite.get all fileset) reply.Done (λ slot. tt) tt
-answers all (command.Write place offset bytes) = tt
-answers all command.Showfsets = tt
-answers all (command.Mkfset fileset) = tt
-answers all (command.Rmfset fileset) = tt
-answers all (command.Clonefset fileset new_name) = tt
-answers all (command.Setquota fileset who files blocks) = tt
-answers all (command.Create place uid gid) = tt
-answers all (command.Mkdir place uid gid) = tt
-answers all (command.Truncate place size) = tt
-answers all (command.Rename place to) = tt
-answers all (command.Unlink place) = tt
-answers all (command.Rmdir place) = tt
-answers all (command.Fsync place) = tt
-answers all (command.Chfile place logged) = tt
 answers all c = tt
 
 answered : (all : FilesetMap) (c : Command) (r : Reply) (new : FilesetMap) → AnswersIfMemory all c r new → IsCalmReply r

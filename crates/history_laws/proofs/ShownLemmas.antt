@@ -5,13 +5,13 @@ use Rattle.std.proofs.lemmas.Bool.{ltb-true, ltb-false}
 use Rattle.std.specs.List.{cons_option, filter_map, list_any, range_with_len}
 use Rattle.std.specs.Option.{option_and_then, option_map, option_map_or}
 use Rattle.std.specs.FinMap as map
-use Rattle.fileset_model.specs.Apply.{answer_of, filesets_full, has_clone, in_fileset, is_clone, is_clone_of, move_checks, original_of, read_of, stat_of, name_taken, not_empty, out_of_sync, path_taken, read_checks, read_only, refusal_of, write_quota}
+use Rattle.fileset_model.specs.Apply.{answer_of, filesets_full, has_clone, in_fileset, is_clone, is_clone_of, links_full, links_of, move_checks, original_of, read_of, stat_of, name_taken, not_empty, out_of_sync, path_taken, read_checks, read_only, refusal_of, write_quota}
 use Rattle.fileset_model.specs.Usage.{quota_refusal}
-use Rattle.domain_base.specs.declared.limits.TheConstants.{FILE_BYTES}
+use Rattle.domain_base.specs.Limits.{file_bytes}
 use Rattle.history_model.specs.LooksLike.{IsShown, LooksLike, LooksLikeSlot, LooksLikeThere}
 use Rattle.fileset_model.specs.Fileset.{Fileset}
 use Rattle.fileset_model.specs.Orders.{Name, Path, name_cmp, name_cmp-total, name_cmp-IsAntisymmetric, path_cmp, path_cmp-total, path_cmp-IsAntisymmetric}
-use Rattle.fileset_model.specs.Paths.{begins_with, same_path, directory_here, directory_refusal, file_here, first_refusal, is_directory, is_marked, is_out_of_sync, name_below, node_at, refuse_if, rows_of, target_refusal, walk_refusal}
+use Rattle.fileset_model.specs.Paths.{begins_with, names_one, directory_here, directory_refusal, file_here, first_refusal, is_directory, is_marked, is_out_of_sync, name_below, node_at, paths_to, refuse_if, rows_of, target_refusal, walk_refusal}
 use Rattle.fileset_model.specs.State.{FilesetMap}
 use Rattle.fileset_model.specs.declared.command.Command.{Command}
 use Rattle.fileset_model.specs.declared.command.Command.TheVariants as command
@@ -22,7 +22,7 @@ use Rattle.fileset_model.specs.declared.node.Node.{Node}
 use Rattle.fileset_model.specs.declared.node.Node.TheVariants.{File, Directory}
 use Rattle.fileset_model.specs.declared.reply.Refusal.{Refusal}
 use Rattle.fileset_model.specs.declared.reply.Refusal.TheVariants.{CloneOfClone, FilesetExists, FilesetsFull, HasClone, IsDirectory, NoFileset, NoPath, NotDirectory, OutOfSync, ReadOnly, TooFar}
-use Rattle.fileset_model.specs.declared.reply.Reply.TheVariants.{DirStat, Done, Filesets, Names}
+use Rattle.fileset_model.specs.declared.reply.Reply.TheVariants.{Count, DirStat, Done, Filesets, Names}
 use Rattle.history_laws.proofs.ImageLemmas.{images, same_images, where_all}
 use Rattle.fileset_model.proofs.RowsLemmas.{row_of}
 use Rattle.fileset_laws.proofs.ValidMoveLemmas.{begins}
@@ -309,11 +309,13 @@ module _ (all other : FilesetMap) (alike : LooksLike all other) where
   same_refusal (command.Showquota fileset who) = same_change fileset (λ s. [])
   same_refusal (command.Create place uid gid) = same_change place.fileset (λ s. walk_refusal s place.path ∷ path_taken s place.path ∷ quota_refusal s.tree uid gid 1 0 ∷ [])
   same_refusal (command.Mkdir place uid gid) = same_change place.fileset (λ s. walk_refusal s place.path ∷ path_taken s place.path ∷ quota_refusal s.tree uid gid 1 0 ∷ [])
-  same_refusal (command.Write place offset bytes) = same_change place.fileset (λ s. target_refusal s place.path ∷ directory_here s place.path ∷ refuse_if (nat_lt FILE_BYTES (offset + length bytes)) TooFar
+  same_refusal (command.Write place offset bytes) = same_change place.fileset (λ s. target_refusal s place.path ∷ directory_here s place.path ∷ refuse_if (nat_lt file_bytes (offset + length bytes)) TooFar
       ∷ option_map_or (write_quota s.tree offset bytes) (node_at s.tree place.path) None ∷ [])
-  same_refusal (command.Truncate place size) = same_change place.fileset (λ s. target_refusal s place.path ∷ directory_here s place.path ∷ refuse_if (nat_lt FILE_BYTES size) TooFar ∷ [])
+  same_refusal (command.Truncate place size) = same_change place.fileset (λ s. target_refusal s place.path ∷ directory_here s place.path ∷ refuse_if (nat_lt file_bytes size) TooFar ∷ [])
   same_refusal (command.Rename place to) = same_change place.fileset (λ s. target_refusal s place.path ∷ walk_refusal s to
-      ∷ (if same_path place.path to then None else first_refusal (move_checks place.path to s)) ∷ [])
+      ∷ (if names_one s.tree place.path to then None else first_refusal (move_checks place.path to s)) ∷ [])
+  same_refusal (command.Link place to) = same_change place.fileset (λ s. target_refusal s place.path ∷ directory_here s place.path ∷ walk_refusal s to ∷ path_taken s to ∷ links_full s place.path ∷ [])
+  same_refusal (command.Links place) = same_in place.fileset (read_checks place.path) (read_checks place.path) (λ slot slot' like. same_read slot slot' like place.path)
   same_refusal (command.Unlink place) = same_change place.fileset (λ s. target_refusal s place.path ∷ directory_here s place.path ∷ [])
   same_refusal (command.Rmdir place) = same_change place.fileset (λ s. target_refusal s place.path ∷ file_here s place.path ∷ not_empty s place.path ∷ [])
   same_refusal (command.Fsync place) = same_change place.fileset (λ s. target_refusal s place.path ∷ [])
@@ -357,6 +359,16 @@ module _ (slot : FilesetSlot) (path : Path) where
   passed_mark : first_refusal (out_of_sync slot path ∷ []) ≡ None → is_marked slot path ≡ false
   passed_mark none = passed_test (is_marked slot path) OutOfSync (passed (out_of_sync slot path) [] none).0
 
+same_links : (slot other : FilesetSlot) → LooksLikeSlot slot other → (path : Path) → IsShown slot path → is_marked slot path ≡ false → links_of path other.tree ≡ links_of path slot.tree
+same_links slot other alike path shown in_sync =
+    elim (map.get slot.tree.paths path) as (λ o. map.get slot.tree.paths path ≡ o → links_of path other.tree ≡ option_map_or (λ number. Count (paths_to slot.tree number)) o Done) [
+      | None ↦ λ is. ap (λ o. option_map_or (λ number. Count (paths_to other.tree number)) o Done) (alike.paths path shown ∙ is)
+      | Some number ↦ λ is.
+          let unmarked : is_out_of_sync slot.role number ≡ false = sym (ap (λ o. option_map_or (is_out_of_sync slot.role) o false) is) ∙ in_sync in
+          ap (λ o. option_map_or (λ number. Count (paths_to other.tree number)) o Done) (alike.paths path shown ∙ is)
+          ∙ ap Count (alike.links path number (record { shown = shown; leads = is; in_sync = unmarked }))
+    ] refl
+
 same_stat_of : (slot other : FilesetSlot) (path : Path) → rows_of other.tree path ≡ rows_of slot.tree path → (node : Node) → stat_of other.tree path node ≡ stat_of slot.tree path node
 same_stat_of slot other path rows (File uid gid size logged pages) = refl
 same_stat_of slot other path rows (Directory uid gid) = ap (λ r. DirStat uid gid (length r)) rows
@@ -387,6 +399,12 @@ module _ (all other : FilesetMap) (alike : LooksLike all other) where
       let target = passed_target here.0 place.path (directory_here here.0 place.path ∷ out_of_sync here.0 place.path ∷ []) here.2 in
       let mark = passed_mark here.0 place.path (passed (directory_here here.0 place.path) (out_of_sync here.0 place.path ∷ []) target.1).1 in
       rw (here.1, there.1) (ap (λ o. option_map_or (read_of offset count) o Done) (same_node here.0 there.0 there.2 place.path target.0 mark))
+  same_answer (command.Links place) none =
+      let here = passed_in all place.fileset (read_checks place.path) none in
+      let there = in_other all other alike place.fileset here.0 here.1 in
+      let target = passed_target here.0 place.path (directory_here here.0 place.path ∷ out_of_sync here.0 place.path ∷ []) here.2 in
+      let mark = passed_mark here.0 place.path (passed (directory_here here.0 place.path) (out_of_sync here.0 place.path ∷ []) target.1).1 in
+      rw (here.1, there.1) (same_links here.0 there.0 there.2 place.path target.0 mark)
   same_answer (command.List place) none =
       let here = passed_in all place.fileset (λ s. target_refusal s place.path ∷ file_here s place.path ∷ out_of_sync s place.path ∷ []) none in
       let there = in_other all other alike place.fileset here.0 here.1 in

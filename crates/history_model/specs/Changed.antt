@@ -4,8 +4,7 @@ use Rattle.std.specs.Option.{option_map, option_map_or, option_to_list}
 use Rattle.std.specs.List.{filter_map}
 use Rattle.std.specs.FinMap as map
 use Rattle.fileset_model.specs.Orders.{Name, Path}
-use Rattle.fileset_model.specs.Paths.{begins_with}
-use Rattle.history_model.specs.Links.{names_one}
+use Rattle.fileset_model.specs.Paths.{names_one, begins_with}
 use Rattle.fileset_model.specs.State.{FilesetMap}
 use Rattle.history_model.specs.State.{Numbered}
 use Rattle.fileset_model.specs.declared.command.Command.{Command}

@@ -3,8 +3,7 @@ use Rattle.std.specs.Prelude.{◌≡◌, ℕ, ◌<◌, false, length, take, Opti
 use Rattle.std.specs.Option.{option_map}
 use Rattle.std.specs.FinMap as map
 use Rattle.fileset_model.specs.Orders.{Name, Path}
-use Rattle.fileset_model.specs.Paths.{is_directory, is_marked, is_out_of_sync, node_at}
-use Rattle.history_model.specs.Links.{paths_to}
+use Rattle.fileset_model.specs.Paths.{paths_to, is_directory, is_marked, is_out_of_sync, node_at}
 use Rattle.fileset_model.specs.State.{FilesetMap}
 use Rattle.history_model.specs.State.{State}
 use Rattle.fileset_model.specs.declared.fileset.FilesetSlot.{FilesetSlot}

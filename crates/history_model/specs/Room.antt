@@ -23,12 +23,12 @@ page_count (Directory uid gid) = 0
 abbrev pub present_pages : FilesetMap → ℕ
 present_pages all = sum_by (λ slot. sum_by page_count (map.values slot.tree.nodes)) (map.values all)
 
-abbrev pub node_count : FilesetMap → ℕ
-node_count all = sum_by (λ slot. map.len slot.tree.nodes) (map.values all)
+abbrev pub path_count : FilesetMap → ℕ
+path_count all = sum_by (λ slot. map.len slot.tree.paths) (map.values all)
 
 -- the pages that the filesets and the members of a state may take
 abbrev pub room : State → ℕ
-room s = 3 * present_pages s.filesets + 4 * node_count s.filesets + 64 * map.len s.members + 512
+room s = 3 * present_pages s.filesets + 4 * path_count s.filesets + 64 * map.len s.members + 512
 
 -- the pages of all open members
 abbrev pub open_pages : State → ℕ
