@@ -3,3 +3,6 @@ pub mod ImageLemmas
 pub mod MarkedLemmas
 pub mod PlainLemmas
 pub mod ShownLemmas
+pub mod ValidHistoryLemmas
+pub mod ValidChainLemmas
+pub mod UntouchedLemmas

@@ -4,8 +4,7 @@ use Rattle.std.specs.Option.{option_map}
 use Rattle.std.specs.FinMap as map
 use Rattle.fileset_model.specs.Orders.{Name, Path}
 use Rattle.fileset_model.specs.Paths.{paths_to, is_directory, is_marked, is_out_of_sync, node_at}
-use Rattle.fileset_model.specs.State.{FilesetMap}
-use Rattle.history_model.specs.State.{State}
+use Rattle.fileset_model.specs.Filesets.{FilesetMap}
 use Rattle.fileset_model.specs.declared.fileset.FilesetSlot.{FilesetSlot}
 use Rattle.fileset_model.specs.declared.fileset.Role.TheVariants.{Original}
 
@@ -40,8 +39,3 @@ LooksLikeThere (Some slot) found = IsSomeAnd found (LooksLikeSlot slot)
 -- filesets that differ in nothing but in nodes of clones that are out of sync and in what lies below directories that are
 abbrev pub LooksLike : FilesetMap → FilesetMap → Type 0
 LooksLike all other = (name : Name) → LooksLikeThere (map.get all name) (map.get other name)
-
--- the same of states, all else of which is the same
-pub record LooksLikeState (s other : State) : Type 0 where
-  pub filesets : LooksLike s.filesets other.filesets
-  pub rest : other ≡ record s { filesets = other.filesets }
