@@ -1,0 +1,3 @@
+pub mod Cell
+pub mod CellPage
+pub mod Chain
