@@ -1,7 +1,6 @@
 -- What stands in a cell, a piece of 292 bytes of a page of the bitfile metadata table.
-use Rattle.std.specs.Prelude.{◌≡◌, ◌+◌, ◌-◌, ◌*◌, ◌^◌, ◌≤◌, ℕ, List, take, drop, map, length, Option, Some, None, All}
-use Rattle.std.specs.List.Sorted.{IsStrictlyIncreasing}
-use Rattle.std.specs.List.{flat_map}
+use Rattle.std.specs.Prelude.{◌≡◌, ◌+◌, ◌-◌, ◌*◌, ◌^◌, ◌<◌, ◌≤◌, ℕ, List, [], ◌∷◌, take, drop, length, Option, Some, None}
+use Rattle.std.specs.List.{flat_map, AllByRecursion}
 use Rattle.domain_base.specs.Page.{zero_bytes}
 use Rattle.domain_base.specs.declared.place.CellAt.{CellAt}
 use Rattle.record_table.specs.declared.record.Record.{Record}
@@ -50,9 +49,14 @@ id_of _ = 0
 abbrev pub place_of : Record → ℕ
 place_of r = 2 ^ 32 * kind_of r + id_of r
 
+abbrev pub AreRising : ℕ → List Record → Type 0
+AreRising place [] = Unit {0}
+AreRising place (r ∷ rs) = (place < place_of r) × AreRising (place_of r) rs
+
+-- records that a cell may have
 pub record AreRecords (records : List Record) : Type 0 where
-  pub allowed : All Allowed records
-  pub rising : IsStrictlyIncreasing (map place_of records)
+  pub allowed : AllByRecursion Allowed records
+  pub rising : AreRising 0 records
 
 abbrev pub spellings : List Record → List ℕ
 spellings records = flat_map spelling records

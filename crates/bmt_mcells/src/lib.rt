@@ -4,6 +4,7 @@
 mod head;
 mod laws;
 mod reading;
+mod records;
 
 pub use head::{CellHead, CellKind};
 pub use laws::chains_apart_stay;
