@@ -147,11 +147,11 @@ renamed-keeps slot from to v walk h path number other at =
     let stays : moved_path from to path ≡ path = ap (λ b. cond b (to ++ drop (length from) path) path) other in
     subst (λ p. map.get (moved from to (without to tree)).paths p ≡ Some number) stays
     (went (without to tree) from to left
-        (λ e. true≢false (sym (begins_of to from to (ap (λ (f : Path). f ++ to) (sym e))) ∙ apart))
-        apart
-        (λ rest. nothing_below (without to tree) to rest left (without-absent tree to))
-        (λ front name e. without-directory tree to front v (λ same. longer_path front name (e ∙ sym same)) (passed_walk slot to front name walk e))
-        path number at)
+    (λ e. true≢false (sym (begins_of to from to (ap (λ (f : Path). f ++ to) (sym e))) ∙ apart))
+    apart
+    (λ rest. nothing_below (without to tree) to rest left (without-absent tree to))
+    (λ front name e. without-directory tree to front v (λ same. longer_path front name (e ∙ sym same)) (passed_walk slot to front name walk e))
+    path number at)
 
 -- a rename changes nothing where both paths lead to one number
 rename-valid : (slot : FilesetSlot) (from to : Path) → IsValidFileset slot.tree → first_refusal (target_refusal slot from ∷ walk_refusal slot to

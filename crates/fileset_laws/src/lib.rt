@@ -4,6 +4,6 @@
 mod laws;
 
 pub use laws::{
-    a_cut_leaves_zeros, no_filesets_are_valid, a_valid_tree_keeps_all_valid,
-    every_answer_keeps_all_valid,  what_was_written_is_read,
+    a_cut_leaves_zeros, a_valid_tree_keeps_all_valid, every_answer_keeps_all_valid,
+    no_filesets_are_valid, what_was_written_is_read,
 };

@@ -1,5 +1,5 @@
 -- An entry that does not touch a file leaves it.
-use Rattle.std.proofs.Common.{◌≡◌, ◌≢◌, ℕ, true, false, List, Option, Some, None, refl, sym, ap, subst, ◌∙◌, inl, inr, MatchOption, arith, cond, if◌then◌else◌, Bool, ◌∷◌, ◌++◌, []}
+use Rattle.std.proofs.Common.{◌≡◌, ◌≢◌, ℕ, true, false, List, Option, Some, None, refl, sym, ap, subst, ◌∙◌, inl, inr, MatchOption, arith, cond, if◌then◌else◌, ◌∷◌, ◌++◌, []}
 use Rattle.std.specs.FinMap as map
 use Rattle.std.specs.List.{Contains}
 use Rattle.fileset_model.specs.Apply.{Answers, Changes, MakesNode, answer_of, create_checks, filesets_full, flagged_node, has_clone, in_fileset, is_clone, is_named_elsewhere, link_checks, linked, links_full, move_checks, moved, name_taken, links_of, of_node, path_taken, quota_of, read_of, read_only, refusal_of, rename_checks, renamed, stat_of, truncated_node, with_change, with_node, with_tree, without, written_node}
@@ -20,7 +20,7 @@ use Rattle.std.specs.Cmp.{Equal-is}
 use Rattle.fileset_model.proofs.MapLemmas.{get-insert_other, get-remove_other, got-insert}
 use Rattle.fileset_model.proofs.SlotLemmas.{with_tree-at, with_tree-missing}
 use Rattle.history_model.specs.Changed.{at, at_and_below, changed_by, parent_of, removed_at}
-use Rattle.std.specs.Ordering.{eq_by_cmp, nat_cmp}
+use Rattle.std.specs.Ordering.{eq_by_cmp}
 use Rattle.std.specs.Cmp.{nat_cmp_total}
 use Rattle.fileset_model.specs.Fileset.{Fileset}
 use Rattle.fileset_model.specs.Orders.{Name, Path, name_cmp-total, name_cmp-IsAntisymmetric, path_cmp, path_cmp-total, path_cmp-IsAntisymmetric}
@@ -30,10 +30,10 @@ use Rattle.fileset_model.specs.declared.command.Command.TheVariants as command
 use Rattle.fileset_model.specs.declared.command.Place.{Place}
 use Rattle.fileset_model.specs.declared.entry.Entry.{Entry}
 use Rattle.fileset_model.specs.declared.fileset.FilesetSlot.{FilesetSlot}
-use Rattle.fileset_model.specs.declared.fileset.Role.TheVariants.{Original, CloneOf}
+use Rattle.fileset_model.specs.declared.fileset.Role.TheVariants.{Original}
 use Rattle.fileset_model.specs.declared.node.Node.{Node}
 use Rattle.history_model.specs.Marks.{GainsMarks, SlotGains}
-use Rattle.history_model.specs.Point.{Answered, Point}
+use Rattle.history_model.specs.Point.{Point}
 use Rattle.history_model.specs.State.{State}
 use Rattle.history_model.specs.Step.{MayBeMarked, Silent, Step, after_cancel}
 use Rattle.history_model.specs.Step.Silent.{marks, closes, log_leaves, upgrades}
@@ -66,12 +66,12 @@ same_filesets s new same = ap (λ (s : State). s.filesets) same
 striped_filesets : (place : Place) (s : State) → (with_stripe place s).filesets ≡ s.filesets
 striped_filesets place s = elim (map.get s.filesets place.fileset) as (λ o. (option_map_or (λ slot. option_map_or (λ number. record s { striped = set.insert s.striped (place.fileset, number) })
     (map.get slot.tree.paths place.path) s) o s).filesets ≡ s.filesets) [
-  | None ↦ refl
-  | Some slot ↦ elim (map.get slot.tree.paths place.path) as (λ o. (option_map_or (λ number. record s { striped = set.insert s.striped (place.fileset, number) }) o s).filesets ≡ s.filesets) [
-    | None ↦ refl
-    | Some number ↦ refl
-  ]
-]
+      | None ↦ refl
+      | Some slot ↦ elim (map.get slot.tree.paths place.path) as (λ o. (option_map_or (λ number. record s { striped = set.insert s.striped (place.fileset, number) }) o s).filesets ≡ s.filesets) [
+        | None ↦ refl
+        | Some number ↦ refl
+      ]
+    ]
 
 carried_filesets : (point : Point) (c : Command) (reply : Reply) (new : State) → Carries point c reply new → new.filesets ≡ point.state.filesets
 carried_filesets point command.Showfdmn reply new answer = same_filesets point.state new answer.0
@@ -218,7 +218,7 @@ module _ (place : Place) (number : ℕ) (node : Node) where
     change_keeps q change apart =
         let tree = has.slot.tree in
         elim (map.get tree.paths q) as (λ o. map.get tree.paths q ≡ o
-            → Keeps (option_map_or (λ n. option_map_or (λ x. record tree { nodes = map.insert tree.nodes n (change x) }) (map.get tree.nodes n) tree) o tree)) [
+        → Keeps (option_map_or (λ n. option_map_or (λ x. record tree { nodes = map.insert tree.nodes n (change x) }) (map.get tree.nodes n) tree) o tree)) [
           | None ↦ λ is. (has.leads, has.stands)
           | Some n ↦ λ is. elim (map.get tree.nodes n) as (λ o. Keeps (option_map_or (λ x. record tree { nodes = map.insert tree.nodes n (change x) }) o tree)) [
             | None ↦ (has.leads, has.stands)
@@ -233,8 +233,7 @@ module _ (place : Place) (number : ℕ) (node : Node) where
         elim (map.get tree.paths q) as (λ o. map.get tree.paths q ≡ o → Keeps (option_map_or (λ n. record tree { paths = map.remove tree.paths q; nodes = if is_named_elsewhere tree q n then tree.nodes else map.remove tree.nodes n }) o tree)) [
           | None ↦ λ is. (has.leads, has.stands)
           | Some n ↦ λ is.
-              let other : place.path ≢ q = λ same. apart n is (some_inj (sym has.leads ∙ ap (map.get tree.paths) same ∙ is)) in
-              (
+              let other : place.path ≢ q = λ same. apart n is (some_inj (sym has.leads ∙ ap (map.get tree.paths) same ∙ is)) in (
                 get-remove_other path_cmp-total path_cmp-IsAntisymmetric tree.paths q place.path other ∙ has.leads,
                 elim (is_named_elsewhere tree q n) as (λ b. map.get (if b then tree.nodes else map.remove tree.nodes n) number ≡ Some node) [
                   | true ↦ has.stands
@@ -258,8 +257,7 @@ module _ (place : Place) (number : ℕ) (node : Node) where
     -- a new node at a free path
     node_keeps : (q : Path) (n : ℕ) (x : Node) → map.get has.slot.tree.paths q ≡ None → map.get has.slot.tree.nodes n ≡ None → Keeps (with_node q n x has.slot.tree)
     node_keeps q n x free unused =
-        let tree = has.slot.tree in
-        (
+        let tree = has.slot.tree in (
           get-insert_other path_cmp-total path_cmp-IsAntisymmetric tree.paths q n place.path (λ same. none≢some number (sym free ∙ ap (map.get tree.paths) (sym same) ∙ has.leads)) ∙ has.leads,
           get-insert_other nat_cmp_total map.nat_cmp-IsAntisymmetric tree.nodes n x number (λ same. none≢some node (sym unused ∙ ap (map.get tree.nodes) (sym same) ∙ has.stands)) ∙ has.stands,
         )
@@ -279,8 +277,8 @@ module _ (place : Place) (number : ℕ) (node : Node) where
         let unused = unused_here old p.fileset here.0 makes.0 makes.1 here.1 in
         subst (Has place number node) (sym makes.2)
         (tree_keeps p.fileset _ (λ same.
-            let s = slot_is p.fileset here.0 here.1 same in
-            node_keeps p.path makes.0 x (subst (λ (s : FilesetSlot). map.get s.tree.paths p.path ≡ None) s free) (subst (λ (s : FilesetSlot). map.get s.tree.nodes makes.0 ≡ None) s unused)))
+        let s = slot_is p.fileset here.0 here.1 same in
+        node_keeps p.path makes.0 x (subst (λ (s : FilesetSlot). map.get s.tree.paths p.path ≡ None) s free) (subst (λ (s : FilesetSlot). map.get s.tree.nodes makes.0 ≡ None) s unused)))
 
     -- what lies at a path or below it is among what lies there
     not_below : (from : Path) → (Contains (at_and_below old place.fileset from) (place.fileset, number) → ⊥) → begins_with place.path from ≡ false
@@ -299,8 +297,8 @@ module _ (place : Place) (number : ℕ) (node : Node) where
         let checked : first_refusal (rename_checks from to has.slot) ≡ None = subst (λ (s : FilesetSlot). first_refusal (rename_checks from to s) ≡ None) (slot_is p.fileset here.0 here.1 same) here.2 in
         let valid = original_tree has.slot has.original (v.each place.fileset has.slot has.is) in
         elim (names_one tree from to) as (λ b. names_one tree from to ≡ b
-            → first_refusal (read_only has.slot ∷ target_refusal has.slot from ∷ walk_refusal has.slot to ∷ (if b then None else first_refusal (move_checks from to has.slot)) ∷ []) ≡ None
-            → Keeps (if b then tree else moved from to (without to tree))) [
+        → first_refusal (read_only has.slot ∷ target_refusal has.slot from ∷ walk_refusal has.slot to ∷ (if b then None else first_refusal (move_checks from to has.slot)) ∷ []) ≡ None
+        → Keeps (if b then tree else moved from to (without to tree))) [
           | true ↦ λ one h. (has.leads, has.stands)
           | false ↦ λ two h.
               let rest : Option Refusal = first_refusal (move_checks from to has.slot) in
@@ -308,14 +306,14 @@ module _ (place : Place) (number : ℕ) (node : Node) where
               let next = passed (target_refusal has.slot from) (walk_refusal has.slot to ∷ rest ∷ []) one.1 in
               let walk = passed (walk_refusal has.slot to) (rest ∷ []) next.1 in
               let changed : changed_by old (command.Rename p to) ≡ at_and_below old p.fileset from ++ at old p.fileset (parent_of from) ++ removed_at old p.fileset to =
-                  ap (λ b. if b then [] else at_and_below old p.fileset from ++ at old p.fileset (parent_of from) ++ removed_at old p.fileset to)
-                  (ap (λ o. option_map_or (λ (slot : FilesetSlot). names_one slot.tree from to) o false) (ap (map.get old) same ∙ has.is) ∙ two) in
+              ap (λ b. if b then [] else at_and_below old p.fileset from ++ at old p.fileset (parent_of from) ++ removed_at old p.fileset to)
+              (ap (λ o. option_map_or (λ (slot : FilesetSlot). names_one slot.tree from to) o false) (ap (map.get old) same ∙ has.is) ∙ two) in
               let apart = subst (λ l. Contains l (place.fileset, number) → ⊥) changed untouched in
               let replaced = without_keeps to (apart_at p.fileset to
-                  (λ c. apart (Contains-append_right (at_and_below old p.fileset from ++ at old p.fileset (parent_of from)) (removed_at old p.fileset to) _ (Contains-append_left (at old p.fileset to) (at old p.fileset (parent_of to)) _ c))) same) in
+              (λ c. apart (Contains-append_right (at_and_below old p.fileset from ++ at old p.fileset (parent_of from)) (removed_at old p.fileset to) _ (Contains-append_left (at old p.fileset to) (at old p.fileset (parent_of to)) _ c))) same) in
               let other : begins_with place.path from ≡ false =
-                  not_below from (λ c. apart (Contains-append_left (at_and_below old p.fileset from ++ at old p.fileset (parent_of from)) (removed_at old p.fileset to) _
-                      (Contains-append_left (at_and_below old p.fileset from) (at old p.fileset (parent_of from)) _ (subst (λ n. Contains (at_and_below old n from) (place.fileset, number)) (sym same) c)))) in
+              not_below from (λ c. apart (Contains-append_left (at_and_below old p.fileset from ++ at old p.fileset (parent_of from)) (removed_at old p.fileset to) _
+              (Contains-append_left (at_and_below old p.fileset from) (at old p.fileset (parent_of from)) _ (subst (λ n. Contains (at_and_below old n from) (place.fileset, number)) (sym same) c)))) in
               (renamed-keeps has.slot from to valid walk.0 (passed rest [] walk.1).0 place.path number other replaced.0, replaced.1)
         ] refl checked
 
@@ -379,12 +377,12 @@ module _ (place : Place) (number : ℕ) (node : Node) where
       → Leaves place (record { entry = e; before = before }) → Has place number node old → Has place number node new
   answer_keeps old new e before same v means leaves has =
       elim (refusal_of old e.command) as (λ o. refusal_of old e.command ≡ o
-          → MatchOption o ((e.reply ≡ answer_of old e.command) × Changes old e.command new) (λ refusal. (e.reply ≡ Refused refusal) × (new ≡ old)) → Has place number node new) [
+      → MatchOption o ((e.reply ≡ answer_of old e.command) × Changes old e.command new) (λ refusal. (e.reply ≡ Refused refusal) × (new ≡ old)) → Has place number node new) [
         | Some refusal ↦ λ some refused. subst (Has place number node) (sym refused.1) has
         | None ↦ λ none done.
             let acted : may_have_acted e.reply ≡ true = ap may_have_acted done.0 ∙ answer_acts old e.command in
             let there : Contains (at before.filesets place.fileset place.path) (place.fileset, number) =
-                subst (λ all. Contains (at all place.fileset place.path) (place.fileset, number)) (sym same) (rw (has.is, has.leads) (0, omega arith, refl)) in
+            subst (λ all. Contains (at all place.fileset place.path) (place.fileset, number)) (sym same) (rw (has.is, has.leads) (0, omega arith, refl)) in
             changes_keep old has new e.command v none done.1
             (λ changed. leaves.unchanged acted number there (subst (λ all. Contains (changed_by all e.command) (place.fileset, number)) (sym same) changed))
             (leaves.stays acted)

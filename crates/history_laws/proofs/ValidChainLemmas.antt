@@ -1,13 +1,11 @@
 -- A domain stays valid along a chain.
-use Rattle.std.proofs.Common.{◌≡◌, ◌≢◌, ℕ, ◌<◌, Bool, true, false, cond, min, not, ◌==◌, is_some, List, [], IsTrue, MatchOption, Option, Some, None, refl, sym, ap, subst, ◌∙◌, inl, inr, true≢false}
-use Rattle.std.specs.Option.{option_map, option_map_or}
-use Rattle.std.specs.Ordering.{eq_by_cmp, is_eq, nat_cmp}
-use Rattle.std.specs.Cmp.{nat_cmp_total, tied_itself}
+use Rattle.std.proofs.Common.{◌≡◌, ◌≢◌, ℕ, Bool, true, false, min, not, ◌==◌, is_some, List, [], IsTrue, MatchOption, Option, Some, None, refl, sym, ap, subst, ◌∙◌, inl, inr, true≢false}
+use Rattle.std.specs.Option.{option_map_or}
+use Rattle.std.specs.Cmp.{nat_cmp_total}
 use Rattle.std.specs.FinMap as map
 use Rattle.std.specs.FinSet as set
 use Rattle.std.proofs.lemmas.Bool.{eq-eqb, eqb-true}
 use Rattle.domain_base.specs.Version.{most_pages}
-use Rattle.fileset_model.specs.Filesets.{FilesetMap}
 use Rattle.fileset_model.specs.declared.command.Actor.{Actor}
 use Rattle.fileset_model.specs.declared.command.Actor.TheVariants.{Client, Mover}
 use Rattle.fileset_model.specs.declared.command.Command.{Command}
@@ -18,14 +16,14 @@ use Rattle.fileset_model.specs.declared.reply.Refusal.{Refusal}
 use Rattle.fileset_model.specs.declared.reply.Refusal.TheVariants.{NoVolume}
 use Rattle.fileset_model.specs.declared.reply.Reply.{Reply}
 use Rattle.fileset_model.specs.declared.reply.Reply.TheVariants.{Refused}
-use Rattle.fileset_model.specs.Paths.{first_refusal, refuse_if}
-use Rattle.fileset_model.proofs.MapLemmas.{get-insert_same, get-insert_other, get-remove_other, got-insert}
+use Rattle.fileset_model.specs.Paths.{refuse_if}
+use Rattle.fileset_model.proofs.MapLemmas.{get-remove_other, got-insert}
 use Rattle.fileset_laws.specs.Valid.{AreValid}
 use Rattle.fileset_laws.proofs.ValidAnswerLemmas.{answered-valid}
 use Rattle.fileset_laws.proofs.ValidLemmas.{passed, passed_test}
 use Rattle.history_model.specs.Legal.{Chain, IsForActor, Legal, MayFollow}
 use Rattle.history_model.specs.Legal.Chain.{stays, begin, silent, entry}
-use Rattle.history_model.specs.Point.{Job, Point, job_after, point_after, running_job, start_point}
+use Rattle.history_model.specs.Point.{Job, Point, job_after, running_job, start_point}
 use Rattle.history_model.specs.State.{Member, MemberMap, State}
 use Rattle.history_model.specs.Step.{MayBeMarked, Silent, Step, after_cancel}
 use Rattle.history_model.specs.Step.Silent.{marks, closes, log_leaves, upgrades}
@@ -53,13 +51,13 @@ open_is_member members vol is_open = elim (map.get members vol) as (λ o. IsTrue
 opened_volumes : (is_open : Bool) (vol : ℕ) (s : State) → SameVolumes s (with_open is_open vol s)
 opened_volumes is_open vol s v = elim (map.get s.members vol) as (λ o. map.get s.members vol ≡ o
     → map.contains_key (option_map_or (λ member. record s { members = map.insert s.members vol (record member { is_open = is_open }) }) o s).members v ≡ map.contains_key s.members v) [
-  | None ↦ λ is. refl
-  | Some member ↦ λ is. elim (got-insert nat_cmp_total map.nat_cmp-IsAntisymmetric s.members vol (record member { is_open = is_open }) v _ refl) as (λ _.
-      map.contains_key (map.insert s.members vol (record member { is_open = is_open })) v ≡ map.contains_key s.members v) [
-    | inl here ↦ ap is_some here.1 ∙ sym (ap is_some (ap (map.get s.members) here.0 ∙ is))
-    | inr other ↦ sym (ap is_some other.1)
-  ]
-] refl
+      | None ↦ λ is. refl
+      | Some member ↦ λ is. elim (got-insert nat_cmp_total map.nat_cmp-IsAntisymmetric s.members vol (record member { is_open = is_open }) v _ refl) as (λ _.
+          map.contains_key (map.insert s.members vol (record member { is_open = is_open })) v ≡ map.contains_key s.members v) [
+            | inl here ↦ ap is_some here.1 ∙ sym (ap is_some (ap (map.get s.members) here.0 ∙ is))
+            | inr other ↦ sym (ap is_some other.1)
+          ]
+    ] refl
 
 opened_log : (is_open : Bool) (vol : ℕ) (s : State) → (with_open is_open vol s).log_volume ≡ s.log_volume
 opened_log is_open vol s = elim (map.get s.members vol) as (λ o. (option_map_or (λ member. record s { members = map.insert s.members vol (record member { is_open = is_open }) }) o s).log_volume ≡ s.log_volume) [
@@ -69,9 +67,9 @@ opened_log is_open vol s = elim (map.get s.members vol) as (λ o. (option_map_or
 
 -- ---- a point at which a domain is valid, and the volumes are those at which its job began
 
-record IsValidPoint (point : Point) : Type 0 where
-  valid : IsValid point.state
-  volumes : (job : Job) → point.job ≡ Some job → SameVolumes job.began point.state
+pub record IsValidPoint (point : Point) : Type 0 where
+  pub valid : IsValid point.state
+  pub volumes : (job : Job) → point.job ≡ Some job → SameVolumes job.began point.state
 
 -- the log of a state is on a member
 abbrev HasLog : State → Type 0
@@ -116,13 +114,13 @@ striped_members : (place : Place) (s : State) → ((with_stripe place s).members
 striped_members place s = elim (map.get s.filesets place.fileset) as (λ o. ((option_map_or (λ slot. option_map_or (λ number. record s { striped = set.insert s.striped (place.fileset, number) })
     (map.get slot.tree.paths place.path) s) o s).members ≡ s.members) × ((option_map_or (λ slot. option_map_or (λ number. record s { striped = set.insert s.striped (place.fileset, number) })
     (map.get slot.tree.paths place.path) s) o s).log_volume ≡ s.log_volume)) [
-  | None ↦ (refl, refl)
-  | Some slot ↦ elim (map.get slot.tree.paths place.path) as (λ o. ((option_map_or (λ number. record s { striped = set.insert s.striped (place.fileset, number) }) o s).members ≡ s.members)
-      × ((option_map_or (λ number. record s { striped = set.insert s.striped (place.fileset, number) }) o s).log_volume ≡ s.log_volume)) [
-    | None ↦ (refl, refl)
-    | Some number ↦ (refl, refl)
-  ]
-]
+      | None ↦ (refl, refl)
+      | Some slot ↦ elim (map.get slot.tree.paths place.path) as (λ o. ((option_map_or (λ number. record s { striped = set.insert s.striped (place.fileset, number) }) o s).members ≡ s.members)
+          × ((option_map_or (λ number. record s { striped = set.insert s.striped (place.fileset, number) }) o s).log_volume ≡ s.log_volume)) [
+            | None ↦ (refl, refl)
+            | Some number ↦ (refl, refl)
+          ]
+    ]
 
 same_log : (s new : State) → new.members ≡ s.members → new.log_volume ≡ s.log_volume → HasLog s → HasLog new
 same_log s new members log has = ap (λ (m : MemberMap). map.contains_key m new.log_volume) members ∙ ap (map.contains_key s.members) log ∙ has
@@ -185,7 +183,7 @@ carried-log point c reply new v none answer = absurd answer
 volume-log : (point : Point) (c : Command) (reply : Reply) (new : State) → IsValidPoint point → VolumeReply point c reply new → HasLog new
 volume-log point c reply new v answer =
     elim (volume_refusal (judged_in point c) c) as (λ o. volume_refusal (judged_in point c) c ≡ o
-        → MatchOption o (Carries point c reply new) (λ refusal. (reply ≡ Refused refusal) × (new ≡ point.state)) → HasLog new) [
+    → MatchOption o (Carries point c reply new) (λ refusal. (reply ≡ Refused refusal) × (new ≡ point.state)) → HasLog new) [
       | None ↦ λ none carries. carried-log point c reply new v none carries
       | Some refusal ↦ λ some refused. same_state_log point.state new refused.1 v.valid.log_on_member
     ] refl answer
@@ -234,7 +232,7 @@ client-volumes : (point : Point) (e : Entry) (new : State) → is_movers e.comma
 client-volumes point e new client (applied mid means gains tight rest) vol = ap (λ (s : State). map.contains_key s.members vol) rest ∙ ap (λ (s : State). map.contains_key s.members vol) means.1
 client-volumes point e new client (on_volumes answer) vol =
     elim (volume_refusal (judged_in point e.command) e.command) as (λ o. MatchOption o (Carries point e.command e.reply new) (λ refusal. (e.reply ≡ Refused refusal) × (new ≡ point.state))
-        → map.contains_key new.members vol ≡ map.contains_key point.state.members vol) [
+    → map.contains_key new.members vol ≡ map.contains_key point.state.members vol) [
       | None ↦ λ carries. carried-volumes point e.command e.reply new client carries vol
       | Some refusal ↦ λ refused. ap (λ (s : State). map.contains_key s.members vol) refused.1
     ] answer
@@ -254,7 +252,7 @@ entry-volumes point e new v follows step (Client number) is job runs vol =
     client-volumes point e new (subst (λ a. IsForActor a e.command (running_job point)) is follows.actor) step vol ∙ v.volumes job runs vol
 entry-volumes point e new v follows step Mover is job runs vol = absurd (cc)
 
-chain-valid : (start : State) (point : Point) → IsValid start → Chain (start_point start) point → IsValidPoint point
+pub chain-valid : (start : State) (point : Point) → IsValid start → Chain (start_point start) point → IsValidPoint point
 chain-valid start _ v stays = record { valid = v; volumes = λ job is. absurd (cc) }
 chain-valid start _ v (begin {point} chain idle c movers) =
     let before = chain-valid start point v chain in

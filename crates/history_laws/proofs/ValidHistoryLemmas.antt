@@ -1,5 +1,5 @@
 -- What is always so stays so along a legal history.
-use Rattle.std.proofs.Common.{◌≡◌, ◌≢◌, ℕ, zero, ◌≤◌, ◌<◌, Bool, true, false, cond, is_some, List, [], ◌∷◌, length, take, IsTrue, IsSomeAnd, unwrap_or, Option, Some, None, refl, sym, ap, subst, ◌∙◌, inl, inr, arith, length-take, take-take, true≢false}
+use Rattle.std.proofs.Common.{◌≡◌, ℕ, zero, ◌≤◌, ◌<◌, true, false, length, take, IsTrue, IsSomeAnd, unwrap_or, Option, Some, None, refl, sym, ap, subst, ◌∙◌, arith, length-take, take-take, true≢false}
 use Rattle.std.specs.Option.{option_map, option_map_or}
 use Rattle.std.specs.FinMap as map
 use Rattle.domain_base.specs.Limits.{max_filesets}
@@ -104,9 +104,9 @@ module _ (old new : FilesetMap) (follow : AllFollow old new) where
   as_many : map.len new ≡ map.len old
   as_many =
       let keys : images name_cmp key_alone (map.entries new) ≡ images name_cmp key_alone (map.entries old) =
-          sym (ap (images name_cmp key_alone) (where_all name_cmp (map.entries new)))
-          ∙ same_images name_cmp name_cmp-total name_cmp-IsAntisymmetric key_alone key_alone (λ _. true) new old (λ q _. same q)
-          ∙ ap (images name_cmp key_alone) (where_all name_cmp (map.entries old)) in
+      sym (ap (images name_cmp key_alone) (where_all name_cmp (map.entries new)))
+      ∙ same_images name_cmp name_cmp-total name_cmp-IsAntisymmetric key_alone key_alone (λ _. true) new old (λ q _. same q)
+      ∙ ap (images name_cmp key_alone) (where_all name_cmp (map.entries old)) in
       map.len-entries new ∙ sym (length-map (map.entries new) (λ (e : Name × FilesetSlot). (e.0, zero))) ∙ ap length keys
       ∙ length-map (map.entries old) (λ (e : Name × FilesetSlot). (e.0, zero)) ∙ sym (map.len-entries old)
     where

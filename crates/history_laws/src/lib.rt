@@ -7,7 +7,11 @@ ghost use Rattle.fileset_model.specs.LooksLike.{LooksLike};
 ghost use Rattle.fileset_model.specs.Filesets.{FilesetMap};
 ghost use Rattle.fileset_model.specs.declared.entry.Entry.{Entry};
 ghost use Rattle.fileset_model.specs.Apply.{answer_of, refusal_of};
+ghost use Rattle.fileset_model.specs.declared.command.Place.{Place};
+ghost use Rattle.fileset_model.specs.declared.node.Node.{Node};
+ghost use Rattle.history_model.specs.AfterStop.{AfterStop};
 ghost use Rattle.history_model.specs.Legal.{Legal};
+ghost use Rattle.history_model.specs.Synced.{IsSynced, StandsAt};
 ghost use Rattle.history_model.specs.PlainRun.{IsClients, IsInside, MarkedRun, PlainRun, is_of_filesets};
 ghost use Rattle.history_model.specs.State.{State};
 ghost use Rattle.history_laws.specs.Valid.{IsValid};
@@ -41,4 +45,12 @@ pub fn filesets_that_look_alike_answer_alike()
 /// The state after each legal history that began in a valid one is valid.
 pub fn every_legal_history_ends_valid()
     ensures { (start end : State) (history : List Entry) (job : Option Command) → IsValid start → Legal start history job end → IsValid end }
+{}
+
+/// A file that was synced by a call, and that nothing touched since, is found as it was in every
+/// state that a stop at or after that call may leave.
+pub fn a_synced_file_outlasts_a_stop()
+    ensures { (start : State) (history : List Entry) (job : Option Command) (t : ℕ) (filesets : FilesetMap)
+        (stop : AfterStop start history job t filesets) (place : Place) (node : Node)
+        → IsValid start → IsSynced stop.end.past t place node → StandsAt filesets place node }
 {}
