@@ -8,7 +8,7 @@ use Rattle.std.specs.Option.{option_map_or}
 use Rattle.std.specs.Result.{OkIff}
 use Rattle.std.specs.Str.{bytes_eq}
 use Rattle.std.specs.Str.Parse.{ParsesUnsigned, digits_value}
-use Rattle.script_text.specs.Forms.{number_below}
+use Rattle.word_forms.specs.Forms.{number_below}
 use Rattle.advfs_run.specs.Usage.{are_plain_digits, form_of, in_range, pages_of, try_form}
 
 decimals : IsNumeralModel (λ ds. list_all is_ascii_digit ds ≡ true) (digits_value 10)

@@ -1,5 +1,5 @@
 -- Histories over filesets without volumes.
-use Rattle.std.specs.Prelude.{◌≡◌, ℕ, ◌==◌, if◌then◌else◌, None, List, [], ◌∷◌, ◌++◌, map as map_list, All}
+use Rattle.std.specs.Prelude.{◌≡◌, ℕ, ◌==◌, if◌then◌else◌, None, List, [], ◌∷◌, ◌++◌, map as map_list, filter, All}
 use Rattle.std.specs.FinMap as map
 use Rattle.std.specs.List.{flat_map}
 use Rattle.std.specs.Option.{option_map_or}
@@ -47,9 +47,15 @@ pub record GoesOn (turns : List Turn) (stamp : ℕ) (old : List Entry) (all : Fi
   pub stamps : All (λ e. e.stamp ≡ stamp) old → All (λ e. e.stamp ≡ stamp) new
   pub plain : (first : FilesetMap) → Plain first old all → Plain first new all'
 
--- a history answers a script's client sections over filesets that begin with none
+-- for each client, the same sections in the same order
+abbrev pub SameByNumber : List Section → List Section → Type 0
+SameByNumber sections others = (n : ℕ) → filter (λ section. n == section.number) others ≡ filter (λ section. n == section.number) sections
+
+-- a history answers a script's client sections, one section after another, over filesets that begin with none
 pub record AnswersScript (script : Script) (stamp : ℕ) (history : List Entry) : Type 0 where
-  pub turns_are : map_list turn_of history ≡ flat_map turns_of script.clients
+  pub sections : List Section
+  pub same : SameByNumber script.clients sections
+  pub turns_are : map_list turn_of history ≡ flat_map turns_of sections
   pub clients : All IsClients history
   pub stamps : All (λ e. e.stamp ≡ stamp) history
   pub all : FilesetMap
