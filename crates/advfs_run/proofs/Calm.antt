@@ -6,11 +6,11 @@ use Rattle.std.specs.List.{All, Contains}
 use Rattle.std.specs.Option.{option_map_or}
 use Rattle.std.specs.FinMap as finite
 use Rattle.domain_base.specs.declared.limits.TheConstants.{BLOCKS_PER_PAGE, FILE_BYTES}
-use Rattle.fileset_model.specs.Apply.{AnswersIfMemory, Changes, answer_of, create_checks, filesets_full, has_clone, in_fileset, is_clone, move_checks, name_taken, not_empty, of_node, out_of_sync, quota_of, read_checks, read_of, read_only, refusal_of, rename_checks, replace_checks, stat_of, write_checks, write_quota}
+use Rattle.fileset_model.specs.Apply.{AnswersIfMemory, Changes, answer_of, create_checks, filesets_full, has_clone, in_fileset, is_clone, link_checks, links_of, move_checks, name_taken, not_empty, of_node, out_of_sync, quota_of, read_checks, read_of, read_only, refusal_of, rename_checks, replace_checks, stat_of, write_checks, write_quota}
 use Rattle.fileset_model.specs.Fileset.{Fileset}
 use Rattle.fileset_model.specs.Orders.{Name, Path}
 use Rattle.fileset_model.specs.Pages.{absent_pages}
-use Rattle.fileset_model.specs.Paths.{directories_to, directory_here, directory_refusal, file_here, first_refusal, is_directory, is_marked, node_at, refuse_if, rows_of, same_path, target_refusal, walk_refusal}
+use Rattle.fileset_model.specs.Paths.{directories_to, directory_here, directory_refusal, file_here, first_refusal, is_directory, is_marked, names_one, node_at, paths_to, refuse_if, rows_of, target_refusal, walk_refusal}
 use Rattle.fileset_model.specs.State.{FilesetMap}
 use Rattle.fileset_model.specs.Usage.{blocks_refusal, files_refusal, quota_refusal}
 use Rattle.fileset_model.specs.declared.command.Command.{Command}
@@ -131,10 +131,15 @@ renamed from to slot = (
     target slot from,
     (
       walk slot to,
-      (chosen (same_path from to) None (first_refusal (move_checks from to slot)) tt (first (move_checks from to slot) (moves from to slot)), tt),
+      (chosen (names_one slot.tree from to) None (first_refusal (move_checks from to slot)) tt (first (move_checks from to slot) (moves from to slot)), tt),
     ),
   ),
 )
+
+linked : (path to : Path) (slot : FilesetSlot) → Checks (link_checks path to slot)
+unfolding IsCalm Check Checks
+linked path to slot =
+    (refused_if _ _ tt, (target slot path, (refused_if _ _ tt, (walk slot to, (refused_if _ _ tt, (refused_if _ _ tt, tt))))))
 
 writes : (path : Path) (offset : ℕ) (bytes : List ℕ) (slot : FilesetSlot) → Checks (write_checks path offset bytes slot)
 unfolding IsCalm Check Checks
@@ -170,6 +175,9 @@ refusals all (command.Truncate place size) =
     in_one all place.fileset (λ slot. read_only slot ∷ target_refusal slot place.path ∷ directory_here slot place.path ∷ refuse_if (nat_lt FILE_BYTES size) TooFar ∷ [])
     (λ slot. (refused_if _ _ tt, (target slot place.path, (refused_if _ _ tt, (refused_if _ _ tt, tt)))))
 refusals all (command.Rename place to) = in_one all place.fileset (rename_checks place.path to) (renamed place.path to)
+refusals all (command.Link place to) = in_one all place.fileset (link_checks place.path to) (linked place.path to)
+refusals all (command.Links place) =
+    in_one all place.fileset (read_checks place.path) (λ slot. (target slot place.path, (refused_if _ _ tt, (refused_if _ _ tt, tt))))
 refusals all (command.Unlink place) =
     in_one all place.fileset (λ slot. read_only slot ∷ target_refusal slot place.path ∷ directory_here slot place.path ∷ [])
     (λ slot. (refused_if _ _ tt, (target slot place.path, (refused_if _ _ tt, tt))))
@@ -212,6 +220,9 @@ answers all (command.Read place offset count) = of_one all place (λ tree. read_
 answers all (command.Stat place) = of_one all place (λ tree. stat_of tree place.path) (λ tree. stats tree place.path)
 answers all (command.List place) =
     map_or IsCalmReply (λ slot. reply.Names (rows_of slot.tree place.path)) (finite.get all place.fileset) reply.Done (λ slot. tt) tt
+answers all (command.Links place) =
+    map_or IsCalmReply (λ slot. links_of place.path slot.tree) (finite.get all place.fileset) reply.Done
+    (λ slot. map_or IsCalmReply (λ number. reply.Count (paths_to slot.tree number)) (finite.get slot.tree.paths place.path) reply.Done (λ number. tt) tt) tt
 answers all (command.Showquota fileset who) = map_or IsCalmReply (λ slot. quota_of slot.tree who) (finite.get all fileset) reply.Done (λ slot. tt) tt
 answers all c = tt
 
