@@ -70,6 +70,13 @@ impl PageMap {
         Ok(bytes)
     }
 
+    /// Whether page `q` is there.
+    pub fn contains(&self, q: u64) -> bool
+        ensures { result ≡ map.contains_key self.now q }
+    {
+        !is_absent(&self.pages, q)
+    }
+
     /// The numbers of the pages that are there, in rising order.
     pub fn numbers(&self, alloc: Global) -> Result<Vec<u64>, OutOfMemory>
         ensures { IfOk result (λ numbers. numbers.items ≡ map.keys self.now) }
