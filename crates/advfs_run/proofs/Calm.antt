@@ -11,7 +11,7 @@ use Rattle.fileset_model.specs.Fileset.{Fileset}
 use Rattle.fileset_model.specs.Orders.{Name, Path}
 use Rattle.fileset_model.specs.Pages.{absent_pages}
 use Rattle.fileset_model.specs.Paths.{directories_to, directory_here, directory_refusal, file_here, first_refusal, is_directory, is_marked, names_one, node_at, paths_to, refuse_if, rows_of, target_refusal, walk_refusal}
-use Rattle.fileset_model.specs.State.{FilesetMap}
+use Rattle.fileset_model.specs.Filesets.{FilesetMap}
 use Rattle.fileset_model.specs.Usage.{blocks_refusal, files_refusal, quota_refusal}
 use Rattle.fileset_model.specs.declared.command.Command.{Command}
 use Rattle.fileset_model.specs.declared.command.Command.TheVariants as command
@@ -138,8 +138,7 @@ renamed from to slot = (
 
 linked : (path to : Path) (slot : FilesetSlot) → Checks (link_checks path to slot)
 unfolding IsCalm Check Checks
-linked path to slot =
-    (refused_if _ _ tt, (target slot path, (refused_if _ _ tt, (walk slot to, (refused_if _ _ tt, (refused_if _ _ tt, tt))))))
+linked path to slot = (refused_if _ _ tt, (target slot path, (refused_if _ _ tt, (walk slot to, (refused_if _ _ tt, (refused_if _ _ tt, tt))))))
 
 writes : (path : Path) (offset : ℕ) (bytes : List ℕ) (slot : FilesetSlot) → Checks (write_checks path offset bytes slot)
 unfolding IsCalm Check Checks
@@ -214,15 +213,18 @@ unfolding IsCalmReply
 stats tree path (File uid gid size logged pages) = tt
 stats tree path (Directory uid gid) = tt
 
+counts : (path : Path) (tree : Fileset) → IsCalmReply (links_of path tree)
+unfolding IsCalmReply
+counts path tree = map_or IsCalmReply (λ number. reply.Count (paths_to tree number)) (finite.get tree.paths path) reply.Done (λ number. tt) tt
+
 answers : (all : FilesetMap) (c : Command) → IsCalmReply (answer_of all c)
 unfolding IsCalmReply
 answers all (command.Read place offset count) = of_one all place (λ tree. read_of offset count) (λ tree. reads offset count)
 answers all (command.Stat place) = of_one all place (λ tree. stat_of tree place.path) (λ tree. stats tree place.path)
+answers all (command.Links place) =
+    map_or IsCalmReply (λ slot. links_of place.path slot.tree) (finite.get all place.fileset) reply.Done (λ slot. counts place.path slot.tree) tt
 answers all (command.List place) =
     map_or IsCalmReply (λ slot. reply.Names (rows_of slot.tree place.path)) (finite.get all place.fileset) reply.Done (λ slot. tt) tt
-answers all (command.Links place) =
-    map_or IsCalmReply (λ slot. links_of place.path slot.tree) (finite.get all place.fileset) reply.Done
-    (λ slot. map_or IsCalmReply (λ number. reply.Count (paths_to slot.tree number)) (finite.get slot.tree.paths place.path) reply.Done (λ number. tt) tt) tt
 answers all (command.Showquota fileset who) = map_or IsCalmReply (λ slot. quota_of slot.tree who) (finite.get all fileset) reply.Done (λ slot. tt) tt
 answers all c = tt
 

@@ -10,7 +10,8 @@ use Rattle.fileset_model.specs.Legal.Chain.{none as no_entry, entry as one_more}
 use Rattle.fileset_model.specs.Legal.Step.{applied, out_of_memory}
 use Rattle.fileset_model.specs.Orders.{Name}
 use Rattle.fileset_model.specs.Room.{room}
-use Rattle.fileset_model.specs.State.{FilesetMap, empty_state}
+use Rattle.fileset_model.specs.Filesets.{FilesetMap}
+use Rattle.history_model.specs.State.{empty_state}
 use Rattle.fileset_model.specs.declared.command.Actor.{Actor}
 use Rattle.fileset_model.specs.declared.command.Actor.TheVariants.{Client, Mover}
 use Rattle.fileset_model.specs.declared.entry.Entry.{Entry}

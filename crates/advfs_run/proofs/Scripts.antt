@@ -1,17 +1,17 @@
 -- Histories that answer a script.
-use Rattle.std.proofs.Common.{◌≡◌, ℕ, Option, Some, None, Ok, Err, unwrap_or, Bool, true, false, cond, eqb, List, [], ◌∷◌, ◌++◌, map, filter, refl, sym, ap, subst, ◌∙◌, arith}
-use Rattle.std.proofs.lemmas.List.{map-append}
+use Rattle.std.proofs.Common.{◌≡◌, ℕ, ◌≤◌, Option, Some, None, Ok, Err, unwrap_or, Bool, true, false, cond, eqb, List, [], ◌∷◌, ◌++◌, length, map, filter, refl, sym, ap, subst, ◌∙◌, arith, length-append}
+use Rattle.std.proofs.lemmas.List.{append-nil, map-append, nil_from_length}
 use Rattle.std.proofs.lemmas.List.Elements.{All-nil, filter-append}
 use Rattle.std.proofs.lemmas.Simd.{map-map}
 use Rattle.std.specs.FinMap as finite
-use Rattle.std.specs.Option.{option_map, option_map_or}
+use Rattle.std.specs.Option.{option_map, option_map_or, option_to_list}
 use Rattle.std.specs.Str.Lines.{lines}
 use Rattle.std.specs.List.{flat_map}
 use Rattle.std.specs.List.Sorted.{IsStableByKey, ties}
 use Rattle.std.specs.Ordering.{is_lt, nat_cmp}
 use Rattle.std.proofs.lemmas.Bool.Decides.{nat_tests}
 use Rattle.fileset_model.specs.Shuffle.{Shuffle, commands_of, same_actor}
-use Rattle.fileset_model.specs.State.{FilesetMap}
+use Rattle.fileset_model.specs.Filesets.{FilesetMap}
 use Rattle.fileset_model.specs.declared.command.Actor.{Actor}
 use Rattle.fileset_model.specs.declared.command.Actor.TheVariants.{Client, Mover}
 use Rattle.fileset_model.specs.declared.command.Command.{Command}

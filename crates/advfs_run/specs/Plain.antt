@@ -5,7 +5,8 @@ use Rattle.std.specs.List.{flat_map}
 use Rattle.std.specs.Option.{option_map_or}
 use Rattle.fileset_model.specs.Apply.{AnswersIfMemory}
 use Rattle.fileset_model.specs.Legal.{Legal}
-use Rattle.fileset_model.specs.State.{FilesetMap, empty_state}
+use Rattle.fileset_model.specs.Filesets.{FilesetMap}
+use Rattle.history_model.specs.State.{empty_state}
 use Rattle.fileset_model.specs.declared.command.Actor.{Actor}
 use Rattle.fileset_model.specs.declared.command.Actor.TheVariants.{Client, Mover}
 use Rattle.fileset_model.specs.declared.command.Command.{Command}

@@ -1,7 +1,6 @@
 pub mod ValidAnswerLemmas
 pub mod ValidCheckLemmas
 pub mod ValidCountLemmas
-pub mod ValidHistoryLemmas
 pub mod ValidLemmas
 pub mod ValidMoveLemmas
 pub mod ValidPageLemmas
@@ -9,3 +8,4 @@ pub mod ValidSetLemmas
 pub mod ValidTreeLemmas
 pub mod ByteLemmas
 pub mod CutLemmas
+pub mod LooksLemmas

@@ -1,5 +1,5 @@
 -- Each command that is answered keeps all filesets valid.
-use Rattle.std.proofs.Common.{◌≡◌, ◌≢◌, ℕ, ◌+◌, ◌<◌, ◌≤◌, Bool, true, false, cond, ◌||◌, nat_le, nat_lt, is_some, List, [], ◌∷◌, ◌++◌, length, length-append, MatchOption, Option, Some, None, refl, sym, ap, subst, ◌∙◌, inl, inr, true≢false, leb-false, ltb-false, arith, if◌then◌else◌}
+use Rattle.std.proofs.Common.{◌≡◌, ◌≢◌, ℕ, ◌+◌, ◌<◌, ◌≤◌, Bool, true, false, cond, ◌||◌, nat_le, nat_lt, is_some, List, [], ◌∷◌, ◌++◌, drop, length, length-append, MatchOption, Option, Some, None, refl, sym, ap, subst, ◌∙◌, inl, inr, true≢false, leb-false, ltb-false, arith, if◌then◌else◌}
 use Rattle.std.specs.Option.{option_map_or}
 use Rattle.std.specs.Cmp.Lexicographic.{bytes_decides}
 use Rattle.std.specs.FinMap as map
@@ -8,9 +8,10 @@ use Rattle.fileset_model.specs.Orders.{Name, Path}
 use Rattle.fileset_model.specs.Fileset.{Fileset}
 use Rattle.domain_base.specs.Limits.{max_links}
 use Rattle.fileset_model.specs.Paths.{begins_with, directory_here, file_here, first_refusal, is_directory, names_one, node_at, paths_to, refuse_if, target_refusal, walk_refusal}
-use Rattle.fileset_model.specs.State.{AreValid, FilesetMap, HasWholePages, IsValidFileset}
+use Rattle.fileset_model.specs.Filesets.{FilesetMap}
+use Rattle.fileset_laws.specs.Valid.{AreValid, HasWholePages, IsValidFileset}
 use Rattle.fileset_model.specs.Usage.{quota_refusal, with_limits}
-use Rattle.fileset_model.specs.Apply.{Answers, AnswersIfMemory, Changes, IsUnused, MakesNode, answer_of, create_checks, filesets_full, flagged_node, has_clone, in_fileset, is_clone, is_clone_of, linked, links_full, move_checks, moved, renamed, name_taken, not_empty, path_taken, read_only, refusal_of, replace_checks, truncated_node, with_change, with_node, with_tree, without, write_quota, written_node}
+use Rattle.fileset_model.specs.Apply.{Answers, AnswersIfMemory, Changes, IsUnused, MakesNode, answer_of, create_checks, filesets_full, flagged_node, has_clone, in_fileset, is_clone, is_clone_of, linked, links_full, move_checks, moved, renamed, name_taken, not_empty, path_taken, read_only, refusal_of, replace_checks, truncated_node, with_change, with_node, with_tree, without, write_quota, written_node, moved_path}
 use Rattle.fileset_model.specs.declared.command.Command.{Command}
 use Rattle.fileset_model.specs.declared.command.Command.TheVariants.{Mkfset, Rmfset, Clonefset, Showfsets, Setquota, Showquota, Create, Mkdir, Write, Read, Truncate, Rename, Link, Links, Unlink, Rmdir, List as ListNames, Stat, Fsync, Chfile, Sync, Cancel}
 use Rattle.fileset_model.specs.declared.command.Place.{Place}
@@ -23,9 +24,9 @@ use Rattle.fileset_model.specs.declared.reply.Refusal.{Refusal}
 use Rattle.fileset_model.specs.declared.reply.Refusal.TheVariants.{CloneOfClone, FilesetExists, FilesetsFull, HasClone, IntoItself, IsDirectory, LinksFull, ReadOnly, TooFar}
 use Rattle.fileset_model.specs.declared.reply.Reply.{Reply}
 use Rattle.fileset_model.specs.declared.reply.Reply.TheVariants.{Refused}
-use Rattle.fileset_laws.proofs.ValidLemmas.{passed, passed_in, passed_test, with_tree-valid}
+use Rattle.fileset_laws.proofs.ValidLemmas.{original_tree, passed, passed_in, passed_test, with_tree-valid}
 use Rattle.fileset_laws.proofs.ValidCheckLemmas.{IsLeaf, absent, leaf_empty, leaf_file, passed_free, passed_walk}
-use Rattle.fileset_laws.proofs.ValidMoveLemmas.{begins_of, moved-valid}
+use Rattle.fileset_laws.proofs.ValidMoveLemmas.{begins_of, moved-valid, went}
 use Rattle.fileset_laws.proofs.ValidPageLemmas.{truncated-whole, written-whole}
 use Rattle.fileset_laws.proofs.ValidSetLemmas.{clone-joins, insert-valid, new-joins, remove-valid}
 use Rattle.fileset_laws.proofs.ValidTreeLemmas.{directory_of, linked-valid, nothing_below, some≢none, with_change-valid, with_limits-valid, with_node-valid, without-absent, without-directory, without-valid}
@@ -49,11 +50,12 @@ tree_changes-valid all new name checks change v none valid is =
     let at = passed_in all name (λ slot. read_only slot ∷ checks slot) none in
     let slot = at.0 in
     let both = passed (read_only slot) (checks slot) at.2 in
-    subst AreValid (sym is) (with_tree-valid all name slot change v at.1 (is_original slot both.0) (valid slot at.1 (v.each name slot at.1) both.1))
+    let original = is_original slot both.0 in
+    subst AreValid (sym is) (with_tree-valid all name slot change v at.1 original (valid slot at.1 (original_tree slot original (v.each name slot at.1)) both.1))
 
 -- ---- a new file or directory
 
-unused_here : (all : FilesetMap) (name : Name) (slot : FilesetSlot) (number : ℕ) → IsUnused all name number → map.get all name ≡ Some slot → map.get slot.tree.nodes number ≡ None
+pub unused_here : (all : FilesetMap) (name : Name) (slot : FilesetSlot) (number : ℕ) → IsUnused all name number → map.get all name ≡ Some slot → map.get slot.tree.nodes number ≡ None
 unused_here all name slot number unused is = unused name slot is (ap (λ b. b || is_clone_of name slot.role) ((bytes_decides name name).1 refl))
 
 makes-valid : (all new : FilesetMap) (place : Place) (uid gid : ℕ) (node : Node) → AreValid all → in_fileset all place.fileset (create_checks place.path uid gid) ≡ None
@@ -131,6 +133,26 @@ renamed-valid slot from to v walk h =
     (λ rest. nothing_below (without to tree) to rest left (without-absent tree to))
     (λ front name e. without-directory tree to front v (λ same. longer_path front name (e ∙ sym same)) (passed_walk slot to front name walk e))
 
+-- what does not begin with the first path, and is not replaced, stays where it is
+pub renamed-keeps : (slot : FilesetSlot) (from to : Path) → IsValidFileset slot.tree → walk_refusal slot to ≡ None → first_refusal (move_checks from to slot) ≡ None
+    → (path : Path) (number : ℕ) → begins_with path from ≡ false → map.get (without to slot.tree).paths path ≡ Some number
+    → map.get (moved from to (without to slot.tree)).paths path ≡ Some number
+renamed-keeps slot from to v walk h path number other at =
+    let tree = slot.tree in
+    let second : Option Refusal = if map.contains_key tree.paths to then first_refusal (replace_checks from to slot) else None in
+    let both = passed (refuse_if (begins_with to from) IntoItself) (second ∷ []) h in
+    let apart : begins_with to from ≡ false = passed_test (begins_with to from) IntoItself both.0 in
+    let leaf = replaced_leaf slot from to v (passed second [] both.1).0 in
+    let left : IsValidFileset (without to tree) = without-valid tree to v leaf.no_root leaf.alone in
+    let stays : moved_path from to path ≡ path = ap (λ b. cond b (to ++ drop (length from) path) path) other in
+    subst (λ p. map.get (moved from to (without to tree)).paths p ≡ Some number) stays
+    (went (without to tree) from to left
+    (λ e. true≢false (sym (begins_of to from to (ap (λ (f : Path). f ++ to) (sym e))) ∙ apart))
+    apart
+    (λ rest. nothing_below (without to tree) to rest left (without-absent tree to))
+    (λ front name e. without-directory tree to front v (λ same. longer_path front name (e ∙ sym same)) (passed_walk slot to front name walk e))
+    path number at)
+
 -- a rename changes nothing where both paths lead to one number
 rename-valid : (slot : FilesetSlot) (from to : Path) → IsValidFileset slot.tree → first_refusal (target_refusal slot from ∷ walk_refusal slot to
     ∷ (if names_one slot.tree from to then None else first_refusal (move_checks from to slot)) ∷ []) ≡ None → IsValidFileset (renamed from to slot.tree)
@@ -165,7 +187,7 @@ link-valid slot path to v passes =
 
 -- ---- filesets
 
-free_name : (all : FilesetMap) (name : Name) → name_taken all name ≡ None → map.get all name ≡ None
+pub free_name : (all : FilesetMap) (name : Name) → name_taken all name ≡ None → map.get all name ≡ None
 free_name all name h = absent (map.get all name) (passed_test (map.contains_key all name) FilesetExists h)
 
 has_room : (all : FilesetMap) → filesets_full all ≡ None → map.len all < 16

@@ -12,7 +12,7 @@ use Rattle.std.specs.FinMap.Entries.{find}
 use Rattle.fileset_model.specs.Orders.{Name, Path, path_cmp, path_cmp-IsAntisymmetric}
 use Rattle.fileset_model.specs.Fileset.{Fileset}
 use Rattle.fileset_model.specs.Paths.{directory_here, directory_refusal, first_refusal, is_directory, is_marked, name_below, node_at, refuse_if, rows_of, target_refusal, walk_refusal}
-use Rattle.fileset_model.specs.State.{IsDirectoryAt, IsValidFileset}
+use Rattle.fileset_laws.specs.Valid.{IsDirectoryAt, IsValidFileset}
 use Rattle.fileset_model.specs.Apply.{not_empty, path_taken}
 use Rattle.fileset_model.specs.declared.fileset.FilesetSlot.{FilesetSlot}
 use Rattle.fileset_model.specs.declared.reply.NameItem.{NameItem}

@@ -1,11 +1,12 @@
 -- What is always so of filesets stays so under a change of one of them.
-use Rattle.std.proofs.Common.{IsTrue, ℕ, ◌≡◌, ◌+◌, Bool, true, false, cond, Option, Some, None, is_some, IsSomeAnd, List, ◌∷◌, refl, sym, ap, subst, ◌∙◌, inl, inr}
+use Rattle.std.proofs.Common.{◌≡◌, ◌+◌, Bool, true, false, cond, Option, Some, None, is_some, IsSomeAnd, List, ◌∷◌, refl, sym, ap, subst, ◌∙◌, inl, inr}
 use Rattle.std.specs.Option.{option_map_or}
 use Rattle.std.specs.FinMap as map
 use Rattle.fileset_model.specs.Orders.{Name, name_cmp-total, name_cmp-IsAntisymmetric}
 use Rattle.fileset_model.specs.Fileset.{Fileset}
 use Rattle.fileset_model.specs.Paths.{first_refusal, refuse_if}
-use Rattle.fileset_model.specs.State.{AreValid, FilesetMap, IsValidFileset}
+use Rattle.fileset_model.specs.Filesets.{FilesetMap}
+use Rattle.fileset_laws.specs.Valid.{AreValid, IsValidAs, IsValidFileset, IsValidSlot}
 use Rattle.fileset_model.specs.Apply.{in_fileset, with_tree}
 use Rattle.fileset_model.specs.declared.fileset.FilesetSlot.{FilesetSlot}
 use Rattle.fileset_model.specs.declared.fileset.Role.TheVariants.{Original, CloneOf}
@@ -66,6 +67,15 @@ same_roles-one_clone all new v back p q original s t out out' fp fq rp rq =
     let bq = back q t fq in
     v.one_clone p q original bp.0 bq.0 out out' bp.1 bq.1 (sym bp.2 ∙ rp) (sym bq.2 ∙ rq)
 
+-- ---- originals
+
+-- an original is valid where its tree is
+pub as_original : (slot : FilesetSlot) → slot.role ≡ Original → IsValidFileset slot.tree → IsValidSlot slot
+as_original slot original tree = subst (λ r. IsValidAs r slot) (sym original) tree
+
+pub original_tree : (slot : FilesetSlot) → slot.role ≡ Original → IsValidSlot slot → IsValidFileset slot.tree
+original_tree slot original valid = subst (λ r. IsValidAs r slot) original valid
+
 -- ---- a change of one tree
 
 -- a valid tree in the place of an original's keeps all filesets valid
@@ -90,14 +100,10 @@ with_tree-valid all name slot change v is original tree =
       few = let there : map.contains_key all name ≡ true = ap is_some is in
           let same : map.len (map.insert all name slot') ≡ map.len all = map.len-insert o all name slot' ∙ ap (λ b. cond b (map.len all) (map.len all + 1)) there in
           rw same v.few;
-      each = λ q s found. elim (got-insert o a all name slot' q _ found) as (λ _. IsValidFileset s.tree) [
-        | inl here ↦ subst (λ (t : FilesetSlot). IsValidFileset t.tree) (sym (some_inj here.1)) tree
+      each = λ q s found. elim (got-insert o a all name slot' q _ found) as (λ _. IsValidSlot s) [
+        | inl here ↦ subst IsValidSlot (sym (some_inj here.1)) (as_original slot' original tree)
         | inr other ↦ v.each q s other.1
       ];
       originals = same_roles-originals all new v back on;
-      marks = λ q of s out found role. elim (got-insert o a all name slot' q _ found) as (λ _. (number : ℕ) → IsTrue (map.contains_key out number) → IsTrue (map.contains_key s.tree.nodes number)) [
-        | inl here ↦ let same : s.role ≡ Original = ap (λ (x : FilesetSlot). x.role) (some_inj here.1) ∙ original in absurd (cc)
-        | inr other ↦ v.marks q of s out other.1 role
-      ];
       one_clone = same_roles-one_clone all new v back;
     })

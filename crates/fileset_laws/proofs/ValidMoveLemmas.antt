@@ -11,7 +11,7 @@ use Rattle.std.specs.FinMap.Entries.{find, is_sorted}
 use Rattle.fileset_model.specs.Orders.{Name, Path, path_cmp-total, path_cmp-IsAntisymmetric}
 use Rattle.fileset_model.specs.Fileset.{Fileset}
 use Rattle.fileset_model.specs.Paths.{begins_with}
-use Rattle.fileset_model.specs.State.{IsDirectoryAt, IsValidFileset}
+use Rattle.fileset_laws.specs.Valid.{IsDirectoryAt, IsValidFileset}
 use Rattle.fileset_model.specs.Apply.{moved, moved_path}
 use Rattle.fileset_model.proofs.MoveLemmas.{sorted_entries}
 use Rattle.fileset_laws.proofs.ValidCountLemmas.{count-rekeyed, found_first, found_later}
@@ -125,7 +125,7 @@ module _ (tree : Fileset) (from to : Path) (v : IsValidFileset tree) (no_root : 
       (sym (map.get-from_entries path_cmp-total (map_each (λ (e : Path × ℕ). (moved_path from to e.0, e.1)) es) q) ∙ at_q) in
       (old.0, old.1, map.get-entries tree.paths old.0 ∙ old.2)
 
-  went : (p : Path) (k : ℕ) → map.get tree.paths p ≡ Some k → map.get after.paths (moved_path from to p) ≡ Some k
+  pub went : (p : Path) (k : ℕ) → map.get tree.paths p ≡ Some k → map.get after.paths (moved_path from to p) ≡ Some k
   went p k at_p =
       let es = map.entries tree.paths in
       map.get-from_entries path_cmp-total (map_each (λ (e : Path × ℕ). (moved_path from to e.0, e.1)) es) (moved_path from to p)

@@ -1,19 +1,20 @@
 -- What is so of all filesets stays so where one is made, cloned or removed.
-use Rattle.std.proofs.Common.{◌≡◌, ◌≢◌, ℕ, ◌+◌, ◌-◌, ◌<◌, ◌≤◌, Bool, true, false, cond, ◌||◌, is_some, List, [], ◌∷◌, IsTrue, IsSomeAnd, Some, None, refl, sym, ap, subst, ◌∙◌, inl, inr, true≢false, arith}
+use Rattle.std.proofs.Common.{◌≡◌, ◌≢◌, ℕ, ◌+◌, ◌-◌, ◌<◌, ◌≤◌, Bool, true, false, cond, ◌||◌, is_some, List, [], ◌∷◌, IsSomeAnd, Some, None, refl, sym, ap, subst, ◌∙◌, inl, inr, true≢false, arith}
 use Rattle.std.specs.declared.cmp.Ordering.{Ordering}
 use Rattle.std.specs.Ordering.{eq_by_cmp}
 use Rattle.std.specs.Cmp.Lexicographic.{bytes_decides}
 use Rattle.std.specs.FinMap as map
 use Rattle.std.specs.FinMap.Entries.{find}
 use Rattle.fileset_model.specs.Orders.{Name, name_cmp, name_cmp-total, name_cmp-IsAntisymmetric}
-use Rattle.fileset_model.specs.Paths.{is_out_of_sync}
-use Rattle.fileset_model.specs.State.{AreValid, FilesetMap, IsValidFileset}
+use Rattle.fileset_model.specs.Filesets.{FilesetMap}
+use Rattle.fileset_laws.specs.Valid.{AreValid, IsValidSlot}
 use Rattle.fileset_model.specs.Apply.{empty_fileset, has_clone, is_clone_of, original_of}
 use Rattle.fileset_model.specs.declared.fileset.FilesetSlot.{FilesetSlot}
 use Rattle.fileset_model.specs.declared.fileset.NumberSet.{NumberSet}
 use Rattle.fileset_model.specs.declared.fileset.Role.TheVariants.{Original, CloneOf}
 use Rattle.fileset_model.proofs.MapLemmas.{got-insert, got-remove, get-insert_other, get-remove_other}
-use Rattle.fileset_laws.proofs.ValidLemmas.{from_some_and, some_inj, to_some_and}
+use Rattle.fileset_laws.proofs.ValidLemmas.{from_some_and, original_tree, some_inj, to_some_and}
+use Rattle.fileset_laws.proofs.LooksLemmas.{looks_like_itself}
 use Rattle.fileset_laws.proofs.ValidTreeLemmas.{empty_fileset-valid, some≢none, without_limits-valid}
 use Rattle.fileset_model.proofs.WholeLemmas.{any_value, cloned}
 
@@ -26,7 +27,6 @@ none-valid =
       few = omega (arith, map.len-empty name_cmp FilesetSlot);
       each = λ name slot is. absurd (nothing name slot is);
       originals = λ name original slot out is role. absurd (nothing name slot is);
-      marks = λ name original slot out is role. absurd (nothing name slot is);
       one_clone = λ p q original slot other out out' at_p at_q r s. absurd (nothing p slot at_p);
     }
 
@@ -34,9 +34,8 @@ none-valid =
 
 -- what a fileset has to be so that it can join the others: a clone's original is an original with no clone so far
 pub record CanJoin (all : FilesetMap) (slot : FilesetSlot) : Type 0 where
-  pub tree : IsValidFileset slot.tree
+  pub tree : IsValidSlot slot
   pub of_original : (original : Name) (out : NumberSet) → slot.role ≡ CloneOf original out → IsSomeAnd (map.get all original) (λ of. of.role ≡ Original)
-  pub marks : (original : Name) (out : NumberSet) → slot.role ≡ CloneOf original out → (number : ℕ) → IsTrue (map.contains_key out number) → IsTrue (map.contains_key slot.tree.nodes number)
   pub first_clone : (original q : Name) (other : FilesetSlot) (out out' : NumberSet) → slot.role ≡ CloneOf original out → map.get all q ≡ Some other → other.role ≢ CloneOf original out'
 
 pub insert-valid : (all : FilesetMap) (name : Name) (slot : FilesetSlot) → AreValid all → map.get all name ≡ None → map.len all < 16 → CanJoin all slot → AreValid (map.insert all name slot)
@@ -51,18 +50,14 @@ insert-valid all name slot v absent few join =
       few = let there : map.contains_key all name ≡ false = ap is_some absent in
           let more : map.len (map.insert all name slot) ≡ map.len all + 1 = map.len-insert o all name slot ∙ ap (λ b. cond b (map.len all) (map.len all + 1)) there in
           omega arith;
-      each = λ q s found. elim (got-insert o a all name slot q _ found) as (λ _. IsValidFileset s.tree) [
-        | inl here ↦ subst (λ (t : FilesetSlot). IsValidFileset t.tree) (sym (some_inj here.1)) join.tree
+      each = λ q s found. elim (got-insert o a all name slot q _ found) as (λ _. IsValidSlot s) [
+        | inl here ↦ subst IsValidSlot (sym (some_inj here.1)) join.tree
         | inr other ↦ v.each q s other.1
       ];
       originals = λ q of s out found role. stays of (elim (got-insert o a all name slot q _ found) as (λ _. IsSomeAnd (map.get all of) (λ (x : FilesetSlot). x.role ≡ Original)) [
         | inl here ↦ join.of_original of out (ap (λ (x : FilesetSlot). x.role) (sym (some_inj here.1)) ∙ role)
         | inr other ↦ v.originals q of s out other.1 role
       ]);
-      marks = λ q of s out found role. elim (got-insert o a all name slot q _ found) as (λ _. (number : ℕ) → IsTrue (map.contains_key out number) → IsTrue (map.contains_key s.tree.nodes number)) [
-        | inl here ↦ λ number marked. ap (λ (x : FilesetSlot). map.contains_key x.tree.nodes number) (some_inj here.1) ∙ join.marks of out (ap (λ (x : FilesetSlot). x.role) (sym (some_inj here.1)) ∙ role) number marked
-        | inr other ↦ v.marks q of s out other.1 role
-      ];
       one_clone = λ p q of s t out out' at_p at_q role_p role_q. elim (got-insert o a all name slot p _ at_p) as (λ _. p ≡ q) [
         | inl here ↦ elim (got-insert o a all name slot q _ at_q) as (λ _. p ≡ q) [
           | inl also ↦ here.0 ∙ sym also.0
@@ -82,7 +77,6 @@ pub new-joins : (all : FilesetMap) (root : ℕ) → CanJoin all (record { tree =
 new-joins all root = record {
   tree = empty_fileset-valid root;
   of_original = λ original out role. absurd (original≢clone original out role);
-  marks = λ original out role. absurd (original≢clone original out role);
   first_clone = λ original q other out out' role. absurd (original≢clone original out role);
 }
 
@@ -109,12 +103,13 @@ pub clone-joins : (all : FilesetMap) (name : Name) (slot : FilesetSlot) → AreV
 clone-joins all name slot v is original none =
     let of : (of : Name) (out : NumberSet) → (cloned name slot).role ≡ CloneOf of out → name ≡ of = λ of out role. some_inj (ap original_of role) in
     record {
-      tree = without_limits-valid slot.tree (v.each name slot is);
+      tree = record {
+        whole = record slot.tree { limits = map.empty };
+        valid = without_limits-valid slot.tree (original_tree slot original (v.each name slot is));
+        shows = looks_like_itself (cloned name slot);
+      };
       of_original = λ other out role. subst (λ n. IsSomeAnd (map.get all n) (λ (x : FilesetSlot). x.role ≡ Original)) (of other out role)
           (to_some_and (λ (x : FilesetSlot). x.role ≡ Original) (map.get all name) slot is original);
-      marks = λ other out role number marked.
-          let unmarked : is_out_of_sync (CloneOf other out) number ≡ false = ap (λ r. is_out_of_sync r number) (sym role) ∙ ap is_some (map.get-empty _ number) in
-          absurd (true≢false (sym marked ∙ unmarked));
       first_clone = λ other q clone out out' role at_q also. no_clone all name q clone out' none at_q (also ∙ ap (λ n. CloneOf n out') (sym (of other out role)));
     }
 
@@ -131,6 +126,5 @@ remove-valid all name v none =
       originals = λ q of s out is role.
           let apart : of ≢ name = λ e. no_clone all name q s out none (was q s is) (role ∙ ap (λ n. CloneOf n out) e) in
           subst (λ x. IsSomeAnd x (λ (t : FilesetSlot). t.role ≡ Original)) (sym (get-remove_other o a all name of apart)) (v.originals q of s out (was q s is) role);
-      marks = λ q of s out is role. v.marks q of s out (was q s is) role;
       one_clone = λ p q of s t out out' at_p at_q. v.one_clone p q of s t out out' (was p s at_p) (was q t at_q);
     }

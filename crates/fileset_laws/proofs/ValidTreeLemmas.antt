@@ -10,7 +10,7 @@ use Rattle.fileset_model.specs.Orders.{Name, Path, owner_cmp, owner_cmp-total, p
 use Rattle.fileset_model.specs.Fileset.{Fileset}
 use Rattle.domain_base.specs.Limits.{max_links}
 use Rattle.fileset_model.specs.Paths.{is_directory, node_at, paths_to}
-use Rattle.fileset_model.specs.State.{HasWholePages, IsDirectoryAt, IsValidFileset}
+use Rattle.fileset_laws.specs.Valid.{HasWholePages, IsDirectoryAt, IsValidFileset}
 use Rattle.fileset_model.specs.Usage.{is_unlimited, with_limits}
 use Rattle.fileset_model.specs.Apply.{empty_fileset, is_named_elsewhere, linked, with_change, with_node, without}
 use Rattle.fileset_model.specs.declared.command.Owner.{Owner}

@@ -2,12 +2,12 @@
 ghost use Rattle.std.specs.Prelude.{◌≡◌, ◌⊎◌, ℕ, ◌+◌, ◌-◌, ◌<◌, ◌≤◌, List, length, slice_index, Option, Some};
 ghost use Rattle.fileset_model.specs.Pages.{Pages, byte_at, truncated, written};
 ghost use Rattle.fileset_laws.specs.Whole.{AreWhole};
-ghost use Rattle.std.specs.FinMap.{get};
+ghost use Rattle.std.specs.FinMap.{empty, get};
 ghost use Rattle.fileset_model.specs.Apply.{AnswersIfMemory, with_tree};
 ghost use Rattle.fileset_model.specs.Fileset.{Fileset as Tree};
-ghost use Rattle.fileset_model.specs.Legal.{Legal};
 ghost use Rattle.fileset_model.specs.Orders.{Name as NameBytes};
-ghost use Rattle.fileset_model.specs.State.{AreValid, FilesetMap, IsValid, IsValidFileset, State, empty_state};
+ghost use Rattle.fileset_model.specs.Filesets.{FilesetMap};
+ghost use Rattle.fileset_laws.specs.Valid.{AreValid, IsValidFileset};
 ghost use Rattle.fileset_model.specs.declared.command.Command.{Command as CommandOf};
 ghost use Rattle.fileset_model.specs.declared.entry.Entry.{Entry as EntryOf};
 ghost use Rattle.fileset_model.specs.declared.fileset.FilesetSlot.{FilesetSlot as SlotOf};
@@ -25,14 +25,9 @@ pub fn every_answer_keeps_all_valid()
     ensures { (old new : FilesetMap) (command : CommandOf) (reply : ReplyOf) → AreValid old → AnswersIfMemory old command reply new → AreValid new }
 {}
 
-/// The state after each legal history that began in a valid one is valid.
-pub fn every_legal_history_ends_valid()
-    ensures { (start end : State) (history : List EntryOf) (job : Option CommandOf) → IsValid start → Legal start history job end → IsValid end }
-{}
-
-/// A domain that was just made is valid: it has no filesets, and its log is on a member.
-pub fn a_new_domain_is_valid()
-    ensures { (pages : ℕ) → IsValid (empty_state pages) }
+/// No filesets at all are valid.
+pub fn no_filesets_are_valid()
+    ensures { AreValid empty }
 {}
 
 /// What was written is read back, and every other byte of the file reads as before.

@@ -4,6 +4,6 @@
 mod laws;
 
 pub use laws::{
-    a_cut_leaves_zeros, a_new_domain_is_valid, a_valid_tree_keeps_all_valid,
-    every_answer_keeps_all_valid, every_legal_history_ends_valid, what_was_written_is_read,
+    a_cut_leaves_zeros, a_valid_tree_keeps_all_valid, every_answer_keeps_all_valid,
+    no_filesets_are_valid, what_was_written_is_read,
 };

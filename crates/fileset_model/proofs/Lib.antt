@@ -5,6 +5,7 @@ pub mod MoveLemmas
 pub mod OwnerLemmas
 pub mod PageLemmas
 pub mod RowsLemmas
+pub mod SearchLemmas
 pub mod SlotLemmas
 pub mod TreeLemmas
 pub mod WholeLemmas

@@ -9,7 +9,7 @@ use Rattle.fileset_model.specs.Fileset.{Fileset}
 use Rattle.fileset_model.specs.Pages.{absent_pages, bytes_between, written, truncated}
 use Rattle.fileset_model.specs.Paths.{same_name, same_path, first_refusal, refuse_if, node_at, is_directory, is_marked, walk_refusal, target_refusal, directory_here, file_here, begins_with, rows_of, names_one, paths_to}
 use Rattle.fileset_model.specs.Usage.{limits_of, quota_refusal, used_blocks, used_files, with_limits}
-use Rattle.fileset_model.specs.State.{FilesetMap, State}
+use Rattle.fileset_model.specs.Filesets.{FilesetMap}
 use Rattle.fileset_model.specs.declared.command.Command.{Command}
 use Rattle.fileset_model.specs.declared.command.Command.TheVariants.{Mkfset, Rmfset, Clonefset, Showfsets, Setquota, Showquota, Create, Mkdir, Write, Read, Truncate, Rename, Link, Links, Unlink, Rmdir, List as ListNames, Stat, Fsync, Chfile, Sync, Cancel}
 use Rattle.fileset_model.specs.declared.command.Owner.{Owner}
@@ -285,10 +285,6 @@ Answers all command reply new =
     MatchOption (refusal_of all command)
     ((reply ≡ answer_of all command) × Changes all command new)
     (λ refusal. (reply ≡ Refused refusal) × (new ≡ all))
-
--- the same of a state, all else of which stays
-abbrev pub Apply : State → Command → Reply → State → Type 0
-Apply s command reply new = Answers s.filesets command reply new.filesets × (new ≡ record s { filesets = new.filesets })
 
 -- the answer and the change of a command; or out-of-memory, and then nothing changes
 abbrev pub AnswersIfMemory : FilesetMap → Command → Reply → FilesetMap → Type 0

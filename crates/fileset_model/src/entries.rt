@@ -7,20 +7,24 @@ ghost use Rattle.fileset_model.specs.Entries.{IsGapOf, IsPlaceOf};
 use domain_base::OutOfMemory;
 use std::cmp::Ordering;
 
-/// The place of the entry with this key, or as an error the place where it would stand.
+/// The place of the entry with this key, or as an error the place where it would stand, found by
+/// halving.
 pub(crate) fn place_of<K: Ord, V>(entries: &[(K, V)], key: &K) -> Result<usize, usize>
     requires { IsTrue (is_sorted K.cmp entries.now) }
     ensures place { IfOk result (IsPlaceOf K.cmp entries.now key.now) }
     ensures gap { IfErr result (IsGapOf K.cmp entries.now key.now) }
 {
-    for (i, entry) in entries.iter().enumerate() {
-        match key.cmp(&entry.0) {
-            Ordering::Less => return Err(i),
-            Ordering::Equal => return Ok(i),
-            Ordering::Greater => {}
+    let mut low = 0;
+    let mut high = entries.len();
+    while low < high {
+        let middle = low + (high - low) / 2;
+        match key.cmp(&entries[middle].0) {
+            Ordering::Less => high = middle,
+            Ordering::Equal => return Ok(middle),
+            Ordering::Greater => low = middle + 1,
         }
     }
-    Err(entries.len())
+    Err(low)
 }
 
 /// The value at this key.

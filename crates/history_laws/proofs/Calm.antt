@@ -11,7 +11,7 @@ use Rattle.fileset_model.specs.Fileset.{Fileset}
 use Rattle.fileset_model.specs.Orders.{Name, Path}
 use Rattle.fileset_model.specs.Pages.{absent_pages}
 use Rattle.fileset_model.specs.Paths.{directories_to, directory_here, directory_refusal, file_here, first_refusal, is_directory, is_marked, node_at, paths_to, refuse_if, names_one, rows_of, target_refusal, walk_refusal}
-use Rattle.fileset_model.specs.State.{FilesetMap}
+use Rattle.fileset_model.specs.Filesets.{FilesetMap}
 use Rattle.fileset_model.specs.Usage.{blocks_refusal, files_refusal, quota_refusal}
 use Rattle.fileset_model.specs.declared.command.Command.{Command}
 use Rattle.fileset_model.specs.declared.command.Command.TheVariants as command

@@ -5,7 +5,7 @@ use Rattle.std.specs.Option.{option_map_or}
 use Rattle.std.specs.FinMap as map
 use Rattle.std.specs.List.{All}
 use Rattle.fileset_model.specs.Orders.{Name}
-use Rattle.fileset_model.specs.State.{FilesetMap}
+use Rattle.fileset_model.specs.Filesets.{FilesetMap}
 use Rattle.fileset_model.specs.declared.command.Command.{Command}
 use Rattle.fileset_model.specs.declared.command.Command.TheVariants as command
 use Rattle.fileset_model.specs.declared.entry.Entry.{Entry}
@@ -15,7 +15,7 @@ use Rattle.fileset_model.specs.declared.fileset.Role.TheVariants.{Original, Clon
 use Rattle.fileset_model.specs.declared.reply.Reply.{Reply}
 use Rattle.history_model.specs.Legal.{Chain, Legal}
 use Rattle.history_model.specs.Legal.Chain.{stays, begin, silent, entry}
-use Rattle.history_model.specs.LooksLike.{LooksLike}
+use Rattle.fileset_model.specs.LooksLike.{LooksLike}
 use Rattle.history_model.specs.Marks.{GainsMarks, RoleGains, SlotGains}
 use Rattle.history_model.specs.PlainRun.{IsInside, MarkedRun, is_of_filesets}
 use Rattle.history_model.specs.PlainRun.MarkedRun.{none as no_answer, entry as answers, loses}

@@ -10,7 +10,7 @@ use Rattle.std.specs.FinMap as map
 use Rattle.std.specs.List.{All, Contains}
 use Rattle.fileset_model.specs.Apply.{AnswersIfMemory}
 use Rattle.fileset_model.specs.Orders.{Name}
-use Rattle.fileset_model.specs.State.{FilesetMap}
+use Rattle.fileset_model.specs.Filesets.{FilesetMap}
 use Rattle.fileset_model.specs.declared.command.Actor.{Actor}
 use Rattle.fileset_model.specs.declared.command.Actor.TheVariants.{Client, Mover}
 use Rattle.fileset_model.specs.declared.entry.Entry.{Entry}
@@ -19,7 +19,7 @@ use Rattle.fileset_model.specs.declared.fileset.Role.{Role}
 use Rattle.fileset_model.specs.declared.fileset.Role.TheVariants.{Original, CloneOf}
 use Rattle.history_model.specs.Legal.{Chain, IsForActor, Legal, MayFollow}
 use Rattle.history_model.specs.Legal.Chain.{stays, entry}
-use Rattle.history_model.specs.LooksLike.{LooksLikeSlot, LooksLikeThere}
+use Rattle.fileset_model.specs.LooksLike.{LooksLikeSlot, LooksLikeThere}
 use Rattle.history_model.specs.Marks.{RoleGains, SlotGains}
 use Rattle.history_model.specs.PlainRun.{IsClients, PlainRun}
 use Rattle.history_model.specs.PlainRun.PlainRun.{none as no_entry, entry as one_more}

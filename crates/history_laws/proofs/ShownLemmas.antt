@@ -8,11 +8,11 @@ use Rattle.std.specs.FinMap as map
 use Rattle.fileset_model.specs.Apply.{answer_of, filesets_full, has_clone, in_fileset, is_clone, is_clone_of, links_full, links_of, move_checks, original_of, read_of, stat_of, name_taken, not_empty, out_of_sync, path_taken, read_checks, read_only, refusal_of, write_quota}
 use Rattle.fileset_model.specs.Usage.{quota_refusal}
 use Rattle.domain_base.specs.Limits.{file_bytes}
-use Rattle.history_model.specs.LooksLike.{IsShown, LooksLike, LooksLikeSlot, LooksLikeThere}
+use Rattle.fileset_model.specs.LooksLike.{IsShown, LooksLike, LooksLikeSlot, LooksLikeThere}
 use Rattle.fileset_model.specs.Fileset.{Fileset}
 use Rattle.fileset_model.specs.Orders.{Name, Path, name_cmp, name_cmp-total, name_cmp-IsAntisymmetric, path_cmp, path_cmp-total, path_cmp-IsAntisymmetric}
 use Rattle.fileset_model.specs.Paths.{begins_with, names_one, directory_here, directory_refusal, file_here, first_refusal, is_directory, is_marked, is_out_of_sync, name_below, node_at, paths_to, refuse_if, rows_of, target_refusal, walk_refusal}
-use Rattle.fileset_model.specs.State.{FilesetMap}
+use Rattle.fileset_model.specs.Filesets.{FilesetMap}
 use Rattle.fileset_model.specs.declared.command.Command.{Command}
 use Rattle.fileset_model.specs.declared.command.Command.TheVariants as command
 use Rattle.fileset_model.specs.declared.fileset.FilesetSlot.{FilesetSlot}
@@ -72,7 +72,7 @@ module _ (slot : FilesetSlot) (path : Path) where
 
 module _ (slot other : FilesetSlot) (alike : LooksLikeSlot slot other) where
   -- at a path that is shown
-  same_mark : (path : Path) → IsShown slot path → is_marked other path ≡ is_marked slot path
+  pub same_mark : (path : Path) → IsShown slot path → is_marked other path ≡ is_marked slot path
   same_mark path shown =
       ap (λ r. option_map_or (is_out_of_sync r) (map.get other.tree.paths path) false) alike.role
       ∙ ap (λ o. option_map_or (is_out_of_sync slot.role) o false) (alike.paths path shown)
@@ -255,7 +255,7 @@ module _ (all other : FilesetMap) (alike : LooksLike all other) where
       at (Some slot) None there = absurd there
       at (Some slot) (Some slot') there = same slot slot' there
 
-  same_role : (name : Name) → option_map (λ (s : FilesetSlot). s.role) (map.get all name) ≡ option_map (λ (s : FilesetSlot). s.role) (map.get other name)
+  pub same_role : (name : Name) → option_map (λ (s : FilesetSlot). s.role) (map.get all name) ≡ option_map (λ (s : FilesetSlot). s.role) (map.get other name)
   same_role name = at (map.get all name) (map.get other name) (alike name)
     where
       at : (o o' : Option FilesetSlot) → LooksLikeThere o o' → option_map (λ (s : FilesetSlot). s.role) o ≡ option_map (λ (s : FilesetSlot). s.role) o'
@@ -270,7 +270,7 @@ module _ (all other : FilesetMap) (alike : LooksLike all other) where
       ∙ same_images name_cmp name_cmp-total name_cmp-IsAntisymmetric (λ (s : FilesetSlot). s.role) (λ (s : FilesetSlot). s.role) (λ _. true) all other (λ name _. same_role name)
       ∙ ap (images name_cmp (λ (s : FilesetSlot). s.role)) (where_all name_cmp (map.entries other))
 
-  same_len : map.len other ≡ map.len all
+  pub same_len : map.len other ≡ map.len all
   same_len = map.len-entries other ∙ sym (length-map (map.entries other) (λ (e : Name × FilesetSlot). (e.0, e.1.role))) ∙ sym (ap length same_roles)
       ∙ length-map (map.entries all) (λ (e : Name × FilesetSlot). (e.0, e.1.role)) ∙ sym (map.len-entries all)
 

@@ -3,13 +3,18 @@
 
 ghost use Rattle.std.specs.Prelude.{◌≡◌, ℕ, List, All, Option, None, true};
 ghost use Rattle.fileset_model.specs.declared.command.Command.{Command};
-ghost use Rattle.history_model.specs.LooksLike.{LooksLike};
-ghost use Rattle.fileset_model.specs.State.{FilesetMap};
+ghost use Rattle.fileset_model.specs.LooksLike.{LooksLike};
+ghost use Rattle.fileset_model.specs.Filesets.{FilesetMap};
 ghost use Rattle.fileset_model.specs.declared.entry.Entry.{Entry};
 ghost use Rattle.fileset_model.specs.Apply.{answer_of, refusal_of};
+ghost use Rattle.fileset_model.specs.declared.command.Place.{Place};
+ghost use Rattle.fileset_model.specs.declared.node.Node.{Node};
+ghost use Rattle.history_model.specs.AfterStop.{AfterStop};
 ghost use Rattle.history_model.specs.Legal.{Legal};
+ghost use Rattle.history_model.specs.Synced.{IsSynced, StandsAt};
 ghost use Rattle.history_model.specs.PlainRun.{IsClients, IsInside, MarkedRun, PlainRun, is_of_filesets};
 ghost use Rattle.history_model.specs.State.{State};
+ghost use Rattle.history_laws.specs.Valid.{IsValid};
 
 /// A history of clients whose commands are answered in turn as they mean for filesets without
 /// volumes, or out-of-memory, is legal, and ends in the filesets to which the answers lead.
@@ -35,4 +40,17 @@ pub fn filesets_that_look_alike_answer_alike()
         → refusal_of other command ≡ refusal_of all command }
     ensures answers { (all other : FilesetMap) (command : Command) → LooksLike all other
         → refusal_of all command ≡ None → answer_of other command ≡ answer_of all command }
+{}
+
+/// The state after each legal history that began in a valid one is valid.
+pub fn every_legal_history_ends_valid()
+    ensures { (start end : State) (history : List Entry) (job : Option Command) → IsValid start → Legal start history job end → IsValid end }
+{}
+
+/// A file that was synced by a call, and that nothing touched since, is found as it was in every
+/// state that a stop at or after that call may leave.
+pub fn a_synced_file_outlasts_a_stop()
+    ensures { (start : State) (history : List Entry) (job : Option Command) (t : ℕ) (filesets : FilesetMap)
+        (stop : AfterStop start history job t filesets) (place : Place) (node : Node)
+        → IsValid start → IsSynced stop.end.past t place node → StandsAt filesets place node }
 {}

@@ -3,8 +3,8 @@ use Rattle.std.proofs.Common.{ℕ, List, Option, Some, None, refl, inl}
 use Rattle.std.specs.FinMap as map
 use Rattle.history_model.specs.AfterStop.{FilePage, SameBut, SameByRole, SameNode, SameNodeThere, SamePage, SameSlot, SameTree}
 use Rattle.fileset_model.specs.Fileset.{Fileset}
-use Rattle.history_model.specs.LooksLike.{LooksLike, LooksLikeSlot, LooksLikeThere}
-use Rattle.fileset_model.specs.State.{FilesetMap}
+use Rattle.fileset_model.specs.LooksLike.{LooksLike, LooksLikeSlot, LooksLikeThere}
+use Rattle.fileset_model.specs.Filesets.{FilesetMap}
 use Rattle.fileset_model.specs.declared.fileset.FilesetSlot.{FilesetSlot}
 use Rattle.fileset_model.specs.declared.fileset.Role.{Role}
 use Rattle.fileset_model.specs.declared.fileset.Role.TheVariants.{Original, CloneOf}

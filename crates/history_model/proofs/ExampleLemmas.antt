@@ -15,7 +15,7 @@ use Rattle.history_model.specs.Legal.Chain.{stays, entry}
 use Rattle.history_model.specs.Marks.{GainsMarks, RoleGains, SlotGains}
 use Rattle.fileset_model.specs.Orders.{Name, name_cmp-total, name_cmp-IsAntisymmetric}
 use Rattle.history_model.specs.Point.{Point, history_of, point_after, start_point}
-use Rattle.fileset_model.specs.State.{FilesetMap}
+use Rattle.fileset_model.specs.Filesets.{FilesetMap}
 use Rattle.history_model.specs.State.{Apply, State, new_domain, with_filesets}
 use Rattle.history_model.specs.Step.{Step}
 use Rattle.history_model.specs.Step.Step.{applied}

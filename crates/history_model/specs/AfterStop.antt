@@ -7,12 +7,12 @@ use Rattle.domain_base.specs.declared.limits.TheConstants.{PAGE_BYTES}
 use Rattle.history_model.specs.Changed.{at}
 use Rattle.fileset_model.specs.Fileset.{Fileset}
 use Rattle.history_model.specs.Legal.{Chain}
-use Rattle.history_model.specs.LooksLike.{LooksLike}
+use Rattle.fileset_model.specs.LooksLike.{LooksLike}
 use Rattle.fileset_model.specs.Orders.{Name}
 use Rattle.fileset_model.specs.Pages.{Pages, pages_of}
 use Rattle.fileset_model.specs.Paths.{same_name}
 use Rattle.history_model.specs.Point.{Answered, Point, history_of, start_point}
-use Rattle.fileset_model.specs.State.{FilesetMap}
+use Rattle.fileset_model.specs.Filesets.{FilesetMap}
 use Rattle.history_model.specs.State.{Apply, State}
 use Rattle.fileset_model.specs.declared.command.Actor.{Actor}
 use Rattle.fileset_model.specs.declared.command.Actor.TheVariants.{Client, Mover}

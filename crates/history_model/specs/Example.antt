@@ -3,7 +3,7 @@ use Rattle.std.specs.Prelude.{List, [], ◌∷◌}
 use Rattle.std.specs.FinMap as map
 use Rattle.fileset_model.specs.Apply.{empty_fileset}
 use Rattle.fileset_model.specs.Orders.{Name}
-use Rattle.fileset_model.specs.State.{FilesetMap}
+use Rattle.fileset_model.specs.Filesets.{FilesetMap}
 use Rattle.fileset_model.specs.declared.command.Actor.TheVariants.{Client}
 use Rattle.fileset_model.specs.declared.command.Command.TheVariants.{Mkfset, Sync}
 use Rattle.fileset_model.specs.declared.entry.Entry.{Entry}

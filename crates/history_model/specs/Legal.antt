@@ -1,6 +1,6 @@
 -- Which histories are legal: chains of states that lead from a first one over the entries.
 use Rattle.std.specs.Prelude.{◌≡◌, ℕ, ◌≤◌, List, map, All, Contains, IsTrue, false, Option, Some, None}
-use Rattle.history_model.specs.LooksLike.{LooksLikeState}
+use Rattle.history_model.specs.State.{LooksLikeState}
 use Rattle.history_model.specs.Point.{Point, history_of, point_after, running_job, start_point}
 use Rattle.history_model.specs.State.{State}
 use Rattle.history_model.specs.Step.{Silent, Step}

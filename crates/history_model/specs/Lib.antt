@@ -2,7 +2,6 @@ pub mod AfterStop
 pub mod Changed
 pub mod Example
 pub mod Legal
-pub mod LooksLike
 pub mod Marks
 pub mod PlainRun
 pub mod Point

@@ -2,7 +2,7 @@
 use Rattle.std.specs.Prelude.{ℕ, ◌+◌, ◌*◌, length, filter, sum_by}
 use Rattle.std.specs.FinMap as map
 use Rattle.fileset_model.specs.Pages.{pages_of}
-use Rattle.fileset_model.specs.State.{FilesetMap}
+use Rattle.fileset_model.specs.Filesets.{FilesetMap}
 use Rattle.history_model.specs.State.{State}
 use Rattle.fileset_model.specs.declared.command.Command.{Command}
 use Rattle.fileset_model.specs.declared.command.Command.TheVariants.{Write}

@@ -11,8 +11,9 @@ use Rattle.std.specs.FinSet as set
 use Rattle.domain_base.specs.Version.{most_pages}
 use Rattle.domain_base.specs.declared.version.Version.{Version}
 use Rattle.fileset_model.specs.Apply.{Answers}
+use Rattle.fileset_model.specs.LooksLike.{LooksLike}
 use Rattle.fileset_model.specs.Orders.{Name, name_cmp}
-use Rattle.fileset_model.specs.State.{FilesetMap}
+use Rattle.fileset_model.specs.Filesets.{FilesetMap}
 use Rattle.fileset_model.specs.declared.command.Command.{Command}
 use Rattle.fileset_model.specs.declared.reply.Reply.{Reply}
 
@@ -78,3 +79,8 @@ with_filesets all s = record s { filesets = all; striped = still_striped all s.s
 -- what a command on filesets answers and changes, where all else stays
 abbrev pub Apply : State → Command → Reply → State → Type 0
 Apply s command reply new = Answers s.filesets command reply new.filesets × (new ≡ with_filesets new.filesets s)
+
+-- states whose filesets look alike, and all else of which is the same
+pub record LooksLikeState (s other : State) : Type 0 where
+  pub filesets : LooksLike s.filesets other.filesets
+  pub rest : other ≡ record s { filesets = other.filesets }

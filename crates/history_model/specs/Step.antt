@@ -10,7 +10,7 @@ use Rattle.fileset_model.specs.Pages.{pages_of}
 use Rattle.fileset_model.specs.Paths.{first_refusal}
 use Rattle.history_model.specs.Point.{Answered, Point, Tight, changed_in, running_job, since_mover}
 use Rattle.history_model.specs.Room.{need}
-use Rattle.fileset_model.specs.State.{FilesetMap}
+use Rattle.fileset_model.specs.Filesets.{FilesetMap}
 use Rattle.history_model.specs.State.{Apply, State}
 use Rattle.history_model.specs.VolumeReply.{VolumeReply}
 use Rattle.history_model.specs.Volumes.{is_open_member, pages_at, volume_refusal, with_open}

@@ -2,7 +2,7 @@
 use Rattle.std.specs.Prelude.{◌≡◌, ◌≢◌, ℕ, ◌++◌, Bool, true, false, List, ◌∷◌, All, Contains, IsSomeAnd, Some}
 use Rattle.std.specs.FinMap as map
 use Rattle.fileset_model.specs.Paths.{node_at}
-use Rattle.fileset_model.specs.State.{FilesetMap}
+use Rattle.fileset_model.specs.Filesets.{FilesetMap}
 use Rattle.fileset_model.specs.declared.command.Command.TheVariants.{Fsync, Rmfset}
 use Rattle.fileset_model.specs.declared.command.Place.{Place}
 use Rattle.fileset_model.specs.declared.fileset.Role.TheVariants.{Original}

@@ -9,7 +9,7 @@ use Rattle.domain_base.specs.Version.{most_pages}
 use Rattle.fileset_model.specs.Pages.{Pages}
 use Rattle.fileset_model.specs.Paths.{refuse_if, first_refusal, directory_here, node_at, target_refusal}
 use Rattle.fileset_model.specs.Apply.{in_fileset, out_of_sync, read_only}
-use Rattle.fileset_model.specs.State.{FilesetMap}
+use Rattle.fileset_model.specs.Filesets.{FilesetMap}
 use Rattle.history_model.specs.State.{Member, MemberMap, State}
 use Rattle.fileset_model.specs.declared.command.Command.{Command}
 use Rattle.fileset_model.specs.declared.command.Command.TheVariants.{Showfile, Migrate, Addvol, Rmvol, ChvolA, Switchlog, Stripe, Defragment}

@@ -112,6 +112,33 @@ pub enum Record {
     },
 }
 
+impl Record {
+    ghost use Rattle.std.specs.Prelude.{◌≡◌};
+    ghost use Rattle.record_table.specs.Records.{kind_of};
+
+    /// The number of its kind.
+    pub fn kind(&self) -> u8
+        ensures { result ≡ kind_of self.now }
+    {
+        match self {
+            Record::Attributes { .. } => 1,
+            Record::CloneFile { .. } => 2,
+            Record::Extents { .. } => 3,
+            Record::ShortExtents { .. } => 4,
+            Record::Holes { .. } => 5,
+            Record::Pending { .. } => 6,
+            Record::UserQuota { .. } => 7,
+            Record::GroupQuota { .. } => 8,
+            Record::DirIndex { .. } => 9,
+            Record::Parent { .. } => 10,
+            Record::Stripe { .. } => 11,
+            Record::Volume { .. } => 12,
+            Record::DenseExtents { .. } => 13,
+            Record::ShortDense { .. } => 14,
+        }
+    }
+}
+
 /// Bytes that begin no record: the kind that the first byte names, 0 where there is no byte, and
 /// the offset of the field that holds the first wrong byte.
 #[derive(Clone, Copy, Debug, PartialEq, Eq)]

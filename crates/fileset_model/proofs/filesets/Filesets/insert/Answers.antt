@@ -1,7 +1,7 @@
 use Rattle.std.proofs.Common.{ap, ◌∙◌}
 use Rattle.std.specs.FinMap.{from_sorted, insert}
 use Rattle.fileset_model.specs.Orders.{name_cmp-total}
-use Rattle.fileset_model.specs.State.{FilesetMap}
+use Rattle.fileset_model.specs.Filesets.{FilesetMap}
 use Rattle.fileset_model.proofs.EntryLemmas.{insert-from_sorted}
 use Rattle.fileset_model.proofs.filesets.Filesets.insert.Goals as goal
 

@@ -1,0 +1,36 @@
+-- Pages of the bitfile metadata table: 16 bytes, and 28 cells of 292 bytes.
+use Rattle.std.specs.Prelude.{◌≡◌, ◌⊎◌, ◌==◌, ◌&&◌, ◌+◌, ◌*◌, ◌<◌, ℕ, Bool, true, List, take, drop, slice_index, count_by, Option, Some, None, nat_lt, if◌then◌else◌}
+use Rattle.std.specs.List.{range_with_len}
+use Rattle.std.specs.Option.{option_and_then}
+use Rattle.domain_base.specs.declared.place.CellAt.{CellAt}
+use Rattle.domain_base.specs.declared.place.Home.{Home}
+use Rattle.page_store.specs.Pages.{Pages}
+use Rattle.record_table.specs.Fields.{number_at}
+use Rattle.bmt_mcells.specs.Cell.{Cell, IsCell, IsFreeCell}
+
+-- the page begins as one of the table
+abbrev pub is_cell_page : List ℕ → Bool
+is_cell_page page = number_at 4 0 page == 0x50544d42
+
+-- the bytes of a cell
+abbrev pub cell_of : List ℕ → ℕ → List ℕ
+cell_of page cell = take 292 (drop (16 + 292 * cell) page)
+
+-- how many cells have the kind of a free one
+abbrev pub free_cells : List ℕ → ℕ
+free_cells page = count_by (λ cell. slice_index page (31 + 292 * cell) == 0) (range_with_len 0 28)
+
+-- a well-formed page: `BMTP`, each cell free or in use, and the number of free ones
+pub record IsCellPage (page : List ℕ) : Type 0 where
+  pub magic : is_cell_page page ≡ true
+  pub free : number_at 2 12 page ≡ free_cells page
+  pub end : number_at 2 14 page ≡ 0
+  pub cells : (cell : ℕ) → cell < 28 → IsFreeCell (cell_of page cell) ⊎ ((content : Cell) × IsCell (cell_of page cell) content)
+
+abbrev pub home_of : CellAt → Home
+home_of at = record { vol = at.vol; page = at.page }
+
+-- the bytes of a cell, where its page is there and one of the table, and has such a cell
+abbrev pub cell_at : Pages → CellAt → Option (List ℕ)
+cell_at pages at =
+    option_and_then (λ page. if is_cell_page page && nat_lt at.cell 28 then Some (cell_of page at.cell) else None) (pages (home_of at))

@@ -1,0 +1,82 @@
+-- Chains of cells, over any function from home to page.
+use Rattle.std.specs.Prelude.{◌≡◌, ◌⊎◌, ◌++◌, [], ◌∷◌, ℕ, Bool, false, List, map, Some, None, Contains}
+use Rattle.std.specs.List.{flat_map, AllByRecursion}
+use Rattle.domain_base.specs.declared.place.CellAt.{CellAt}
+use Rattle.page_store.specs.Pages.{Pages}
+use Rattle.record_table.specs.declared.record.Record.{Record}
+use Rattle.bmt_mcells.specs.declared.head.CellHead.{CellHead}
+use Rattle.bmt_mcells.specs.declared.head.CellKind.{CellKind}
+use Rattle.bmt_mcells.specs.declared.head.CellKind.TheVariants.{Primary, Chain, Quota}
+use Rattle.bmt_mcells.specs.Cell.{Cell, HasHead, IsCell}
+use Rattle.bmt_mcells.specs.CellPage.{cell_at}
+
+-- a cell in use stands there, with these records
+pub record StandsAt (pages : Pages) (at : CellAt) (cell : Cell) : Type 0 where
+  pub bytes : List ℕ
+  pub there : cell_at pages at ≡ Some bytes
+  pub is : IsCell bytes cell
+
+-- a cell in use with this head stands there, whatever its records are
+pub record HasHeadAt (pages : Pages) (at : CellAt) (head : CellHead) : Type 0 where
+  pub bytes : List ℕ
+  pub there : cell_at pages at ≡ Some bytes
+  pub size : ℕ
+  pub is : HasHead bytes head size
+
+-- the kinds of cells that a cell may lead to: chain cells behind the first cell of a file, quota cells behind one
+pub data MayFollow : CellKind → CellKind → Type 0 where
+  behind_primary : MayFollow Primary Chain
+  behind_chain : MayFollow Chain Chain
+  behind_quota : MayFollow Quota Quota
+
+-- a cell and its place
+pub record PlacedCell : Type 0 where
+  pub at : CellAt
+  pub cell : Cell
+
+abbrev pub places : List PlacedCell → List CellAt
+places cells = map (λ (c : PlacedCell). c.at) cells
+
+-- the cells that were passed from a place on, and the one that was come to: each stands where the one before it leads,
+-- and none was passed twice
+pub data Path (pages : Pages) (start : CellAt) : List PlacedCell → PlacedCell → Type 0 where
+  begins : (cell : Cell) → StandsAt pages start cell → Path pages start [] (record { at = start; cell = cell })
+  goes_on : (passed : List PlacedCell) (last : PlacedCell) (at : CellAt) (cell : Cell)
+      → Path pages start passed last → last.cell.head.next ≡ Some at → ¬ Contains (places (passed ++ last ∷ [])) at
+      → StandsAt pages at cell → MayFollow last.cell.head.kind cell.head.kind
+      → Path pages start (passed ++ last ∷ []) (record { at = at; cell = cell })
+
+-- a chain: a path that ends where no cell is next
+pub record IsChain (pages : Pages) (start : CellAt) (cells : List PlacedCell) : Type 0 where
+  pub passed : List PlacedCell
+  pub last : PlacedCell
+  pub path : Path pages start passed last
+  pub ends : last.cell.head.next ≡ None
+  pub all : cells ≡ passed ++ last ∷ []
+
+-- the records of a chain, in its order
+abbrev pub records_of : List PlacedCell → List Record
+records_of cells = flat_map (λ (c : PlacedCell). c.cell.records) cells
+
+-- a next address that is wrong: it leads back, or to no cell in use that may follow
+abbrev pub LeadsAstray : Pages → List PlacedCell → PlacedCell → CellAt → Type 0
+LeadsAstray pages passed last at =
+    Contains (places (passed ++ last ∷ [])) at ⊎ ((head : CellHead) → HasHeadAt pages at head → ¬ MayFollow last.cell.head.kind head.kind)
+
+-- where the chain from a place on is broken: at that place, where no cell stands; at a cell whose next address is wrong; or
+-- at a cell that one leads to and whose records are not well formed
+pub data IsBroken (pages : Pages) (start : CellAt) : CellAt → Type 0 where
+  no_cell : ((cell : Cell) → ¬ StandsAt pages start cell) → IsBroken pages start start
+  astray : (passed : List PlacedCell) (last : PlacedCell) (at : CellAt) → Path pages start passed last → last.cell.head.next ≡ Some at
+      → LeadsAstray pages passed last at → IsBroken pages start last.at
+  bad_cell : (passed : List PlacedCell) (last : PlacedCell) (at : CellAt) (head : CellHead) → Path pages start passed last → last.cell.head.next ≡ Some at
+      → ¬ Contains (places (passed ++ last ∷ [])) at → HasHeadAt pages at head → MayFollow last.cell.head.kind head.kind
+      → ((cell : Cell) → ¬ StandsAt pages at cell) → IsBroken pages start at
+
+-- what a change of some cells leaves: every other cell has its bytes
+abbrev pub LeavesOthers : (CellAt → Bool) → Pages → Pages → Type 0
+LeavesOthers changed old new = (at : CellAt) → changed at ≡ false → cell_at new at ≡ cell_at old at
+
+-- none of these cells is among the changed ones
+abbrev pub AreApart : (CellAt → Bool) → List PlacedCell → Type 0
+AreApart changed cells = AllByRecursion (λ (c : PlacedCell). changed c.at ≡ false) cells

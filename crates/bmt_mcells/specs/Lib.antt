@@ -1,0 +1,4 @@
+pub mod Cell
+pub mod CellPage
+pub mod Chain
+pub mod Reading

@@ -1,0 +1,144 @@
+//! Cells, read from the pages that they stand on.
+ghost use Rattle.std.specs.Prelude.{◌≡◌, ◌≢◌, ◌+◌, ◌≤◌, ℕ, length, IfSome, IfNone, Option};
+ghost use Rattle.std.specs.Option.{option_copied};
+ghost use Rattle.domain_base.specs.declared.place.CellAt.{CellAt};
+ghost use Rattle.bmt_mcells.specs.declared.head.CellHead.{CellHead};
+ghost use Rattle.bmt_mcells.specs.declared.head.CellKind.{CellKind};
+ghost use Rattle.record_table.specs.Fields.{number_at};
+ghost use Rattle.bmt_mcells.specs.Cell.{HasHead, IsAddress, IsFileset, kind_number};
+ghost use Rattle.bmt_mcells.specs.CellPage.{cell_at};
+ghost use Rattle.bmt_mcells.specs.Chain.{HasHeadAt};
+
+use crate::head::{CellHead, CellKind};
+use byteorder::{ByteOrder, LittleEndian};
+use domain_base::{CellAt, FilesetNo, Home, VolIx};
+use page_store::MetaPages;
+
+/// The bytes of a cell.
+pub(crate) const CELL_BYTES: usize = 292;
+
+/// The first bytes of a page of cells, `BMTP`, as a number.
+const MAGIC: u32 = 0x5054_4d42;
+
+#[tactic(auto, unfolding(record_table::specs::Fields::number_at))]
+fn u8_at(bytes: &[u8], at: usize) -> u8
+    requires { at + 1 ≤ length bytes.now }
+    ensures { result ≡ number_at 1 at bytes.now }
+{
+    bytes[at]
+}
+
+#[tactic(auto, unfolding(record_table::specs::Fields::number_at))]
+fn u16_at(bytes: &[u8], at: usize) -> u16
+    requires { at + 2 ≤ length bytes.now }
+    ensures { result ≡ number_at 2 at bytes.now }
+{
+    LittleEndian::read_u16(&bytes[at..])
+}
+
+#[tactic(auto, unfolding(record_table::specs::Fields::number_at))]
+fn u32_at(bytes: &[u8], at: usize) -> u32
+    requires { at + 4 ≤ length bytes.now }
+    ensures { result ≡ number_at 4 at bytes.now }
+{
+    LittleEndian::read_u32(&bytes[at..])
+}
+
+/// The address in a cell's first eight bytes, if it is one: of a cell, or of none.
+fn next_of(cell: &[u8]) -> Option<Option<CellAt>>
+    requires { 8 ≤ length cell.now }
+    ensures some { IfSome result (IsAddress (number_at 1 2 cell.now) (number_at 1 3 cell.now) (number_at 4 4 cell.now)) }
+    ensures none { IfNone result ((next : Option CellAt)
+        → ¬ IsAddress (number_at 1 2 cell.now) (number_at 1 3 cell.now) (number_at 4 4 cell.now) next) }
+{
+    let number = u8_at(cell, 3);
+    let page = u32_at(cell, 4);
+    match VolIx::new(u32::from(u8_at(cell, 2))) {
+        Some(vol) if number < 28 => Some(Some(CellAt {
+            vol,
+            page,
+            cell: number,
+        })),
+        Some(_) => None,
+        None if u8_at(cell, 2) == 0 && number == 0 && page == 0 => Some(None),
+        None => None,
+    }
+}
+
+/// The fileset that a head's byte names, if it names one or none.
+fn fileset_of(number: u8) -> Option<Option<FilesetNo>>
+    ensures some { IfSome result (IsFileset number) }
+    ensures none { IfNone result ((fileset : Option ℕ) → ¬ IsFileset number fileset) }
+{
+    if number == 0 {
+        return Some(None);
+    }
+    let fileset = FilesetNo::new(u32::from(number) - 1)?;
+    Some(Some(fileset))
+}
+
+/// The kind of a cell in use that the number stands for.
+fn kind_of(number: u8) -> Option<CellKind>
+    ensures some { IfSome result (λ kind. number ≡ kind_number kind) }
+    ensures none { IfNone result ((kind : CellKind) → number ≢ kind_number kind) }
+{
+    match number {
+        1 => Some(CellKind::Primary),
+        2 => Some(CellKind::Chain),
+        3 => Some(CellKind::Quota),
+        4 => Some(CellKind::Volume),
+        _ => None,
+    }
+}
+
+/// The head of a cell in use, and how many bytes its records have. None where the cell has no
+/// well-formed head, or is free.
+pub(crate) fn head_of(cell: &[u8]) -> Option<(CellHead, usize)>
+    requires { 20 ≤ length cell.now }
+    ensures some { IfSome result (λ found. HasHead cell.now found.0 found.1) }
+    ensures none { IfNone result ((head : CellHead) (size : ℕ) → ¬ HasHead cell.now head size) }
+{
+    let size = u16_at(cell, 16);
+    if u16_at(cell, 0) != 0 || u16_at(cell, 18) != 0 || 272 < size {
+        return None;
+    }
+    let kind = kind_of(u8_at(cell, 15))?;
+    let fileset = fileset_of(u8_at(cell, 14))?;
+    let next = next_of(cell)?;
+    let head = CellHead {
+        next,
+        slot: u32_at(cell, 8),
+        seq: u16_at(cell, 12),
+        fileset,
+        kind,
+    };
+    Some((head, usize::from(size)))
+}
+
+/// The bytes of a cell, if its page is there and one of cells, and has such a cell.
+pub(crate) fn bytes_of<M: MetaPages>(pages: &M, at: CellAt) -> Option<&[u8]>
+    ensures value { option_copied result ≡ cell_at (M.pages pages.now) at }
+    ensures len { IfSome result (λ bytes. length bytes.now ≡ CELL_BYTES) }
+{
+    let home = Home {
+        vol: at.vol,
+        page: at.page,
+    };
+    let page = pages.get(home)?.bytes();
+    if u32_at(page, 0) != MAGIC || 28 <= at.cell {
+        return None;
+    }
+    let start = 16 + CELL_BYTES * usize::from(at.cell);
+    Some(&page[start..start + CELL_BYTES])
+}
+
+/// The head of the cell in use that stands there. None exactly where none with a well-formed head
+/// stands there: where the page is not there or none of cells, or the cell is free.
+pub fn read_head<M: MetaPages>(pages: &M, at: CellAt) -> Option<CellHead>
+    ensures some { IfSome result (HasHeadAt (M.pages pages.now) at) }
+    ensures none { IfNone result ((head : CellHead) → ¬ HasHeadAt (M.pages pages.now) at head) }
+{
+    let cell = bytes_of(pages, at)?;
+    let (head, _) = head_of(cell)?;
+    Some(head)
+}

@@ -1,0 +1,47 @@
+//! Pages of metadata by their homes.
+ghost use Rattle.std.specs.Prelude.{◌≡◌, ◌⊎◌, ◌+◌, ◌-◌, ◌<◌, ◌≤◌, ℕ, List, Option, is_some, if◌then◌else◌, IsSome, OnOk};
+ghost use Rattle.std.specs.Option.{option_copied};
+ghost use Rattle.domain_base.specs.declared.place.Home.{Home};
+ghost use Rattle.page_store.specs.Pages.{Pages, AreWhole, with_page, without_page};
+
+use domain_base::{Home, OutOfMemory, Page};
+use std::alloc::Global;
+
+/// A finite map from home to page, with room for more pages. What changes in place is taken off,
+/// changed and put back: neither of these takes memory.
+pub trait MetaPages {
+    /// What stands at each home.
+    ghost pages: { Self → Pages };
+
+    /// For how many homes more there is room.
+    ghost room: { Self → ℕ };
+
+    /// The page at a home, if one is there.
+    fn get(&self, home: Home) -> Option<&Page>
+        ensures { option_copied result ≡ pages self.now home };
+
+    /// Takes room for so many homes more. At an Err nothing has changed.
+    fn reserve(&mut self, alloc: Global, more: usize) -> Result<(), OutOfMemory>
+        ensures same { pages self.new ≡ pages self.old }
+        ensures enough { OnOk result (more ≤ room self.new) }
+        ensures kept { room self.old ≤ room self.new };
+
+    /// For how many homes more there is room.
+    fn spare(&self) -> usize
+        ensures { result ≡ room self.now };
+
+    /// Puts a page at a home, in place of the one that is there. A new home takes room for one.
+    fn put(&mut self, home: Home, page: Page)
+        requires { (0 < room self.old) ⊎ IsSome (pages self.old home) }
+        ensures value { pages self.new ≡ with_page home page (pages self.old) }
+        ensures left { room self.new ≡ (if is_some (pages self.old home) then room self.old else room self.old - 1) };
+
+    /// Takes the page off that stands at a home, which leaves room for one more.
+    fn take_off(&mut self, home: Home) -> Option<Page>
+        ensures taken { result ≡ pages self.old home }
+        ensures value { pages self.new ≡ without_page home (pages self.old) }
+        ensures left { room self.new ≡ (if is_some (pages self.old home) then room self.old + 1 else room self.old) };
+
+    /// A page has 8,192 bytes.
+    ghost whole: { (store : Self) → AreWhole (pages store) };
+}
