@@ -1,10 +1,10 @@
 -- Histories that answer a script.
-use Rattle.std.proofs.Common.{◌≡◌, ℕ, ◌≤◌, Option, Some, None, Ok, Err, unwrap_or, Bool, true, false, cond, eqb, List, [], ◌∷◌, ◌++◌, length, map, filter, refl, sym, ap, subst, ◌∙◌, arith, length-append}
-use Rattle.std.proofs.lemmas.List.{append-nil, map-append, nil_from_length}
+use Rattle.std.proofs.Common.{◌≡◌, ℕ, Option, Some, None, Ok, Err, unwrap_or, Bool, true, false, cond, eqb, List, [], ◌∷◌, ◌++◌, map, filter, refl, sym, ap, subst, ◌∙◌, arith}
+use Rattle.std.proofs.lemmas.List.{map-append}
 use Rattle.std.proofs.lemmas.List.Elements.{All-nil, filter-append}
 use Rattle.std.proofs.lemmas.Simd.{map-map}
 use Rattle.std.specs.FinMap as finite
-use Rattle.std.specs.Option.{option_map, option_map_or, option_to_list}
+use Rattle.std.specs.Option.{option_map, option_map_or}
 use Rattle.std.specs.Str.Lines.{lines}
 use Rattle.std.specs.List.{flat_map}
 use Rattle.std.specs.List.Sorted.{IsStableByKey, ties}
@@ -19,8 +19,8 @@ use Rattle.fileset_model.specs.declared.entry.Entry.{Entry}
 use Rattle.script_text.specs.Script.{BadLine, first_bad, script_of, sections_in}
 use Rattle.script_text.specs.declared.script.Script.{Script}
 use Rattle.script_text.specs.declared.script.Section.{Section}
-use Rattle.advfs_run.specs.Plain.{AnswersScript, GoesOn, SameByNumber, IsClients, Turn, section_of, turns_of, turn_of}
-use Rattle.advfs_run.specs.Plain.Plain.{none}
+use Rattle.advfs_run.specs.Plain.{AnswersScript, GoesOn, SameByNumber, Turn, section_of, turns_of, turn_of}
+use Rattle.history_model.specs.PlainRun.PlainRun.{none}
 
 -- sections that were sorted by their numbers
 ties-number : (n : ℕ) (section : Section) → ties (λ (x y : Section). is_lt (nat_cmp x.number y.number)) (record { number = n; commands = [] }) section ≡ eqb n section.number
@@ -49,7 +49,6 @@ AnswersScript-from_turns script sections stamp old history first all same none_b
       sections = sections;
       same = same;
       turns_are = begins.turns_are;
-      clients = begins.clients (All-nil IsClients);
       stamps = begins.stamps (All-nil (λ e. e.stamp ≡ stamp));
       all = all;
       plain = begins.plain finite.empty none;

@@ -1,5 +1,5 @@
 -- The number that a word says.
-use Rattle.std.proofs.Common.{◌≡◌, ℕ, not, ◌<◌, ◌^◌, ◌&&◌, cond, leb, sym, Bool, true, false, Option, Some, None, option_and_then, ◌∙◌, eqb, codes, Result, Ok, Err, List, [], ◌∷◌, length, refl, ap, arith, rules}
+use Rattle.std.proofs.Common.{◌≡◌, ℕ, not, ◌<◌, ◌^◌, ◌&&◌, cond, leb, sym, Bool, true, false, Option, Some, None, ◌∙◌, eqb, codes, Result, Ok, Err, List, [], ◌∷◌, length, refl, ap, arith, rules}
 use Rattle.std.proofs.lemmas.Bool.Decides.{nat_tests}
 use Rattle.std.proofs.lemmas.Str.Parse.{IsNumeralModel, numerals_by_value, parse_digits}
 use Rattle.std.specs.Char.{is_ascii_digit}
