@@ -124,34 +124,6 @@ fn making_a_file_or_directory_is_refused_in_order(rt: HostRuntime) {
     is_history(&rt, MAKING);
 }
 
-static LIMITS_OF_FILES: &str = "
-c1 mkfset home -> ok
-c1 create home:/f 1 2 -> ok
-c1 mkdir home:/d 1 2 -> ok
-c1 create home:/e 9 2 -> ok
-c1 create home:/g 9 9 -> ok
-c1 setquota home user 1 2 0 -> ok
-c1 setquota home group 2 3 0 -> ok
-c1 create home:/n 1 2 -> E11 quota-files limit=2 used=2
-c1 create home:/n 9 2 -> E11 quota-files limit=3 used=3
-c1 setquota home fileset 0 4 0 -> ok
-c1 create home:/n 1 2 -> E11 quota-files limit=2 used=2
-c1 create home:/n 1 9 -> E11 quota-files limit=2 used=2
-c1 mkdir home:/n 9 2 -> E11 quota-files limit=3 used=3
-c1 mkdir home:/n 9 9 -> E11 quota-files limit=4 used=4
-c1 setquota home user 1 3 0 -> ok
-c1 create home:/n 1 2 -> E11 quota-files limit=3 used=3
-c1 setquota home group 2 4 0 -> ok
-c1 create home:/n 1 2 -> E11 quota-files limit=4 used=4
-c1 setquota home fileset 0 5 0 -> ok
-c1 create home:/n 1 2 -> ok
-";
-
-#[test]
-fn limits_of_files_are_asked_in_order(rt: HostRuntime) {
-    is_history(&rt, LIMITS_OF_FILES);
-}
-
 static WRITING: &str = "
 c1 mkfset home -> ok
 c1 create home:/f 1 2 -> ok
@@ -180,37 +152,6 @@ c1 stat home:/f -> ok file 1 2 0 0 -
 #[test]
 fn writing_is_refused_in_order(rt: HostRuntime) {
     is_history(&rt, WRITING);
-}
-
-static LIMITS_OF_BLOCKS: &str = "
-c1 mkfset home -> ok
-c1 create home:/f 1 2 -> ok
-c1 write home:/f 0 61 -> ok 1
-c1 create home:/e 9 2 -> ok
-c1 write home:/e 0 61 -> ok 1
-c1 create home:/g 9 9 -> ok
-c1 write home:/g 0 61 -> ok 1
-c1 create home:/h 1 9 -> ok
-c1 setquota home user 1 0 16 -> ok
-c1 setquota home group 2 0 32 -> ok
-c1 write home:/f 8192 61 -> E12 quota-blocks limit=16 used=16 asked=16
-c1 write home:/e 8192 61 -> E12 quota-blocks limit=32 used=32 asked=16
-c1 setquota home fileset 0 0 48 -> ok
-c1 write home:/f 8192 61 -> E12 quota-blocks limit=16 used=16 asked=16
-c1 write home:/h 8192 61 -> E12 quota-blocks limit=16 used=16 asked=16
-c1 write home:/e 8192 61 -> E12 quota-blocks limit=32 used=32 asked=16
-c1 write home:/g 8192 61 -> E12 quota-blocks limit=48 used=48 asked=16
-c1 setquota home user 1 0 32 -> ok
-c1 write home:/f 8192 61 -> E12 quota-blocks limit=32 used=32 asked=16
-c1 setquota home group 2 0 48 -> ok
-c1 write home:/f 8192 61 -> E12 quota-blocks limit=48 used=48 asked=16
-c1 setquota home fileset 0 0 64 -> ok
-c1 write home:/f 8192 61 -> ok 1
-";
-
-#[test]
-fn limits_of_blocks_are_asked_in_order(rt: HostRuntime) {
-    is_history(&rt, LIMITS_OF_BLOCKS);
 }
 
 static TRUNCATING: &str = "
