@@ -2,6 +2,7 @@
 #![tactic(auto)]
 
 ghost use Rattle.std.specs.Prelude.{◌≡◌, ℕ, List, All, Option, None, true};
+ghost use Rattle.domain_base.specs.declared.version.Version.{Version};
 ghost use Rattle.fileset_model.specs.declared.command.Command.{Command};
 ghost use Rattle.fileset_model.specs.LooksLike.{LooksLike};
 ghost use Rattle.fileset_model.specs.Filesets.{FilesetMap};
@@ -19,7 +20,7 @@ ghost use Rattle.history_model.specs.PlainRun.{
   PlainRun,
   is_of_filesets,
 };
-ghost use Rattle.history_model.specs.State.{State};
+ghost use Rattle.history_model.specs.State.{State, new_domain};
 ghost use Rattle.history_laws.specs.Valid.{IsValid};
 
 /// A history of clients whose commands are answered in turn as they mean for filesets without
@@ -49,6 +50,11 @@ pub fn filesets_that_look_alike_answer_alike()
         → refusal_of other command ≡ refusal_of all command }
     ensures answers { (all other : FilesetMap) (command : Command) → LooksLike all other
         → refusal_of all command ≡ None → answer_of other command ≡ answer_of all command }
+{}
+
+/// A domain that was just made, of either version and on volumes of any sizes, is valid.
+pub fn a_new_domain_is_valid()
+    ensures { (version : Version) (sizes : List ℕ) → IsValid (new_domain version sizes) }
 {}
 
 /// The state after each legal history that began in a valid one is valid.
