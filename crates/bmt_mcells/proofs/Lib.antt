@@ -1,3 +1,4 @@
 pub mod Frames
 pub mod Spellings
 pub mod OneByOne
+pub mod Walk
