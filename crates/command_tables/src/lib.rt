@@ -10,6 +10,10 @@ mod files;
 #[cfg(test)]
 mod filesets;
 #[cfg(test)]
+mod links;
+#[cfg(test)]
+mod marks;
+#[cfg(test)]
 mod names;
 #[cfg(test)]
 mod quotas;

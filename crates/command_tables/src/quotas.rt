@@ -211,3 +211,26 @@ c1 showquota home user 10 -> ok files 2 2 blocks 0 32
 fn clones_count_for_nobody(rt: HostRuntime) {
     is_history(&rt, CLONE_USE);
 }
+
+static REPLACED_DIRECTORY: &str = "
+c1 mkfset home -> ok
+c1 mkdir home:/d 10 20 -> ok
+c1 mkdir home:/e 10 20 -> ok
+c1 showquota home user 10 -> ok files 2 0 blocks 0 0
+c1 rename home:/d /e -> ok
+c1 showquota home user 10 -> ok files 1 0 blocks 0 0
+c1 showquota home group 20 -> ok files 1 0 blocks 0 0
+c1 showquota home fileset 0 -> ok files 1 0 blocks 0 0
+c1 create home:/d 10 20 -> ok
+c1 create home:/f 10 20 -> ok
+c1 rename home:/d /f -> ok
+c1 showquota home user 10 -> ok files 2 0 blocks 0 0
+c1 rmdir home:/e -> ok
+c1 unlink home:/f -> ok
+c1 showquota home fileset 0 -> ok files 0 0 blocks 0 0
+";
+
+#[test]
+fn what_a_rename_replaces_is_used_no_more(rt: HostRuntime) {
+    is_history(&rt, REPLACED_DIRECTORY);
+}

@@ -40,6 +40,8 @@ enum Verb {
     Read,
     Truncate,
     Rename,
+    Link,
+    Links,
     Unlink,
     Rmdir,
     List,
@@ -50,7 +52,7 @@ enum Verb {
     Cancel,
 }
 
-static VERBS: [(&str, Verb); 20] = [
+static VERBS: [(&str, Verb); 22] = [
     ("mkfset", Verb::Mkfset),
     ("rmfset", Verb::Rmfset),
     ("clonefset", Verb::Clonefset),
@@ -63,6 +65,8 @@ static VERBS: [(&str, Verb); 20] = [
     ("read", Verb::Read),
     ("truncate", Verb::Truncate),
     ("rename", Verb::Rename),
+    ("link", Verb::Link),
+    ("links", Verb::Links),
     ("unlink", Verb::Unlink),
     ("rmdir", Verb::Rmdir),
     ("list", Verb::List),
@@ -155,6 +159,10 @@ fn place_command(
             place,
             to: path(alloc, word(words)?)?,
         }),
+        Verb::Link => Ok(Command::Link {
+            place,
+            to: path(alloc, word(words)?)?,
+        }),
         _ => lone_place_command(verb, place),
     }
 }
@@ -162,6 +170,7 @@ fn place_command(
 /// A command that has a place and nothing else.
 fn lone_place_command(verb: Verb, place: Place) -> Result<Command, NotRead> {
     match verb {
+        Verb::Links => Ok(Command::Links { place }),
         Verb::Unlink => Ok(Command::Unlink { place }),
         Verb::Rmdir => Ok(Command::Rmdir { place }),
         Verb::List => Ok(Command::List { place }),
@@ -248,7 +257,7 @@ fn place(alloc: Global, words: &mut SplitWhitespace<'_>) -> Result<Place, NotRea
 }
 
 /// The path whose names stand behind a `/` each; `/` alone is the root's.
-fn path(alloc: Global, text: &str) -> Result<Path, NotRead> {
+pub(crate) fn path(alloc: Global, text: &str) -> Result<Path, NotRead> {
     let names = text.strip_prefix('/').ok_or(NotRead::Malformed)?;
     let mut path = Vec::new(alloc);
     if !names.is_empty() {

@@ -1,7 +1,8 @@
 //! Runs a table of history lines.
 
 use crate::reading::{NotRead, line_command};
-use fileset_model::{Entry, Filesets, apply};
+use fileset_model::{Entry, Filesets};
+use plain_filesets::apply;
 use script_text::history_line;
 use std::alloc::Global;
 use std::process::Abort;

@@ -3,7 +3,7 @@ use Rattle.std.proofs.Common.{◌≡◌, ℕ, ◌+◌, ◌*◌, ◌%◌, List, O
 use Rattle.volume_disk.specs.Disk.{Disk, MayLeave}
 use Rattle.volume_disk.specs.Image.{Image}
 use Rattle.volume_disk.proofs.Bytes.{bytes_from-same}
-use Rattle.volume_disk.proofs.Moments.{in_or_out, mixed, mixed-in, mixed-out}
+use Rattle.volume_disk.proofs.Places.{in_or_out, mixed, mixed-in, mixed-out}
 use Rattle.disk_label.specs.Anchor.{volume_of, gate_of, anchor_at, Counts, IsAnchor, IsReady, SamePage1}
 use Rattle.disk_label.specs.Body.{anchor_from}
 use Rattle.disk_label.proofs.Slots.{Counts-same, IsAnchorBelow-kept}

@@ -1,5 +1,5 @@
 pub mod Bodies
 pub mod Elsewhere
-pub mod Others
+pub mod OtherSlots
 pub mod Slots
 pub mod Written

@@ -130,8 +130,8 @@ impl Anchor {
         ]
     }
 
-    /// Whether its log stands on a member.
-    pub(crate) fn has_log_member(&self) -> bool
+    /// Whether its log stands on a member, open or closed. The log has to be on one of the eight volumes.
+    pub fn has_log_member(&self) -> bool
         requires { (1 ≤ self.now.log_vol) × (self.now.log_vol ≤ 8) }
         ensures { IsTrue result ↔ HasLogMember self.now }
     {

@@ -10,6 +10,3 @@ pub use anchor::{Anchor, Member};
 pub use fault::{AnchorFault, SlotFault};
 pub use label::{label_reads_back, read_label, write_label};
 pub use store::{anchors_depend_on_page_1, read_anchor, ready_slot, write_anchor};
-
-#[cfg(test)]
-mod tests;

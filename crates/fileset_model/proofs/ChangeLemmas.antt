@@ -1,8 +1,9 @@
 -- Sorted lists and the maps that they make, where entries are taken away or a file is cut.
-use Rattle.std.proofs.Common.{◌≡◌, ℕ, ◌-◌, ◌*◌, ◌/◌, ◌%◌, nat_lt, Bool, true, false, cond, not, List, IsTrue, Option, Some, None, length, take, take_all, drop, length-drop, arith, refl, sym, ap, ◌∙◌}
+use Rattle.std.proofs.Common.{◌≡◌, ℕ, ◌-◌, ◌*◌, ◌/◌, ◌%◌, ◌==◌, ◌&&◌, nat_lt, Bool, true, false, cond, if◌then◌else◌, not, List, IsTrue, Option, Some, None, length, take, take_all, drop, length-drop, arith, refl, sym, ap, ◌∙◌}
 use Rattle.std.proofs.lemmas.List.{drop-replicate}
 use Rattle.std.specs.declared.cmp.Ordering.{Ordering}
 use Rattle.std.specs.declared.cmp.Ordering.TheVariants.{Equal}
+use Rattle.std.specs.List.{list_any}
 use Rattle.std.specs.Option.{option_map_or}
 use Rattle.std.specs.Ordering.{eq_by_cmp, is_eq, nat_cmp}
 use Rattle.std.specs.Cmp.{IsTotalOrder, alike_right, eq_by_cmp_equiv, nat_cmp_total}
@@ -12,11 +13,12 @@ use Rattle.domain_base.specs.Page.{overwritten, zero_bytes}
 use Rattle.fileset_model.specs.Orders.{Path, path_cmp, path_cmp-total, path_cmp-IsAntisymmetric}
 use Rattle.fileset_model.specs.Fileset.{Fileset}
 use Rattle.fileset_model.specs.Pages.{truncated}
-use Rattle.fileset_model.specs.Apply.{without}
+use Rattle.fileset_model.specs.Paths.{same_path}
+use Rattle.fileset_model.specs.Apply.{is_named_elsewhere, linked, without}
 use Rattle.fileset_model.specs.declared.command.Owner.{Owner}
 use Rattle.fileset_model.specs.declared.fileset.Limits.{Limits}
 use Rattle.fileset_model.specs.declared.node.Node.{Node}
-use Rattle.fileset_model.proofs.EntryLemmas.{from_T, to_T, get-from_sorted, insert-from_sorted}
+use Rattle.fileset_model.proofs.EntryLemmas.{from_T, to_T, entries-from_sorted, get-from_sorted, insert-from_sorted}
 use Rattle.fileset_model.proofs.TreeLemmas.{tree_of}
 
 turned : {A : Type 0} (b : Bool) (x y : A) → cond (not b) x y ≡ cond b y x
@@ -48,27 +50,54 @@ module _ {K X : Type 0} {R : K → K → Ordering} (o : IsTotalOrder R) (same : 
       ∙ ap (λ (v : Option X). cond (eq_by_cmp R q key) None v) (sym (get-from_sorted R es q h))
       ∙ sym (map.get-remove o (map.from_sorted es) key q))
 
-pub without-at : (tree : Fileset) (path : Path) (number : ℕ) → map.get tree.paths path ≡ Some number
-    → without path tree ≡ record tree { paths = map.remove tree.paths path; nodes = map.remove tree.nodes number }
-without-at tree path number is =
-    ap (λ (found : Option ℕ). option_map_or (λ n. record tree { paths = map.remove tree.paths path; nodes = map.remove tree.nodes n }) found tree) is
+-- the tree without a path, and without its number where that goes with it
+abbrev pub left_without : Fileset → Path → ℕ → Bool → Fileset
+left_without tree path number stays = record tree { paths = map.remove tree.paths path; nodes = if stays then tree.nodes else map.remove tree.nodes number }
+
+pub without-at : (tree : Fileset) (path : Path) (number : ℕ) → map.get tree.paths path ≡ Some number → without path tree ≡ left_without tree path number (is_named_elsewhere tree path number)
+without-at tree path number is = ap (λ (found : Option ℕ). option_map_or (λ n. left_without tree path n (is_named_elsewhere tree path n)) found tree) is
 
 pub without-missing : (tree : Fileset) (path : Path) → map.get tree.paths path ≡ None → without path tree ≡ tree
-without-missing tree path is =
-    ap (λ (found : Option ℕ). option_map_or (λ n. record tree { paths = map.remove tree.paths path; nodes = map.remove tree.nodes n }) found tree) is
+without-missing tree path is = ap (λ (found : Option ℕ). option_map_or (λ n. left_without tree path n (is_named_elsewhere tree path n)) found tree) is
 
--- the three lists without the entries of a path and of its number
-pub without-from_sorted : (paths : List (Path × ℕ)) (nodes : List (ℕ × Node)) (limits : List (Owner × Limits)) (path : Path) (number : ℕ)
-    → IsTrue (is_sorted path_cmp paths) → IsTrue (is_sorted nat_cmp nodes) → map.get (tree_of paths nodes limits).paths path ≡ Some number
-    → tree_of (where_key path_cmp (λ x. not (eq_by_cmp path_cmp path x)) paths) (where_key nat_cmp (λ x. not (eq_by_cmp nat_cmp number x)) nodes) limits
-    ≡ without path (tree_of paths nodes limits)
-without-from_sorted paths nodes limits path number by_path by_number leads =
-    (λ i. record {
-      paths = remove-from_sorted path_cmp-total path_cmp-IsAntisymmetric path paths by_path i;
-      nodes = remove-from_sorted nat_cmp_total map.nat_cmp-IsAntisymmetric number nodes by_number i;
-      limits = map.from_sorted limits;
-    })
-    ∙ sym (without-at (tree_of paths nodes limits) path number leads)
+pub linked-at : (tree : Fileset) (path to : Path) (number : ℕ) → map.get tree.paths path ≡ Some number → linked path to tree ≡ record tree { paths = map.insert tree.paths to number }
+linked-at tree path to number is = ap (λ (found : Option ℕ). option_map_or (λ n. record tree { paths = map.insert tree.paths to n }) found tree) is
+
+pub linked-missing : (tree : Fileset) (path to : Path) → map.get tree.paths path ≡ None → linked path to tree ≡ tree
+linked-missing tree path to is = ap (λ (found : Option ℕ). option_map_or (λ n. record tree { paths = map.insert tree.paths to n }) found tree) is
+
+-- whether a path other than this one leads to a number, in a list of entries
+abbrev pub named_elsewhere : Path → ℕ → List (Path × ℕ) → Bool
+named_elsewhere path number es = list_any (λ e. e.1 == number && not (same_path e.0 path)) es
+
+module _ (paths : List (Path × ℕ)) (nodes : List (ℕ × Node)) (limits : List (Owner × Limits)) (path : Path) (number : ℕ) (by_path : IsTrue (is_sorted path_cmp paths))
+    (leads : map.get (tree_of paths nodes limits).paths path ≡ Some number) where
+  -- the lists without a path, whose number keeps what it has
+  pub kept-from_sorted : named_elsewhere path number paths ≡ true
+      → tree_of (where_key path_cmp (λ x. not (eq_by_cmp path_cmp path x)) paths) nodes limits ≡ without path (tree_of paths nodes limits)
+  kept-from_sorted stays =
+      let tree = tree_of paths nodes limits in
+      (λ i. record {
+        paths = remove-from_sorted path_cmp-total path_cmp-IsAntisymmetric path paths by_path i;
+        nodes = map.from_sorted nodes;
+        limits = map.from_sorted limits;
+      })
+      ∙ ap (left_without tree path number) (sym (ap (named_elsewhere path number) (entries-from_sorted path_cmp paths by_path) ∙ stays))
+      ∙ sym (without-at tree path number leads)
+
+  -- and the lists without a path and its number
+  pub gone-from_sorted : IsTrue (is_sorted nat_cmp nodes) → named_elsewhere path number paths ≡ false
+      → tree_of (where_key path_cmp (λ x. not (eq_by_cmp path_cmp path x)) paths) (where_key nat_cmp (λ x. not (eq_by_cmp nat_cmp number x)) nodes) limits
+      ≡ without path (tree_of paths nodes limits)
+  gone-from_sorted by_number goes =
+      let tree = tree_of paths nodes limits in
+      (λ i. record {
+        paths = remove-from_sorted path_cmp-total path_cmp-IsAntisymmetric path paths by_path i;
+        nodes = remove-from_sorted nat_cmp_total map.nat_cmp-IsAntisymmetric number nodes by_number i;
+        limits = map.from_sorted limits;
+      })
+      ∙ ap (left_without tree path number) (sym (ap (named_elsewhere path number) (entries-from_sorted path_cmp paths by_path) ∙ goes))
+      ∙ sym (without-at tree path number leads)
 
 -- the page in which a size falls, with zeros from there on
 abbrev pub cut_page : ℕ → List ℕ → List ℕ

@@ -3,20 +3,18 @@ use Rattle.std.proofs.Common.{◌≡◌, ℕ, ◌+◌, ◌<◌, Bool, true, fals
 use Rattle.std.proofs.lemmas.List.{drop_all, drop_more}
 use Rattle.std.specs.declared.cmp.Ordering.{Ordering}
 use Rattle.std.specs.declared.cmp.Ordering.TheVariants.{Less, Equal, Greater}
-use Rattle.std.specs.Ordering.{eq_by_cmp, is_eq, nat_cmp}
-use Rattle.std.specs.Cmp.{IsTotalOrder, eq_by_cmp_equiv, nat_cmp_total}
+use Rattle.std.specs.Ordering.{eq_by_cmp, is_eq}
+use Rattle.std.specs.Cmp.{IsTotalOrder, eq_by_cmp_equiv}
 use Rattle.std.specs.Cmp.Lexicographic.{lists_ties, texts_ties}
+use Rattle.std.specs.Option.{option_map_or}
 use Rattle.std.specs.FinMap as map
 use Rattle.std.specs.FinMap.Entries.{is_sorted, put, where_key}
 use Rattle.fileset_model.specs.Orders.{Path, name_cmp, path_cmp, path_cmp-total, path_cmp-IsAntisymmetric}
 use Rattle.fileset_model.specs.Paths.{same_path}
-use Rattle.fileset_model.specs.Apply.{moved, moved_path, without}
-use Rattle.fileset_model.specs.declared.command.Owner.{Owner}
-use Rattle.fileset_model.specs.declared.fileset.Limits.{Limits}
-use Rattle.fileset_model.specs.declared.node.Node.{Node}
-use Rattle.fileset_model.proofs.ChangeLemmas.{is_sorted_where, remove-from_sorted, without-at, without-missing}
+use Rattle.fileset_model.specs.Fileset.{Fileset}
+use Rattle.fileset_model.specs.Apply.{is_named_elsewhere, moved, moved_path, without}
+use Rattle.fileset_model.proofs.ChangeLemmas.{is_sorted_where, left_without, remove-from_sorted}
 use Rattle.fileset_model.proofs.EntryLemmas.{entries-from_sorted, from_T, from_sorted-empty}
-use Rattle.fileset_model.proofs.TreeLemmas.{tree_of}
 
 -- the entries without a key
 abbrev pub without_key : {K X : Type 0} (R : K → K → Ordering) → K → List (K × X) → List (K × X)
@@ -83,22 +81,16 @@ moved_from from to es m h is =
     ∙ ap (λ (l : List (Path × ℕ)). map.from_entries {R = path_cmp} (map_each (λ e. (moved_path from to e.0, e.1)) l))
     (sym (entries-from_sorted path_cmp (without_key path_cmp to es) (is_sorted_where path_cmp _ es h)) ∙ ap map.entries left)
 
--- a move to a path where nothing stands
-pub moved-missing : (paths : List (Path × ℕ)) (nodes : List (ℕ × Node)) (limits : List (Owner × Limits)) (from to : Path) → IsTrue (is_sorted path_cmp paths)
-    → map.get (tree_of paths nodes limits).paths to ≡ None → tree_of (map.entries (moved_map from to paths)) nodes limits ≡ moved from to (without to (tree_of paths nodes limits))
-moved-missing paths nodes limits from to h none =
-    let tree = tree_of paths nodes limits in
-    ap (λ p. record tree { paths = p }) (moved_from from to paths tree.paths h (remove-missing path_cmp-total path_cmp-IsAntisymmetric tree.paths to none))
-    ∙ ap (moved from to) (sym (without-missing tree to none))
+without-paths : (tree : Fileset) (path : Path) → (without path tree).paths ≡ map.remove tree.paths path
+without-paths tree path =
+    elim (map.get tree.paths path) as (λ found. map.get tree.paths path ≡ found
+    → (option_map_or (λ n. left_without tree path n (is_named_elsewhere tree path n)) found tree).paths ≡ map.remove tree.paths path) [
+      | None ↦ λ none. sym (remove-missing path_cmp-total path_cmp-IsAntisymmetric tree.paths path none)
+      | Some number ↦ λ is. refl
+    ] refl
 
--- a move to the path of a file or directory, which goes
-pub moved-replaced : (paths : List (Path × ℕ)) (nodes : List (ℕ × Node)) (limits : List (Owner × Limits)) (from to : Path) (number : ℕ) → IsTrue (is_sorted path_cmp paths) → IsTrue (is_sorted nat_cmp nodes)
-    → map.get (tree_of paths nodes limits).paths to ≡ Some number → tree_of (map.entries (moved_map from to paths)) (without_key nat_cmp number nodes) limits ≡ moved from to (without to (tree_of paths nodes limits))
-moved-replaced paths nodes limits from to number h g is =
-    let tree = tree_of paths nodes limits in
-    (λ i. record {
-      paths = moved_from from to paths (map.remove tree.paths to) h refl i;
-      nodes = remove-from_sorted nat_cmp_total map.nat_cmp-IsAntisymmetric number nodes g i;
-      limits = map.from_sorted limits;
-    })
-    ∙ ap (moved from to) (sym (without-at tree to number is))
+-- a move, in place of what stands at the second path
+pub moved-over : (tree : Fileset) (paths : List (Path × ℕ)) (from to : Path) → IsTrue (is_sorted path_cmp paths) → map.from_sorted paths ≡ tree.paths
+    → record (without to tree) { paths = map.from_sorted {R = path_cmp} (map.entries (moved_map from to paths)) } ≡ moved from to (without to tree)
+moved-over tree paths from to h is =
+    ap (λ p. record (without to tree) { paths = p }) (moved_from from to paths (without to tree).paths h (ap (λ m. map.remove m to) is ∙ sym (without-paths tree to)))

@@ -1,17 +1,17 @@
 -- What each command of a client answers and changes.
-use Rattle.std.specs.Prelude.{◌≡◌, ◌⊎◌, ℕ, ◌+◌, ◌*◌, ◌==◌, Bool, true, false, not, ◌||◌, nat_lt, nat_le, max, List, [], ◌∷◌, ◌++◌, length, map, drop, IsTrue, MatchOption, Option, Some, None, if◌then◌else◌}
+use Rattle.std.specs.Prelude.{◌≡◌, ◌⊎◌, ℕ, ◌+◌, ◌*◌, ◌==◌, Bool, true, false, not, ◌||◌, ◌&&◌, nat_lt, nat_le, max, List, [], ◌∷◌, ◌++◌, length, map, drop, IsTrue, MatchOption, Option, Some, None, if◌then◌else◌}
 use Rattle.std.specs.Option.{option_map_or}
 use Rattle.std.specs.List.{list_any}
 use Rattle.std.specs.FinMap as map
-use Rattle.domain_base.specs.declared.limits.TheConstants.{BLOCKS_PER_PAGE, FILE_BYTES, MAX_FILESETS}
+use Rattle.domain_base.specs.Limits.{blocks_per_page, file_bytes, max_filesets, max_links}
 use Rattle.fileset_model.specs.Orders.{Name, Path}
 use Rattle.fileset_model.specs.Fileset.{Fileset}
 use Rattle.fileset_model.specs.Pages.{absent_pages, bytes_between, written, truncated}
-use Rattle.fileset_model.specs.Paths.{same_name, same_path, first_refusal, refuse_if, node_at, is_directory, is_marked, walk_refusal, target_refusal, directory_here, file_here, begins_with, rows_of}
+use Rattle.fileset_model.specs.Paths.{same_name, same_path, first_refusal, refuse_if, node_at, is_directory, is_marked, walk_refusal, target_refusal, directory_here, file_here, begins_with, rows_of, names_one, paths_to}
 use Rattle.fileset_model.specs.Usage.{limits_of, quota_refusal, used_blocks, used_files, with_limits}
-use Rattle.fileset_model.specs.State.{FilesetMap, State}
+use Rattle.fileset_model.specs.Filesets.{FilesetMap}
 use Rattle.fileset_model.specs.declared.command.Command.{Command}
-use Rattle.fileset_model.specs.declared.command.Command.TheVariants.{Mkfset, Rmfset, Clonefset, Showfsets, Setquota, Showquota, Create, Mkdir, Write, Read, Truncate, Rename, Unlink, Rmdir, List as ListNames, Stat, Fsync, Chfile, Sync, Cancel}
+use Rattle.fileset_model.specs.declared.command.Command.TheVariants.{Mkfset, Rmfset, Clonefset, Showfsets, Setquota, Showquota, Create, Mkdir, Write, Read, Truncate, Rename, Link, Links, Unlink, Rmdir, List as ListNames, Stat, Fsync, Chfile, Sync, Cancel}
 use Rattle.fileset_model.specs.declared.command.Owner.{Owner}
 use Rattle.fileset_model.specs.declared.command.Place.{Place}
 use Rattle.fileset_model.specs.declared.fileset.FilesetSlot.{FilesetSlot}
@@ -20,7 +20,7 @@ use Rattle.fileset_model.specs.declared.fileset.Role.TheVariants.{Original, Clon
 use Rattle.fileset_model.specs.declared.node.Node.{Node}
 use Rattle.fileset_model.specs.declared.node.Node.TheVariants.{File, Directory}
 use Rattle.fileset_model.specs.declared.reply.Refusal.{Refusal}
-use Rattle.fileset_model.specs.declared.reply.Refusal.TheVariants.{NoFileset, FilesetExists, Exists, NotEmpty, ReadOnly, HasClone, OutOfSync, IntoItself, TooFar, FilesetsFull, CloneOfClone, OutOfMemory}
+use Rattle.fileset_model.specs.declared.reply.Refusal.TheVariants.{NoFileset, FilesetExists, Exists, NotEmpty, ReadOnly, HasClone, OutOfSync, IntoItself, TooFar, FilesetsFull, CloneOfClone, OutOfMemory, LinksFull}
 use Rattle.fileset_model.specs.declared.reply.Reply.{Reply}
 use Rattle.fileset_model.specs.declared.reply.Reply.TheVariants.{Done, Count, Read as Bytes, Names, FileStat, DirStat, Filesets, Quota, Refused}
 
@@ -53,7 +53,7 @@ abbrev pub out_of_sync : FilesetSlot → Path → Option Refusal
 out_of_sync slot path = refuse_if (is_marked slot path) OutOfSync
 
 abbrev pub filesets_full : FilesetMap → Option Refusal
-filesets_full all = refuse_if (nat_le MAX_FILESETS (map.len all)) FilesetsFull
+filesets_full all = refuse_if (nat_le max_filesets (map.len all)) FilesetsFull
 
 abbrev pub name_taken : FilesetMap → Name → Option Refusal
 name_taken all name = refuse_if (map.contains_key all name) FilesetExists
@@ -65,9 +65,13 @@ path_taken slot path = refuse_if (map.contains_key slot.tree.paths path) Exists
 abbrev pub not_empty : FilesetSlot → Path → Option Refusal
 not_empty slot path = refuse_if (length path == 0 || not (length (rows_of slot.tree path) == 0)) NotEmpty
 
+-- the file has as many paths as a file may have
+abbrev pub links_full : FilesetSlot → Path → Option Refusal
+links_full slot path = refuse_if (option_map_or (λ number. nat_le max_links (paths_to slot.tree number)) (map.get slot.tree.paths path) false) LinksFull
+
 -- 16 blocks are asked for each absent page
 abbrev pub write_quota : Fileset → ℕ → List ℕ → Node → Option Refusal
-write_quota tree offset bytes (File uid gid size logged pages) = quota_refusal tree uid gid 0 (BLOCKS_PER_PAGE * absent_pages pages offset (length bytes))
+write_quota tree offset bytes (File uid gid size logged pages) = quota_refusal tree uid gid 0 (blocks_per_page * absent_pages pages offset (length bytes))
 write_quota tree offset bytes (Directory uid gid) = None
 
 abbrev pub create_checks : Path → ℕ → ℕ → FilesetSlot → List (Option Refusal)
@@ -76,11 +80,15 @@ create_checks path uid gid slot =
 
 abbrev pub write_checks : Path → ℕ → List ℕ → FilesetSlot → List (Option Refusal)
 write_checks path offset bytes slot =
-    read_only slot ∷ target_refusal slot path ∷ directory_here slot path ∷ refuse_if (nat_lt FILE_BYTES (offset + length bytes)) TooFar
+    read_only slot ∷ target_refusal slot path ∷ directory_here slot path ∷ refuse_if (nat_lt file_bytes (offset + length bytes)) TooFar
     ∷ option_map_or (write_quota slot.tree offset bytes) (node_at slot.tree path) None ∷ []
 
 abbrev pub read_checks : Path → FilesetSlot → List (Option Refusal)
 read_checks path slot = target_refusal slot path ∷ directory_here slot path ∷ out_of_sync slot path ∷ []
+
+abbrev pub link_checks : Path → Path → FilesetSlot → List (Option Refusal)
+link_checks path to slot =
+    read_only slot ∷ target_refusal slot path ∷ directory_here slot path ∷ walk_refusal slot to ∷ path_taken slot to ∷ links_full slot path ∷ []
 
 -- what stands at the second path is to be replaced: a file by a file, an empty directory by a directory
 abbrev pub replace_checks : Path → Path → FilesetSlot → List (Option Refusal)
@@ -96,7 +104,7 @@ move_checks from to slot =
 abbrev pub rename_checks : Path → Path → FilesetSlot → List (Option Refusal)
 rename_checks from to slot =
     read_only slot ∷ target_refusal slot from ∷ walk_refusal slot to
-    ∷ (if same_path from to then None else first_refusal (move_checks from to slot)) ∷ []
+    ∷ (if names_one slot.tree from to then None else first_refusal (move_checks from to slot)) ∷ []
 
 -- the first refusal that holds of a command
 abbrev pub refusal_of : FilesetMap → Command → Option Refusal
@@ -104,7 +112,6 @@ refusal_of all (Mkfset fileset) = first_refusal (name_taken all fileset ∷ file
 refusal_of all (Rmfset fileset) = in_fileset all fileset (λ slot. refuse_if (has_clone all fileset) HasClone ∷ [])
 refusal_of all (Clonefset fileset new_name) =
     in_fileset all fileset (λ slot. refuse_if (is_clone slot.role) CloneOfClone ∷ refuse_if (has_clone all fileset) HasClone ∷ name_taken all new_name ∷ filesets_full all ∷ [])
-refusal_of all Showfsets = None
 refusal_of all (Setquota fileset who files blocks) = in_fileset all fileset (λ slot. read_only slot ∷ [])
 refusal_of all (Showquota fileset who) = in_fileset all fileset (λ slot. read_only slot ∷ [])
 refusal_of all (Create place uid gid) = in_fileset all place.fileset (create_checks place.path uid gid)
@@ -112,8 +119,10 @@ refusal_of all (Mkdir place uid gid) = in_fileset all place.fileset (create_chec
 refusal_of all (Write place offset bytes) = in_fileset all place.fileset (write_checks place.path offset bytes)
 refusal_of all (Read place offset count) = in_fileset all place.fileset (read_checks place.path)
 refusal_of all (Truncate place size) =
-    in_fileset all place.fileset (λ slot. read_only slot ∷ target_refusal slot place.path ∷ directory_here slot place.path ∷ refuse_if (nat_lt FILE_BYTES size) TooFar ∷ [])
+    in_fileset all place.fileset (λ slot. read_only slot ∷ target_refusal slot place.path ∷ directory_here slot place.path ∷ refuse_if (nat_lt file_bytes size) TooFar ∷ [])
 refusal_of all (Rename place to) = in_fileset all place.fileset (rename_checks place.path to)
+refusal_of all (Link place to) = in_fileset all place.fileset (link_checks place.path to)
+refusal_of all (Links place) = in_fileset all place.fileset (read_checks place.path)
 refusal_of all (Unlink place) = in_fileset all place.fileset (λ slot. read_only slot ∷ target_refusal slot place.path ∷ directory_here slot place.path ∷ [])
 refusal_of all (Rmdir place) =
     in_fileset all place.fileset (λ slot. read_only slot ∷ target_refusal slot place.path ∷ file_here slot place.path ∷ not_empty slot place.path ∷ [])
@@ -121,8 +130,7 @@ refusal_of all (ListNames place) = in_fileset all place.fileset (λ slot. target
 refusal_of all (Stat place) = in_fileset all place.fileset (λ slot. target_refusal slot place.path ∷ out_of_sync slot place.path ∷ [])
 refusal_of all (Fsync place) = in_fileset all place.fileset (λ slot. read_only slot ∷ target_refusal slot place.path ∷ [])
 refusal_of all (Chfile place logged) = in_fileset all place.fileset (λ slot. read_only slot ∷ target_refusal slot place.path ∷ directory_here slot place.path ∷ [])
-refusal_of all Sync = None
-refusal_of all Cancel = None
+refusal_of all command = None
 
 -- ---- the answer of each command that is not refused
 
@@ -137,6 +145,9 @@ stat_of tree path (Directory uid gid) = DirStat uid gid (length (rows_of tree pa
 abbrev pub quota_of : Fileset → Owner → Reply
 quota_of tree who = let limits = limits_of tree who in Quota (used_files tree who) limits.files (used_blocks tree who) limits.blocks
 
+abbrev pub links_of : Path → Fileset → Reply
+links_of path tree = option_map_or (λ number. Count (paths_to tree number)) (map.get tree.paths path) Done
+
 -- what the tree of the fileset with this name gives
 abbrev pub of_tree : FilesetMap → Name → (Fileset → Reply) → Reply
 of_tree all name answer = option_map_or (λ slot. answer slot.tree) (map.get all name) Done
@@ -148,24 +159,12 @@ of_node all place answer = of_tree all place.fileset (λ tree. option_map_or (an
 abbrev pub answer_of : FilesetMap → Command → Reply
 answer_of all (Write place offset bytes) = Count (length bytes)
 answer_of all (Read place offset count) = of_node all place (λ tree. read_of offset count)
+answer_of all (Links place) = of_tree all place.fileset (links_of place.path)
 answer_of all (ListNames place) = of_tree all place.fileset (λ tree. Names (rows_of tree place.path))
 answer_of all (Stat place) = of_node all place (λ tree. stat_of tree place.path)
 answer_of all Showfsets = Filesets (map (λ e. record { fileset = e.0; original = original_of e.1.role }) (map.entries all))
 answer_of all (Showquota fileset who) = of_tree all fileset (λ tree. quota_of tree who)
-answer_of all (Mkfset fileset) = Done
-answer_of all (Rmfset fileset) = Done
-answer_of all (Clonefset fileset new_name) = Done
-answer_of all (Setquota fileset who files blocks) = Done
-answer_of all (Create place uid gid) = Done
-answer_of all (Mkdir place uid gid) = Done
-answer_of all (Truncate place size) = Done
-answer_of all (Rename place to) = Done
-answer_of all (Unlink place) = Done
-answer_of all (Rmdir place) = Done
-answer_of all (Fsync place) = Done
-answer_of all (Chfile place logged) = Done
-answer_of all Sync = Done
-answer_of all Cancel = Done
+answer_of all command = Done
 
 -- ---- the change of each command that is not refused
 
@@ -195,12 +194,23 @@ with_change path change tree =
     (λ number. option_map_or (λ node. record tree { nodes = map.insert tree.nodes number (change node) }) (map.get tree.nodes number) tree)
     (map.get tree.paths path) tree
 
--- the tree without a path and its node
+-- whether another path leads to a number too
+abbrev pub is_named_elsewhere : Fileset → Path → ℕ → Bool
+is_named_elsewhere tree path number = list_any (λ e. e.1 == number && not (same_path e.0 path)) (map.entries tree.paths)
+
+-- the tree without a path, and without what stands there where that was its last path
 abbrev pub without : Path → Fileset → Fileset
 without path tree =
     option_map_or
-    (λ number. record tree { paths = map.remove tree.paths path; nodes = map.remove tree.nodes number })
+    (λ number. record tree {
+      paths = map.remove tree.paths path;
+      nodes = if is_named_elsewhere tree path number then tree.nodes else map.remove tree.nodes number;
+    })
     (map.get tree.paths path) tree
+
+-- the tree in which a second path leads to what stands at the first
+abbrev pub linked : Path → Path → Fileset → Fileset
+linked path to tree = option_map_or (λ number. record tree { paths = map.insert tree.paths to number }) (map.get tree.paths path) tree
 
 -- a path that begins with `from`, with that front exchanged for `to`; any other as it is
 abbrev pub moved_path : Path → Path → Path → Path
@@ -209,6 +219,10 @@ moved_path from to path = if begins_with path from then to ++ drop (length from)
 -- the tree with all that stands at `from` and below it moved to `to`
 abbrev pub moved : Path → Path → Fileset → Fileset
 moved from to tree = record tree { paths = map.from_entries (map (λ e. (moved_path from to e.0, e.1)) (map.entries tree.paths)) }
+
+-- the tree after a rename, which changes nothing where both paths lead to one number
+abbrev pub renamed : Path → Path → Fileset → Fileset
+renamed from to tree = if names_one tree from to then tree else moved from to (without to tree)
 
 abbrev pub written_node : ℕ → List ℕ → Node → Node
 written_node offset bytes (File uid gid size logged pages) = File uid gid (max size (offset + length bytes)) logged (written pages offset bytes)
@@ -238,7 +252,7 @@ abbrev pub with_clone : FilesetMap → Name → Name → FilesetMap
 with_clone all name new_name =
     option_map_or (λ slot. map.insert all new_name (record { tree = record slot.tree { limits = map.empty }; role = CloneOf name map.empty })) (map.get all name) all
 
--- the filesets after a command that is not refused
+-- the filesets after a command that is not refused; of a command on volumes they tell nothing, so nothing is an answer to it
 abbrev pub Changes : FilesetMap → Command → FilesetMap → Type 0
 Changes all (Mkfset fileset) new = (root : ℕ) × (new ≡ map.insert all fileset (record { tree = empty_fileset root; role = Original }))
 Changes all (Rmfset fileset) new = new ≡ map.remove all fileset
@@ -249,19 +263,21 @@ Changes all (Create place uid gid) new = MakesNode all place (File uid gid 0 fal
 Changes all (Mkdir place uid gid) new = MakesNode all place (Directory uid gid) new
 Changes all (Write place offset bytes) new = new ≡ with_tree all place.fileset (with_change place.path (written_node offset bytes))
 Changes all (Truncate place size) new = new ≡ with_tree all place.fileset (with_change place.path (truncated_node size))
-Changes all (Rename place to) new =
-    new ≡ (if same_path place.path to then all else with_tree all place.fileset (λ tree. moved place.path to (without to tree)))
+Changes all (Rename place to) new = new ≡ with_tree all place.fileset (renamed place.path to)
+Changes all (Link place to) new = new ≡ with_tree all place.fileset (linked place.path to)
 Changes all (Unlink place) new = new ≡ with_tree all place.fileset (without place.path)
 Changes all (Rmdir place) new = new ≡ with_tree all place.fileset (without place.path)
 Changes all (Chfile place logged) new = new ≡ with_tree all place.fileset (with_change place.path (flagged_node logged))
 Changes all Showfsets new = new ≡ all
 Changes all (Showquota fileset who) new = new ≡ all
 Changes all (Read place offset count) new = new ≡ all
+Changes all (Links place) new = new ≡ all
 Changes all (ListNames place) new = new ≡ all
 Changes all (Stat place) new = new ≡ all
 Changes all (Fsync place) new = new ≡ all
 Changes all Sync new = new ≡ all
 Changes all Cancel new = new ≡ all
+Changes all command new = ⊥
 
 -- the first refusal, and then nothing changes, or else the answer and the change
 abbrev pub Answers : FilesetMap → Command → Reply → FilesetMap → Type 0
@@ -269,10 +285,6 @@ Answers all command reply new =
     MatchOption (refusal_of all command)
     ((reply ≡ answer_of all command) × Changes all command new)
     (λ refusal. (reply ≡ Refused refusal) × (new ≡ all))
-
--- the same of a state, all else of which stays
-abbrev pub Apply : State → Command → Reply → State → Type 0
-Apply s command reply new = Answers s.filesets command reply new.filesets × (new ≡ record s { filesets = new.filesets })
 
 -- the answer and the change of a command; or out-of-memory, and then nothing changes
 abbrev pub AnswersIfMemory : FilesetMap → Command → Reply → FilesetMap → Type 0
@@ -283,6 +295,7 @@ abbrev pub ChangesNothing : Command → Type 0
 ChangesNothing Showfsets = Unit {0}
 ChangesNothing (Showquota fileset who) = Unit {0}
 ChangesNothing (Read place offset count) = Unit {0}
+ChangesNothing (Links place) = Unit {0}
 ChangesNothing (ListNames place) = Unit {0}
 ChangesNothing (Stat place) = Unit {0}
 ChangesNothing (Fsync place) = Unit {0}

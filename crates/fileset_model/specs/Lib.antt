@@ -1,11 +1,10 @@
 pub mod Apply
 pub mod Entries
 pub mod Fileset
-pub mod Legal
+pub mod Filesets
+pub mod LooksLike
 pub mod Orders
 pub mod Pages
 pub mod Paths
-pub mod Room
 pub mod Shuffle
-pub mod State
 pub mod Usage

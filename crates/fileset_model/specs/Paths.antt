@@ -1,5 +1,5 @@
 -- Paths in a fileset: the directories on the way, the walk along them, and what a directory lists.
-use Rattle.std.specs.Prelude.{ℕ, Bool, true, false, not, List, [], ◌∷◌, length, map, take, drop, nat_eq, Option, None, Some, if◌then◌else◌}
+use Rattle.std.specs.Prelude.{ℕ, ◌==◌, ◌||◌, count_by, Bool, true, false, not, List, [], ◌∷◌, length, map, take, drop, nat_eq, Option, None, Some, if◌then◌else◌}
 use Rattle.std.specs.Option.{option_and_then, option_map_or}
 use Rattle.std.specs.List.{filter_map, range_with_len, starts_with}
 use Rattle.std.specs.Cmp.Lexicographic.{pointwise}
@@ -94,3 +94,11 @@ rows_of tree parent = filter_map (λ e. row e.0 e.1) (entries tree.paths)
     row : Path → ℕ → Option NameItem
     row path number =
         option_and_then (λ name. Some (record { name = name; directory = option_map_or is_directory (get tree.nodes number) false })) (name_below parent path)
+
+-- how many paths lead to a number
+abbrev pub paths_to : Fileset → ℕ → ℕ
+paths_to tree number = count_by (λ e. e.1 == number) (entries tree.paths)
+
+-- whether two paths of a fileset lead to one number
+abbrev pub names_one : Fileset → Path → Path → Bool
+names_one tree path other = same_path path other || (option_map_or (λ number. option_map_or (λ n. n == number) (get tree.paths other) false) (get tree.paths path) false)

@@ -2,7 +2,7 @@
 use Rattle.std.specs.Prelude.{ℕ, ◌+◌, ◌*◌, ◌==◌, Bool, true, false, not, ◌&&◌, nat_lt, List, [], ◌∷◌, length, filter, sum_by, unwrap_or, Option, if◌then◌else◌}
 use Rattle.std.specs.Option.{option_map_or}
 use Rattle.std.specs.FinMap as map
-use Rattle.domain_base.specs.declared.limits.TheConstants.{BLOCKS_PER_PAGE}
+use Rattle.domain_base.specs.Limits.{blocks_per_page}
 use Rattle.fileset_model.specs.Orders.{owner_cmp}
 use Rattle.fileset_model.specs.Fileset.{Fileset}
 use Rattle.fileset_model.specs.Paths.{refuse_if, first_refusal}
@@ -26,14 +26,14 @@ is_owners who (Directory uid gid) = is_owned who uid gid
 
 -- 16 blocks for each page of a file that is there
 abbrev pub blocks_of : Node → ℕ
-blocks_of (File uid gid size logged pages) = BLOCKS_PER_PAGE * map.len pages
+blocks_of (File uid gid size logged pages) = blocks_per_page * map.len pages
 blocks_of (Directory uid gid) = 0
 
 -- whether a file or directory counts for the owner: it is the owner's, and not the root
 abbrev pub counts_for : Owner → Option ℕ → ℕ × Node → Bool
 counts_for who root e = is_owners who e.1 && not (option_map_or (λ number. number == e.0) root false)
 
--- the owner's files and directories but for the root
+-- the owner's files and directories but for the root, each once, however many paths lead to it
 abbrev pub owned : Fileset → Owner → List (ℕ × Node)
 owned tree who = filter (counts_for who (map.get tree.paths [])) (map.entries tree.nodes)
 

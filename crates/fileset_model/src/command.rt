@@ -10,7 +10,7 @@ use crate::names::{Bytes, FilesetName, Path};
 use std::cmp::Ordering;
 
 /// A path in a fileset, written `FILESET:/NAME/NAME`.
-#[derive(Debug, Drop)]
+#[derive(Drop)]
 pub struct Place {
     pub fileset: FilesetName,
     pub path: Path,
@@ -96,9 +96,9 @@ pub enum Actor {
     Mover,
 }
 
-/// What a client may ask of files and filesets. Offsets and sizes are in bytes, block limits in
-/// blocks of 512 bytes; a limit of 0 is none.
-#[derive(Debug, Drop)]
+/// A command of a client, or of the mover of pages and volumes. Offsets and sizes are in bytes,
+/// block limits in blocks of 512 bytes; a limit of 0 is none. Volumes are numbered from 1 to 8.
+#[derive(Drop)]
 pub enum Command {
     /// Makes a fileset with an empty root (mkfset).
     Mkfset {
@@ -161,7 +161,16 @@ pub enum Command {
         place: Place,
         to: Path,
     },
-    /// Removes a file.
+    /// Gives a file one more path in the same fileset.
+    Link {
+        place: Place,
+        to: Path,
+    },
+    /// Counts the paths of a file.
+    Links {
+        place: Place,
+    },
+    /// Removes a path of a file, and the file with its last path.
     Unlink {
         place: Place,
     },
@@ -186,10 +195,55 @@ pub enum Command {
         place: Place,
         logged: bool,
     },
+    /// Spreads the new pages of a file without pages over so many volumes (stripe -n).
+    Stripe {
+        width: u8,
+        place: Place,
+    },
     /// Makes everything durable.
     Sync,
     /// Asks the mover's running job to stop.
     Cancel,
+    /// Shows the member volumes of the domain (showfdmn).
+    Showfdmn,
+    /// Shows where the pages of a file stand (showfile).
+    Showfile {
+        place: Place,
+    },
+    /// Moves pages of a file to volume `to`: `count` pages from page `first` on, or those of them
+    /// that stand on volume `from`. Without `first` the range begins at page 0, without `count` it
+    /// has no end, and without `from` it lies on any volume.
+    Migrate {
+        place: Place,
+        first: Option<u32>,
+        count: Option<u32>,
+        from: Option<u32>,
+        to: u32,
+    },
+    /// Moves pages until the volumes are used evenly.
+    Balance,
+    /// Makes a volume of the rack a member (addvol).
+    Addvol {
+        vol: u32,
+    },
+    /// Empties a member volume and takes it out of the domain (rmvol).
+    Rmvol {
+        vol: u32,
+    },
+    /// Opens a closed member volume again (chvol -A).
+    ChvolA {
+        vol: u32,
+    },
+    /// Moves the log to a volume (switchlog).
+    Switchlog {
+        vol: u32,
+    },
+    /// Brings the domain to version 4 of its format.
+    Upgrade,
+    /// Moves pages of a file so that it has fewer extents.
+    Defragment {
+        place: Place,
+    },
 }
 
 /// Commands in their order.

@@ -1,25 +1,30 @@
 //! Lists of entries in the order of their keys, each list seen as the map from its keys to their values.
-ghost use Rattle.std.specs.Prelude.{◌≡◌, ◌+◌, ◌<◌, ◌≤◌, OnOk, OnErr, IfOk, IfErr, IsOk, IsTrue, option_copied, vec_len, vec_capacity};
-ghost use Rattle.std.specs.FinMap.Entries.{find as found_at, is_sorted, put as put_at};
+ghost use Rattle.std.specs.Prelude.{◌+◌, ◌<◌, ◌≡◌, ◌≤◌, IfErr, IfOk, IsOk, IsTrue, OnErr, OnOk, not, option_copied, vec_capacity, vec_len};
+ghost use Rattle.std.specs.Ordering.{eq_by_cmp};
+ghost use Rattle.std.specs.FinMap.Entries.{find as found_at, is_sorted, put as put_at, where_key};
 ghost use Rattle.fileset_model.specs.Entries.{IsGapOf, IsPlaceOf};
 
 use domain_base::OutOfMemory;
 use std::cmp::Ordering;
 
-/// The place of the entry with this key, or as an error the place where it would stand.
+/// The place of the entry with this key, or as an error the place where it would stand, found by
+/// halving.
 pub(crate) fn place_of<K: Ord, V>(entries: &[(K, V)], key: &K) -> Result<usize, usize>
     requires { IsTrue (is_sorted K.cmp entries.now) }
     ensures place { IfOk result (IsPlaceOf K.cmp entries.now key.now) }
     ensures gap { IfErr result (IsGapOf K.cmp entries.now key.now) }
 {
-    for (i, entry) in entries.iter().enumerate() {
-        match key.cmp(&entry.0) {
-            Ordering::Less => return Err(i),
-            Ordering::Equal => return Ok(i),
-            Ordering::Greater => {}
+    let mut low = 0;
+    let mut high = entries.len();
+    while low < high {
+        let middle = low + (high - low) / 2;
+        match key.cmp(&entries[middle].0) {
+            Ordering::Less => high = middle,
+            Ordering::Equal => return Ok(middle),
+            Ordering::Greater => low = middle + 1,
         }
     }
-    Err(entries.len())
+    Err(low)
 }
 
 /// The value at this key.
@@ -51,4 +56,13 @@ pub(crate) fn put<K: Ord + Drop, V: Drop>(
         Err(place) => entries.insert(place, (key, value))?,
     }
     Ok(())
+}
+
+/// Takes away the entry with this key, if there is one.
+pub(crate) fn remove_key<K: Ord + Drop, V: Drop>(entries: &mut Vec<(K, V)>, key: &K)
+    requires { IsTrue (is_sorted K.cmp entries.old.items) }
+    ensures items { entries.new.items ≡ where_key K.cmp (λ other. not (eq_by_cmp K.cmp key.now other)) entries.old.items }
+    ensures sorted { IsTrue (is_sorted K.cmp entries.new.items) }
+{
+    entries.retain(|entry| key.cmp(&entry.0).is_ne());
 }

@@ -1,6 +1,6 @@
-ghost use Rattle.std.specs.Prelude.{◌≡◌, ◌+◌, ◌≤◌, length, OnOk, OnErr};
+ghost use Rattle.std.specs.Prelude.{◌+◌, ◌≡◌, ◌≤◌, IfOk, OnErr, OnOk, length};
 ghost use Rattle.domain_base.specs.declared.limits.TheConstants.{FILE_BYTES};
-ghost use Rattle.fileset_model.specs.Apply.{written_node};
+ghost use Rattle.fileset_model.specs.Apply.{flagged_node, truncated_node, written_node};
 ghost use Rattle.fileset_model.specs.Paths.{is_directory};
 
 use crate::page_map::PageMap;
@@ -8,7 +8,7 @@ use domain_base::OutOfMemory;
 use std::alloc::Global;
 
 /// What a path of a fileset leads to.
-#[derive(Debug, Drop)]
+#[derive(Drop)]
 pub enum Node {
     /// A file of `size` bytes. The pages of it that are absent read as zeros.
     File {
@@ -48,5 +48,58 @@ impl Node {
             Node::Directory { .. } => {}
         }
         Ok(())
+    }
+
+    /// Sets the size of a file; a directory stays. After an error the node is as before.
+    pub fn truncate(&mut self, alloc: Global, new_size: u64) -> Result<(), OutOfMemory>
+        ensures ok { OnOk result (self.new ≡ truncated_node new_size self.old) }
+        ensures err { OnErr result (self.new ≡ self.old) }
+    {
+        match self {
+            Node::File { size, pages, .. } => {
+                pages.truncate(alloc, new_size)?;
+                *size = new_size;
+            }
+            Node::Directory { .. } => {}
+        }
+        Ok(())
+    }
+
+    /// Sets whether the data of a file is logged; a directory stays.
+    pub fn set_logged(&mut self, flag: bool)
+        ensures { self.new ≡ flagged_node flag self.old }
+    {
+        match self {
+            Node::File { logged, .. } => *logged = flag,
+            Node::Directory { .. } => {}
+        }
+    }
+
+    /// Another one with the same content.
+    pub fn copy(&self, alloc: Global) -> Result<Node, OutOfMemory>
+        ensures { IfOk result (λ copy. copy ≡ self.now) }
+    {
+        match self {
+            Node::File {
+                uid,
+                gid,
+                size,
+                logged,
+                pages,
+            } => {
+                let pages = pages.copy(alloc)?;
+                Ok(Node::File {
+                    uid: *uid,
+                    gid: *gid,
+                    size: *size,
+                    logged: *logged,
+                    pages,
+                })
+            }
+            Node::Directory { uid, gid } => Ok(Node::Directory {
+                uid: *uid,
+                gid: *gid,
+            }),
+        }
     }
 }

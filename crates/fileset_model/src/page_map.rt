@@ -1,20 +1,22 @@
-ghost use Rattle.std.specs.Prelude.{◌≡◌, ◌+◌, ◌-◌, ◌*◌, ◌^◌, ◌<◌, ◌≤◌, length, map as map_each, min, vec_len, vec_capacity, IfOk, OnOk, OnErr, IsTrue, not, unwrap_or};
+ghost use Rattle.std.specs.Prelude.{◌%◌, ◌*◌, ◌+◌, ◌-◌, ◌/◌, ◌<◌, ◌^◌, ◌≡◌, ◌≤◌, IfOk, IsTrue, OnErr, OnOk, length, map as map_each, nat_lt, not, unwrap_or};
 ghost use Rattle.std.specs.List.{range_with_len};
+ghost use Rattle.std.specs.Option.{option_map_or};
 ghost use Rattle.std.specs.Ordering.{nat_cmp};
-ghost use Rattle.std.specs.FinMap as map;
-ghost use Rattle.std.specs.FinMap.Entries.{is_sorted};
-ghost use Rattle.domain_base.specs.Page.{zero_bytes};
+ghost use Rattle.std.specs.FinMap.Entries.{find as found_at, is_sorted, put as put_at, where_key};
+ghost use Rattle.domain_base.specs.Page.{overwritten, zero_bytes};
+ghost use Rattle.domain_base.specs.declared.limits.TheConstants.{FILE_BYTES};
 ghost use Rattle.fileset_model.specs.Entries.{put_each};
-ghost use Rattle.fileset_model.specs.Pages.{absent_pages, byte_at as byte_of, page_after as bytes_after, pages_of, written};
+ghost use Rattle.fileset_model.specs.Pages.{absent_pages, byte_at as byte_of, page_after as bytes_after, pages_of, truncated, written};
+ghost use Rattle.std.specs.FinMap as map;
 
-use crate::entries::{find, put};
+use crate::entries::{find, place_of, put};
 use domain_base::limits::{FILE_BYTES, PAGE_BYTES};
 use domain_base::{OutOfMemory, Page};
 use std::alloc::Global;
 use std::marker::Model;
 
 /// The pages of a file that are there, by their numbers.
-#[derive(Debug, Drop)]
+#[derive(Drop)]
 pub struct PageMap {
     pub(crate) pages: Vec<(u64, Page)>,
 }
@@ -90,6 +92,27 @@ impl PageMap {
         let changed = pages_after(alloc, &self.pages, offset, bytes)?;
         put_pages(&mut self.pages, changed)?;
         Ok(())
+    }
+
+    /// Cuts a file's pages at a size in bytes. A page that lies behind the size is dropped, and one
+    /// that it cuts in two keeps its front and has zeros from there on. After an error the pages are
+    /// as before.
+    pub fn truncate(&mut self, alloc: Global, size: u64) -> Result<(), OutOfMemory>
+        ensures ok { OnOk result (self.new ≡ truncated self.old size) }
+        ensures err { OnErr result (self.new ≡ self.old) }
+    {
+        let zeros = Page::zeros(alloc)?;
+        keep_below(&mut self.pages, size);
+        zero_rest(&mut self.pages, size, &zeros);
+        Ok(())
+    }
+
+    /// Another one with the same pages.
+    pub fn copy(&self, alloc: Global) -> Result<PageMap, OutOfMemory>
+        ensures { IfOk result (λ copy. copy ≡ self.now) }
+    {
+        let pages = copied_pages(alloc, &self.pages)?;
+        Ok(PageMap { pages })
     }
 }
 
@@ -184,4 +207,44 @@ fn put_pages(pages: &mut Vec<(u64, Page)>, changed: Vec<(u64, Page)>) -> Result<
         put(pages, q, page)?;
     }
     Ok(())
+}
+
+/// Whether page `q` begins before the size.
+fn begins_below(q: u64, size: u64) -> bool
+    ensures { result ≡ nat_lt (q * PAGE_BYTES) size }
+{
+    q.saturating_mul(PAGE_BYTES as u64) < size
+}
+
+/// Keeps the pages that begin before the size.
+fn keep_below(pages: &mut Vec<(u64, Page)>, size: u64)
+    requires { IsTrue (is_sorted nat_cmp pages.old.items) }
+    ensures items { pages.new.items ≡ where_key nat_cmp (λ q. nat_lt (q * PAGE_BYTES) size) pages.old.items }
+    ensures sorted { IsTrue (is_sorted nat_cmp pages.new.items) }
+{
+    pages.retain(|entry| begins_below(entry.0, size));
+}
+
+/// Sets all bytes behind the size to 0 in the page that it cuts in two, where that page is present.
+fn zero_rest(pages: &mut Vec<(u64, Page)>, size: u64, zeros: &Page)
+    requires sorted { IsTrue (is_sorted nat_cmp pages.old.items) }
+    requires zeros { zeros.now ≡ zero_bytes PAGE_BYTES }
+    ensures items { pages.new.items ≡ option_map_or (λ page. put_at nat_cmp (size / PAGE_BYTES) (overwritten page (size % PAGE_BYTES) (zero_bytes (PAGE_BYTES - size % PAGE_BYTES))) pages.old.items) (found_at nat_cmp (size / PAGE_BYTES) pages.old.items) pages.old.items }
+    ensures sorted { IsTrue (is_sorted nat_cmp pages.new.items) }
+{
+    let Ok(place) = place_of(pages, &(size / PAGE_BYTES as u64)) else {
+        return;
+    };
+    let at = (size % PAGE_BYTES as u64) as usize;
+    pages[place].1.set(at, &zeros.bytes()[at..]);
+}
+
+fn copied_pages(alloc: Global, pages: &[(u64, Page)]) -> Result<Vec<(u64, Page)>, OutOfMemory>
+    ensures { IfOk result (λ v. v.items ≡ pages.now) }
+{
+    let mut copies = Vec::new(alloc);
+    for (q, page) in pages {
+        copies.push((*q, page.copy(alloc)?))?;
+    }
+    Ok(copies)
 }

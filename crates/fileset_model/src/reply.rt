@@ -2,21 +2,21 @@ use crate::listing::Listing;
 use crate::names::{Bytes, FilesetName, Name};
 
 /// A row of `list`: a name, and whether it is a directory's.
-#[derive(Debug, Drop, PartialEq, Eq)]
+#[derive(Drop)]
 pub struct NameItem {
     pub name: Name,
     pub directory: bool,
 }
 
 /// A row of `showfsets`: a fileset and, where it is a clone, its original.
-#[derive(Debug, Drop, PartialEq, Eq)]
+#[derive(Drop)]
 pub struct FilesetItem {
     pub fileset: FilesetName,
     pub original: Option<FilesetName>,
 }
 
 /// A member volume with its pages of 8,192 bytes.
-#[derive(Clone, Copy, Debug, PartialEq, Eq)]
+#[derive(Clone, Copy)]
 pub struct VolumeItem {
     pub vol: u32,
     pub pages: u32,
@@ -27,7 +27,7 @@ pub struct VolumeItem {
 }
 
 /// So many pages of a file in a row, from a page on, with the volume and its page where they stand.
-#[derive(Clone, Copy, Debug, PartialEq, Eq)]
+#[derive(Clone, Copy)]
 pub struct ExtentItem {
     pub page: u32,
     pub count: u32,
@@ -84,7 +84,7 @@ pub enum Refusal {
     CloneOfClone,
     /// Fewer pages are free than the command may need.
     NoSpace { free: u64, need: u64 },
-    /// No such volume, or no such member.
+    /// No such volume, no such member, or too few open ones.
     NoVolume,
     /// The volumes that may take the pages have no room.
     NoRoom { vol: u32, free: u64 },
@@ -100,17 +100,21 @@ pub enum Refusal {
     Panicked { vol: u32 },
     /// The job was cancelled.
     Cancelled,
-    /// The volumes are still uneven after so many moves.
+    /// The job moved so many pages, and has to begin anew.
     Unsettled { moved: u64 },
     /// No memory could be had; nothing changed.
     OutOfMemory,
+    /// The file has 1,000 paths.
+    LinksFull,
+    /// The file is striped.
+    Striped,
 }
 
 /// What a command answers. Sizes are in bytes, blocks have 512 bytes and pages 8,192.
-#[derive(Debug, Drop)]
+#[derive(Drop)]
 pub enum Reply {
     Done,
-    /// How many bytes were written, or pages moved.
+    /// How many bytes were written, pages moved, or paths a file has.
     Count(u64),
     /// The bytes that were read.
     Read(Bytes),

@@ -11,7 +11,7 @@ use Rattle.script_text.specs.declared.script.Section.{Section}
 use Rattle.script_text.specs.declared.statement.Statement.{Statement}
 use Rattle.script_text.specs.declared.statement.Statement.TheVariants.{Opens, Gives}
 use Rattle.script_text.specs.Reading.{IsTaken}
-use Rattle.script_text.specs.Script.{BadLine, commands_of, first_bad, kind_number, kind_of_line, script_of, section_in, section_of, statement_of_line, with_line, with_statement}
+use Rattle.script_text.specs.Script.{BadLine, commands_of, first_bad, kind_of_line, script_of, section_in, section_of, statement_of_line, with_line, with_statement}
 
 commands_of-opens : (statements : List Statement) (n : ℕ) → commands_of (statements ++ Opens n ∷ []) ≡ commands_of statements
 commands_of-opens [] n = refl
@@ -48,7 +48,7 @@ section_in-more before line =
 first_bad-none : (before : List (List ℕ)) (line : List ℕ) (more : List (List ℕ)) → kind_of_line (section_in before) line ≡ None → first_bad before (line ∷ more) ≡ first_bad (before ++ line ∷ []) more
 first_bad-none before line more e = rw e refl
 
-first_bad-some : (before : List (List ℕ)) (line : List ℕ) (more : List (List ℕ)) (kind : FaultKind) → kind_of_line (section_in before) line ≡ Some kind → first_bad before (line ∷ more) ≡ Some (record { line = length before + 1; kind = kind_number kind })
+first_bad-some : (before : List (List ℕ)) (line : List ℕ) (more : List (List ℕ)) (kind : FaultKind) → kind_of_line (section_in before) line ≡ Some kind → first_bad before (line ∷ more) ≡ Some (record { line = length before + 1; kind = kind })
 first_bad-some before line more kind e = rw e refl
 
 -- The lines of the text before the rest are good and make this section, and number counts them as far as 32 bits go.
@@ -75,13 +75,13 @@ read_more text rest line after so_far next number h first taken =
 
 -- a bad line stops the reading
 pub read_bad : (text rest line after : List ℕ) (so_far : Option Section) (number : ℕ) (kind : FaultKind) → IsReadTo text rest so_far number → lines rest ≡ line ∷ lines after → kind_of_line so_far line ≡ Some kind →
-    (bad : BadLine) × (script_of text ≡ Err bad) × (min (number + 1) (2 ^ 32 - 1) ≡ min bad.line (2 ^ 32 - 1)) × (kind_number kind ≡ bad.kind)
+    (bad : BadLine) × (script_of text ≡ Err bad) × (min (number + 1) (2 ^ 32 - 1) ≡ min bad.line (2 ^ 32 - 1)) × (kind ≡ bad.kind)
 unfolding script_of
 read_bad text rest line after so_far number kind h first fault =
     let bad : kind_of_line (section_in h.before) line ≡ Some kind = rw (← h.section) fault in
-    let found : first_bad [] (lines text) ≡ Some (record { line = length h.before + 1; kind = kind_number kind }) =
+    let found : first_bad [] (lines text) ≡ Some (record { line = length h.before + 1; kind = kind }) =
     h.good ∙ rw first (first_bad-some h.before line (lines after) kind bad) in
-    (record { line = length h.before + 1; kind = kind_number kind }, rw found refl, omega (arith, h.count), refl)
+    (record { line = length h.before + 1; kind = kind }, rw found refl, omega (arith, h.count), refl)
 
 -- a script with no bad line is read to its end
 pub read_all : (text rest : List ℕ) (so_far : Option Section) (number : ℕ) → IsReadTo text rest so_far number → length rest ≡ 0 → script_of text ≡ Ok (record { clients = option_to_list so_far; mover = None })

@@ -58,6 +58,11 @@ owner_text owner.Fileset = codes "fileset 0"
 abbrev pub switch_text : Bool → List ℕ
 switch_text on = if on then codes "on" else codes "off"
 
+-- an option with its number, or no words where it was not written
+abbrev pub option_words : List ℕ → Option ℕ → List (List ℕ)
+option_words name None = []
+option_words name (Some n) = name ∷ decimal n ∷ []
+
 -- a command with one space between two words, and its numbers without leading zeros
 abbrev pub command_words : Command → List (List ℕ)
 command_words (command.Mkfset fileset) = codes "mkfset" ∷ fileset ∷ []
@@ -79,8 +84,22 @@ command_words (command.List place) = codes "list" ∷ place_text place ∷ []
 command_words (command.Stat place) = codes "stat" ∷ place_text place ∷ []
 command_words (command.Fsync place) = codes "fsync" ∷ place_text place ∷ []
 command_words (command.Chfile place logged) = codes "chfile" ∷ codes "-L" ∷ switch_text logged ∷ place_text place ∷ []
+command_words (command.Link place to) = codes "link" ∷ place_text place ∷ path_text to ∷ []
+command_words (command.Links place) = codes "links" ∷ place_text place ∷ []
+command_words (command.Stripe width place) = codes "stripe" ∷ codes "-n" ∷ decimal width ∷ place_text place ∷ []
 command_words command.Sync = codes "sync" ∷ []
 command_words command.Cancel = codes "cancel" ∷ []
+command_words command.Showfdmn = codes "showfdmn" ∷ []
+command_words (command.Showfile place) = codes "showfile" ∷ place_text place ∷ []
+command_words (command.Migrate place first count from to) =
+    codes "migrate" ∷ option_words (codes "-p") first ++ option_words (codes "-n") count ++ option_words (codes "-s") from ++ codes "-d" ∷ decimal to ∷ place_text place ∷ []
+command_words command.Balance = codes "balance" ∷ []
+command_words (command.Addvol vol) = codes "addvol" ∷ decimal vol ∷ []
+command_words (command.Rmvol vol) = codes "rmvol" ∷ decimal vol ∷ []
+command_words (command.ChvolA vol) = codes "chvol" ∷ codes "-A" ∷ decimal vol ∷ []
+command_words (command.Switchlog vol) = codes "switchlog" ∷ decimal vol ∷ []
+command_words command.Upgrade = codes "upgrade" ∷ []
+command_words (command.Defragment place) = codes "defragment" ∷ place_text place ∷ []
 
 unfoldable pub command_text : Command → List ℕ
 command_text c = spaced (command_words c)
@@ -116,6 +135,8 @@ refusal_number (refusal.Panicked vol) = 27
 refusal_number refusal.Cancelled = 28
 refusal_number (refusal.Unsettled moved) = 29
 refusal_number refusal.OutOfMemory = 30
+refusal_number refusal.LinksFull = 31
+refusal_number refusal.Striped = 32
 
 unfoldable pub refusal_name : Refusal → List ℕ
 refusal_name refusal.NoFileset = codes "no-fileset"
@@ -145,6 +166,8 @@ refusal_name (refusal.Panicked vol) = codes "panicked"
 refusal_name refusal.Cancelled = codes "cancelled"
 refusal_name (refusal.Unsettled moved) = codes "unsettled"
 refusal_name refusal.OutOfMemory = codes "out-of-memory"
+refusal_name refusal.LinksFull = codes "links-full"
+refusal_name refusal.Striped = codes "striped"
 
 -- a number with its name
 unfoldable pub field_text : List ℕ → ℕ → List ℕ

@@ -167,6 +167,7 @@ abbrev pub kind_number : FaultKind → ℕ
 kind_number fault.OtherByte = 1
 kind_number fault.NoSection = 2
 kind_number fault.UnknownWord = 3
+kind_number fault.OtherSection = 4
 kind_number fault.WordCount = 5
 kind_number fault.WordForm = 6
 kind_number fault.SectionTwice = 7
@@ -174,16 +175,16 @@ kind_number fault.TooManyCommands = 8
 
 -- ** What a script says
 
--- a bad line, counted from 1, and the number of what is wrong with it
+-- a bad line, counted from 1, and what is wrong with it
 pub record BadLine : Type 0 where
   pub line : ℕ
-  pub kind : ℕ
+  pub kind : FaultKind
 
 -- the first bad one of the lines after these
 abbrev pub first_bad : List (List ℕ) → List (List ℕ) → Option BadLine
 first_bad before [] = None
 first_bad before (line ∷ more) = unwrap_or
-    (option_map (λ kind. Some (record { line = length before + 1; kind = kind_number kind })) (kind_of_line (section_in before) line))
+    (option_map (λ kind. Some (record { line = length before + 1; kind = kind })) (kind_of_line (section_in before) line))
     (first_bad (before ++ line ∷ []) more)
 
 -- the script that the text says, or its first bad line

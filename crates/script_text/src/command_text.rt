@@ -1,6 +1,6 @@
 //! Commands as a history writes them.
 ghost use Rattle.std.specs.Prelude.{◌≡◌, [], ◌∷◌, ◌++◌, OnOk, decimal};
-ghost use Rattle.script_text.specs.History.{actor_text, command_text, owner_text, place_text, spaced};
+ghost use Rattle.script_text.specs.History.{actor_text, behind_spaces, command_text, option_words, owner_text, place_text, spaced};
 
 use crate::bytes_text::push_bytes;
 use crate::number::push_number;
@@ -191,6 +191,71 @@ fn push_chfile(out: &mut Vec<u8>, place: &Place, logged: bool) -> Result<(), Out
     Ok(())
 }
 
+#[tactic(auto, unfolding(crate::specs::History::command_text))]
+fn push_link(out: &mut Vec<u8>, place: &Place, to: &Path) -> Result<(), OutOfMemory>
+    ensures { OnOk result (out.new.items
+        ≡ out.old.items ++ command_text (Command.Link place.now to.now)) }
+{
+    push_placed(out, b"link ", place)?;
+    out.push(b' ')?;
+    push_path(out, to.as_slice())?;
+    Ok(())
+}
+
+#[tactic(auto, unfolding(crate::specs::History::command_text))]
+fn push_stripe(out: &mut Vec<u8>, width: u8, place: &Place) -> Result<(), OutOfMemory>
+    ensures { OnOk result (out.new.items
+        ≡ out.old.items ++ command_text (Command.Stripe width place.now)) }
+{
+    out.extend_from_slice(b"stripe -n ")?;
+    push_number(out, u64::from(width))?;
+    push_placed(out, b" ", place)?;
+    Ok(())
+}
+
+/// Adds a text and the number of a volume.
+fn push_volume(out: &mut Vec<u8>, text: &[u8], vol: u32) -> Result<(), OutOfMemory>
+    ensures { OnOk result (out.new.items ≡ out.old.items ++ text.now ++ decimal vol) }
+{
+    out.extend_from_slice(text)?;
+    push_number(out, u64::from(vol))?;
+    Ok(())
+}
+
+/// Adds an option behind a space, and its number behind another, where it was written.
+fn push_option(out: &mut Vec<u8>, name: &[u8], number: Option<u32>) -> Result<(), OutOfMemory>
+    ensures { OnOk result (out.new.items ≡ out.old.items ++ behind_spaces (option_words name.now number)) }
+{
+    if let Some(n) = number {
+        out.push(b' ')?;
+        out.extend_from_slice(name)?;
+        push_number_word(out, u64::from(n))?;
+    }
+    Ok(())
+}
+
+/// Adds a `migrate` with those of its options that were written, in their order.
+#[tactic(auto, unfolding(crate::specs::History::command_text))]
+fn push_migrate(
+    out: &mut Vec<u8>,
+    place: &Place,
+    first: Option<u32>,
+    count: Option<u32>,
+    from: Option<u32>,
+    to: u32,
+) -> Result<(), OutOfMemory>
+    ensures { OnOk result (out.new.items
+        ≡ out.old.items ++ command_text (Command.Migrate place.now first count from to)) }
+{
+    out.extend_from_slice(b"migrate")?;
+    push_option(out, b"-p", first)?;
+    push_option(out, b"-n", count)?;
+    push_option(out, b"-s", from)?;
+    push_option(out, b"-d", Some(to))?;
+    push_placed(out, b" ", place)?;
+    Ok(())
+}
+
 /// Adds a command with one space between two words.
 #[tactic(auto, unfolding(crate::specs::History::command_text))]
 pub fn push_command(out: &mut Vec<u8>, command: &Command) -> Result<(), OutOfMemory>
@@ -228,8 +293,27 @@ pub fn push_command(out: &mut Vec<u8>, command: &Command) -> Result<(), OutOfMem
         Command::Stat { place } => push_placed(out, b"stat ", place)?,
         Command::Fsync { place } => push_placed(out, b"fsync ", place)?,
         Command::Chfile { place, logged } => push_chfile(out, place, *logged)?,
+        Command::Link { place, to } => push_link(out, place, to)?,
+        Command::Links { place } => push_placed(out, b"links ", place)?,
+        Command::Stripe { width, place } => push_stripe(out, *width, place)?,
         Command::Sync => out.extend_from_slice(b"sync")?,
         Command::Cancel => out.extend_from_slice(b"cancel")?,
+        Command::Showfdmn => out.extend_from_slice(b"showfdmn")?,
+        Command::Showfile { place } => push_placed(out, b"showfile ", place)?,
+        Command::Migrate {
+            place,
+            first,
+            count,
+            from,
+            to,
+        } => push_migrate(out, place, *first, *count, *from, *to)?,
+        Command::Balance => out.extend_from_slice(b"balance")?,
+        Command::Addvol { vol } => push_volume(out, b"addvol ", *vol)?,
+        Command::Rmvol { vol } => push_volume(out, b"rmvol ", *vol)?,
+        Command::ChvolA { vol } => push_volume(out, b"chvol -A ", *vol)?,
+        Command::Switchlog { vol } => push_volume(out, b"switchlog ", *vol)?,
+        Command::Upgrade => out.extend_from_slice(b"upgrade")?,
+        Command::Defragment { place } => push_placed(out, b"defragment ", place)?,
     }
     Ok(())
 }

@@ -5,6 +5,7 @@ ghost use Rattle.script_text.specs.declared.fault.WordFault.TheVariants as word;
 
 use domain_base::OutOfMemory;
 use std::alloc::AllocFailed;
+use std::fmt;
 
 /// What is wrong with a line, in the order in which faults are looked for.
 #[derive(Clone, Copy, Debug, PartialEq, Eq)]
@@ -15,6 +16,8 @@ pub enum FaultKind {
     NoSection = 2,
     /// A first word that is not known.
     UnknownWord = 3,
+    /// A command that belongs into the other kind of section.
+    OtherSection = 4,
     /// Another number of words than the form has.
     WordCount = 5,
     /// A word that is not of its form, or beyond its limit.
@@ -31,6 +34,21 @@ impl FaultKind {
         ensures { result ≡ kind_number self }
     {
         self as u8
+    }
+}
+
+impl fmt::Display for FaultKind {
+    fn fmt<W: fmt::Write>(&self, f: &mut fmt::Formatter<W>) -> fmt::Result {
+        f.write_str(match self {
+            FaultKind::OtherByte => "a byte that is neither printable ASCII nor a tab",
+            FaultKind::NoSection => "no section yet",
+            FaultKind::UnknownWord => "unknown first word",
+            FaultKind::OtherSection => "command of the other kind of section",
+            FaultKind::WordCount => "wrong number of words",
+            FaultKind::WordForm => "a word that is not of its form, or beyond its limit",
+            FaultKind::SectionTwice => "section given twice",
+            FaultKind::TooManyCommands => "more than 2000 commands in a section",
+        })
     }
 }
 

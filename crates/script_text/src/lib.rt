@@ -19,6 +19,7 @@ mod tests;
 mod words;
 
 pub use bytes_text::runs_are_maximal;
+pub use fault::FaultKind;
 pub use history::history_line;
 pub use reading::read_script;
 pub use script::{Script, ScriptFault, Section, SectionList};

@@ -15,7 +15,7 @@ use fileset_model::{Command, Listing};
 use std::alloc::Global;
 
 /// The section that the lines so far opened, with its commands.
-#[derive(Debug, Drop)]
+#[derive(Drop)]
 pub struct Draft {
     pub number: u8,
     pub commands: Vec<Command>,
@@ -137,10 +137,7 @@ pub fn read_script(alloc: Global, bytes: &[u8]) -> Result<Script, ScriptFault>
         draft = match take_line(alloc, draft, line) {
             Ok(draft) => draft,
             Err(LineFault::Kind(kind)) => {
-                return Err(ScriptFault::Bad {
-                    line: number,
-                    kind: kind.number(),
-                });
+                return Err(ScriptFault::Bad { line: number, kind });
             }
             Err(LineFault::OutOfMemory) => return Err(ScriptFault::OutOfMemory),
         };

@@ -38,6 +38,8 @@ fn number_of(refusal: Refusal) -> u64
         Refusal::Cancelled => 28,
         Refusal::Unsettled { .. } => 29,
         Refusal::OutOfMemory => 30,
+        Refusal::LinksFull => 31,
+        Refusal::Striped => 32,
     }
 }
 
@@ -73,6 +75,8 @@ fn name_of(refusal: Refusal) -> &'static str
         Refusal::Cancelled => "cancelled",
         Refusal::Unsettled { .. } => "unsettled",
         Refusal::OutOfMemory => "out-of-memory",
+        Refusal::LinksFull => "links-full",
+        Refusal::Striped => "striped",
     }
 }
 

@@ -1,9 +1,10 @@
+use crate::fault::FaultKind;
 use fileset_model::{CommandList, Listing};
 use std::error::Error;
 use std::fmt;
 
 /// The commands of one client, or of the mover, whose number is 0.
-#[derive(Debug, Drop)]
+#[derive(Drop)]
 pub struct Section {
     pub number: u8,
     pub commands: CommandList,
@@ -13,7 +14,7 @@ pub struct Section {
 pub type SectionList = Listing<Section>;
 
 /// What a script says.
-#[derive(Debug, Drop)]
+#[derive(Drop)]
 pub struct Script {
     pub clients: SectionList,
     pub mover: Option<Section>,
@@ -22,9 +23,9 @@ pub struct Script {
 /// Why a script was not read.
 #[derive(Clone, Copy, Debug, PartialEq, Eq)]
 pub enum ScriptFault {
-    /// The first bad line, counted from 1, and the number of what is wrong with it. A line beyond
-    /// 4,294,967,295 is given as that number.
-    Bad { line: u32, kind: u8 },
+    /// The first bad line, counted from 1, and what is wrong with it. A line beyond 4,294,967,295 is
+    /// given as that number.
+    Bad { line: u32, kind: FaultKind },
     /// No memory could be had.
     OutOfMemory,
 }
@@ -32,7 +33,7 @@ pub enum ScriptFault {
 impl fmt::Display for ScriptFault {
     fn fmt<W: fmt::Write>(&self, f: &mut fmt::Formatter<W>) -> fmt::Result {
         match self {
-            ScriptFault::Bad { line, kind } => write!(f, "line {line} is bad, of kind {kind}"),
+            ScriptFault::Bad { line, kind } => write!(f, "line {line}: {kind}"),
             ScriptFault::OutOfMemory => write!(f, "out of memory"),
         }
     }

@@ -19,7 +19,7 @@ pub enum Keyword {
 }
 
 /// What a line says that is neither skipped nor bad.
-#[derive(Debug, Drop)]
+#[derive(Drop)]
 pub enum Statement {
     /// The section of a client begins.
     Opens(u8),

@@ -1,4 +1,4 @@
-use crate::{ScriptFault, history_line, read_script, runs_are_maximal};
+use crate::{FaultKind, ScriptFault, history_line, read_script, runs_are_maximal};
 use domain_base::OutOfMemory;
 use fileset_model::{
     Actor, Bytes, Command, Entry, FilesetItem, FilesetName, Listing, Name, Owner, Path, Place,
@@ -28,56 +28,72 @@ static SCRIPTS: [(&str, &str); 5] = [
 ];
 
 /// Bad scripts with their first bad line and what is wrong with it.
-static BAD_SCRIPTS: [(&str, u32, u8); 43] = [
-    ("client 1\nwrite home:/a 0\n", 2, 5),
-    ("client 1\nfrob x\n", 2, 3),
-    ("client 1\nread home:/a -1 3\n", 2, 6),
-    ("mkfset a\n", 1, 2),
-    ("client 1\nclient 1\n", 2, 7),
-    ("client 1\nclient 2\n", 2, 7),
+static BAD_SCRIPTS: [(&str, u32, FaultKind); 43] = [
+    ("client 1\nwrite home:/a 0\n", 2, FaultKind::WordCount),
+    ("client 1\nfrob x\n", 2, FaultKind::UnknownWord),
+    ("client 1\nread home:/a -1 3\n", 2, FaultKind::WordForm),
+    ("mkfset a\n", 1, FaultKind::NoSection),
+    ("client 1\nclient 1\n", 2, FaultKind::SectionTwice),
+    ("client 1\nclient 2\n", 2, FaultKind::SectionTwice),
     // a byte outside comes first, a carriage return at the end of a text among them
-    ("client 1\nfrob \x7f\n", 2, 1),
-    ("client 1\nfrob \u{e9}\n", 2, 1),
-    ("client 1\n\r\r\n", 2, 1),
-    ("client 1\r", 1, 1),
+    ("client 1\nfrob \x7f\n", 2, FaultKind::OtherByte),
+    ("client 1\nfrob \u{e9}\n", 2, FaultKind::OtherByte),
+    ("client 1\n\r\r\n", 2, FaultKind::OtherByte),
+    ("client 1\r", 1, FaultKind::OtherByte),
     // before the first section each command is refused, and a faulty section line as such
-    ("\n#\nfrob", 3, 2),
-    ("mover\n", 1, 2),
-    ("client 1\nmover\n", 2, 3),
-    ("client", 1, 5),
-    ("client 1 2", 1, 5),
-    ("client 0", 1, 6),
-    ("client 9", 1, 6),
-    ("client 1\nclient 9", 2, 6),
-    ("client +1", 1, 6),
+    ("\n#\nfrob", 3, FaultKind::NoSection),
+    ("mover\n", 1, FaultKind::NoSection),
+    ("client 1\nmover\n", 2, FaultKind::UnknownWord),
+    ("client", 1, FaultKind::WordCount),
+    ("client 1 2", 1, FaultKind::WordCount),
+    ("client 0", 1, FaultKind::WordForm),
+    ("client 9", 1, FaultKind::WordForm),
+    ("client 1\nclient 9", 2, FaultKind::WordForm),
+    ("client +1", 1, FaultKind::WordForm),
     // numbers
-    ("client 1\ncreate h:/a 4294967296 0", 2, 6),
-    ("client 1\nread h:/a 18446744073709551616 0", 2, 6),
-    ("client 1\nread h:/a 99999999999999999999999 0", 2, 6),
-    ("client 1\nread h:/a 0 8193", 2, 6),
-    ("client 1\nread h:/a 0x1 1", 2, 6),
+    ("client 1\ncreate h:/a 4294967296 0", 2, FaultKind::WordForm),
+    (
+        "client 1\nread h:/a 18446744073709551616 0",
+        2,
+        FaultKind::WordForm,
+    ),
+    (
+        "client 1\nread h:/a 99999999999999999999999 0",
+        2,
+        FaultKind::WordForm,
+    ),
+    ("client 1\nread h:/a 0 8193", 2, FaultKind::WordForm),
+    ("client 1\nread h:/a 0x1 1", 2, FaultKind::WordForm),
     // names and places
-    ("client 1\nmkfset a/b", 2, 6),
-    ("client 1\nmkfset abcdefghijklmnopqrstuvwxyz012345", 2, 6),
-    ("client 1\ncreate h:/ 0 0", 2, 6),
-    ("client 1\ncreate h:/a/b 0 0", 2, 6),
-    ("client 1\nread h:/%61 0 0", 2, 6),
-    ("client 1\nread h:/. 0 0", 2, 6),
-    ("client 1\nread h:/.. 0 0", 2, 6),
-    ("client 1\nread h 0 0", 2, 6),
-    ("client 1\nread h: 0 0", 2, 6),
-    ("client 1\nread :/a 0 0", 2, 6),
+    ("client 1\nmkfset a/b", 2, FaultKind::WordForm),
+    (
+        "client 1\nmkfset abcdefghijklmnopqrstuvwxyz012345",
+        2,
+        FaultKind::WordForm,
+    ),
+    ("client 1\ncreate h:/ 0 0", 2, FaultKind::WordForm),
+    ("client 1\ncreate h:/a/b 0 0", 2, FaultKind::WordForm),
+    ("client 1\nread h:/%61 0 0", 2, FaultKind::WordForm),
+    ("client 1\nread h:/. 0 0", 2, FaultKind::WordForm),
+    ("client 1\nread h:/.. 0 0", 2, FaultKind::WordForm),
+    ("client 1\nread h 0 0", 2, FaultKind::WordForm),
+    ("client 1\nread h: 0 0", 2, FaultKind::WordForm),
+    ("client 1\nread :/a 0 0", 2, FaultKind::WordForm),
     // bytes
-    ("client 1\nwrite h:/a 0 61", 2, 6),
-    ("client 1\nwrite h:/a 0 \"\"", 2, 6),
-    ("client 1\nwrite h:/a 0 \"a\tb\"", 2, 6),
-    ("client 1\nwrite h:/a 0 \"a\\b\"", 2, 6),
-    ("client 1\nwrite h:/a 0 \"ab\"c", 2, 6),
-    ("client 1\nwrite h:/a 0 \"ab\"cd\"", 2, 6),
-    ("client 1\nwrite h:/a 0 \"a b", 2, 5),
+    ("client 1\nwrite h:/a 0 61", 2, FaultKind::WordForm),
+    ("client 1\nwrite h:/a 0 \"\"", 2, FaultKind::WordForm),
+    ("client 1\nwrite h:/a 0 \"a\tb\"", 2, FaultKind::WordForm),
+    ("client 1\nwrite h:/a 0 \"a\\b\"", 2, FaultKind::WordForm),
+    ("client 1\nwrite h:/a 0 \"ab\"c", 2, FaultKind::WordForm),
+    ("client 1\nwrite h:/a 0 \"ab\"cd\"", 2, FaultKind::WordForm),
+    ("client 1\nwrite h:/a 0 \"a b", 2, FaultKind::WordCount),
     // the first bad line of two
-    ("client 1\nmkfset\nfrob", 2, 5),
-    ("client 1\n\nmkfset b c\nmkfset \x01", 3, 5),
+    ("client 1\nmkfset\nfrob", 2, FaultKind::WordCount),
+    (
+        "client 1\n\nmkfset b c\nmkfset \x01",
+        3,
+        FaultKind::WordCount,
+    ),
 ];
 
 /// Bytes that were read, as a history writes them.
@@ -230,7 +246,7 @@ fn a_section_has_two_thousand_commands(rt: HostRuntime) -> Result<(), Fail> {
         fault,
         Some(ScriptFault::Bad {
             line: 2002,
-            kind: 8
+            kind: FaultKind::TooManyCommands
         })
     );
     Ok(())

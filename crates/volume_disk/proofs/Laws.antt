@@ -4,7 +4,7 @@ use Rattle.std.proofs.lemmas.Bool.{cases_eq, eq-eqb, ne_eqb, lt-ltb, both_ways}
 use Rattle.domain_base.specs.Counts.{raised, HasRisen}
 use Rattle.volume_disk.specs.Disk.{Disk, Moment, MayLeave, MayLeaveTorn, Since, moment_at, Makes, MayTear, Writes, Syncs, ReadDone, ReadFailed, WriteDone, WriteFailed, SyncDone, SyncFailed, Elapses, LeavesOnly, OnlyReads, OnlyWrites, OnlyChanges, Settles, raised_at}
 use Rattle.volume_disk.specs.Image.{Image, IsIn, SameOutside}
-use Rattle.volume_disk.proofs.Moments.{in_or_out, mixed, mixed-in, mixed-out, put_at-same, put_at-other}
+use Rattle.volume_disk.proofs.Places.{in_or_out, mixed, mixed-in, mixed-out, put_at-same, put_at-other}
 
 -- Time.
 

@@ -6,7 +6,7 @@ use Rattle.volume_disk.specs.Image.{Image}
 use Rattle.volume_disk.proofs.Laws.{weaker, only_writes-within, only_writes-then, Settles-moved}
 use Rattle.disk_label.specs.Anchor.{HasBefore, IsAnchor, IsNext, IsOldOrNew, IsReady, IsWhole, StandsIn}
 use Rattle.disk_label.specs.Body.{anchor_from}
-use Rattle.disk_label.proofs.Others.{others_ready, chain_ready}
+use Rattle.disk_label.proofs.OtherSlots.{others_ready, chain_ready}
 use Rattle.disk_label.proofs.Slots.{IsAnchorBelow-unique}
 use Rattle.disk_label.proofs.Written.{IsPrepared, closing, before_opening, prepared, opening, opened, Settles-slot, slot_bytes-body}
 use Rattle.disk_label.specs.declared.anchor.Anchor.{Anchor}

@@ -6,7 +6,7 @@ use Rattle.script_text.proofs.reading.read_script.Goals as goal
 
 pub returns-in-Err-Kind-clause-fault : goal.returns-in-Err-Kind-clause-fault
 returns-in-Err-Kind-clause-fault c =
-    rw (c.saturating_add-number.ensures, c.number.ensures, c.in-Err-Kind.kind-is)
+    rw (c.saturating_add-number.ensures, c.in-Err-Kind.kind-is)
     (read_bad c.args.bytes.now c.loop-rest.rest.now c.split_line.result.0.now c.split_line.result.1.now (drafted c.loop-rest.draft) c.loop-rest.number
     c.in-Err-Kind.kind c.loop-rest.invariant c.split_line.ensures.first (rw (c.in-Err-Kind.field-0-is) at c.in-Err-Kind.ensures))
 

@@ -3,7 +3,7 @@ use Rattle.std.proofs.lemmas.List.{drop_all}
 use Rattle.std.specs.FinMap.{entries}
 use Rattle.fileset_model.specs.Apply.{is_clone_of}
 use Rattle.fileset_model.specs.Orders.{Name, name_cmp}
-use Rattle.fileset_model.specs.State.{FilesetMap}
+use Rattle.fileset_model.specs.Filesets.{FilesetMap}
 use Rattle.fileset_model.specs.declared.fileset.FilesetSlot.{FilesetSlot}
 use Rattle.fileset_model.proofs.EntryLemmas.{entries-from_sorted}
 use Rattle.fileset_model.proofs.WholeLemmas.{any_value, any_value-step}

@@ -4,7 +4,7 @@ use Rattle.std.specs.FinMap.Entries.{find}
 use Rattle.fileset_model.specs.Entries.{IsPlaceOf}
 use Rattle.fileset_model.specs.Orders.{Name, name_cmp, name_cmp-total}
 use Rattle.fileset_model.specs.Fileset.{Fileset}
-use Rattle.fileset_model.specs.State.{FilesetMap}
+use Rattle.fileset_model.specs.Filesets.{FilesetMap}
 use Rattle.fileset_model.specs.Apply.{with_tree, without}
 use Rattle.fileset_model.specs.declared.fileset.FilesetSlot.{FilesetSlot}
 use Rattle.fileset_model.proofs.EntryLemmas.{get-from_sorted, sorted_at_place}

@@ -2,7 +2,7 @@ use Rattle.std.proofs.Common.{◌≡◌, ℕ, List, None, Some, ◌<◌, ◌≤�
 use Rattle.std.specs.FinMap.{get}
 use Rattle.std.specs.FinMap.Entries.{find}
 use Rattle.fileset_model.specs.Orders.{Name, name_cmp}
-use Rattle.fileset_model.specs.State.{FilesetMap}
+use Rattle.fileset_model.specs.Filesets.{FilesetMap}
 use Rattle.fileset_model.specs.declared.fileset.FilesetSlot.{FilesetSlot}
 use Rattle.fileset_model.proofs.EntryLemmas.{find-stands, get-from_sorted}
 use Rattle.fileset_model.proofs.filesets.Filesets.unused_number.Goals as goal

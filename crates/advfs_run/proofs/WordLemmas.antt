@@ -1,0 +1,95 @@
+-- The number that a word says.
+use Rattle.std.proofs.Common.{◌≡◌, ℕ, not, ◌<◌, ◌^◌, ◌&&◌, cond, leb, sym, Bool, true, false, Option, Some, None, option_and_then, ◌∙◌, eqb, codes, Result, Ok, Err, List, [], ◌∷◌, length, refl, ap, arith, rules}
+use Rattle.std.proofs.lemmas.Bool.Decides.{nat_tests}
+use Rattle.std.proofs.lemmas.Str.Parse.{IsNumeralModel, numerals_by_value, parse_digits}
+use Rattle.std.specs.Char.{is_ascii_digit}
+use Rattle.std.specs.List.{list_all}
+use Rattle.std.specs.Option.{option_map_or}
+use Rattle.std.specs.Result.{OkIff}
+use Rattle.std.specs.Str.{bytes_eq}
+use Rattle.std.specs.Str.Parse.{ParsesUnsigned, digits_value}
+use Rattle.script_text.specs.Forms.{number_below}
+use Rattle.advfs_run.specs.Usage.{are_plain_digits, form_of, in_range, pages_of, try_form}
+
+decimals : IsNumeralModel (λ ds. list_all is_ascii_digit ds ≡ true) (digits_value 10)
+decimals = numerals_by_value _ (search rules)
+
+and_left : (a b : Bool) → (a && b) ≡ true → a ≡ true
+and_left true b is = refl
+and_left false b is = is
+
+-- plain digits are digits
+digits_of : (word : List ℕ) → are_plain_digits word ≡ true → list_all is_ascii_digit word ≡ true
+digits_of word plain = and_left _ _ plain
+
+-- what the parse of digits says is the number that they say
+number_below-parsed : {E : Type 0} (word : List ℕ) (r : Result ℕ E) → list_all is_ascii_digit word ≡ true → ParsesUnsigned 32 10 word r
+    → OkIff r ((0 < length word) × (digits_value 10 word < 2 ^ 32)) (digits_value 10 word)
+number_below-parsed word r digits parsed = parse_digits decimals 32 word r parsed digits
+
+number_below-Some : (word : List ℕ) → list_all is_ascii_digit word ≡ true → 0 < length word → digits_value 10 word < 2 ^ 32
+    → number_below (2 ^ 32) word ≡ Some (digits_value 10 word)
+unfolding number_below
+number_below-Some word digits some small = grind (arith, nat_tests)
+
+number_below-large : (word : List ℕ) → ¬ ((0 < length word) × (digits_value 10 word < 2 ^ 32)) → number_below (2 ^ 32) word ≡ None
+unfolding number_below
+number_below-large word large = grind (arith, nat_tests)
+
+pages_of-number : (word : List ℕ) (number : Option ℕ) → are_plain_digits word ≡ true → number_below (2 ^ 32) word ≡ number → pages_of word ≡ in_range number
+pages_of-number word number plain is = rw plain (ap in_range is)
+
+pub pages_of-other : (word : List ℕ) → are_plain_digits word ≡ false → pages_of word ≡ None
+pages_of-other word other = rw other refl
+
+-- the parse of digits, in the range or not
+pub pages_of-parsed : (E : Type 0) (word : List ℕ) (pages : ℕ) → are_plain_digits word ≡ true → ParsesUnsigned {E = E} 32 10 word (Ok pages)
+    → pages_of word ≡ cond (leb 160 pages && leb pages 65_536) (Some pages) None
+pages_of-parsed E word pages plain parsed =
+    let digits = digits_of word plain in
+    let h = number_below-parsed {E = E} word (Ok pages) digits parsed in
+    pages_of-number word _ plain (number_below-Some word digits h.0.0 h.0.1) ∙ ap (λ n. in_range (Some n)) (sym h.1)
+
+pub pages_of-unparsed : (E : Type 0) (word : List ℕ) (e : E) → are_plain_digits word ≡ true → ParsesUnsigned {E = E} 32 10 word (Err e) → pages_of word ≡ None
+pages_of-unparsed E word e plain parsed =
+    pages_of-number word None plain (number_below-large word (number_below-parsed {E = E} word (Err e) (digits_of word plain) parsed))
+
+-- ---- the words of a command line
+
+pub form_of-none : (words : List (List ℕ)) → length words ≡ 0 → form_of words ≡ Err 0
+unfolding form_of
+form_of-none [] none = refl
+form_of-none (verb ∷ words) none = absurd (omega (arith, none))
+
+pub form_of-other : (words rest : List (List ℕ)) (verb : List ℕ) → words ≡ verb ∷ rest → bytes_eq verb (codes "try") ≡ false → form_of words ≡ Err 0
+unfolding form_of
+form_of-other words rest verb is other = rw (is, other) refl
+
+after_try : (words rest : List (List ℕ)) (verb : List ℕ) → words ≡ verb ∷ rest → bytes_eq verb (codes "try") ≡ true → form_of words ≡ try_form rest
+unfolding form_of
+after_try words rest verb is same = rw (is, same) refl
+
+try_form-none : (words : List (List ℕ)) → length words ≡ 0 → try_form words ≡ Err 1
+try_form-none [] none = refl
+try_form-none (word ∷ words) none = absurd (omega (arith, none))
+
+pub form_of-no_word : (words rest : List (List ℕ)) (verb : List ℕ) → words ≡ verb ∷ rest → bytes_eq verb (codes "try") ≡ true → length rest ≡ 0 → form_of words ≡ Err 1
+form_of-no_word words rest verb is same none = after_try words rest verb is same ∙ try_form-none rest none
+
+pub form_of-word : (words rest more : List (List ℕ)) (verb word : List ℕ) (pages : Option ℕ) → words ≡ verb ∷ rest → bytes_eq verb (codes "try") ≡ true → rest ≡ word ∷ more
+    → pages_of word ≡ pages → form_of words ≡ option_map_or (λ n. cond (eqb (length more) 0) (Ok n) (Err 2)) pages (Err 1)
+form_of-word words rest more verb word pages is same next found =
+    after_try words rest verb is same ∙ ap try_form next ∙ ap (λ o. option_map_or (λ n. cond (eqb (length more) 0) (Ok n) (Err 2)) o (Err 1)) found
+
+pub not_true : (b : Bool) → not b ≡ true → b ≡ false
+not_true true is = sym is
+not_true false is = refl
+
+pub not_false : (b : Bool) → not b ≡ false → b ≡ true
+not_false true is = refl
+not_false false is = sym is
+
+pub no_more : (words rest : List (List ℕ)) (word : List ℕ) (r s : Result ℕ ℕ) → words ≡ word ∷ rest → cond (eqb (length words) 0) r s ≡ s
+no_more words rest word r s is =
+    let some : 0 < length words = omega (arith, ap length is) in
+    grind (arith, nat_tests)

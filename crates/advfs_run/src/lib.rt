@@ -1,0 +1,22 @@
+//! The top call: a run reads a script, answers its commands over new filesets and prints the
+//! history. Here are its clauses, and the program around it but for `main`.
+#![tactic(auto)]
+
+mod command_line;
+mod gates;
+mod print;
+mod running;
+mod sinks;
+mod sources;
+mod status;
+mod transfer;
+mod words;
+
+pub use command_line::{exit_code, program, rack_asked};
+pub use gates::{Gate, NoGate};
+pub use print::{PrintError, print_history};
+pub use running::{Ended, run};
+pub use sinks::{MemorySink, Sink, WriterSink};
+pub use sources::{MemorySource, ReaderSource, Source};
+pub use status::Status;
+pub use transfer::{ReadError, read_all, write_all, zeros};

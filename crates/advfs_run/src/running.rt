@@ -1,0 +1,190 @@
+//! The whole of a run: the words, the script, its commands over new filesets, and the printing.
+ghost use Rattle.std.specs.Prelude.{◌≡◌, ◌≢◌, ℕ, ◌+◌, ◌<◌, ◌≤◌, List, [], ◌∷◌, OnOk, OnErr, IfOk, IfErr, MatchResult, map, length, string_bytes, vec_len, vec_capacity, All};
+ghost use Rattle.std.specs.Io.KnownBytes.{Appends, Consumes};
+ghost use Rattle.domain_base.specs.Counts.{HasRisen};
+ghost use Rattle.script_text.specs.History.{history_text};
+ghost use Rattle.advfs_run.specs.Plain.{AnswersScript, GoesOn, IsLegal, turns_of};
+ghost use Rattle.advfs_run.specs.Run.{AnswersRead, GetsNoScript, HasRead, IsScript};
+ghost use Rattle.advfs_run.specs.Transfer.{AppendsFront};
+ghost use Rattle.advfs_run.specs.Usage.{form_of};
+
+use crate::gates::Gate;
+use crate::print::print_history;
+use crate::sinks::Sink;
+use crate::sources::Source;
+use crate::status::Status;
+use crate::transfer::read_all;
+use crate::words::pages_asked;
+use domain_base::OutOfMemory;
+use domain_base::limits::MAX_SCRIPT_BYTES;
+use fileset_model::{Actor, Command, Entry, Filesets};
+use plain_filesets::apply;
+use script_text::{Script, Section, read_script};
+use std::alloc::Global;
+use volume_disk::Rack;
+
+/// Gives a client's command its reply, as a further entry.
+fn take_turn(
+    alloc: Global,
+    filesets: &mut Filesets,
+    history: &mut Vec<Entry>,
+    client: u8,
+    command: Command,
+    stamp: u64,
+)
+    requires { vec_len history.old < vec_capacity history.old }
+    ensures turn { GoesOn ((Actor.Client client, command) ∷ []) stamp history.old.items filesets.old history.new.items filesets.new }
+    ensures len { vec_len history.new ≡ vec_len history.old + 1 }
+    ensures capacity { vec_capacity history.new ≡ vec_capacity history.old }
+{
+    let reply = apply(alloc, filesets, &command);
+    history.push_reserved(Entry {
+        actor: Actor::Client(client),
+        command,
+        reply,
+        stamp,
+    });
+}
+
+/// Gives each command of a client's section its reply. The gate is passed before each, and after the last.
+fn run_section<G: Gate>(
+    alloc: Global,
+    filesets: &mut Filesets,
+    history: &mut Vec<Entry>,
+    section: Section,
+    stamp: u64,
+    gate: &G,
+)
+    requires { vec_len history.old + length section.commands ≤ vec_capacity history.old }
+    ensures { GoesOn (turns_of section) stamp history.old.items filesets.old history.new.items filesets.new }
+{
+    let client = section.number;
+    let actor = u32::from(client).saturating_sub(1);
+    for command in section.commands.into_vec() {
+        gate.pass(actor, history.len() as u64);
+        take_turn(alloc, filesets, history, client, command, stamp);
+    }
+    gate.pass(actor, history.len() as u64);
+}
+
+/// The history of a script with one client section at most, over filesets that begin with none. Its room is taken
+/// before the first command.
+fn answer_script<G: Gate>(
+    alloc: Global,
+    script: Script,
+    stamp: u64,
+    gate: &G,
+) -> Result<Vec<Entry>, OutOfMemory>
+    requires { length script.clients ≤ 1 }
+    ensures { IfOk result (λ history. AnswersScript script stamp history.items) }
+{
+    let mut filesets = Filesets::new(alloc);
+    match script.clients.into_vec().pop() {
+        None => Ok(Vec::new(alloc)),
+        Some(section) => {
+            let mut history = Vec::with_capacity(alloc, section.commands.as_slice().len())?;
+            run_section(alloc, &mut filesets, &mut history, section, stamp, gate);
+            Ok(history)
+        }
+    }
+}
+
+/// Reads the script that a source has.
+fn take_script<S: Source>(alloc: Global, source: &mut S) -> Result<Script, Status>
+    ensures taken { (read : List ℕ) × Consumes (S.left source.old) (S.left source.new) read
+        × MatchResult result (IsScript (S.left source.new) read) (GetsNoScript (S.left source.new) read) }
+    ensures no_usage { (word : ℕ) → result ≢ Err (Status.Usage word) }
+    ensures never_falls { S.faults source.old ≤ S.faults source.new }
+    ensures source_fault { result ≡ Err Status.SourceFault → HasRisen (S.faults source.old) (S.faults source.new) }
+{
+    let text = read_all(alloc, source, MAX_SCRIPT_BYTES)?;
+    let script = read_script(alloc, text.as_slice())?;
+    Ok(script)
+}
+
+/// The history of the script that a source has, where the words are a form.
+fn answer<S: Source, G: Gate>(
+    alloc: Global,
+    words: &[String],
+    source: &mut S,
+    stamp: u64,
+    gate: &G,
+) -> Result<Vec<Entry>, Status>
+    ensures read { (read : List ℕ) × Consumes (S.left source.old) (S.left source.new) read
+        × MatchResult result (λ history. AnswersRead (S.left source.new) read stamp history.items) (GetsNoScript (S.left source.new) read) }
+    ensures usage { MatchResult (form_of (map string_bytes words.now)) (λ _. (word : ℕ) → result ≢ Err (Status.Usage word)) (λ word. result ≡ Err (Status.Usage word)) }
+    ensures never_falls { S.faults source.old ≤ S.faults source.new }
+    ensures source_fault { result ≡ Err Status.SourceFault → HasRisen (S.faults source.old) (S.faults source.new) }
+{
+    if let Err(word) = pages_asked(words) {
+        return Err(Status::Usage { word });
+    }
+    let script = take_script(alloc, source)?;
+    let history = answer_script(alloc, script, stamp, gate)?;
+    Ok(history)
+}
+
+/// How a run ended, with the rack that it was given and the history of its commands.
+#[derive(Drop)]
+pub struct Ended<R> {
+    pub status: Status,
+    pub rack: R,
+    pub history: Vec<Entry>,
+}
+
+/// Runs a script: reads the words and the script, answers each of its commands over new filesets, and prints the
+/// history. The rack, whose volume has the pages that the words ask for, is not touched, so its number of calls is the
+/// stamp of each entry. The gate is passed before each turn of a client and after its last, with the client's number
+/// less one.
+pub fn run<S: Source, R: Rack + Send, K: Sink, G: Gate + Sync>(
+    alloc: Global,
+    words: &[String],
+    script: &mut S,
+    rack: R,
+    sink: &mut K,
+    gate: &G,
+) -> Ended<R>
+    requires { IfOk (form_of (map string_bytes words.now)) (λ pages. (R.disk rack).sizes ≡ pages ∷ []) }
+
+    // What was read, and that the history has each command of the script once, in order.
+    ensures read { (read : List ℕ) × Consumes (S.left script.old) (S.left script.new) read
+        × HasRead (S.left script.new) read result.status result.history.items }
+
+    // Each reply is what its command means, or out-of-memory; so the history is legal.
+    ensures legal { MatchResult (form_of (map string_bytes words.now))
+        (λ pages. IsLegal pages result.history.items) (λ _. result.history.items ≡ []) }
+    ensures stamps { All (λ e. e.stamp ≡ (R.disk rack).calls) result.history.items }
+
+    // The text that is printed.
+    ensures printed { result.status ≡ Status.Ok → Appends (K.held sink.old) (K.held sink.new) (history_text result.history.items) }
+    ensures printed_front { AppendsFront (K.held sink.old) (K.held sink.new) (history_text result.history.items) }
+
+    // The causes of the other statuses.
+    ensures usage { MatchResult (form_of (map string_bytes words.now))
+        (λ _. (word : ℕ) → result.status ≢ Status.Usage word) (λ word. result.status ≡ Status.Usage word) }
+    ensures source_fault { result.status ≡ Status.SourceFault → HasRisen (S.faults script.old) (S.faults script.new) }
+    ensures sink_fault { result.status ≡ Status.SinkFault → HasRisen (K.faults sink.old) (K.faults sink.new) }
+    ensures source_count { S.faults script.old ≤ S.faults script.new }
+    ensures sink_count { K.faults sink.old ≤ K.faults sink.new }
+    ensures rack { result.rack ≡ rack }
+{
+    let stamp = rack.calls();
+    match answer(alloc, words, script, stamp, gate) {
+        Err(status) => Ended {
+            status,
+            rack,
+            history: Vec::new(alloc),
+        },
+        Ok(history) => {
+            let status = match print_history(alloc, sink, history.as_slice()) {
+                Ok(()) => Status::Ok,
+                Err(error) => Status::from(error),
+            };
+            Ended {
+                status,
+                rack,
+                history,
+            }
+        }
+    }
+}

@@ -1,0 +1,119 @@
+//! How a run ends.
+ghost use Rattle.std.specs.Prelude.{◌≡◌};
+ghost use Rattle.advfs_run.specs.Exit.{exit_number};
+
+use crate::print::PrintError;
+use crate::transfer::ReadError;
+use script_text::{FaultKind, ScriptFault};
+use std::alloc::AllocError;
+use std::fmt;
+
+/// How a run ended.
+#[derive(Clone, Copy, Debug, PartialEq, Eq)]
+pub enum Status {
+    /// The script was run, and its whole history is in the sink.
+    Ok,
+    /// The command line is not understood. So many words stand in front of the first one that is
+    /// out of place, and where the line stops too early that is all of them.
+    Usage { word: u32 },
+    /// A call of the source was refused, so the script is not known.
+    SourceFault,
+    /// The script has more than 33,554,432 bytes.
+    TooLong,
+    /// What `read_script` finds wrong with the script: which line, the first being 1, and which kind
+    /// of fault.
+    BadScript { line: u32, kind: FaultKind },
+    /// A call of the sink was refused. What went out before it are the first bytes of the history,
+    /// and no others.
+    SinkFault,
+    /// Memory ran out, at any point of the run.
+    OutOfMemory,
+}
+
+impl Status {
+    /// The number with which the program ends.
+    pub fn exit_number(self) -> u8
+        ensures { result ≡ exit_number self }
+    {
+        match self {
+            Status::Ok => 0,
+            Status::Usage { .. } => 2,
+            Status::SourceFault => 3,
+            Status::TooLong => 4,
+            Status::BadScript { .. } => 5,
+            Status::SinkFault => 8,
+            Status::OutOfMemory => 10,
+        }
+    }
+}
+
+impl fmt::Display for Status {
+    fn fmt<W: fmt::Write>(&self, f: &mut fmt::Formatter<W>) -> fmt::Result {
+        match self {
+            Status::Ok => f.write_str("Ok"),
+            Status::Usage { word } => write!(f, "Usage {word}"),
+            Status::SourceFault => f.write_str("SourceFault"),
+            Status::TooLong => f.write_str("TooLong"),
+            Status::BadScript { line, kind } => {
+                let number = kind.number();
+                write!(f, "BadScript {line} {number}")
+            }
+            Status::SinkFault => f.write_str("SinkFault"),
+            Status::OutOfMemory => f.write_str("OutOfMemory"),
+        }
+    }
+}
+
+impl From<ReadError> for Status {
+    ghost use Rattle.std.specs.Prelude.{◌≡◌};
+    ghost use Rattle.advfs_run.specs.Exit.{status_of_read};
+
+    ghost from_gives = { λ e s. s ≡ status_of_read e };
+
+    fn from(error: ReadError) -> Status {
+        match error {
+            ReadError::SourceFault => Status::SourceFault,
+            ReadError::TooLong => Status::TooLong,
+            ReadError::OutOfMemory => Status::OutOfMemory,
+        }
+    }
+}
+
+impl From<ScriptFault> for Status {
+    ghost use Rattle.std.specs.Prelude.{◌≡◌};
+    ghost use Rattle.advfs_run.specs.Exit.{status_of_fault};
+
+    ghost from_gives = { λ e s. s ≡ status_of_fault e };
+
+    fn from(fault: ScriptFault) -> Status {
+        match fault {
+            ScriptFault::Bad { line, kind } => Status::BadScript { line, kind },
+            ScriptFault::OutOfMemory => Status::OutOfMemory,
+        }
+    }
+}
+
+impl From<PrintError> for Status {
+    ghost use Rattle.std.specs.Prelude.{◌≡◌};
+    ghost use Rattle.advfs_run.specs.Exit.{status_of_print};
+
+    ghost from_gives = { λ e s. s ≡ status_of_print e };
+
+    fn from(error: PrintError) -> Status {
+        match error {
+            PrintError::SinkFault => Status::SinkFault,
+            PrintError::OutOfMemory => Status::OutOfMemory,
+        }
+    }
+}
+
+impl From<AllocError> for Status {
+    ghost use Rattle.std.specs.Prelude.{◌≡◌};
+    ghost use Rattle.advfs_run.specs.declared.status.Status.TheVariants.{OutOfMemory};
+
+    ghost from_gives = { λ _ s. s ≡ OutOfMemory };
+
+    fn from(_refused: AllocError) -> Status {
+        Status::OutOfMemory
+    }
+}

@@ -1,0 +1,11 @@
+//! Tests of whole runs and of what errors say. The crate has nothing else.
+#![tactic(auto)]
+
+#[cfg(test)]
+mod errors;
+#[cfg(test)]
+mod gates;
+#[cfg(test)]
+mod outcome;
+#[cfg(test)]
+mod runs;

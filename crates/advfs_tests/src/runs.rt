@@ -1,0 +1,127 @@
+use crate::outcome::{Case, ended, outcome, told};
+use advfs_run::{MemorySink, MemorySource, NoGate, zeros};
+use std::alloc::{AllocError, Global};
+use std::test::Fail;
+
+const FIRST: &str =
+    "client 1\nmkfset home\ncreate home:/a 10 20\nwrite home:/a 0 \"abc\"\nread home:/a 0 3\n";
+
+static SCRIPTS: [(&str, &str); 5] = [
+    (
+        FIRST,
+        "Ok 0\nc1 mkfset home -> ok\nc1 create home:/a 10 20 -> ok\nc1 write home:/a 0 61.62.63 -> ok 3\nc1 read home:/a 0 3 -> ok 61.62.63\n",
+    ),
+    ("client 1\n", "Ok 0\n"),
+    ("", "Ok 0\n"),
+    ("client 1\nwrite home:/a 0\n", "BadScript 2 5 5\n"),
+    (
+        "client 3\nmkfset a\nmkfset a",
+        "Ok 0\nc3 mkfset a -> ok\nc3 mkfset a -> E2 fileset-exists\n",
+    ),
+];
+
+static WORDS: [(&[&str], &str); 10] = [
+    (&[], "Usage 0 2\n"),
+    (&["run"], "Usage 0 2\n"),
+    (&["try"], "Usage 1 2\n"),
+    (&["try", "159"], "Usage 1 2\n"),
+    (&["try", "65537"], "Usage 1 2\n"),
+    (&["try", "+512"], "Usage 1 2\n"),
+    (&["try", "0512"], "Usage 1 2\n"),
+    (&["try", ""], "Usage 1 2\n"),
+    (&["try", "512", "512"], "Usage 2 2\n"),
+    (&["try", "160"], "Ok 0\n"),
+];
+
+static FAULTS: [(&[u64], &[u64], &str); 4] = [
+    (&[1], &[], "SourceFault 3\n"),
+    (&[2], &[], "SourceFault 3\n"),
+    (&[], &[1], "SinkFault 8\n"),
+    (&[], &[2], "SinkFault 8\nc1 mkfset home -> ok\n"),
+];
+
+#[test]
+fn scripts_are_answered_and_printed(rt: HostRuntime) -> Result<(), Fail> {
+    for (script, want) in SCRIPTS.iter() {
+        let case = Case {
+            words: &["try", "512"],
+            script,
+            source_fails: &[],
+            sink_fails: &[],
+            outcome: want,
+        };
+        assert_eq!(rt; outcome(rt.alloc(), &case)?.as_slice(), want.as_bytes());
+    }
+    Ok(())
+}
+
+#[test]
+fn faulty_words_are_named_by_their_place(rt: HostRuntime) -> Result<(), Fail> {
+    for (words, want) in WORDS.iter() {
+        let case = Case {
+            words,
+            script: "",
+            source_fails: &[],
+            sink_fails: &[],
+            outcome: want,
+        };
+        assert_eq!(rt; outcome(rt.alloc(), &case)?.as_slice(), want.as_bytes());
+    }
+    Ok(())
+}
+
+#[test]
+fn faults_end_a_run(rt: HostRuntime) -> Result<(), Fail> {
+    for (source_fails, sink_fails, want) in FAULTS.iter() {
+        let case = Case {
+            words: &["try", "512"],
+            script: FIRST,
+            source_fails,
+            sink_fails,
+            outcome: want,
+        };
+        assert_eq!(rt; outcome(rt.alloc(), &case)?.as_slice(), want.as_bytes());
+    }
+    Ok(())
+}
+
+/// How a run ends whose script is one comment of so many bytes.
+fn comment_outcome(alloc: Global, len: usize) -> Result<Vec<u8>, AllocError> {
+    let mut script = zeros(alloc, len)?;
+    if let Some(first) = script.first_mut() {
+        *first = b'#';
+    }
+    let mut source = MemorySource::new(script, Vec::new(alloc));
+    let mut sink = MemorySink::new(alloc, Vec::new(alloc));
+    let ended = ended(alloc, &["try", "512"], &mut source, &mut sink, &NoGate)?;
+    told(alloc, &ended, &sink)
+}
+
+#[test]
+fn a_script_has_33_554_432_bytes_at_most(rt: HostRuntime) -> Result<(), Fail> {
+    let most = comment_outcome(rt.alloc(), 33_554_432)?;
+    assert_eq!(rt; most.as_slice(), b"Ok 0\n".as_slice());
+    Ok(())
+}
+
+#[test]
+fn a_longer_script_is_too_long(rt: HostRuntime) -> Result<(), Fail> {
+    let more = comment_outcome(rt.alloc(), 33_554_433)?;
+    assert_eq!(rt; more.as_slice(), b"TooLong 4\n".as_slice());
+    Ok(())
+}
+
+#[test]
+fn a_volume_has_65_536_pages_at_most(rt: HostRuntime) -> Result<(), Fail> {
+    let mut source = MemorySource::new(Vec::new(rt.alloc()), Vec::new(rt.alloc()));
+    let mut sink = MemorySink::new(rt.alloc(), Vec::new(rt.alloc()));
+    let ended = ended(
+        rt.alloc(),
+        &["try", "65536"],
+        &mut source,
+        &mut sink,
+        &NoGate,
+    )?;
+    assert_eq!(rt; ended.status.exit_number(), 0);
+    Ok(())
+}

@@ -1,0 +1,11 @@
+pub mod ValidAnswerLemmas
+pub mod ValidCheckLemmas
+pub mod ValidCountLemmas
+pub mod ValidLemmas
+pub mod ValidMoveLemmas
+pub mod ValidPageLemmas
+pub mod ValidSetLemmas
+pub mod ValidTreeLemmas
+pub mod ByteLemmas
+pub mod CutLemmas
+pub mod LooksLemmas

@@ -1,5 +1,0 @@
-use Rattle.fileset_model.proofs.ValidHistoryLemmas.{empty_state-valid}
-use Rattle.fileset_model.proofs.laws.a_new_domain_is_valid.Goals as goal
-
-pub returns : goal.returns
-returns c = empty_state-valid

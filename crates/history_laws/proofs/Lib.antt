@@ -1,0 +1,10 @@
+pub mod Calm
+pub mod ImageLemmas
+pub mod MarkedLemmas
+pub mod PlaceLemmas
+pub mod PlainLemmas
+pub mod ShownLemmas
+pub mod SyncedLemmas
+pub mod UntouchedLemmas
+pub mod ValidChainLemmas
+pub mod ValidHistoryLemmas

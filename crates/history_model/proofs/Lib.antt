@@ -1,0 +1,4 @@
+pub mod AlikeLemmas
+pub mod ChainLemmas
+pub mod ExampleLemmas
+pub mod MapLemmas

@@ -1,0 +1,13 @@
+pub mod AfterStop
+pub mod Changed
+pub mod Example
+pub mod Legal
+pub mod Marks
+pub mod PlainRun
+pub mod Point
+pub mod Room
+pub mod State
+pub mod Step
+pub mod Synced
+pub mod VolumeReply
+pub mod Volumes

@@ -1,0 +1,81 @@
+-- What a write to a part of a list leaves at each place.
+use Rattle.std.proofs.Common.{◌≡◌, ◌&&◌, ◌||◌, ℕ, ◌+◌, ◌-◌, ◌*◌, ◌/◌, ◌<◌, ◌≤◌, Bool, true, false, cond, List, length, get_or, take, drop, replicate, leb, ltb, refl, sym, ◌∙◌, ap, inl, inr, arith, rules, length-append, length-take, length-drop}
+use Rattle.std.proofs.lemmas.Bool.{cases_lt, lt-leb, le-leb, lt-ltb, le-ltb, and_parts, leb-true, ltb-true}
+use Rattle.std.proofs.lemmas.List.{places, get_or-replicate, length-replicate}
+use borrow.Rule.Slice.PartMut.{put_mid}
+use Rattle.memory_disk.specs.Moment.{overlaid, marked}
+
+module _ {X : Type 0} (a n : ℕ) (xs ys : List X) (size : length ys ≡ n) (fits : a + n ≤ length xs) (k : ℕ) (d : X) where
+  below : k < a → get_or (put_mid a n xs ys) k d ≡ get_or xs k d
+  below lt = search (rules, places)
+
+  within : a ≤ k → k < a + n → get_or (put_mid a n xs ys) k d ≡ get_or ys (k - a) d
+  within le lt = search (rules, places)
+
+  above : a + n ≤ k → get_or (put_mid a n xs ys) k d ≡ get_or xs k d
+  above le = search (rules, places)
+
+  pub get_or-put_mid : get_or (put_mid a n xs ys) k d ≡ cond (leb a k && ltb k (a + n)) (get_or ys (k - a) d) (get_or xs k d)
+  get_or-put_mid = elim (cases_lt k a) [
+    | inl lt ↦ below lt ∙ (rw (lt-leb a k lt) refl)
+    | inr le ↦ elim (cases_lt k (a + n)) [
+      | inl lt ↦ within le lt ∙ (rw (le-leb a k le, lt-ltb k (a + n) lt) refl)
+      | inr far ↦ above far ∙ (rw (le-leb a k le, le-ltb k (a + n) far) refl)
+    ]
+  ]
+
+pub length-put_mid : {X : Type 0} (a n : ℕ) (xs ys : List X) → length ys ≡ n → a + n ≤ length xs → length (put_mid a n xs ys) ≡ length xs
+length-put_mid a n xs ys size fits = simp (length-append, length-take, length-drop) (omega arith)
+
+pub length-mid : {X : Type 0} (a n : ℕ) (xs : List X) → a + n ≤ length xs → length (take n (drop a xs)) ≡ n
+length-mid a n xs fits = simp (length-take, length-drop) (omega arith)
+
+-- bytes written to a part of a list
+pub byte_overlaid : (xs old ys bytes : List ℕ) (at n : ℕ) → xs ≡ old → ys ≡ bytes → n ≡ length bytes → at + n ≤ length xs → (λ k. get_or (put_mid at n xs ys) k 0) ≡ overlaid (λ k. get_or old k 0) at bytes
+byte_overlaid xs old ys bytes at n was same size fits = λ i k. place k i
+  where
+    place : (k : ℕ) → get_or (put_mid at n xs ys) k 0 ≡ overlaid (λ k'. get_or old k' 0) at bytes k
+    place k = rw (get_or-put_mid at n xs ys (ap length same ∙ sym size) fits k 0, was, same, size) refl
+
+-- a block is among these exactly where a byte of it is among theirs
+leb-blocks : (block k : ℕ) → leb block (k / 512) ≡ leb (512 * block) k
+leb-blocks block k = elim (cases_lt k (512 * block)) [
+  | inl lt ↦ lt-leb block (k / 512) (omega arith) ∙ sym (lt-leb (512 * block) k lt)
+  | inr le ↦ le-leb block (k / 512) (omega arith) ∙ sym (le-leb (512 * block) k le)
+]
+
+ltb-blocks : (block n k : ℕ) → ltb (k / 512) (block + n) ≡ ltb k (512 * block + 512 * n)
+ltb-blocks block n k = elim (cases_lt k (512 * block + 512 * n)) [
+  | inl lt ↦ lt-ltb (k / 512) (block + n) (omega arith) ∙ sym (lt-ltb k (512 * block + 512 * n) lt)
+  | inr le ↦ le-ltb (k / 512) (block + n) (omega arith) ∙ sym (le-ltb k (512 * block + 512 * n) le)
+]
+
+replicated : (inside : Bool) (n k : ℕ) (rest : Bool) → (inside ≡ true → k < n) → cond inside (get_or (replicate n true) k false) rest ≡ (inside || rest)
+replicated true n k rest within = get_or-replicate n k true false (within refl)
+replicated false n k rest within = refl
+
+-- marks written to a part of a list of them, one for 512 bytes
+pub mark_marked : (marks old ys : List Bool) (block n size : ℕ) → marks ≡ old → ys ≡ replicate n true → size ≡ 512 * n → block + n ≤ length marks → (λ k. get_or (put_mid block n marks ys) (k / 512) false) ≡ marked (λ k. get_or old (k / 512) false) (512 * block) size
+mark_marked marks old ys block n size was same is fits = λ i k. place k i
+  where
+    within : (k : ℕ) → (leb block k && ltb k (block + n)) ≡ true → k - block < n
+    within k inside = let both = and_parts (leb block k) (ltb k (block + n)) inside in omega (arith, leb-true block k both.0, ltb-true k (block + n) both.1)
+
+    place : (k : ℕ) → get_or (put_mid block n marks ys) (k / 512) false ≡ marked (λ k'. get_or old (k' / 512) false) (512 * block) size k
+    place k =
+        rw (
+          get_or-put_mid block n marks ys (ap length same ∙ length-replicate n true) fits (k / 512) false,
+          was,
+          same,
+          replicated (leb block (k / 512) && ltb (k / 512) (block + n)) n (k / 512 - block) (get_or old (k / 512) false) (within (k / 512)),
+          leb-blocks block k,
+          ltb-blocks block n k,
+          is,
+        ) refl
+
+-- a block that is replaced by another leaves the others
+pub get_or-other_block : (xs ys : List ℕ) (block n k : ℕ) → n ≡ 512 → length ys ≡ n → 512 * block + n ≤ length xs → (k / 512 ≡ block → ⊥) → get_or (put_mid (512 * block) n xs ys) k 0 ≡ get_or xs k 0
+get_or-other_block xs ys block n k whole size fits other = elim (cases_lt k (512 * block)) [
+  | inl lt ↦ below (512 * block) n xs ys size fits k 0 lt
+  | inr le ↦ elim (cases_lt k (512 * block + n)) [ inl lt ↦ absurd (other (omega arith)) | inr far ↦ above (512 * block) n xs ys size fits k 0 far ]
+]

@@ -1,0 +1,5 @@
+pub mod Fuse
+pub mod Kept
+pub mod Memory
+pub mod Moment
+pub mod Volume

@@ -1,0 +1,238 @@
+//! A rack whose volumes are in memory, which fails where it is told to, and can tell what a stop may leave.
+ghost use Rattle.std.specs.Prelude.{◌≡◌, ◌<◌, ◌≤◌, ◌-◌, ◌*◌, ◌^◌, true, false, take, All, IsTrue, IfOk};
+ghost use Rattle.volume_disk.specs.Disk.{AreBlocks, HasVolume, MayPass, ReadFailed, WriteFailed, SyncFailed};
+ghost use Rattle.memory_disk.specs.Kept.{FitsIn, replayed};
+ghost use Rattle.memory_disk.specs.Moment.{IsPending};
+ghost use Rattle.memory_disk.specs.Volume.{moment_of, settled_of, sizes_of};
+
+use crate::kept::{Effect, KeptCall, keep, keep_write};
+use crate::volumes::Volumes;
+use domain_base::{Failed, OutOfMemory, VolIx};
+use std::alloc::Global;
+use volume_disk::Rack;
+
+/// A rack in memory. Contracts tell what it holds and what a stop now may leave, and, where it keeps its calls, what a
+/// stop after any call since its making may have left; then `image` gives such a rack.
+#[derive(Drop)]
+pub struct MemoryRack {
+    alloc: Global,
+    volumes: Volumes,
+    calls: u64,
+    fails: Vec<u64>,
+    keeps: bool,
+    first: Volumes,
+    kept: Vec<KeptCall>,
+    ghost numbered: { All (λ call. call.number ≤ calls) kept.items },
+    ghost fit: { All (FitsIn (sizes_of volumes.items.items)) kept.items },
+    ghost same_sizes: { IsTrue keeps → sizes_of first.items.items ≡ sizes_of volumes.items.items },
+    ghost replays: { IsTrue keeps → replayed (settled_of first.items.items) kept.items calls ≡ moment_of volumes.items.items },
+}
+
+impl MemoryRack {
+    ghost use Rattle.memory_disk.specs.Memory.{memory_disk, started, IsRestarted};
+
+    /// A rack of volumes of zeros, of so many pages each, in the order of their numbers. A domain has at most eight
+    /// volumes, so only the first eight sizes count. A call fails whose number, counted from 1, is in `fails`. With
+    /// `keep_calls` the rack can tell what a stop after any call may have left, and a write or a sync fails where no
+    /// memory is left to keep it; without, no call takes memory, which no clause says. OutOfMemory comes where there is
+    /// none for the volumes.
+    pub fn new(
+        alloc: Global,
+        sizes: &[u32],
+        fails: &[u64],
+        keep_calls: bool,
+    ) -> Result<Self, OutOfMemory>
+        ensures { IfOk result (λ rack. memory_disk rack ≡ started (take 8 sizes.now) (λ _ _. 0) fails.now keep_calls) }
+    {
+        let sizes = &sizes[..sizes.len().min(8)];
+        let volumes = Volumes::zeros(alloc, sizes)?;
+        let first = Volumes::zeros(alloc, if keep_calls { sizes } else { &[] })?;
+        Ok(MemoryRack {
+            alloc,
+            volumes,
+            calls: 0,
+            fails: fails.to_vec(alloc)?,
+            keeps: keep_calls,
+            first,
+            kept: Vec::new(alloc),
+        })
+    }
+
+    /// Whether the rack keeps its calls, so that it can tell what a stop at an earlier moment may have left.
+    pub fn keeps_calls(&self) -> bool
+        ensures { result ≡ (memory_disk self.now).kept }
+    {
+        self.keeps
+    }
+
+    /// A rack that starts again on what a stop right after a call may have left; call 0 is the making of this rack.
+    /// With pick 0 every write up to that call has lasted. Each other pick gives some image that the model allows, and
+    /// no clause promises more of it; tests show that at pick 1 nothing has lasted that was not synced, and that greater
+    /// picks tear. The rack has to keep its calls, and has to have made that one. OutOfMemory comes where there is none
+    /// for the new rack.
+    pub fn image(&self, alloc: Global, call: u64, pick: u64) -> Result<MemoryRack, OutOfMemory>
+        requires kept { IsTrue (memory_disk self.now).kept }
+        requires made { call ≤ (memory_disk self.now).calls }
+        ensures { IfOk result (λ rack. IsRestarted (memory_disk self.now) call pick (memory_disk rack)) }
+    {
+        let (now, synced) = self.replay(alloc, call)?;
+        let volumes = now.after_stop(alloc, &synced, pick)?;
+        let first = volumes.after_stop(alloc, &volumes, 0)?;
+        Ok(MemoryRack {
+            alloc,
+            volumes,
+            calls: 0,
+            fails: Vec::new(alloc),
+            keeps: true,
+            first,
+            kept: Vec::new(alloc),
+        })
+    }
+
+    /// The volumes as they were after a call, and beside them what each held when it was last synced.
+    fn replay(&self, alloc: Global, call: u64) -> Result<(Volumes, Volumes), OutOfMemory>
+        requires { IsTrue self.now.keeps }
+        ensures moment { IfOk result (λ r. moment_of r.0.items.items ≡ replayed (settled_of self.now.first.items.items) self.now.kept.items call) }
+        ensures sizes { IfOk result (λ r. sizes_of r.0.items.items ≡ sizes_of self.now.volumes.items.items) }
+        ensures synced { IfOk result (λ r. sizes_of r.1.items.items ≡ sizes_of r.0.items.items) }
+    {
+        let first = &self.first;
+        let mut now = first.after_stop(alloc, first, 0)?;
+        let mut synced = first.after_stop(alloc, first, 0)?;
+        for kept in &self.kept {
+            if kept.number <= call {
+                now.make(kept, &mut synced);
+            }
+        }
+        Ok((now, synced))
+    }
+
+    /// Whether the next call has to fail.
+    pub(crate) fn must_fail(&self) -> bool
+        ensures passes { result ≡ false → MayPass (memory_disk self.now) }
+        ensures fails { result ≡ true → ¬ MayPass (memory_disk self.now) }
+    {
+        self.calls == u64::MAX || self.fails.contains(&(self.calls + 1))
+    }
+
+    /// Makes a read that fails.
+    pub(crate) fn fail_read(&mut self, vol: VolIx)
+        requires { HasVolume (memory_disk self.old) vol }
+        ensures { ReadFailed (memory_disk self.old) (memory_disk self.new) vol }
+    {
+        self.volumes.count_read_fault(vol);
+        self.calls = self.calls.saturating_add(1);
+    }
+
+    /// Makes a write or a sync that fails and tears nothing.
+    pub(crate) fn fail_untorn(&mut self, vol: VolIx)
+        requires { HasVolume (memory_disk self.old) vol }
+        ensures { SyncFailed (memory_disk self.old) (memory_disk self.new) vol }
+    {
+        self.volumes.count_write_fault(vol);
+        self.calls = self.calls.saturating_add(1);
+    }
+
+    /// Makes a write of `size` bytes that fails and tears its range, unless there is no number left, or no memory to
+    /// keep the call: then it tears nothing. Where calls are kept, only tests show that it tears.
+    pub(crate) fn fail_write(&mut self, vol: VolIx, block: u32, size: usize)
+        requires { AreBlocks (memory_disk self.old) vol block size }
+        ensures failed { WriteFailed (memory_disk self.old) (memory_disk self.new) vol (512 * block) size }
+        ensures pending { (memory_disk self.old).calls < 2 ^ 64 - 1 → (memory_disk self.old).kept ≡ false → IsPending (memory_disk self.new).now vol (512 * block) size }
+    {
+        if self.calls == u64::MAX {
+            return self.fail_untorn(vol);
+        }
+        let number = self.calls + 1;
+        if keep(
+            self.keeps,
+            &mut self.kept,
+            number,
+            vol,
+            Effect::Tore { block, size },
+        )
+        .is_err()
+        {
+            return self.fail_untorn(vol);
+        }
+        self.volumes.tear(vol, block, size);
+        self.volumes.count_write_fault(vol);
+        self.calls = number;
+    }
+}
+
+impl Rack for MemoryRack {
+    ghost use Rattle.memory_disk.specs.Memory.{memory_disk};
+
+    ghost disk = { memory_disk };
+
+    fn volumes(&self) -> u32 {
+        self.volumes.items.len() as u32
+    }
+
+    fn pages(&self, vol: VolIx) -> u32 {
+        self.volumes.pages(vol)
+    }
+
+    fn read(&mut self, vol: VolIx, block: u32, out: &mut [u8]) -> Result<(), Failed> {
+        if self.must_fail() {
+            self.fail_read(vol);
+            return Err(Failed);
+        }
+        self.volumes.read(vol, block, out);
+        self.calls += 1;
+        Ok(())
+    }
+
+    fn write(&mut self, vol: VolIx, block: u32, bytes: &[u8]) -> Result<(), Failed> {
+        if self.must_fail() {
+            self.fail_write(vol, block, bytes.len());
+            return Err(Failed);
+        }
+        let number = self.calls + 1;
+        if keep_write(
+            self.alloc,
+            self.keeps,
+            &mut self.kept,
+            number,
+            vol,
+            block,
+            bytes,
+        )
+        .is_err()
+        {
+            self.fail_untorn(vol);
+            return Err(Failed);
+        }
+        self.volumes.write(vol, block, bytes);
+        self.calls = number;
+        Ok(())
+    }
+
+    fn sync(&mut self, vol: VolIx) -> Result<(), Failed> {
+        if self.must_fail() {
+            self.fail_untorn(vol);
+            return Err(Failed);
+        }
+        let number = self.calls + 1;
+        if keep(self.keeps, &mut self.kept, number, vol, Effect::Synced).is_err() {
+            self.fail_untorn(vol);
+            return Err(Failed);
+        }
+        self.volumes.sync(vol);
+        self.calls = number;
+        Ok(())
+    }
+
+    fn calls(&self) -> u64 {
+        self.calls
+    }
+
+    fn read_faults(&self, vol: VolIx) -> u64 {
+        self.volumes.read_faults(vol)
+    }
+
+    fn write_faults(&self, vol: VolIx) -> u64 {
+        self.volumes.write_faults(vol)
+    }
+}

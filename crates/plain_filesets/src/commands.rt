@@ -1,0 +1,4 @@
+//! A function for each command.
+pub(crate) mod file;
+pub(crate) mod fileset;
+pub(crate) mod name;

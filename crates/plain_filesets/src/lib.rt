@@ -1,0 +1,9 @@
+//! A plain slow program that answers the commands of clients over filesets without volumes.
+#![tactic(auto)]
+
+mod answers;
+mod commands;
+mod quotas;
+mod refusals;
+
+pub use answers::apply;
