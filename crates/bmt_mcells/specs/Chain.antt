@@ -1,5 +1,5 @@
 -- Chains of cells, over any function from home to page.
-use Rattle.std.specs.Prelude.{◌≡◌, ◌+◌, ◌*◌, ◌^◌, ◌⊎◌, ◌++◌, [], ◌∷◌, ℕ, Bool, true, false, List, map, Some, None, Contains}
+use Rattle.std.specs.Prelude.{◌≡◌, ◌+◌, ◌*◌, ◌^◌, ◌⊎◌, ◌==◌, ◌&&◌, ◌++◌, [], ◌∷◌, ℕ, Bool, true, false, List, map, Some, None, Contains}
 use Rattle.std.specs.List.{flat_map, AllByRecursion}
 use Rattle.domain_base.specs.declared.place.CellAt.{CellAt}
 use Rattle.page_store.specs.Pages.{Pages}
@@ -81,6 +81,10 @@ pub data IsBroken (pages : Pages) (start : CellAt) : CellAt → Type 0 where
 -- what a change of some cells leaves: every other cell has its bytes
 abbrev pub LeavesOthers : (CellAt → Bool) → Pages → Pages → Type 0
 LeavesOthers changed old new = (at : CellAt) → changed at ≡ false → cell_at new at ≡ cell_at old at
+
+-- a cell is this one
+abbrev pub is_at : CellAt → CellAt → Bool
+is_at a b = (a.vol == b.vol) && ((a.page == b.page) && (a.cell == b.cell))
 
 -- none of these cells is among the changed ones
 abbrev pub AreApart : (CellAt → Bool) → List PlacedCell → Type 0
