@@ -62,7 +62,8 @@ fn may_follow(first: CellKind, next: CellKind) -> bool
 /// Whether a cell of that kind may lead to this one: it was not passed, and a cell in use stands
 /// there that may follow.
 fn leads_on<M: MetaPages>(pages: &M, seen: &HashSet<u64>, kind: CellKind, next: &CellAt) -> bool
-    ensures value { LeadsOn (M.pages pages.now) (contains nat_eq seen.now (key_there next.now)) kind next.now result }
+    ensures value { LeadsOn (M.pages pages.now) (contains nat_eq seen.now (key_there next.now))
+        kind next.now result }
     ensures widths { (next.now.page < 2 ^ 32) × (next.now.cell < 256) }
 {
     if seen.contains(&key_of(next)) {
@@ -91,7 +92,7 @@ fn read_at<M: MetaPages>(
 /// The records of the chain from a cell on, in the chain's order. `Broken` comes exactly where the
 /// chain is broken: at the start, where no cell in use stands there; at a cell whose next address
 /// leads back or to no cell in use that may follow; or at the next cell, where its records are not
-/// well formed.
+/// well formed. It ends on any bytes.
 pub fn read_chain<M: MetaPages>(
     alloc: Global,
     pages: &M,

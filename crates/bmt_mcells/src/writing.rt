@@ -184,16 +184,23 @@ fn change_cell<M: MetaPages>(pages: &mut M, at: &CellAt, bytes: &[u8])
     }
 }
 
-/// Writes a cell in use, whatever stood there. Every other cell stays.
+/// Writes a cell in use, whatever stood there, and makes the count of its page's free cells what it
+/// then is. Every other cell stays. The page of cells is there, records are in their order and of at
+/// most 272 bytes together. It takes no memory.
 pub fn write_cell<M: MetaPages>(pages: &mut M, at: CellAt, head: &CellHead, records: &RecordList)
     requires place { HasPlace (M.pages pages.old) at }
     requires next { IfSome head.now.next (λ at. at.cell < 28) }
     requires good { AreRecords records.now }
     requires fits { length (spellings records.now) ≤ 272 }
-    ensures stands { StandsAt (M.pages pages.new) at (record { head = head.now; records = records.now }) }
+    ensures stands { StandsAt (M.pages pages.new) at (record {
+      head = head.now;
+      records = records.now;
+    }) }
     ensures others { LeavesOthers (is_at at) (M.pages pages.old) (M.pages pages.new) }
-    ensures well_formed { (home : Home) → IfSome (M.pages pages.old home) IsCellPage → IfSome (M.pages pages.new home) IsCellPage }
-    ensures elsewhere { (home : Home) → same_home home (home_there at) ≡ false → M.pages pages.new home ≡ M.pages pages.old home }
+    ensures well_formed { (home : Home) → IfSome (M.pages pages.old home) IsCellPage
+        → IfSome (M.pages pages.new home) IsCellPage }
+    ensures elsewhere { (home : Home) → same_home home (home_there at) ≡ false
+        → M.pages pages.new home ≡ M.pages pages.old home }
     ensures room { M.room pages.new ≡ M.room pages.old }
 {
     let mut bytes = [0; CELL_BYTES];
