@@ -1,109 +1,90 @@
--- Histories over filesets without volumes are legal.
-use Rattle.std.proofs.Common.{◌≡◌, ◌≤◌, ℕ, inl, inr, max, Option, Some, None, List, [], ◌∷◌, ◌++◌, length, refl, sym, ap, subst, arith, length-append}
-use Rattle.std.proofs.Math.Seq.{get_or-append_seam, take-append_seam}
-use Rattle.std.proofs.lemmas.List.Elements.{All-take, All-weaker}
+-- A history that answers a script is legal.
+use Rattle.std.proofs.Common.{◌≡◌, ℕ, arith, Bool, true, false, cond, eqb, List, [], ◌∷◌, map, filter, refl, sym, ap, subst}
+use Rattle.std.proofs.lemmas.Bool.Decides.{nat_tests}
+use Rattle.std.proofs.lemmas.List.Elements.{All-nil, All-cons, All-head, All-tail, All-append, All-filter}
 use Rattle.std.specs.FinMap as finite
-use Rattle.std.specs.List.{All}
-use Rattle.fileset_model.specs.Apply.{AnswersIfMemory}
-use Rattle.fileset_model.specs.Legal.{Chain, GainsMarks, IsForActor, MayFollow, Numbered, Point, Step, changed_by_entry, job_after}
-use Rattle.fileset_model.specs.Legal.Chain.{none as no_entry, entry as one_more}
-use Rattle.fileset_model.specs.Legal.Step.{applied, out_of_memory}
-use Rattle.fileset_model.specs.Orders.{Name}
-use Rattle.fileset_model.specs.Room.{room}
-use Rattle.fileset_model.specs.Filesets.{FilesetMap}
-use Rattle.history_model.specs.State.{empty_state}
-use Rattle.fileset_model.specs.declared.command.Actor.{Actor}
-use Rattle.fileset_model.specs.declared.command.Actor.TheVariants.{Client, Mover}
+use Rattle.std.specs.List.{All, flat_map}
+use Rattle.domain_base.specs.declared.version.Version.TheVariants.{Four}
+use Rattle.fileset_model.specs.declared.command.Actor.TheVariants.{Client}
+use Rattle.fileset_model.specs.declared.command.Command.{Command}
 use Rattle.fileset_model.specs.declared.entry.Entry.{Entry}
-use Rattle.fileset_model.specs.declared.fileset.FilesetSlot.{FilesetSlot}
-use Rattle.fileset_model.specs.declared.fileset.Role.{Role}
-use Rattle.fileset_model.specs.declared.fileset.Role.TheVariants.{Original, CloneOf}
-use Rattle.advfs_run.proofs.Calm.{no_panic}
-use Rattle.advfs_run.specs.Plain.{AnswersScript, IsClients, IsLegal, Plain}
-use Rattle.advfs_run.specs.Plain.Plain.{none as plain_none, entry as plain_entry}
+use Rattle.history_model.specs.PlainRun.{IsClients}
+use Rattle.history_model.specs.PlainRun.PlainRun.{none}
+use Rattle.history_model.specs.State.{State, new_domain}
+use Rattle.history_model.specs.VolumeReply.{is_movers}
+use Rattle.history_laws.proofs.PlainLemmas.{legal}
 use Rattle.script_text.specs.declared.script.Script.{Script}
+use Rattle.script_text.specs.declared.script.Section.{Section}
+use Rattle.advfs_run.proofs.ClientCommands.{ForClients, SectionForClients}
+use Rattle.advfs_run.specs.Plain.{AnswersScript, IsLegal, Turn, turn_of, turns_of}
 
--- ---- lists that grow at their end
+-- what holds of the sections with each number holds of all
+All-from_numbers : (P : Section → Type 0) (sections : List Section) → ((n : ℕ) → All P (filter (λ section. eqb n section.number) sections)) → All P sections
+All-from_numbers P [] each = All-nil P
+All-from_numbers P (section ∷ sections) each = All-cons P section sections (own (eqb section.number section.number) (nat_refl section.number) (each section.number)) (All-from_numbers P sections (λ n. rest n (eqb n section.number) (each n)))
+  where
+    nat_refl : (n : ℕ) → eqb n n ≡ true
+    nat_refl n = grind (arith, nat_tests)
 
-All-front : {X : Type 0} (P : X → Type 0) (xs : List X) (x : X) → All P (xs ++ x ∷ []) → All P xs
-All-front P xs x each = subst (All P) (take-append_seam xs (x ∷ [])) (All-take P (length xs) (xs ++ x ∷ []) each)
+    own : (b : Bool) → b ≡ true → All P (cond b (section ∷ filter (λ s. eqb section.number s.number) sections) (filter (λ s. eqb section.number s.number) sections)) → P section
+    own true is all = All-head P section _ all
+    own false is all = absurd (cc)
 
-All-last : {X : Type 0} (P : X → Type 0) (xs : List X) (x : X) → All P (xs ++ x ∷ []) → P x
-All-last P xs x each = subst P (get_or-append_seam xs x [] x) (each (length xs) x (omega (arith, length-append xs (x ∷ []))))
+    rest : (n : ℕ) (b : Bool) → All P (cond b (section ∷ filter (λ s. eqb n s.number) sections) (filter (λ s. eqb n s.number) sections)) → All P (filter (λ s. eqb n s.number) sections)
+    rest n true all = All-tail P section _ all
+    rest n false all = all
 
--- ---- no marks
+-- the turn of a client, with a command that clients may give
+record IsClientsTurn (turn : Turn) : Type 0 where
+  pub number : ℕ
+  pub actor : turn.0 ≡ Client number
+  pub command : is_movers turn.1 ≡ false
 
-pick : {A G : Type 0} (found o : Option A) → found ≡ o → (found ≡ None → G) → ((a : A) → found ≡ Some a → G) → G
-pick found None is none some = none is
-pick found (Some a) is none some = some a is
+clients_turns : (number : ℕ) (commands : List Command) → All ForClients commands → All IsClientsTurn (map (λ command. (Client number, command)) commands)
+unfolding ForClients
+clients_turns number [] each = All-nil IsClientsTurn
+clients_turns number (command ∷ commands) each = All-cons IsClientsTurn (Client number, command) _
+    (record { number = number; actor = refl; command = All-head ForClients command commands each })
+    (clients_turns number commands (All-tail ForClients command commands each))
 
-pick_role : {G : Type 0} (role of : Role) → role ≡ of → (role ≡ Original → G) → ((original : Name) (out : _) → role ≡ CloneOf original out → G) → G
-pick_role role Original is original clone = original is
-pick_role role (CloneOf name out) is original clone = clone name out is
+all_turns : (sections : List Section) → All SectionForClients sections → All IsClientsTurn (flat_map turns_of sections)
+unfolding SectionForClients
+all_turns [] each = All-nil IsClientsTurn
+all_turns (section ∷ sections) each = All-append IsClientsTurn (turns_of section) (flat_map turns_of sections)
+    (clients_turns section.number section.commands (All-head SectionForClients section sections each))
+    (all_turns sections (All-tail SectionForClients section sections each))
 
--- filesets that stay have no more marks
-GainsMarks-refl : (Allowed : Name → FilesetSlot → ℕ → Type 0) (all : FilesetMap) → GainsMarks Allowed all all
-GainsMarks-refl Allowed all name =
-    pick (finite.get all name) (finite.get all name) refl (λ none. rw none refl)
-    (λ slot some. rw some (
-      refl,
-      pick_role slot.role slot.role refl (λ original. rw original refl)
-          (λ original out clone. rw clone (refl, (λ number marked. marked), (λ number marked unmarked. absurd (cc)))),
-    ))
+clients_entries : (history : List Entry) → All IsClientsTurn (map turn_of history) → All IsClients history
+clients_entries [] each = All-nil IsClients
+clients_entries (e ∷ history) each =
+    let turn = All-head IsClientsTurn (turn_of e) (map turn_of history) each in
+    All-cons IsClients e history (record { number = turn.number; actor = turn.actor; command = turn.command })
+    (clients_entries history (All-tail IsClientsTurn (turn_of e) (map turn_of history) each))
 
--- ---- the chain
-
-step_of : (history : List Entry) (point : Point) (e : Entry) (new : FilesetMap) → AnswersIfMemory point.state.filesets e.command e.reply new
-    → Step history point e (record point.state { filesets = new })
-step_of history point e new (inl as_meant) = applied (record point.state { filesets = new }) (as_meant, refl) (GainsMarks-refl _ new) (inl refl) refl
-step_of history point e new (inr for_memory) = out_of_memory for_memory.0 (ap (λ (all : FilesetMap). record point.state { filesets = all }) for_memory.1)
-
-job_none : (actor : Actor) → job_after actor None ≡ None
-job_none (Client number) = refl
-job_none Mover = refl
-
-may_follow : (pages stamp : ℕ) (history : List Entry) (all : FilesetMap) (e : Entry) → Plain finite.empty history all → IsClients e
-    → All (λ before. before.stamp ≡ stamp) history → e.stamp ≡ stamp → MayFollow history None e
-may_follow pages stamp history all e plain client stamps last = record {
-  stamp = All-weaker (λ (before : Entry). before.stamp ≡ stamp) (λ (before : Entry). before.stamp ≤ e.stamp) (λ before is. omega (arith, is, last)) history stamps;
-  panicked = λ volume found. absurd (no_panic finite.empty history all e volume plain found);
-  actor = subst (λ (actor : Actor). IsForActor actor e.command None) (sym client.1) (λ impossible. impossible);
-}
-
--- where a chain over such a history has come to
-ChainTo : ℕ → List Entry → FilesetMap → Type 0
-ChainTo pages history all = (most : ℕ) × (changed : List Numbered)
-    × Chain (empty_state pages) history (record { state = record (empty_state pages) { filesets = all }; job = None; most = most; changed = changed })
-
-chain_of : (pages stamp : ℕ) (history : List Entry) (all : FilesetMap) → Plain finite.empty history all → All IsClients history → All (λ e. e.stamp ≡ stamp) history
-    → ChainTo pages history all
-unfolding ChainTo
-chain_of pages stamp _ _ plain_none clients stamps = (room (empty_state pages), [], no_entry)
-chain_of pages stamp _ _ (plain_entry {history} {all} before e new is) clients stamps =
-    let c = chain_of pages stamp history all before (All-front IsClients history e clients) (All-front (λ e. e.stamp ≡ stamp) history e stamps) in
-    let point : Point = record { state = record (empty_state pages) { filesets = all }; job = None; most = c.0; changed = c.1 } in
-    let follows = may_follow pages stamp history all e before (All-last IsClients history e clients) (All-front (λ e. e.stamp ≡ stamp) history e stamps) (All-last (λ e. e.stamp ≡ stamp) history e stamps) in
-    let next = one_more c.2 e (record (empty_state pages) { filesets = new }) follows (step_of history point e new is) in (
-      max c.0 (room (record (empty_state pages) { filesets = new })),
-      c.1 ++ changed_by_entry all e,
-      subst (λ (job : Option _). Chain (empty_state pages) (history ++ e ∷ []) (record { state = record (empty_state pages) { filesets = new }; job = job; most = max c.0 (room (record (empty_state pages) { filesets = new })); changed = c.1 ++ changed_by_entry all e })) (job_none e.actor) next,
-    )
-
--- a history that answers a script is legal
-pub IsLegal-from_answers : (script : Script) (stamp : ℕ) (history : List Entry) (pages : ℕ) → AnswersScript script stamp history → IsLegal pages history
-unfolding ChainTo
-IsLegal-from_answers script stamp history pages answers =
-    let c = chain_of pages stamp history answers.all answers.plain answers.clients answers.stamps in
+-- a history that answers a script, whose client sections hold no command of the mover's, is legal
+pub IsLegal-from_answers : (script : Script) (stamp : ℕ) (history : List Entry) (pages : ℕ) → All SectionForClients script.clients
+    → AnswersScript script stamp history → IsLegal pages history
+IsLegal-from_answers script stamp history pages given answers =
+    let sections = All-from_numbers SectionForClients answers.sections
+    (λ n. subst (All SectionForClients) (sym (answers.same n)) (All-filter (λ section. eqb n section.number) SectionForClients script.clients given)) in
+    let clients = clients_entries history (subst (All IsClientsTurn) (sym answers.turns_are) (all_turns answers.sections sections)) in
+    let c = legal (new_domain Four (pages ∷ [])) history answers.all stamp answers.plain clients answers.stamps in
     record {
       all = answers.all;
       plain = answers.plain;
-      legal = record { point = _; chain = c.2; running = refl; ends = refl };
+      end = c.0;
+      filesets = ap (λ (s : State). s.filesets) c.1;
+      legal = c.2;
     }
 
 -- and so is the one without entries
 pub IsLegal-none : (pages : ℕ) (history : List Entry) → history ≡ [] → IsLegal pages history
-IsLegal-none pages history none = rw none (record {
-  all = finite.empty;
-  plain = plain_none;
-  legal = record { point = _; chain = no_entry; running = refl; ends = refl };
-})
+IsLegal-none pages history nothing = rw nothing (
+    let c = legal (new_domain Four (pages ∷ [])) [] finite.empty 0 none (All-nil IsClients) (All-nil (λ e. e.stamp ≡ 0)) in
+    record {
+      all = finite.empty;
+      plain = none;
+      end = c.0;
+      filesets = ap (λ (s : State). s.filesets) c.1;
+      legal = c.2;
+    })

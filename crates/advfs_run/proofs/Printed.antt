@@ -6,7 +6,7 @@ use Rattle.std.proofs.lemmas.Grind.{flat_map-append}
 use Rattle.std.proofs.lemmas.List.{append-nil}
 use Rattle.std.specs.Io.KnownBytes.{Appends}
 use Rattle.fileset_model.specs.declared.entry.Entry.{Entry}
-use Rattle.script_text.specs.History.{history_text, line_of}
+use Rattle.history_text.specs.History.{history_text, line_of}
 use Rattle.advfs_run.specs.Transfer.{AppendsFront}
 
 -- the text of one entry more

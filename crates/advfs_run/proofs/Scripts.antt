@@ -1,77 +1,71 @@
 -- Histories that answer a script.
-use Rattle.std.proofs.Common.{◌≡◌, ℕ, ◌≤◌, Option, Some, None, Ok, Err, unwrap_or, Bool, true, false, cond, eqb, List, [], ◌∷◌, ◌++◌, length, map, filter, refl, sym, ap, subst, ◌∙◌, arith, length-append}
-use Rattle.std.proofs.lemmas.List.{append-nil, map-append, nil_from_length}
+use Rattle.std.proofs.Common.{◌≡◌, ℕ, Option, Some, None, Ok, Err, unwrap_or, Bool, true, false, cond, eqb, List, [], ◌∷◌, ◌++◌, map, filter, refl, sym, ap, subst, ◌∙◌, arith}
+use Rattle.std.proofs.lemmas.List.{map-append}
 use Rattle.std.proofs.lemmas.List.Elements.{All-nil, filter-append}
 use Rattle.std.proofs.lemmas.Simd.{map-map}
 use Rattle.std.specs.FinMap as finite
-use Rattle.std.specs.Option.{option_map, option_map_or, option_to_list}
+use Rattle.std.specs.Option.{option_map, option_map_or}
 use Rattle.std.specs.Str.Lines.{lines}
 use Rattle.std.specs.List.{flat_map}
+use Rattle.std.specs.List.Sorted.{IsStableByKey, ties}
+use Rattle.std.specs.Ordering.{is_lt, nat_cmp}
+use Rattle.std.proofs.lemmas.Bool.Decides.{nat_tests}
 use Rattle.fileset_model.specs.Shuffle.{Shuffle, commands_of, same_actor}
 use Rattle.fileset_model.specs.Filesets.{FilesetMap}
 use Rattle.fileset_model.specs.declared.command.Actor.{Actor}
 use Rattle.fileset_model.specs.declared.command.Actor.TheVariants.{Client, Mover}
 use Rattle.fileset_model.specs.declared.command.Command.{Command}
 use Rattle.fileset_model.specs.declared.entry.Entry.{Entry}
-use Rattle.script_text.specs.Script.{BadLine, first_bad, script_of, section_in}
+use Rattle.script_text.specs.Script.{BadLine, first_bad, script_of, sections_in}
 use Rattle.script_text.specs.declared.script.Script.{Script}
 use Rattle.script_text.specs.declared.script.Section.{Section}
-use Rattle.advfs_run.specs.Plain.{AnswersScript, GoesOn, IsClients, Turn, section_of, turns_of, turn_of}
-use Rattle.advfs_run.specs.Plain.Plain.{none}
+use Rattle.advfs_run.specs.Plain.{AnswersScript, GoesOn, SameByNumber, Turn, section_of, turns_of, turn_of}
+use Rattle.history_model.specs.PlainRun.PlainRun.{none}
 
--- a script without a section has no entries
-pub AnswersScript-none : (script : Script) (stamp : ℕ) (history : List Entry) → script.clients ≡ [] → history ≡ [] → AnswersScript script stamp history
-AnswersScript-none script stamp history empty none_given = rw none_given (record {
-  turns_are = rw empty refl;
-  clients = All-nil IsClients;
-  stamps = All-nil (λ e. e.stamp ≡ stamp);
-  all = finite.empty;
-  plain = none;
-})
+-- sections that were sorted by their numbers
+ties-number : (n : ℕ) (section : Section) → ties (λ (x y : Section). is_lt (nat_cmp x.number y.number)) (record { number = n; commands = [] }) section ≡ eqb n section.number
+ties-number n section = grind (arith, nat_tests)
 
-only_one : (sections rest : List Section) (section : Section) → sections ≡ rest ++ section ∷ [] → length sections ≤ 1 → sections ≡ section ∷ []
-only_one sections rest section is few =
-    let empty : rest ≡ [] = nil_from_length rest (omega (arith, ap length is, length-append rest (section ∷ []))) in
-    is ∙ ap (λ l. l ++ section ∷ []) empty
+filter-same : {A : Type 0} (p q : A → Bool) (xs : List A) → ((x : A) → p x ≡ q x) → filter p xs ≡ filter q xs
+filter-same p q [] same = refl
+filter-same p q (x ∷ xs) same = rw (same x, filter-same p q xs same) refl
 
--- a script with one section is answered by a history that goes on from none by its turns
-pub AnswersScript-one : (script : Script) (stamp : ℕ) (rest : List Section) (section : Section) (old history : List Entry) (first all : FilesetMap)
-    → script.clients ≡ rest ++ section ∷ [] → length script.clients ≤ 1 → old ≡ [] → first ≡ finite.empty
-    → GoesOn (turns_of section) stamp old first history all → AnswersScript script stamp history
-AnswersScript-one script stamp rest section old history first all is few none_before empty goes =
-    let begins : GoesOn (turns_of section) stamp [] finite.empty history all =
-    subst (λ before. GoesOn (turns_of section) stamp before finite.empty history all) none_before
-    (subst (λ start. GoesOn (turns_of section) stamp old start history all) empty goes) in
+pub SameByNumber-from_stable : (sections sorted : List Section) → IsStableByKey (λ (section : Section). section.number) nat_cmp sections sorted → SameByNumber sections sorted
+SameByNumber-from_stable sections sorted stable n =
+    let at : Section = record { number = n; commands = [] } in
+    sym (filter-same (ties (λ (x y : Section). is_lt (nat_cmp x.number y.number)) at) (λ section. eqb n section.number) sorted (ties-number n))
+    ∙ stable at
+    ∙ filter-same (ties (λ (x y : Section). is_lt (nat_cmp x.number y.number)) at) (λ section. eqb n section.number) sections (ties-number n)
+
+-- a history that goes on from none by the turns of a script's sections answers it
+pub AnswersScript-from_turns : (script : Script) (sections : List Section) (stamp : ℕ) (old history : List Entry) (first all : FilesetMap)
+    → SameByNumber script.clients sections → old ≡ [] → first ≡ finite.empty
+    → GoesOn (flat_map turns_of sections) stamp old first history all → AnswersScript script stamp history
+AnswersScript-from_turns script sections stamp old history first all same none_before empty goes =
+    let begins : GoesOn (flat_map turns_of sections) stamp [] finite.empty history all =
+    subst (λ before. GoesOn (flat_map turns_of sections) stamp before finite.empty history all) none_before
+    (subst (λ start. GoesOn (flat_map turns_of sections) stamp old start history all) empty goes) in
     record {
-      turns_are = rw (only_one _ rest section is few) (begins.turns_are ∙ sym (append-nil (turns_of section)));
-      clients = begins.clients (All-nil IsClients);
+      sections = sections;
+      same = same;
+      turns_are = begins.turns_are;
       stamps = begins.stamps (All-nil (λ e. e.stamp ≡ stamp));
       all = all;
       plain = begins.plain finite.empty none;
     }
 
--- a script that the grammar reads has one client section at most, and none of the mover
-read_script_is : (text : List ℕ) (script : Script) → script_of text ≡ Ok script → (length script.clients ≤ 1) × (script.mover ≡ None)
-unfolding script_of
-read_script_is text script says = from_bad (first_bad [] (lines text)) says
-  where
-    few : (o : Option Section) → length (option_to_list o) ≤ 1
-    few None = omega arith
-    few (Some section) = omega arith
-
-    from_bad : (bad : Option BadLine)
-        → unwrap_or (option_map Err bad) (Ok (record { clients = option_to_list (section_in (lines text)); mover = None })) ≡ Ok script
-        → (length script.clients ≤ 1) × (script.mover ≡ None)
-    from_bad None is =
-        let same : record { clients = option_to_list (section_in (lines text)); mover = None } ≡ script = cc in
-        (subst (λ (s : Script). length s.clients ≤ 1) same (few (section_in (lines text))), ap (λ (s : Script). s.mover) (sym same))
-    from_bad (Some bad) is = absurd (cc)
-
-pub length-clients : (text : List ℕ) (script : Script) → script_of text ≡ Ok script → length script.clients ≤ 1
-length-clients text script says = (read_script_is text script says).0
-
+-- a script that the grammar reads has no section of the mover
 pub mover-None : (text : List ℕ) (script : Script) → script_of text ≡ Ok script → script.mover ≡ None
-mover-None text script says = (read_script_is text script says).1
+unfolding script_of
+mover-None text script says = from_bad (first_bad [] (lines text)) says
+  where
+    from_bad : (bad : Option BadLine)
+        → unwrap_or (option_map Err bad) (Ok (record { clients = sections_in (lines text); mover = None })) ≡ Ok script
+        → script.mover ≡ None
+    from_bad None is =
+        let same : record { clients = sections_in (lines text); mover = None } ≡ script = cc in
+        ap (λ (s : Script). s.mover) (sym same)
+    from_bad (Some bad) is = absurd (cc)
 
 -- ---- the commands of each actor
 
@@ -130,10 +124,27 @@ commands_in-mover (section ∷ sections) =
     ∙ ap (λ l. l ++ commands_in Mover (flat_map turns_of sections)) (commands_in-section Mover section.number section.commands)
     ∙ commands_in-mover sections
 
+-- only a client's own sections have commands of it
+sections-own : (number : ℕ) (sections : List Section)
+    → flat_map (λ section. cond (eqb number section.number) section.commands []) sections ≡ flat_map (λ section. section.commands) (filter (λ section. eqb number section.number) sections)
+sections-own number [] = refl
+sections-own number (section ∷ sections) = at (eqb number section.number) (sections-own number sections)
+  where
+    at : (b : Bool) → flat_map (λ s. cond (eqb number s.number) s.commands []) sections ≡ flat_map (λ s. s.commands) (filter (λ s. eqb number s.number) sections)
+        → cond b section.commands [] ++ flat_map (λ s. cond (eqb number s.number) s.commands []) sections
+        ≡ flat_map (λ s. s.commands) (cond b (section ∷ filter (λ s. eqb number s.number) sections) (filter (λ s. eqb number s.number) sections))
+    at true rest = ap (λ l. section.commands ++ l) rest
+    at false rest = rest
+
+sections-same : (number : ℕ) (sections others : List Section) → SameByNumber sections others
+    → flat_map (λ section. cond (eqb number section.number) section.commands []) others ≡ flat_map (λ section. cond (eqb number section.number) section.commands []) sections
+sections-same number sections others same =
+    sections-own number others ∙ ap (flat_map (λ section. section.commands)) (same number) ∙ sym (sections-own number sections)
+
 -- a history that answers a script has each actor's commands
 pub Shuffle-from_answers : (script : Script) (stamp : ℕ) (history : List Entry) → script.mover ≡ None → AnswersScript script stamp history → Shuffle history (section_of script)
 Shuffle-from_answers script stamp history none_moves answers actor = commands_of-turns actor history ∙ ap (commands_in actor) answers.turns_are ∙ at actor
   where
-    at : (actor : Actor) → commands_in actor (flat_map turns_of script.clients) ≡ section_of script actor
-    at (Client number) = commands_in-client number script.clients
-    at Mover = commands_in-mover script.clients ∙ sym (ap (λ o. option_map_or (λ section. section.commands) o []) none_moves)
+    at : (actor : Actor) → commands_in actor (flat_map turns_of answers.sections) ≡ section_of script actor
+    at (Client number) = commands_in-client number answers.sections ∙ sections-same number script.clients answers.sections answers.same
+    at Mover = commands_in-mover answers.sections ∙ sym (ap (λ o. option_map_or (λ section. section.commands) o []) none_moves)

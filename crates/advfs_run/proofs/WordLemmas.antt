@@ -1,5 +1,5 @@
 -- The number that a word says.
-use Rattle.std.proofs.Common.{◌≡◌, ℕ, not, ◌<◌, ◌^◌, ◌&&◌, cond, leb, sym, Bool, true, false, Option, Some, None, option_and_then, ◌∙◌, eqb, codes, Result, Ok, Err, List, [], ◌∷◌, length, refl, ap, arith, rules}
+use Rattle.std.proofs.Common.{◌≡◌, ℕ, not, ◌<◌, ◌^◌, ◌&&◌, cond, leb, sym, Bool, true, false, Option, Some, None, ◌∙◌, eqb, codes, Result, Ok, Err, List, [], ◌∷◌, length, refl, ap, arith, rules}
 use Rattle.std.proofs.lemmas.Bool.Decides.{nat_tests}
 use Rattle.std.proofs.lemmas.Str.Parse.{IsNumeralModel, numerals_by_value, parse_digits}
 use Rattle.std.specs.Char.{is_ascii_digit}
@@ -8,7 +8,7 @@ use Rattle.std.specs.Option.{option_map_or}
 use Rattle.std.specs.Result.{OkIff}
 use Rattle.std.specs.Str.{bytes_eq}
 use Rattle.std.specs.Str.Parse.{ParsesUnsigned, digits_value}
-use Rattle.script_text.specs.Forms.{number_below}
+use Rattle.word_forms.specs.Forms.{number_below}
 use Rattle.advfs_run.specs.Usage.{are_plain_digits, form_of, in_range, pages_of, try_form}
 
 decimals : IsNumeralModel (λ ds. list_all is_ascii_digit ds ≡ true) (digits_value 10)

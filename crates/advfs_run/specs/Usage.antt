@@ -4,7 +4,7 @@ use Rattle.std.specs.Char.{is_ascii_digit}
 use Rattle.std.specs.List.{list_all}
 use Rattle.std.specs.Option.{option_map_or}
 use Rattle.std.specs.Str.{bytes_eq}
-use Rattle.script_text.specs.Forms.{number_below}
+use Rattle.word_forms.specs.Forms.{number_below}
 
 -- decimal digits, of which the first is not 0
 abbrev pub are_plain_digits : List ℕ → Bool

@@ -2,7 +2,7 @@
 ghost use Rattle.std.specs.Prelude.{◌≡◌, ◌≤◌, OnOk, OnErr};
 ghost use Rattle.std.specs.Io.KnownBytes.{Appends};
 ghost use Rattle.domain_base.specs.Counts.{HasRisen};
-ghost use Rattle.script_text.specs.History.{history_text};
+ghost use Rattle.history_text.specs.History.{history_text};
 ghost use Rattle.advfs_run.specs.Transfer.{AppendsFront};
 
 use crate::sinks::Sink;

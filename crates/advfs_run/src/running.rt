@@ -1,9 +1,9 @@
 //! The whole of a run: the words, the script, its commands over new filesets, and the printing.
-ghost use Rattle.std.specs.Prelude.{◌≡◌, ◌≢◌, ℕ, ◌+◌, ◌<◌, ◌≤◌, List, [], ◌∷◌, OnOk, OnErr, IfOk, IfErr, MatchResult, map, length, string_bytes, vec_len, vec_capacity, All};
+ghost use Rattle.std.specs.Prelude.{◌≡◌, ◌≢◌, ℕ, ◌+◌, ◌<◌, ◌≤◌, List, [], ◌∷◌, OnOk, OnErr, IfOk, IfErr, MatchResult, map, length, string_bytes, vec_len, vec_capacity, All, IfSome, flat_map, sum_by};
 ghost use Rattle.std.specs.Io.KnownBytes.{Appends, Consumes};
 ghost use Rattle.domain_base.specs.Counts.{HasRisen};
-ghost use Rattle.script_text.specs.History.{history_text};
-ghost use Rattle.advfs_run.specs.Plain.{AnswersScript, GoesOn, IsLegal, turns_of};
+ghost use Rattle.history_text.specs.History.{history_text};
+ghost use Rattle.advfs_run.specs.Plain.{AnswersScript, GoesOn, IsLegal, SameByNumber, turns_of};
 ghost use Rattle.advfs_run.specs.Run.{AnswersRead, GetsNoScript, HasRead, IsScript};
 ghost use Rattle.advfs_run.specs.Transfer.{AppendsFront};
 ghost use Rattle.advfs_run.specs.Usage.{form_of};
@@ -56,7 +56,9 @@ fn run_section<G: Gate>(
     gate: &G,
 )
     requires { vec_len history.old + length section.commands ≤ vec_capacity history.old }
-    ensures { GoesOn (turns_of section) stamp history.old.items filesets.old history.new.items filesets.new }
+    ensures turns { GoesOn (turns_of section) stamp history.old.items filesets.old history.new.items filesets.new }
+    ensures len { vec_len history.new ≡ vec_len history.old + length section.commands }
+    ensures capacity { vec_capacity history.new ≡ vec_capacity history.old }
 {
     let client = section.number;
     let actor = u32::from(client).saturating_sub(1);
@@ -67,26 +69,58 @@ fn run_section<G: Gate>(
     gate.pass(actor, history.len() as u64);
 }
 
-/// The history of a script with one client section at most, over filesets that begin with none. Its room is taken
-/// before the first command.
+/// The sections in the order of their numbers.
+fn in_order(mut sections: Vec<Section>) -> Result<Vec<Section>, OutOfMemory>
+    ensures { IfOk result (λ sorted. SameByNumber sections.items sorted.items) }
+{
+    sections.sort_by_key(|section| section.number)?;
+    Ok(sections)
+}
+
+/// How many commands the sections have.
+fn count_commands(sections: &[Section]) -> Option<usize>
+    ensures { IfSome result (λ count. count ≡ sum_by (λ section. length section.commands) sections.now) }
+{
+    let mut count: usize = 0;
+    for section in sections {
+        count = count.checked_add(section.commands.as_slice().len())?;
+    }
+    Some(count)
+}
+
+/// Gives each command of the sections its reply, one section after another.
+fn run_sections<G: Gate>(
+    alloc: Global,
+    filesets: &mut Filesets,
+    history: &mut Vec<Entry>,
+    sections: Vec<Section>,
+    stamp: u64,
+    gate: &G,
+)
+    requires { vec_len history.old + sum_by (λ section. length section.commands) sections.items ≤ vec_capacity history.old }
+    ensures { GoesOn (flat_map turns_of sections.items) stamp history.old.items filesets.old history.new.items filesets.new }
+{
+    for section in sections {
+        run_section(alloc, filesets, history, section, stamp, gate);
+    }
+}
+
+/// The history of a script, whose sections are answered in the order of their numbers, over filesets that begin with
+/// none. Its room is taken before the first command.
 fn answer_script<G: Gate>(
     alloc: Global,
     script: Script,
     stamp: u64,
     gate: &G,
 ) -> Result<Vec<Entry>, OutOfMemory>
-    requires { length script.clients ≤ 1 }
     ensures { IfOk result (λ history. AnswersScript script stamp history.items) }
 {
+    let sections = in_order(script.clients.into_vec())?;
+    let count = count_commands(sections.as_slice()).ok_or(OutOfMemory)?;
+    let mut history = Vec::with_capacity(alloc, count)?;
     let mut filesets = Filesets::new(alloc);
-    match script.clients.into_vec().pop() {
-        None => Ok(Vec::new(alloc)),
-        Some(section) => {
-            let mut history = Vec::with_capacity(alloc, section.commands.as_slice().len())?;
-            run_section(alloc, &mut filesets, &mut history, section, stamp, gate);
-            Ok(history)
-        }
-    }
+    run_sections(alloc, &mut filesets, &mut history, sections, stamp, gate);
+    Ok(history)
 }
 
 /// Reads the script that a source has.

@@ -33,9 +33,9 @@ fn passes(alloc: Global, script: &str) -> Result<u64, AllocError> {
 
 #[test]
 fn a_client_passes_before_each_turn_and_after_the_last(rt: HostRuntime) -> Result<(), Fail> {
-    let two = passes(rt.alloc(), "client 3\nmkfset a\nmkfset b\n")?;
+    let two = passes(rt.alloc(), "client 3\nsync\nsync\nclient 1\nsync\n")?;
     let none = passes(rt.alloc(), "client 8\n")?;
     let bad = passes(rt.alloc(), "client 1\nmkfset a\nfrob\n")?;
-    assert_eq!(rt; (two, none, bad), (9_20_21_22, 9_70, 9));
+    assert_eq!(rt; (two, none, bad), (9_00_01_21_22_23, 9_70, 9));
     Ok(())
 }

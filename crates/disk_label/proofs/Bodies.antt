@@ -1,18 +1,21 @@
 -- What the fields of a body are, byte by byte and as they were written.
-use Rattle.std.proofs.Common.{◌≡◌, ℕ, zero, suc, ◌+◌, ◌*◌, ◌^◌, ◌%◌, ◌/◌, ◌<◌, ◌≤◌, List, [], ◌∷◌, ◌++◌, length, get_or, take, drop, replicate, Option, Some, None, IsSome, IfSome, true, nat_le, refl, sym, ◌∙◌, ap, subst, arith}
+use Rattle.std.proofs.Common.{◌≡◌, ◌⊎◌, ℕ, zero, suc, ◌+◌, ◌*◌, ◌^◌, ◌%◌, ◌/◌, ◌<◌, ◌≤◌, List, [], ◌∷◌, ◌++◌, length, get_or, take, drop, replicate, Option, Some, None, IsSome, IfSome, true, nat_le, refl, sym, ◌∙◌, ap, inl, inr, arith}
 use Rattle.std.proofs.lemmas.Bool.{le-leb}
 use Rattle.std.proofs.lemmas.List.{get_or-drop}
 use Rattle.std.specs.List.{flat_map}
 use Rattle.byteorder.specs.Endian.{little_number, little_bytes}
 use Rattle.byteorder.specs.Numbers.{little_number-reads_back}
 use Rattle.domain_base.specs.Page.{zero_bytes}
+use Rattle.domain_base.specs.Version.{bitmap_pages, number_of}
 use Rattle.domain_base.specs.declared.place.Home.{Home}
-use Rattle.volume_disk.specs.Disk.{pages_of}
+use Rattle.domain_base.specs.declared.version.Version.{Version}
+use Rattle.domain_base.specs.declared.version.Version.TheVariants.{Three, Four}
 use Rattle.disk_label.specs.Body.{word_at, long_at, home_from, member_from, anchor_from}
 use Rattle.disk_label.specs.Label.{IsLabelOf, label_bytes}
 use Rattle.disk_label.specs.Words.{words_of, home_words, member_words, body_bytes}
 use Rattle.disk_label.specs.declared.anchor.Anchor.{Anchor}
 use Rattle.disk_label.specs.declared.anchor.Member.{Member}
+use Rattle.disk_label.specs.declared.label.Label.{Label}
 
 -- two bodies agree in the bytes that are in use
 abbrev pub SameFields : List ℕ → List ℕ → Type 0
@@ -158,42 +161,61 @@ anchor_from-encoded a body words rest written is fits has_table in_range members
 abbrev page_zeros : List ℕ
 page_zeros = replicate 8192 0
 
--- page 0 with a label
-pub label_is : (dst zeros : List ℕ) (number vol pages : ℕ) → dst ≡ flat_map (little_bytes 4) (0x46564441 ∷ 0x42414c53 ∷ 3 ∷ number ∷ pages ∷ 1 ∷ []) → number ≡ vol → zeros ≡ page_zeros → dst ++ drop 24 zeros ≡ label_bytes vol pages
-unfolding label_bytes
-label_is dst zeros number vol pages written is none =
-    (λ i. written i ++ drop 24 (none i)) ∙ (λ i. flat_map (little_bytes 4) (0x46564441 ∷ 0x42414c53 ∷ 3 ∷ is i ∷ pages ∷ 1 ∷ []) ++ drop 24 page_zeros)
-
 -- The label's fields.
-abbrev label_words : ℕ → ℕ → List ℕ
-label_words vol pages = 0x46564441 ∷ 0x42414c53 ∷ 3 ∷ vol ∷ pages ∷ 1 ∷ []
+abbrev label_words : ℕ → ℕ → ℕ → ℕ → List ℕ
+label_words number vol pages bitmap = 0x46564441 ∷ 0x42414c53 ∷ number ∷ vol ∷ pages ∷ bitmap ∷ []
 
-fits : (vol pages : ℕ) → vol < 2 ^ 32 → pages < 2 ^ 32 → (i : ℕ) → get_or (label_words vol pages) i 0 < 2 ^ 32
-fits vol pages a b zero = omega arith
-fits vol pages a b (suc zero) = omega arith
-fits vol pages a b (suc (suc zero)) = omega arith
-fits vol pages a b (suc (suc (suc zero))) = a
-fits vol pages a b (suc (suc (suc (suc zero)))) = b
-fits vol pages a b (suc (suc (suc (suc (suc zero))))) = omega arith
-fits vol pages a b (suc (suc (suc (suc (suc (suc i)))))) = omega arith
+-- the page with a label
+pub label_is : (dst zeros : List ℕ) (number volume bitmap vol pages : ℕ) (version : Version) → dst ≡ flat_map (little_bytes 4) (label_words number volume pages bitmap) → number ≡ number_of version → volume ≡ vol → bitmap ≡ bitmap_pages version pages → zeros ≡ page_zeros
+    → dst ++ drop 24 zeros ≡ label_bytes vol pages version
+unfolding label_bytes
+label_is dst zeros number volume bitmap vol pages version written is_number is_volume is_bitmap none =
+    (λ i. written i ++ drop 24 (none i)) ∙ (λ i. flat_map (little_bytes 4) (label_words (is_number i) (is_volume i) pages (is_bitmap i)) ++ drop 24 page_zeros)
 
-field : (vol pages : ℕ) (rest : List ℕ) → vol < 2 ^ 32 → pages < 2 ^ 32 → (k : ℕ) → k < 6 → word_at (take 512 (flat_map (little_bytes 4) (label_words vol pages) ++ rest)) k ≡ get_or (label_words vol pages) k 0
-field vol pages rest a b k lt = word_at-written (label_words vol pages) (take 488 rest) k lt (fits vol pages a b)
+fits : (number vol pages bitmap : ℕ) → number < 2 ^ 32 → vol < 2 ^ 32 → pages < 2 ^ 32 → bitmap < 2 ^ 32 → (i : ℕ) → get_or (label_words number vol pages bitmap) i 0 < 2 ^ 32
+fits number vol pages bitmap n v p b zero = omega arith
+fits number vol pages bitmap n v p b (suc zero) = omega arith
+fits number vol pages bitmap n v p b (suc (suc zero)) = n
+fits number vol pages bitmap n v p b (suc (suc (suc zero))) = v
+fits number vol pages bitmap n v p b (suc (suc (suc (suc zero)))) = p
+fits number vol pages bitmap n v p b (suc (suc (suc (suc (suc zero))))) = b
+fits number vol pages bitmap n v p b (suc (suc (suc (suc (suc (suc i)))))) = omega arith
+
+number_small : (version : Version) → number_of version < 2 ^ 32
+number_small Three = omega arith
+number_small Four = omega arith
+
+bitmap_small : (version : Version) (pages : ℕ) → pages < 2 ^ 32 → bitmap_pages version pages < 2 ^ 32
+bitmap_small Three pages small = omega arith
+bitmap_small Four pages small = omega arith
+
+-- a version is known by its number
+pub number_of-same : (one other : Version) → number_of one ≡ number_of other → one ≡ other
+number_of-same Three Three same = refl
+number_of-same Three Four same = absurd (omega arith)
+number_of-same Four Three same = absurd (omega arith)
+number_of-same Four Four same = refl
+
+-- and has one of two
+pub number_of-cases : (version : Version) → (number_of version ≡ 3) ⊎ (number_of version ≡ 4)
+number_of-cases Three = inl refl
+number_of-cases Four = inr refl
 
 -- the label that is written is the volume's
-pub IsLabelOf-label_bytes : (sizes : List ℕ) (vol pages : ℕ) → vol < 2 ^ 32 → pages < 2 ^ 32 → pages ≤ pages_of sizes vol → IsLabelOf sizes vol (take 512 (label_bytes vol pages)) (Some pages)
+pub IsLabelOf-label_bytes : (most vol : ℕ) (label : Label) → vol < 2 ^ 32 → label.pages < 2 ^ 32 → label.pages ≤ most → IsLabelOf most vol (take 512 (label_bytes vol label.pages label.version)) (Some label)
 unfolding label_bytes
-IsLabelOf-label_bytes sizes vol pages a b few = (
-  record {
-    magic_low = reads 0 (omega arith);
-    magic_high = reads 1 (omega arith);
-    version = reads 2 (omega arith);
-    volume = reads 3 (omega arith);
-    pages = subst (λ (n : ℕ). n ≤ pages_of sizes vol) (sym (reads 4 (omega arith))) few;
-    bitmap = reads 5 (omega arith);
-  },
-  sym (reads 4 (omega arith)),
-)
+IsLabelOf-label_bytes most vol label a b few = record {
+  magic_low = reads 0 (omega arith);
+  magic_high = reads 1 (omega arith);
+  version = reads 2 (omega arith);
+  volume = reads 3 (omega arith);
+  pages = reads 4 (omega arith);
+  there = few;
+  bitmap = reads 5 (omega arith);
+}
   where
-    reads : (k : ℕ) → k < 6 → word_at (take 512 (flat_map (little_bytes 4) (label_words vol pages) ++ replicate 8168 0)) k ≡ get_or (label_words vol pages) k 0
-    reads = field vol pages (replicate 8168 0) a b
+    reads : (k : ℕ) → k < 6 → word_at (take 512 (flat_map (little_bytes 4) (label_words (number_of label.version) vol label.pages (bitmap_pages label.version label.pages)) ++ replicate 8168 0)) k
+        ≡ get_or (label_words (number_of label.version) vol label.pages (bitmap_pages label.version label.pages)) k 0
+    reads k lt =
+        word_at-written (label_words (number_of label.version) vol label.pages (bitmap_pages label.version label.pages)) (replicate 488 0) k lt
+        (fits (number_of label.version) vol label.pages (bitmap_pages label.version label.pages) (number_small label.version) a b (bitmap_small label.version label.pages b))

@@ -2,4 +2,5 @@ pub mod Bodies
 pub mod Elsewhere
 pub mod OtherSlots
 pub mod Slots
+pub mod Steps
 pub mod Written

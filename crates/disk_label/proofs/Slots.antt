@@ -1,10 +1,9 @@
 -- What is read of a slot, and which anchor is the greatest.
-use Rattle.std.proofs.Common.{◌≡◌, ℕ, zero, suc, ◌+◌, ◌-◌, ◌*◌, ◌%◌, ◌<◌, ◌≤◌, List, length, get_or, Option, Some, None, true, false, nat_le, refl, sym, ◌∙◌, ap, subst, inl, inr, arith}
+use Rattle.std.proofs.Common.{◌≡◌, ℕ, zero, suc, ◌+◌, ◌-◌, ◌*◌, ◌%◌, ◌<◌, ◌≤◌, List, length, Option, Some, None, true, false, nat_le, refl, sym, ◌∙◌, ap, subst, inl, inr, arith}
 use Rattle.std.proofs.lemmas.Bool.{cases_lt, cases_order, le-leb, lt-leb}
 use Rattle.std.proofs.lemmas.List.{get_or_past}
-use Rattle.volume_disk.specs.Disk.{Moment, pages_of}
+use Rattle.volume_disk.specs.Disk.{Moment, volume_pages}
 use Rattle.volume_disk.specs.Image.{Image, bytes_at}
-use Rattle.volume_disk.proofs.Bytes.{get_or-bytes_from}
 use Rattle.disk_label.specs.Anchor.{volume_of, gate_of, anchor_at, Counts, StandsAt, IsGreatest, IsAnchorBelow, greater_of}
 use Rattle.disk_label.specs.Body.{anchor_from, HasLogMember}
 use Rattle.disk_label.specs.declared.anchor.Anchor.{Anchor}
@@ -25,12 +24,6 @@ module _ (vol slot : ℕ) (low : 1 ≤ vol) (high : slot ≤ 1) where
   -- its byte
   pub gate_at : (image : Image) → image (volume_of place) (gate_of place) ≡ image vol (8192 + 4096 * slot)
   gate_at image = ap (λ (v : ℕ). image v (gate_of place)) volume_is ∙ ap (image vol) gate_is
-
-  -- the gate that a read of its block shows
-  pub gate_read : (image : Image) (block : List ℕ) (at : ℕ) → at ≡ 8192 + 4096 * slot → block ≡ bytes_at image vol at 512 → image (volume_of place) (gate_of place) ≡ get_or block 0 0
-  gate_read image block at is read =
-      let start : at + 0 ≡ gate_of place = omega arith in
-      ap (λ (v : ℕ). image v (gate_of place)) volume_is ∙ ap (image vol) (sym start) ∙ sym (get_or-bytes_from (image vol) at 512 0 0 (omega arith)) ∙ ap (λ (l : List ℕ). get_or l 0 0) (sym read)
 
   -- the anchor that a read of the block behind it shows
   pub anchor_read : (image : Image) (block : List ℕ) (at : ℕ) → at ≡ 8192 + 4096 * slot + 512 → block ≡ bytes_at image vol at 512 → anchor_at image place ≡ anchor_from block slot
@@ -127,11 +120,11 @@ greater-more n sizes image (Some best) (Some found) below here = elim (cases_lt 
 ]
 
 -- a volume without a second page has no anchor
-pub none_there : (sizes : List ℕ) (image : Image) (n : ℕ) → pages_of sizes (volume_of n) < 2 → StandsAt sizes image n None
+pub none_there : (sizes : List ℕ) (image : Image) (n : ℕ) → volume_pages sizes (volume_of n) < 2 → StandsAt sizes image n None
 none_there sizes image n few counts = let there = counts.there in omega arith
 
 -- a volume with a second page is one of the rack
-pub pages_there : (sizes : List ℕ) (vol : ℕ) → 2 ≤ pages_of sizes vol → (1 ≤ vol) × (vol ≤ length sizes)
+pub pages_there : (sizes : List ℕ) (vol : ℕ) → 2 ≤ volume_pages sizes vol → (1 ≤ vol) × (vol ≤ length sizes)
 pages_there sizes zero some = absurd (omega arith)
 pages_there sizes (suc v) some = (omega arith, elim (cases_lt v (length sizes)) [ inl lt ↦ omega arith | inr le ↦ let none = get_or_past sizes v 0 le in absurd (omega (arith, none)) ])
 

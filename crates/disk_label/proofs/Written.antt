@@ -1,12 +1,15 @@
 -- What a stop leaves while a slot is made ready and an anchor is written.
-use Rattle.std.proofs.Common.{◌≡◌, ℕ, ◌+◌, ◌-◌, ◌*◌, ◌%◌, ◌<◌, ◌≤◌, List, ◌++◌, length, length-append, get_or, replicate, Option, Some, None, false, IsTrue, refl, sym, ◌∙◌, ap, subst, inl, inr, arith}
+use Rattle.std.proofs.Common.{◌≡◌, ℕ, ◌+◌, ◌-◌, ◌*◌, ◌%◌, ◌<◌, ◌≤◌, List, ◌++◌, length, length-append, get_or, Option, Some, None, false, refl, sym, ◌∙◌, ap, subst, inl, inr, arith}
 use Rattle.std.proofs.lemmas.Bool.{cases_eq, cases_lt}
 use Rattle.std.proofs.lemmas.List.{get_or_append_left, get_or-append_right}
-use Rattle.volume_disk.specs.Disk.{Disk, Moment, MayLeave, MayLeaveTorn, LeavesOnly, OnlyWrites, Settles, pages_of}
+use Rattle.domain_base.specs.Gate.{opened}
+use Rattle.volume_disk.specs.Disk.{Disk, Moment, MayLeave, Tells, volume_pages}
 use Rattle.volume_disk.specs.Image.{Image, IsIn, SameOutside, bytes_at}
+use Rattle.volume_disk.specs.Run.{MayLeaveTorn, LeavesOnly, OnlyWrites, Settles}
 use Rattle.volume_disk.proofs.Bytes.{get_or-bytes_from, bytes_from-same}
 use Rattle.volume_disk.proofs.Laws.{now_counts, weaker, then_on}
-use Rattle.disk_label.specs.Anchor.{volume_of, gate_of, anchor_at, Counts, IsGreatest, IsAnchor, IsNext, IsOldOrNew, IsReady, StandsIn}
+use Rattle.disk_label.specs.Anchor.{volume_of, gate_of, anchor_at, Counts, IsGreatest, IsAnchor, IsNext}
+use Rattle.disk_label.specs.Slot.{IsOldOrNew, IsReady, StandsIn}
 use Rattle.disk_label.specs.Body.{anchor_from, HasLogMember}
 use Rattle.disk_label.specs.Words.{body_bytes, slot_bytes}
 use Rattle.disk_label.proofs.Bodies.{anchor_from-same, slot_is-anchor_from, log_vol-zeros}
@@ -35,7 +38,7 @@ module _ (vol slot : ℕ) (low : 1 ≤ vol) (high : slot ≤ 1) where
   pub anchor_open : (sizes : List ℕ) (image : Image) (anchor : Anchor) → IsAnchor sizes image (Some anchor) → anchor.log_vol ≡ vol → anchor.slot ≡ slot → image vol gate ≡ 165
   anchor_open sizes image anchor was names stands = gate_open sizes image (subst (Counts sizes image) (stands_at sizes image anchor was names stands) was.counts)
 
-  module _ (at n : ℕ) (from : gate ≤ at) (to : at + n ≤ gate + 4096) (b image : Image) (same : SameOutside vol at n b image) where
+  module _ (at n : ℕ) (from : gate ≤ at) (to : at + n ≤ gate + 4096) (b image : Image) (same : SameOutside (IsIn vol at n) b image) where
     -- no other slot is touched
     elsewhere : (q k : ℕ) → (q ≡ place → ⊥) → gate_of q ≤ k → k < gate_of q + 4096 → ¬ IsIn vol at n (volume_of q) k
     elsewhere q k other low_k high_k is_in = let v = is_in.0 in let a = is_in.1 in let e = is_in.2 in other (omega arith)
@@ -74,12 +77,12 @@ module _ (vol slot : ℕ) (low : 1 ≤ vol) (high : slot ≤ 1) where
         keeps_anchor sizes old (λ counts is. shut_before (gate_open sizes b counts)) (λ counts. absurd (shut_after (gate_open sizes image counts)))
 
     -- where it is open on the next anchor, that is the domain's
-    pub opens : (sizes : List ℕ) (old : Option Anchor) (new : Anchor) → IsAnchor sizes b old → IsNext old new → vol ≤ 8 → new.log_vol ≡ vol → HasLogMember new → 2 ≤ pages_of sizes vol → image vol gate ≡ 165 → anchor_at image place ≡ new → IsAnchor sizes image (Some new)
+    pub opens : (sizes : List ℕ) (old : Option Anchor) (new : Anchor) → IsAnchor sizes b old → IsNext old new → vol ≤ 8 → new.log_vol ≡ vol → HasLogMember new → 2 ≤ volume_pages sizes vol → image vol gate ≡ 165 → anchor_at image place ≡ new → IsAnchor sizes image (Some new)
     opens sizes old new was next few names member pages is_open is = record {
       place = place;
       below = omega arith;
       counts = record {
-        there = subst (λ (v : ℕ). 2 ≤ pages_of sizes v) (sym (volume_is vol slot low high)) pages;
+        there = subst (λ (v : ℕ). 2 ≤ volume_pages sizes v) (sym (volume_is vol slot low high)) pages;
         is_open = gate_at vol slot low high image ∙ is_open;
         names = (λ i. (is i).log_vol) ∙ names ∙ sym (volume_is vol slot low high);
         member = subst HasLogMember (sym is) member;
@@ -100,7 +103,7 @@ module _ (vol slot : ℕ) (low : 1 ≤ vol) (high : slot ≤ 1) where
         less_than q lt other counts = subst (λ (a : Anchor). a.number < new.number) (sym (anchor_same q other)) (all_less old was next q lt (counts_before sizes q other counts))
 
   -- An image that is torn in the gate alone.
-  module _ (b image : Image) (same : SameOutside vol gate 512 b image) where
+  module _ (b image : Image) (same : SameOutside (IsIn vol gate 512) b image) where
     pub behind_same : anchor_at image place ≡ anchor_at b place
     behind_same =
         anchor_read vol slot low high image (bytes_at image vol (gate + 512) 512) (gate + 512) refl refl
@@ -133,15 +136,13 @@ module _ (vol slot : ℕ) (low : 1 ≤ vol) (high : slot ≤ 1) where
             ∙ log_vol-zeros (bytes_at b vol (gate + 512) 512) slot (λ k lt. get_or-bytes_from (b vol) (gate + 512) 512 k 0 (omega arith) ∙ zeros k (omega arith))
 
 -- What a read shows of the gate, where it is synced.
-pub gate_seen : (vol gate at : ℕ) (moment : Moment) (block : List ℕ) (image : Image) → at ≡ gate → block ≡ bytes_at moment.contents vol at 512 → moment.unsynced vol gate ≡ false → MayLeave moment image → image vol gate ≡ get_or block 0 0
-gate_seen vol gate at moment block image is read synced left =
-    let start : gate ≡ at + 0 = omega arith in
-    left vol gate synced ∙ ap (moment.contents vol) start ∙ sym (get_or-bytes_from (moment.contents vol) at 512 0 0 (omega arith)) ∙ ap (λ (l : List ℕ). get_or l 0 0) (sym read)
+pub gate_seen : (vol gate : ℕ) (moment : Moment) (image : Image) → moment.unsynced vol gate ≡ false → MayLeave moment image → image vol gate ≡ moment.contents vol gate
+gate_seen vol gate moment image synced left = left.synced vol gate synced
 
 -- What a synced write leaves.
 
 pub settled_byte : (vol at : ℕ) (bytes : List ℕ) (before after : Moment) (image : Image) → Settles vol at bytes before after → MayLeave after image → (k : ℕ) → k < length bytes → image vol (at + k) ≡ get_or bytes k 0
-settled_byte vol at bytes before after image settles left k lt = left vol (at + k) (settles.here (at + k)) ∙ settles.written k lt
+settled_byte vol at bytes before after image settles left k lt = left.synced vol (at + k) (settles.here (at + k)) ∙ settles.written k lt
 
 -- each image of this moment has the old anchor, and the slot's gate closed
 pub record Shut (sizes : List ℕ) (old : Option Anchor) (vol slot : ℕ) (moment : Moment) : Type 0 where
@@ -162,19 +163,19 @@ module _ (vol slot : ℕ) (low : 1 ≤ vol) (high : slot ≤ 1) (sizes : List �
   Old = λ image. IsAnchor sizes image old
 
   -- a body is being written behind the closed gate
-  module _ (d1 d2 : Disk) (shut : Shut sizes old vol slot d1.now) (told : IsTrue d1.told) (writes : OnlyWrites d1 d2 vol (at_gate + 512) 3584) where
-    torn_shut : (image : Image) → MayLeaveTorn vol (at_gate + 512) 3584 d1.now image → image vol at_gate ≡ 165 → ⊥
+  module _ (d1 d2 : Disk) (shut : Shut sizes old vol slot d1.now) (told : Tells d1) (writes : OnlyWrites d1 d2 (IsIn vol (at_gate + 512) 3584)) where
+    torn_shut : (image : Image) → MayLeaveTorn (IsIn vol (at_gate + 512) 3584) d1.now image → image vol at_gate ≡ 165 → ⊥
     torn_shut image torn is_open = shut.is_shut torn.0 torn.1 (sym (torn.2 vol at_gate (λ is_in. let a = is_in.1 in omega arith)) ∙ is_open)
 
-    torn_old : (image : Image) → MayLeaveTorn vol (at_gate + 512) 3584 d1.now image → IsAnchor sizes image old
+    torn_old : (image : Image) → MayLeaveTorn (IsIn vol (at_gate + 512) 3584) d1.now image → IsAnchor sizes image old
     torn_old image torn =
         stays vol slot low high (at_gate + 512) 3584 (omega arith) (omega arith) torn.0 image torn.2 sizes old (shut.is_shut torn.0 torn.1) (torn_shut image torn) (shut.has_old torn.0 torn.1)
 
     pub writing : LeavesOnly d1 d2 Old
-    writing = weaker d1 d2 (MayLeaveTorn vol (at_gate + 512) 3584 d1.now) Old torn_old (writes.tears told)
+    writing = weaker d1 d2 (MayLeaveTorn (IsIn vol (at_gate + 512) 3584) d1.now) Old torn_old (writes.touches.tears told)
 
-    torn_now : (image : Image) → MayLeave d2.now image → MayLeaveTorn vol (at_gate + 512) 3584 d1.now image
-    torn_now image left = let only = writes.tears told in only.each image (now_counts d2 d1.calls image only.later left)
+    torn_now : (image : Image) → MayLeave d2.now image → MayLeaveTorn (IsIn vol (at_gate + 512) 3584) d1.now image
+    torn_now image left = let only = writes.touches.tears told in only.each image (now_counts d2 d1.calls image only.later left)
 
     pub still_shut : Shut sizes old vol slot d2.now
     still_shut = record { has_old = λ image left. torn_old image (torn_now image left); is_shut = λ image left. torn_shut image (torn_now image left) }
@@ -188,18 +189,18 @@ module _ (vol slot : ℕ) (low : 1 ≤ vol) (high : slot ≤ 1) (sizes : List �
         (still_shut.has_old torn.0 torn.1))
 
 -- An anchor is being written.
-module _ (vol slot : ℕ) (low : 1 ≤ vol) (high : slot ≤ 1) (old : Option Anchor) (new : Anchor) (d0 : Disk) (told : IsTrue d0.told) (ready : IsReady d0 old vol slot) where
+module _ (vol slot : ℕ) (low : 1 ≤ vol) (high : slot ≤ 1) (old : Option Anchor) (new : Anchor) (d0 : Disk) (told : Tells d0) (ready : IsReady d0 old vol slot) where
   abbrev own_gate : ℕ
   own_gate = 8192 + 4096 * slot
 
   abbrev HasOld : Image → Type 0
   HasOld = λ image. IsAnchor d0.sizes image old
 
-  pub closing : (d1 : Disk) → OnlyWrites d0 d1 vol own_gate 512 → LeavesOnly d0 d1 HasOld
-  closing d1 writes = weaker d0 d1 (MayLeaveTorn vol own_gate 512 d0.now) HasOld ready (writes.tears told)
+  pub closing : (d1 : Disk) → OnlyWrites d0 d1 (IsIn vol own_gate 512) → LeavesOnly d0 d1 HasOld
+  closing d1 writes = weaker d0 d1 (MayLeaveTorn (IsIn vol own_gate 512) d0.now) HasOld ready (writes.touches.tears told)
 
   -- the gate is closed
-  module _ (d1 : Disk) (first : OnlyWrites d0 d1 vol own_gate 512) (zeros : List ℕ) (some : 0 < length zeros) (zero : get_or zeros 0 0 ≡ 0) (closes : Settles vol own_gate zeros d0.now d1.now) where
+  module _ (d1 : Disk) (first : OnlyWrites d0 d1 (IsIn vol own_gate 512)) (zeros : List ℕ) (some : 0 < length zeros) (zero : get_or zeros 0 0 ≡ 0) (closes : Settles vol own_gate zeros d0.now d1.now) where
     closed : Shut d0.sizes old vol slot d1.now
     closed = record {
       has_old = λ image left. let only = closing d1 first in only.each image (now_counts d1 d0.calls image only.later left);
@@ -209,11 +210,11 @@ module _ (vol slot : ℕ) (low : 1 ≤ vol) (high : slot ≤ 1) (old : Option An
           omega (arith, is_zero, is_open);
     }
 
-    told-1 : IsTrue d1.told
-    told-1 = first.told ∙ told
+    told-1 : Tells d1
+    told-1 = first.touches.told ∙ told
 
     -- and the body is written behind it
-    module _ (d2 : Disk) (second : OnlyWrites d1 d2 vol (own_gate + 512) 3584) where
+    module _ (d2 : Disk) (second : OnlyWrites d1 d2 (IsIn vol (own_gate + 512) 3584)) where
       pub before_opening : LeavesOnly d0 d2 HasOld
       before_opening = then_on d0 d1 d2 HasOld (closing d1 first) (writing vol slot low high d0.sizes old d1 d2 closed told-1 second)
 
@@ -229,16 +230,16 @@ module _ (vol slot : ℕ) (low : 1 ≤ vol) (high : slot ≤ 1) (old : Option An
 
 -- The gate is being opened on the body.
 module _ (vol slot : ℕ) (low : 1 ≤ vol) (high : slot ≤ 1) (old : Option Anchor) (new : Anchor) (d0 d2 d3 : Disk) (so_far : IsPrepared old new vol slot d0 d2)
-    (next : IsNext old new) (few : vol ≤ 8) (names : new.log_vol ≡ vol) (member : HasLogMember new) (pages : 2 ≤ pages_of d0.sizes vol) (told : IsTrue d2.told) (writes : OnlyWrites d2 d3 vol (8192 + 4096 * slot) 512) where
+    (next : IsNext old new) (few : vol ≤ 8) (names : new.log_vol ≡ vol) (member : HasLogMember new) (pages : 2 ≤ volume_pages d0.sizes vol) (told : Tells d2) (writes : OnlyWrites d2 d3 (IsIn vol (8192 + 4096 * slot) 512)) where
   abbrev the_gate : ℕ
   the_gate = 8192 + 4096 * slot
 
-  torn_open : (image : Image) → MayLeaveTorn vol the_gate 512 d2.now image → image vol the_gate ≡ 165 → IsAnchor d0.sizes image (Some new)
+  torn_open : (image : Image) → MayLeaveTorn (IsIn vol the_gate 512) d2.now image → image vol the_gate ≡ 165 → IsAnchor d0.sizes image (Some new)
   torn_open image torn is_open =
       opens vol slot low high the_gate 512 (omega arith) (omega arith) torn.0 image torn.2 d0.sizes old new (so_far.shut.has_old torn.0 torn.1) next few names member pages is_open
       (behind_same vol slot low high torn.0 image torn.2 ∙ so_far.stands torn.0 torn.1)
 
-  torn_either : (image : Image) → MayLeaveTorn vol the_gate 512 d2.now image → IsOldOrNew d0.sizes old new image
+  torn_either : (image : Image) → MayLeaveTorn (IsIn vol the_gate 512) d2.now image → IsOldOrNew d0.sizes old new image
   torn_either image torn = elim (cases_eq (image vol the_gate) 165) [
     | inl is_open ↦ inr (torn_open image torn is_open)
     | inr closed ↦ inl (stays vol slot low high the_gate 512 (omega arith) (omega arith) torn.0 image torn.2 d0.sizes old (so_far.shut.is_shut torn.0 torn.1) closed (so_far.shut.has_old torn.0 torn.1))
@@ -248,11 +249,11 @@ module _ (vol slot : ℕ) (low : 1 ≤ vol) (high : slot ≤ 1) (old : Option An
   opening =
       then_on d0 d2 d3 (IsOldOrNew d0.sizes old new)
       (weaker d0 d2 (λ image. IsAnchor d0.sizes image old) (IsOldOrNew d0.sizes old new) (λ image has. inl has) so_far.before)
-      (weaker d2 d3 (MayLeaveTorn vol the_gate 512 d2.now) (IsOldOrNew d0.sizes old new) torn_either (writes.tears told))
+      (weaker d2 d3 (MayLeaveTorn (IsIn vol the_gate 512) d2.now) (IsOldOrNew d0.sizes old new) torn_either (writes.touches.tears told))
 
-  pub opened : (bytes : List ℕ) → 0 < length bytes → get_or bytes 0 0 ≡ 165 → Settles vol the_gate bytes d2.now d3.now → (image : Image) → MayLeave d3.now image → IsAnchor d0.sizes image (Some new)
-  opened bytes some first settles image left =
-      let only = writes.tears told in
+  pub is_opened : (bytes : List ℕ) → 0 < length bytes → get_or bytes 0 0 ≡ 165 → Settles vol the_gate bytes d2.now d3.now → (image : Image) → MayLeave d3.now image → IsAnchor d0.sizes image (Some new)
+  is_opened bytes some first settles image left =
+      let only = writes.touches.tears told in
       let start : the_gate ≡ the_gate + 0 = omega arith in
       torn_open image (only.each image (now_counts d3 d2.calls image only.later left)) (ap (image vol) start ∙ settled_byte vol the_gate bytes d2.now d3.now image settles left 0 some ∙ first)
 
@@ -278,6 +279,6 @@ Settles-slot vol gate zeros body ones m0 m1 m2 m3 zeros_size body_size ones_size
   elsewhere = λ v k other. third.elsewhere v k other ∙ second.elsewhere v k other ∙ first.elsewhere v k other;
 }
 
-pub slot_bytes-body : (new : Anchor) (body : List ℕ) → body ≡ body_bytes new → replicate 512 165 ++ body ≡ slot_bytes new
+pub slot_bytes-body : (new : Anchor) (body : List ℕ) → body ≡ body_bytes new → opened ++ body ≡ slot_bytes new
 unfolding slot_bytes
-slot_bytes-body new body is = λ i. replicate 512 165 ++ is i
+slot_bytes-body new body is = λ i. opened ++ is i

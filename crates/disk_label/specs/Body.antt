@@ -15,7 +15,8 @@ long_at body k = word_at body k + 2 ^ 32 * word_at body (k + 1)
 
 -- a home, and none where the volume's number is outside of 1 to 8
 abbrev pub home_from : ℕ → ℕ → Option Home
-home_from vol page = if nat_le 1 vol && nat_le vol 8 then Some (record { vol = vol; page = page }) else None
+home_from vol page =
+    if nat_le 1 vol && nat_le vol 8 then Some (record { vol = vol; page = page }) else None
 
 -- the fields of the member at this index
 abbrev pub member_from : List ℕ → ℕ → Member
@@ -32,7 +33,9 @@ anchor_from body slot = record {
   start = word_at body 6;
   group = long_at body 8;
   table = home_from (word_at body 10) (word_at body 11);
-  members = member_from body 0 ∷ member_from body 1 ∷ member_from body 2 ∷ member_from body 3 ∷ member_from body 4 ∷ member_from body 5 ∷ member_from body 6 ∷ member_from body 7 ∷ [];
+  members =
+      member_from body 0 ∷ member_from body 1 ∷ member_from body 2 ∷ member_from body 3
+      ∷ member_from body 4 ∷ member_from body 5 ∷ member_from body 6 ∷ member_from body 7 ∷ [];
   slot = slot;
 }
 
@@ -42,4 +45,6 @@ no_member = record { pages = 0; state = 0 }
 
 -- the log's volume is a member, open or closed
 abbrev pub HasLogMember : Anchor → Type 0
-HasLogMember anchor = let state = (slice_index_or anchor.members (anchor.log_vol - 1) no_member).state in (1 ≤ state) × (state ≤ 2)
+HasLogMember anchor =
+    let state = (slice_index_or anchor.members (anchor.log_vol - 1) no_member).state in
+    (1 ≤ state) × (state ≤ 2)

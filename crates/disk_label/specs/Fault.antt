@@ -15,7 +15,10 @@ HasCause old new (Fault vol) = new.read_faults ≡ raised_at old.read_faults vol
 abbrev pub HasPassed : Disk → Disk → Type 0
 HasPassed old new = (new.read_faults ≡ old.read_faults) × (new.write_faults ≡ old.write_faults)
 
--- a fault of a slot has raised the count of the volume that it names, of reads or of writes, and no other count
+-- a fault of a slot has raised the count of the volume that it names, of reads or of writes, and no
+-- other count
 abbrev pub HasSlotCause : Disk → Disk → SlotFault → Type 0
-HasSlotCause old new (Read vol) = (new.read_faults ≡ raised_at old.read_faults vol) × (new.write_faults ≡ old.write_faults)
-HasSlotCause old new (Write vol) = (new.read_faults ≡ old.read_faults) × (new.write_faults ≡ raised_at old.write_faults vol)
+HasSlotCause old new (Read vol) =
+    (new.read_faults ≡ raised_at old.read_faults vol) × (new.write_faults ≡ old.write_faults)
+HasSlotCause old new (Write vol) =
+    (new.read_faults ≡ old.read_faults) × (new.write_faults ≡ raised_at old.write_faults vol)

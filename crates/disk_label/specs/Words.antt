@@ -1,7 +1,9 @@
--- The fields of an anchor in their order, as numbers of four bytes, and the bytes that are written for them.
+-- The fields of an anchor in their order, as numbers of four bytes, and the bytes that are written
+-- for them.
 use Rattle.std.specs.List.{flat_map}
-use Rattle.std.specs.Prelude.{◌^◌, ◌%◌, ◌/◌, ℕ, List, [], ◌∷◌, ◌++◌, replicate, Option, Some, None}
+use Rattle.std.specs.Prelude.{◌^◌, ◌%◌, ◌/◌, ℕ, List, [], ◌∷◌, ◌++◌, Option, Some, None}
 use Rattle.byteorder.specs.Endian.{little_bytes}
+use Rattle.domain_base.specs.Gate.{opened}
 use Rattle.domain_base.specs.Page.{zero_bytes}
 use Rattle.domain_base.specs.declared.place.Home.{Home}
 use Rattle.disk_label.specs.declared.anchor.Anchor.{Anchor}
@@ -17,7 +19,8 @@ member_words member = member.pages ∷ member.state ∷ []
 abbrev pub words_of : Anchor → List ℕ
 words_of anchor =
     (
-    anchor.number % 2 ^ 32 ∷ anchor.number / 2 ^ 32 ∷ anchor.version ∷ anchor.log_vol ∷ anchor.log_page ∷ anchor.log_pages ∷ anchor.start
+    anchor.number % 2 ^ 32 ∷ anchor.number / 2 ^ 32 ∷ anchor.version
+    ∷ anchor.log_vol ∷ anchor.log_page ∷ anchor.log_pages ∷ anchor.start
     ∷ 0 ∷ anchor.group % 2 ^ 32 ∷ anchor.group / 2 ^ 32 ∷ []
     )
     ++ home_words anchor.table ++ flat_map member_words anchor.members
@@ -28,4 +31,4 @@ body_bytes anchor = flat_map (little_bytes 4) (words_of anchor) ++ zero_bytes 34
 
 -- its slot: the open gate, and the body
 unfoldable pub slot_bytes : Anchor → List ℕ
-slot_bytes anchor = replicate 512 165 ++ body_bytes anchor
+slot_bytes anchor = opened ++ body_bytes anchor

@@ -1,6 +1,23 @@
 //! Anchors and their bodies.
-ghost use Rattle.std.specs.Prelude.{◌≡◌, ◌+◌, ◌-◌, ◌*◌, ◌%◌, ◌/◌, ◌^◌, ◌<◌, ◌≤◌, ◌↔◌, ◌++◌, ℕ, IsTrue, IsSome, IfSome, length, slice_index};
+ghost use Rattle.std.specs.Prelude.{
+  ◌≡◌,
+  ◌+◌,
+  ◌-◌,
+  ◌*◌,
+  ◌^◌,
+  ◌<◌,
+  ◌≤◌,
+  ◌↔◌,
+  ◌++◌,
+  ℕ,
+  IsTrue,
+  IsSome,
+  IfSome,
+  length,
+  slice_index,
+};
 
+use crate::fields::{high, long, low, word};
 use byteorder::{ByteOrder, LittleEndian};
 use domain_base::limits::BLOCK_BYTES;
 use domain_base::{Home, VolIx};
@@ -11,11 +28,8 @@ pub(crate) const BODY_WORDS: usize = 28;
 /// The bytes of a body: seven blocks.
 pub(crate) const BODY_BYTES: usize = 7 * BLOCK_BYTES;
 
-/// One more than the greatest number of four bytes.
-const WORD: u64 = 1 << 32;
-
-/// A volume as an anchor has it: its pages of 8,192 bytes, and its state, which is 0 for none, 1 for an open member
-/// and 2 for a closed one.
+/// A volume as an anchor has it: its pages of 8,192 bytes, and its state, which is 0 for none, 1
+/// for an open member and 2 for a closed one.
 #[derive(Clone, Copy, Debug, PartialEq, Eq)]
 pub struct Member {
     pub pages: u32,
@@ -27,7 +41,7 @@ pub struct Member {
 pub struct Anchor {
     /// From 1, one more for each anchor.
     pub number: u64,
-    /// The version of the layout.
+    /// The version of the layout: 3 or 4, unless the anchor is out of range.
     pub version: u32,
     /// The volume of the log, and of the anchor.
     pub log_vol: u32,
@@ -130,7 +144,8 @@ impl Anchor {
         ]
     }
 
-    /// Whether its log stands on a member, open or closed. The log has to be on one of the eight volumes.
+    /// Whether its log stands on a member, open or closed. The log has to be on one of the eight
+    /// volumes.
     pub fn has_log_member(&self) -> bool
         requires { (1 ≤ self.now.log_vol) × (self.now.log_vol ≤ 8) }
         ensures { IsTrue result ↔ HasLogMember self.now }
@@ -143,33 +158,18 @@ impl Anchor {
 ghost use Rattle.std.specs.List.{flat_map};
 ghost use Rattle.byteorder.specs.Endian.{little_bytes};
 ghost use Rattle.domain_base.specs.Page.{zero_bytes};
-ghost use Rattle.disk_label.specs.Body.{word_at, long_at, home_from, member_from};
+ghost use Rattle.disk_label.specs.Body.{home_from, member_from};
 
 /// The body that begins with these numbers of four bytes, and is zero behind them.
 fn written(words: &[u32; BODY_WORDS]) -> [u8; BODY_BYTES]
-    ensures value { result ≡ flat_map (little_bytes 4) words.now ++ zero_bytes (BODY_BYTES - 4 * BODY_WORDS) }
+    ensures value { let zeros = zero_bytes (BODY_BYTES - 4 * BODY_WORDS) in
+        result ≡ flat_map (little_bytes 4) words.now ++ zeros }
     ensures fits { (i : ℕ) → slice_index words.now i < 2 ^ 32 }
     ensures count { length words.now ≡ BODY_WORDS }
 {
     let mut body = [0; BODY_BYTES];
     LittleEndian::write_u32_into(words, &mut body[..4 * BODY_WORDS]);
     body
-}
-
-/// The number of four bytes from byte 4k on.
-pub(crate) fn word(body: &[u8], k: usize) -> u32
-    requires { 4 * k + 4 ≤ length body.now }
-    ensures { result ≡ word_at body.now k }
-{
-    LittleEndian::read_u32(&body[4 * k..])
-}
-
-/// The number of eight bytes from byte 4k on.
-fn long(body: &[u8], k: usize) -> u64
-    requires { 4 * k + 8 ≤ length body.now }
-    ensures { result ≡ long_at body.now k }
-{
-    u64::from(word(body, k)) + WORD * u64::from(word(body, k + 1))
 }
 
 /// The member at this index.
@@ -191,18 +191,4 @@ fn home_of(vol: u32, page: u32) -> Option<Home>
         Some(vol) => Some(Home { vol, page }),
         None => None,
     }
-}
-
-/// The lower four bytes of a number.
-fn low(n: u64) -> u32
-    ensures { result ≡ n % 2 ^ 32 }
-{
-    (n % WORD) as u32
-}
-
-/// The upper four bytes of a number.
-fn high(n: u64) -> u32
-    ensures { result ≡ n / 2 ^ 32 }
-{
-    (n / WORD) as u32
 }

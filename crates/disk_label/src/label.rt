@@ -1,84 +1,143 @@
-//! The label of a volume, its page 0.
-ghost use Rattle.std.specs.Prelude.{◌≡◌, ◌^◌, ◌<◌, ◌≤◌, ℕ, List, take, Some, IsTrue, IfOk, IfErr, OnOk};
-ghost use Rattle.volume_disk.specs.Disk.{HasVolume, OnlyReads, OnlyWrites, Settles, raised_at, pages_of};
-ghost use Rattle.volume_disk.specs.Image.{bytes_at};
-ghost use Rattle.disk_label.specs.Label.{IsLabelOf, label_bytes};
+//! The label of a volume.
+ghost use Rattle.std.specs.Prelude.{
+  ◌≡◌,
+  ◌^◌,
+  ◌<◌,
+  ◌≤◌,
+  ◌*◌,
+  ℕ,
+  List,
+  min,
+  take,
+  Some,
+  IfOk,
+  OnOk,
+};
+ghost use Rattle.domain_base.specs.Version.{most_pages};
+ghost use Rattle.volume_disk.specs.Disk.{HasVolume, Tells, volume_pages};
+ghost use Rattle.volume_disk.specs.Image.{IsIn};
+ghost use Rattle.volume_disk.specs.Run.{
+  NamesReadFault,
+  NamesWriteFault,
+  OnlyReads,
+  OnlyWrites,
+  Settles,
+};
+ghost use Rattle.disk_label.specs.FirstPages.{label_page};
+ghost use Rattle.disk_label.specs.Label.{IsLabelOf, label_block, label_bytes};
 
-use crate::anchor::word;
-use crate::store::{read_block, write_synced};
+use crate::fields::word;
+use crate::first_pages::LABEL_PAGE;
 use byteorder::{ByteOrder, LittleEndian};
-use domain_base::VolIx;
-use domain_base::limits::{BLOCK_BYTES, MAX_VOLUMES, PAGE_BYTES};
-use volume_disk::Rack;
+use domain_base::limits::{BLOCK_BYTES, BLOCKS_PER_PAGE, MAX_VOLUMES, PAGE_BYTES};
+use domain_base::{Version, VolIx};
+use volume_disk::{Rack, read_blocks, write_synced};
 
 /// The first eight bytes of a label, `ADVFSLAB`, as two numbers of four bytes.
 const MAGIC: [u32; 2] = [0x4656_4441, 0x4241_4c53];
 
-/// The version of the layout.
-const VERSION: u32 = 3;
-
-/// The pages of a volume's storage bitmap.
-const BITMAP_PAGES: u32 = 1;
-
 /// The fields of a label, as numbers of four bytes.
 const LABEL_WORDS: usize = 6;
 
-/// Writes the label of a volume of so many pages of 8,192 bytes, and syncs it; what is not named is zero. It reads
-/// nothing. The error is the volume, of which a write or a sync failed.
-pub fn write_label<R: Rack>(rack: &mut R, vol: VolIx, pages: u32) -> Result<(), VolIx>
+/// What the label of a volume says.
+#[derive(Clone, Copy, Debug, PartialEq, Eq)]
+pub struct Label {
+    /// The pages of 8,192 bytes that are in use.
+    pub pages: u32,
+    /// The version of the layout in which the volume was made.
+    pub version: Version,
+}
+
+/// How many pages of 8,192 bytes of a volume a domain of this version uses: those that the rack
+/// has, up to the limit of the version. What lies beyond them is left alone.
+pub fn usable_pages<R: Rack>(rack: &R, vol: VolIx, version: Version) -> u32
+    ensures { let pages = volume_pages (R.disk rack.now).sizes vol in
+        result ≡ min pages (most_pages version) }
+{
+    rack.pages(vol).min(version.max_volume_pages())
+}
+
+/// Writes the label of a volume of which so many pages of 8,192 bytes are in use, made in this
+/// version of the layout, and syncs it; what is not named is zero. It reads nothing. The volume has
+/// to be one of the rack with as many pages, at least one, and no more than the version allows. The
+/// error is the volume, of which a write or a sync failed.
+pub fn write_label<R: Rack>(
+    rack: &mut R,
+    vol: VolIx,
+    pages: u32,
+    version: Version,
+) -> Result<(), VolIx>
     requires there { HasVolume (R.disk rack.old) vol }
-    requires page { 1 ≤ pages_of (R.disk rack.old).sizes vol }
-    ensures writes { OnlyWrites (R.disk rack.old) (R.disk rack.new) vol 0 PAGE_BYTES }
-    ensures label { OnOk result (IsTrue (R.disk rack.old).told → Settles vol 0 (label_bytes vol pages) (R.disk rack.old).now (R.disk rack.new).now) }
-    ensures passed { OnOk result ((R.disk rack.new).write_faults ≡ (R.disk rack.old).write_faults) }
-    ensures fault { IfErr result (λ v. (R.disk rack.new).write_faults ≡ raised_at (R.disk rack.old).write_faults v) }
+    requires some { 1 ≤ pages }
+    requires pages { pages ≤ volume_pages (R.disk rack.old).sizes vol }
+    requires most { pages ≤ most_pages version }
+    ensures writes { let places = IsIn vol (PAGE_BYTES * label_page) PAGE_BYTES in
+        OnlyWrites (R.disk rack.old) (R.disk rack.new) places }
+    ensures label { let old = R.disk rack.old in let new = R.disk rack.new in
+        let at = PAGE_BYTES * label_page in
+        OnOk result (Tells old → Settles vol at (label_bytes vol pages version) old.now new.now) }
+    ensures fault { NamesWriteFault (R.disk rack.old) (R.disk rack.new) result }
 {
     let mut page = [0; PAGE_BYTES];
     let words = [
         MAGIC[0],
         MAGIC[1],
-        VERSION,
+        version.number(),
         vol.number(),
         pages,
-        BITMAP_PAGES,
+        version.bitmap_pages(pages),
     ];
     LittleEndian::write_u32_into(&words, &mut page[..4 * LABEL_WORDS]);
-    write_synced(rack, vol, 0, &page)
+    write_synced(rack, vol, BLOCKS_PER_PAGE * LABEL_PAGE, &page)
 }
 
-/// How many pages of 8,192 bytes a volume has, as its label says. None comes where page 0 holds no label of this version
-/// and volume with one page of bitmap, or one with more pages than the rack's volume has. It reads one block, and none of
-/// a volume that has no page. The error is the volume, of which that read failed.
-pub fn read_label<R: Rack>(rack: &mut R, vol: VolIx) -> Result<Option<u32>, VolIx>
+/// The label that a block holds of a volume of which the rack has so many pages. None comes where
+/// it holds none of that volume and of version 3 or 4, with the bitmap pages of its version and
+/// with no more pages than there are.
+fn label_of(block: &[u8; BLOCK_BYTES], vol: VolIx, available: u32) -> Option<Label>
+    ensures { IsLabelOf available vol block.now result }
+{
+    let pages = word(block, 4);
+    let version = Version::from_number(word(block, 2))?;
+    let is_label = word(block, 0) == MAGIC[0] && word(block, 1) == MAGIC[1];
+    let is_right = word(block, 3) == vol.number()
+        && word(block, 5) == version.bitmap_pages(pages)
+        && pages <= available;
+    if is_label && is_right {
+        Some(Label { pages, version })
+    } else {
+        None
+    }
+}
+
+/// The pages of 8,192 bytes in use of a volume and the version in which it was made, as its label
+/// says. None comes where its page holds no label of version 3 or 4 and of this volume with the
+/// bitmap pages of that version, or one with more pages than the rack's volume has. How many pages
+/// a domain may use is not asked here: a label of version 3 with more than 65,536 pages is read. It
+/// reads one block, and none of a volume that has no page. The error is the volume, of which that
+/// read failed.
+pub fn read_label<R: Rack>(rack: &mut R, vol: VolIx) -> Result<Option<Label>, VolIx>
     requires there { HasVolume (R.disk rack.old) vol }
     ensures reads { OnlyReads (R.disk rack.old) (R.disk rack.new) }
-    ensures label { IfOk result (λ label. IsTrue (R.disk rack.old).told → IsLabelOf (R.disk rack.old).sizes vol (bytes_at (R.disk rack.old).now.contents vol 0 512) label) }
-    ensures passed { OnOk result ((R.disk rack.new).read_faults ≡ (R.disk rack.old).read_faults) }
-    ensures fault { IfErr result (λ v. (R.disk rack.new).read_faults ≡ raised_at (R.disk rack.old).read_faults v) }
+    ensures label { let old = R.disk rack.old in IfOk result (λ label. Tells old
+        → 1 ≤ volume_pages old.sizes vol
+        → IsLabelOf (volume_pages old.sizes vol) vol (label_block old.now.contents vol) label) }
+    ensures fault { NamesReadFault (R.disk rack.old) (R.disk rack.new) result }
 {
     let available = rack.pages(vol);
     if available == 0 {
         return Ok(None);
     }
     let mut block = [0; BLOCK_BYTES];
-    read_block(rack, vol, 0, &mut block)?;
-    let pages = word(&block, 4);
-    let is_label = word(&block, 0) == MAGIC[0]
-        && word(&block, 1) == MAGIC[1]
-        && word(&block, 2) == VERSION;
-    let is_right = word(&block, 3) == vol.number()
-        && word(&block, 5) == BITMAP_PAGES
-        && pages <= available;
-    Ok(if is_label && is_right {
-        Some(pages)
-    } else {
-        None
-    })
+    read_blocks(rack, vol, BLOCKS_PER_PAGE * LABEL_PAGE, &mut block)?;
+    Ok(label_of(&block, vol, available))
 }
 
-/// What `write_label` writes is what `read_label` answers: a label with the pages of its volume, of which the rack has
-/// so many.
+/// What `write_label` writes is what `read_label` answers: a label with the pages in use of a
+/// volume of the rack, which has as many.
 pub fn label_reads_back()
-    ensures { (sizes : List ℕ) (vol pages : ℕ) → 1 ≤ vol → vol ≤ MAX_VOLUMES → pages < 2 ^ 32 → pages ≤ pages_of sizes vol
-        → IsLabelOf sizes vol (take BLOCK_BYTES (label_bytes vol pages)) (Some pages) }
+    ensures { (most vol : ℕ) (label : Label) → 1 ≤ vol → vol ≤ MAX_VOLUMES → label.pages < 2 ^ 32
+        → label.pages ≤ most
+        → let page = label_bytes vol label.pages label.version in
+        IsLabelOf most vol (take BLOCK_BYTES page) (Some label) }
 {}

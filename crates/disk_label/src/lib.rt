@@ -1,12 +1,18 @@
-//! The first two pages of a volume: its label, and the anchors that say where a domain's log and table are.
+//! The first pages of a volume: where they are, its label, and the anchors that say where a
+//! domain's log and table are.
 #![tactic(auto)]
 
 mod anchor;
 mod fault;
+mod fields;
+mod first_pages;
 mod label;
+mod laws;
 mod store;
 
 pub use anchor::{Anchor, Member};
 pub use fault::{AnchorFault, SlotFault};
-pub use label::{label_reads_back, read_label, write_label};
-pub use store::{anchors_depend_on_page_1, read_anchor, ready_slot, write_anchor};
+pub use first_pages::{ANCHORS_PAGE, FirstPages, LABEL_PAGE};
+pub use label::{Label, label_reads_back, read_label, usable_pages, write_label};
+pub use laws::anchor_laws;
+pub use store::{close_gates, read_anchor, ready_slot, write_anchor};

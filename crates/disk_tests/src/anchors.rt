@@ -1,12 +1,12 @@
-//! Anchors and labels on racks in memory.
-ghost use Rattle.std.specs.Prelude.{◌≡◌, ◌≤◌, IsTrue, IfOk, None, Some, Option};
-ghost use Rattle.volume_disk.specs.Disk.{OnlyReads};
-ghost use Rattle.disk_label.specs.Anchor.{IsAnchor, IsNext, IsWhole};
+//! What stops and calls that fail leave of the domain's anchor, on racks in memory.
+ghost use Rattle.std.specs.Prelude.{◌≡◌, IsTrue, IfOk, None, Some, Option};
+ghost use Rattle.volume_disk.specs.Disk.{Tells};
+ghost use Rattle.volume_disk.specs.Run.{OnlyReads};
+ghost use Rattle.disk_label.specs.Anchor.{IsAnchor, IsNext};
 
-use disk_label::{
-    Anchor, AnchorFault, Member, SlotFault, read_anchor, read_label, ready_slot, write_anchor,
-    write_label,
-};
+use crate::calls::{full, get, image, look, put};
+use crate::{is_whole, renew_twice};
+use disk_label::{Anchor, AnchorFault, Member, close_gates, read_anchor, ready_slot, write_anchor};
 use domain_base::{Home, OutOfMemory, VolIx};
 use memory_disk::MemoryRack;
 use std::alloc::Global;
@@ -15,17 +15,14 @@ use volume_disk::Rack;
 
 const NONE: Member = Member { pages: 0, state: 0 };
 
-fn volume(n: u32) -> Result<VolIx, &'static str> {
-    VolIx::new(n).ok_or("no such volume")
-}
+const OPEN: Member = Member {
+    pages: 64,
+    state: 1,
+};
 
 /// An anchor on volume 1 or 2, both open members of 64 pages.
-fn anchor(number: u64, log_vol: u32, slot: u8) -> Result<Anchor, &'static str> {
-    let open = Member {
-        pages: 64,
-        state: 1,
-    };
-    Ok(Anchor {
+fn anchor(number: u64, log_vol: u32, slot: u8) -> Anchor {
+    Anchor {
         number,
         version: 3,
         log_vol,
@@ -33,13 +30,10 @@ fn anchor(number: u64, log_vol: u32, slot: u8) -> Result<Anchor, &'static str> {
         log_pages: 128,
         start: 127,
         group: 0x0102_0304_0506_0708,
-        table: Some(Home {
-            vol: volume(2)?,
-            page: 9,
-        }),
-        members: [open, open, NONE, NONE, NONE, NONE, NONE, NONE],
+        table: VolIx::new(2).map(|vol| Home { vol, page: 9 }),
+        members: [OPEN, OPEN, NONE, NONE, NONE, NONE, NONE, NONE],
         slot,
-    })
+    }
 }
 
 fn is_none(fault: &AnchorFault) -> bool
@@ -49,19 +43,6 @@ fn is_none(fault: &AnchorFault) -> bool
         AnchorFault::NoAnchor => true,
         _ => false,
     }
-}
-
-fn is_whole(anchor: &Anchor) -> bool
-    ensures { IsTrue result → IsWhole anchor.now }
-{
-    if anchor.log_vol < 1 || anchor.log_vol > 8 {
-        return false;
-    }
-    let has_table = match anchor.table {
-        Some(_) => true,
-        None => false,
-    };
-    has_table && anchor.slot <= 1 && anchor.has_log_member()
 }
 
 fn is_next(old: &Anchor, next: &Anchor) -> bool
@@ -87,8 +68,9 @@ fn is_first(next: &Anchor) -> bool
 /// Whether the anchor is the next after that of the rack.
 fn may_follow<R: Rack>(rack: &mut R, next: &Anchor) -> Result<bool, AnchorFault>
     ensures reads { OnlyReads (R.disk rack.old) (R.disk rack.new) }
-    ensures follows { IfOk result (λ follows. IsTrue follows → IsTrue (R.disk rack.old).told → (old : Option Anchor)
-        × IsAnchor (R.disk rack.old).sizes (R.disk rack.old).now.contents old × IsNext old next.now) }
+    ensures follows { let old = R.disk rack.old in IfOk result (λ follows. IsTrue follows
+        → Tells old → (before : Option Anchor)
+        × IsAnchor old.sizes old.now.contents before × IsNext before next.now) }
 {
     match read_anchor(rack) {
         Ok(old) => Ok(is_next(&old, next)),
@@ -102,203 +84,221 @@ fn may_follow<R: Rack>(rack: &mut R, next: &Anchor) -> Result<bool, AnchorFault>
     }
 }
 
-/// Writes an anchor that meets the conditions of `write_anchor`.
-fn write_next<R: Rack>(rack: &mut R, next: &Anchor) -> Result<bool, AnchorFault> {
+/// Writes an anchor that meets the conditions of `write_anchor`; whether that passed.
+fn write_next<R: Rack>(rack: &mut R, next: &Anchor) -> bool {
     if !is_whole(next) || next.log_vol > rack.volumes() {
-        return Ok(false);
+        return false;
     }
     let Some(vol) = VolIx::new(next.log_vol) else {
-        return Ok(false);
+        return false;
     };
-    if rack.pages(vol) < 2 || !may_follow(rack, next)? {
-        return Ok(false);
+    if rack.pages(vol) < 2 {
+        return false;
     }
-    match write_anchor(rack, next) {
-        Ok(()) => Ok(true),
-        Err(vol) => Err(AnchorFault::Fault { vol }),
+    match may_follow(rack, next) {
+        Ok(true) => write_anchor(rack, next).is_ok(),
+        _ => false,
     }
 }
 
-fn image(
-    rack: &MemoryRack,
-    alloc: Global,
-    call: u64,
-    pick: u64,
-) -> Result<MemoryRack, OutOfMemory> {
-    if !rack.keeps_calls() || call > rack.calls() {
-        return MemoryRack::new(alloc, &[], &[], false);
+/// Makes slot 1 of volume 1 ready; whether that passed.
+fn make_ready<R: Rack>(rack: &mut R) -> bool {
+    let Some(vol) = VolIx::new(1) else {
+        return false;
+    };
+    rack.volumes() >= 1 && rack.pages(vol) >= 2 && ready_slot(rack, vol, 1).is_ok()
+}
+
+/// What is found as the domain's anchor.
+#[derive(Clone, Copy, PartialEq, Eq)]
+enum Found {
+    Nothing,
+    Old,
+    New,
+    Another,
+}
+
+fn which(found: &Result<Anchor, AnchorFault>, old: &Anchor, new: &Anchor) -> Found {
+    match found {
+        Err(_) => Found::Nothing,
+        Ok(anchor) => {
+            if anchor == new {
+                Found::New
+            } else if anchor == old {
+                Found::Old
+            } else {
+                Found::Another
+            }
+        }
     }
-    rack.image(alloc, call, pick)
+}
+
+/// An anchor and the next one.
+#[derive(Clone, Copy)]
+struct Pair {
+    old: Anchor,
+    new: Anchor,
+}
+
+impl Pair {
+    /// What a stop right after a call leaves.
+    fn left(
+        &self,
+        rack: &MemoryRack,
+        alloc: Global,
+        call: u64,
+        pick: u64,
+    ) -> Result<Found, OutOfMemory> {
+        let mut left = image(rack, alloc, call, pick)?;
+        Ok(which(&read_anchor(&mut left), &self.old, &self.new))
+    }
+
+    /// Whether stops right after each of these calls, by each of some picks, leave one of two.
+    fn leaves(
+        &self,
+        rack: &MemoryRack,
+        alloc: Global,
+        calls: (u64, u64),
+        allowed: (Found, Found),
+    ) -> Result<bool, OutOfMemory> {
+        for call in calls.0..calls.1 {
+            for pick in 0..16 {
+                let found = self.left(rack, alloc, call, pick)?;
+                if found != allowed.0 && found != allowed.1 {
+                    return Ok(false);
+                }
+            }
+        }
+        Ok(true)
+    }
+}
+
+/// Writes the new anchor: whether that passes, the stops during it leave the old anchor or the new one,
+/// and the stops after it the new one.
+fn written(
+    rack: &mut MemoryRack,
+    alloc: Global,
+    pair: &Pair,
+    old: Found,
+) -> Result<[bool; 3], OutOfMemory> {
+    let start = rack.calls();
+    let passed = write_next(rack, &pair.new);
+    let end = rack.calls();
+    let during = pair.leaves(rack, alloc, (start, end), (old, Found::New))?;
+    let last = (end, end.saturating_add(1));
+    let after = pair.leaves(rack, alloc, last, (Found::New, Found::New))?;
+    Ok([passed, during, after])
 }
 
 #[test]
 fn a_stop_leaves_the_old_anchor_or_the_new_one(rt: HostRuntime) -> Result<(), Fail> {
     let mut rack = MemoryRack::new(rt.alloc(), &[2, 2], &[], true)?;
-    let mut old = Err(AnchorFault::NoAnchor);
-    assert_eq!(rt; read_anchor(&mut rack), old);
+    let mut old = anchor(1, 1, 0);
     // the first, to the other slot of the volume, back to the first one, and to another volume
     for (number, log_vol, slot) in [(1, 1, 0), (2, 1, 1), (3, 1, 0), (4, 2, 0)] {
-        let new = anchor(number, log_vol, slot)?;
-        let start = rack.calls();
-        assert_eq!(rt; write_next(&mut rack, &new), Ok(true), "anchor {number}");
-        for call in start..rack.calls() {
-            for pick in 0..8 {
-                let mut left = image(&rack, rt.alloc(), call, pick)?;
-                let found = read_anchor(&mut left);
-                assert!(rt;
-                    found == old || found == Ok(new),
-                    "anchor {number}, call {call}, pick {pick}"
-                );
-            }
-        }
-        for pick in 0..8 {
-            let mut left = image(&rack, rt.alloc(), rack.calls(), pick)?;
-            assert_eq!(rt;
-                read_anchor(&mut left),
-                Ok(new),
-                "anchor {number}, pick {pick}"
-            );
-        }
-        old = Ok(new);
+        let new = anchor(number, log_vol, slot);
+        let before = if number == 1 {
+            Found::Nothing
+        } else {
+            Found::Old
+        };
+        let pair = Pair { old, new };
+        assert_eq!(rt;
+            written(&mut rack, rt.alloc(), &pair, before)?,
+            [true; 3],
+            "anchor {number}"
+        );
+        old = new;
     }
     Ok(())
 }
 
-/// Makes a slot ready, where the conditions of `ready_slot` hold.
-fn make_ready<R: Rack>(rack: &mut R, vol: VolIx, slot: u8) -> Result<bool, SlotFault> {
-    if vol.number() > rack.volumes() || rack.pages(vol) < 2 || slot > 1 {
-        return Ok(false);
-    }
-    ready_slot(rack, vol, slot)?;
-    Ok(true)
-}
-
-/// What a stop right after a call leaves as the domain's anchor.
-fn left_by(
-    rack: &MemoryRack,
-    alloc: Global,
-    call: u64,
-    pick: u64,
-) -> Result<Result<Anchor, AnchorFault>, OutOfMemory> {
-    let mut left = image(rack, alloc, call, pick)?;
-    Ok(read_anchor(&mut left))
-}
-
-/// A rack of one volume with anchor 1 in slot 0, that stopped right after it wrote the body of this anchor of slot 1.
-fn stopped_within_the_body(
-    alloc: Global,
-    cut_short: &Anchor,
-) -> Result<Option<MemoryRack>, OutOfMemory> {
-    let Ok(old) = anchor(1, 1, 0) else {
-        return Ok(None);
-    };
+/// A rack of one volume with anchor 1 in slot 0, that stopped right after it wrote the body of
+/// another anchor behind the closed gate of slot 1.
+fn stopped_within_the_body(alloc: Global) -> Result<MemoryRack, OutOfMemory> {
     let mut rack = MemoryRack::new(alloc, &[2], &[], true)?;
-    if write_next(&mut rack, &old) != Ok(true) || write_next(&mut rack, cut_short) != Ok(true) {
-        return Ok(None);
-    }
+    let cut_short = Anchor {
+        start: 5,
+        ..anchor(2, 1, 1)
+    };
+    let _ = write_next(&mut rack, &anchor(1, 1, 0)) && write_next(&mut rack, &cut_short);
     // the sync of the body, and the two calls that open the gate, are not made
     let call = rack.calls().saturating_sub(3);
-    Ok(Some(image(&rack, alloc, call, 0)?))
+    image(&rack, alloc, call, 0)
 }
 
 #[test]
 fn a_second_stop_leaves_the_old_anchor_or_the_new_one(rt: HostRuntime) -> Result<(), Fail> {
-    let one = volume(1)?;
-    let (old, new) = (anchor(1, 1, 0)?, anchor(2, 1, 1)?);
-    let cut_short = Anchor { start: 5, ..new };
-    let mut rack = stopped_within_the_body(rt.alloc(), &cut_short)?.ok_or("no such rack")?;
-    assert_eq!(rt; read_anchor(&mut rack), Ok(old));
-    let start = rack.calls();
-    assert_eq!(rt; make_ready(&mut rack, one, 1), Ok(true));
-    for call in start..=rack.calls() {
-        for pick in 0..8 {
-            assert_eq!(rt;
-                left_by(&rack, rt.alloc(), call, pick)?,
-                Ok(old),
-                "call {call}, pick {pick}"
-            );
-        }
-    }
-    let start = rack.calls();
-    assert_eq!(rt; write_next(&mut rack, &new), Ok(true));
-    for call in start..rack.calls() {
-        for pick in 0..8 {
-            let found = left_by(&rack, rt.alloc(), call, pick)?;
-            assert!(rt;
-                found == Ok(old) || found == Ok(new),
-                "call {call}, pick {pick}"
-            );
-        }
-    }
-    for pick in 0..8 {
-        assert_eq!(rt;
-            left_by(&rack, rt.alloc(), rack.calls(), pick)?,
-            Ok(new),
-            "pick {pick}"
-        );
-    }
+    let pair = Pair {
+        old: anchor(1, 1, 0),
+        new: anchor(2, 1, 1),
+    };
+    let mut rack = stopped_within_the_body(rt.alloc())?;
+    let ready = make_ready(&mut rack);
+    let calls = (0, rack.calls().saturating_add(1));
+    let before = pair.leaves(&rack, rt.alloc(), calls, (Found::Old, Found::Old))?;
+    let after = written(&mut rack, rt.alloc(), &pair, Found::Old)?;
+    assert_eq!(rt; ([ready, before], after), ([true; 2], [true; 3]));
     Ok(())
+}
+
+fn number_of(found: &Result<Anchor, AnchorFault>) -> u64 {
+    match found {
+        Ok(anchor) => anchor.number,
+        Err(_) => 0,
+    }
+}
+
+/// The number that is found where the gate of slot 1 is open on a body that was cut short, as a stop may
+/// leave it while it is written as zeros.
+fn found_behind_a_torn_gate(alloc: Global, ready: bool) -> Result<u64, OutOfMemory> {
+    let mut rack = stopped_within_the_body(alloc)?;
+    if ready && !make_ready(&mut rack) {
+        return Ok(0);
+    }
+    let _ = put(&mut rack, 1, 24, &[0xa5; 512]);
+    Ok(number_of(&read_anchor(&mut rack)))
 }
 
 #[test]
 fn a_torn_gate_opens_on_what_was_cut_short_unless_the_slot_is_ready(
     rt: HostRuntime,
 ) -> Result<(), Fail> {
-    let one = volume(1)?;
-    let (old, new) = (anchor(1, 1, 0)?, anchor(2, 1, 1)?);
-    let cut_short = Anchor { start: 5, ..new };
-    for (ready, found) in [(false, cut_short), (true, old)] {
-        let mut rack = stopped_within_the_body(rt.alloc(), &cut_short)?.ok_or("no such rack")?;
-        if ready {
-            assert_eq!(rt; make_ready(&mut rack, one, 1), Ok(true));
-        }
-        // what a stop may leave of the gate of slot 1, while it is written as zeros
-        assert_eq!(rt; put(&mut rack, one, 24, &[0xa5; 512]), true);
-        assert_eq!(rt; read_anchor(&mut rack), Ok(found), "ready: {ready}");
-    }
+    let found = [
+        found_behind_a_torn_gate(rt.alloc(), false)?,
+        found_behind_a_torn_gate(rt.alloc(), true)?,
+    ];
+    assert_eq!(rt; found, [2, 1]);
     Ok(())
+}
+
+/// Whether the second anchor is refused where this call fails, which is the last one made, and the stops
+/// after it leave the old anchor, or, where that may be, the new one.
+fn is_cut_short(alloc: Global, fails: u64, allowed: Found) -> Result<bool, OutOfMemory> {
+    let pair = Pair {
+        old: anchor(1, 1, 0),
+        new: anchor(2, 1, 1),
+    };
+    let mut rack = MemoryRack::new(alloc, &[2], &[fails], true)?;
+    let passed = write_next(&mut rack, &pair.old) && !write_next(&mut rack, &pair.new);
+    let calls = (fails, fails.saturating_add(1));
+    let left = pair.leaves(&rack, alloc, calls, (Found::Old, allowed))?;
+    Ok(passed && left && rack.calls() == fails)
 }
 
 #[test]
 fn a_call_that_fails_leaves_the_old_anchor_or_the_new_one(rt: HostRuntime) -> Result<(), Fail> {
-    let one = volume(1)?;
-    let (old, new) = (anchor(1, 1, 0)?, anchor(2, 1, 1)?);
-    // after the eight calls of the old anchor: three reads, and the six calls of the new one, of which the fifth opens
-    // its gate
-    for fails in 9..=17 {
-        let mut rack = MemoryRack::new(rt.alloc(), &[2], &[fails], true)?;
-        assert_eq!(rt; write_next(&mut rack, &old), Ok(true));
-        assert_eq!(rt;
-            write_next(&mut rack, &new),
-            Err(AnchorFault::Fault { vol: one }),
+    // after the eight calls of the old anchor: three reads, and the six calls of the new one, of which
+    // the fifth opens its gate
+    for fails in 9..16 {
+        assert!(rt;
+            is_cut_short(rt.alloc(), fails, Found::Old)?,
             "call {fails} fails"
         );
-        assert_eq!(rt; rack.calls(), fails);
-        for pick in 0..8 {
-            let found = left_by(&rack, rt.alloc(), fails, pick)?;
-            assert!(rt;
-                found == Ok(old) || fails >= 16 && found == Ok(new),
-                "call {fails} fails, pick {pick}"
-            );
-        }
     }
-    Ok(())
-}
-
-#[test]
-fn a_slot_names_the_call_that_failed(rt: HostRuntime) -> Result<(), Fail> {
-    let one = volume(1)?;
-    for (fails, ready, faults) in [
-        (1, Err(SlotFault::Read { vol: one }), (1, 0)),
-        (2, Err(SlotFault::Write { vol: one }), (0, 1)),
-        (3, Err(SlotFault::Write { vol: one }), (0, 1)),
-        (4, Ok(true), (0, 0)),
-    ] {
-        let mut rack = MemoryRack::new(rt.alloc(), &[2], &[fails], true)?;
-        assert_eq!(rt; make_ready(&mut rack, one, 1), ready, "call {fails} fails");
-        assert_eq!(rt;
-            (rack.read_faults(one), rack.write_faults(one)),
-            faults,
+    for fails in 16..18 {
+        assert!(rt;
+            is_cut_short(rt.alloc(), fails, Found::New)?,
             "call {fails} fails"
         );
     }
@@ -308,18 +308,16 @@ fn a_slot_names_the_call_that_failed(rt: HostRuntime) -> Result<(), Fail> {
 #[test]
 fn a_body_is_read_only_behind_an_open_gate(rt: HostRuntime) -> Result<(), Fail> {
     let mut rack = MemoryRack::new(rt.alloc(), &[2], &[], false)?;
-    // two gates, and the body behind each that is open
-    for (number, slot, reads) in [(1, 0, 3), (2, 1, 4)] {
-        let next = anchor(number, 1, slot)?;
-        assert_eq!(rt; write_next(&mut rack, &next), Ok(true));
+    let mut reads = [0; 2];
+    for slot in 0..2 {
+        let next = anchor(u64::from(slot) + 1, 1, slot);
+        assert!(rt; write_next(&mut rack, &next), "slot {slot}");
         let start = rack.calls();
-        assert_eq!(rt; read_anchor(&mut rack), Ok(next));
-        assert_eq!(rt;
-            rack.calls().saturating_sub(start),
-            reads,
-            "anchor {number}"
-        );
+        let _ = read_anchor(&mut rack);
+        reads[usize::from(slot)] = rack.calls().saturating_sub(start);
     }
+    // two gates, and the body behind each that is open
+    assert_eq!(rt; reads, [3, 4]);
     Ok(())
 }
 
@@ -336,124 +334,54 @@ static BODY: [u8; 64] = [
     64, 0, 0, 0, 1, 0, 0, 0, // volume 2
 ];
 
-/// Whether a block begins with these fields, and has zeros behind them.
-fn is_body(block: &[u8; 512]) -> bool {
-    &block[..64] == BODY.as_slice() && block[64..].iter().all(|b| *b == 0)
-}
-
 #[test]
 fn a_slot_is_an_open_gate_the_fields_and_zeros(rt: HostRuntime) -> Result<(), Fail> {
-    let one = volume(1)?;
     let mut rack = MemoryRack::new(rt.alloc(), &[2], &[], false)?;
-    assert_eq!(rt; write_next(&mut rack, &anchor(1, 1, 0)?), Ok(true));
-    let mut block = [0; 512];
-    assert_eq!(rt; get(&mut rack, one, 16, &mut block), true);
-    assert_eq!(rt; block.iter().all(|b| *b == 0xa5), true);
-    assert_eq!(rt; get(&mut rack, one, 17, &mut block), true);
-    assert_eq!(rt; is_body(&block), true);
-    for behind in 18..24 {
-        assert_eq!(rt; get(&mut rack, one, behind, &mut block), true);
-        assert_eq!(rt; block.iter().all(|b| *b == 0), true, "block {behind}");
-    }
-    Ok(())
-}
-
-#[test]
-fn a_call_that_fails_has_raised_a_count(rt: HostRuntime) -> Result<(), Fail> {
-    let one = volume(1)?;
-    let first = anchor(1, 1, 0)?;
-    // four reads of closed gates, and then the six calls of the write
-    for fails in 1..=11 {
-        let mut rack = MemoryRack::new(rt.alloc(), &[2, 2], &[fails], true)?;
-        let written = write_next(&mut rack, &first);
-        let faults = (
-            rack.read_faults(one)
-                .saturating_add(rack.read_faults(volume(2)?)),
-            rack.write_faults(one),
-        );
-        match fails {
-            1..=4 => assert_eq!(rt;
-                (written.is_err(), faults),
-                (true, (1, 0)),
-                "call {fails} fails"
-            ),
-            5..=10 => assert_eq!(rt;
-                (written, faults),
-                (Err(AnchorFault::Fault { vol: one }), (0, 1)),
-                "call {fails} fails"
-            ),
-            _ => assert_eq!(rt; (written, faults), (Ok(true), (0, 0))),
-        }
-    }
-    Ok(())
-}
-
-#[test]
-fn labels_are_written_and_read(rt: HostRuntime) -> Result<(), Fail> {
-    let (one, two) = (volume(1)?, volume(2)?);
-    let mut rack = MemoryRack::new(rt.alloc(), &[512, 64], &[], false)?;
-    for (vol, pages, found) in [(one, 512, Some(512)), (two, 64, Some(64)), (two, 65, None)] {
-        assert_eq!(rt; label(&mut rack, vol, pages), Ok(()));
-        let start = rack.calls();
-        assert_eq!(rt; labelled(&mut rack, vol), Ok(found));
-        assert_eq!(rt; rack.calls().saturating_sub(start), 1);
-    }
-    let mut block = [0; 512];
-    assert_eq!(rt; get(&mut rack, one, 0, &mut block), true);
-    assert_eq!(rt; &block[..8], b"ADVFSLAB".as_slice());
-    assert_eq!(rt;
-        &block[8..24],
-        [3, 0, 0, 0, 1, 0, 0, 0, 0, 2, 0, 0, 1, 0, 0, 0].as_slice()
+    assert!(rt; write_next(&mut rack, &anchor(1, 1, 0)), "anchor 1");
+    let mut body = [0; 512];
+    assert!(rt; get(&mut rack, 1, 17, &mut body), "its body");
+    assert!(rt; body.starts_with(&BODY), "its fields");
+    let around = [16, 18, 19, 20, 21, 22, 23, 24].map(|block| look(&mut rack, 1, block));
+    let zeros = full(0);
+    assert!(rt;
+        look(&mut rack, 1, 17).last == Some(0)
+            && around == [full(0xa5), zeros, zeros, zeros, zeros, zeros, zeros, zeros],
+        "its gate, and zeros"
     );
-    assert_eq!(rt; block[24..].iter().all(|b| *b == 0), true);
     Ok(())
 }
 
-fn label<R: Rack>(rack: &mut R, vol: VolIx, pages: u32) -> Result<(), VolIx> {
-    if vol.number() > rack.volumes() || rack.pages(vol) == 0 {
-        return Err(vol);
+/// The numbers that `renew_twice` answers and that is read after it, on a rack that starts again.
+fn renewed_numbers(rack: &MemoryRack, alloc: Global) -> Result<[u64; 2], OutOfMemory> {
+    if !rack.keeps_calls() {
+        return Ok([0; 2]);
     }
-    write_label(rack, vol, pages)
+    let mut left = rack.image(alloc, rack.calls(), 2)?;
+    let renewed = match renew_twice(&mut left) {
+        Ok(anchor) => anchor.number,
+        Err(_) => 0,
+    };
+    Ok([renewed, number_of(&read_anchor(&mut left))])
 }
 
-fn labelled<R: Rack>(rack: &mut R, vol: VolIx) -> Result<Option<u32>, VolIx> {
-    if vol.number() > rack.volumes() {
-        return Err(vol);
-    }
-    read_label(rack, vol)
-}
-
-fn get<R: Rack>(rack: &mut R, vol: VolIx, block: u32, out: &mut [u8; 512]) -> bool {
-    if vol.number() > rack.volumes() || block / 16 >= rack.pages(vol) {
+/// Closes the gates of volume 1; whether that passed.
+fn closes<R: Rack>(rack: &mut R) -> bool {
+    let Some(vol) = VolIx::new(1) else {
         return false;
-    }
-    rack.read(vol, block, out).is_ok()
-}
-
-fn put<R: Rack>(rack: &mut R, vol: VolIx, block: u32, bytes: &[u8; 512]) -> bool {
-    if vol.number() > rack.volumes() || block / 16 >= rack.pages(vol) {
-        return false;
-    }
-    rack.write(vol, block, bytes).is_ok()
+    };
+    rack.volumes() >= 1 && rack.pages(vol) >= 2 && close_gates(rack, vol).is_ok()
 }
 
 #[test]
-fn a_label_whose_call_fails_is_an_error(rt: HostRuntime) -> Result<(), Fail> {
-    let one = volume(1)?;
-    // the write and the sync of the label, and its read
-    for (fails, written, found, faults) in [
-        (1, Err(one), Ok(None), (0, 1)),
-        (2, Err(one), Ok(Some(64)), (0, 1)),
-        (3, Ok(()), Err(one), (1, 0)),
-    ] {
-        let mut rack = MemoryRack::new(rt.alloc(), &[64], &[fails], false)?;
-        assert_eq!(rt; label(&mut rack, one, 64), written, "call {fails} fails");
-        assert_eq!(rt; labelled(&mut rack, one), found, "call {fails} fails");
-        assert_eq!(rt;
-            (rack.read_faults(one), rack.write_faults(one)),
-            faults,
-            "call {fails} fails"
-        );
-    }
+fn an_anchor_is_renewed_twice_and_its_gates_are_closed(rt: HostRuntime) -> Result<(), Fail> {
+    let mut rack = MemoryRack::new(rt.alloc(), &[2], &[], true)?;
+    let first = anchor(1, 1, 0);
+    assert!(rt; write_next(&mut rack, &first), "anchor 1");
+    let renewed = renewed_numbers(&rack, rt.alloc())?;
+    let closed = closes(&mut rack);
+    assert_eq!(rt;
+        (renewed, closed, read_anchor(&mut rack).is_err()),
+        ([3, 3], true, true)
+    );
     Ok(())
 }

@@ -1,8 +1,18 @@
-//! What racks in memory do, and what labels and anchors are on them: tests of what no clause says, and
-//! nothing else.
+//! What racks in memory do, and what labels and anchors are on them: tests of what no clause says,
+//! and a caller of the anchors whose contract shows that theirs fit together.
 #![tactic(auto)]
+
+mod renewals;
+
+pub use renewals::{RenewalFault, is_whole, next_of, renew_twice};
 
 #[cfg(test)]
 mod anchors;
+#[cfg(test)]
+mod calls;
+#[cfg(test)]
+mod images;
+#[cfg(test)]
+mod labels;
 #[cfg(test)]
 mod racks;

@@ -82,7 +82,7 @@ module _ (first : FilesetMap) where
   step history point e new run of inside (no_space free is few takes none tight same) = absurd (subst IsInside is inside)
   step history point e new run of inside (read_fault volume is same) = absurd (subst IsInside is inside)
   step history point e new run of inside (panicked volume is same) = absurd (subst IsInside is inside)
-  step history point e new run of inside (cancelled may asked is same) = absurd (subst IsInside is inside)
+  step history point e new run of inside (cancelled may asked begun is same) = absurd (subst IsInside is inside)
   step history point e new run of inside (out_of_memory is same) = answers run e new.filesets (inr (is, ap (λ (s : State). s.filesets) same))
 
   -- what was answered at a point

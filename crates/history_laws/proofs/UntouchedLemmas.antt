@@ -82,7 +82,7 @@ carried_filesets point command.Balance reply new answer = same_filesets point.st
 carried_filesets point (command.Addvol vol) reply new answer = ap (λ (s : State). s.filesets) answer.1
 carried_filesets point (command.ChvolA vol) reply new answer = ap (λ (s : State). s.filesets) answer.1 ∙ opened_filesets true vol point.state
 carried_filesets point (command.Switchlog vol) reply new (inl done) = ap (λ (s : State). s.filesets) done.1
-carried_filesets point (command.Switchlog vol) reply new (inr full) = same_filesets point.state new full.1
+carried_filesets point (command.Switchlog vol) reply new (inr full) = same_filesets point.state new full.2
 carried_filesets point (command.Rmvol vol) reply new (inl done) = ap (λ (s : State). s.filesets) done.1.rest
 carried_filesets point (command.Rmvol vol) reply new (inr full) = ap (λ (s : State). s.filesets) full.1 ∙ opened_filesets false vol point.state
 carried_filesets point command.Upgrade reply new answer = ap (λ (s : State). s.filesets) answer.1
@@ -396,5 +396,5 @@ module _ (place : Place) (number : ℕ) (node : Node) where
   step_keeps point e new v (no_space free is few takes none tight same) leaves has = subst (Has place number node) (sym (ap (λ (s : State). s.filesets) same)) has
   step_keeps point e new v (read_fault volume is same) leaves has = subst (Has place number node) (sym (ap (λ (s : State). s.filesets) same)) has
   step_keeps point e new v (panicked volume is same) leaves has = subst (Has place number node) (sym (ap (λ (s : State). s.filesets) same)) has
-  step_keeps point e new v (cancelled may asked is same) leaves has = subst (Has place number node) (sym (ap (λ (s : State). s.filesets) same ∙ cancelled_filesets e.command point.state)) has
+  step_keeps point e new v (cancelled may asked begun is same) leaves has = subst (Has place number node) (sym (ap (λ (s : State). s.filesets) same ∙ cancelled_filesets e.command point.state)) has
   step_keeps point e new v (out_of_memory is same) leaves has = subst (Has place number node) (sym (ap (λ (s : State). s.filesets) same)) has

@@ -173,7 +173,7 @@ carried-log point command.Balance reply new v none answer = same_state_log point
 carried-log point (command.Addvol vol) reply new v none answer = same_state_log (with_member vol point.state) new answer.1 (added-log vol point.state v.valid.log_on_member)
 carried-log point (command.ChvolA vol) reply new v none answer = same_state_log (with_open true vol point.state) new answer.1 (opened-log true vol point.state v.valid.log_on_member)
 carried-log point (command.Switchlog vol) reply new v none (inl done) = ap (λ (s : State). map.contains_key s.members s.log_volume) done.1 ∙ switched-log point vol v none
-carried-log point (command.Switchlog vol) reply new v none (inr full) = same_state_log point.state new full.1 v.valid.log_on_member
+carried-log point (command.Switchlog vol) reply new v none (inr full) = same_state_log point.state new full.2 v.valid.log_on_member
 carried-log point (command.Rmvol vol) reply new v none (inl done) = removed-log vol point.state new done.1 v.valid.log_on_member
 carried-log point (command.Rmvol vol) reply new v none (inr full) = same_state_log (with_open false vol point.state) new full.1 (opened-log false vol point.state v.valid.log_on_member)
 carried-log point command.Upgrade reply new v none answer = ap (λ (s : State). map.contains_key s.members s.log_volume) answer.1 ∙ v.valid.log_on_member
@@ -206,7 +206,7 @@ step-valid point e new v (on_volumes answer) = record {
 step-valid point e new v (no_space free is few takes none tight same) = subst IsValid (sym same) v.valid
 step-valid point e new v (read_fault volume is same) = subst IsValid (sym same) v.valid
 step-valid point e new v (panicked volume is same) = subst IsValid (sym same) v.valid
-step-valid point e new v (cancelled may asked is same) = record {
+step-valid point e new v (cancelled may asked begun is same) = record {
   filesets = subst AreValid (sym (ap (λ (s : State). s.filesets) same ∙ cancelled_filesets e.command point.state)) v.valid.filesets;
   log_on_member = same_state_log (after_cancel e.command point.state) new same (cancelled-log e.command point.state v.valid.log_on_member);
 }
@@ -239,7 +239,7 @@ client-volumes point e new client (on_volumes answer) vol =
 client-volumes point e new client (no_space free is few takes none tight same) vol = ap (λ (s : State). map.contains_key s.members vol) same
 client-volumes point e new client (read_fault volume is same) vol = ap (λ (s : State). map.contains_key s.members vol) same
 client-volumes point e new client (panicked volume is same) vol = ap (λ (s : State). map.contains_key s.members vol) same
-client-volumes point e new client (cancelled may asked is same) vol = ap (λ (s : State). map.contains_key s.members vol) same ∙ ap (λ (s : State). map.contains_key s.members vol) (no_removal e.command client)
+client-volumes point e new client (cancelled may asked begun is same) vol = ap (λ (s : State). map.contains_key s.members vol) same ∙ ap (λ (s : State). map.contains_key s.members vol) (no_removal e.command client)
   where
     no_removal : (c : Command) → is_movers c ≡ false → after_cancel c point.state ≡ point.state
     no_removal (command.Rmvol vol) client = absurd (true≢false client)

@@ -91,6 +91,7 @@ left version sizes name other differ =
       goes_on = entry stays e3 s3 (follows p2 e3 1 (All-cons (λ (b : Entry). b.stamp ≤ 2) e1 (e2 ∷ []) (omega arith) (All-cons (λ (b : Entry). b.stamp ≤ 2) e2 [] (omega arith) (All-nil _))) (All-cons (λ r. r ≡ Done) Done (Done ∷ []) refl (All-cons (λ r. r ≡ Done) Done [] refl (All-nil _))) refl refl) (step_of p2 e3 s3 (made s2 other free few));
       split = refl;
       whole = refl;
+      running = refl;
       synced = (omega arith);
       state = s2;
       found = there (record { last = p2; chain = stays; no_entry = refl; same_job = refl; ends = refl });

@@ -11,7 +11,7 @@ use Rattle.fileset_model.specs.LooksLike.{LooksLike}
 use Rattle.fileset_model.specs.Orders.{Name}
 use Rattle.fileset_model.specs.Pages.{Pages, pages_of}
 use Rattle.fileset_model.specs.Paths.{same_name}
-use Rattle.history_model.specs.Point.{Answered, Point, history_of, start_point}
+use Rattle.history_model.specs.Point.{Answered, Point, history_of, running_job, start_point}
 use Rattle.fileset_model.specs.Filesets.{FilesetMap}
 use Rattle.history_model.specs.State.{Apply, State}
 use Rattle.fileset_model.specs.declared.command.Actor.{Actor}
@@ -202,6 +202,7 @@ pub record AfterStop (start : State) (history : List Entry) (job : Option Comman
   pub goes_on : Chain front end
   pub split : end.past ≡ front.past ++ later
   pub whole : history_of end.past ≡ history
+  pub running : running_job end ≡ job
   pub synced : kept history t ≤ length front.past
   pub state : State
   pub found : Found front later job state

@@ -12,7 +12,7 @@ use Rattle.history_model.specs.Point.{Answered, Point, Tight, changed_in, runnin
 use Rattle.history_model.specs.Room.{need}
 use Rattle.fileset_model.specs.Filesets.{FilesetMap}
 use Rattle.history_model.specs.State.{Apply, State}
-use Rattle.history_model.specs.VolumeReply.{VolumeReply}
+use Rattle.history_model.specs.VolumeReply.{VolumeReply, judged_in}
 use Rattle.history_model.specs.Volumes.{is_open_member, pages_at, volume_refusal, with_open}
 use Rattle.fileset_model.specs.declared.command.Command.{Command}
 use Rattle.fileset_model.specs.declared.command.Command.TheVariants.{Mkfset, Clonefset, Setquota, Create, Mkdir, Link, Rename, Write, Stripe, Migrate, Balance, Rmvol, Upgrade, Defragment, Cancel}
@@ -107,8 +107,9 @@ pub data Step (point : Point) (e : Entry) (new : State) : Type 0 where
   read_fault : (volume : ℕ) → e.reply ≡ Refused (ReadFault volume) → new ≡ point.state → Step point e new
   -- a write or a sync of a volume failed, and nothing changes
   panicked : (volume : ℕ) → e.reply ≡ Refused (Panicked volume) → new ≡ point.state → Step point e new
-  -- the job was cancelled
-  cancelled : MayBeCancelled e.command → WasCancelled point → e.reply ≡ Refused Cancelled
+  -- the job, which was not refused when it began, was cancelled
+  cancelled : MayBeCancelled e.command → WasCancelled point → volume_refusal (judged_in point e.command) e.command ≡ None
+      → e.reply ≡ Refused Cancelled
       → new ≡ after_cancel e.command point.state → Step point e new
   -- no memory could be had, and nothing changes
   out_of_memory : e.reply ≡ Refused OutOfMemory → new ≡ point.state → Step point e new

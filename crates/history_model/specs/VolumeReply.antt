@@ -1,5 +1,5 @@
 -- What the commands on volumes may answer and change.
-use Rattle.std.specs.Prelude.{◌≡◌, ◌⊎◌, ℕ, ◌+◌, ◌*◌, ◌<◌, ◌≤◌, Bool, true, false, List, All, Contains, MatchOption, if◌then◌else◌}
+use Rattle.std.specs.Prelude.{◌≡◌, ◌≢◌, ◌⊎◌, ℕ, ◌+◌, ◌*◌, ◌<◌, ◌≤◌, Bool, true, false, List, All, Contains, MatchOption, if◌then◌else◌}
 use Rattle.std.specs.Option.{option_map_or, option_to_list}
 use Rattle.std.specs.FinMap as map
 use Rattle.domain_base.specs.Limits.{log_pages}
@@ -93,7 +93,7 @@ Carries point (Addvol vol) reply new = (reply ≡ Done) × (new ≡ with_member 
 Carries point (ChvolA vol) reply new = (reply ≡ Done) × (new ≡ with_open true vol point.state)
 Carries point (Switchlog vol) reply new =
     ((reply ≡ Done) × (new ≡ record point.state { log_volume = vol }))
-    ⊎ (NoRun point vol (member_alone point.state vol) reply × (new ≡ point.state))
+    ⊎ ((point.state.log_volume ≢ vol) × NoRun point vol (member_alone point.state vol) reply × (new ≡ point.state))
 Carries point (Rmvol vol) reply new =
     ((reply ≡ Done) × Removes vol point.state new)
     ⊎ (IsFull × (new ≡ with_open false vol point.state))

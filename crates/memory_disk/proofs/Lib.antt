@@ -1,3 +1,4 @@
+pub mod BlockMarks
 pub mod Fused
 pub mod Moments
 pub mod OneMore

@@ -1,8 +1,8 @@
 -- What each call makes of a moment, as the model says it.
-use Rattle.std.proofs.Common.{◌≡◌, ◌≢◌, ◌⊎◌, ◌==◌, ◌&&◌, ◌||◌, ℕ, ◌+◌, ◌-◌, ◌<◌, ◌≤◌, Bool, true, false, List, length, get_or, leb, ltb, refl, sym, ◌∙◌, ap, inl, inr, arith}
-use Rattle.std.proofs.lemmas.Bool.{cases_eq, cases_lt, eq-eqb, ne_eqb, lt-leb, le-leb, lt-ltb, le-ltb, both_ways}
+use Rattle.std.proofs.Common.{◌≡◌, ◌&&◌, ◌||◌, ℕ, ◌+◌, ◌-◌, ◌<◌, ◌≤◌, Bool, true, false, List, length, get_or, leb, ltb, refl, sym, ◌∙◌, ap, inl, inr, arith}
+use Rattle.std.proofs.lemmas.Bool.{cases_eq, cases_lt, lt-leb, le-leb, lt-ltb, le-ltb, both_ways}
 use Rattle.volume_disk.specs.Disk.{Moment, put_at, MayTear, Writes, Syncs}
-use Rattle.volume_disk.specs.Image.{Image, IsIn}
+use Rattle.volume_disk.specs.Image.{IsIn}
 use Rattle.volume_disk.proofs.Places.{in_or_out, put_at-same, put_at-other}
 use Rattle.memory_disk.specs.Moment.{IsPending, overlaid, marked, torn, written, synced}
 

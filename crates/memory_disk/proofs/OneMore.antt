@@ -1,7 +1,7 @@
 -- What one call more makes of a rack in memory.
 use Rattle.std.proofs.Common.{◌≡◌, ℕ, ◌+◌, ◌-◌, ◌*◌, ◌%◌, ◌^◌, ◌<◌, ◌≤◌, IsTrue, List, length, refl, sym, ◌∙◌, ap, subst, arith}
 use Rattle.domain_base.specs.Counts.{raised}
-use Rattle.volume_disk.specs.Disk.{Disk, Moment, Makes, MayTear, SyncFailed, WriteFailed, pages_of}
+use Rattle.volume_disk.specs.Disk.{Disk, Moment, Makes, MayTear, SyncFailed, WriteFailed, volume_pages}
 use Rattle.memory_disk.specs.Kept.{replayed, Adds}
 use Rattle.memory_disk.specs.Memory.{memory_disk, past_of}
 use Rattle.memory_disk.specs.Volume.{moment_of, settled_of, sizes_of, read_faults_of, write_faults_of}
@@ -86,7 +86,7 @@ module _ (rack : MemoryRack) (volumes : List Volume) (next : ℕ) (sizes : sizes
 -- A call that was kept, with what it makes of a moment.
 module _ (rack : MemoryRack) (kept : List KeptCall) (vol block size : ℕ) (effect : Moment → Moment) (adds : Adds rack.keeps rack.kept.items kept (rack.calls + 1) vol block size effect) (volumes : List Volume)
     (sizes : sizes_of volumes ≡ sizes_of rack.volumes.items.items) where
-  pub kept_added : moment_of volumes ≡ effect (moment_of rack.volumes.items.items) → vol ≤ length (sizes_of rack.volumes.items.items) → size % 512 ≡ 0 → 512 * block + size ≤ 8192 * pages_of (sizes_of rack.volumes.items.items) vol
+  pub kept_added : moment_of volumes ≡ effect (moment_of rack.volumes.items.items) → vol ≤ length (sizes_of rack.volumes.items.items) → size % 512 ≡ 0 → 512 * block + size ≤ 8192 * volume_pages (sizes_of rack.volumes.items.items) vol
       → AreKept rack kept volumes (rack.calls + 1)
   kept_added moment in_rack whole within = record {
     numbered = AreUpTo-added rack.kept.items kept rack.calls (rack.calls + 1) vol block size effect refl rack.numbered rack.keeps adds;

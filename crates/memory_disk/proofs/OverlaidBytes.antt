@@ -1,7 +1,7 @@
 -- What a write to a part of a list leaves at each place.
-use Rattle.std.proofs.Common.{◌≡◌, ◌&&◌, ◌||◌, ℕ, ◌+◌, ◌-◌, ◌*◌, ◌/◌, ◌<◌, ◌≤◌, Bool, true, false, cond, List, length, get_or, take, drop, replicate, leb, ltb, refl, sym, ◌∙◌, ap, inl, inr, arith, rules, length-append, length-take, length-drop}
-use Rattle.std.proofs.lemmas.Bool.{cases_lt, lt-leb, le-leb, lt-ltb, le-ltb, and_parts, leb-true, ltb-true}
-use Rattle.std.proofs.lemmas.List.{places, get_or-replicate, length-replicate}
+use Rattle.std.proofs.Common.{◌≡◌, ◌&&◌, ◌||◌, ℕ, ◌+◌, ◌-◌, ◌*◌, ◌/◌, ◌<◌, ◌≤◌, Bool, cond, List, length, get_or, take, drop, leb, ltb, refl, sym, ◌∙◌, ap, inl, inr, arith, rules, length-append, length-take, length-drop}
+use Rattle.std.proofs.lemmas.Bool.{cases_lt, lt-leb, le-leb, lt-ltb, le-ltb}
+use Rattle.std.proofs.lemmas.List.{places}
 use borrow.Rule.Slice.PartMut.{put_mid}
 use Rattle.memory_disk.specs.Moment.{overlaid, marked}
 
@@ -50,28 +50,14 @@ ltb-blocks block n k = elim (cases_lt k (512 * block + 512 * n)) [
   | inr le ↦ le-ltb (k / 512) (block + n) (omega arith) ∙ sym (le-ltb k (512 * block + 512 * n) le)
 ]
 
-replicated : (inside : Bool) (n k : ℕ) (rest : Bool) → (inside ≡ true → k < n) → cond inside (get_or (replicate n true) k false) rest ≡ (inside || rest)
-replicated true n k rest within = get_or-replicate n k true false (within refl)
-replicated false n k rest within = refl
-
--- marks written to a part of a list of them, one for 512 bytes
-pub mark_marked : (marks old ys : List Bool) (block n size : ℕ) → marks ≡ old → ys ≡ replicate n true → size ≡ 512 * n → block + n ≤ length marks → (λ k. get_or (put_mid block n marks ys) (k / 512) false) ≡ marked (λ k. get_or old (k / 512) false) (512 * block) size
-mark_marked marks old ys block n size was same is fits = λ i k. place k i
+-- marks of blocks, as marks of their bytes
+pub marked-blocks : (old new : ℕ → Bool) (first end size : ℕ) → size ≡ 512 * (end - first) → first ≤ end → ((q : ℕ) → new q ≡ ((leb first q && ltb q end) || old q)) → (λ k. new (k / 512)) ≡ marked (λ k. old (k / 512)) (512 * first) size
+marked-blocks old new first end size is order marks = λ i k. place k i
   where
-    within : (k : ℕ) → (leb block k && ltb k (block + n)) ≡ true → k - block < n
-    within k inside = let both = and_parts (leb block k) (ltb k (block + n)) inside in omega (arith, leb-true block k both.0, ltb-true k (block + n) both.1)
-
-    place : (k : ℕ) → get_or (put_mid block n marks ys) (k / 512) false ≡ marked (λ k'. get_or old (k' / 512) false) (512 * block) size k
+    place : (k : ℕ) → new (k / 512) ≡ marked (λ k'. old (k' / 512)) (512 * first) size k
     place k =
-        rw (
-          get_or-put_mid block n marks ys (ap length same ∙ length-replicate n true) fits (k / 512) false,
-          was,
-          same,
-          replicated (leb block (k / 512) && ltb (k / 512) (block + n)) n (k / 512 - block) (get_or old (k / 512) false) (within (k / 512)),
-          leb-blocks block k,
-          ltb-blocks block n k,
-          is,
-        ) refl
+        let n : first + (end - first) ≡ end = omega arith in
+        marks (k / 512) ∙ (rw (leb-blocks first k, sym n, ltb-blocks first (end - first) k, is) refl)
 
 -- a block that is replaced by another leaves the others
 pub get_or-other_block : (xs ys : List ℕ) (block n k : ℕ) → n ≡ 512 → length ys ≡ n → 512 * block + n ≤ length xs → (k / 512 ≡ block → ⊥) → get_or (put_mid (512 * block) n xs ys) k 0 ≡ get_or xs k 0

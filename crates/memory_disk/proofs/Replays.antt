@@ -3,7 +3,7 @@ use Rattle.std.proofs.Common.{◌≡◌, ◌==◌, ◌&&◌, ℕ, zero, suc, ◌
 use Rattle.std.proofs.lemmas.Bool.{cases_order, cases_lt, eq-eqb, ne_eqb, lt-ltb, le-ltb, le-leb, lt-leb}
 use Rattle.std.proofs.lemmas.List.{take_all, drop_more}
 use Rattle.domain_base.specs.Counts.{raised}
-use Rattle.volume_disk.specs.Disk.{Disk, Moment, moment_at, pages_of}
+use Rattle.volume_disk.specs.Disk.{Disk, Moment, moment_at, volume_pages}
 use Rattle.memory_disk.specs.Kept.{effect_on, replayed, FitsIn, IsAdded, Adds}
 use Rattle.memory_disk.specs.Memory.{past_of}
 use Rattle.memory_disk.specs.Moment.{blank}
@@ -84,7 +84,7 @@ module _ (old new : List KeptCall) (calls number vol block size : ℕ) (next : M
   AreUpTo-added true adds k d lt = up_to_last (adds.kept refl) k d lt
   AreUpTo-added false adds k d lt = rw (adds.unkept refl) (omega (arith, up_to k d (rw (adds.unkept refl) at lt)))
 
-  pub AreFit-added : (keeps : Bool) → Adds keeps old new number vol block size next → (sizes : List ℕ) → vol ≤ length sizes → size % 512 ≡ 0 → 512 * block + size ≤ 8192 * pages_of sizes vol → AreFit sizes old → AreFit sizes new
+  pub AreFit-added : (keeps : Bool) → Adds keeps old new number vol block size next → (sizes : List ℕ) → vol ≤ length sizes → size % 512 ≡ 0 → 512 * block + size ≤ 8192 * volume_pages sizes vol → AreFit sizes old → AreFit sizes new
   AreFit-added true adds sizes in_rack whole within fit k d lt =
       let added = adds.kept refl in
       fit_last added sizes (record {

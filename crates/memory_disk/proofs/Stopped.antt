@@ -2,6 +2,7 @@
 use Rattle.std.proofs.Common.{◌≡◌, ℕ, zero, suc, ◌+◌, ◌<◌, ◌≤◌, Bool, false, List, [], ◌∷◌, ◌++◌, length, get_or, refl, sym, ◌∙◌, ap, inl, inr, arith}
 use Rattle.std.proofs.lemmas.Bool.{cases_lt}
 use Rattle.volume_disk.specs.Disk.{MayLeave}
+use Rattle.memory_disk.specs.Bytes.{are_bytes}
 use Rattle.memory_disk.specs.Volume.{byte_of, mark_of, field_at, field_of, moment_of}
 use Rattle.memory_disk.proofs.VolumeFields.{field_at-read, field_at-past, field_at-push_before, field_at-push_last}
 use Rattle.memory_disk.specs.declared.volume.Volume.{Volume}
@@ -58,8 +59,11 @@ module _ (old items : List Volume) (i : ℕ) (count : length items ≡ i) (all :
   past j le = field_at-past byte_of (λ _. 0) items j (omega arith) ∙ sym (field_at-past byte_of (λ _. 0) old j (omega arith))
 
   pub MayLeave-all : KeepsSynced old items i → MayLeave (moment_of old) (field_of byte_of (λ _. 0) items)
-  MayLeave-all keeps zero k synced = refl
-  MayLeave-all keeps (suc j) k synced = elim (cases_lt j i) [ inl lt ↦ keeps j k lt synced | inr le ↦ ap (λ (each : ℕ → ℕ). each k) (past j le) ]
+  MayLeave-all keeps = record { synced = synced; bytes = are_bytes items }
+    where
+      synced : (v k : ℕ) → (moment_of old).unsynced v k ≡ false → field_of byte_of (λ _. 0) items v k ≡ (moment_of old).contents v k
+      synced zero k was = refl
+      synced (suc j) k was = elim (cases_lt j i) [ inl lt ↦ keeps j k lt was | inr le ↦ ap (λ (each : ℕ → ℕ). each k) (past j le) ]
 
   pub contents-all : KeepsAll old items i → field_of byte_of (λ _. 0) items ≡ field_of byte_of (λ _. 0) old
   contents-all keeps = λ d v. place v d

@@ -1,7 +1,7 @@
 -- What a change of one volume leaves of all.
 use Rattle.std.proofs.Common.{◌≡◌, ◌≢◌, ℕ, zero, suc, ◌+◌, ◌<◌, ◌≤◌, Bool, false, List, [], ◌∷◌, ◌++◌, length, get_or, set, refl, sym, ◌∙◌, ap, inl, inr, arith, add-one}
 use Rattle.std.proofs.lemmas.Bool.{cases_eq, eq-eqb, ne_eqb}
-use Rattle.volume_disk.specs.Disk.{Moment, pages_of, put_at}
+use Rattle.volume_disk.specs.Disk.{Moment, volume_pages, put_at}
 use Rattle.volume_disk.specs.Image.{Image}
 use Rattle.memory_disk.specs.Moment.{blank}
 use Rattle.memory_disk.specs.Volume.{byte_of, mark_of, field_at, field_of, moment_of, sizes_of}
@@ -105,8 +105,8 @@ pages_at [] i v lt = absurd (omega arith)
 pages_at (y ∷ volumes) zero v lt = refl
 pages_at (y ∷ volumes) (suc i) v lt = pages_at volumes i v (omega arith)
 
-pub pages_of-read : (volumes : List Volume) (vol i : ℕ) (v : Volume) → i + 1 ≡ vol → i < length volumes → v ≡ get_or volumes i v → pages_of (sizes_of volumes) vol ≡ v.pages
-pages_of-read volumes vol i v number lt read = ap (pages_of (sizes_of volumes)) (sym number ∙ add-one i) ∙ pages_at volumes i v lt ∙ (λ j. (sym read j).pages)
+pub volume_pages-read : (volumes : List Volume) (vol i : ℕ) (v : Volume) → i + 1 ≡ vol → i < length volumes → v ≡ get_or volumes i v → volume_pages (sizes_of volumes) vol ≡ v.pages
+volume_pages-read volumes vol i v number lt read = ap (volume_pages (sizes_of volumes)) (sym number ∙ add-one i) ∙ pages_at volumes i v lt ∙ (λ j. (sym read j).pages)
 
 pub same_moment : (c c' : Image) (u u' : ℕ → ℕ → Bool) → c ≡ c' → u ≡ u' → let m : Moment = record { contents = c; unsynced = u } in let m' : Moment = record { contents = c'; unsynced = u' } in m ≡ m'
 same_moment c c' u u' p q = λ i. record { contents = p i; unsynced = q i }

@@ -9,7 +9,8 @@ blank = record { contents = λ _ _. 0; unsynced = λ _ _. false }
 
 -- these bytes from `at` on, over what was there
 abbrev pub overlaid : (ℕ → ℕ) → ℕ → List ℕ → ℕ → ℕ
-overlaid each at bytes k = if nat_le at k && nat_lt k (at + length bytes) then slice_index bytes (k - at) else each k
+overlaid each at bytes k =
+    if nat_le at k && nat_lt k (at + length bytes) then slice_index bytes (k - at) else each k
 
 -- n marks from `at` on, over those that were there
 abbrev pub marked : (ℕ → Bool) → ℕ → ℕ → ℕ → Bool
@@ -17,7 +18,8 @@ marked each at n k = (nat_le at k && nat_lt k (at + n)) || each k
 
 -- n bytes from `at` on are not synced any more
 unfoldable pub torn : Moment → ℕ → ℕ → ℕ → Moment
-torn moment vol at n = record moment { unsynced = put_at moment.unsynced vol (marked (moment.unsynced vol) at n) }
+torn moment vol at n =
+    record moment { unsynced = put_at moment.unsynced vol (marked (moment.unsynced vol) at n) }
 
 -- these bytes are written from `at` on
 unfoldable pub written : Moment → ℕ → ℕ → List ℕ → Moment

@@ -1,6 +1,7 @@
 -- What volumes in memory hold.
-use Rattle.std.specs.Prelude.{◌≡◌, ◌/◌, ℕ, zero, suc, Bool, false, List, [], ◌∷◌, map, slice_index, slice_index_or}
+use Rattle.std.specs.Prelude.{◌≡◌, ◌/◌, ℕ, zero, suc, Bool, false, List, [], ◌∷◌, map, slice_index}
 use Rattle.volume_disk.specs.Disk.{Moment}
+use Rattle.memory_disk.specs.Marks.{is_marked}
 use Rattle.memory_disk.specs.declared.volume.Volume.{Volume}
 
 abbrev pub byte_of : Volume → ℕ → ℕ
@@ -8,7 +9,7 @@ byte_of volume k = slice_index volume.bytes.items k
 
 -- a place's block is marked as not synced
 abbrev pub mark_of : Volume → ℕ → Bool
-mark_of volume k = slice_index_or volume.unsynced.items (k / 512) false
+mark_of volume k = is_marked volume.unsynced.words.items (k / 512)
 
 -- of the volume at this index, or d past the last
 abbrev pub field_at : {X : Type 0} → (Volume → X) → X → List Volume → ℕ → X
@@ -31,11 +32,17 @@ abbrev pub write_faults_of : List Volume → ℕ → ℕ
 write_faults_of = field_of (λ volume. volume.write_faults) 0
 
 abbrev pub moment_of : List Volume → Moment
-moment_of volumes = record { contents = field_of byte_of (λ _. 0) volumes; unsynced = field_of mark_of (λ _. false) volumes }
+moment_of volumes = record {
+  contents = field_of byte_of (λ _. 0) volumes;
+  unsynced = field_of mark_of (λ _. false) volumes;
+}
 
 -- what they hold, where nothing is pending
 abbrev pub settled_of : List Volume → Moment
-settled_of volumes = record { contents = field_of byte_of (λ _. 0) volumes; unsynced = λ _ _. false }
+settled_of volumes = record {
+  contents = field_of byte_of (λ _. 0) volumes;
+  unsynced = λ _ _. false;
+}
 
 -- the counts and sizes are the same
 pub record SameCounts (old new : List Volume) : Type 0 where

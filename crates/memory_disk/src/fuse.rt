@@ -5,8 +5,9 @@ use crate::MemoryRack;
 use domain_base::{Failed, VolIx};
 use volume_disk::Rack;
 
-/// A rack that passes so many calls on to a rack in memory, which may fail them by itself, and fails every call after
-/// them. A write that it fails tears its range as one does that the rack in memory fails; of both only tests show it.
+/// A rack that passes so many calls on to a rack in memory, which may fail them by itself, and
+/// fails every call after them. A write that it fails tears its range as one does that the rack in
+/// memory fails; of both only tests show it.
 #[derive(Drop)]
 pub struct FuseRack {
     rack: MemoryRack,
@@ -37,8 +38,11 @@ impl FuseRack {
 
 impl Rack for FuseRack {
     ghost use Rattle.memory_disk.specs.Fuse.{fuse_disk};
+    ghost use Rattle.memory_disk.specs.Bytes.{are_bytes};
 
     ghost disk = { fuse_disk };
+
+    ghost holds_bytes = { λ fuse told. are_bytes fuse.rack.volumes.items.items };
 
     fn volumes(&self) -> u32 {
         self.rack.volumes()
@@ -58,7 +62,7 @@ impl Rack for FuseRack {
 
     fn write(&mut self, vol: VolIx, block: u32, bytes: &[u8]) -> Result<(), Failed> {
         if self.rack.calls() >= self.last {
-            self.rack.fail_write(vol, block, bytes.len());
+            self.rack.fail_write(vol, block, bytes);
             return Err(Failed);
         }
         self.rack.write(vol, block, bytes)

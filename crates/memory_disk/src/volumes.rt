@@ -1,13 +1,21 @@
 //! The volumes of a rack in memory, by their numbers.
 ghost use Rattle.std.specs.Prelude.{◌≡◌, ◌+◌, ◌*◌, ◌%◌, ◌≤◌, length, vec_len, IfOk};
-ghost use Rattle.volume_disk.specs.Disk.{MayLeave, pages_of, raised_at};
+ghost use Rattle.volume_disk.specs.Disk.{MayLeave, raised_at, volume_pages};
 ghost use Rattle.volume_disk.specs.Image.{bytes_at};
 ghost use Rattle.memory_disk.specs.Kept.{FitsIn, effect_on};
 ghost use Rattle.memory_disk.specs.Moment.{blank, written, torn, synced};
-ghost use Rattle.memory_disk.specs.Volume.{moment_of, settled_of, sizes_of, read_faults_of, write_faults_of, SameCounts};
+ghost use Rattle.memory_disk.specs.Volume.{
+  moment_of,
+  read_faults_of,
+  settled_of,
+  sizes_of,
+  write_faults_of,
+  SameCounts,
+};
 
-use crate::Volume;
+use crate::draws::Draws;
 use crate::kept::{Effect, KeptCall};
+use crate::volume::Volume;
 use domain_base::limits::BLOCK_BYTES;
 use domain_base::{OutOfMemory, VolIx};
 use std::alloc::Global;
@@ -25,8 +33,10 @@ impl Volumes {
         requires { length sizes.now ≤ 8 }
         ensures moment { IfOk result (λ volumes. moment_of volumes.items.items ≡ blank) }
         ensures sizes { IfOk result (λ volumes. sizes_of volumes.items.items ≡ sizes.now) }
-        ensures read_faults { IfOk result (λ volumes. read_faults_of volumes.items.items ≡ (λ _. 0)) }
-        ensures write_faults { IfOk result (λ volumes. write_faults_of volumes.items.items ≡ (λ _. 0)) }
+        ensures read_faults { IfOk result (λ volumes.
+            read_faults_of volumes.items.items ≡ (λ _. 0)) }
+        ensures write_faults { IfOk result (λ volumes.
+            write_faults_of volumes.items.items ≡ (λ _. 0)) }
     {
         let mut items = Vec::new(alloc);
         for pages in sizes {
@@ -37,7 +47,7 @@ impl Volumes {
 
     /// The pages of a volume; 0 where there is no such volume.
     pub fn pages(&self, vol: VolIx) -> u32
-        ensures { result ≡ pages_of (sizes_of self.now.items.items) vol }
+        ensures { result ≡ volume_pages (sizes_of self.now.items.items) vol }
     {
         match self.items.get(vol.index()) {
             Some(volume) => volume.pages,
@@ -68,31 +78,37 @@ impl Volumes {
     /// Reads whole blocks of a volume from a block on.
     pub fn read(&self, vol: VolIx, block: u32, out: &mut [u8])
         requires in_rack { vol ≤ length self.now.items.items }
-        requires within { 512 * block + length out.old ≤ 8192 * pages_of (sizes_of self.now.items.items) vol }
-        ensures { out.new ≡ bytes_at (moment_of self.now.items.items).contents vol (512 * block) (length out.old) }
+        requires within { let pages = volume_pages (sizes_of self.now.items.items) vol in
+            512 * block + length out.old ≤ 8192 * pages }
+        ensures { let held = (moment_of self.now.items.items).contents in
+            out.new ≡ bytes_at held vol (512 * block) (length out.old) }
     {
         let at = BLOCK_BYTES * block as usize;
         let volume = &self.items[vol.index()];
         out.copy_from_slice(&volume.bytes[at..at + out.len()]);
     }
 
-    /// Writes whole blocks of a volume from a block on.
-    pub fn write(&mut self, vol: VolIx, block: u32, bytes: &[u8])
+    /// Puts whole blocks on a volume from a block on.
+    pub fn put(&mut self, vol: VolIx, block: u32, bytes: &[u8])
         requires in_rack { vol ≤ length self.old.items.items }
         requires whole { length bytes.now % 512 ≡ 0 }
-        requires within { 512 * block + length bytes.now ≤ 8192 * pages_of (sizes_of self.old.items.items) vol }
-        ensures moment { moment_of self.new.items.items ≡ written (moment_of self.old.items.items) vol (512 * block) bytes.now }
+        requires within { let pages = volume_pages (sizes_of self.old.items.items) vol in
+            512 * block + length bytes.now ≤ 8192 * pages }
+        ensures moment { let was = moment_of self.old.items.items in
+            moment_of self.new.items.items ≡ written was vol (512 * block) bytes.now }
         ensures counts { SameCounts self.old.items.items self.new.items.items }
     {
-        self.items[vol.index()].write(block, bytes);
+        self.items[vol.index()].overlay(block, bytes);
     }
 
     /// Marks the blocks of `size` bytes of a volume as not synced.
     pub fn tear(&mut self, vol: VolIx, block: u32, size: usize)
         requires in_rack { vol ≤ length self.old.items.items }
         requires whole { size % 512 ≡ 0 }
-        requires within { 512 * block + size ≤ 8192 * pages_of (sizes_of self.old.items.items) vol }
-        ensures moment { moment_of self.new.items.items ≡ torn (moment_of self.old.items.items) vol (512 * block) size }
+        requires within { let pages = volume_pages (sizes_of self.old.items.items) vol in
+            512 * block + size ≤ 8192 * pages }
+        ensures moment { let was = moment_of self.old.items.items in
+            moment_of self.new.items.items ≡ torn was vol (512 * block) size }
         ensures counts { SameCounts self.old.items.items self.new.items.items }
     {
         self.items[vol.index()].tear(block, size);
@@ -101,7 +117,8 @@ impl Volumes {
     /// Syncs a volume.
     pub fn sync(&mut self, vol: VolIx)
         requires in_rack { vol ≤ length self.old.items.items }
-        ensures moment { moment_of self.new.items.items ≡ synced (moment_of self.old.items.items) vol }
+        ensures moment { let was = moment_of self.old.items.items in
+            moment_of self.new.items.items ≡ synced was vol }
         ensures counts { SameCounts self.old.items.items self.new.items.items }
     {
         self.items[vol.index()].sync();
@@ -112,8 +129,10 @@ impl Volumes {
         requires in_rack { vol ≤ length self.old.items.items }
         ensures moment { moment_of self.new.items.items ≡ moment_of self.old.items.items }
         ensures sizes { sizes_of self.new.items.items ≡ sizes_of self.old.items.items }
-        ensures read_faults { read_faults_of self.new.items.items ≡ raised_at (read_faults_of self.old.items.items) vol }
-        ensures write_faults { write_faults_of self.new.items.items ≡ write_faults_of self.old.items.items }
+        ensures read_faults { let was = read_faults_of self.old.items.items in
+            read_faults_of self.new.items.items ≡ raised_at was vol }
+        ensures write_faults { let was = write_faults_of self.old.items.items in
+            write_faults_of self.new.items.items ≡ was }
     {
         let volume = &mut self.items[vol.index()];
         volume.read_faults = volume.read_faults.saturating_add(1);
@@ -124,62 +143,101 @@ impl Volumes {
         requires in_rack { vol ≤ length self.old.items.items }
         ensures moment { moment_of self.new.items.items ≡ moment_of self.old.items.items }
         ensures sizes { sizes_of self.new.items.items ≡ sizes_of self.old.items.items }
-        ensures read_faults { read_faults_of self.new.items.items ≡ read_faults_of self.old.items.items }
-        ensures write_faults { write_faults_of self.new.items.items ≡ raised_at (write_faults_of self.old.items.items) vol }
+        ensures read_faults { let was = read_faults_of self.old.items.items in
+            read_faults_of self.new.items.items ≡ was }
+        ensures write_faults { let was = write_faults_of self.old.items.items in
+            write_faults_of self.new.items.items ≡ raised_at was vol }
     {
         let volume = &mut self.items[vol.index()];
         volume.write_faults = volume.write_faults.saturating_add(1);
     }
 
-    /// Makes a kept call again. A volume that it syncs is then copied to `synced`.
-    pub fn make(&mut self, call: &KeptCall, synced: &mut Volumes)
-        requires fits { FitsIn (sizes_of self.old.items.items) call.now }
-        requires same { sizes_of synced.old.items.items ≡ sizes_of self.old.items.items }
-        ensures moment { moment_of self.new.items.items ≡ effect_on (moment_of self.old.items.items) call.now.vol call.now.effect }
+    /// Makes a kept call again.
+    pub fn make(&mut self, call: &KeptCall)
+        requires { FitsIn (sizes_of self.old.items.items) call.now }
+        ensures moment { let was = moment_of self.old.items.items in
+            moment_of self.new.items.items ≡ effect_on was call.now.vol call.now.effect }
         ensures sizes { sizes_of self.new.items.items ≡ sizes_of self.old.items.items }
-        ensures same { sizes_of synced.new.items.items ≡ sizes_of self.old.items.items }
     {
         match &call.effect {
-            Effect::Wrote { block, bytes } => self.write(call.vol, *block, bytes),
-            Effect::Tore { block, size } => self.tear(call.vol, *block, *size),
-            Effect::Synced => {
-                self.sync(call.vol);
-                synced.copy(call.vol, self);
-            }
+            Effect::Wrote { block, bytes } => self.put(call.vol, *block, bytes),
+            Effect::Tore { block, bytes } => self.tear(call.vol, *block, bytes.len()),
+            Effect::Synced => self.sync(call.vol),
         }
     }
 
-    /// Takes the bytes of one of the other volumes, which have the same sizes.
-    pub fn copy(&mut self, vol: VolIx, other: &Volumes)
+    /// Leaves what these draws leave of a call that put whole blocks on a volume from a block on.
+    fn draw_blocks(&mut self, vol: VolIx, block: u32, bytes: &[u8], draws: Draws)
         requires in_rack { vol ≤ length self.old.items.items }
-        requires same { sizes_of self.old.items.items ≡ sizes_of other.now.items.items }
+        requires within { let pages = volume_pages (sizes_of self.old.items.items) vol in
+            512 * block + length bytes.now ≤ 8192 * pages }
+        ensures { sizes_of self.new.items.items ≡ sizes_of self.old.items.items }
+    {
+        self.items[vol.index()].draw(block, bytes, draws);
+    }
+
+    /// Takes the bytes of one of the other volumes, which have the same sizes.
+    fn take_bytes(&mut self, vol: VolIx, other: &Volumes)
+        requires in_rack { vol ≤ length self.old.items.items }
+        requires same { sizes_of other.now.items.items ≡ sizes_of self.old.items.items }
         ensures { sizes_of self.new.items.items ≡ sizes_of self.old.items.items }
     {
         let from = &other.items[vol.index()];
-        let volume = &mut self.items[vol.index()];
-        volume.bytes.copy_from_slice(&from.bytes);
+        self.items[vol.index()].take_bytes(from);
     }
 
-    /// Volumes that a stop may leave of these, with nothing pending and no fault counted: where a block was not
-    /// synced, `pick` chooses what is left of it. The `synced` volumes, of the same sizes, hold what was synced last.
-    pub fn after_stop(
-        &self,
-        alloc: Global,
-        synced: &Volumes,
-        pick: u64,
-    ) -> Result<Self, OutOfMemory>
-        requires { sizes_of synced.now.items.items ≡ sizes_of self.now.items.items }
-        ensures left { IfOk result (λ volumes. MayLeave (moment_of self.now.items.items) (settled_of volumes.items.items).contents) }
-        ensures all_written { IfOk result (λ volumes. pick ≡ 0 → (settled_of volumes.items.items).contents ≡ (moment_of self.now.items.items).contents) }
-        ensures settled { IfOk result (λ volumes. moment_of volumes.items.items ≡ settled_of volumes.items.items) }
-        ensures sizes { IfOk result (λ volumes. sizes_of volumes.items.items ≡ sizes_of self.now.items.items) }
-        ensures read_faults { IfOk result (λ volumes. read_faults_of volumes.items.items ≡ (λ _. 0)) }
-        ensures write_faults { IfOk result (λ volumes. write_faults_of volumes.items.items ≡ (λ _. 0)) }
+    /// Leaves what a pick draws of a kept call. Where it is a sync, the volume takes the bytes that
+    /// it has in `now`; at pick 1 no other call leaves anything.
+    pub fn draw(&mut self, call: &KeptCall, now: &Volumes, pick: u64)
+        requires fits { FitsIn (sizes_of self.old.items.items) call.now }
+        requires same { sizes_of now.now.items.items ≡ sizes_of self.old.items.items }
+        ensures { sizes_of self.new.items.items ≡ sizes_of self.old.items.items }
+    {
+        let draws = Draws::new(pick, call.number);
+        match &call.effect {
+            Effect::Wrote { block, bytes } => self.draw_blocks(call.vol, *block, bytes, draws),
+            Effect::Tore { block, bytes } => self.draw_blocks(call.vol, *block, bytes, draws),
+            Effect::Synced => self.take_bytes(call.vol, now),
+        }
+    }
+
+    /// The same volumes, all synced and with no fault counted.
+    pub fn copy(&self, alloc: Global) -> Result<Self, OutOfMemory>
+        ensures moment { IfOk result (λ volumes.
+            moment_of volumes.items.items ≡ settled_of self.now.items.items) }
+        ensures sizes { IfOk result (λ volumes.
+            sizes_of volumes.items.items ≡ sizes_of self.now.items.items) }
+        ensures read_faults { IfOk result (λ volumes.
+            read_faults_of volumes.items.items ≡ (λ _. 0)) }
+        ensures write_faults { IfOk result (λ volumes.
+            write_faults_of volumes.items.items ≡ (λ _. 0)) }
+    {
+        let mut items = Vec::new(alloc);
+        for volume in &self.items {
+            items.push(volume.copy(alloc)?)?;
+        }
+        Ok(Volumes { items })
+    }
+
+    /// Volumes that a stop may leave of these, with nothing pending and no fault counted: where a
+    /// block was not synced, it is that of those that were `drawn`, which have the same sizes.
+    pub fn after_stop(&self, alloc: Global, drawn: &Volumes) -> Result<Self, OutOfMemory>
+        requires { sizes_of drawn.now.items.items ≡ sizes_of self.now.items.items }
+        ensures left { let was = moment_of self.now.items.items in IfOk result (λ volumes.
+            MayLeave was (settled_of volumes.items.items).contents) }
+        ensures settled { IfOk result (λ volumes.
+            moment_of volumes.items.items ≡ settled_of volumes.items.items) }
+        ensures sizes { IfOk result (λ volumes.
+            sizes_of volumes.items.items ≡ sizes_of self.now.items.items) }
+        ensures read_faults { IfOk result (λ volumes.
+            read_faults_of volumes.items.items ≡ (λ _. 0)) }
+        ensures write_faults { IfOk result (λ volumes.
+            write_faults_of volumes.items.items ≡ (λ _. 0)) }
     {
         let mut items = Vec::new(alloc);
         for i in 0..self.items.len() {
             let volume = &self.items[i];
-            items.push(volume.after_stop(alloc, &synced.items[i], pick, i)?)?;
+            items.push(volume.after_stop(alloc, &drawn.items[i])?)?;
         }
         Ok(Volumes { items })
     }

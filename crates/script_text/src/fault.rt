@@ -1,7 +1,6 @@
 ghost use Rattle.std.specs.Prelude.{◌≡◌};
 ghost use Rattle.script_text.specs.Script.{kind_number};
 ghost use Rattle.script_text.specs.declared.fault.LineFault.TheVariants as line;
-ghost use Rattle.script_text.specs.declared.fault.WordFault.TheVariants as word;
 
 use domain_base::OutOfMemory;
 use std::alloc::AllocFailed;
@@ -52,15 +51,6 @@ impl fmt::Display for FaultKind {
     }
 }
 
-/// Why a word was not read.
-#[derive(Clone, Copy, Debug, PartialEq, Eq)]
-pub enum WordFault {
-    /// The word is not of its form, or beyond its limit.
-    Malformed,
-    /// No memory could be had.
-    OutOfMemory,
-}
-
 /// Why a line was not read.
 #[derive(Clone, Copy, Debug, PartialEq, Eq)]
 pub enum LineFault {
@@ -68,22 +58,6 @@ pub enum LineFault {
     Kind(FaultKind),
     /// No memory could be had.
     OutOfMemory,
-}
-
-impl From<OutOfMemory> for WordFault {
-    ghost from_gives = { λ _ fault. fault ≡ word.OutOfMemory };
-
-    fn from(_fault: OutOfMemory) -> WordFault {
-        WordFault::OutOfMemory
-    }
-}
-
-impl<T: Drop> From<AllocFailed<T>> for WordFault {
-    ghost from_gives = { λ _ fault. fault ≡ word.OutOfMemory };
-
-    fn from(_fault: AllocFailed<T>) -> WordFault {
-        WordFault::OutOfMemory
-    }
 }
 
 impl From<OutOfMemory> for LineFault {

@@ -1,11 +1,10 @@
 //! The script that a text says.
-ghost use Rattle.std.specs.Prelude.{◌≡◌, not, IfOk, IfErr, MatchResult};
+ghost use Rattle.std.specs.Prelude.{◌≡◌, ◌==◌, [], ◌∷◌, ◌++◌, Some, not, IfOk, IfErr, MatchResult};
 ghost use Rattle.std.specs.List.{list_any};
-ghost use Rattle.std.specs.Option.{option_to_list};
 ghost use Rattle.script_text.specs.Reading.{IsAdded, IsRefused, IsTaken, Refuses, Says, drafted};
 ghost use Rattle.script_text.specs.Script.{Reports, is_script_byte, script_of};
 
-use crate::fault::{FaultKind, LineFault, WordFault};
+use crate::fault::{FaultKind, LineFault};
 use crate::script::{Script, ScriptFault, Section};
 use crate::statement::{Statement, is_section_word, known_word, others};
 use crate::words::{split_line, words};
@@ -13,10 +12,12 @@ use domain_base::OutOfMemory;
 use domain_base::limits::MAX_COMMANDS;
 use fileset_model::{Command, Listing};
 use std::alloc::Global;
+use word_forms::WordFault;
 
-/// The section that the lines so far opened, with its commands.
+/// The sections that the lines so far opened: those that are done, and the one that is open.
 #[derive(Drop)]
 pub struct Draft {
+    pub done: Vec<Section>,
     pub number: u8,
     pub commands: Vec<Command>,
 }
@@ -57,7 +58,7 @@ fn read_line(
     let Some(keyword) = known_word(first) else {
         return Err(LineFault::Kind(FaultKind::UnknownWord));
     };
-    if words.len() != keyword.word_count() {
+    if !keyword.takes(words.len()) {
         return Err(LineFault::Kind(FaultKind::WordCount));
     }
     match others(alloc, keyword, after) {
@@ -67,7 +68,58 @@ fn read_line(
     }
 }
 
-/// The section with one statement more.
+fn is_done(done: &[Section], number: u8) -> bool
+    ensures { result ≡ list_any (λ section. section.number == number) done.now }
+{
+    done.iter().any(|section| section.number == number)
+}
+
+/// Whether one of the sections has the number.
+fn has_section(draft: &Draft, number: u8) -> bool
+    ensures { result ≡ list_any (λ section. section.number == number) (drafted (Some draft.now)) }
+{
+    is_done(draft.done.as_slice(), number) || draft.number == number
+}
+
+/// The sections with one more, which has no command yet.
+fn opened(alloc: Global, draft: Draft, number: u8) -> Result<Draft, LineFault>
+    ensures { MatchResult result
+        (λ next. IsAdded (drafted (Some draft)) (Statement.Opens number) (drafted (Some next)))
+        (IsRefused (drafted (Some draft)) (Statement.Opens number)) }
+{
+    if has_section(&draft, number) {
+        return Err(LineFault::Kind(FaultKind::SectionTwice));
+    }
+    let Draft {
+        mut done,
+        number: last,
+        commands,
+    } = draft;
+    done.push(Section {
+        number: last,
+        commands: Listing::from_vec(commands),
+    })?;
+    Ok(Draft {
+        done,
+        number,
+        commands: Vec::new(alloc),
+    })
+}
+
+/// The sections with one command more in the last of them.
+fn given(mut draft: Draft, command: Command) -> Result<Draft, LineFault>
+    ensures { MatchResult result
+        (λ next. IsAdded (drafted (Some draft)) (Statement.Gives command) (drafted (Some next)))
+        (IsRefused (drafted (Some draft)) (Statement.Gives command)) }
+{
+    if draft.commands.len() >= MAX_COMMANDS {
+        return Err(LineFault::Kind(FaultKind::TooManyCommands));
+    }
+    draft.commands.push(command)?;
+    Ok(draft)
+}
+
+/// The sections with one statement more.
 fn add(
     alloc: Global,
     draft: Option<Draft>,
@@ -78,23 +130,18 @@ fn add(
 {
     match (draft, statement) {
         (None, Statement::Opens(number)) => Ok(Some(Draft {
+            done: Vec::new(alloc),
             number,
             commands: Vec::new(alloc),
         })),
         // `read_line` refuses a command before the first section.
         (None, Statement::Gives(_)) => Ok(None),
-        (Some(_), Statement::Opens(_)) => Err(LineFault::Kind(FaultKind::SectionTwice)),
-        (Some(mut draft), Statement::Gives(command)) => {
-            if draft.commands.len() >= MAX_COMMANDS {
-                return Err(LineFault::Kind(FaultKind::TooManyCommands));
-            }
-            draft.commands.push(command)?;
-            Ok(Some(draft))
-        }
+        (Some(draft), Statement::Opens(number)) => Ok(Some(opened(alloc, draft, number)?)),
+        (Some(draft), Statement::Gives(command)) => Ok(Some(given(draft, command)?)),
     }
 }
 
-/// The section with what one line more says.
+/// The sections with what one line more says.
 fn take_line(alloc: Global, draft: Option<Draft>, line: &[u8]) -> Result<Option<Draft>, LineFault>
     ensures { MatchResult result
         (λ next. IsTaken (drafted draft) line.now (drafted next)) (Refuses (drafted draft) line.now) }
@@ -105,12 +152,20 @@ fn take_line(alloc: Global, draft: Option<Draft>, line: &[u8]) -> Result<Option<
     }
 }
 
-/// The script that the section makes.
+/// The script that the sections make.
 fn finished(alloc: Global, draft: Option<Draft>) -> Result<Script, OutOfMemory>
-    ensures { IfOk result (λ script. script ≡ record { clients = option_to_list (drafted draft); mover = None }) }
+    ensures { IfOk result (λ script. script ≡ record { clients = drafted draft; mover = None }) }
 {
     let mut clients = Vec::new(alloc);
-    if let Some(Draft { number, commands }) = draft {
+    if let Some(
+        Draft {
+            done,
+            number,
+            commands,
+        },
+    ) = draft
+    {
+        clients = done;
         clients.push(Section {
             number,
             commands: Listing::from_vec(commands),
@@ -122,8 +177,8 @@ fn finished(alloc: Global, draft: Option<Draft>) -> Result<Script, OutOfMemory>
     })
 }
 
-/// The script that a text says, one section of a client at most. A bad script is answered with its
-/// first bad line and the number of what is wrong with it.
+/// The script that a text says, up to eight sections of clients. A bad script is answered with its
+/// first bad line and what is wrong with it.
 pub fn read_script(alloc: Global, bytes: &[u8]) -> Result<Script, ScriptFault>
     ensures read { IfOk result (λ script. script_of bytes.now ≡ Ok script) }
     ensures fault { IfErr result (λ fault. Reports fault (script_of bytes.now)) }

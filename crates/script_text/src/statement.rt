@@ -1,21 +1,21 @@
 //! What a line says by its words.
-ghost use Rattle.std.specs.Prelude.{◌≡◌, ◌+◌, length, map};
-ghost use Rattle.script_text.specs.Reading.{Gives};
-ghost use Rattle.script_text.specs.Script.{create_statement, is_section_word, keyword_of, read_statement, statement_after, word_count, write_statement};
+ghost use Rattle.std.specs.Prelude.{◌≡◌, map};
+ghost use Rattle.word_forms.specs.Read.{Gives};
+ghost use Rattle.script_text.specs.Script.{is_section_word, keyword_of, statement_after, takes_count};
 
-use crate::fault::WordFault;
-use crate::forms::{client, count, fileset, number, place, quoted, small_number};
+use command_text::{Verb, command, known_verb};
+use domain_base::limits::MAX_CLIENTS;
 use fileset_model::Command;
 use std::alloc::Global;
+use word_forms::{WordFault, number_within};
 
-/// The first words of the lines that say something.
-#[derive(Clone, Copy, Debug, PartialEq, Eq)]
+/// What the first word of a line asks for.
+#[derive(Clone, Copy, Debug)]
 pub enum Keyword {
+    /// The section of a client.
     Client,
-    Mkfset,
-    Create,
-    Write,
-    Read,
+    /// A command that scripts may have.
+    Command(Verb),
 }
 
 /// What a line says that is neither skipped nor bad.
@@ -39,89 +39,52 @@ pub fn known_word(word: &[u8]) -> Option<Keyword>
     ensures { result ≡ keyword_of word.now }
 {
     if is_section_word(word) {
-        Some(Keyword::Client)
-    } else if word == b"mkfset".as_slice() {
-        Some(Keyword::Mkfset)
-    } else if word == b"create".as_slice() {
-        Some(Keyword::Create)
-    } else if word == b"write".as_slice() {
-        Some(Keyword::Write)
-    } else if word == b"read".as_slice() {
-        Some(Keyword::Read)
+        return Some(Keyword::Client);
+    }
+    let verb = known_verb(word)?;
+    if verb.is_in_scripts() {
+        Some(Keyword::Command(verb))
     } else {
         None
     }
 }
 
 impl Keyword {
-    /// How many words its line has, with itself.
-    pub fn word_count(self) -> usize
-        ensures { result ≡ word_count self }
+    /// Whether its line may have so many words, the first among them.
+    pub fn takes(self, count: usize) -> bool
+        ensures { result ≡ takes_count self count }
     {
         match self {
-            Keyword::Client | Keyword::Mkfset => 2,
-            Keyword::Create | Keyword::Write | Keyword::Read => 4,
+            Keyword::Client => count == 2,
+            Keyword::Command(verb) => verb.takes(count),
         }
     }
 }
 
-#[tactic(auto, unfolding(crate::specs::Script::create_statement))]
-fn create(alloc: Global, at: &[u8], uid: &[u8], gid: &[u8]) -> Result<Statement, WordFault>
-    ensures { Gives result (create_statement at.now uid.now gid.now) }
+/// The section of a client, by its number.
+fn opens(words: &[&[u8]]) -> Result<Statement, WordFault>
+    ensures { Gives result (statement_after Keyword.Client (map (λ word. word.now) words.now)) }
 {
-    let place = place(alloc, at)?;
-    let uid = small_number(uid).ok_or(WordFault::Malformed)?;
-    let gid = small_number(gid).ok_or(WordFault::Malformed)?;
-    if place.path.as_slice().is_empty() {
+    let [word] = words else {
         return Err(WordFault::Malformed);
-    }
-    Ok(Statement::Gives(Command::Create { place, uid, gid }))
+    };
+    let number = number_within(1, MAX_CLIENTS as u32, word).ok_or(WordFault::Malformed)?;
+    Ok(Statement::Opens(number as u8))
 }
 
-#[tactic(auto, unfolding(crate::specs::Script::write_statement))]
-fn write(alloc: Global, at: &[u8], offset: &[u8], bytes: &[u8]) -> Result<Statement, WordFault>
-    ensures { Gives result (write_statement at.now offset.now bytes.now) }
+fn gives(alloc: Global, verb: Verb, words: &[&[u8]]) -> Result<Statement, WordFault>
+    ensures { Gives result (statement_after (Keyword.Command verb) (map (λ word. word.now) words.now)) }
 {
-    let place = place(alloc, at)?;
-    let offset = number(offset).ok_or(WordFault::Malformed)?;
-    let bytes = quoted(alloc, bytes)?;
-    Ok(Statement::Gives(Command::Write {
-        place,
-        offset,
-        bytes,
-    }))
-}
-
-#[tactic(auto, unfolding(crate::specs::Script::read_statement))]
-fn read(alloc: Global, at: &[u8], offset: &[u8], len: &[u8]) -> Result<Statement, WordFault>
-    ensures { Gives result (read_statement at.now offset.now len.now) }
-{
-    let place = place(alloc, at)?;
-    let offset = number(offset).ok_or(WordFault::Malformed)?;
-    let count = count(len).ok_or(WordFault::Malformed)?;
-    Ok(Statement::Gives(Command::Read {
-        place,
-        offset,
-        count,
-    }))
+    let command = command(alloc, verb, words)?;
+    Ok(Statement::Gives(command))
 }
 
 /// What the words behind the first say.
 pub fn others(alloc: Global, keyword: Keyword, words: &[&[u8]]) -> Result<Statement, WordFault>
-    requires { length words.now + 1 ≡ word_count keyword }
     ensures { Gives result (statement_after keyword (map (λ word. word.now) words.now)) }
 {
     match keyword {
-        Keyword::Client => {
-            let number = client(words[0]).ok_or(WordFault::Malformed)?;
-            Ok(Statement::Opens(number))
-        }
-        Keyword::Mkfset => {
-            let fileset = fileset(alloc, words[0])?;
-            Ok(Statement::Gives(Command::Mkfset { fileset }))
-        }
-        Keyword::Create => create(alloc, words[0], words[1], words[2]),
-        Keyword::Write => write(alloc, words[0], words[1], words[2]),
-        Keyword::Read => read(alloc, words[0], words[1], words[2]),
+        Keyword::Client => opens(words),
+        Keyword::Command(verb) => gives(alloc, verb, words),
     }
 }

@@ -67,9 +67,12 @@ fn begun_len(text: &[u8]) -> usize
     ensures within { result ≤ length text.now }
     ensures least { 0 < result }
 {
+    if text[0] != b'"' {
+        return 1;
+    }
     let after = text.split_at(1).1;
     let closing = quote_at(after);
-    if text[0] == b'"' && closing < after.len() {
+    if closing < after.len() {
         closing + 2
     } else {
         1

@@ -1,7 +1,7 @@
 -- Bytes of a volume, from a place on.
-use Rattle.std.proofs.Common.{◌≡◌, ℕ, zero, suc, ◌+◌, ◌<◌, ◌≤◌, List, ◌∷◌, length, get_or, take, drop, refl, ◌∙◌, ap, arith}
+use Rattle.std.proofs.Common.{◌≡◌, ℕ, zero, suc, ◌+◌, ◌<◌, ◌≤◌, List, ◌∷◌, length, get_or, take, drop, refl, sym, ◌∙◌, ap, arith}
 use Rattle.std.proofs.lemmas.List.{drop_more}
-use Rattle.volume_disk.specs.Image.{bytes_from}
+use Rattle.volume_disk.specs.Image.{Image, bytes_at, bytes_from}
 
 -- a part of a list
 pub bytes_from-list : (xs : List ℕ) (at n : ℕ) → at + n ≤ length xs → take n (drop at xs) ≡ bytes_from (λ k. get_or xs k 0) at n
@@ -25,3 +25,9 @@ pub bytes_from-same : (one other : ℕ → ℕ) (at n : ℕ) → ((k : ℕ) → 
 unfolding bytes_from
 bytes_from-same one other at zero same = refl
 bytes_from-same one other at (suc n) same = λ i. same at (omega arith) (omega arith) i ∷ bytes_from-same one other (at + 1) n (λ k le lt. same k (omega arith) (omega arith)) i
+
+-- the first byte of a block that was read
+pub first-bytes_at : (image : Image) (vol at : ℕ) (block : List ℕ) → block ≡ bytes_at image vol at 512 → image vol at ≡ get_or block 0 0
+first-bytes_at image vol at block read =
+    let start : at ≡ at + 0 = omega arith in
+    ap (image vol) start ∙ sym (get_or-bytes_from (image vol) at 512 0 0 (omega arith)) ∙ ap (λ (l : List ℕ). get_or l 0 0) (sym read)

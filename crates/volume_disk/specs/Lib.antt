@@ -1,2 +1,4 @@
 pub mod Disk
+pub mod Gate
 pub mod Image
+pub mod Run

@@ -1,18 +1,33 @@
 //! The calls of a rack of volumes, and what each does to what a stop may leave.
 ghost use Rattle.std.specs.Prelude.{◌≡◌, ◌*◌, length, OnOk, OnErr};
-ghost use Rattle.volume_disk.specs.Disk.{Disk, AreBlocks, HasVolume, ReadDone, ReadFailed, WriteDone, WriteFailed, SyncDone, SyncFailed, pages_of};
+ghost use Rattle.volume_disk.specs.Disk.{
+  Disk,
+  AreBlocks,
+  HasVolume,
+  ReadDone,
+  ReadFailed,
+  SyncDone,
+  SyncFailed,
+  Tells,
+  WriteDone,
+  WriteFailed,
+  volume_pages,
+};
+ghost use Rattle.volume_disk.specs.Image.{AreBytes};
 
 use domain_base::{Failed, VolIx};
 
-/// Volumes, numbered from 1, of whole pages of 8,192 bytes, on which the power may fail at any moment.
+/// Volumes, numbered from 1, of whole pages of 8,192 bytes, on which the power may fail at any
+/// moment.
 ///
-/// A write shows in reads at once. It lasts from the next sync of its volume that answers Ok: a stop before that may turn
-/// its bytes into any others, and spares the bytes that no such write touched. What a write that answers Err left in its
-/// range only a read can tell: any bytes, and those that it changed last no sooner than if it had answered Ok. Whether a
-/// stop may change the others of the range too, a rack is free to choose.
+/// A write shows in reads at once. It lasts from the next sync of its volume that answers Ok: a
+/// stop before that may turn its bytes into any others, and spares the bytes that no such write
+/// touched. What a write that answers Err left in its range only a read can tell: any bytes, and
+/// those that it changed last no sooner than if it had answered Ok. Whether a stop may change the
+/// others of the range too, a rack is free to choose.
 ///
-/// The clock of a rack is a count of `read`, `write` and `sync`, whatever they answer. It has 64 bits, and once it is at
-/// its end each call answers Err.
+/// The clock of a rack is a count of `read`, `write` and `sync`, whatever they answer. It has 64
+/// bits, and once it is at its end each call answers Err.
 pub trait Rack {
     /// What the rack holds and what a stop may leave, as far as it tells them, and its counts.
     ghost disk: { Self → Disk };
@@ -23,24 +38,28 @@ pub trait Rack {
 
     /// The pages of a volume; 0 where the rack has no such volume.
     fn pages(&self, vol: VolIx) -> u32
-        ensures { result ≡ pages_of (disk self.now).sizes vol };
+        ensures { result ≡ volume_pages (disk self.now).sizes vol };
 
-    /// Fills `out` from a volume, beginning at a block of 512 bytes; it asks for one or more whole blocks. At an Err
-    /// one read fault more is counted for the volume, and `out` is not to be used.
+    /// Fills `out` from a volume, beginning at a block of 512 bytes; it asks for one or more whole
+    /// blocks. At an Err one read fault more is counted for the volume, and `out` is not to be
+    /// used.
     fn read(&mut self, vol: VolIx, block: u32, out: &mut [u8]) -> Result<(), Failed>
         requires { AreBlocks (disk self.old) vol block (length out.old) }
-        ensures done { OnOk result (ReadDone (disk self.old) (disk self.new) vol (512 * block) (length out.old) out.new) }
+        ensures done { let n = length out.old in
+            OnOk result (ReadDone (disk self.old) (disk self.new) vol (512 * block) n out.new) }
         ensures failed { OnErr result (ReadFailed (disk self.old) (disk self.new) vol) };
 
-    /// Puts one or more whole blocks on a volume, beginning at a block of 512 bytes. At an Err one write fault more is
-    /// counted for the volume.
+    /// Puts one or more whole blocks on a volume, beginning at a block of 512 bytes. At an Err one
+    /// write fault more is counted for the volume.
     fn write(&mut self, vol: VolIx, block: u32, bytes: &[u8]) -> Result<(), Failed>
         requires { AreBlocks (disk self.old) vol block (length bytes.now) }
-        ensures done { OnOk result (WriteDone (disk self.old) (disk self.new) vol (512 * block) bytes.now) }
-        ensures failed { OnErr result (WriteFailed (disk self.old) (disk self.new) vol (512 * block) (length bytes.now)) };
+        ensures done { OnOk result
+            (WriteDone (disk self.old) (disk self.new) vol (512 * block) bytes.now) }
+        ensures failed { OnErr result
+            (WriteFailed (disk self.old) (disk self.new) vol (512 * block) (length bytes.now)) };
 
-    /// Makes all that a volume shows to reads last. At an Err one write fault more is counted for the volume, and
-    /// nothing lasts that did not before.
+    /// Makes all that a volume shows to reads last. At an Err one write fault more is counted for
+    /// the volume, and nothing lasts that did not before.
     fn sync(&mut self, vol: VolIx) -> Result<(), Failed>
         requires { HasVolume (disk self.old) vol }
         ensures done { OnOk result (SyncDone (disk self.old) (disk self.new) vol) }
@@ -57,4 +76,7 @@ pub trait Rack {
     /// How many writes and syncs of a volume failed.
     fn write_faults(&self, vol: VolIx) -> u64
         ensures { result ≡ (disk self.now).write_faults vol };
+
+    /// What a read gives are bytes.
+    ghost holds_bytes: { (rack : Self) → Tells (disk rack) → AreBytes (disk rack).now.contents };
 }

@@ -1,6 +1,6 @@
 use Rattle.std.proofs.Common.{take, ◌≤◌}
 use Rattle.std.specs.Io.KnownBytes.{Appends}
-use Rattle.script_text.specs.History.{history_text}
+use Rattle.history_text.specs.History.{history_text}
 use Rattle.advfs_run.proofs.print.print_history.Given as goal
 
 -- the lines so far are printed

@@ -1,10 +1,6 @@
 use Rattle.std.proofs.lemmas.Result.{err_from_is_err_and}
 use Rattle.advfs_run.proofs.Endings.{IsNoLonger-from_short}
-use Rattle.advfs_run.proofs.Scripts.{length-clients}
 use Rattle.advfs_run.proofs.running.answer.Goals as goal
-
-pub answer_script-requires : goal.answer_script-requires
-answer_script-requires g c = length-clients _ _ c.in_ok-script.ensures.taken.2.says
 
 pub returns-in_err-history-clause-read : goal.returns-in_err-history-clause-read
 returns-in_err-history-clause-read g c =

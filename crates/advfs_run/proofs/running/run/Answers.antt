@@ -1,4 +1,5 @@
 use Rattle.advfs_run.proofs.Endings.{Follows-from_answers, HasRead-from_follows, HasRead-from_error, form_none, form_legal_answer}
+use Rattle.advfs_run.proofs.ClientCommands.{of_script}
 use Rattle.advfs_run.proofs.Legality.{IsLegal-from_answers}
 use Rattle.advfs_run.proofs.running.run.Goals as goal
 use Rattle.advfs_run.proofs.running.run.Goals.{in-Ok-print_history, in-Err-print_history}
@@ -21,4 +22,4 @@ returns-after-print_history-clause-read g c =
 pub returns-after-print_history-clause-legal : goal.returns-after-print_history-clause-legal
 returns-after-print_history-clause-legal g c =
     let r = c.in-Ok.ensures.read in
-    form_legal_answer _ _ _ (λ pages. IsLegal-from_answers _ _ _ pages r.2.answers) c.in-Ok.ensures.usage
+    form_legal_answer _ _ _ (λ pages. IsLegal-from_answers _ _ _ pages (of_script _ _ r.2.is_script.says) r.2.answers) c.in-Ok.ensures.usage

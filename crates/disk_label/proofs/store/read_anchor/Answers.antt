@@ -1,4 +1,5 @@
-use Rattle.std.proofs.Common.{◌+◌, IsTrue, sym, ◌∙◌}
+use Rattle.std.proofs.Common.{◌+◌, sym, ◌∙◌}
+use Rattle.volume_disk.specs.Disk.{Tells}
 use Rattle.volume_disk.proofs.Laws.{only_reads-then}
 use Rattle.disk_label.proofs.Slots.{IsAnchorBelow-same}
 use Rattle.disk_label.proofs.store.read_anchor.Goals as goal
@@ -13,9 +14,9 @@ loop-place-preserved g c =
     let so_far = c.loop-place.invariant in
     record {
       reads = only_reads-then old mid (g.R.Rack.disk c.look_at.new.rack) so_far.reads c.look_at.ensures.reads;
-      passed = c.in-Ok.ensures.passed ∙ so_far.passed;
+      passed = c.in-Ok.ensures.fault ∙ so_far.passed;
       best = λ told.
-          let mid_told : IsTrue mid.told = so_far.reads.told ∙ told in
-          IsAnchorBelow-same (c.loop-place.place + 1) mid.sizes old.sizes mid.now old.now _ (sym so_far.reads.sizes) (sym (so_far.reads.now told))
-          (c.in-Ok.ensures.better mid_told (IsAnchorBelow-same c.loop-place.place old.sizes mid.sizes old.now mid.now _ so_far.reads.sizes (so_far.reads.now told) (so_far.best told)));
+          let mid_told : Tells mid = so_far.reads.touches.told ∙ told in
+          IsAnchorBelow-same (c.loop-place.place + 1) mid.sizes old.sizes mid.now old.now _ (sym so_far.reads.touches.sizes) (sym (so_far.reads.now told))
+          (c.in-Ok.ensures.better mid_told (IsAnchorBelow-same c.loop-place.place old.sizes mid.sizes old.now mid.now _ so_far.reads.touches.sizes (so_far.reads.now told) (so_far.best told)));
     }

@@ -1,7 +1,7 @@
-use Rattle.std.proofs.Common.{◌≡◌, ◌<◌, ◌+◌, List, false, length, get_or, drop, refl, sym, ◌∙◌, ap, arith}
+use Rattle.std.proofs.Common.{◌≡◌, ◌<◌, ◌+◌, List, length, get_or, drop, sym, ◌∙◌, ap, arith}
 use Rattle.volume_disk.specs.Disk.{Moment}
 use Rattle.memory_disk.specs.Kept.{replayed}
-use Rattle.memory_disk.specs.Volume.{moment_of, settled_of, sizes_of}
+use Rattle.memory_disk.specs.Volume.{moment_of, sizes_of}
 use Rattle.memory_disk.proofs.Replays.{replayed-made, replayed-passed}
 use Rattle.memory_disk.specs.declared.kept.KeptCall.{KeptCall}
 use Rattle.memory_disk.proofs.memory.MemoryRack.replay.Goals.{then-kept-call, else-kept-call}
@@ -11,11 +11,9 @@ pub loop-kept-init : goal.loop-kept-init
 loop-kept-init c =
     let rack = c.args.self.now in
     let made = c.in_ok-now.ensures in
-    let begun : moment_of c.in_ok-now.now.items.items ≡ settled_of rack.first.items.items = made.settled ∙ (λ i. record { contents = made.all_written refl i; unsynced = λ _ _. false }) in
     record {
-      moment = ap (λ (m : Moment). replayed m rack.kept.items c.args.call) begun;
+      moment = ap (λ (m : Moment). replayed m rack.kept.items c.args.call) made.moment;
       sizes = made.sizes ∙ rack.same_sizes c.requires;
-      synced = c.in_ok-synced.ensures.sizes ∙ rack.same_sizes c.requires;
     }
 
 pub loop-kept-preserved : goal.loop-kept-preserved
@@ -31,19 +29,15 @@ loop-kept-preserved c =
           let made = w.make.ensures in
           let now : moment_of c.if-kept-call.now.items.items ≡ moment_of w.make.new.self.items.items = λ j. moment_of (w.now-is j).items.items in
           let sizes : sizes_of c.if-kept-call.now.items.items ≡ sizes_of w.make.new.self.items.items = λ j. sizes_of (w.now-is j).items.items in
-          let synced : sizes_of c.if-kept-call.synced.items.items ≡ sizes_of w.make.new.synced.items.items = λ j. sizes_of (w.synced-is j).items.items in
           record {
             moment = ap (λ (m : Moment). replayed m (drop (i + 1) rack.kept.items) c.args.call) (now ∙ made.moment) ∙ sym (replayed-made (moment_of c.loop-kept.now.items.items) rack.kept.items i kept c.args.call lt read w.if-kept-call.true) ∙ so_far.moment;
             sizes = sizes ∙ made.sizes ∙ so_far.sizes;
-            synced = synced ∙ made.same ∙ so_far.sizes;
           }
       | else-kept-call w ↦
           let now : moment_of c.if-kept-call.now.items.items ≡ moment_of c.loop-kept.now.items.items = λ j. moment_of (w.now-is j).items.items in
           let sizes : sizes_of c.if-kept-call.now.items.items ≡ sizes_of c.loop-kept.now.items.items = λ j. sizes_of (w.now-is j).items.items in
-          let synced : sizes_of c.if-kept-call.synced.items.items ≡ sizes_of c.loop-kept.synced.items.items = λ j. sizes_of (w.synced-is j).items.items in
           record {
             moment = ap (λ (m : Moment). replayed m (drop (i + 1) rack.kept.items) c.args.call) now ∙ sym (replayed-passed (moment_of c.loop-kept.now.items.items) rack.kept.items i kept c.args.call lt read w.if-kept-call.false) ∙ so_far.moment;
             sizes = sizes ∙ so_far.sizes;
-            synced = synced ∙ so_far.synced;
           }
     ]

@@ -7,5 +7,4 @@ abbrev pub invariant-loop-kept : goal.invariant-loop-kept
 invariant-loop-kept l = record {
   moment : replayed (moment_of l.now.items.items) (drop l.kept-index l.self.kept.items) l.call ≡ replayed (settled_of l.self.first.items.items) l.self.kept.items l.call;
   sizes : sizes_of l.now.items.items ≡ sizes_of l.self.volumes.items.items;
-  synced : sizes_of l.synced.items.items ≡ sizes_of l.self.volumes.items.items;
 }

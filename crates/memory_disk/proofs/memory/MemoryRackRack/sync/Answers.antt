@@ -1,5 +1,5 @@
 use Rattle.std.proofs.Common.{◌≡◌, ◌≤◌, ◌+◌, ◌*◌, refl, sym, ◌∙◌, ap, subst, arith}
-use Rattle.volume_disk.specs.Disk.{Moment, Syncs, pages_of}
+use Rattle.volume_disk.specs.Disk.{Moment, Syncs, volume_pages}
 use Rattle.memory_disk.specs.Memory.{memory_disk, past_of}
 use Rattle.memory_disk.specs.Moment.{synced}
 use Rattle.memory_disk.specs.Volume.{moment_of, settled_of, sizes_of}
@@ -19,7 +19,7 @@ invariant_of-self-2 c =
     let rack = c.args.self.now in
     let effect : Moment → Moment = λ moment. synced moment c.args.vol in
     let adds = from_ok c.keep.result (sym c.is_err.ensures.value ∙ c.if-is_err.false) c.keep.ensures.ok in
-    let within : 512 * 0 + 0 ≤ 8192 * pages_of (sizes_of rack.volumes.items.items) c.args.vol = omega arith in
+    let within : 512 * 0 + 0 ≤ 8192 * volume_pages (sizes_of rack.volumes.items.items) c.args.vol = omega arith in
     let added = kept_added rack c.keep.new.kept.items c.args.vol 0 0 effect adds c.sync.new.self.items.items c.sync.ensures.counts.sizes c.sync.ensures.moment c.requires.1 refl within in
     record { numbered = added.numbered; fit = added.fit; same_sizes = added.same_sizes; replays = added.replays }
 

@@ -23,8 +23,8 @@ invariant_of-self-2 c =
     let effect : Moment → Moment = λ moment. written moment c.args.vol (512 * c.args.block) bytes in
     let adds = from_ok c.keep_write.result (sym c.is_err.ensures.value ∙ c.if-is_err.false) c.keep_write.ensures.ok in
     let added =
-    kept_added c.args.self.now c.keep_write.new.kept.items c.args.vol c.args.block (length bytes) effect adds c.write.new.self.items.items c.write.ensures.counts.sizes
-    c.write.ensures.moment c.requires.in_rack.1 c.requires.whole c.requires.within in
+    kept_added c.args.self.now c.keep_write.new.kept.items c.args.vol c.args.block (length bytes) effect adds c.put.new.self.items.items c.put.ensures.counts.sizes
+    c.put.ensures.moment c.requires.in_rack.1 c.requires.whole c.requires.within in
     record { numbered = added.numbered; fit = added.fit; same_sizes = added.same_sizes; replays = added.replays }
 
 pub returns-clause-done : goal.returns-clause-done
@@ -35,10 +35,10 @@ returns-clause-done c =
     let now = moment_of rack.volumes.items.items in
     let effect : Moment → Moment = λ moment. written moment c.args.vol at bytes in
     let adds = from_ok c.keep_write.result (sym c.is_err.ensures.value ∙ c.if-is_err.false) c.keep_write.ensures.ok in
-    let counts = c.write.ensures.counts in
+    let counts = c.put.ensures.counts in
     let passed = c.must_fail.ensures.passes c.if-must_fail.false in
     record {
-      makes = makes_added rack c.keep_write.new.kept.items c.args.vol c.args.block (length bytes) effect adds c.write.new.self.items.items counts.sizes _ _ passed.0 counts.read_faults counts.write_faults;
-      writes = λ told. subst (Writes c.args.vol at bytes now) (sym c.write.ensures.moment) (Writes-written now c.args.vol at bytes);
+      makes = makes_added rack c.keep_write.new.kept.items c.args.vol c.args.block (length bytes) effect adds c.put.new.self.items.items counts.sizes _ _ passed.0 counts.read_faults counts.write_faults;
+      writes = λ told. subst (Writes c.args.vol at bytes now) (sym c.put.ensures.moment) (Writes-written now c.args.vol at bytes);
       passed = passed;
     }

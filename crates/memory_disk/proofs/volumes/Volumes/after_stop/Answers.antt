@@ -2,7 +2,7 @@ use Rattle.std.proofs.Common.{◌≡◌, ◌<◌, ◌∷◌, ◌++◌, [], false
 use Rattle.std.proofs.lemmas.List.{take_more}
 use Rattle.memory_disk.specs.Volume.{byte_of, mark_of, field_of, sizes_of}
 use Rattle.memory_disk.proofs.VolumeFields.{field_of-push, sizes_of-push, length-sizes_of, pages_at}
-use Rattle.memory_disk.proofs.Stopped.{KeepsSynced-more, KeepsAll-more, length-more, MayLeave-all, contents-all}
+use Rattle.memory_disk.proofs.Stopped.{KeepsSynced-more, length-more, MayLeave-all}
 use Rattle.memory_disk.proofs.volumes.Volumes.after_stop.Goals as goal
 
 pub loop-i-preserved : goal.loop-i-preserved
@@ -22,7 +22,6 @@ loop-i-preserved c =
     record {
       count = length-more old items later new v i pushed so_far.count lt c.index-volume.ensures;
       left = KeepsSynced-more old items later new v i pushed so_far.count lt c.index-volume.ensures so_far.left made.left;
-      same = λ none. KeepsAll-more old items later new v i pushed so_far.count lt c.index-volume.ensures (so_far.same none) (made.all_written none);
       marks = rw pushed (field_of-push mark_of (λ _. false) items new so_far.marks made.marks);
       sizes = rw (pushed, sizes_of-push, so_far.sizes, pages) (sym (take_more (sizes_of old) i 0 size));
       read_faults = rw pushed (field_of-push (λ v. v.read_faults) 0 items new so_far.read_faults made.read_faults);
@@ -31,9 +30,6 @@ loop-i-preserved c =
 
 pub returns-clause-left : goal.returns-clause-left
 returns-clause-left c = MayLeave-all c.args.self.now.items.items c.loop-i.items.items c.loop-i.i c.loop-i.invariant.count (omega arith) c.loop-i.invariant.left
-
-pub returns-clause-all_written : goal.returns-clause-all_written
-returns-clause-all_written c = λ none. contents-all c.args.self.now.items.items c.loop-i.items.items c.loop-i.i c.loop-i.invariant.count (omega arith) (c.loop-i.invariant.same none)
 
 pub returns-clause-settled : goal.returns-clause-settled
 returns-clause-settled c = λ i. record { contents = field_of byte_of (λ _. 0) c.loop-i.items.items; unsynced = c.loop-i.invariant.marks i }

@@ -1,13 +1,12 @@
 use Rattle.std.proofs.Common.{◌≡◌, false, length, take}
 use Rattle.memory_disk.specs.Volume.{mark_of, field_of, sizes_of, read_faults_of, write_faults_of}
-use Rattle.memory_disk.proofs.Stopped.{KeepsSynced, KeepsAll}
+use Rattle.memory_disk.proofs.Stopped.{KeepsSynced}
 use Rattle.memory_disk.proofs.volumes.Volumes.after_stop.Given as goal
 
 abbrev pub invariant-loop-i : goal.invariant-loop-i
 invariant-loop-i l = record {
   count : length l.items.items ≡ l.i;
   left : KeepsSynced l.self.items.items l.items.items l.i;
-  same : l.pick ≡ 0 → KeepsAll l.self.items.items l.items.items l.i;
   marks : field_of mark_of (λ _. false) l.items.items ≡ (λ _ _. false);
   sizes : sizes_of l.items.items ≡ take l.i (sizes_of l.self.items.items);
   read_faults : read_faults_of l.items.items ≡ (λ _. 0);

@@ -2,8 +2,12 @@ use Rattle.std.proofs.Common.{◌≡◌, ◌≤◌, ℕ, ◌+◌, ◌-◌, ◌*�
 use Rattle.volume_disk.specs.Image.{bytes_from}
 use Rattle.memory_disk.specs.Volume.{byte_of}
 use Rattle.volume_disk.proofs.Bytes.{bytes_from-list}
-use Rattle.memory_disk.proofs.VolumeFields.{field_of-read, pages_of-read}
+use Rattle.memory_disk.proofs.VolumeFields.{field_of-read, volume_pages-read}
 use Rattle.memory_disk.proofs.volumes.Volumes.read.Goals as goal
+
+pub slice_bounds-copy_from_slice-end : goal.slice_bounds-copy_from_slice-end
+slice_bounds-copy_from_slice-end c =
+    omega (arith, volume_pages-read c.args.self.now.items.items c.args.vol c.index.result c.index-volume.result.now c.index.ensures.value (omega arith) c.index-volume.ensures)
 
 pub returns : goal.returns
 returns c =
@@ -12,7 +16,7 @@ returns c =
     let at = 512 * c.args.block in
     let n = length c.args.out.now in
     let size : at + n - at ≡ n = omega arith in
-    let pages = pages_of-read volumes c.args.vol c.index.result volume c.index.ensures.value (omega arith) c.index-volume.ensures in
+    let pages = volume_pages-read volumes c.args.vol c.index.result volume c.index.ensures.value (omega arith) c.index-volume.ensures in
     let fits : at + n ≤ length volume.bytes.items = omega arith in
     let read : ℕ → List ℕ → List ℕ = λ k l. take k (drop at l) in
     let part : ℕ → List ℕ = λ k. read k c.deref.result.now in

@@ -1,12 +1,12 @@
 use Rattle.std.proofs.Common.{◌*◌, false, arith}
 use Rattle.memory_disk.specs.Moment.{torn, marked}
 use Rattle.memory_disk.specs.Volume.{byte_of, mark_of}
-use Rattle.memory_disk.proofs.VolumeFields.{changed_by, kept_by, sizes_of-set, pages_of-read, same_moment, same_bytes}
+use Rattle.memory_disk.proofs.VolumeFields.{changed_by, kept_by, sizes_of-set, volume_pages-read, same_moment, same_bytes}
 use Rattle.memory_disk.proofs.volumes.Volumes.tear.Goals as goal
 
 pub tear-requires-clause-within : goal.tear-requires-clause-within
 tear-requires-clause-within c =
-    omega (arith, pages_of-read c.args.self.now.items.items c.args.vol c.index.result c.index_mut.result.now c.index.ensures.value (omega arith) c.index_mut.ensures.value)
+    omega (arith, volume_pages-read c.args.self.now.items.items c.args.vol c.index.result c.index_mut.result.now c.index.ensures.value (omega arith) c.index_mut.ensures.value)
 
 pub returns-clause-moment : goal.returns-clause-moment
 unfolding torn

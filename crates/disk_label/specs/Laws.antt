@@ -1,0 +1,34 @@
+-- What holds of anchors, whatever calls are made.
+use Rattle.std.specs.Prelude.{◌≡◌, ℕ, false, List, Option}
+use Rattle.volume_disk.specs.Disk.{Disk, MayLeave}
+use Rattle.volume_disk.specs.Image.{Image, SameIn}
+use Rattle.disk_label.specs.Anchor.{IsAnchor}
+use Rattle.disk_label.specs.Slot.{HasAnchor, IsOnAnchors, IsReady}
+use Rattle.disk_label.specs.declared.anchor.Anchor.{Anchor}
+
+-- images that agree on the pages of anchors have the same one
+abbrev pub AnchorStays : Image → Image → Type 0
+AnchorStays old new =
+    SameIn IsOnAnchors old new → (sizes : List ℕ) (anchor : Option Anchor)
+    → IsAnchor sizes old anchor → IsAnchor sizes new anchor
+
+-- nothing is pending on the pages of anchors
+abbrev pub AreAnchorsSynced : Disk → Type 0
+AreAnchorsSynced disk = (v k : ℕ) → IsOnAnchors v k → disk.now.unsynced v k ≡ false
+
+-- each image has the anchor of the contents
+abbrev pub ShowsAnchor : Disk → Option Anchor → Type 0
+ShowsAnchor disk anchor =
+    AreAnchorsSynced disk → IsAnchor disk.sizes disk.now.contents anchor → HasAnchor disk anchor
+
+-- each image of now agrees on the pages of anchors with one that might have been left before
+abbrev pub KeepsAnchors : Disk → Disk → Type 0
+KeepsAnchors old new =
+    (image : Image) → MayLeave new.now image
+    → (before : Image) × MayLeave old.now before × SameIn IsOnAnchors before image
+
+-- a slot that was ready is so still
+abbrev pub StaysReady : Disk → Disk → Option Anchor → ℕ → ℕ → Type 0
+StaysReady old new anchor vol slot =
+    new.sizes ≡ old.sizes → KeepsAnchors old new
+    → IsReady old anchor vol slot → IsReady new anchor vol slot

@@ -1,0 +1,8 @@
+//! The text of histories: a line for each command with its reply.
+#![tactic(auto)]
+
+mod history;
+mod refusal_text;
+mod reply_text;
+
+pub use history::history_line;

@@ -1,6 +1,0 @@
-use Rattle.std.proofs.Common.{◌≡◌, ◌++◌, map, take}
-use Rattle.script_text.specs.History.{behind_spaces, extent_item_text}
-use Rattle.script_text.proofs.reply_text.push_extents.Given as goal
-
-abbrev pub invariant-loop-item : goal.invariant-loop-item
-invariant-loop-item l = l.out.items ≡ l.fn.out.items ++ behind_spaces (map extent_item_text (take l.item-index l.items))

@@ -1,0 +1,7 @@
+//! Tests of scripts and of history lines. The crate has nothing else.
+#![tactic(auto)]
+
+#[cfg(test)]
+mod lines;
+#[cfg(test)]
+mod scripts;

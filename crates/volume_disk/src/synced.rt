@@ -1,0 +1,58 @@
+//! Calls of a rack that name the volume of which they failed.
+ghost use Rattle.std.specs.Prelude.{◌≡◌, ◌*◌, length, OnOk};
+ghost use Rattle.volume_disk.specs.Disk.{AreBlocks, HasVolume, Tells};
+ghost use Rattle.volume_disk.specs.Image.{IsIn, bytes_at};
+ghost use Rattle.volume_disk.specs.Run.{
+  NamesReadFault,
+  NamesWriteFault,
+  OnlyReads,
+  OnlyWrites,
+  Settles,
+};
+
+use crate::Rack;
+use domain_base::VolIx;
+
+/// Reads whole blocks of 512 bytes of a volume, beginning at a block. The error is the volume, of
+/// which the read failed; `out` is then not to be used.
+pub fn read_blocks<R: Rack>(
+    rack: &mut R,
+    vol: VolIx,
+    block: u32,
+    out: &mut [u8],
+) -> Result<(), VolIx>
+    requires { AreBlocks (R.disk rack.old) vol block (length out.old) }
+    ensures reads { OnlyReads (R.disk rack.old) (R.disk rack.new) }
+    ensures bytes { let n = length out.old in let held = (R.disk rack.old).now.contents in
+        OnOk result (Tells (R.disk rack.old) → out.new ≡ bytes_at held vol (512 * block) n) }
+    ensures fault { NamesReadFault (R.disk rack.old) (R.disk rack.new) result }
+{
+    match rack.read(vol, block, out) {
+        Ok(()) => Ok(()),
+        Err(_) => Err(vol),
+    }
+}
+
+/// Writes whole blocks of 512 bytes of a volume, beginning at a block, and syncs the volume. The
+/// error is the volume, of which the write or the sync failed.
+pub fn write_synced<R: Rack>(
+    rack: &mut R,
+    vol: VolIx,
+    block: u32,
+    bytes: &[u8],
+) -> Result<(), VolIx>
+    requires { AreBlocks (R.disk rack.old) vol block (length bytes.now) }
+    ensures writes { let places = IsIn vol (512 * block) (length bytes.now) in
+        OnlyWrites (R.disk rack.old) (R.disk rack.new) places }
+    ensures settled { let old = R.disk rack.old in let new = R.disk rack.new in
+        OnOk result (Tells old → Settles vol (512 * block) bytes.now old.now new.now) }
+    ensures fault { NamesWriteFault (R.disk rack.old) (R.disk rack.new) result }
+{
+    match rack.write(vol, block, bytes) {
+        Err(_) => Err(vol),
+        Ok(()) => match rack.sync(vol) {
+            Ok(()) => Ok(()),
+            Err(_) => Err(vol),
+        },
+    }
+}

@@ -1,0 +1,4 @@
+pub mod Forms
+pub mod Read
+pub mod Runs
+pub mod Texts

@@ -1,0 +1,30 @@
+ghost use Rattle.std.specs.Prelude.{◌≡◌};
+ghost use Rattle.word_forms.specs.declared.fault.WordFault.TheVariants as word;
+
+use domain_base::OutOfMemory;
+use std::alloc::AllocFailed;
+
+/// Why a word was not read.
+#[derive(Clone, Copy, Debug, PartialEq, Eq)]
+pub enum WordFault {
+    /// The word is not of its form, or beyond its limit.
+    Malformed,
+    /// No memory could be had.
+    OutOfMemory,
+}
+
+impl From<OutOfMemory> for WordFault {
+    ghost from_gives = { λ _ fault. fault ≡ word.OutOfMemory };
+
+    fn from(_fault: OutOfMemory) -> WordFault {
+        WordFault::OutOfMemory
+    }
+}
+
+impl<T: Drop> From<AllocFailed<T>> for WordFault {
+    ghost from_gives = { λ _ fault. fault ≡ word.OutOfMemory };
+
+    fn from(_fault: AllocFailed<T>) -> WordFault {
+        WordFault::OutOfMemory
+    }
+}

@@ -1,0 +1,14 @@
+//! The words of scripts and histories, read and written: numbers, names, paths, places and bytes.
+#![tactic(auto)]
+
+mod byte_words;
+mod fault;
+mod numbers;
+mod paths;
+mod splitting;
+
+pub use byte_words::{bytes, push_bytes, runs_are_maximal};
+pub use fault::WordFault;
+pub use numbers::{number, number_within, push_number, small_number};
+pub use paths::{fileset, name, named_path, named_place, place, push_name, push_path, push_place};
+pub use splitting::parts;
