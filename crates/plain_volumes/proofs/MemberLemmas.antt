@@ -1,5 +1,5 @@
 -- What stands at a volume's number, in a rack and in a member list.
-use Rattle.std.proofs.Common.{◌≡◌, ℕ, suc, zero, ◌+◌, ◌<◌, ◌≤◌, ◌==◌, ◌≢◌, nat_lt, Bool, true, false, cond, not, ◌&&◌, List, [], ◌∷◌, length, map, filter, get_or, drop, T, Some, None, refl, ap, subst, ◌∙◌, arith}
+use Rattle.std.proofs.Common.{◌≡◌, ℕ, suc, zero, ◌+◌, ◌<◌, ◌≤◌, ◌==◌, ◌≢◌, nat_lt, Bool, true, false, cond, not, ◌&&◌, List, [], ◌∷◌, length, map, filter, get_or, drop, T, Some, None, refl, ap, sym, subst, ◌∙◌, arith}
 use Rattle.std.proofs.lemmas.Bool.Decides.{nat_tests}
 use Rattle.std.proofs.lemmas.List.{drop_all, drop_more, length-map}
 use Rattle.std.specs.List.{enumerate_from}
@@ -8,9 +8,10 @@ use Rattle.std.specs.Ordering.{nat_cmp, is_eq, is_lt, eq_by_cmp}
 use Rattle.std.specs.FinMap as map_of
 use Rattle.std.specs.FinMap.Entries.{below_all, find, is_sorted}
 use Rattle.fileset_model.specs.declared.reply.VolumeItem.{VolumeItem}
-use Rattle.history_model.specs.State.{Member, rack_of}
-use Rattle.history_model.specs.Volumes.{open_members}
-use Rattle.plain_volumes.specs.Members.{Rises, entries_of, member_of, members_of}
+use Rattle.std.specs.Prelude.{All, IsSomeAnd, Option}
+use Rattle.history_model.specs.State.{Member, MemberMap, State, rack_of}
+use Rattle.history_model.specs.Volumes.{ShowsMembers, open_members}
+use Rattle.plain_volumes.specs.Members.{AddsUp, Rises, entries_of, member_of, members_of}
 
 both : (a b : Bool) → T a → T b → T (a && b)
 both true b p q = q
@@ -123,3 +124,47 @@ get-rack_past sizes vol h = get-rack sizes vol ∙ past-rack sizes 1 vol (omega 
 
 pub get-rack_at : (sizes : List ℕ) (vol i d : ℕ) → 1 + i ≡ vol → i < length sizes → map_of.get (rack_of sizes) vol ≡ Some (get_or sizes i d)
 get-rack_at sizes vol i d is h = get-rack sizes vol ∙ in-rack sizes 1 vol i d is h
+
+-- a line's volume is below those of the lines after it
+below-later : (line : VolumeItem) (lines : List VolumeItem) (i : ℕ) (d : VolumeItem) → Rises (line ∷ lines) → i < length lines → line.vol < (get_or lines i d).vol
+below-later line [] i d r h = absurd (omega (arith, h))
+below-later line (next ∷ lines) zero d r h = r 0 line (omega arith)
+below-later line (next ∷ lines) (suc i) d r h =
+    let after : line.vol < next.vol = r 0 line (omega arith) in
+    let rest = below-later next lines i d (tail_rises line next lines r) (omega (arith, h)) in
+    omega (arith, after, rest)
+
+rises-tail : (line : VolumeItem) (lines : List VolumeItem) → Rises (line ∷ lines) → Rises lines
+rises-tail line [] r = λ k d within. absurd (omega (arith, within))
+rises-tail line (next ∷ lines) r = tail_rises line next lines r
+
+-- each line is that of its volume
+find-itself : (lines : List VolumeItem) (i : ℕ) (d : VolumeItem) → Rises lines → i < length lines → find nat_cmp (get_or lines i d).vol (entries_of lines) ≡ Some (member_of (get_or lines i d))
+find-itself [] i d r h = absurd (omega (arith, h))
+find-itself (line ∷ lines) zero d r h = ap (λ (b : Bool). cond b (Some (member_of line)) (find nat_cmp line.vol (entries_of lines))) (tied line.vol)
+find-itself (line ∷ lines) (suc i) d r h =
+    let later = below-later line lines i d r (omega (arith, h)) in
+    let vol = (get_or lines i d).vol in
+    ap (λ (b : Bool). cond b (Some (member_of line)) (find nat_cmp vol (entries_of lines))) (apart vol line.vol (λ e. absurd (omega (arith, later, e))))
+    ∙ find-itself lines i d (rises-tail line lines r) (omega (arith, h))
+
+volumes_of : (lines : List VolumeItem) → map (λ (line : VolumeItem). line.vol) lines ≡ map (λ (e : ℕ × Member). e.0) (entries_of lines)
+volumes_of [] = refl
+volumes_of (line ∷ lines) = ap (λ (l : List ℕ). line.vol ∷ l) (volumes_of lines)
+
+module _ (s : State) (lines : List VolumeItem) (r : Rises lines) (same : s.members ≡ members_of lines) where
+  pub shows : All (AddsUp s.log_volume) lines → ShowsMembers s lines
+  shows each = record {
+    volumes = volumes_of lines ∙ sym (ap (λ (m : MemberMap). map_of.keys m) same ∙ ap (map (λ (e : ℕ × Member). e.0)) (map_of.entries-from_sorted nat_cmp (entries_of lines) (is_sorted-lines lines r)));
+    each = λ k d within. record {
+      member = subst (λ (found : Option Member). IsSomeAnd found (λ member. ((get_or lines k d).pages ≡ member.pages) × ((get_or lines k d).closed ≡ not member.is_open)))
+          (sym (ap (λ (m : MemberMap). map_of.get m (get_or lines k d).vol) same ∙ get-members lines (get_or lines k d).vol r ∙ find-itself lines k d r within))
+          (refl, sym (twice (get_or lines k d).closed));
+      counts = (each k d within).0;
+      log = (each k d within).1;
+    };
+  }
+    where
+      twice : (b : Bool) → not (not b) ≡ b
+      twice true = refl
+      twice false = refl

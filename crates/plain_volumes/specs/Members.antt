@@ -1,5 +1,5 @@
 -- The members that the lines of a member list tell of.
-use Rattle.std.specs.Prelude.{◌≡◌, ◌<◌, ℕ, List, length, map, not}
+use Rattle.std.specs.Prelude.{◌≡◌, ◌<◌, ◌+◌, ◌==◌, ℕ, List, length, map, not}
 use Rattle.std.specs.List.{AllAdjacentBelow}
 use Rattle.std.specs.FinMap as map_of
 use Rattle.fileset_model.specs.declared.reply.VolumeItem.{VolumeItem}
@@ -23,3 +23,7 @@ Rises lines = AllAdjacentBelow (λ line next. line.vol < next.vol) lines (length
 pub record HasVolumes (s : State) (sizes : List ℕ) (lines : List VolumeItem) : Type 0 where
   pub rack : s.rack ≡ rack_of sizes
   pub members : s.members ≡ members_of lines
+
+-- a line whose used and free pages make up its pages, and that is marked where the log is on its volume
+abbrev pub AddsUp : ℕ → VolumeItem → Type 0
+AddsUp log_volume line = (line.used + line.free ≡ line.pages) × (line.has_log ≡ (line.vol == log_volume))

@@ -6,5 +6,5 @@ mod members;
 mod refusals;
 
 pub use extents::is_extent_list;
-pub use members::rises;
+pub use members::{is_member_list, rises};
 pub use refusals::member_refusal;

@@ -2,9 +2,9 @@
 ghost use Rattle.std.specs.Prelude.{◌≡◌, ◌↔◌, IsTrue, length};
 ghost use Rattle.std.specs.Option.{option_map};
 ghost use Rattle.std.specs.FinMap as map;
-ghost use Rattle.history_model.specs.State.{rack_of};
-ghost use Rattle.history_model.specs.Volumes.{is_open_member, open_members};
-ghost use Rattle.plain_volumes.specs.Members.{Rises, member_of, members_of};
+ghost use Rattle.history_model.specs.State.{State, rack_of};
+ghost use Rattle.history_model.specs.Volumes.{ShowsMembers, is_open_member, open_members};
+ghost use Rattle.plain_volumes.specs.Members.{AddsUp, Rises, member_of, members_of};
 
 use fileset_model::VolumeItem;
 
@@ -18,6 +18,29 @@ pub fn rises(members: &[VolumeItem]) -> bool
         }
     }
     true
+}
+
+/// Whether a domain with these members, and the log on this volume, may show this list: in each line
+/// the pages used and free make up the member's pages, and the log's volume is marked alone.
+pub fn is_member_list(members: &[VolumeItem], log_volume: u32) -> bool
+    requires { Rises members.now }
+    ensures { (s : State) → s.members ≡ members_of members.now → s.log_volume ≡ log_volume → IsTrue result ↔ ShowsMembers s members.now }
+{
+    for line in members {
+        if !adds_up(line, log_volume) {
+            return false;
+        }
+    }
+    true
+}
+
+/// Whether the used and free pages of a line make up its pages, and it is marked as the log's where
+/// it is.
+fn adds_up(line: &VolumeItem, log_volume: u32) -> bool
+    ensures { IsTrue result ↔ AddsUp log_volume line.now }
+{
+    let pages = u64::from(line.used) + u64::from(line.free);
+    pages == u64::from(line.pages) && line.has_log == (line.vol == log_volume)
 }
 
 /// The pages of a volume of the rack, whose volumes are numbered from 1.

@@ -77,11 +77,10 @@ fn member_needed(members: &[VolumeItem], vol: u32) -> Option<Refusal>
     requires { Rises members.now }
     ensures { result ≡ refuse_if (not (map.contains_key (members_of members.now) vol)) NoVolume }
 {
-    if is_member(members, vol) {
-        None
-    } else {
-        Some(Refusal::NoVolume)
+    if !is_member(members, vol) {
+        return Some(Refusal::NoVolume);
     }
+    None
 }
 
 fn open_needed(members: &[VolumeItem], vol: u32) -> Option<Refusal>
