@@ -1,5 +1,29 @@
 //! The whole of a run: the words, the script, its commands over new filesets, and the printing.
-ghost use Rattle.std.specs.Prelude.{◌≡◌, ◌≢◌, ℕ, ◌+◌, ◌<◌, ◌≤◌, List, [], ◌∷◌, OnOk, OnErr, IfOk, IfErr, MatchResult, map, length, string_bytes, vec_len, vec_capacity, All, IfSome, flat_map, sum_by};
+ghost use Rattle.std.specs.Prelude.{
+  ◌≡◌,
+  ◌≢◌,
+  ℕ,
+  ◌+◌,
+  ◌<◌,
+  ◌≤◌,
+  List,
+  [],
+  ◌∷◌,
+  OnOk,
+  OnErr,
+  IfOk,
+  IfErr,
+  MatchResult,
+  map,
+  length,
+  string_bytes,
+  vec_len,
+  vec_capacity,
+  All,
+  IfSome,
+  flat_map,
+  sum_by,
+};
 ghost use Rattle.std.specs.Io.KnownBytes.{Appends, Consumes};
 ghost use Rattle.domain_base.specs.Counts.{HasRisen};
 ghost use Rattle.history_text.specs.History.{history_text};
@@ -33,7 +57,8 @@ fn take_turn(
     stamp: u64,
 )
     requires { vec_len history.old < vec_capacity history.old }
-    ensures turn { GoesOn ((Actor.Client client, command) ∷ []) stamp history.old.items filesets.old history.new.items filesets.new }
+    ensures turn { GoesOn ((Actor.Client client, command) ∷ []) stamp
+        history.old.items filesets.old history.new.items filesets.new }
     ensures len { vec_len history.new ≡ vec_len history.old + 1 }
     ensures capacity { vec_capacity history.new ≡ vec_capacity history.old }
 {
@@ -46,7 +71,8 @@ fn take_turn(
     });
 }
 
-/// Gives each command of a client's section its reply. The gate is passed before each, and after the last.
+/// Gives each command of a client's section its reply. The gate is passed before each, and after
+/// the last.
 fn run_section<G: Gate>(
     alloc: Global,
     filesets: &mut Filesets,
@@ -56,7 +82,8 @@ fn run_section<G: Gate>(
     gate: &G,
 )
     requires { vec_len history.old + length section.commands ≤ vec_capacity history.old }
-    ensures turns { GoesOn (turns_of section) stamp history.old.items filesets.old history.new.items filesets.new }
+    ensures turns { GoesOn (turns_of section) stamp
+        history.old.items filesets.old history.new.items filesets.new }
     ensures len { vec_len history.new ≡ vec_len history.old + length section.commands }
     ensures capacity { vec_capacity history.new ≡ vec_capacity history.old }
 {
@@ -79,7 +106,8 @@ fn in_order(mut sections: Vec<Section>) -> Result<Vec<Section>, OutOfMemory>
 
 /// How many commands the sections have.
 fn count_commands(sections: &[Section]) -> Option<usize>
-    ensures { IfSome result (λ count. count ≡ sum_by (λ section. length section.commands) sections.now) }
+    ensures { IfSome result
+        (λ count. count ≡ sum_by (λ section. length section.commands) sections.now) }
 {
     let mut count: usize = 0;
     for section in sections {
@@ -97,16 +125,18 @@ fn run_sections<G: Gate>(
     stamp: u64,
     gate: &G,
 )
-    requires { vec_len history.old + sum_by (λ section. length section.commands) sections.items ≤ vec_capacity history.old }
-    ensures { GoesOn (flat_map turns_of sections.items) stamp history.old.items filesets.old history.new.items filesets.new }
+    requires { vec_len history.old + sum_by (λ section. length section.commands) sections.items
+        ≤ vec_capacity history.old }
+    ensures { GoesOn (flat_map turns_of sections.items) stamp
+        history.old.items filesets.old history.new.items filesets.new }
 {
     for section in sections {
         run_section(alloc, filesets, history, section, stamp, gate);
     }
 }
 
-/// The history of a script, whose sections are answered in the order of their numbers, over filesets that begin with
-/// none. Its room is taken before the first command.
+/// The history of a script, whose sections are answered in the order of their numbers, over
+/// filesets that begin with none. Its room is taken before the first command.
 fn answer_script<G: Gate>(
     alloc: Global,
     script: Script,
@@ -126,10 +156,12 @@ fn answer_script<G: Gate>(
 /// Reads the script that a source has.
 fn take_script<S: Source>(alloc: Global, source: &mut S) -> Result<Script, Status>
     ensures taken { (read : List ℕ) × Consumes (S.left source.old) (S.left source.new) read
-        × MatchResult result (IsScript (S.left source.new) read) (GetsNoScript (S.left source.new) read) }
+        × MatchResult result
+        (IsScript (S.left source.new) read) (GetsNoScript (S.left source.new) read) }
     ensures no_usage { (word : ℕ) → result ≢ Err (Status.Usage word) }
     ensures never_falls { S.faults source.old ≤ S.faults source.new }
-    ensures source_fault { result ≡ Err Status.SourceFault → HasRisen (S.faults source.old) (S.faults source.new) }
+    ensures source_fault { result ≡ Err Status.SourceFault
+        → HasRisen (S.faults source.old) (S.faults source.new) }
 {
     let text = read_all(alloc, source, MAX_SCRIPT_BYTES)?;
     let script = read_script(alloc, text.as_slice())?;
@@ -145,10 +177,15 @@ fn answer<S: Source, G: Gate>(
     gate: &G,
 ) -> Result<Vec<Entry>, Status>
     ensures read { (read : List ℕ) × Consumes (S.left source.old) (S.left source.new) read
-        × MatchResult result (λ history. AnswersRead (S.left source.new) read stamp history.items) (GetsNoScript (S.left source.new) read) }
-    ensures usage { MatchResult (form_of (map string_bytes words.now)) (λ _. (word : ℕ) → result ≢ Err (Status.Usage word)) (λ word. result ≡ Err (Status.Usage word)) }
+        × MatchResult result
+        (λ history. AnswersRead (S.left source.new) read stamp history.items)
+        (GetsNoScript (S.left source.new) read) }
+    ensures usage { MatchResult (form_of (map string_bytes words.now))
+        (λ _. (word : ℕ) → result ≢ Err (Status.Usage word))
+        (λ word. result ≡ Err (Status.Usage word)) }
     ensures never_falls { S.faults source.old ≤ S.faults source.new }
-    ensures source_fault { result ≡ Err Status.SourceFault → HasRisen (S.faults source.old) (S.faults source.new) }
+    ensures source_fault { result ≡ Err Status.SourceFault
+        → HasRisen (S.faults source.old) (S.faults source.new) }
 {
     if let Err(word) = pages_asked(words) {
         return Err(Status::Usage { word });
@@ -166,10 +203,10 @@ pub struct Ended<R> {
     pub history: Vec<Entry>,
 }
 
-/// Runs a script: reads the words and the script, answers each of its commands over new filesets, and prints the
-/// history. The rack, whose volume has the pages that the words ask for, is not touched, so its number of calls is the
-/// stamp of each entry. The gate is passed before each turn of a client and after its last, with the client's number
-/// less one.
+/// Runs a script: reads the words and the script, answers each of its commands over new filesets,
+/// and prints the history. The rack, whose volume has the pages that the words ask for, is not
+/// touched, so its number of calls is the stamp of each entry. The gate is passed before each turn
+/// of a client and after its last, with the client's number less one.
 pub fn run<S: Source, R: Rack + Send, K: Sink, G: Gate + Sync>(
     alloc: Global,
     words: &[String],
@@ -178,7 +215,8 @@ pub fn run<S: Source, R: Rack + Send, K: Sink, G: Gate + Sync>(
     sink: &mut K,
     gate: &G,
 ) -> Ended<R>
-    requires { IfOk (form_of (map string_bytes words.now)) (λ pages. (R.disk rack).sizes ≡ pages ∷ []) }
+    requires { IfOk (form_of (map string_bytes words.now))
+        (λ pages. (R.disk rack).sizes ≡ pages ∷ []) }
 
     // What was read, and that the history has each command of the script once, in order.
     ensures read { (read : List ℕ) × Consumes (S.left script.old) (S.left script.new) read
@@ -190,14 +228,18 @@ pub fn run<S: Source, R: Rack + Send, K: Sink, G: Gate + Sync>(
     ensures stamps { All (λ e. e.stamp ≡ (R.disk rack).calls) result.history.items }
 
     // The text that is printed.
-    ensures printed { result.status ≡ Status.Ok → Appends (K.held sink.old) (K.held sink.new) (history_text result.history.items) }
+    ensures printed { result.status ≡ Status.Ok
+        → Appends (K.held sink.old) (K.held sink.new) (history_text result.history.items) }
     ensures printed_front { AppendsFront (K.held sink.old) (K.held sink.new) (history_text result.history.items) }
 
     // The causes of the other statuses.
     ensures usage { MatchResult (form_of (map string_bytes words.now))
-        (λ _. (word : ℕ) → result.status ≢ Status.Usage word) (λ word. result.status ≡ Status.Usage word) }
-    ensures source_fault { result.status ≡ Status.SourceFault → HasRisen (S.faults script.old) (S.faults script.new) }
-    ensures sink_fault { result.status ≡ Status.SinkFault → HasRisen (K.faults sink.old) (K.faults sink.new) }
+        (λ _. (word : ℕ) → result.status ≢ Status.Usage word)
+        (λ word. result.status ≡ Status.Usage word) }
+    ensures source_fault { result.status ≡ Status.SourceFault
+        → HasRisen (S.faults script.old) (S.faults script.new) }
+    ensures sink_fault { result.status ≡ Status.SinkFault
+        → HasRisen (K.faults sink.old) (K.faults sink.new) }
     ensures source_count { S.faults script.old ≤ S.faults script.new }
     ensures sink_count { K.faults sink.old ≤ K.faults sink.new }
     ensures rack { result.rack ≡ rack }

@@ -1,10 +1,12 @@
 -- Pages of the bitfile metadata table: 16 bytes, and 28 cells of 292 bytes.
-use Rattle.std.specs.Prelude.{◌≡◌, ◌⊎◌, ◌==◌, ◌&&◌, ◌+◌, ◌*◌, ◌<◌, ℕ, Bool, true, List, take, drop, slice_index, count_by, Option, Some, None, nat_lt, if◌then◌else◌}
+use Rattle.std.specs.Prelude.{◌≡◌, ◌⊎◌, ◌==◌, ◌&&◌, ◌+◌, ◌*◌, ◌<◌, ℕ, Bool, true, List, take, drop, slice_index, count_by, Option, Some, None, IsSomeAnd, nat_lt, if◌then◌else◌}
 use Rattle.std.specs.List.{range_with_len}
 use Rattle.std.specs.Option.{option_and_then}
 use Rattle.domain_base.specs.declared.place.CellAt.{CellAt}
 use Rattle.domain_base.specs.declared.place.Home.{Home}
-use Rattle.page_store.specs.Pages.{Pages}
+use Rattle.byteorder.specs.Endian.{little_bytes}
+use Rattle.domain_base.specs.Page.{overwritten}
+use Rattle.page_store.specs.Pages.{Pages, same_home}
 use Rattle.record_table.specs.Fields.{number_at}
 use Rattle.bmt_mcells.specs.Cell.{Cell, IsCell, IsFreeCell}
 
@@ -20,6 +22,14 @@ cell_of page cell = take 292 (drop (16 + 292 * cell) page)
 abbrev pub free_cells : List ℕ → ℕ
 free_cells page = count_by (λ cell. slice_index page (31 + 292 * cell) == 0) (range_with_len 0 28)
 
+-- the page with the count of its free cells as they are
+abbrev pub recounted : List ℕ → List ℕ
+recounted page = overwritten page 12 (little_bytes 2 (free_cells page))
+
+-- the page with these bytes for a cell, and the count of free cells as they then are
+abbrev pub with_cell : ℕ → List ℕ → List ℕ → List ℕ
+with_cell cell bytes page = recounted (overwritten page (16 + 292 * cell) bytes)
+
 -- a well-formed page: `BMTP`, each cell free or in use, and the number of free ones
 pub record IsCellPage (page : List ℕ) : Type 0 where
   pub magic : is_cell_page page ≡ true
@@ -34,3 +44,13 @@ home_of at = record { vol = at.vol; page = at.page }
 abbrev pub cell_at : Pages → CellAt → Option (List ℕ)
 cell_at pages at =
     option_and_then (λ page. if is_cell_page page && nat_lt at.cell 28 then Some (cell_of page at.cell) else None) (pages (home_of at))
+
+-- a page of the table is there, and has such a cell
+abbrev pub HasPlace : Pages → CellAt → Type 0
+HasPlace pages at = IsSomeAnd (pages (home_of at)) (λ page. is_cell_page page ≡ true) × (at.cell < 28)
+
+-- pages in which the bytes of a cell were changed, and the count of free cells that stands on its page
+pub record ChangesCell (at : CellAt) (bytes : List ℕ) (old new : Pages) : Type 0 where
+  pub page : List ℕ
+  pub was : old (home_of at) ≡ Some page
+  pub is : (home : Home) → new home ≡ (if same_home home (home_of at) then Some (with_cell at.cell bytes page) else old home)

@@ -1,5 +1,5 @@
 -- Chains of cells, over any function from home to page.
-use Rattle.std.specs.Prelude.{◌≡◌, ◌⊎◌, ◌++◌, [], ◌∷◌, ℕ, Bool, false, List, map, Some, None, Contains}
+use Rattle.std.specs.Prelude.{◌≡◌, ◌+◌, ◌*◌, ◌^◌, ◌⊎◌, ◌==◌, ◌&&◌, ◌++◌, [], ◌∷◌, ℕ, Bool, true, false, List, map, Some, None, Contains}
 use Rattle.std.specs.List.{flat_map, AllByRecursion}
 use Rattle.domain_base.specs.declared.place.CellAt.{CellAt}
 use Rattle.page_store.specs.Pages.{Pages}
@@ -24,10 +24,11 @@ pub record HasHeadAt (pages : Pages) (at : CellAt) (head : CellHead) : Type 0 wh
   pub is : HasHead bytes head size
 
 -- the kinds of cells that a cell may lead to: chain cells behind the first cell of a file, quota cells behind one
-pub data MayFollow : CellKind → CellKind → Type 0 where
-  behind_primary : MayFollow Primary Chain
-  behind_chain : MayFollow Chain Chain
-  behind_quota : MayFollow Quota Quota
+abbrev pub may_follow : CellKind → CellKind → Bool
+may_follow Primary Chain = true
+may_follow Chain Chain = true
+may_follow Quota Quota = true
+may_follow _ _ = false
 
 -- a cell and its place
 pub record PlacedCell : Type 0 where
@@ -37,13 +38,17 @@ pub record PlacedCell : Type 0 where
 abbrev pub places : List PlacedCell → List CellAt
 places cells = map (λ (c : PlacedCell). c.at) cells
 
+-- a number for each cell
+abbrev pub key_of : CellAt → ℕ
+key_of at = (at.vol * 2 ^ 32 + at.page) * 256 + at.cell
+
 -- the cells that were passed from a place on, and the one that was come to: each stands where the one before it leads,
 -- and none was passed twice
 pub data Path (pages : Pages) (start : CellAt) : List PlacedCell → PlacedCell → Type 0 where
   begins : (cell : Cell) → StandsAt pages start cell → Path pages start [] (record { at = start; cell = cell })
   goes_on : (passed : List PlacedCell) (last : PlacedCell) (at : CellAt) (cell : Cell)
       → Path pages start passed last → last.cell.head.next ≡ Some at → ¬ Contains (places (passed ++ last ∷ [])) at
-      → StandsAt pages at cell → MayFollow last.cell.head.kind cell.head.kind
+      → StandsAt pages at cell → may_follow last.cell.head.kind cell.head.kind ≡ true
       → Path pages start (passed ++ last ∷ []) (record { at = at; cell = cell })
 
 -- a chain: a path that ends where no cell is next
@@ -61,7 +66,7 @@ records_of cells = flat_map (λ (c : PlacedCell). c.cell.records) cells
 -- a next address that is wrong: it leads back, or to no cell in use that may follow
 abbrev pub LeadsAstray : Pages → List PlacedCell → PlacedCell → CellAt → Type 0
 LeadsAstray pages passed last at =
-    Contains (places (passed ++ last ∷ [])) at ⊎ ((head : CellHead) → HasHeadAt pages at head → ¬ MayFollow last.cell.head.kind head.kind)
+    Contains (places (passed ++ last ∷ [])) at ⊎ ((head : CellHead) → HasHeadAt pages at head → may_follow last.cell.head.kind head.kind ≡ false)
 
 -- where the chain from a place on is broken: at that place, where no cell stands; at a cell whose next address is wrong; or
 -- at a cell that one leads to and whose records are not well formed
@@ -70,12 +75,16 @@ pub data IsBroken (pages : Pages) (start : CellAt) : CellAt → Type 0 where
   astray : (passed : List PlacedCell) (last : PlacedCell) (at : CellAt) → Path pages start passed last → last.cell.head.next ≡ Some at
       → LeadsAstray pages passed last at → IsBroken pages start last.at
   bad_cell : (passed : List PlacedCell) (last : PlacedCell) (at : CellAt) (head : CellHead) → Path pages start passed last → last.cell.head.next ≡ Some at
-      → ¬ Contains (places (passed ++ last ∷ [])) at → HasHeadAt pages at head → MayFollow last.cell.head.kind head.kind
+      → ¬ Contains (places (passed ++ last ∷ [])) at → HasHeadAt pages at head → may_follow last.cell.head.kind head.kind ≡ true
       → ((cell : Cell) → ¬ StandsAt pages at cell) → IsBroken pages start at
 
 -- what a change of some cells leaves: every other cell has its bytes
 abbrev pub LeavesOthers : (CellAt → Bool) → Pages → Pages → Type 0
 LeavesOthers changed old new = (at : CellAt) → changed at ≡ false → cell_at new at ≡ cell_at old at
+
+-- a cell is this one
+abbrev pub is_at : CellAt → CellAt → Bool
+is_at a b = (a.vol == b.vol) && ((a.page == b.page) && (a.cell == b.cell))
 
 -- none of these cells is among the changed ones
 abbrev pub AreApart : (CellAt → Bool) → List PlacedCell → Type 0

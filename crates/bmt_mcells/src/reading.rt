@@ -116,8 +116,8 @@ pub(crate) fn head_of(cell: &[u8]) -> Option<(CellHead, usize)>
 }
 
 /// The bytes of a cell, if its page is there and one of cells, and has such a cell.
-pub(crate) fn bytes_of<M: MetaPages>(pages: &M, at: CellAt) -> Option<&[u8]>
-    ensures value { option_copied result ≡ cell_at (M.pages pages.now) at }
+pub(crate) fn bytes_of<'a, M: MetaPages>(pages: &'a M, at: &CellAt) -> Option<&'a [u8]>
+    ensures value { option_copied result ≡ cell_at (M.pages pages.now) at.now }
     ensures len { IfSome result (λ bytes. length bytes.now ≡ CELL_BYTES) }
 {
     let home = Home {
@@ -138,7 +138,7 @@ pub fn read_head<M: MetaPages>(pages: &M, at: CellAt) -> Option<CellHead>
     ensures some { IfSome result (HasHeadAt (M.pages pages.now) at) }
     ensures none { IfNone result ((head : CellHead) → ¬ HasHeadAt (M.pages pages.now) at head) }
 {
-    let cell = bytes_of(pages, at)?;
+    let cell = bytes_of(pages, &at)?;
     let (head, _) = head_of(cell)?;
     Some(head)
 }

@@ -1,4 +1,4 @@
-ghost use Rattle.std.specs.Prelude.{◌%◌, ◌*◌, ◌+◌, ◌-◌, ◌/◌, ◌<◌, ◌^◌, ◌≡◌, ◌≤◌, IfOk, IsTrue, OnErr, OnOk, length, map as map_each, nat_lt, not, unwrap_or};
+ghost use Rattle.std.specs.Prelude.{◌%◌, ◌*◌, ◌+◌, ◌-◌, ◌/◌, ◌<◌, ◌^◌, ◌≡◌, ◌≤◌, IfOk, IsTrue, OnErr, OnOk, length, map as map_each, min, nat_lt, not, unwrap_or};
 ghost use Rattle.std.specs.List.{range_with_len};
 ghost use Rattle.std.specs.Option.{option_map_or};
 ghost use Rattle.std.specs.Ordering.{nat_cmp};
@@ -58,11 +58,34 @@ impl PageMap {
         requires { offset + count < 2 ^ 64 }
         ensures { IfOk result (λ v. v.items ≡ map_each (byte_of self.now) (range_with_len offset count)) }
     {
+        let zeros = Page::zeros(alloc)?;
         let mut bytes = Vec::new(alloc);
-        for x in offset..offset + count {
-            bytes.push(byte_at(&self.pages, x))?;
+        let end = offset + count;
+        let mut x = offset;
+        while x < end {
+            let run = bytes_in_page(&self.pages, x, end - x, &zeros);
+            bytes.extend_from_slice(run)?;
+            x += run.len() as u64;
         }
         Ok(bytes)
+    }
+
+    /// Whether page `q` is there.
+    pub fn contains(&self, q: u64) -> bool
+        ensures { result ≡ map.contains_key self.now q }
+    {
+        !is_absent(&self.pages, q)
+    }
+
+    /// The numbers of the pages that are there, in rising order.
+    pub fn numbers(&self, alloc: Global) -> Result<Vec<u64>, OutOfMemory>
+        ensures { IfOk result (λ numbers. numbers.items ≡ map.keys self.now) }
+    {
+        let mut numbers = Vec::new(alloc);
+        for (q, _) in &self.pages {
+            numbers.push(*q)?;
+        }
+        Ok(numbers)
     }
 
     /// How many of the pages that so many bytes from the offset on lie in are absent.
@@ -126,15 +149,28 @@ fn is_absent(pages: &[(u64, Page)], q: u64) -> bool
     }
 }
 
-/// The byte at `x`, which is zero where its page is absent.
-fn byte_at(pages: &[(u64, Page)], x: u64) -> u8
+/// Page `q`, or these zeros where it is absent.
+fn page_or<'a>(pages: &'a [(u64, Page)], q: u64, zeros: &'a Page) -> &'a Page
     requires { IsTrue (is_sorted nat_cmp pages.now) }
-    ensures { result ≡ byte_of (map.from_sorted pages.now) x }
+    ensures { result.now ≡ unwrap_or (map.get (map.from_sorted {R = nat_cmp} pages.now) q) zeros.now }
 {
-    match find(pages, &(x / PAGE_BYTES as u64)) {
-        Some(page) => page.bytes()[(x % PAGE_BYTES as u64) as usize],
-        None => 0,
+    match find(pages, &q) {
+        Some(page) => page,
+        None => zeros,
     }
+}
+
+/// The bytes from `x` on that lie in its page, at most so many.
+fn bytes_in_page<'a>(pages: &'a [(u64, Page)], x: u64, most: u64, zeros: &'a Page) -> &'a [u8]
+    requires sorted { IsTrue (is_sorted nat_cmp pages.now) }
+    requires zeros { zeros.now ≡ zero_bytes PAGE_BYTES }
+    ensures bytes { result.now ≡ map_each (byte_of (map.from_sorted pages.now)) (range_with_len x (length result.now)) }
+    ensures len { length result.now ≡ min most (PAGE_BYTES - x % PAGE_BYTES) }
+{
+    let page = page_or(pages, x / PAGE_BYTES as u64, zeros);
+    let at = (x % PAGE_BYTES as u64) as usize;
+    let len = most.min((PAGE_BYTES - at) as u64) as usize;
+    &page.bytes()[at..at + len]
 }
 
 /// The pages that a write of the bytes at the offset changes, as they are after it.

@@ -1,0 +1,80 @@
+-- A page of cells in which one was changed.
+use Rattle.std.proofs.Common.{◌≡◌, ◌∙◌, ℕ, ◌+◌, ◌-◌, ◌*◌, ◌<◌, ◌≤◌, Bool, true, false, cond, nat_eq, Option, Some, None, is_some, List, ◌++◌, length, take, drop, get_or, slice_index, refl, sym, ap, arith, append_assoc, length-append, length-drop, length-take}
+use Rattle.std.proofs.lemmas.List.{take_at, drop_at, drop-drop, take-append-drop, take-append-le, drop-append-le}
+use Rattle.std.proofs.lemmas.Bool.{and_from, eqb-true, eq-eqb}
+use Rattle.std.proofs.lemmas.List.Sums.{count_by_more_yes, count_by_more_no}
+use Rattle.std.proofs.lemmas.List.FromFn.{get_or-range_with_len}
+use Rattle.std.specs.List.{count_by, range_with_len}
+use Rattle.domain_base.specs.Page.{overwritten}
+use Rattle.domain_base.specs.declared.place.Home.{Home}
+use Rattle.page_store.specs.Pages.{Pages, without_page}
+
+-- ---- counting
+
+not_eq : (n : ℕ) → ¬ n ≡ 0 → nat_eq n 0 ≡ false
+not_eq n other = by_test (nat_eq n 0) refl
+  where
+    by_test : (b : Bool) → nat_eq n 0 ≡ b → b ≡ false
+    by_test true is = absurd (other (eqb-true n 0 is))
+    by_test false is = refl
+
+-- ---- the room of a store, from which a page was taken off and put back
+
+pub same_room : (was mid new : ℕ) (taken left : Option (List ℕ)) (page : List ℕ) → taken ≡ Some page → left ≡ None → mid ≡ cond (is_some taken) (was + 1) was → new ≡ cond (is_some left) mid (mid - 1)
+    → new ≡ was
+same_room was mid new taken left page some none is_mid is_new =
+    let middle : mid ≡ was + 1 = is_mid ∙ ap (λ (o : Option (List ℕ)). cond (is_some o) (was + 1) was) some in
+    let end : new ≡ mid - 1 = is_new ∙ ap (λ (o : Option (List ℕ)). cond (is_some o) mid (mid - 1)) none in
+    omega (arith, middle, end)
+
+pub none_there : (home : Home) (pages : Pages) → without_page home pages home ≡ None
+none_there home pages = ap (λ (b : Bool). cond b None (pages home)) (and_from (nat_eq home.vol home.vol) (nat_eq home.page home.page) (eq-eqb home.vol home.vol refl) (eq-eqb home.page home.page refl))
+
+kind_at : List ℕ → ℕ → ℕ
+kind_at page cell = slice_index page (31 + 292 * cell)
+
+module _ (page : List ℕ) (count cell : ℕ) (counted : count ≡ count_by (λ cell. nat_eq (slice_index page (31 + 292 * cell)) 0) (take cell (range_with_len 0 28))) (more : cell < 28) where
+  abbrev Test : ℕ → Bool
+  Test cell = nat_eq (slice_index page (31 + 292 * cell)) 0
+
+  there : get_or (range_with_len 0 28) cell 0 ≡ cell
+  there = get_or-range_with_len 0 28 cell 0 more ∙ (let e : 0 + cell ≡ cell = omega arith in e)
+
+  pub counts : slice_index page (31 + 292 * cell) ≡ 0 → count + 1 ≡ count_by Test (take (cell + 1) (range_with_len 0 28))
+  counts free = ap (λ n. n + 1) counted ∙ sym (count_by_more_yes Test (range_with_len 0 28) cell 0 more (ap Test there ∙ eq-eqb (slice_index page (31 + 292 * cell)) 0 free))
+
+  pub passes_over : ¬ slice_index page (31 + 292 * cell) ≡ 0 → count ≡ count_by Test (take (cell + 1) (range_with_len 0 28))
+  passes_over used = counted ∙ sym (count_by_more_no Test (range_with_len 0 28) cell 0 more (ap Test there ∙ not_eq (slice_index page (31 + 292 * cell)) used))
+
+-- ---- a part of a page that is overwritten in another part
+
+module _ (page bytes : List ℕ) (b : ℕ) (fits : b + length bytes ≤ length page) where
+  front : length (take b page) ≡ b
+  front = omega (arith, length-take b page, fits)
+
+  parts : overwritten page b bytes ≡ take b page ++ (bytes ++ drop (b + length bytes) page)
+  parts = append_assoc (take b page) bytes (drop (b + length bytes) page)
+
+  pub part_before : (a n : ℕ) → a + n ≤ b → take n (drop a (overwritten page b bytes)) ≡ take n (drop a page)
+  part_before a n before = piece (bytes ++ drop (b + length bytes) page) (overwritten page b bytes) parts ∙ sym (piece (drop b page) page (sym (take-append-drop b page)))
+    where
+      piece : (rest whole : List ℕ) → whole ≡ take b page ++ rest → take n (drop a whole) ≡ take n (drop a (take b page))
+      piece rest whole is =
+          ap (λ bs. take n (drop a bs)) is ∙ ap (take n) (drop-append-le a (take b page) rest (omega (arith, front, before)))
+          ∙ take-append-le n (drop a (take b page)) rest (omega (arith, length-drop a (take b page), front, before))
+
+  pub rest_after : (a : ℕ) → b + length bytes ≤ a → drop a (overwritten page b bytes) ≡ drop a page
+  rest_after a after =
+      let k = b + length bytes in
+      let e : k + (a - k) ≡ a = omega (arith, after) in
+      let e' : a - k + k ≡ a = omega (arith, after) in
+      let long : length (take b page ++ bytes) ≡ k = omega (arith, length-append (take b page) bytes, front) in
+      ap (λ n. drop n (overwritten page b bytes)) (sym e) ∙ sym (drop-drop (a - k) k (overwritten page b bytes))
+      ∙ ap (drop (a - k)) (drop_at (take b page ++ bytes) (drop k page) k long) ∙ drop-drop (a - k) k page ∙ ap (λ n. drop n page) e
+
+  pub part_there : take (length bytes) (drop b (overwritten page b bytes)) ≡ bytes
+  part_there = ap (λ bs. take (length bytes) (drop b bs)) parts ∙ ap (take (length bytes)) (drop_at (take b page) (bytes ++ drop (b + length bytes) page) b front)
+      ∙ take_at bytes (drop (b + length bytes) page) (length bytes) refl
+
+  pub long_still : length (overwritten page b bytes) ≡ length page
+  long_still = omega (arith, ap length parts, length-append (take b page) (bytes ++ drop (b + length bytes) page), length-append bytes (drop (b + length bytes) page), length-drop (b + length bytes) page, front, fits)

@@ -1,0 +1,209 @@
+//! Cells, written to the pages that they stand on.
+ghost use Rattle.std.specs.Prelude.{◌≡◌, ◌+◌, ◌*◌, ◌<◌, ◌≤◌, ◌++◌, length, drop, sum, IfSome, IfNone, false};
+ghost use Rattle.domain_base.specs.Page.{zero_bytes};
+ghost use Rattle.record_table.specs.Fields.{Fit};
+ghost use Rattle.record_table.specs.Records.{Allowed, PutsNumbers, spelling};
+ghost use Rattle.domain_base.specs.declared.place.Home.{Home};
+ghost use Rattle.page_store.specs.Pages.{same_home};
+ghost use Rattle.bmt_mcells.specs.CellPage.{ChangesCell, HasPlace, IsCellPage, free_cells as free_there, home_of as home_there, recounted};
+ghost use Rattle.bmt_mcells.specs.Chain.{LeavesOthers, StandsAt, is_at};
+ghost use Rattle.bmt_mcells.specs.Cell.{AreRecords, HasHead, IsAddress, IsCell, IsFileset, kind_number as number_there, spellings};
+
+use crate::head::{CellHead, CellKind};
+use crate::list::RecordList;
+use crate::reading::CELL_BYTES;
+use byteorder::{ByteOrder, LittleEndian};
+use domain_base::{CellAt, FilesetNo, Home, Page};
+use page_store::MetaPages;
+use record_table::{Record, write_record};
+
+/// How many cells a page has.
+const CELLS: usize = 28;
+
+/// The widths of the numbers in a cell's head: a zero, the next cell's volume, cell and page, the
+/// slot, the sequence, the fileset, the kind, the size of the records, and a zero.
+const HEAD: [u8; 10] = [2, 1, 1, 4, 4, 2, 1, 1, 2, 2];
+
+/// Writes numbers of these widths one after the other.
+#[tactic(auto, unfolding(record_table::specs::Records::spelled))]
+fn put(widths: &[u8], numbers: &[u64], out: &mut [u8]) -> usize
+    requires fit { Fit widths.now numbers.now }
+    requires room { sum widths.now ≤ length out.old }
+    ensures puts { PutsNumbers widths.now numbers.now out.old out.new result }
+    ensures fit { Fit widths.now numbers.now }
+{
+    let mut at = 0;
+    for (i, width) in widths.iter().enumerate() {
+        let width = usize::from(*width);
+        LittleEndian::write_uint(&mut out[at..], numbers[i], width);
+        at += width;
+    }
+    at
+}
+
+/// The volume, cell and page of an address, and zeros for none.
+fn address_of(next: &Option<CellAt>) -> (u8, u8, u32)
+    requires { IfSome next.now (λ at. at.cell < 28) }
+    ensures { IsAddress result.0 result.1 result.2 next.now }
+{
+    match next {
+        Some(at) => (at.vol.number() as u8, at.cell, at.page),
+        None => (0, 0, 0),
+    }
+}
+
+/// A fileset's number and 1 more, and 0 for none.
+fn fileset_number(fileset: &Option<FilesetNo>) -> u8
+    ensures { IsFileset result fileset.now }
+{
+    match fileset {
+        Some(fileset) => fileset.number() as u8 + 1,
+        None => 0,
+    }
+}
+
+/// The number that stands for a kind.
+fn kind_number(kind: CellKind) -> u8
+    ensures value { result ≡ number_there kind }
+{
+    match kind {
+        CellKind::Primary => 1,
+        CellKind::Chain => 2,
+        CellKind::Quota => 3,
+        CellKind::Volume => 4,
+    }
+}
+
+/// Writes a cell's head to the front of its bytes.
+fn put_head(head: &CellHead, size: usize, out: &mut [u8])
+    requires next { IfSome head.now.next (λ at. at.cell < 28) }
+    requires fits { size ≤ 272 }
+    requires room { 20 ≤ length out.old }
+    ensures head { HasHead out.new head.now size }
+    ensures others { drop 20 out.new ≡ drop 20 out.old }
+    ensures len { length out.new ≡ length out.old }
+{
+    let (vol, cell, page) = address_of(&head.next);
+    let numbers = [
+        0,
+        u64::from(vol),
+        u64::from(cell),
+        u64::from(page),
+        u64::from(head.slot),
+        u64::from(head.seq),
+        u64::from(fileset_number(&head.fileset)),
+        u64::from(kind_number(head.kind)),
+        size as u64,
+        0,
+    ];
+    put(&HEAD, &numbers, out);
+}
+
+/// Writes a record to the front of the bytes, and says how many bytes it took.
+fn put_record(value: &Record, out: &mut [u8]) -> usize
+    requires good { Allowed value.now }
+    requires room { length (spelling value.now) ≤ length out.old }
+    ensures size { result ≡ length (spelling value.now) }
+    ensures written { out.new ≡ spelling value.now ++ drop result out.old }
+{
+    write_record(value, out)
+}
+
+/// Writes records one after the other, and says how many bytes they took.
+fn put_records(records: &[Record], out: &mut [u8]) -> usize
+    requires good { AreRecords records.now }
+    requires room { length (spellings records.now) ≤ length out.old }
+    ensures size { result ≡ length (spellings records.now) }
+    ensures written { out.new ≡ spellings records.now ++ drop result out.old }
+{
+    let mut at = 0;
+    for value in records {
+        at += put_record(value, &mut out[at..]);
+    }
+    at
+}
+
+/// Makes zeros the bytes of a cell: its head, its records, and zeros.
+fn put_cell(head: &CellHead, records: &[Record], out: &mut [u8])
+    requires zeros { out.old ≡ zero_bytes 292 }
+    requires room { length out.old ≡ 292 }
+    requires next { IfSome head.now.next (λ at. at.cell < 28) }
+    requires good { AreRecords records.now }
+    requires fits { length (spellings records.now) ≤ 272 }
+    ensures cell { IsCell out.new (record { head = head.now; records = records.now }) }
+    ensures len { length out.new ≡ 292 }
+{
+    let size = put_records(records, &mut out[20..]);
+    put_head(head, size, out);
+}
+
+/// How many cells of a page have the kind of a free one.
+fn free_cells(page: &[u8]) -> u16
+    requires { length page.now ≡ 8192 }
+    ensures { result ≡ free_there page.now }
+{
+    let mut count = 0;
+    for cell in 0..CELLS {
+        if page[31 + CELL_BYTES * cell] == 0 {
+            count += 1;
+        }
+    }
+    count
+}
+
+/// Makes the page's count of free cells what it is.
+fn recount(page: &mut Page)
+    ensures { page.new ≡ recounted page.old }
+{
+    let mut count = [0; 2];
+    LittleEndian::write_u16(&mut count, free_cells(page.bytes()));
+    page.set(12, &count);
+}
+
+/// The home of a cell's page.
+fn home_of(at: &CellAt) -> Home
+    ensures { result ≡ home_there at.now }
+{
+    Home {
+        vol: at.vol,
+        page: at.page,
+    }
+}
+
+/// Changes the bytes of a cell in place.
+fn change_cell<M: MetaPages>(pages: &mut M, at: &CellAt, bytes: &[u8])
+    requires place { HasPlace (M.pages pages.old) at.now }
+    requires len { length bytes.now ≡ 292 }
+    ensures changes { ChangesCell at.now bytes.now (M.pages pages.old) (M.pages pages.new) }
+    ensures room { M.room pages.new ≡ M.room pages.old }
+{
+    if let Some(mut page) = pages.take_off(home_of(at)) {
+        page.set(16 + CELL_BYTES * usize::from(at.cell), bytes);
+        recount(&mut page);
+        pages.put(home_of(at), page);
+    }
+}
+
+/// Writes a cell in use, whatever stood there, and makes the count of its page's free cells what it
+/// then is. Every other cell stays. The page of cells is there, records are in their order and of at
+/// most 272 bytes together. It takes no memory.
+pub fn write_cell<M: MetaPages>(pages: &mut M, at: CellAt, head: &CellHead, records: &RecordList)
+    requires place { HasPlace (M.pages pages.old) at }
+    requires next { IfSome head.now.next (λ at. at.cell < 28) }
+    requires good { AreRecords records.now }
+    requires fits { length (spellings records.now) ≤ 272 }
+    ensures stands { StandsAt (M.pages pages.new) at (record {
+      head = head.now;
+      records = records.now;
+    }) }
+    ensures others { LeavesOthers (is_at at) (M.pages pages.old) (M.pages pages.new) }
+    ensures well_formed { (home : Home) → IfSome (M.pages pages.old home) IsCellPage
+        → IfSome (M.pages pages.new home) IsCellPage }
+    ensures elsewhere { (home : Home) → same_home home (home_there at) ≡ false
+        → M.pages pages.new home ≡ M.pages pages.old home }
+    ensures room { M.room pages.new ≡ M.room pages.old }
+{
+    let mut bytes = [0; CELL_BYTES];
+    put_cell(head, records.as_slice(), &mut bytes);
+    change_cell(pages, &at, &bytes);
+}
