@@ -7,6 +7,8 @@ ghost use Rattle.text_laws.specs.Said.{IsWellFormed, Says};
 /// The text of a command, as a history writes it, says that very command by the table of commands,
 /// those on volumes among them. So no two commands have one text.
 pub fn printed_commands_are_read()
-    ensures said { (command : CommandOf) → IsWellFormed command → Says (command_text command) command }
-    ensures one { (command other : CommandOf) → IsWellFormed command → IsWellFormed other → command_text command ≡ command_text other → command ≡ other }
+    ensures said { (command : CommandOf) → IsWellFormed command
+        → Says (command_text command) command }
+    ensures one { (command other : CommandOf) → IsWellFormed command → IsWellFormed other
+        → command_text command ≡ command_text other → command ≡ other }
 {}
