@@ -9,6 +9,8 @@ ghost use Rattle.std.specs.Prelude.{
   List,
   min,
   take,
+  Ok,
+  None,
   Some,
   IfOk,
   OnOk,
@@ -122,6 +124,7 @@ pub fn read_label<R: Rack>(rack: &mut R, vol: VolIx) -> Result<Option<Label>, Vo
     ensures label { let old = R.disk rack.old in IfOk result (λ label. Tells old
         → 1 ≤ volume_pages old.sizes vol
         → IsLabelOf (volume_pages old.sizes vol) vol (label_block old.now.contents vol) label) }
+    ensures empty { volume_pages (R.disk rack.old).sizes vol ≡ 0 → result ≡ Ok None }
     ensures fault { NamesReadFault (R.disk rack.old) (R.disk rack.new) result }
 {
     let available = rack.pages(vol);

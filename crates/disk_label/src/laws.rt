@@ -8,8 +8,7 @@ ghost use Rattle.disk_label.specs.declared.anchor.Anchor.{Anchor};
 /// Laws of anchors. An anchor depends on the pages of anchors alone: images that agree there have
 /// the same one (`depends`). What `read_anchor` answers on a rack on which nothing is pending there
 /// is what each image has that a stop may leave (`shows`). And a slot that is ready stays so while
-/// each image agrees there with one that might have been left before, as it does after calls that
-/// touch none of these pages (`stays`).
+/// each image agrees there with one that might have been left before (`stays`).
 pub fn anchor_laws()
     ensures depends { (old new : Image) → AnchorStays old new }
     ensures shows { (disk : Disk) (anchor : Option Anchor) → ShowsAnchor disk anchor }
