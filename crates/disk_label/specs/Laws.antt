@@ -1,7 +1,8 @@
 -- What holds of anchors, whatever calls are made.
 use Rattle.std.specs.Prelude.{◌≡◌, ℕ, false, List, Option}
-use Rattle.volume_disk.specs.Disk.{Disk, MayLeave}
+use Rattle.volume_disk.specs.Disk.{Disk, MayLeave, Tells}
 use Rattle.volume_disk.specs.Image.{Image, SameIn}
+use Rattle.volume_disk.specs.Run.{Touches}
 use Rattle.disk_label.specs.Anchor.{IsAnchor}
 use Rattle.disk_label.specs.Slot.{HasAnchor, IsOnAnchors, IsReady}
 use Rattle.disk_label.specs.declared.anchor.Anchor.{Anchor}
@@ -26,6 +27,11 @@ abbrev pub KeepsAnchors : Disk → Disk → Type 0
 KeepsAnchors old new =
     (image : Image) → MayLeave new.now image
     → (before : Image) × MayLeave old.now before × SameIn IsOnAnchors before image
+
+-- so it is after calls that touch none of these pages
+abbrev pub LeavesAnchors : Disk → Disk → Type 0
+LeavesAnchors old new =
+    Tells old → Touches old new (λ v k. ¬ IsOnAnchors v k) → KeepsAnchors old new
 
 -- a slot that was ready is so still
 abbrev pub StaysReady : Disk → Disk → Option Anchor → ℕ → ℕ → Type 0

@@ -2,16 +2,18 @@
 ghost use Rattle.std.specs.Prelude.{ℕ, Option};
 ghost use Rattle.volume_disk.specs.Disk.{Disk};
 ghost use Rattle.volume_disk.specs.Image.{Image};
-ghost use Rattle.disk_label.specs.Laws.{AnchorStays, ShowsAnchor, StaysReady};
+ghost use Rattle.disk_label.specs.Laws.{AnchorStays, LeavesAnchors, ShowsAnchor, StaysReady};
 ghost use Rattle.disk_label.specs.declared.anchor.Anchor.{Anchor};
 
 /// Laws of anchors. An anchor depends on the pages of anchors alone: images that agree there have
 /// the same one (`depends`). What `read_anchor` answers on a rack on which nothing is pending there
 /// is what each image has that a stop may leave (`shows`). And a slot that is ready stays so while
-/// each image agrees there with one that might have been left before (`stays`).
+/// each image agrees there with one that might have been left before (`stays`), as it does after
+/// calls that touch none of these pages (`beside`).
 pub fn anchor_laws()
     ensures depends { (old new : Image) → AnchorStays old new }
     ensures shows { (disk : Disk) (anchor : Option Anchor) → ShowsAnchor disk anchor }
     ensures stays { (old new : Disk) (anchor : Option Anchor) (vol slot : ℕ)
         → StaysReady old new anchor vol slot }
+    ensures beside { (old new : Disk) → LeavesAnchors old new }
 {}

@@ -1,4 +1,5 @@
-use Rattle.disk_label.proofs.Elsewhere.{IsAnchor-elsewhere, IsReady-elsewhere, shows_anchor}
+use Rattle.disk_label.proofs.Elsewhere.{IsAnchor-elsewhere, IsReady-elsewhere, keeps_anchors, shows_anchor}
+use Rattle.disk_label.specs.Slot.{IsOnAnchors}
 use Rattle.disk_label.proofs.laws.anchor_laws.Goals as goal
 
 pub returns-clause-depends : goal.returns-clause-depends
@@ -9,3 +10,6 @@ returns-clause-shows c = shows_anchor
 
 pub returns-clause-stays : goal.returns-clause-stays
 returns-clause-stays c = IsReady-elsewhere
+
+pub returns-clause-beside : goal.returns-clause-beside
+returns-clause-beside c = λ old new told touches. keeps_anchors old new (λ v k. ¬ IsOnAnchors v k) told touches (λ v k is. is)
