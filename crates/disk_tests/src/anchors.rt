@@ -24,7 +24,7 @@ const OPEN: Member = Member {
 fn anchor(number: u64, log_vol: u32, slot: u8) -> Anchor {
     Anchor {
         number,
-        version: 3,
+        version: if number % 2 == 0 { 4 } else { 3 },
         log_vol,
         log_page: 4,
         log_pages: 128,
