@@ -1,4 +1,4 @@
--- Histories over filesets without volumes.
+-- Who gives which command, the histories that answer a script, and that they are legal.
 use Rattle.std.specs.Prelude.{◌≡◌, ℕ, ◌==◌, if◌then◌else◌, None, List, [], ◌∷◌, ◌++◌, map as map_list, filter, All}
 use Rattle.std.specs.FinMap as map
 use Rattle.std.specs.List.{flat_map}
