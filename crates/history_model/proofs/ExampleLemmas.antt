@@ -7,7 +7,7 @@ use Rattle.std.specs.FinMap as map
 use Rattle.domain_base.specs.declared.version.Version.{Version}
 use Rattle.history_model.specs.AfterStop.{AfterStop, IsLoose}
 use Rattle.history_model.proofs.AlikeLemmas.{looks_like_itself, same_as_itself}
-use Rattle.history_model.proofs.MapLemmas.{get-insert_other}
+use Rattle.fileset_model.proofs.MapLemmas.{get-insert_other}
 use Rattle.history_model.specs.AfterStop.Found.{there}
 use Rattle.history_model.specs.Example.{two_filesets, with_empty}
 use Rattle.history_model.specs.Legal.{Chain, MayFollow}

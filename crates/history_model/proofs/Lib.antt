@@ -1,4 +1,3 @@
 pub mod AlikeLemmas
 pub mod ChainLemmas
 pub mod ExampleLemmas
-pub mod MapLemmas
