@@ -4,6 +4,7 @@ ghost use Rattle.std.specs.Prelude.{◌≡◌, ℕ, false, [], ◌∷◌, IfOk, 
 ghost use Rattle.std.specs.Process.{exit_status};
 ghost use Rattle.memory_disk.specs.Memory.{memory_disk, started};
 ghost use Rattle.advfs_run.specs.Exit.{exit_number};
+ghost use Rattle.advfs_run.specs.declared.status.Status.{Status as StatusOf};
 ghost use Rattle.advfs_run.specs.Usage.{form_of};
 
 use crate::gates::NoGate;
@@ -110,8 +111,10 @@ fn tell(rt: &impl Eprint, status: Status) -> io::Result<()> {
     }
 }
 
-/// The whole program, with the number with which it ends.
-pub fn program(rt: &(impl Env + Input + Print + Eprint), alloc: Global) -> ExitCode {
+/// The whole program, with the number with which it ends: that of a status.
+pub fn program(rt: &(impl Env + Input + Print + Eprint), alloc: Global) -> ExitCode
+    ensures { (status : StatusOf) × (exit_status result ≡ exit_number status) }
+{
     let status = start(rt, alloc).unwrap_or(Status::OutOfMemory);
     let _ = tell(rt, status);
     exit_code(status)
