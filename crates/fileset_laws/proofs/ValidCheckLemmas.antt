@@ -11,7 +11,7 @@ use Rattle.std.specs.FinMap as map
 use Rattle.std.specs.FinMap.Entries.{find}
 use Rattle.fileset_model.specs.Orders.{Name, Path, path_cmp, path_cmp-IsAntisymmetric}
 use Rattle.fileset_model.specs.Fileset.{Fileset}
-use Rattle.fileset_model.specs.Paths.{directory_here, directory_refusal, first_refusal, is_directory, is_marked, name_below, node_at, refuse_if, rows_of, target_refusal, walk_refusal}
+use Rattle.fileset_model.specs.Paths.{directory_here, directory_refusal, first_refusal, is_directory, is_out_of_sync_at, name_below, node_at, refuse_if, rows_of, target_refusal, walk_refusal}
 use Rattle.fileset_laws.specs.Valid.{IsDirectoryAt, IsValidFileset}
 use Rattle.fileset_model.specs.Apply.{not_empty, path_taken}
 use Rattle.fileset_model.specs.declared.fileset.FilesetSlot.{FilesetSlot}
@@ -36,10 +36,10 @@ passed_each check (x ∷ xs) h (suc i) d within = passed_each check xs (passed (
 
 passed_directory : (slot : FilesetSlot) (path : Path) → directory_refusal slot path ≡ None → IsDirectoryAt slot.tree path
 passed_directory slot path h =
-    elim (node_at slot.tree path) as (λ o. option_map_or (λ node. first_refusal (refuse_if (not (is_directory node)) NotDirectory ∷ refuse_if (is_marked slot path) OutOfSync ∷ [])) o (Some NoPath) ≡ None
+    elim (node_at slot.tree path) as (λ o. option_map_or (λ node. first_refusal (refuse_if (not (is_directory node)) NotDirectory ∷ refuse_if (is_out_of_sync_at slot path) OutOfSync ∷ [])) o (Some NoPath) ≡ None
     → IsSomeAnd o (λ node. IsTrue (is_directory node))) [
       | None ↦ λ none. absurd (some≢none NoPath none)
-      | Some node ↦ λ none. not-false (is_directory node) (passed_test (not (is_directory node)) NotDirectory (passed (refuse_if (not (is_directory node)) NotDirectory) (refuse_if (is_marked slot path) OutOfSync ∷ []) none).0)
+      | Some node ↦ λ none. not-false (is_directory node) (passed_test (not (is_directory node)) NotDirectory (passed (refuse_if (not (is_directory node)) NotDirectory) (refuse_if (is_out_of_sync_at slot path) OutOfSync ∷ []) none).0)
     ] h
 
 pub passed_walk : (slot : FilesetSlot) (path front : Path) (name : Name) → walk_refusal slot path ≡ None → front ++ name ∷ [] ≡ path → IsDirectoryAt slot.tree front

@@ -10,7 +10,8 @@ use Rattle.fileset_model.specs.contracts.command.Owner as owner
 use Rattle.fileset_model.specs.contracts.node.Node as node
 use Rattle.fileset_model.specs.contracts.fileset.Limits as limits
 
--- from paths to the numbers of files and directories, from numbers to what they are, and from owners to their limits
+-- from paths to the numbers of files and directories, from numbers to what they are, and from
+-- owners to their limits
 pub record Fileset : Type 0 where
   pub paths : map.FinMap path_cmp ℕ
   pub nodes : map.FinMap nat_cmp Node

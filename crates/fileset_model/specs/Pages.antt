@@ -13,25 +13,32 @@ Pages = FinMap nat_cmp (List ℕ)
 
 -- what is read at an offset: a byte of the page there, or 0 where there is no page
 abbrev pub byte_at : Pages → ℕ → ℕ
-byte_at pages x = option_map_or (λ page. slice_index page (x % PAGE_BYTES)) (get pages (x / PAGE_BYTES)) 0
+byte_at pages x =
+    option_map_or (λ page. slice_index page (x % PAGE_BYTES)) (get pages (x / PAGE_BYTES)) 0
 
 -- what a read of `count` bytes at an offset gives of a file of that size
 abbrev pub bytes_between : Pages → ℕ → ℕ → ℕ → List ℕ
-bytes_between pages size offset count = map (byte_at pages) (range_with_len offset (min count (size - offset)))
+bytes_between pages size offset count =
+    map (byte_at pages) (range_with_len offset (min count (size - offset)))
 
 -- the numbers of the pages that so many bytes from the offset on lie in
 abbrev pub pages_of : ℕ → ℕ → List ℕ
-pages_of offset len = if len == 0 then [] else range_with_len (offset / PAGE_BYTES) (suc ((offset + len - 1) / PAGE_BYTES) - offset / PAGE_BYTES)
+pages_of offset len =
+    let first = offset / PAGE_BYTES in
+    let last = (offset + len - 1) / PAGE_BYTES in
+    if len == 0 then [] else range_with_len first (suc last - first)
 
 -- how many of the pages that so many bytes from the offset on lie in are absent
 abbrev pub absent_pages : Pages → ℕ → ℕ → ℕ
 absent_pages pages offset len = count_by (λ q. not (contains_key pages q)) (pages_of offset len)
 
--- page q after a write of the bytes at the offset: those of them that lie in it are laid over it, or over zeros where it was absent
+-- page q after a write of the bytes at the offset: those of them that lie in it are laid over it,
+-- or over zeros where it was absent
 abbrev pub page_after : Pages → ℕ → List ℕ → ℕ → List ℕ
 page_after pages offset bytes q =
     let at = offset - q * PAGE_BYTES in
-    overwritten (unwrap_or (get pages q) (zero_bytes PAGE_BYTES)) at (take (PAGE_BYTES - at) (drop (q * PAGE_BYTES - offset) bytes))
+    overwritten (unwrap_or (get pages q) (zero_bytes PAGE_BYTES)) at
+    (take (PAGE_BYTES - at) (drop (q * PAGE_BYTES - offset) bytes))
 
 -- the map with each of these pages in place of what it had at their numbers
 abbrev pub with_pages : List (ℕ × List ℕ) → Pages → Pages
@@ -40,11 +47,17 @@ with_pages (e ∷ es) pages = with_pages es (insert pages e.0 e.1)
 
 -- the pages after a write of the bytes at the offset
 abbrev pub written : Pages → ℕ → List ℕ → Pages
-written pages offset bytes = with_pages (map (λ q. (q, page_after pages offset bytes q)) (pages_of offset (length bytes))) pages
+written pages offset bytes =
+    with_pages
+    (map (λ q. (q, page_after pages offset bytes q)) (pages_of offset (length bytes))) pages
 
--- what is left of the pages of a file that is cut: none that begins behind its end, and nothing but zeros behind its end in the last one
+-- what is left of the pages of a file that is cut: none that begins behind its end, and nothing but
+-- zeros behind its end in the last one
 abbrev pub truncated : Pages → ℕ → Pages
 truncated pages size =
     let kept = retain_keys pages (λ q. nat_lt (q * PAGE_BYTES) size) in
+    let last = size / PAGE_BYTES in
     let at = size % PAGE_BYTES in
-    option_map_or (λ page. insert kept (size / PAGE_BYTES) (overwritten page at (zero_bytes (PAGE_BYTES - at)))) (get kept (size / PAGE_BYTES)) kept
+    option_map_or
+    (λ page. insert kept last (overwritten page at (zero_bytes (PAGE_BYTES - at))))
+    (get kept last) kept

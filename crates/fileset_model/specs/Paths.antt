@@ -46,13 +46,16 @@ is_out_of_sync Original number = false
 is_out_of_sync (CloneOf original out) number = contains_key out number
 
 -- the same of what a path leads to
-abbrev pub is_marked : FilesetSlot → Path → Bool
-is_marked slot path = option_map_or (is_out_of_sync slot.role) (get slot.tree.paths path) false
+abbrev pub is_out_of_sync_at : FilesetSlot → Path → Bool
+is_out_of_sync_at slot path =
+    option_map_or (is_out_of_sync slot.role) (get slot.tree.paths path) false
 
 -- what keeps a command from looking a name up in the directory at this path
 abbrev pub directory_refusal : FilesetSlot → Path → Option Refusal
 directory_refusal slot path =
-    option_map_or (λ node. first_refusal (refuse_if (not (is_directory node)) NotDirectory ∷ refuse_if (is_marked slot path) OutOfSync ∷ []))
+    let out_of_sync = refuse_if (is_out_of_sync_at slot path) OutOfSync in
+    option_map_or
+    (λ node. first_refusal (refuse_if (not (is_directory node)) NotDirectory ∷ out_of_sync ∷ []))
     (node_at slot.tree path) (Some NoPath)
 
 -- the paths of the directories that a path leads through, from the root on
@@ -65,14 +68,19 @@ walk_refusal slot path = first_refusal (map (directory_refusal slot) (directorie
 
 -- the same, and no-path where the last name is missing
 abbrev pub target_refusal : FilesetSlot → Path → Option Refusal
-target_refusal slot path = first_refusal (walk_refusal slot path ∷ refuse_if (not (contains_key slot.tree.paths path)) NoPath ∷ [])
+target_refusal slot path =
+    first_refusal
+    (walk_refusal slot path ∷ refuse_if (not (contains_key slot.tree.paths path)) NoPath ∷ [])
 
 -- the refusal where a path leads to a directory, and the one where it leads to a file
 abbrev pub directory_here : FilesetSlot → Path → Option Refusal
-directory_here slot path = refuse_if (option_map_or is_directory (node_at slot.tree path) false) IsDirectory
+directory_here slot path =
+    refuse_if (option_map_or is_directory (node_at slot.tree path) false) IsDirectory
 
 abbrev pub file_here : FilesetSlot → Path → Option Refusal
-file_here slot path = refuse_if (option_map_or (λ node. not (is_directory node)) (node_at slot.tree path) false) NotDirectory
+file_here slot path =
+    refuse_if (option_map_or (λ node. not (is_directory node)) (node_at slot.tree path) false)
+    NotDirectory
 
 -- whether a path begins with another
 abbrev pub begins_with : Path → Path → Bool
@@ -93,7 +101,12 @@ rows_of tree parent = filter_map (λ e. row e.0 e.1) (entries tree.paths)
   where
     row : Path → ℕ → Option NameItem
     row path number =
-        option_and_then (λ name. Some (record { name = name; directory = option_map_or is_directory (get tree.nodes number) false })) (name_below parent path)
+        option_and_then
+        (λ name. Some (record {
+          name = name;
+          directory = option_map_or is_directory (get tree.nodes number) false;
+        }))
+        (name_below parent path)
 
 -- how many paths lead to a number
 abbrev pub paths_to : Fileset → ℕ → ℕ
@@ -101,4 +114,7 @@ paths_to tree number = count_by (λ e. e.1 == number) (entries tree.paths)
 
 -- whether two paths of a fileset lead to one number
 abbrev pub names_one : Fileset → Path → Path → Bool
-names_one tree path other = same_path path other || (option_map_or (λ number. option_map_or (λ n. n == number) (get tree.paths other) false) (get tree.paths path) false)
+names_one tree path other =
+    let leads_to : ℕ → Bool =
+    λ number. option_map_or (λ n. n == number) (get tree.paths other) false in
+    same_path path other || option_map_or leads_to (get tree.paths path) false

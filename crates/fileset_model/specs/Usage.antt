@@ -31,7 +31,8 @@ blocks_of (Directory uid gid) = 0
 
 -- whether a file or directory counts for the owner: it is the owner's, and not the root
 abbrev pub counts_for : Owner → Option ℕ → ℕ × Node → Bool
-counts_for who root e = is_owners who e.1 && not (option_map_or (λ number. number == e.0) root false)
+counts_for who root e =
+    is_owners who e.1 && not (option_map_or (λ number. number == e.0) root false)
 
 -- the owner's files and directories but for the root, each once, however many paths lead to it
 abbrev pub owned : Fileset → Owner → List (ℕ × Node)
@@ -53,7 +54,8 @@ is_unlimited limits = limits.files == 0 && limits.blocks == 0
 
 -- the limits of owners with these of one of them, who has no entry where they bind nothing
 abbrev pub with_limits : map.FinMap owner_cmp Limits → Owner → Limits → map.FinMap owner_cmp Limits
-with_limits all who limits = if is_unlimited limits then map.remove all who else map.insert all who limits
+with_limits all who limits =
+    if is_unlimited limits then map.remove all who else map.insert all who limits
 
 -- whether so many more would pass a limit
 abbrev pub passes : ℕ → ℕ → ℕ → Bool

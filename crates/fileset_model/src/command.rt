@@ -66,7 +66,9 @@ impl Eq for Owner {
 impl PartialOrd for Owner {
     ghost partial_cmp = { as_partial_cmp owner_cmp };
 
-    ghost laws = { partial_order_from_own_ties (Prim.search (comparing, rules)) (Prim.search (comparing, rules)) };
+    ghost laws = { partial_order_from_own_ties
+        (Prim.search (comparing, rules))
+        (Prim.search (comparing, rules)) };
 
     fn partial_cmp(&self, other: &Owner) -> Option<Ordering> {
         Some(self.cmp(other))

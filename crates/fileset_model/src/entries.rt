@@ -1,4 +1,5 @@
-//! Lists of entries in the order of their keys, each list seen as the map from its keys to their values.
+//! Lists of entries in the order of their keys, each list seen as the map from its keys to their
+//! values.
 ghost use Rattle.std.specs.Prelude.{◌+◌, ◌<◌, ◌≡◌, ◌≤◌, IfErr, IfOk, IsOk, IsTrue, OnErr, OnOk, not, option_copied, vec_capacity, vec_len};
 ghost use Rattle.std.specs.Ordering.{eq_by_cmp};
 ghost use Rattle.std.specs.FinMap.Entries.{find as found_at, is_sorted, put as put_at, where_key};
@@ -61,7 +62,8 @@ pub(crate) fn put<K: Ord + Drop, V: Drop>(
 /// Takes away the entry with this key, if there is one.
 pub(crate) fn remove_key<K: Ord + Drop, V: Drop>(entries: &mut Vec<(K, V)>, key: &K)
     requires { IsTrue (is_sorted K.cmp entries.old.items) }
-    ensures items { entries.new.items ≡ where_key K.cmp (λ other. not (eq_by_cmp K.cmp key.now other)) entries.old.items }
+    ensures items { entries.new.items
+        ≡ where_key K.cmp (λ other. not (eq_by_cmp K.cmp key.now other)) entries.old.items }
     ensures sorted { IsTrue (is_sorted K.cmp entries.new.items) }
 {
     entries.retain(|entry| key.cmp(&entry.0).is_ne());

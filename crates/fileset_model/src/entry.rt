@@ -1,7 +1,8 @@
 use crate::command::{Actor, Command};
 use crate::reply::Reply;
 
-/// A command of a history with its reply. The stamp is the number of device calls when it was answered.
+/// A command of a history with its reply. The stamp is the number of device calls when it was
+/// answered.
 #[derive(Drop)]
 pub struct Entry {
     pub actor: Actor,

@@ -120,7 +120,8 @@ impl FilesetTree {
     /// A number that is at least `least` and above all numbers in use.
     pub(crate) fn number_above(&self, least: u64) -> Result<u64, OutOfMemory>
         ensures least { IfOk result (λ number. least ≤ number) }
-        ensures above { IfOk result (λ number. (k : ℕ) → number ≤ k → map.get self.now.nodes k ≡ None) }
+        ensures above { IfOk result (λ number.
+            (k : ℕ) → number ≤ k → map.get self.now.nodes k ≡ None) }
     {
         let mut number = least;
         for (used, _) in &self.nodes {
@@ -149,7 +150,8 @@ impl FilesetTree {
         bytes: &[u8],
     ) -> Result<(), OutOfMemory>
         requires { offset + length bytes.now ≤ FILE_BYTES }
-        ensures ok { OnOk result (self.new ≡ with_change path.now (written_node offset bytes.now) self.old) }
+        ensures ok { OnOk result
+            (self.new ≡ with_change path.now (written_node offset bytes.now) self.old) }
         ensures err { OnErr result (self.new ≡ self.old) }
     {
         let Some(number) = self.number_at(path) else {
@@ -316,7 +318,8 @@ impl FilesetTree {
     /// Sets an owner's limits; an owner whose limits bind nothing has no entry. After an error the
     /// tree is as before.
     pub fn limit(&mut self, who: Owner, limits: Limits) -> Result<(), OutOfMemory>
-        ensures ok { OnOk result (self.new ≡ record self.old { limits = with_limits self.old.limits who limits }) }
+        ensures ok { OnOk result
+            (self.new ≡ record self.old { limits = with_limits self.old.limits who limits }) }
         ensures err { OnErr result (self.new ≡ self.old) }
     {
         if limits.is_unlimited() {
@@ -330,7 +333,10 @@ impl FilesetTree {
     /// A clone of the fileset with this name and tree. It has no limits, and no number of it lost
     /// its frozen content.
     pub fn clone_of(&self, alloc: Global, name: &FilesetName) -> Result<FilesetSlot, OutOfMemory>
-        ensures { IfOk result (λ slot. slot ≡ record { tree = record self.now { limits = map.empty }; role = CloneRole name.now map.empty }) }
+        ensures { IfOk result (λ slot. slot ≡ record {
+          tree = record self.now { limits = map.empty };
+          role = CloneRole name.now map.empty;
+        }) }
     {
         let tree = self.frozen(alloc)?;
         let role = Role::CloneOf {
@@ -395,7 +401,10 @@ fn moved_paths(
     from: &Path,
     to: &Path,
 ) -> Result<Vec<(Path, u64)>, OutOfMemory>
-    ensures { IfOk result (λ v. v.items ≡ map.entries (map.from_entries {R = path_cmp} (map_each (λ e. (moved_path from.now to.now e.0, e.1)) (where_key path_cmp (λ path. not (eq_by_cmp path_cmp to.now path)) paths.now)))) }
+    ensures { IfOk result (λ v. v.items ≡ map.entries (map.from_entries {R = path_cmp}
+        (map_each
+        (λ e. (moved_path from.now to.now e.0, e.1))
+        (where_key path_cmp (λ path. not (eq_by_cmp path_cmp to.now path)) paths.now)))) }
 {
     let mut moved = Vec::new(alloc);
     for i in (0..paths.len()).rev() {
@@ -485,8 +494,10 @@ fn node_blocks(node: &Node) -> Result<u64, OutOfMemory>
 
 /// What an owner uses of these nodes, of which the root does not count.
 fn usage_of(nodes: &[(u64, Node)], who: Owner, root: Option<u64>) -> Result<Usage, OutOfMemory>
-    ensures files { IfOk result (λ usage. usage.files ≡ length (filter (counts_for who root) nodes.now)) }
-    ensures blocks { IfOk result (λ usage. usage.blocks ≡ sum_by (λ e. blocks_of e.1) (filter (counts_for who root) nodes.now)) }
+    ensures files { IfOk result (λ usage.
+        usage.files ≡ length (filter (counts_for who root) nodes.now)) }
+    ensures blocks { IfOk result (λ usage.
+        usage.blocks ≡ sum_by (λ e. blocks_of e.1) (filter (counts_for who root) nodes.now)) }
 {
     let mut usage = Usage {
         files: 0,

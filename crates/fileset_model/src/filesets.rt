@@ -75,7 +75,8 @@ impl Filesets {
 
     /// Adds a fileset with an empty root. After an error the filesets are as before.
     pub fn make(&mut self, alloc: Global, name: &FilesetName) -> Result<(), OutOfMemory>
-        ensures ok { OnOk result (self.new ≡ map.insert self.old name.now (record { tree = empty_fileset 0; role = OriginalRole })) }
+        ensures ok { OnOk result (self.new ≡ map.insert self.old name.now
+            (record { tree = empty_fileset 0; role = OriginalRole })) }
         ensures err { OnErr result (self.new ≡ self.old) }
     {
         let tree = FilesetTree::empty(alloc, 0)?;
@@ -89,7 +90,9 @@ impl Filesets {
 
     /// A number that no file or directory of any fileset has.
     pub fn unused_number(&self) -> Result<u64, OutOfMemory>
-        ensures { IfOk result (λ number. (name : List ℕ) (slot : SlotOf) → map.get self.now name ≡ Some slot → map.get slot.tree.nodes number ≡ None) }
+        ensures { IfOk result (λ number.
+            (name : List ℕ) (slot : SlotOf) → map.get self.now name ≡ Some slot
+            → map.get slot.tree.nodes number ≡ None) }
     {
         let mut number = 1;
         for (_, slot) in &self.slots {
@@ -107,7 +110,8 @@ impl Filesets {
         number: u64,
         node: Node,
     ) -> Result<(), OutOfMemory>
-        ensures ok { OnOk result (self.new ≡ with_tree self.old place.now.fileset (with_node place.now.path number node)) }
+        ensures ok { OnOk result (self.new
+            ≡ with_tree self.old place.now.fileset (with_node place.now.path number node)) }
         ensures err { OnErr result (self.new ≡ self.old) }
     {
         let Ok(at) = place_of(&self.slots, &place.fileset) else {
@@ -128,7 +132,8 @@ impl Filesets {
         bytes: &[u8],
     ) -> Result<(), OutOfMemory>
         requires { offset + length bytes.now ≤ FILE_BYTES }
-        ensures ok { OnOk result (self.new ≡ with_tree self.old place.now.fileset (with_change place.now.path (written_node offset bytes.now))) }
+        ensures ok { OnOk result (self.new ≡ with_tree self.old place.now.fileset
+            (with_change place.now.path (written_node offset bytes.now))) }
         ensures err { OnErr result (self.new ≡ self.old) }
     {
         let Ok(at) = place_of(&self.slots, &place.fileset) else {
@@ -144,7 +149,8 @@ impl Filesets {
     /// Sets the size of the file at a place; where there is no such fileset, nothing changes. After
     /// an error the filesets are as before.
     pub fn truncate(&mut self, alloc: Global, place: &Place, size: u64) -> Result<(), OutOfMemory>
-        ensures ok { OnOk result (self.new ≡ with_tree self.old place.now.fileset (with_change place.now.path (truncated_node size))) }
+        ensures ok { OnOk result (self.new ≡ with_tree self.old place.now.fileset
+            (with_change place.now.path (truncated_node size))) }
         ensures err { OnErr result (self.new ≡ self.old) }
     {
         let Ok(at) = place_of(&self.slots, &place.fileset) else {
@@ -157,7 +163,8 @@ impl Filesets {
     /// Sets whether the data of the file at a place is logged; where there is no such fileset,
     /// nothing changes.
     pub fn set_logged(&mut self, place: &Place, logged: bool)
-        ensures { self.new ≡ with_tree self.old place.now.fileset (with_change place.now.path (flagged_node logged)) }
+        ensures { self.new ≡ with_tree self.old place.now.fileset
+            (with_change place.now.path (flagged_node logged)) }
     {
         let Ok(at) = place_of(&self.slots, &place.fileset) else {
             return;
@@ -178,7 +185,8 @@ impl Filesets {
     /// Lets a second path lead to the file at a place; where there is no such fileset, nothing
     /// changes. After an error the filesets are as before.
     pub fn link(&mut self, alloc: Global, place: &Place, to: &Path) -> Result<(), OutOfMemory>
-        ensures ok { OnOk result (self.new ≡ with_tree self.old place.now.fileset (linked place.now.path to.now)) }
+        ensures ok { OnOk result
+            (self.new ≡ with_tree self.old place.now.fileset (linked place.now.path to.now)) }
         ensures err { OnErr result (self.new ≡ self.old) }
     {
         let Ok(at) = place_of(&self.slots, &place.fileset) else {
@@ -193,7 +201,8 @@ impl Filesets {
     /// there; where there is no such fileset, or both paths lead to one number, nothing changes.
     /// After an error the filesets are as before.
     pub fn rename(&mut self, alloc: Global, place: &Place, to: &Path) -> Result<(), OutOfMemory>
-        ensures ok { OnOk result (self.new ≡ with_tree self.old place.now.fileset (renamed place.now.path to.now)) }
+        ensures ok { OnOk result
+            (self.new ≡ with_tree self.old place.now.fileset (renamed place.now.path to.now)) }
         ensures err { OnErr result (self.new ≡ self.old) }
     {
         let Ok(at) = place_of(&self.slots, &place.fileset) else {
@@ -249,7 +258,8 @@ impl Filesets {
         who: Owner,
         limits: Limits,
     ) -> Result<(), OutOfMemory>
-        ensures ok { OnOk result (self.new ≡ with_tree self.old name.now (λ tree. record tree { limits = with_limits tree.limits who limits })) }
+        ensures ok { OnOk result (self.new ≡ with_tree self.old name.now
+            (λ tree. record tree { limits = with_limits tree.limits who limits })) }
         ensures err { OnErr result (self.new ≡ self.old) }
     {
         let Ok(at) = place_of(&self.slots, name) else {
@@ -261,7 +271,9 @@ impl Filesets {
 
     /// A row for each fileset, in the byte order of their names.
     pub fn items(&self, alloc: Global) -> Result<Vec<FilesetItem>, OutOfMemory>
-        ensures { IfOk result (λ v. v.items ≡ map_each (λ e. record { fileset = e.0; original = original_of e.1.role }) (map.entries self.now)) }
+        ensures { IfOk result (λ v. v.items ≡ map_each
+            (λ e. record { fileset = e.0; original = original_of e.1.role })
+            (map.entries self.now)) }
     {
         let mut items = Vec::new(alloc);
         for (name, slot) in &self.slots {

@@ -10,8 +10,8 @@ use std::alloc::Global;
 use std::cmp::Ordering;
 use std::marker::Model;
 
-/// What a fileset is called. Any bytes will do here; a script can give 31 characters at most, and at
-/// least one, out of letters, digits, underscores, hyphens and dots.
+/// What a fileset is called. Any bytes will do here; a script can give 31 characters at most, and
+/// at least one, out of letters, digits, underscores, hyphens and dots.
 #[derive(Debug, Drop)]
 pub struct FilesetName {
     bytes: Vec<u8>,
@@ -68,7 +68,9 @@ impl Eq for FilesetName {
 impl PartialOrd for FilesetName {
     ghost partial_cmp = { as_partial_cmp (slice_cmp nat_cmp) };
 
-    ghost laws = { partial_order_from_own_ties (Prim.search (comparing, rules)) (Prim.search (comparing, rules)) };
+    ghost laws = { partial_order_from_own_ties
+        (Prim.search (comparing, rules))
+        (Prim.search (comparing, rules)) };
 
     fn partial_cmp(&self, other: &FilesetName) -> Option<Ordering> {
         Some(self.cmp(other))
@@ -89,8 +91,9 @@ impl Ord for FilesetName {
     }
 }
 
-/// What a directory calls one of its files or directories. Any bytes will do here; a script can give
-/// 255 of them at most, and at least one, never a slash or a zero byte, and never one or two dots alone.
+/// What a directory calls one of its files or directories. Any bytes will do here; a script can
+/// give 255 of them at most, and at least one, never a slash or a zero byte, and never one or two
+/// dots alone.
 #[derive(Debug, Drop)]
 pub struct Name {
     bytes: Vec<u8>,
@@ -147,7 +150,9 @@ impl Eq for Name {
 impl PartialOrd for Name {
     ghost partial_cmp = { as_partial_cmp (slice_cmp nat_cmp) };
 
-    ghost laws = { partial_order_from_own_ties (Prim.search (comparing, rules)) (Prim.search (comparing, rules)) };
+    ghost laws = { partial_order_from_own_ties
+        (Prim.search (comparing, rules))
+        (Prim.search (comparing, rules)) };
 
     fn partial_cmp(&self, other: &Name) -> Option<Ordering> {
         Some(self.cmp(other))
@@ -246,7 +251,9 @@ impl Eq for Path {
 impl PartialOrd for Path {
     ghost partial_cmp = { as_partial_cmp (slice_cmp (slice_cmp nat_cmp)) };
 
-    ghost laws = { partial_order_from_own_ties (Prim.search (comparing, rules)) (lists_ties (slice_cmp nat_cmp) texts_ties) };
+    ghost laws = { partial_order_from_own_ties
+        (Prim.search (comparing, rules))
+        (lists_ties (slice_cmp nat_cmp) texts_ties) };
 
     fn partial_cmp(&self, other: &Path) -> Option<Ordering> {
         Some(self.cmp(other))

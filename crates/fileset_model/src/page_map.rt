@@ -56,7 +56,8 @@ impl PageMap {
     /// The bytes from the offset on, so many; those of absent pages are zeros.
     pub fn read(&self, alloc: Global, offset: u64, count: u64) -> Result<Vec<u8>, OutOfMemory>
         requires { offset + count < 2 ^ 64 }
-        ensures { IfOk result (λ v. v.items ≡ map_each (byte_of self.now) (range_with_len offset count)) }
+        ensures { IfOk result (λ v.
+            v.items ≡ map_each (byte_of self.now) (range_with_len offset count)) }
     {
         let zeros = Page::zeros(alloc)?;
         let mut bytes = Vec::new(alloc);
@@ -118,8 +119,8 @@ impl PageMap {
     }
 
     /// Cuts a file's pages at a size in bytes. A page that lies behind the size is dropped, and one
-    /// that it cuts in two keeps its front and has zeros from there on. After an error the pages are
-    /// as before.
+    /// that it cuts in two keeps its front and has zeros from there on. After an error the pages
+    /// are as before.
     pub fn truncate(&mut self, alloc: Global, size: u64) -> Result<(), OutOfMemory>
         ensures ok { OnOk result (self.new ≡ truncated self.old size) }
         ensures err { OnErr result (self.new ≡ self.old) }
@@ -152,7 +153,8 @@ fn is_absent(pages: &[(u64, Page)], q: u64) -> bool
 /// Page `q`, or these zeros where it is absent.
 fn page_or<'a>(pages: &'a [(u64, Page)], q: u64, zeros: &'a Page) -> &'a Page
     requires { IsTrue (is_sorted nat_cmp pages.now) }
-    ensures { result.now ≡ unwrap_or (map.get (map.from_sorted {R = nat_cmp} pages.now) q) zeros.now }
+    ensures { result.now
+        ≡ unwrap_or (map.get (map.from_sorted {R = nat_cmp} pages.now) q) zeros.now }
 {
     match find(pages, &q) {
         Some(page) => page,
@@ -164,7 +166,8 @@ fn page_or<'a>(pages: &'a [(u64, Page)], q: u64, zeros: &'a Page) -> &'a Page
 fn bytes_in_page<'a>(pages: &'a [(u64, Page)], x: u64, most: u64, zeros: &'a Page) -> &'a [u8]
     requires sorted { IsTrue (is_sorted nat_cmp pages.now) }
     requires zeros { zeros.now ≡ zero_bytes PAGE_BYTES }
-    ensures bytes { result.now ≡ map_each (byte_of (map.from_sorted pages.now)) (range_with_len x (length result.now)) }
+    ensures bytes { result.now
+        ≡ map_each (byte_of (map.from_sorted pages.now)) (range_with_len x (length result.now)) }
     ensures len { length result.now ≡ min most (PAGE_BYTES - x % PAGE_BYTES) }
 {
     let page = page_or(pages, x / PAGE_BYTES as u64, zeros);
@@ -182,7 +185,9 @@ fn pages_after(
 ) -> Result<Vec<(u64, Page)>, OutOfMemory>
     requires sorted { IsTrue (is_sorted nat_cmp pages.now) }
     requires fits { offset + length bytes.now ≤ FILE_BYTES }
-    ensures { IfOk result (λ v. v.items ≡ map_each (λ q. (q, bytes_after (map.from_sorted pages.now) offset bytes.now q)) (pages_of offset (length bytes.now))) }
+    ensures { IfOk result (λ v. v.items ≡ map_each
+        (λ q. (q, bytes_after (map.from_sorted pages.now) offset bytes.now q))
+        (pages_of offset (length bytes.now))) }
 {
     let mut changed = Vec::new(alloc);
     if bytes.is_empty() {
@@ -210,7 +215,8 @@ fn page_after(
     requires fits { q * PAGE_BYTES < 2 ^ 64 }
     requires reached { offset - q * PAGE_BYTES ≤ PAGE_BYTES }
     requires reaches { q * PAGE_BYTES - offset ≤ length bytes.now }
-    ensures { IfOk result (λ page. page ≡ bytes_after (map.from_sorted pages.now) offset bytes.now q) }
+    ensures { IfOk result (λ page.
+        page ≡ bytes_after (map.from_sorted pages.now) offset bytes.now q) }
 {
     let mut page = page_or_zeros(alloc, pages, q)?;
     let start = q * PAGE_BYTES as u64;
@@ -223,7 +229,9 @@ fn page_after(
 /// Page `q`, or a page of zeros where it is absent.
 fn page_or_zeros(alloc: Global, pages: &[(u64, Page)], q: u64) -> Result<Page, OutOfMemory>
     requires { IsTrue (is_sorted nat_cmp pages.now) }
-    ensures { IfOk result (λ page. page ≡ unwrap_or (map.get (map.from_sorted {R = nat_cmp} pages.now) q) (zero_bytes PAGE_BYTES)) }
+    ensures { IfOk result (λ page. page ≡ unwrap_or
+        (map.get (map.from_sorted {R = nat_cmp} pages.now) q)
+        (zero_bytes PAGE_BYTES)) }
 {
     match find(pages, &q) {
         Some(page) => page.copy(alloc),
@@ -255,7 +263,8 @@ fn begins_below(q: u64, size: u64) -> bool
 /// Keeps the pages that begin before the size.
 fn keep_below(pages: &mut Vec<(u64, Page)>, size: u64)
     requires { IsTrue (is_sorted nat_cmp pages.old.items) }
-    ensures items { pages.new.items ≡ where_key nat_cmp (λ q. nat_lt (q * PAGE_BYTES) size) pages.old.items }
+    ensures items { pages.new.items
+        ≡ where_key nat_cmp (λ q. nat_lt (q * PAGE_BYTES) size) pages.old.items }
     ensures sorted { IsTrue (is_sorted nat_cmp pages.new.items) }
 {
     pages.retain(|entry| begins_below(entry.0, size));
@@ -265,7 +274,12 @@ fn keep_below(pages: &mut Vec<(u64, Page)>, size: u64)
 fn zero_rest(pages: &mut Vec<(u64, Page)>, size: u64, zeros: &Page)
     requires sorted { IsTrue (is_sorted nat_cmp pages.old.items) }
     requires zeros { zeros.now ≡ zero_bytes PAGE_BYTES }
-    ensures items { pages.new.items ≡ option_map_or (λ page. put_at nat_cmp (size / PAGE_BYTES) (overwritten page (size % PAGE_BYTES) (zero_bytes (PAGE_BYTES - size % PAGE_BYTES))) pages.old.items) (found_at nat_cmp (size / PAGE_BYTES) pages.old.items) pages.old.items }
+    ensures items { pages.new.items ≡ option_map_or
+        (λ page. put_at nat_cmp (size / PAGE_BYTES)
+        (overwritten page (size % PAGE_BYTES) (zero_bytes (PAGE_BYTES - size % PAGE_BYTES)))
+        pages.old.items)
+        (found_at nat_cmp (size / PAGE_BYTES) pages.old.items)
+        pages.old.items }
     ensures sorted { IsTrue (is_sorted nat_cmp pages.new.items) }
 {
     let Ok(place) = place_of(pages, &(size / PAGE_BYTES as u64)) else {

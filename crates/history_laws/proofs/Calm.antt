@@ -10,7 +10,7 @@ use Rattle.fileset_model.specs.Apply.{AnswersIfMemory, Changes, answer_of, creat
 use Rattle.fileset_model.specs.Fileset.{Fileset}
 use Rattle.fileset_model.specs.Orders.{Name, Path}
 use Rattle.fileset_model.specs.Pages.{absent_pages}
-use Rattle.fileset_model.specs.Paths.{directories_to, directory_here, directory_refusal, file_here, first_refusal, is_directory, is_marked, node_at, paths_to, refuse_if, names_one, rows_of, target_refusal, walk_refusal}
+use Rattle.fileset_model.specs.Paths.{directories_to, directory_here, directory_refusal, file_here, first_refusal, is_directory, is_out_of_sync_at, node_at, paths_to, refuse_if, names_one, rows_of, target_refusal, walk_refusal}
 use Rattle.fileset_model.specs.Filesets.{FilesetMap}
 use Rattle.fileset_model.specs.Usage.{blocks_refusal, files_refusal, quota_refusal}
 use Rattle.fileset_model.specs.declared.command.Command.{Command}
@@ -70,8 +70,8 @@ mapped f each (x ∷ xs) = (each x, mapped f each xs)
 in_directory : (slot : FilesetSlot) (path : Path) → Check (directory_refusal slot path)
 unfolding IsCalm Check Checks
 in_directory slot path =
-    map_or Check (λ node. first_refusal (refuse_if (not (is_directory node)) NotDirectory ∷ refuse_if (is_marked slot path) OutOfSync ∷ [])) (node_at slot.tree path) (Some NoPath)
-    (λ node. first (refuse_if (not (is_directory node)) NotDirectory ∷ refuse_if (is_marked slot path) OutOfSync ∷ []) (refused_if _ _ tt, (refused_if _ _ tt, tt))) tt
+    map_or Check (λ node. first_refusal (refuse_if (not (is_directory node)) NotDirectory ∷ refuse_if (is_out_of_sync_at slot path) OutOfSync ∷ [])) (node_at slot.tree path) (Some NoPath)
+    (λ node. first (refuse_if (not (is_directory node)) NotDirectory ∷ refuse_if (is_out_of_sync_at slot path) OutOfSync ∷ []) (refused_if _ _ tt, (refused_if _ _ tt, tt))) tt
 
 walk : (slot : FilesetSlot) (path : Path) → Check (walk_refusal slot path)
 walk slot path = first (map (directory_refusal slot) (directories_to path)) (mapped (directory_refusal slot) (in_directory slot) (directories_to path))

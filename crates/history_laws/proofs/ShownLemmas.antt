@@ -11,7 +11,7 @@ use Rattle.domain_base.specs.Limits.{file_bytes}
 use Rattle.fileset_model.specs.LooksLike.{IsShown, LooksLike, LooksLikeSlot, LooksLikeThere}
 use Rattle.fileset_model.specs.Fileset.{Fileset}
 use Rattle.fileset_model.specs.Orders.{Name, Path, name_cmp, name_cmp-total, name_cmp-IsAntisymmetric, path_cmp, path_cmp-total, path_cmp-IsAntisymmetric}
-use Rattle.fileset_model.specs.Paths.{begins_with, names_one, directory_here, directory_refusal, file_here, first_refusal, is_directory, is_marked, is_out_of_sync, name_below, node_at, paths_to, refuse_if, rows_of, target_refusal, walk_refusal}
+use Rattle.fileset_model.specs.Paths.{begins_with, names_one, directory_here, directory_refusal, file_here, first_refusal, is_directory, is_out_of_sync_at, is_out_of_sync, name_below, node_at, paths_to, refuse_if, rows_of, target_refusal, walk_refusal}
 use Rattle.fileset_model.specs.Filesets.{FilesetMap}
 use Rattle.fileset_model.specs.declared.command.Command.{Command}
 use Rattle.fileset_model.specs.declared.command.Command.TheVariants as command
@@ -39,13 +39,13 @@ by_kind f None d = refl
 by_kind f (Some node) d = refl
 
 -- a directory that a walk passes is not out of sync
-passed_directory : (slot : FilesetSlot) (path : Path) → directory_refusal slot path ≡ None → is_marked slot path ≡ false
+passed_directory : (slot : FilesetSlot) (path : Path) → directory_refusal slot path ≡ None → is_out_of_sync_at slot path ≡ false
 passed_directory slot path none =
-    elim (node_at slot.tree path) as (λ o. option_map_or (λ node. first_refusal (refuse_if (not (is_directory node)) NotDirectory ∷ refuse_if (is_marked slot path) OutOfSync ∷ [])) o (Some NoPath) ≡ None → is_marked slot path ≡ false) [
+    elim (node_at slot.tree path) as (λ o. option_map_or (λ node. first_refusal (refuse_if (not (is_directory node)) NotDirectory ∷ refuse_if (is_out_of_sync_at slot path) OutOfSync ∷ [])) o (Some NoPath) ≡ None → is_out_of_sync_at slot path ≡ false) [
       | None ↦ λ h. absurd (cc)
       | Some node ↦ λ h.
-          let rest = (passed (refuse_if (not (is_directory node)) NotDirectory) (refuse_if (is_marked slot path) OutOfSync ∷ []) h).1 in
-          passed_test (is_marked slot path) OutOfSync (passed (refuse_if (is_marked slot path) OutOfSync) [] rest).0
+          let rest = (passed (refuse_if (not (is_directory node)) NotDirectory) (refuse_if (is_out_of_sync_at slot path) OutOfSync ∷ []) h).1 in
+          passed_test (is_out_of_sync_at slot path) OutOfSync (passed (refuse_if (is_out_of_sync_at slot path) OutOfSync) [] rest).0
     ] none
 
 -- the fronts of a path, from one on
@@ -58,11 +58,11 @@ walk_on slot path k n = first_refusal (map_each (directory_refusal slot) (fronts
 
 module _ (slot : FilesetSlot) (path : Path) where
   -- a walk that is not refused passes no directory that is out of sync
-  passed_fronts : (n k : ℕ) → walk_on slot path k n ≡ None → (count : ℕ) → k ≤ count → count < k + n → is_marked slot (take count path) ≡ false
+  passed_fronts : (n k : ℕ) → walk_on slot path k n ≡ None → (count : ℕ) → k ≤ count → count < k + n → is_out_of_sync_at slot (take count path) ≡ false
   passed_fronts zero k none count from below = absurd (omega arith)
   passed_fronts (suc n) k none count from below =
       let both = passed (directory_refusal slot (take k path)) (map_each (directory_refusal slot) (fronts path (k + 1) n)) none in
-      elim (nat_lt k count) as (λ b. nat_lt k count ≡ b → is_marked slot (take count path) ≡ false) [
+      elim (nat_lt k count) as (λ b. nat_lt k count ≡ b → is_out_of_sync_at slot (take count path) ≡ false) [
         | true ↦ λ is. passed_fronts n (k + 1) both.1 count (omega (arith, ltb-true k count is)) (omega arith)
         | false ↦ λ is. let same : count ≡ k = omega (arith, ltb-false k count is) in rw same (passed_directory slot (take k path) both.0)
       ] refl
@@ -72,7 +72,7 @@ module _ (slot : FilesetSlot) (path : Path) where
 
 module _ (slot other : FilesetSlot) (alike : LooksLikeSlot slot other) where
   -- at a path that is shown
-  pub same_mark : (path : Path) → IsShown slot path → is_marked other path ≡ is_marked slot path
+  pub same_mark : (path : Path) → IsShown slot path → is_out_of_sync_at other path ≡ is_out_of_sync_at slot path
   same_mark path shown =
       ap (λ r. option_map_or (is_out_of_sync r) (map.get other.tree.paths path) false) alike.role
       ∙ ap (λ o. option_map_or (is_out_of_sync slot.role) o false) (alike.paths path shown)
@@ -85,22 +85,22 @@ module _ (slot other : FilesetSlot) (alike : LooksLikeSlot slot other) where
   same_directory : (path : Path) → IsShown slot path → directory_refusal other path ≡ directory_refusal slot path
   same_directory path shown =
       ap (λ m. option_map_or (λ node. first_refusal (refuse_if (not (is_directory node)) NotDirectory ∷ refuse_if m OutOfSync ∷ [])) (node_at other.tree path) (Some NoPath)) (same_mark path shown)
-      ∙ same_kind (λ d. first_refusal (refuse_if (not d) NotDirectory ∷ refuse_if (is_marked slot path) OutOfSync ∷ [])) (Some NoPath) path shown
+      ∙ same_kind (λ d. first_refusal (refuse_if (not d) NotDirectory ∷ refuse_if (is_out_of_sync_at slot path) OutOfSync ∷ [])) (Some NoPath) path shown
 
   -- the same walk from one front on, where none before is out of sync
-  same_walk_on : (path : Path) (n k : ℕ) → k + n ≡ length path → ((count : ℕ) → count < k → is_marked slot (take count path) ≡ false)
+  same_walk_on : (path : Path) (n k : ℕ) → k + n ≡ length path → ((count : ℕ) → count < k → is_out_of_sync_at slot (take count path) ≡ false)
       → walk_on other path k n ≡ walk_on slot path k n
   same_walk_on path zero k whole before = refl
   same_walk_on path (suc n) k whole before =
       let shown : IsShown slot (take k path) = λ count below.
       let short : count < k = omega (arith, below, length-take k path) in
-      subst (λ p. is_marked slot p ≡ false) (sym (take-take count k path (omega (arith, short)))) (before count short) in
+      subst (λ p. is_out_of_sync_at slot p ≡ false) (sym (take-take count k path (omega (arith, short)))) (before count short) in
       ap (λ o. first_refusal (o ∷ map_each (directory_refusal other) (fronts path (k + 1) n))) (same_directory (take k path) shown)
       ∙ elim (directory_refusal slot (take k path)) as (λ o. directory_refusal slot (take k path) ≡ o
       → first_refusal (o ∷ map_each (directory_refusal other) (fronts path (k + 1) n)) ≡ first_refusal (o ∷ map_each (directory_refusal slot) (fronts path (k + 1) n))) [
         | Some refusal ↦ λ is. refl
         | None ↦ λ is. same_walk_on path n (k + 1) (omega arith) (λ count below.
-            elim (nat_lt count k) as (λ b. nat_lt count k ≡ b → is_marked slot (take count path) ≡ false) [
+            elim (nat_lt count k) as (λ b. nat_lt count k ≡ b → is_out_of_sync_at slot (take count path) ≡ false) [
               | true ↦ λ less. before count (ltb-true count k less)
               | false ↦ λ less. let same : count ≡ k = omega (arith, below, ltb-false count k less) in rw same (passed_directory slot (take k path) is)
             ] refl)
@@ -181,11 +181,11 @@ rows_by_kind tree parent (e ∷ es) =
           ∙ sym (ap (λ o. cons_option (option_and_then (λ name. Some (record { name = name; directory = kind tree e.1 })) o) (filter_map (named parent) (images path_cmp (kind tree) (where_key path_cmp (is_row parent) es)))) is)
     ] refl
 
-module _ (slot other : FilesetSlot) (alike : LooksLikeSlot slot other) (path : Path) (shown : IsShown slot path) (in_sync : is_marked slot path ≡ false) where
+module _ (slot other : FilesetSlot) (alike : LooksLikeSlot slot other) (path : Path) (shown : IsShown slot path) (in_sync : is_out_of_sync_at slot path ≡ false) where
   row_shown : (q : Path) → is_row path q ≡ true → IsShown slot q
   row_shown q row count below =
       let r = row_path path q row in
-      elim (nat_lt count (length path)) as (λ b. nat_lt count (length path) ≡ b → is_marked slot (take count q) ≡ false) [
+      elim (nat_lt count (length path)) as (λ b. nat_lt count (length path) ≡ b → is_out_of_sync_at slot (take count q) ≡ false) [
         | true ↦ λ less.
             let front : take count q ≡ take count path = ap (take count) r.1 ∙ take-append-le count path (r.0 ∷ []) (omega (arith, ltb-true count (length path) less)) in
             rw front (shown count (ltb-true count (length path) less))
@@ -338,7 +338,7 @@ module _ (all other : FilesetMap) (alike : LooksLike all other) where
       at (Some slot') is there = (slot', is, there)
 
 -- the same node at a path that is shown and in sync
-same_node : (slot other : FilesetSlot) → LooksLikeSlot slot other → (path : Path) → IsShown slot path → is_marked slot path ≡ false
+same_node : (slot other : FilesetSlot) → LooksLikeSlot slot other → (path : Path) → IsShown slot path → is_out_of_sync_at slot path ≡ false
     → node_at other.tree path ≡ node_at slot.tree path
 same_node slot other alike path shown in_sync =
     elim (map.get slot.tree.paths path) as (λ o. map.get slot.tree.paths path ≡ o → option_and_then (map.get other.tree.nodes) (map.get other.tree.paths path) ≡ option_and_then (map.get slot.tree.nodes) o) [
@@ -356,10 +356,10 @@ module _ (slot : FilesetSlot) (path : Path) where
       let walk = passed (walk_refusal slot path) (refuse_if (not (map.contains_key slot.tree.paths path)) NoPath ∷ []) both.0 in
       (passed_walk slot path walk.0, both.1)
 
-  passed_mark : first_refusal (out_of_sync slot path ∷ []) ≡ None → is_marked slot path ≡ false
-  passed_mark none = passed_test (is_marked slot path) OutOfSync (passed (out_of_sync slot path) [] none).0
+  passed_mark : first_refusal (out_of_sync slot path ∷ []) ≡ None → is_out_of_sync_at slot path ≡ false
+  passed_mark none = passed_test (is_out_of_sync_at slot path) OutOfSync (passed (out_of_sync slot path) [] none).0
 
-same_links : (slot other : FilesetSlot) → LooksLikeSlot slot other → (path : Path) → IsShown slot path → is_marked slot path ≡ false → links_of path other.tree ≡ links_of path slot.tree
+same_links : (slot other : FilesetSlot) → LooksLikeSlot slot other → (path : Path) → IsShown slot path → is_out_of_sync_at slot path ≡ false → links_of path other.tree ≡ links_of path slot.tree
 same_links slot other alike path shown in_sync =
     elim (map.get slot.tree.paths path) as (λ o. map.get slot.tree.paths path ≡ o → links_of path other.tree ≡ option_map_or (λ number. Count (paths_to slot.tree number)) o Done) [
       | None ↦ λ is. ap (λ o. option_map_or (λ number. Count (paths_to other.tree number)) o Done) (alike.paths path shown ∙ is)

@@ -7,7 +7,7 @@ use Rattle.fileset_model.specs.Fileset.{Fileset}
 use Rattle.fileset_model.specs.Filesets.{FilesetMap}
 use Rattle.fileset_model.specs.LooksLike.{IsShown, LooksLike, LooksLikeSlot, LooksLikeThere, Shows}
 use Rattle.fileset_model.specs.Orders.{Name, Path, name_cmp, name_cmp-total, name_cmp-IsAntisymmetric}
-use Rattle.fileset_model.specs.Paths.{is_marked, is_out_of_sync}
+use Rattle.fileset_model.specs.Paths.{is_out_of_sync_at, is_out_of_sync}
 use Rattle.fileset_model.specs.declared.fileset.FilesetSlot.{FilesetSlot}
 use Rattle.fileset_model.specs.declared.fileset.NumberSet.{NumberSet}
 use Rattle.fileset_model.specs.declared.fileset.Role.{Role}
@@ -28,7 +28,7 @@ module _ (a b : FilesetSlot) (alike : LooksLikeSlot a b) where
   shown_there path shown count below =
       let front : IsShown a (take count path) = λ c low.
       let short : c < count = omega (arith, low, length-take count path) in
-      subst (λ p. is_marked a p ≡ false) (sym (take-take c count path (omega (arith, short)))) (shown c (omega (arith, short, below))) in
+      subst (λ p. is_out_of_sync_at a p ≡ false) (sym (take-take c count path (omega (arith, short)))) (shown c (omega (arith, short, below))) in
       same_mark a b alike (take count path) front ∙ shown count below
 
   shows_there : (path : Path) (number : ℕ) → Shows a path number → Shows b path number

@@ -4,7 +4,7 @@ ghost use Rattle.std.specs.Option.{option_map_or};
 ghost use Rattle.domain_base.specs.declared.limits.TheConstants.{FILE_BYTES};
 ghost use Rattle.fileset_model.specs.Apply.{create_checks, link_checks, links_full, move_checks, not_empty, out_of_sync, read_checks, read_only, refusal_of, rename_checks, replace_checks, write_checks, write_quota};
 ghost use Rattle.fileset_model.specs.Pages.{absent_pages};
-ghost use Rattle.fileset_model.specs.Paths.{directory_here as directory_check, directory_refusal as directory_check_on_way, file_here as file_check, first_refusal, is_marked as is_marked_at, node_at, refuse_if, rows_of, target_refusal as target_check, walk_refusal as walk_check};
+ghost use Rattle.fileset_model.specs.Paths.{directory_here as directory_check, directory_refusal as directory_check_on_way, file_here as file_check, first_refusal, is_out_of_sync_at as is_marked_at, node_at, refuse_if, rows_of, target_refusal as target_check, walk_refusal as walk_check};
 ghost use Rattle.fileset_model.specs.declared.command.Command.TheVariants.{Clonefset, Rmdir, Unlink};
 ghost use Rattle.fileset_model.specs.declared.reply.Refusal.TheVariants.{TooFar as TooFarRefusal};
 
@@ -17,7 +17,7 @@ use fileset_model::{
 use std::alloc::Global;
 
 /// Whether what a path leads to lost its frozen content.
-pub(crate) fn is_marked(slot: &FilesetSlot, path: &Path) -> bool
+pub(crate) fn is_out_of_sync_at(slot: &FilesetSlot, path: &Path) -> bool
     ensures { result ≡ is_marked_at slot.now path.now }
 {
     match slot.tree.number_at(path) {
@@ -35,7 +35,7 @@ pub(crate) fn directory_refusal(slot: &FilesetSlot, path: &Path) -> Option<Refus
         Some(node) => {
             if !node.is_directory() {
                 Some(Refusal::NotDirectory)
-            } else if is_marked(slot, path) {
+            } else if is_out_of_sync_at(slot, path) {
                 Some(Refusal::OutOfSync)
             } else {
                 None
@@ -226,7 +226,7 @@ pub(crate) fn read_refusal(
     if let Some(refusal) = directory_here(slot, path) {
         return Ok(Some(refusal));
     }
-    if is_marked(slot, path) {
+    if is_out_of_sync_at(slot, path) {
         return Ok(Some(Refusal::OutOfSync));
     }
     Ok(None)
@@ -418,7 +418,7 @@ pub(crate) fn list_refusal(
     if let Some(refusal) = file_here(slot, path) {
         return Ok(Some(refusal));
     }
-    if is_marked(slot, path) {
+    if is_out_of_sync_at(slot, path) {
         return Ok(Some(Refusal::OutOfSync));
     }
     Ok(None)
@@ -435,7 +435,7 @@ pub(crate) fn stat_refusal(
     if let Some(refusal) = target_refusal(alloc, slot, path)? {
         return Ok(Some(refusal));
     }
-    if is_marked(slot, path) {
+    if is_out_of_sync_at(slot, path) {
         return Ok(Some(Refusal::OutOfSync));
     }
     Ok(None)
