@@ -1,9 +1,16 @@
--- The first refusal of some checks is that of more checks behind them.
+-- What stops some checks stops more checks behind them.
 use Rattle.std.proofs.Common.{◌≡◌, List, [], ◌∷◌, ◌++◌, Option, Some, None}
 use Rattle.fileset_model.specs.Paths.{first_refusal}
 use Rattle.fileset_model.specs.declared.reply.Refusal.{Refusal}
+use Rattle.plain_filesets.specs.Stops.{StopsFor}
+use Rattle.plain_filesets.specs.declared.stop.Stop.{Stop}
+use Rattle.plain_filesets.specs.declared.stop.Stop.TheVariants.{Refused, OutOfMemory}
 
-pub first_of : (checks more : List (Option Refusal)) (refusal : Refusal) → first_refusal checks ≡ Some refusal → first_refusal (checks ++ more) ≡ Some refusal
+first_of : (checks more : List (Option Refusal)) (refusal : Refusal) → first_refusal checks ≡ Some refusal → first_refusal (checks ++ more) ≡ Some refusal
 first_of [] more refusal is = absurd (cc)
 first_of (None ∷ checks) more refusal is = first_of checks more refusal is
 first_of (Some first ∷ checks) more refusal is = is
+
+pub stops_in_front : (checks more : List (Option Refusal)) (stop : Stop) → StopsFor (first_refusal checks) stop → StopsFor (first_refusal (checks ++ more)) stop
+stops_in_front checks more (Refused why) is = first_of checks more why is
+stops_in_front checks more OutOfMemory is = tt

@@ -1,9 +1,9 @@
 //! The plain slow program that answers commands.
-ghost use Rattle.std.specs.Prelude.{◌≡◌, IfOk, OnErr};
-ghost use Rattle.fileset_model.specs.Apply.{Answers, AnswersIfMemory, ChangesNothing};
+ghost use Rattle.fileset_model.specs.Apply.{AnswersIfMemory, ChangesNothing};
+ghost use Rattle.plain_filesets.specs.Stops.{AnswersOrStops};
 
 use crate::commands::{file, fileset, name};
-use domain_base::OutOfMemory;
+use crate::stop::Stop;
 use fileset_model::{Command, Filesets, Refusal, Reply};
 use std::alloc::Global;
 
@@ -15,17 +15,18 @@ pub fn apply(alloc: Global, filesets: &mut Filesets, command: &Command) -> Reply
 {
     match answer(alloc, filesets, command) {
         Ok(reply) => reply,
-        Err(_) => Reply::Refused(Refusal::OutOfMemory),
+        Err(Stop::Refused(refusal)) => Reply::Refused(refusal),
+        Err(Stop::OutOfMemory) => Reply::Refused(Refusal::OutOfMemory),
     }
 }
 
-fn answer(alloc: Global, filesets: &mut Filesets, command: &Command) -> Result<Reply, OutOfMemory>
-    ensures ok { IfOk result (λ reply. Answers filesets.old command.now reply filesets.new) }
-    ensures err { OnErr result (filesets.new ≡ filesets.old) }
+/// Carries a command out, unless something stops it.
+fn answer(alloc: Global, filesets: &mut Filesets, command: &Command) -> Result<Reply, Stop>
+    ensures { AnswersOrStops filesets.old command.now result filesets.new }
 {
     match command {
         Command::Mkfset { fileset } => fileset::mkfset(alloc, filesets, fileset),
-        Command::Rmfset { fileset } => Ok(fileset::rmfset(filesets, fileset)),
+        Command::Rmfset { fileset } => fileset::rmfset(filesets, fileset),
         Command::Clonefset { fileset, new_name } => fileset::clonefset(
             alloc, filesets, fileset, new_name,
         ),
@@ -56,18 +57,15 @@ fn answer(alloc: Global, filesets: &mut Filesets, command: &Command) -> Result<R
         | Command::Stat { .. }
         | Command::Fsync { .. }
         | Command::Sync
-        | Command::Cancel => {
-            let reply = show(alloc, filesets, command)?;
-            Ok(reply)
-        }
-        _ => Err(OutOfMemory),
+        | Command::Cancel => show(alloc, filesets, command),
+        _ => Err(Stop::OutOfMemory),
     }
 }
 
 /// Answers a command that changes nothing.
-fn show(alloc: Global, filesets: &Filesets, command: &Command) -> Result<Reply, OutOfMemory>
+fn show(alloc: Global, filesets: &Filesets, command: &Command) -> Result<Reply, Stop>
     requires { ChangesNothing command.now }
-    ensures { IfOk result (λ reply. Answers filesets.now command.now reply filesets.now) }
+    ensures { AnswersOrStops filesets.now command.now result filesets.now }
 {
     match command {
         Command::Showfsets => fileset::showfsets(alloc, filesets),

@@ -5,5 +5,6 @@ mod answers;
 mod commands;
 mod quotas;
 mod refusals;
+mod stop;
 
 pub use answers::apply;

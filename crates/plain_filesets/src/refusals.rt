@@ -1,167 +1,151 @@
 //! The checks of each command, in their order.
-ghost use Rattle.std.specs.Prelude.{◌*◌, ◌+◌, ◌==◌, ◌||◌, ◌∷◌, ◌≡◌, ◌≤◌, IfOk, None as NoRefusal, [], length, nat_lt, not};
+ghost use Rattle.std.specs.Prelude.{◌*◌, ◌+◌, ◌∷◌, ◌≡◌, ◌≤◌, IfOk, MatchResult, None as NoRefusal, [], length, nat_lt};
+ghost use Rattle.std.specs.FinMap as map;
 ghost use Rattle.std.specs.Option.{option_map_or};
 ghost use Rattle.domain_base.specs.declared.limits.TheConstants.{FILE_BYTES};
-ghost use Rattle.fileset_model.specs.Apply.{create_checks, link_checks, links_full, move_checks, not_empty, out_of_sync, read_checks, read_only, refusal_of, rename_checks, replace_checks, write_checks, write_quota};
+ghost use Rattle.fileset_model.specs.Apply.{create_checks, filesets_full, link_checks, links_full, move_checks, name_taken, not_empty, out_of_sync, path_taken, read_checks, read_only, refusal_of, rename_checks, replace_checks, write_checks, write_quota};
 ghost use Rattle.fileset_model.specs.Pages.{absent_pages};
-ghost use Rattle.fileset_model.specs.Paths.{directory_here as directory_check, directory_refusal as directory_check_on_way, file_here as file_check, first_refusal, is_out_of_sync_at as is_marked_at, node_at, refuse_if, rows_of, target_refusal as target_check, walk_refusal as walk_check};
-ghost use Rattle.fileset_model.specs.declared.command.Command.TheVariants.{Clonefset, Rmdir, Unlink};
-ghost use Rattle.fileset_model.specs.declared.reply.Refusal.TheVariants.{TooFar as TooFarRefusal};
+ghost use Rattle.fileset_model.specs.Paths.{directory_here, directory_refusal, file_here, first_refusal, node_at, refuse_if as refusal_if, target_refusal, walk_refusal};
+ghost use Rattle.fileset_model.specs.declared.command.Command.TheVariants.{Clonefset};
+ghost use Rattle.fileset_model.specs.declared.reply.Refusal.TheVariants.{NoFileset as NoFilesetRefusal, TooFar as TooFarRefusal};
+ghost use Rattle.plain_filesets.specs.Stops.{Checks};
+ghost use Rattle.plain_filesets.specs.declared.stop.Stop.TheVariants as stops;
 
-use crate::quotas::quota_refusal;
+use crate::quotas::check_quota;
+use crate::stop::{Stop, refuse_if};
 use domain_base::OutOfMemory;
 use domain_base::limits::{BLOCKS_PER_PAGE, FILE_BYTES as LARGEST_FILE, MAX_FILESETS, MAX_LINKS};
 use fileset_model::{
-    FilesetName, FilesetSlot, FilesetTree, Filesets, Node, PageMap, Path, Place, Refusal,
+    FilesetName, FilesetSlot, FilesetTree, Filesets, Node, PageMap, Path, Refusal,
 };
 use std::alloc::Global;
 
-/// Whether what a path leads to lost its frozen content.
-pub(crate) fn is_out_of_sync_at(slot: &FilesetSlot, path: &Path) -> bool
-    ensures { result ≡ is_marked_at slot.now path.now }
+/// Read-only, where the fileset is a clone.
+pub(crate) fn check_writable(slot: &FilesetSlot) -> Result<(), Stop>
+    ensures { Checks (read_only slot.now) result }
+{
+    refuse_if(slot.role.is_clone(), Refusal::ReadOnly)
+}
+
+/// Out-of-sync, where what a path leads to lost its frozen content.
+pub(crate) fn check_in_sync(slot: &FilesetSlot, path: &Path) -> Result<(), Stop>
+    ensures { Checks (out_of_sync slot.now path.now) result }
 {
     match slot.tree.number_at(path) {
-        Some(number) => slot.role.is_out_of_sync(number),
-        None => false,
+        Some(number) => refuse_if(slot.role.is_out_of_sync(number), Refusal::OutOfSync),
+        None => Ok(()),
     }
+}
+
+/// Exists, where a path leads to something.
+pub(crate) fn check_not_taken(slot: &FilesetSlot, path: &Path) -> Result<(), Stop>
+    ensures { Checks (path_taken slot.now path.now) result }
+{
+    refuse_if(slot.tree.number_at(path).is_some(), Refusal::Exists)
 }
 
 /// What keeps a command from looking a name up in the directory at this path.
-pub(crate) fn directory_refusal(slot: &FilesetSlot, path: &Path) -> Option<Refusal>
-    ensures { result ≡ directory_check_on_way slot.now path.now }
+pub(crate) fn check_directory(slot: &FilesetSlot, path: &Path) -> Result<(), Stop>
+    ensures { Checks (directory_refusal slot.now path.now) result }
 {
-    match slot.tree.node_at(path) {
-        None => Some(Refusal::NoPath),
-        Some(node) => {
-            if !node.is_directory() {
-                Some(Refusal::NotDirectory)
-            } else if is_out_of_sync_at(slot, path) {
-                Some(Refusal::OutOfSync)
-            } else {
-                None
-            }
-        }
-    }
-}
-
-/// What the way to the last name of a path refuses, from the root on.
-pub(crate) fn walk_refusal(
-    alloc: Global,
-    slot: &FilesetSlot,
-    path: &Path,
-) -> Result<Option<Refusal>, OutOfMemory>
-    ensures { IfOk result (λ refusal. refusal ≡ walk_check slot.now path.now) }
-{
-    for count in 0..path.as_slice().len() {
-        let directory = path.front(alloc, count)?;
-        if let Some(refusal) = directory_refusal(slot, &directory) {
-            return Ok(Some(refusal));
-        }
-    }
-    Ok(None)
-}
-
-/// The same, and no-path where the last name is missing.
-pub(crate) fn target_refusal(
-    alloc: Global,
-    slot: &FilesetSlot,
-    path: &Path,
-) -> Result<Option<Refusal>, OutOfMemory>
-    ensures { IfOk result (λ refusal. refusal ≡ target_check slot.now path.now) }
-{
-    if let Some(refusal) = walk_refusal(alloc, slot, path)? {
-        return Ok(Some(refusal));
-    }
-    match slot.tree.number_at(path) {
-        Some(_) => Ok(None),
-        None => Ok(Some(Refusal::NoPath)),
-    }
+    let Some(node) = slot.tree.node_at(path) else {
+        return Err(Stop::Refused(Refusal::NoPath));
+    };
+    refuse_if(!node.is_directory(), Refusal::NotDirectory)?;
+    check_in_sync(slot, path)
 }
 
 /// Is-directory, where a path leads to one.
-pub(crate) fn directory_here(slot: &FilesetSlot, path: &Path) -> Option<Refusal>
-    ensures { result ≡ directory_check slot.now path.now }
+pub(crate) fn check_not_directory(slot: &FilesetSlot, path: &Path) -> Result<(), Stop>
+    ensures { Checks (directory_here slot.now path.now) result }
 {
     match slot.tree.node_at(path) {
-        Some(node) if node.is_directory() => Some(Refusal::IsDirectory),
-        _ => None,
+        Some(node) => refuse_if(node.is_directory(), Refusal::IsDirectory),
+        None => Ok(()),
     }
 }
 
 /// Not-directory, where a path leads to a file.
-pub(crate) fn file_here(slot: &FilesetSlot, path: &Path) -> Option<Refusal>
-    ensures { result ≡ file_check slot.now path.now }
+pub(crate) fn check_not_file(slot: &FilesetSlot, path: &Path) -> Result<(), Stop>
+    ensures { Checks (file_here slot.now path.now) result }
 {
     match slot.tree.node_at(path) {
-        Some(node) if !node.is_directory() => Some(Refusal::NotDirectory),
-        _ => None,
+        Some(node) => refuse_if(!node.is_directory(), Refusal::NotDirectory),
+        None => Ok(()),
     }
 }
 
-/// Whether a directory has rows or is the root, and so has to stay.
-pub(crate) fn is_held(alloc: Global, tree: &FilesetTree, path: &Path) -> Result<bool, OutOfMemory>
-    ensures { IfOk result (λ held. held ≡ (length path.now == 0 || not (length (rows_of tree.now path.now) == 0))) }
+/// What the way to the last name of a path refuses, from the root on.
+pub(crate) fn check_walk(alloc: Global, slot: &FilesetSlot, path: &Path) -> Result<(), Stop>
+    ensures { Checks (walk_refusal slot.now path.now) result }
 {
-    let rows = tree.rows(alloc, path)?;
-    Ok(path.as_slice().is_empty() || !rows.is_empty())
+    for count in 0..path.as_slice().len() {
+        let directory = path.front(alloc, count)?;
+        check_directory(slot, &directory)?;
+    }
+    Ok(())
 }
 
-/// Why a file or directory can't be made at a path.
-pub(crate) fn create_refusal(
+/// The same, and no-path where the last name is missing.
+pub(crate) fn check_target(alloc: Global, slot: &FilesetSlot, path: &Path) -> Result<(), Stop>
+    ensures { Checks (target_refusal slot.now path.now) result }
+{
+    check_walk(alloc, slot, path)?;
+    refuse_if(slot.tree.number_at(path).is_none(), Refusal::NoPath)
+}
+
+/// Not-empty, where a directory has rows or is the root, and so has to stay.
+pub(crate) fn check_empty(alloc: Global, slot: &FilesetSlot, path: &Path) -> Result<(), Stop>
+    ensures { Checks (not_empty slot.now path.now) result }
+{
+    let rows = slot.tree.rows(alloc, path)?;
+    refuse_if(
+        path.as_slice().is_empty() || !rows.is_empty(),
+        Refusal::NotEmpty,
+    )
+}
+
+/// Whether a file or directory can be made at a path.
+pub(crate) fn check_create(
     alloc: Global,
     slot: &FilesetSlot,
     path: &Path,
     uid: u32,
     gid: u32,
-) -> Result<Option<Refusal>, OutOfMemory>
-    ensures { IfOk result (λ refusal. refusal ≡ first_refusal (create_checks path.now uid gid slot.now)) }
+) -> Result<(), Stop>
+    ensures { Checks (first_refusal (create_checks path.now uid gid slot.now)) result }
 {
-    if slot.role.is_clone() {
-        return Ok(Some(Refusal::ReadOnly));
-    }
-    if let Some(refusal) = walk_refusal(alloc, slot, path)? {
-        return Ok(Some(refusal));
-    }
-    if let Some(_) = slot.tree.number_at(path) {
-        return Ok(Some(Refusal::Exists));
-    }
-    quota_refusal(alloc, &slot.tree, uid, gid, 1, 0)
+    check_writable(slot)?;
+    check_walk(alloc, slot, path)?;
+    check_not_taken(slot, path)?;
+    check_quota(alloc, &slot.tree, uid, gid, 1, 0)
 }
 
-/// Why the file at a path can't be changed or removed.
-pub(crate) fn file_refusal(
-    alloc: Global,
-    slot: &FilesetSlot,
-    path: &Path,
-) -> Result<Option<Refusal>, OutOfMemory>
-    ensures { IfOk result (λ refusal. refusal ≡ first_refusal (read_only slot.now ∷ target_check slot.now path.now ∷ directory_check slot.now path.now ∷ [])) }
+/// Whether the file at a path can be changed or removed.
+pub(crate) fn check_file(alloc: Global, slot: &FilesetSlot, path: &Path) -> Result<(), Stop>
+    ensures { Checks (first_refusal (read_only slot.now ∷ target_refusal slot.now path.now
+        ∷ directory_here slot.now path.now ∷ [])) result }
 {
-    if slot.role.is_clone() {
-        return Ok(Some(Refusal::ReadOnly));
-    }
-    if let Some(refusal) = target_refusal(alloc, slot, path)? {
-        return Ok(Some(refusal));
-    }
-    Ok(directory_here(slot, path))
+    check_writable(slot)?;
+    check_target(alloc, slot, path)?;
+    check_not_directory(slot, path)
 }
 
-/// Why the bytes can't be written at a path.
-pub(crate) fn write_refusal(
+/// Whether the bytes can be written at a path.
+pub(crate) fn check_write(
     alloc: Global,
     slot: &FilesetSlot,
     path: &Path,
     offset: u64,
     bytes: &[u8],
-) -> Result<Option<Refusal>, OutOfMemory>
-    ensures { IfOk result (λ refusal. refusal ≡ first_refusal (write_checks path.now offset bytes.now slot.now)) }
+) -> Result<(), Stop>
+    ensures { Checks (first_refusal (write_checks path.now offset bytes.now slot.now)) result }
 {
-    if let Some(refusal) = file_refusal(alloc, slot, path)? {
-        return Ok(Some(refusal));
-    }
+    check_file(alloc, slot, path)?;
     if ends_too_far(offset, bytes) {
-        return Ok(Some(Refusal::TooFar));
+        return Err(Stop::Refused(Refusal::TooFar));
     }
-    write_quota_refusal(alloc, &slot.tree, path, offset, bytes)
+    check_write_quota(alloc, &slot.tree, path, offset, bytes)
 }
 
 /// Whether the bytes would end past the largest file.
@@ -172,16 +156,17 @@ pub(crate) fn ends_too_far(offset: u64, bytes: &[u8]) -> bool
     len > LARGEST_FILE || offset > LARGEST_FILE - len
 }
 
-/// The refusal where the absent pages of a write would pass a limit of the file's owners.
-pub(crate) fn write_quota_refusal(
+/// Whether the absent pages of a write pass no limit of the file's owners.
+pub(crate) fn check_write_quota(
     alloc: Global,
     tree: &FilesetTree,
     path: &Path,
     offset: u64,
     bytes: &[u8],
-) -> Result<Option<Refusal>, OutOfMemory>
+) -> Result<(), Stop>
     requires { offset + length bytes.now ≤ FILE_BYTES }
-    ensures { IfOk result (λ refusal. refusal ≡ option_map_or (write_quota tree.now offset bytes.now) (node_at tree.now path.now) NoRefusal) }
+    ensures { let node = node_at tree.now path.now in
+        Checks (option_map_or (write_quota tree.now offset bytes.now) node NoRefusal) result }
 {
     match tree.node_at(path) {
         Some(
@@ -193,10 +178,9 @@ pub(crate) fn write_quota_refusal(
             },
         ) => {
             let blocks = absent_blocks(pages, offset, bytes)?;
-            let refusal = quota_refusal(alloc, tree, *uid, *gid, 0, blocks)?;
-            Ok(refusal)
+            check_quota(alloc, tree, *uid, *gid, 0, blocks)
         }
-        _ => Ok(None),
+        _ => Ok(()),
     }
 }
 
@@ -204,7 +188,8 @@ pub(crate) fn write_quota_refusal(
 /// out of memory.
 pub(crate) fn absent_blocks(pages: &PageMap, offset: u64, bytes: &[u8]) -> Result<u64, OutOfMemory>
     requires { offset + length bytes.now ≤ FILE_BYTES }
-    ensures { IfOk result (λ blocks. blocks ≡ BLOCKS_PER_PAGE * absent_pages pages.now offset (length bytes.now)) }
+    ensures { IfOk result (λ blocks.
+        blocks ≡ BLOCKS_PER_PAGE * absent_pages pages.now offset (length bytes.now)) }
 {
     pages
         .count_absent(offset, bytes.len() as u64)
@@ -212,257 +197,177 @@ pub(crate) fn absent_blocks(pages: &PageMap, offset: u64, bytes: &[u8]) -> Resul
         .ok_or(OutOfMemory)
 }
 
-/// Why a file can't be read at a path.
-pub(crate) fn read_refusal(
-    alloc: Global,
-    slot: &FilesetSlot,
-    path: &Path,
-) -> Result<Option<Refusal>, OutOfMemory>
-    ensures { IfOk result (λ refusal. refusal ≡ first_refusal (read_checks path.now slot.now)) }
+/// Whether a file can be read at a path.
+pub(crate) fn check_read(alloc: Global, slot: &FilesetSlot, path: &Path) -> Result<(), Stop>
+    ensures { Checks (first_refusal (read_checks path.now slot.now)) result }
 {
-    if let Some(refusal) = target_refusal(alloc, slot, path)? {
-        return Ok(Some(refusal));
-    }
-    if let Some(refusal) = directory_here(slot, path) {
-        return Ok(Some(refusal));
-    }
-    if is_out_of_sync_at(slot, path) {
-        return Ok(Some(Refusal::OutOfSync));
-    }
-    Ok(None)
+    check_target(alloc, slot, path)?;
+    check_not_directory(slot, path)?;
+    check_in_sync(slot, path)
 }
 
-/// Why the file at a path can't get this size.
-pub(crate) fn truncate_refusal(
+/// Whether the file at a path can get this size.
+pub(crate) fn check_truncate(
     alloc: Global,
     slot: &FilesetSlot,
     path: &Path,
     size: u64,
-) -> Result<Option<Refusal>, OutOfMemory>
-    ensures { IfOk result (λ refusal. refusal ≡ first_refusal (read_only slot.now ∷ target_check slot.now path.now ∷ directory_check slot.now path.now ∷ refuse_if (nat_lt FILE_BYTES size) TooFarRefusal ∷ [])) }
+) -> Result<(), Stop>
+    ensures { Checks (first_refusal (read_only slot.now ∷ target_refusal slot.now path.now
+        ∷ directory_here slot.now path.now
+        ∷ refusal_if (nat_lt FILE_BYTES size) TooFarRefusal ∷ [])) result }
 {
-    if let Some(refusal) = file_refusal(alloc, slot, path)? {
-        return Ok(Some(refusal));
-    }
-    if size > LARGEST_FILE {
-        return Ok(Some(Refusal::TooFar));
-    }
-    Ok(None)
+    check_file(alloc, slot, path)?;
+    refuse_if(size > LARGEST_FILE, Refusal::TooFar)
 }
 
-/// Why there is no file to be removed at a place.
-pub(crate) fn unlink_refusal(
-    alloc: Global,
-    filesets: &Filesets,
-    place: &Place,
-) -> Result<Option<Refusal>, OutOfMemory>
-    ensures { IfOk result (λ refusal. refusal ≡ refusal_of filesets.now (Unlink place.now)) }
+/// Whether there is an empty directory to be removed at a path.
+pub(crate) fn check_rmdir(alloc: Global, slot: &FilesetSlot, path: &Path) -> Result<(), Stop>
+    ensures { Checks (first_refusal (read_only slot.now ∷ target_refusal slot.now path.now
+        ∷ file_here slot.now path.now ∷ not_empty slot.now path.now ∷ [])) result }
 {
-    match filesets.slot(&place.fileset) {
-        Some(slot) => file_refusal(alloc, slot, &place.path),
-        None => Ok(Some(Refusal::NoFileset)),
-    }
+    check_writable(slot)?;
+    check_target(alloc, slot, path)?;
+    check_not_file(slot, path)?;
+    check_empty(alloc, slot, path)
 }
 
-/// Why there is no empty directory to be removed at a place.
-pub(crate) fn rmdir_refusal(
-    alloc: Global,
-    filesets: &Filesets,
-    place: &Place,
-) -> Result<Option<Refusal>, OutOfMemory>
-    ensures { IfOk result (λ refusal. refusal ≡ refusal_of filesets.now (Rmdir place.now)) }
-{
-    match filesets.slot(&place.fileset) {
-        Some(slot) => empty_directory_refusal(alloc, slot, &place.path),
-        None => Ok(Some(Refusal::NoFileset)),
-    }
-}
-
-/// Why the directory at a path can't be removed.
-pub(crate) fn empty_directory_refusal(
-    alloc: Global,
-    slot: &FilesetSlot,
-    path: &Path,
-) -> Result<Option<Refusal>, OutOfMemory>
-    ensures { IfOk result (λ refusal. refusal ≡ first_refusal (read_only slot.now ∷ target_check slot.now path.now ∷ file_check slot.now path.now ∷ not_empty slot.now path.now ∷ [])) }
-{
-    if slot.role.is_clone() {
-        return Ok(Some(Refusal::ReadOnly));
-    }
-    if let Some(refusal) = target_refusal(alloc, slot, path)? {
-        return Ok(Some(refusal));
-    }
-    if let Some(refusal) = file_here(slot, path) {
-        return Ok(Some(refusal));
-    }
-    if is_held(alloc, &slot.tree, path)? {
-        return Ok(Some(Refusal::NotEmpty));
-    }
-    Ok(None)
-}
-
-/// Why a file can't get one more path.
-pub(crate) fn link_refusal(
+/// Whether a file can get one more path.
+pub(crate) fn check_link(
     alloc: Global,
     slot: &FilesetSlot,
     path: &Path,
     to: &Path,
-) -> Result<Option<Refusal>, OutOfMemory>
-    ensures { IfOk result (λ refusal. refusal ≡ first_refusal (link_checks path.now to.now slot.now)) }
+) -> Result<(), Stop>
+    ensures { Checks (first_refusal (link_checks path.now to.now slot.now)) result }
 {
-    if let Some(refusal) = file_refusal(alloc, slot, path)? {
-        return Ok(Some(refusal));
-    }
-    if let Some(refusal) = walk_refusal(alloc, slot, to)? {
-        return Ok(Some(refusal));
-    }
-    if let Some(_) = slot.tree.number_at(to) {
-        return Ok(Some(Refusal::Exists));
-    }
-    Ok(full_here(slot, path))
+    check_file(alloc, slot, path)?;
+    check_walk(alloc, slot, to)?;
+    check_not_taken(slot, to)?;
+    check_links(slot, path)
 }
 
 /// Links-full, where a path leads to a file with as many paths as a file may have.
-pub(crate) fn full_here(slot: &FilesetSlot, path: &Path) -> Option<Refusal>
-    ensures { result ≡ links_full slot.now path.now }
+pub(crate) fn check_links(slot: &FilesetSlot, path: &Path) -> Result<(), Stop>
+    ensures { Checks (links_full slot.now path.now) result }
 {
     match slot.tree.number_at(path) {
-        Some(number) if slot.tree.paths_to(number) >= MAX_LINKS as usize => Some(
-            Refusal::LinksFull,
-        ),
-        _ => None,
-    }
-}
-
-/// Why what stands at a path can't be moved to another.
-pub(crate) fn rename_refusal(
-    alloc: Global,
-    slot: &FilesetSlot,
-    from: &Path,
-    to: &Path,
-) -> Result<Option<Refusal>, OutOfMemory>
-    ensures { IfOk result (λ refusal. refusal ≡ first_refusal (rename_checks from.now to.now slot.now)) }
-{
-    if slot.role.is_clone() {
-        return Ok(Some(Refusal::ReadOnly));
-    }
-    if let Some(refusal) = target_refusal(alloc, slot, from)? {
-        return Ok(Some(refusal));
-    }
-    if let Some(refusal) = walk_refusal(alloc, slot, to)? {
-        return Ok(Some(refusal));
-    }
-    if slot.tree.names_one(from, to) {
-        return Ok(None);
-    }
-    let refusal = move_refusal(alloc, slot, from, to)?;
-    Ok(refusal)
-}
-
-/// Why what stands at a path can't come to another path.
-pub(crate) fn move_refusal(
-    alloc: Global,
-    slot: &FilesetSlot,
-    from: &Path,
-    to: &Path,
-) -> Result<Option<Refusal>, OutOfMemory>
-    ensures { IfOk result (λ refusal. refusal ≡ first_refusal (move_checks from.now to.now slot.now)) }
-{
-    if to.as_slice().starts_with(from.as_slice()) {
-        return Ok(Some(Refusal::IntoItself));
-    }
-    match slot.tree.number_at(to) {
-        Some(_) => {
-            let refusal = replace_refusal(alloc, slot, from, to)?;
-            Ok(refusal)
+        Some(number) => {
+            let is_full = slot.tree.paths_to(number) >= MAX_LINKS as usize;
+            refuse_if(is_full, Refusal::LinksFull)
         }
-        None => Ok(None),
+        None => Ok(()),
     }
 }
 
-/// Why what stands at a path can't take the place of what stands at another: a file takes that of a
-/// file, and a directory that of an empty directory.
-pub(crate) fn replace_refusal(
+/// Whether what stands at a path can be moved to another.
+pub(crate) fn check_rename(
     alloc: Global,
     slot: &FilesetSlot,
     from: &Path,
     to: &Path,
-) -> Result<Option<Refusal>, OutOfMemory>
-    ensures { IfOk result (λ refusal. refusal ≡ first_refusal (replace_checks from.now to.now slot.now)) }
+) -> Result<(), Stop>
+    ensures { Checks (first_refusal (rename_checks from.now to.now slot.now)) result }
+{
+    check_writable(slot)?;
+    check_target(alloc, slot, from)?;
+    check_walk(alloc, slot, to)?;
+    if slot.tree.names_one(from, to) {
+        return Ok(());
+    }
+    check_move(alloc, slot, from, to)
+}
+
+/// Whether what stands at a path can come to another path.
+pub(crate) fn check_move(
+    alloc: Global,
+    slot: &FilesetSlot,
+    from: &Path,
+    to: &Path,
+) -> Result<(), Stop>
+    ensures { Checks (first_refusal (move_checks from.now to.now slot.now)) result }
+{
+    let is_below = to.as_slice().starts_with(from.as_slice());
+    refuse_if(is_below, Refusal::IntoItself)?;
+    match slot.tree.number_at(to) {
+        Some(_) => check_replace(alloc, slot, from, to),
+        None => Ok(()),
+    }
+}
+
+/// Whether what stands at a path can take the place of what stands at another: a file takes that of
+/// a file, and a directory that of an empty directory.
+pub(crate) fn check_replace(
+    alloc: Global,
+    slot: &FilesetSlot,
+    from: &Path,
+    to: &Path,
+) -> Result<(), Stop>
+    ensures { Checks (first_refusal (replace_checks from.now to.now slot.now)) result }
 {
     match slot.tree.node_at(from) {
         Some(node) if node.is_directory() => {
-            if let Some(refusal) = file_here(slot, to) {
-                return Ok(Some(refusal));
-            }
-            if is_held(alloc, &slot.tree, to)? {
-                return Ok(Some(Refusal::NotEmpty));
-            }
-            Ok(None)
+            check_not_file(slot, to)?;
+            check_empty(alloc, slot, to)
         }
-        _ => Ok(directory_here(slot, to)),
+        _ => check_not_directory(slot, to),
     }
 }
 
-/// Why the names at a path can't be listed.
-pub(crate) fn list_refusal(
-    alloc: Global,
-    slot: &FilesetSlot,
-    path: &Path,
-) -> Result<Option<Refusal>, OutOfMemory>
-    ensures { IfOk result (λ refusal. refusal ≡ first_refusal (target_check slot.now path.now ∷ file_check slot.now path.now ∷ out_of_sync slot.now path.now ∷ [])) }
+/// Whether the names at a path can be listed.
+pub(crate) fn check_list(alloc: Global, slot: &FilesetSlot, path: &Path) -> Result<(), Stop>
+    ensures { Checks (first_refusal (target_refusal slot.now path.now
+        ∷ file_here slot.now path.now ∷ out_of_sync slot.now path.now ∷ [])) result }
 {
-    if let Some(refusal) = target_refusal(alloc, slot, path)? {
-        return Ok(Some(refusal));
-    }
-    if let Some(refusal) = file_here(slot, path) {
-        return Ok(Some(refusal));
-    }
-    if is_out_of_sync_at(slot, path) {
-        return Ok(Some(Refusal::OutOfSync));
-    }
-    Ok(None)
+    check_target(alloc, slot, path)?;
+    check_not_file(slot, path)?;
+    check_in_sync(slot, path)
 }
 
-/// Why the attributes at a path can't be shown.
-pub(crate) fn stat_refusal(
-    alloc: Global,
-    slot: &FilesetSlot,
-    path: &Path,
-) -> Result<Option<Refusal>, OutOfMemory>
-    ensures { IfOk result (λ refusal. refusal ≡ first_refusal (target_check slot.now path.now ∷ out_of_sync slot.now path.now ∷ [])) }
+/// Whether the attributes at a path can be shown.
+pub(crate) fn check_stat(alloc: Global, slot: &FilesetSlot, path: &Path) -> Result<(), Stop>
+    ensures { Checks (first_refusal (target_refusal slot.now path.now
+        ∷ out_of_sync slot.now path.now ∷ [])) result }
 {
-    if let Some(refusal) = target_refusal(alloc, slot, path)? {
-        return Ok(Some(refusal));
-    }
-    if is_out_of_sync_at(slot, path) {
-        return Ok(Some(Refusal::OutOfSync));
-    }
-    Ok(None)
+    check_target(alloc, slot, path)?;
+    check_in_sync(slot, path)
 }
 
-/// Why a fileset can't be cloned under a new name.
-pub(crate) fn clonefset_refusal(
+/// Whether a fileset can be cloned under a new name.
+pub(crate) fn check_clonefset(
     filesets: &Filesets,
     name: &FilesetName,
     new_name: &FilesetName,
-) -> Option<Refusal>
-    ensures { result ≡ refusal_of filesets.now (Clonefset name.now new_name.now) }
+) -> Result<(), Stop>
+    ensures { Checks (refusal_of filesets.now (Clonefset name.now new_name.now)) result }
 {
-    let Some(slot) = filesets.slot(name) else {
-        return Some(Refusal::NoFileset);
-    };
-    if slot.role.is_clone() {
-        return Some(Refusal::CloneOfClone);
-    }
-    if filesets.has_clone(name) {
-        return Some(Refusal::HasClone);
-    }
-    if let Some(_) = filesets.slot(new_name) {
-        return Some(Refusal::FilesetExists);
-    }
-    if filesets.len() >= MAX_FILESETS as usize {
-        return Some(Refusal::FilesetsFull);
-    }
-    None
+    let slot = slot_of(filesets, name)?;
+    refuse_if(slot.role.is_clone(), Refusal::CloneOfClone)?;
+    refuse_if(filesets.has_clone(name), Refusal::HasClone)?;
+    check_new_name(filesets, new_name)
+}
+
+/// Whether a fileset can be added under a name.
+pub(crate) fn check_new_name(filesets: &Filesets, name: &FilesetName) -> Result<(), Stop>
+    ensures { Checks (first_refusal (name_taken filesets.now name.now
+        ∷ filesets_full filesets.now ∷ [])) result }
+{
+    refuse_if(filesets.slot(name).is_some(), Refusal::FilesetExists)?;
+    refuse_if(
+        filesets.len() >= MAX_FILESETS as usize,
+        Refusal::FilesetsFull,
+    )
+}
+
+/// The fileset with a name, and no-fileset where there is none.
+pub(crate) fn slot_of<'a>(
+    filesets: &'a Filesets,
+    name: &FilesetName,
+) -> Result<&'a FilesetSlot, Stop>
+    ensures { MatchResult result
+        (λ slot. map.get filesets.now name.now ≡ Some slot.now)
+        (λ stop. (map.get filesets.now name.now ≡ None)
+        × (stop ≡ stops.Refused NoFilesetRefusal)) }
+{
+    filesets.slot(name).ok_or(Stop::Refused(Refusal::NoFileset))
 }

@@ -1,17 +1,19 @@
 //! The commands on files, and on what a path leads to.
 ghost use Rattle.std.specs.Prelude.{◌^◌, ◌≡◌, ◌≤◌, IfOk, OnErr};
 ghost use Rattle.std.specs.Option.{option_map_or};
-ghost use Rattle.fileset_model.specs.Apply.{Answers, links_of, read_of, stat_of};
+ghost use Rattle.fileset_model.specs.Apply.{links_of, read_of, stat_of};
 ghost use Rattle.fileset_model.specs.Paths.{node_at};
 ghost use Rattle.fileset_model.specs.declared.command.Command.TheVariants.{Chfile, Create, Fsync, Links, Read, Stat, Truncate, Write};
 ghost use Rattle.fileset_model.specs.declared.reply.Reply.TheVariants.{Done as DoneReply};
+ghost use Rattle.plain_filesets.specs.Stops.{AnswersOrStops};
 
 use crate::refusals::{
-    create_refusal, file_refusal, read_refusal, stat_refusal, target_refusal, truncate_refusal,
-    write_refusal,
+    check_create, check_file, check_read, check_stat, check_target, check_truncate, check_writable,
+    check_write, slot_of,
 };
+use crate::stop::Stop;
 use domain_base::OutOfMemory;
-use fileset_model::{Bytes, FilesetTree, Filesets, Node, PageMap, Path, Place, Refusal, Reply};
+use fileset_model::{Bytes, FilesetTree, Filesets, Node, PageMap, Path, Place, Reply};
 use std::alloc::Global;
 
 pub(crate) fn create(
@@ -20,16 +22,11 @@ pub(crate) fn create(
     place: &Place,
     uid: u32,
     gid: u32,
-) -> Result<Reply, OutOfMemory>
-    ensures ok { IfOk result (λ reply. Answers filesets.old (Create place.now uid gid) reply filesets.new) }
-    ensures err { OnErr result (filesets.new ≡ filesets.old) }
+) -> Result<Reply, Stop>
+    ensures { AnswersOrStops filesets.old (Create place.now uid gid) result filesets.new }
 {
-    let Some(slot) = filesets.slot(&place.fileset) else {
-        return Ok(Reply::Refused(Refusal::NoFileset));
-    };
-    if let Some(refusal) = create_refusal(alloc, slot, &place.path, uid, gid)? {
-        return Ok(Reply::Refused(refusal));
-    }
+    let slot = slot_of(filesets, &place.fileset)?;
+    check_create(alloc, slot, &place.path, uid, gid)?;
     let number = filesets.unused_number()?;
     let node = Node::File {
         uid,
@@ -48,17 +45,12 @@ pub(crate) fn write(
     place: &Place,
     offset: u64,
     bytes: &Bytes,
-) -> Result<Reply, OutOfMemory>
-    ensures ok { IfOk result (λ reply. Answers filesets.old (Write place.now offset bytes.now) reply filesets.new) }
-    ensures err { OnErr result (filesets.new ≡ filesets.old) }
+) -> Result<Reply, Stop>
+    ensures { AnswersOrStops filesets.old (Write place.now offset bytes.now) result filesets.new }
 {
-    let Some(slot) = filesets.slot(&place.fileset) else {
-        return Ok(Reply::Refused(Refusal::NoFileset));
-    };
+    let slot = slot_of(filesets, &place.fileset)?;
     let bytes = bytes.as_slice();
-    if let Some(refusal) = write_refusal(alloc, slot, &place.path, offset, bytes)? {
-        return Ok(Reply::Refused(refusal));
-    }
+    check_write(alloc, slot, &place.path, offset, bytes)?;
     filesets.write(alloc, place, offset, bytes)?;
     Ok(Reply::Count(bytes.len() as u64))
 }
@@ -69,16 +61,13 @@ pub(crate) fn read(
     place: &Place,
     offset: u64,
     count: u32,
-) -> Result<Reply, OutOfMemory>
-    ensures { IfOk result (λ reply. Answers filesets.now (Read place.now offset count) reply filesets.now) }
+) -> Result<Reply, Stop>
+    ensures { AnswersOrStops filesets.now (Read place.now offset count) result filesets.now }
 {
-    let Some(slot) = filesets.slot(&place.fileset) else {
-        return Ok(Reply::Refused(Refusal::NoFileset));
-    };
-    if let Some(refusal) = read_refusal(alloc, slot, &place.path)? {
-        return Ok(Reply::Refused(refusal));
-    }
-    read_file(alloc, &slot.tree, &place.path, offset, count)
+    let slot = slot_of(filesets, &place.fileset)?;
+    check_read(alloc, slot, &place.path)?;
+    let reply = read_file(alloc, &slot.tree, &place.path, offset, count)?;
+    Ok(reply)
 }
 
 /// The bytes of the file at a path from the offset on, at most so many.
@@ -108,16 +97,11 @@ pub(crate) fn truncate(
     filesets: &mut Filesets,
     place: &Place,
     size: u64,
-) -> Result<Reply, OutOfMemory>
-    ensures ok { IfOk result (λ reply. Answers filesets.old (Truncate place.now size) reply filesets.new) }
-    ensures err { OnErr result (filesets.new ≡ filesets.old) }
+) -> Result<Reply, Stop>
+    ensures { AnswersOrStops filesets.old (Truncate place.now size) result filesets.new }
 {
-    let Some(slot) = filesets.slot(&place.fileset) else {
-        return Ok(Reply::Refused(Refusal::NoFileset));
-    };
-    if let Some(refusal) = truncate_refusal(alloc, slot, &place.path, size)? {
-        return Ok(Reply::Refused(refusal));
-    }
+    let slot = slot_of(filesets, &place.fileset)?;
+    check_truncate(alloc, slot, &place.path, size)?;
     filesets.truncate(alloc, place, size)?;
     Ok(Reply::Done)
 }
@@ -128,30 +112,21 @@ pub(crate) fn chfile(
     filesets: &mut Filesets,
     place: &Place,
     logged: bool,
-) -> Result<Reply, OutOfMemory>
-    ensures ok { IfOk result (λ reply. Answers filesets.old (Chfile place.now logged) reply filesets.new) }
-    ensures err { OnErr result (filesets.new ≡ filesets.old) }
+) -> Result<Reply, Stop>
+    ensures { AnswersOrStops filesets.old (Chfile place.now logged) result filesets.new }
 {
-    let Some(slot) = filesets.slot(&place.fileset) else {
-        return Ok(Reply::Refused(Refusal::NoFileset));
-    };
-    if let Some(refusal) = file_refusal(alloc, slot, &place.path)? {
-        return Ok(Reply::Refused(refusal));
-    }
+    let slot = slot_of(filesets, &place.fileset)?;
+    check_file(alloc, slot, &place.path)?;
     filesets.set_logged(place, logged);
     Ok(Reply::Done)
 }
 
 /// Shows the attributes of a file or directory.
-pub(crate) fn stat(alloc: Global, filesets: &Filesets, place: &Place) -> Result<Reply, OutOfMemory>
-    ensures { IfOk result (λ reply. Answers filesets.now (Stat place.now) reply filesets.now) }
+pub(crate) fn stat(alloc: Global, filesets: &Filesets, place: &Place) -> Result<Reply, Stop>
+    ensures { AnswersOrStops filesets.now (Stat place.now) result filesets.now }
 {
-    let Some(slot) = filesets.slot(&place.fileset) else {
-        return Ok(Reply::Refused(Refusal::NoFileset));
-    };
-    if let Some(refusal) = stat_refusal(alloc, slot, &place.path)? {
-        return Ok(Reply::Refused(refusal));
-    }
+    let slot = slot_of(filesets, &place.fileset)?;
+    check_stat(alloc, slot, &place.path)?;
     let reply = attributes(alloc, &slot.tree, &place.path)?;
     Ok(reply)
 }
@@ -208,15 +183,11 @@ pub(crate) fn small_count(count: usize) -> Result<u32, OutOfMemory>
 }
 
 /// Counts the paths of a file.
-pub(crate) fn links(alloc: Global, filesets: &Filesets, place: &Place) -> Result<Reply, OutOfMemory>
-    ensures { IfOk result (λ reply. Answers filesets.now (Links place.now) reply filesets.now) }
+pub(crate) fn links(alloc: Global, filesets: &Filesets, place: &Place) -> Result<Reply, Stop>
+    ensures { AnswersOrStops filesets.now (Links place.now) result filesets.now }
 {
-    let Some(slot) = filesets.slot(&place.fileset) else {
-        return Ok(Reply::Refused(Refusal::NoFileset));
-    };
-    if let Some(refusal) = read_refusal(alloc, slot, &place.path)? {
-        return Ok(Reply::Refused(refusal));
-    }
+    let slot = slot_of(filesets, &place.fileset)?;
+    check_read(alloc, slot, &place.path)?;
     Ok(path_count(&slot.tree, &place.path))
 }
 
@@ -231,17 +202,11 @@ pub(crate) fn path_count(tree: &FilesetTree, path: &Path) -> Reply
 }
 
 /// Makes a file durable, which changes nothing that a command shows.
-pub(crate) fn fsync(alloc: Global, filesets: &Filesets, place: &Place) -> Result<Reply, OutOfMemory>
-    ensures { IfOk result (λ reply. Answers filesets.now (Fsync place.now) reply filesets.now) }
+pub(crate) fn fsync(alloc: Global, filesets: &Filesets, place: &Place) -> Result<Reply, Stop>
+    ensures { AnswersOrStops filesets.now (Fsync place.now) result filesets.now }
 {
-    let Some(slot) = filesets.slot(&place.fileset) else {
-        return Ok(Reply::Refused(Refusal::NoFileset));
-    };
-    if slot.role.is_clone() {
-        return Ok(Reply::Refused(Refusal::ReadOnly));
-    }
-    match target_refusal(alloc, slot, &place.path)? {
-        Some(refusal) => Ok(Reply::Refused(refusal)),
-        None => Ok(Reply::Done),
-    }
+    let slot = slot_of(filesets, &place.fileset)?;
+    check_writable(slot)?;
+    check_target(alloc, slot, &place.path)?;
+    Ok(Reply::Done)
 }

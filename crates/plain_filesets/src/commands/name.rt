@@ -1,14 +1,12 @@
 //! The commands that make, move, list and remove names.
-ghost use Rattle.std.specs.Prelude.{◌≡◌, IfOk, MatchOption, OnErr};
-ghost use Rattle.fileset_model.specs.Apply.{Answers, with_tree, without};
 ghost use Rattle.fileset_model.specs.declared.command.Command.TheVariants.{Link, List as ListNames, Mkdir, Rename, Rmdir, Unlink};
-ghost use Rattle.fileset_model.specs.declared.reply.Reply.TheVariants.{Done as DoneReply, Refused as RefusedReply};
+ghost use Rattle.plain_filesets.specs.Stops.{AnswersOrStops};
 
 use crate::refusals::{
-    create_refusal, link_refusal, list_refusal, rename_refusal, rmdir_refusal, unlink_refusal,
+    check_create, check_file, check_link, check_list, check_rename, check_rmdir, slot_of,
 };
-use domain_base::OutOfMemory;
-use fileset_model::{Filesets, NameList, Node, Path, Place, Refusal, Reply};
+use crate::stop::Stop;
+use fileset_model::{Filesets, NameList, Node, Path, Place, Reply};
 use std::alloc::Global;
 
 /// Makes an empty directory.
@@ -18,16 +16,11 @@ pub(crate) fn mkdir(
     place: &Place,
     uid: u32,
     gid: u32,
-) -> Result<Reply, OutOfMemory>
-    ensures ok { IfOk result (λ reply. Answers filesets.old (Mkdir place.now uid gid) reply filesets.new) }
-    ensures err { OnErr result (filesets.new ≡ filesets.old) }
+) -> Result<Reply, Stop>
+    ensures { AnswersOrStops filesets.old (Mkdir place.now uid gid) result filesets.new }
 {
-    let Some(slot) = filesets.slot(&place.fileset) else {
-        return Ok(Reply::Refused(Refusal::NoFileset));
-    };
-    if let Some(refusal) = create_refusal(alloc, slot, &place.path, uid, gid)? {
-        return Ok(Reply::Refused(refusal));
-    }
+    let slot = slot_of(filesets, &place.fileset)?;
+    check_create(alloc, slot, &place.path, uid, gid)?;
     let number = filesets.unused_number()?;
     filesets.add(alloc, place, number, Node::Directory { uid, gid })?;
     Ok(Reply::Done)
@@ -40,16 +33,11 @@ pub(crate) fn rename(
     filesets: &mut Filesets,
     place: &Place,
     to: &Path,
-) -> Result<Reply, OutOfMemory>
-    ensures ok { IfOk result (λ reply. Answers filesets.old (Rename place.now to.now) reply filesets.new) }
-    ensures err { OnErr result (filesets.new ≡ filesets.old) }
+) -> Result<Reply, Stop>
+    ensures { AnswersOrStops filesets.old (Rename place.now to.now) result filesets.new }
 {
-    let Some(slot) = filesets.slot(&place.fileset) else {
-        return Ok(Reply::Refused(Refusal::NoFileset));
-    };
-    if let Some(refusal) = rename_refusal(alloc, slot, &place.path, to)? {
-        return Ok(Reply::Refused(refusal));
-    }
+    let slot = slot_of(filesets, &place.fileset)?;
+    check_rename(alloc, slot, &place.path, to)?;
     filesets.rename(alloc, place, to)?;
     Ok(Reply::Done)
 }
@@ -60,69 +48,41 @@ pub(crate) fn link(
     filesets: &mut Filesets,
     place: &Place,
     to: &Path,
-) -> Result<Reply, OutOfMemory>
-    ensures ok { IfOk result (λ reply. Answers filesets.old (Link place.now to.now) reply filesets.new) }
-    ensures err { OnErr result (filesets.new ≡ filesets.old) }
+) -> Result<Reply, Stop>
+    ensures { AnswersOrStops filesets.old (Link place.now to.now) result filesets.new }
 {
-    let Some(slot) = filesets.slot(&place.fileset) else {
-        return Ok(Reply::Refused(Refusal::NoFileset));
-    };
-    if let Some(refusal) = link_refusal(alloc, slot, &place.path, to)? {
-        return Ok(Reply::Refused(refusal));
-    }
+    let slot = slot_of(filesets, &place.fileset)?;
+    check_link(alloc, slot, &place.path, to)?;
     filesets.link(alloc, place, to)?;
     Ok(Reply::Done)
 }
 
 /// Removes a path of a file, and the file with its last path.
-pub(crate) fn unlink(
-    alloc: Global,
-    filesets: &mut Filesets,
-    place: &Place,
-) -> Result<Reply, OutOfMemory>
-    ensures ok { IfOk result (λ reply. Answers filesets.old (Unlink place.now) reply filesets.new) }
-    ensures err { OnErr result (filesets.new ≡ filesets.old) }
+pub(crate) fn unlink(alloc: Global, filesets: &mut Filesets, place: &Place) -> Result<Reply, Stop>
+    ensures { AnswersOrStops filesets.old (Unlink place.now) result filesets.new }
 {
-    let refusal = unlink_refusal(alloc, filesets, place)?;
-    Ok(remove_unless(filesets, refusal, place))
+    let slot = slot_of(filesets, &place.fileset)?;
+    check_file(alloc, slot, &place.path)?;
+    filesets.remove(place);
+    Ok(Reply::Done)
 }
 
 /// Removes an empty directory.
-pub(crate) fn rmdir(
-    alloc: Global,
-    filesets: &mut Filesets,
-    place: &Place,
-) -> Result<Reply, OutOfMemory>
-    ensures ok { IfOk result (λ reply. Answers filesets.old (Rmdir place.now) reply filesets.new) }
-    ensures err { OnErr result (filesets.new ≡ filesets.old) }
+pub(crate) fn rmdir(alloc: Global, filesets: &mut Filesets, place: &Place) -> Result<Reply, Stop>
+    ensures { AnswersOrStops filesets.old (Rmdir place.now) result filesets.new }
 {
-    let refusal = rmdir_refusal(alloc, filesets, place)?;
-    Ok(remove_unless(filesets, refusal, place))
+    let slot = slot_of(filesets, &place.fileset)?;
+    check_rmdir(alloc, slot, &place.path)?;
+    filesets.remove(place);
+    Ok(Reply::Done)
 }
 
 /// Lists the names in a directory.
-pub(crate) fn list(alloc: Global, filesets: &Filesets, place: &Place) -> Result<Reply, OutOfMemory>
-    ensures { IfOk result (λ reply. Answers filesets.now (ListNames place.now) reply filesets.now) }
+pub(crate) fn list(alloc: Global, filesets: &Filesets, place: &Place) -> Result<Reply, Stop>
+    ensures { AnswersOrStops filesets.now (ListNames place.now) result filesets.now }
 {
-    let Some(slot) = filesets.slot(&place.fileset) else {
-        return Ok(Reply::Refused(Refusal::NoFileset));
-    };
-    if let Some(refusal) = list_refusal(alloc, slot, &place.path)? {
-        return Ok(Reply::Refused(refusal));
-    }
+    let slot = slot_of(filesets, &place.fileset)?;
+    check_list(alloc, slot, &place.path)?;
     let rows = slot.tree.rows(alloc, &place.path)?;
     Ok(Reply::Names(NameList::from_vec(rows)))
-}
-
-/// Removes what stands at a place, or answers why that is refused.
-fn remove_unless(filesets: &mut Filesets, refusal: Option<Refusal>, place: &Place) -> Reply
-    ensures { MatchOption refusal ((result ≡ DoneReply) × (filesets.new ≡ with_tree filesets.old place.now.fileset (without place.now.path))) (λ why. (result ≡ RefusedReply why) × (filesets.new ≡ filesets.old)) }
-{
-    match refusal {
-        Some(refusal) => Reply::Refused(refusal),
-        None => {
-            filesets.remove(place);
-            Reply::Done
-        }
-    }
 }

@@ -1,7 +1,7 @@
 use Rattle.std.proofs.Common.{◌≡◌, ◌-◌, length, map, take}
 use Rattle.std.specs.List.{range_with_len}
 use Rattle.fileset_model.specs.Paths.{directory_refusal, first_refusal, walk_refusal}
-use Rattle.plain_filesets.proofs.refusals.walk_refusal.Given as goal
+use Rattle.plain_filesets.proofs.refusals.check_walk.Given as goal
 
 abbrev pub invariant-loop-count : goal.invariant-loop-count
 invariant-loop-count l =
