@@ -16,13 +16,15 @@ ghost use Rattle.fileset_model.specs.declared.reply.Reply.{Reply as ReplyOf};
 
 /// A valid tree in the place of an original's keeps all filesets valid.
 pub fn a_valid_tree_keeps_all_valid()
-    ensures { (all : FilesetMap) (name : NameBytes) (slot : SlotOf) (change : Tree → Tree) → AreValid all → get all name ≡ Some slot
-        → slot.role ≡ OriginalRole → IsValidFileset (change slot.tree) → AreValid (with_tree all name change) }
+    ensures { (all : FilesetMap) (name : NameBytes) (slot : SlotOf) (change : Tree → Tree)
+        → AreValid all → get all name ≡ Some slot → slot.role ≡ OriginalRole
+        → IsValidFileset (change slot.tree) → AreValid (with_tree all name change) }
 {}
 
 /// Every answer of a command, a refusal and want of memory among them, keeps all filesets valid.
 pub fn every_answer_keeps_all_valid()
-    ensures { (old new : FilesetMap) (command : CommandOf) (reply : ReplyOf) → AreValid old → AnswersIfMemory old command reply new → AreValid new }
+    ensures { (old new : FilesetMap) (command : CommandOf) (reply : ReplyOf)
+        → AreValid old → AnswersIfMemory old command reply new → AreValid new }
 {}
 
 /// No filesets at all are valid.
@@ -32,14 +34,18 @@ pub fn no_filesets_are_valid()
 
 /// What was written is read back, and every other byte of the file reads as before.
 pub fn what_was_written_is_read()
-    ensures within { (pages : Pages) (offset x : ℕ) (bytes : List ℕ) → AreWhole pages → offset ≤ x → x < offset + length bytes
+    ensures within { (pages : Pages) (offset x : ℕ) (bytes : List ℕ)
+        → AreWhole pages → offset ≤ x → x < offset + length bytes
         → byte_at (written pages offset bytes) x ≡ slice_index bytes (x - offset) }
-    ensures outside { (pages : Pages) (offset x : ℕ) (bytes : List ℕ) → AreWhole pages → (x < offset) ⊎ (offset + length bytes ≤ x)
+    ensures outside { (pages : Pages) (offset x : ℕ) (bytes : List ℕ)
+        → AreWhole pages → (x < offset) ⊎ (offset + length bytes ≤ x)
         → byte_at (written pages offset bytes) x ≡ byte_at pages x }
 {}
 
 /// What lies below the new size reads as before a cut, and behind it there is nothing but zeros.
 pub fn a_cut_leaves_zeros()
-    ensures below { (pages : Pages) (size x : ℕ) → AreWhole pages → x < size → byte_at (truncated pages size) x ≡ byte_at pages x }
-    ensures behind { (pages : Pages) (size x : ℕ) → AreWhole pages → size ≤ x → byte_at (truncated pages size) x ≡ 0 }
+    ensures below { (pages : Pages) (size x : ℕ) → AreWhole pages → x < size
+        → byte_at (truncated pages size) x ≡ byte_at pages x }
+    ensures behind { (pages : Pages) (size x : ℕ) → AreWhole pages → size ≤ x
+        → byte_at (truncated pages size) x ≡ 0 }
 {}

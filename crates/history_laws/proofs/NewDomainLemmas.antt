@@ -1,5 +1,5 @@
 -- A domain that was just made is valid.
-use Rattle.std.proofs.Common.{◌≡◌, true, ℕ, List, refl, sym, ap, inl, inr, is_some, min, slice_index}
+use Rattle.std.proofs.Common.{◌≡◌, true, ℕ, List, refl, ap, inl, inr, is_some, min, slice_index}
 use Rattle.std.specs.FinMap as map
 use Rattle.std.specs.Ordering.{nat_cmp}
 use Rattle.std.specs.Cmp.{nat_cmp_total}

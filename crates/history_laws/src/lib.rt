@@ -67,6 +67,7 @@ pub fn every_legal_history_ends_valid()
 /// state that a stop at or after that call may leave.
 pub fn a_synced_file_outlasts_a_stop()
     ensures { (start : State) (history : List Entry) (job : Option Command) (t : ℕ)
-        (filesets : FilesetMap) (stop : AfterStop start history job t filesets) (place : Place) (node : Node)
+        (filesets : FilesetMap) (stop : AfterStop start history job t filesets)
+        (place : Place) (node : Node)
         → IsValid start → IsSynced stop.end.past t place node → StandsAt filesets place node }
 {}

@@ -58,11 +58,13 @@ is_synced_by t e = is_synced_command e.command && is_done_by t e
 -- the place, counted from 1, of the last entry that is synced by call t, and 0 where none is
 abbrev pub kept : List Entry → ℕ → ℕ
 kept history t =
-    if list_any (is_synced_by t) history then suc (length (before_last (is_synced_by t) history)) else 0
+    if list_any (is_synced_by t) history
+    then suc (length (before_last (is_synced_by t) history)) else 0
 
 -- none of these was answered by panicked
 abbrev pub HasNoPanic : List Answered → Type 0
-HasNoPanic past = (volume : ℕ) → ¬ (Contains (map_list (λ a. a.entry.reply) past) (Refused (Panicked volume)))
+HasNoPanic past =
+    (volume : ℕ) → ¬ (Contains (map_list (λ a. a.entry.reply) past) (Refused (Panicked volume)))
 
 -- ---- loose pages
 
@@ -73,22 +75,28 @@ FilePage = Name × ℕ × ℕ
 -- the pages, chosen by the file, of a file that is not logged
 abbrev pub unlogged_pages : FilesetMap → Place → (ℕ → Pages → List ℕ) → List FilePage
 unlogged_pages all place choose =
-    option_map_or (λ slot. option_map_or (λ number. option_map_or (of number) (map.get slot.tree.nodes number) [])
-    (map.get slot.tree.paths place.path) []) (map.get all place.fileset) []
+    option_map_or
+    (λ slot. option_map_or
+    (λ number. option_map_or (of number) (map.get slot.tree.nodes number) [])
+    (map.get slot.tree.paths place.path) [])
+    (map.get all place.fileset) []
   where
     of : ℕ → Node → List FilePage
-    of number (File uid gid size logged pages) = if logged then [] else map_list (λ q. (place.fileset, number, q)) (choose size pages)
+    of number (File uid gid size logged pages) =
+        if logged then [] else map_list (λ q. (place.fileset, number, q)) (choose size pages)
     of number (Directory uid gid) = []
 
 -- the page in which a file is cut
 abbrev pub cut_pages : ℕ → ℕ → Pages → List ℕ
 cut_pages size old_size pages =
     let q = size / PAGE_BYTES in
-    if nat_lt size old_size && not (size % PAGE_BYTES == 0) && map.contains_key pages q then q ∷ [] else []
+    if nat_lt size old_size && not (size % PAGE_BYTES == 0) && map.contains_key pages q
+    then q ∷ [] else []
 
 -- the pages of files that are not logged that a command writes
 abbrev pub pages_written : FilesetMap → Command → List FilePage
-pages_written all (Write place offset bytes) = unlogged_pages all place (λ size pages. pages_of offset (length bytes))
+pages_written all (Write place offset bytes) =
+    unlogged_pages all place (λ size pages. pages_of offset (length bytes))
 pages_written all (Truncate place size) = unlogged_pages all place (cut_pages size)
 pages_written all command = []
 
@@ -105,13 +113,15 @@ syncs_file all (Fsync place) file = stands_at all place file
 syncs_file all (Chfile place logged) file = stands_at all place file
 syncs_file all command file = false
 
--- a command that was answered so after these may have written its pages: it was not refused, or it is the first that panicked
+-- a command that was answered so after these may have written its pages: it was not refused, or it
+-- is the first that panicked
 abbrev pub MayHaveWritten : List Answered → Reply → Type 0
 MayHaveWritten before (Refused (Panicked volume)) = HasNoPanic before
 MayHaveWritten before (Refused refusal) = ⊥
 MayHaveWritten before reply = Unit {0}
 
--- a page that an entry wrote while its file was not logged, and that no entry after it synced by call t
+-- a page that an entry wrote while its file was not logged, and that no entry after it synced by
+-- call t
 pub record IsLoose (past : List Answered) (t : ℕ) (page : FilePage) : Type 0 where
   pub before : List Answered
   pub writer : Answered
@@ -119,7 +129,9 @@ pub record IsLoose (past : List Answered) (t : ℕ) (page : FilePage) : Type 0 w
   pub split : past ≡ before ++ writer ∷ after
   pub answered : MayHaveWritten before writer.entry.reply
   pub wrote : Contains (pages_written writer.before.filesets writer.entry.command) page
-  pub unsynced : All (λ a. (is_done_by t a.entry && syncs_file a.before.filesets a.entry.command page) ≡ false) after
+  pub unsynced : All
+      (λ a. (is_done_by t a.entry && syncs_file a.before.filesets a.entry.command page) ≡ false)
+      after
 
 -- ---- filesets that differ in the bytes of loose pages alone
 
@@ -143,7 +155,8 @@ SameNodeThere MayDiffer (Some node) found = IsSomeAnd found (SameNode MayDiffer 
 pub record SameTree (MayDiffer : ℕ → ℕ → Type 0) (tree other : Fileset) : Type 0 where
   pub paths : other.paths ≡ tree.paths
   pub limits : other.limits ≡ tree.limits
-  pub nodes : (number : ℕ) → SameNodeThere (MayDiffer number) (map.get tree.nodes number) (map.get other.nodes number)
+  pub nodes : (number : ℕ)
+      → SameNodeThere (MayDiffer number) (map.get tree.nodes number) (map.get other.nodes number)
 
 -- the files of an original but for such bytes, and those of a clone exactly
 abbrev pub SameByRole : (ℕ → ℕ → Type 0) → Role → Fileset → Fileset → Type 0
@@ -153,16 +166,19 @@ SameByRole MayDiffer (CloneOf original out) tree other = other ≡ tree
 abbrev pub SameSlot : (ℕ → ℕ → Type 0) → Option FilesetSlot → Option FilesetSlot → Type 0
 SameSlot MayDiffer None found = found ≡ None
 SameSlot MayDiffer (Some slot) found =
-    IsSomeAnd found (λ other. (other.role ≡ slot.role) × SameByRole MayDiffer slot.role slot.tree other.tree)
+    IsSomeAnd found
+    (λ other. (other.role ≡ slot.role) × SameByRole MayDiffer slot.role slot.tree other.tree)
 
 -- the same filesets, but for the bytes of pages of originals that may differ
 abbrev pub SameBut : (FilePage → Type 0) → FilesetMap → FilesetMap → Type 0
 SameBut MayDiffer all other =
-    (name : Name) → SameSlot (λ number q. MayDiffer (name, number, q)) (map.get all name) (map.get other name)
+    (name : Name)
+    → SameSlot (λ number q. MayDiffer (name, number, q)) (map.get all name) (map.get other name)
 
 -- ---- what is found
 
--- the command of the mover's first entry among these, and where it has none the job that runs in the end
+-- the command of the mover's first entry among these, and where it has none the job that runs in
+-- the end
 abbrev pub next_job : List Entry → Option Command → Option Command
 next_job [] job = job
 next_job (e ∷ rest) job = of e.actor (next_job rest job)
@@ -173,7 +189,9 @@ next_job (e ∷ rest) job = of e.actor (next_job rest job)
 
 -- a point at which a job of this command runs
 abbrev pub with_running : Option Command → Point → Point
-with_running job point = record point { job = option_map (λ command. record { command = command; began = point.state }) job }
+with_running job point = record point {
+  job = option_map (λ command. record { command = command; began = point.state }) job;
+}
 
 -- what happens between entries may lead from a point to this state
 pub record Settles (point : Point) (state : State) : Type 0 where
@@ -183,18 +201,26 @@ pub record Settles (point : Point) (state : State) : Type 0 where
   pub same_job : last.job ≡ point.job
   pub ends : last.state ≡ state
 
--- the state in which a stop finds a domain that goes on from a front by some entries, with the job that runs in the end: the
--- one there, or, where the next entry is the first that panicked, the one before it with its command done
-pub data Found (front : Point) (later : List Answered) (job : Option Command) (state : State) : Type 0 where
-  there : Settles (with_running (next_job (history_of later) job) front) state → Found front later job state
-  done : (next : Answered) (rest : List Answered) (volume : ℕ) → later ≡ next ∷ rest → next.entry.reply ≡ Refused (Panicked volume)
-      → HasNoPanic front.past → (reply : Reply) (mid : State) → Apply next.before next.entry.command reply mid
-      → Settles (with_running (next_job (history_of later) job) (record front { state = mid })) state
+-- the state in which a stop finds a domain that goes on from a front by some entries, with the job
+-- that runs in the end: the one there, or, where the next entry is the first that panicked, the one
+-- before it with its command done
+pub data Found (front : Point) (later : List Answered) (job : Option Command) (state : State)
+    : Type 0 where
+  there : Settles (with_running (next_job (history_of later) job) front) state
+      → Found front later job state
+  done : (next : Answered) (rest : List Answered) (volume : ℕ)
+      → later ≡ next ∷ rest → next.entry.reply ≡ Refused (Panicked volume)
+      → HasNoPanic front.past
+      → (reply : Reply) (mid : State) → Apply next.before next.entry.command reply mid
+      → Settles
+      (with_running (next_job (history_of later) job) (record front { state = mid })) state
       → Found front later job state
 
--- what the filesets may be after a stop at or after call t in a domain with this start, history and running job: those after a
--- front of the history that has each synced entry, but for the bytes of loose pages, as far as replies show
-pub record AfterStop (start : State) (history : List Entry) (job : Option Command) (t : ℕ) (filesets : FilesetMap) : Type 0 where
+-- what the filesets may be after a stop at or after call t in a domain with this start, history and
+-- running job: those after a front of the history that has each synced entry, but for the bytes of
+-- loose pages, as far as replies show
+pub record AfterStop (start : State) (history : List Entry) (job : Option Command) (t : ℕ)
+    (filesets : FilesetMap) : Type 0 where
   pub front : Point
   pub end : Point
   pub later : List Answered

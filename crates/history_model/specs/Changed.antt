@@ -28,7 +28,9 @@ at all name path =
 -- what stands at a path and below it
 abbrev pub at_and_below : FilesetMap → Name → Path → List Numbered
 at_and_below all name path =
-    option_map_or (λ slot. filter_map (λ e. below e.0 e.1) (map.entries slot.tree.paths)) (map.get all name) []
+    option_map_or
+    (λ slot. filter_map (λ e. below e.0 e.1) (map.entries slot.tree.paths))
+    (map.get all name) []
   where
     below : Path → ℕ → Option Numbered
     below p number = option_if (begins_with p path) (name, number)
@@ -41,19 +43,21 @@ at_and_below all name path =
 abbrev pub removed_at : FilesetMap → Name → Path → List Numbered
 removed_at all name path = at all name path ++ at all name (parent_of path)
 
--- the files and directories that a command touches: the one it was given, those that go, move or get another path with it,
--- and each directory whose rows change
+-- the files and directories that a command touches: the one it was given, those that go, move or
+-- get another path with it, and each directory whose rows change
 abbrev pub changed_by : FilesetMap → Command → List Numbered
 changed_by all (Create place uid gid) = at all place.fileset (parent_of place.path)
 changed_by all (Mkdir place uid gid) = at all place.fileset (parent_of place.path)
 changed_by all (Write place offset bytes) = at all place.fileset place.path
 changed_by all (Truncate place size) = at all place.fileset place.path
 changed_by all (Chfile place logged) = at all place.fileset place.path
-changed_by all (Link place to) = at all place.fileset place.path ++ at all place.fileset (parent_of to)
+changed_by all (Link place to) =
+    at all place.fileset place.path ++ at all place.fileset (parent_of to)
 changed_by all (Unlink place) = removed_at all place.fileset place.path
 changed_by all (Rmdir place) = removed_at all place.fileset place.path
 changed_by all (Rename place to) =
-    if option_map_or (λ slot. names_one slot.tree place.path to) (map.get all place.fileset) false then []
+    if option_map_or (λ slot. names_one slot.tree place.path to) (map.get all place.fileset) false
+    then []
     else at_and_below all place.fileset place.path ++ at all place.fileset (parent_of place.path)
     ++ removed_at all place.fileset to
 changed_by all command = []

@@ -17,11 +17,12 @@ abbrev pub IsForActor : Actor → Command → Option Command → Type 0
 IsForActor (Client number) command job = is_movers command ≡ false
 IsForActor Mover command job = job ≡ Some command
 
--- an entry may come next: its stamp is no smaller than any before, and from the first panicked reply on all are panicked, with
--- that volume
+-- an entry may come next: its stamp is no smaller than any before, and from the first panicked
+-- reply on all are panicked, with that volume
 pub record MayFollow (point : Point) (e : Entry) : Type 0 where
   pub stamp : All (λ before. before.stamp ≤ e.stamp) (history_of point.past)
-  pub panicked : (volume : ℕ) → Contains (map (λ before. before.reply) (history_of point.past)) (Refused (Panicked volume))
+  pub panicked : (volume : ℕ)
+      → Contains (map (λ before. before.reply) (history_of point.past)) (Refused (Panicked volume))
       → e.reply ≡ Refused (Panicked volume)
   pub actor : IsForActor e.actor e.command (running_job point)
 
@@ -29,16 +30,20 @@ pub record MayFollow (point : Point) (e : Entry) : Type 0 where
 pub data Chain (start : Point) : Point → Type 0 where
   stays : Chain start start
   -- the mover begins a job, at some place after its last entry
-  begin : {point : Point} → Chain start point → point.job ≡ None → (command : Command) → IsTrue (is_movers command)
-      → Chain start (record point { job = Some (record { command = command; began = point.state }) })
+  begin : {point : Point} → Chain start point → point.job ≡ None
+      → (command : Command) → IsTrue (is_movers command)
+      → Chain start
+      (record point { job = Some (record { command = command; began = point.state }) })
   -- something happens between entries
-  silent : {point : Point} → Chain start point → (new : State) → Silent point new → Chain start (record point { state = new })
+  silent : {point : Point} → Chain start point → (new : State) → Silent point new
+      → Chain start (record point { state = new })
   -- one more entry is one more step
-  entry : {point : Point} → Chain start point → (e : Entry) (new : State) → MayFollow point e → Step point e new
-      → Chain start (point_after point e new)
+  entry : {point : Point} → Chain start point → (e : Entry) (new : State)
+      → MayFollow point e → Step point e new → Chain start (point_after point e new)
 
 -- a history may lead from the start to a state, with this command of the mover's still running
-pub record Legal (start : State) (history : List Entry) (job : Option Command) (end : State) : Type 0 where
+pub record Legal (start : State) (history : List Entry) (job : Option Command) (end : State)
+    : Type 0 where
   pub point : Point
   pub chain : Chain (start_point start) point
   pub answered : history_of point.past ≡ history

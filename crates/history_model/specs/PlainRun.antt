@@ -12,19 +12,23 @@ use Rattle.fileset_model.specs.declared.reply.Reply.TheVariants.{Refused}
 use Rattle.history_model.specs.Marks.{GainsMarks}
 use Rattle.history_model.specs.VolumeReply.{is_movers}
 
--- each command of a history is answered in turn as it means, or out-of-memory; this leads from these filesets to others
+-- each command of a history is answered in turn as it means, or out-of-memory; this leads from
+-- these filesets to others
 pub data PlainRun (first : FilesetMap) : List Entry → FilesetMap → Type 0 where
   none : PlainRun first [] first
-  entry : {history : List Entry} {all : FilesetMap} → PlainRun first history all → (e : Entry) (new : FilesetMap)
-      → AnswersIfMemory all e.command e.reply new → PlainRun first (history ++ e ∷ []) new
+  entry : {history : List Entry} {all : FilesetMap} → PlainRun first history all
+      → (e : Entry) (new : FilesetMap) → AnswersIfMemory all e.command e.reply new
+      → PlainRun first (history ++ e ∷ []) new
 
 -- the same, where for want of pages clones may lose some of their numbers between the answers
 pub data MarkedRun (first : FilesetMap) : List Entry → FilesetMap → Type 0 where
   none : MarkedRun first [] first
-  entry : {history : List Entry} {all : FilesetMap} → MarkedRun first history all → (e : Entry) (new : FilesetMap)
-      → AnswersIfMemory all e.command e.reply new → MarkedRun first (history ++ e ∷ []) new
-  loses : {history : List Entry} {all : FilesetMap} → MarkedRun first history all → (new : FilesetMap)
-      → GainsMarks (λ original clone number. Unit {0}) all new → MarkedRun first history new
+  entry : {history : List Entry} {all : FilesetMap} → MarkedRun first history all
+      → (e : Entry) (new : FilesetMap) → AnswersIfMemory all e.command e.reply new
+      → MarkedRun first (history ++ e ∷ []) new
+  loses : {history : List Entry} {all : FilesetMap} → MarkedRun first history all
+      → (new : FilesetMap) → GainsMarks (λ original clone number. Unit {0}) all new
+      → MarkedRun first history new
 
 -- whether a command is of clients and speaks of filesets alone
 abbrev pub is_of_filesets : Command → Bool

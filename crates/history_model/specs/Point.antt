@@ -20,8 +20,8 @@ pub record Answered : Type 0 where
   pub entry : Entry
   pub before : State
 
--- what was answered so far; the state now; the job that runs; and the greatest room of the states at the start and after each
--- entry
+-- what was answered so far; the state now; the job that runs; and the greatest room of the states
+-- at the start and after each entry
 pub record Point : Type 0 where
   pub past : List Answered
   pub state : State

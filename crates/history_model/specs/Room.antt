@@ -32,4 +32,5 @@ room s = 3 * present_pages s.filesets + 4 * path_count s.filesets + 64 * map.len
 
 -- the pages of all open members
 abbrev pub open_pages : State → ℕ
-open_pages s = sum_by (λ member. member.pages) (filter (λ member. member.is_open) (map.values s.members))
+open_pages s =
+    sum_by (λ member. member.pages) (filter (λ member. member.is_open) (map.values s.members))

@@ -25,7 +25,8 @@ abbrev pub numbered_cmp : Numbered → Numbered → Ordering
 numbered_cmp = then_cmp (on (λ n. n.0) name_cmp) (on (λ n. n.1) nat_cmp)
 
 pub numbered_cmp-total : IsTotalOrder numbered_cmp
-numbered_cmp-total = then_total (on_total (λ n. n.0) nat_list_cmp_total) (on_total (λ n. n.1) nat_cmp_total)
+numbered_cmp-total =
+    then_total (on_total (λ n. n.0) nat_list_cmp_total) (on_total (λ n. n.1) nat_cmp_total)
 
 abbrev pub NumberedSet : Type 0
 NumberedSet = set.FinSet numbered_cmp
@@ -39,9 +40,9 @@ pub record Member : Type 0 where
 abbrev pub MemberMap : Type 0
 MemberMap = map.FinMap nat_cmp Member
 
--- the filesets; the pages of each volume of the rack; the member volumes and the one that has the log; the version of the
--- layout; the files of originals that are striped; and how many pages the tables, directories and files left for removal took
--- when the domain was opened
+-- the filesets; the pages of each volume of the rack; the member volumes and the one that has the
+-- log; the version of the layout; the files of originals that are striped; and how many pages the
+-- tables, directories and files left for removal took when the domain was opened
 pub record State : Type 0 where
   pub filesets : FilesetMap
   pub rack : map.FinMap nat_cmp ℕ
@@ -60,7 +61,10 @@ abbrev pub new_domain : Version → List ℕ → State
 new_domain version sizes = record {
   filesets = map.empty;
   rack = rack_of sizes;
-  members = map.insert map.empty 1 (record { pages = min (slice_index sizes 0) (most_pages version); is_open = true });
+  members = map.insert map.empty 1 (record {
+    pages = min (slice_index sizes 0) (most_pages version);
+    is_open = true;
+  });
   log_volume = 1;
   version = version;
   striped = set.empty;
@@ -70,7 +74,8 @@ new_domain version sizes = record {
 -- the striped numbers of which the filesets still have something
 abbrev pub still_striped : FilesetMap → NumberedSet → NumberedSet
 still_striped all striped =
-    set.retain striped (λ n. option_map_or (λ slot. map.contains_key slot.tree.nodes n.1) (map.get all n.0) false)
+    set.retain striped
+    (λ n. option_map_or (λ slot. map.contains_key slot.tree.nodes n.1) (map.get all n.0) false)
 
 -- a state with other filesets, of which a file that is gone is no longer striped
 abbrev pub with_filesets : FilesetMap → State → State
@@ -78,7 +83,8 @@ with_filesets all s = record s { filesets = all; striped = still_striped all s.s
 
 -- what a command on filesets answers and changes, where all else stays
 abbrev pub Apply : State → Command → Reply → State → Type 0
-Apply s command reply new = Answers s.filesets command reply new.filesets × (new ≡ with_filesets new.filesets s)
+Apply s command reply new =
+    Answers s.filesets command reply new.filesets × (new ≡ with_filesets new.filesets s)
 
 -- states whose filesets look alike, and all else of which is the same
 pub record LooksLikeState (s other : State) : Type 0 where

@@ -23,10 +23,12 @@ use Rattle.fileset_model.specs.declared.reply.Refusal.{Refusal}
 use Rattle.fileset_model.specs.declared.reply.Refusal.TheVariants.{NoSpace, ReadFault, Panicked, Cancelled, OutOfMemory}
 use Rattle.fileset_model.specs.declared.reply.Reply.TheVariants.{Done, Refused}
 
--- a number of an original that an entry changed, or that the original no longer has as the clone has it
+-- a number of an original that an entry changed, or that the original no longer has as the clone
+-- has it
 abbrev pub MayBeMarked : Point → Name → FilesetSlot → ℕ → Type 0
 MayBeMarked point original clone number =
-    Differs point.state.filesets original clone number ⊎ Contains (changed_in point.past) (original, number)
+    Differs point.state.filesets original clone number
+    ⊎ Contains (changed_in point.past) (original, number)
 
 -- a volume that the running job is to remove: a member, and not the only one
 pub record IsRemoving (point : Point) (vol : ℕ) : Type 0 where
@@ -40,16 +42,20 @@ pub data Silent (point : Point) (new : State) : Type 0 where
   marks : GainsMarks (MayBeMarked point) point.state.filesets new.filesets → Tight point new 16
       → new ≡ record point.state { filesets = new.filesets } → Silent point new
   -- a volume that is to be removed takes no more pages
-  closes : (vol : ℕ) → IsRemoving point vol → new ≡ with_open false vol point.state → Silent point new
+  closes : (vol : ℕ) → IsRemoving point vol → new ≡ with_open false vol point.state
+      → Silent point new
   -- the log leaves it for another open member
   log_leaves : (vol other : ℕ) → IsRemoving point vol → point.state.log_volume ≡ vol → other ≢ vol
-      → IsTrue (is_open_member point.state.members other) → new ≡ record point.state { log_volume = other } → Silent point new
+      → IsTrue (is_open_member point.state.members other)
+      → new ≡ record point.state { log_volume = other } → Silent point new
   -- the domain is of version 4
-  upgrades : running_job point ≡ Some Upgrade → new ≡ record point.state { version = Four } → Silent point new
+  upgrades : running_job point ≡ Some Upgrade → new ≡ record point.state { version = Four }
+      → Silent point new
 
 -- ---- entries
 
--- whether a command may answer no-space in these filesets: one that makes or takes something, a write that has an absent page
+-- whether a command may answer no-space in these filesets: one that makes or takes something, a
+-- write that has an absent page
 abbrev pub TakesSpace : FilesetMap → Command → Type 0
 TakesSpace all (Mkfset fileset) = Unit {0}
 TakesSpace all (Clonefset fileset new_name) = Unit {0}
@@ -59,7 +65,10 @@ TakesSpace all (Mkdir place uid gid) = Unit {0}
 TakesSpace all (Link place to) = Unit {0}
 TakesSpace all (Rename place to) = Unit {0}
 TakesSpace all (Stripe width place) = Unit {0}
-TakesSpace all (Write place offset bytes) = Any (λ q. map.contains_key (pages_at all place) q ≡ false) (pages_of offset (length bytes))
+TakesSpace all (Write place offset bytes) =
+    Any
+    (λ q. map.contains_key (pages_at all place) q ≡ false)
+    (pages_of offset (length bytes))
 TakesSpace all command = ⊥
 
 -- the first refusal by the state of any command
@@ -90,9 +99,13 @@ after_cancel command s = s
 
 -- what an entry may answer and change
 pub data Step (point : Point) (e : Entry) (new : State) : Type 0 where
-  -- what its command means for the filesets; for want of pages clones may lose numbers that it changes
+  -- what its command means for the filesets; for want of pages clones may lose numbers that it
+  -- changes
   applied : (mid : State) → Apply point.state e.command e.reply mid
-      → GainsMarks (λ original clone number. Contains (changed_by_entry point.state.filesets e) (original, number)) mid.filesets new.filesets
+      → GainsMarks
+      (λ original clone number.
+      Contains (changed_by_entry point.state.filesets e) (original, number))
+      mid.filesets new.filesets
       → (new.filesets ≡ mid.filesets) ⊎ Tight point new (need e.command)
       → new ≡ record mid { filesets = new.filesets }
       → Step point e new
@@ -104,11 +117,14 @@ pub data Step (point : Point) (e : Entry) (new : State) : Type 0 where
       → Tight point new (need e.command) → new ≡ point.state
       → Step point e new
   -- a read of a volume failed, and nothing changes
-  read_fault : (volume : ℕ) → e.reply ≡ Refused (ReadFault volume) → new ≡ point.state → Step point e new
+  read_fault : (volume : ℕ) → e.reply ≡ Refused (ReadFault volume) → new ≡ point.state
+      → Step point e new
   -- a write or a sync of a volume failed, and nothing changes
-  panicked : (volume : ℕ) → e.reply ≡ Refused (Panicked volume) → new ≡ point.state → Step point e new
+  panicked : (volume : ℕ) → e.reply ≡ Refused (Panicked volume) → new ≡ point.state
+      → Step point e new
   -- the job, which was not refused when it began, was cancelled
-  cancelled : MayBeCancelled e.command → WasCancelled point → volume_refusal (judged_in point e.command) e.command ≡ None
+  cancelled : MayBeCancelled e.command → WasCancelled point
+      → volume_refusal (judged_in point e.command) e.command ≡ None
       → e.reply ≡ Refused Cancelled
       → new ≡ after_cancel e.command point.state → Step point e new
   -- no memory could be had, and nothing changes

@@ -30,7 +30,8 @@ pub record Leaves (place : Place) (a : Answered) : Type 0 where
 -- this file stands at a place of an original
 abbrev pub StandsAt : FilesetMap → Place → Node → Type 0
 StandsAt all place node =
-    IsSomeAnd (map.get all place.fileset) (λ slot. (slot.role ≡ Original) × (node_at slot.tree place.path ≡ Some node))
+    IsSomeAnd (map.get all place.fileset)
+    (λ slot. (slot.role ≡ Original) × (node_at slot.tree place.path ≡ Some node))
 
 -- an fsync that answered Done by call t found this file at a place, and nothing touched it since
 pub record IsSynced (past : List Answered) (t : ℕ) (place : Place) (node : Node) : Type 0 where

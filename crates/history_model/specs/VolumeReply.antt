@@ -31,9 +31,12 @@ is_movers command = false
 
 -- the state by which a command is refused: for the mover's that in which its job began
 abbrev pub judged_in : Point → Command → State
-judged_in point command = if is_movers command then option_map_or (λ job. job.began) point.job point.state else point.state
+judged_in point command =
+    if is_movers command then option_map_or (λ job. job.began) point.job point.state
+    else point.state
 
--- ---- want of room on the volumes that may take pages: the history knows no free pages, but the sizes of these volumes
+-- ---- want of room on the volumes that may take pages: the history knows no free pages, but the
+-- sizes of these volumes
 
 abbrev pub member_alone : State → ℕ → List Member
 member_alone s vol = option_to_list (map.get s.members vol)
@@ -47,7 +50,8 @@ pub record NoPages (point : Point) (vol : ℕ) (targets : List Member) (reply : 
   pub answer : reply ≡ Refused (NoRoom vol 0)
   pub few : pages_together targets < peak point + 16
 
--- the longest free run of the targets is too short for the log, and each has fewer pages than would leave it one
+-- the longest free run of the targets is too short for the log, and each has fewer pages than would
+-- leave it one
 pub record NoRun (point : Point) (vol : ℕ) (targets : List Member) (reply : Reply) : Type 0 where
   pub longest : ℕ
   pub answer : reply ≡ Refused (NoRoom vol longest)
@@ -59,11 +63,13 @@ pub record NoRun (point : Point) (vol : ℕ) (targets : List Member) (reply : Re
 abbrev pub IsCount : Reply → Type 0
 IsCount reply = (count : ℕ) × (reply ≡ Count count)
 
--- the pages that a domain uses which was just made: label, anchors, bitmap, one page of mcells, the log and the fileset table
+-- the pages that a domain uses which was just made: label, anchors, bitmap, one page of mcells, the
+-- log and the fileset table
 abbrev pub new_domain_pages : ℕ
 new_domain_pages = 133
 
--- as many pages were moved as were used, which are at least those of a new domain and at most those of the members
+-- as many pages were moved as were used, which are at least those of a new domain and at most those
+-- of the members
 pub record IsUneven (s : State) (reply : Reply) : Type 0 where
   pub moved : ℕ
   pub answer : reply ≡ Refused (Unsettled moved)
@@ -75,17 +81,22 @@ pub record WasDisturbed (point : Point) (place : Place) (reply : Reply) : Type 0
   pub moved : ℕ
   pub answer : reply ≡ Refused (Unsettled moved)
   pub number : ℕ
-  pub file : Contains (at (judged_in point (Defragment place)).filesets place.fileset place.path) (place.fileset, number)
+  pub file : Contains
+      (at (judged_in point (Defragment place)).filesets place.fileset place.path)
+      (place.fileset, number)
   pub changed : Contains (changed_in (since_mover point)) (place.fileset, number)
 
 -- the answer of a command on volumes at a point, and the state after it
 abbrev pub Carries : Point → Command → Reply → State → Type 0
 Carries point Showfdmn reply new =
-    (new ≡ point.state) × ((lines : List VolumeItem) × (reply ≡ Volumes lines) × ShowsMembers point.state lines)
+    (new ≡ point.state)
+    × ((lines : List VolumeItem) × (reply ≡ Volumes lines) × ShowsMembers point.state lines)
 Carries point (Showfile place) reply new =
     (new ≡ point.state)
-    × ((runs : List ExtentItem) × (reply ≡ Extents runs) × ShowsExtents point.state.members (pages_at point.state.filesets place) runs)
-Carries point (Stripe width place) reply new = (reply ≡ Done) × (new ≡ with_stripe place point.state)
+    × ((runs : List ExtentItem) × (reply ≡ Extents runs)
+    × ShowsExtents point.state.members (pages_at point.state.filesets place) runs)
+Carries point (Stripe width place) reply new =
+    (reply ≡ Done) × (new ≡ with_stripe place point.state)
 Carries point (Migrate place first count from to) reply new =
     (new ≡ point.state) × (IsCount reply ⊎ NoPages point to (member_alone point.state to) reply)
 Carries point Balance reply new = (new ≡ point.state) × (IsCount reply ⊎ IsUneven point.state reply)
@@ -93,7 +104,8 @@ Carries point (Addvol vol) reply new = (reply ≡ Done) × (new ≡ with_member 
 Carries point (ChvolA vol) reply new = (reply ≡ Done) × (new ≡ with_open true vol point.state)
 Carries point (Switchlog vol) reply new =
     ((reply ≡ Done) × (new ≡ record point.state { log_volume = vol }))
-    ⊎ ((point.state.log_volume ≢ vol) × NoRun point vol (member_alone point.state vol) reply × (new ≡ point.state))
+    ⊎ ((point.state.log_volume ≢ vol) × NoRun point vol (member_alone point.state vol) reply
+    × (new ≡ point.state))
 Carries point (Rmvol vol) reply new =
     ((reply ≡ Done) × Removes vol point.state new)
     ⊎ (IsFull × (new ≡ with_open false vol point.state))
@@ -102,7 +114,8 @@ Carries point (Rmvol vol) reply new =
     IsFull = NoPages point vol (open_others point.state vol) reply
         ⊎ ((point.state.log_volume ≡ vol) × NoRun point vol (open_others point.state vol) reply)
 Carries point Upgrade reply new = (reply ≡ Done) × (new ≡ record point.state { version = Four })
-Carries point (Defragment place) reply new = (new ≡ point.state) × (IsCount reply ⊎ WasDisturbed point place reply)
+Carries point (Defragment place) reply new =
+    (new ≡ point.state) × (IsCount reply ⊎ WasDisturbed point place reply)
 Carries point command reply new = ⊥
 
 -- the first refusal by the state, and then nothing changes, or else what the command carries out

@@ -47,22 +47,28 @@ member_pages s vol = option_map_or (λ member. member.pages) (map.get s.members 
 -- what the member list and the sizes of the rack's volumes refuse
 abbrev pub member_refusal : State → Command → Option Refusal
 member_refusal s (Migrate place first count from to) =
-    first_refusal (refuse_if (option_map_or (λ vol. not (map.contains_key s.members vol)) from false) NoVolume
+    let is_missing : ℕ → Bool = λ vol. not (map.contains_key s.members vol) in
+    first_refusal (refuse_if (option_map_or is_missing from false) NoVolume
     ∷ refuse_if (not (is_open_member s.members to)) NoVolume ∷ [])
 member_refusal s (Addvol vol) =
-    first_refusal (refuse_if (not (map.contains_key s.rack vol)) NoVolume ∷ refuse_if (map.contains_key s.members vol) VolumeTaken
+    first_refusal (refuse_if (not (map.contains_key s.rack vol)) NoVolume
+    ∷ refuse_if (map.contains_key s.members vol) VolumeTaken
     ∷ refuse_if (nat_lt (rack_pages s vol) min_volume_pages) VolumeSmall ∷ [])
 member_refusal s (Rmvol vol) =
-    first_refusal (refuse_if (not (map.contains_key s.members vol)) NoVolume ∷ refuse_if (map.len s.members == 1) LastVolume ∷ [])
+    first_refusal (refuse_if (not (map.contains_key s.members vol)) NoVolume
+    ∷ refuse_if (map.len s.members == 1) LastVolume ∷ [])
 member_refusal s (ChvolA vol) = refuse_if (not (map.contains_key s.members vol)) NoVolume
 member_refusal s (Switchlog vol) = refuse_if (not (is_open_member s.members vol)) NoVolume
-member_refusal s (Stripe width place) = refuse_if (nat_lt (length (open_members s.members)) width) NoVolume
+member_refusal s (Stripe width place) =
+    refuse_if (nat_lt (length (open_members s.members)) width) NoVolume
 member_refusal s command = None
 
 -- whether what stands at a place has a stripe
 abbrev pub is_striped : State → Place → FilesetSlot → Bool
 is_striped s place slot =
-    option_map_or (λ number. set.contains s.striped (place.fileset, number)) (map.get slot.tree.paths place.path) false
+    option_map_or
+    (λ number. set.contains s.striped (place.fileset, number))
+    (map.get slot.tree.paths place.path) false
 
 -- the pages of a file
 abbrev pub file_pages : Node → Pages
@@ -71,7 +77,10 @@ file_pages (Directory uid gid) = map.empty
 
 -- the pages of the file at a place
 abbrev pub pages_at : FilesetMap → Place → Pages
-pages_at all place = option_map_or (λ slot. option_map_or file_pages (node_at slot.tree place.path) map.empty) (map.get all place.fileset) map.empty
+pages_at all place =
+    option_map_or
+    (λ slot. option_map_or file_pages (node_at slot.tree place.path) map.empty)
+    (map.get all place.fileset) map.empty
 
 -- whether a file has a page
 abbrev pub has_pages : FilesetMap → Place → Bool
@@ -80,13 +89,17 @@ has_pages all place = nat_lt 0 (map.len (pages_at all place))
 -- what refuses a command that changes the volumes of a file without a stripe
 abbrev pub stripeless_checks : State → Place → FilesetSlot → List (Option Refusal)
 stripeless_checks s place slot =
-    read_only slot ∷ target_refusal slot place.path ∷ directory_here slot place.path ∷ refuse_if (is_striped s place slot) Striped ∷ []
+    read_only slot ∷ target_refusal slot place.path ∷ directory_here slot place.path
+    ∷ refuse_if (is_striped s place slot) Striped ∷ []
 
 -- what the place of a command on volumes refuses
 abbrev pub place_refusal : State → Command → Option Refusal
 place_refusal s (Showfile place) =
-    in_fileset s.filesets place.fileset (λ slot. target_refusal slot place.path ∷ directory_here slot place.path ∷ out_of_sync slot place.path ∷ [])
-place_refusal s (Migrate place first count from to) = in_fileset s.filesets place.fileset (stripeless_checks s place)
+    in_fileset s.filesets place.fileset (λ slot.
+    target_refusal slot place.path ∷ directory_here slot place.path
+    ∷ out_of_sync slot place.path ∷ [])
+place_refusal s (Migrate place first count from to) =
+    in_fileset s.filesets place.fileset (stripeless_checks s place)
 place_refusal s (Defragment place) = in_fileset s.filesets place.fileset (stripeless_checks s place)
 place_refusal s (Stripe width place) =
     in_fileset s.filesets place.fileset (λ slot. first_refusal (stripeless_checks s place slot)
@@ -101,7 +114,8 @@ volume_refusal s command = first_refusal (place_refusal s command ∷ member_ref
 
 -- a member's line: its pages, used or free, and what it is
 pub record ShowsMember (s : State) (line : VolumeItem) : Type 0 where
-  pub member : IsSomeAnd (map.get s.members line.vol) (λ member. (line.pages ≡ member.pages) × (line.closed ≡ not member.is_open))
+  pub member : IsSomeAnd (map.get s.members line.vol)
+      (λ member. (line.pages ≡ member.pages) × (line.closed ≡ not member.is_open))
   pub counts : line.used + line.free ≡ line.pages
   pub log : line.has_log ≡ (line.vol == s.log_volume)
 
@@ -116,20 +130,26 @@ IsInRun q run = (run.page ≤ q) × (q < run.page + run.count)
 
 -- the next run begins where one ends, in the file and on the volume
 abbrev pub touches : ExtentItem → ExtentItem → Bool
-touches run next = run.page + run.count == next.page && run.vol == next.vol && run.first + run.count == next.first
+touches run next =
+    run.page + run.count == next.page
+    && run.vol == next.vol && run.first + run.count == next.first
 
 -- two runs have no page of a volume in common
 abbrev pub AreApart : ExtentItem → ExtentItem → Type 0
 AreApart run other =
-    run.vol ≡ other.vol → (run.first + run.count ≤ other.first) ⊎ (other.first + other.count ≤ run.first)
+    run.vol ≡ other.vol
+    → (run.first + run.count ≤ other.first) ⊎ (other.first + other.count ≤ run.first)
 
 -- the runs of a file's pages are maximal, in order, and on members
-pub record ShowsExtents (members : MemberMap) (pages : Pages) (runs : List ExtentItem) : Type 0 where
+pub record ShowsExtents (members : MemberMap) (pages : Pages) (runs : List ExtentItem)
+    : Type 0 where
   pub covered : (q : ℕ) → IsTrue (map.contains_key pages q) ↔ Any (IsInRun q) runs
   pub some : All (λ run. 0 < run.count) runs
   pub in_order : AllAdjacentBelow (λ run next. run.page + run.count ≤ next.page) runs (length runs)
   pub maximal : AllAdjacentBelow (λ run next. touches run next ≡ false) runs (length runs)
-  pub on_members : All (λ run. IsSomeAnd (map.get members run.vol) (λ member. run.first + run.count ≤ member.pages)) runs
+  pub on_members : All
+      (λ run. IsSomeAnd (map.get members run.vol) (λ member. run.first + run.count ≤ member.pages))
+      runs
   pub apart : AllPairs AreApart runs
 
 -- ---- what changes
@@ -137,12 +157,18 @@ pub record ShowsExtents (members : MemberMap) (pages : Pages) (runs : List Exten
 -- a state in which a member takes new pages or does not
 abbrev pub with_open : Bool → ℕ → State → State
 with_open is_open vol s =
-    option_map_or (λ member. record s { members = map.insert s.members vol (record member { is_open = is_open }) }) (map.get s.members vol) s
+    option_map_or
+    (λ member. record s {
+      members = map.insert s.members vol (record member { is_open = is_open });
+    })
+    (map.get s.members vol) s
 
--- a state with a volume of the rack as an open member, up to the greatest size that the version allows
+-- a state with a volume of the rack as an open member, up to the greatest size that the version
+-- allows
 abbrev pub with_member : ℕ → State → State
 with_member vol s =
-    record s { members = map.insert s.members vol (record { pages = min (rack_pages s vol) (most_pages s.version); is_open = true }) }
+    let pages = min (rack_pages s vol) (most_pages s.version) in
+    record s { members = map.insert s.members vol (record { pages = pages; is_open = true }) }
 
 -- a member goes, and the log, where it was there, is on an open one that stays
 pub record Removes (vol : ℕ) (s new : State) : Type 0 where
@@ -154,5 +180,8 @@ pub record Removes (vol : ℕ) (s new : State) : Type 0 where
 -- a state in which the file at a place is striped
 abbrev pub with_stripe : Place → State → State
 with_stripe place s =
-    option_map_or (λ slot. option_map_or (λ number. record s { striped = set.insert s.striped (place.fileset, number) })
-    (map.get slot.tree.paths place.path) s) (map.get s.filesets place.fileset) s
+    option_map_or
+    (λ slot. option_map_or
+    (λ number. record s { striped = set.insert s.striped (place.fileset, number) })
+    (map.get slot.tree.paths place.path) s)
+    (map.get s.filesets place.fileset) s

@@ -1,6 +1,6 @@
 //! Histories of a domain: its filesets with the volumes below them, what each entry may answer and
-//! change, which histories are legal, and what a stop leaves. Definitions, with their first laws, each
-//! the contract of a function without a body.
+//! change, which histories are legal, and what a stop leaves. Definitions, with their first laws,
+//! each the contract of a function without a body.
 #![tactic(auto)]
 
 ghost use Rattle.std.specs.Prelude.{◌≢◌, ℕ, List, None};
@@ -15,12 +15,14 @@ ghost use Rattle.history_model.specs.State.{new_domain};
 
 /// A chain to a point and one from it make one.
 pub fn chains_join()
-    ensures { (first middle last : Point) → Chain first middle → Chain middle last → Chain first last }
+    ensures { (first middle last : Point)
+        → Chain first middle → Chain middle last → Chain first last }
 {}
 
 /// A stop after the sync of a short history may leave the fileset that was synced, without the one
 /// made since.
 pub fn a_stop_may_leave_what_was_synced()
     ensures { (version : Version) (sizes : List ℕ) (name other : Name) → name ≢ other
-        → AfterStop (new_domain version sizes) (two_filesets name other) None 1 (with_empty name empty) }
+        → AfterStop
+        (new_domain version sizes) (two_filesets name other) None 1 (with_empty name empty) }
 {}

@@ -21,7 +21,8 @@ pub fn is_extent_list(
     members: &[VolumeItem],
 ) -> Result<bool, OutOfMemory>
     requires { Rises members.now }
-    ensures { IfOk result (λ shown. IsTrue shown ↔ ShowsExtents (members_of members.now) pages.now runs.now) }
+    ensures { IfOk result (λ shown.
+        IsTrue shown ↔ ShowsExtents (members_of members.now) pages.now runs.now) }
 {
     let numbers = pages.numbers(alloc)?;
     Ok(are_shown(pages, &numbers, runs, members))
@@ -82,7 +83,8 @@ fn are_in_runs(numbers: &[u64], runs: &[ExtentItem]) -> bool
 
 /// Whether each page of a run is one of the file's.
 fn has_pages(run: &ExtentItem, pages: &PageMap) -> bool
-    ensures { IsTrue result ↔ ((q : ℕ) → IsInRun q run.now → IsTrue (map.contains_key pages.now q)) }
+    ensures { IsTrue result
+        ↔ ((q : ℕ) → IsInRun q run.now → IsTrue (map.contains_key pages.now q)) }
 {
     let first = u64::from(run.page);
     for q in first..first + u64::from(run.count) {
@@ -95,7 +97,8 @@ fn has_pages(run: &ExtentItem, pages: &PageMap) -> bool
 
 /// Whether each run has a page, and each of theirs is one of the file's.
 fn have_pages(runs: &[ExtentItem], pages: &PageMap) -> bool
-    ensures { IsTrue result ↔ All (λ run. (0 < run.count) × ((q : ℕ) → IsInRun q run → IsTrue (map.contains_key pages.now q))) runs.now }
+    ensures { IsTrue result ↔ All (λ run. (0 < run.count)
+        × ((q : ℕ) → IsInRun q run → IsTrue (map.contains_key pages.now q))) runs.now }
 {
     for run in runs {
         if run.count == 0 || !has_pages(run, pages) {
@@ -117,7 +120,8 @@ fn touches(run: &ExtentItem, next: &ExtentItem) -> bool
 
 /// Whether the next run begins behind one in the file, and could not be part of it.
 fn comes_after(run: &ExtentItem, next: &ExtentItem) -> bool
-    ensures { IsTrue result ↔ ((run.now.page + run.now.count ≤ next.now.page) × (touch run.now next.now ≡ false)) }
+    ensures { IsTrue result ↔ ((run.now.page + run.now.count ≤ next.now.page)
+        × (touch run.now next.now ≡ false)) }
 {
     let ends = u64::from(run.page) + u64::from(run.count);
     ends <= u64::from(next.page) && !touches(run, next)
@@ -125,7 +129,9 @@ fn comes_after(run: &ExtentItem, next: &ExtentItem) -> bool
 
 /// Whether each run comes after the one before it.
 fn are_in_order(runs: &[ExtentItem]) -> bool
-    ensures { IsTrue result ↔ AllAdjacentBelow (λ run next. (run.page + run.count ≤ next.page) × (touch run next ≡ false)) runs.now (length runs.now) }
+    ensures { IsTrue result ↔ AllAdjacentBelow
+        (λ run next. (run.page + run.count ≤ next.page) × (touch run next ≡ false))
+        runs.now (length runs.now) }
 {
     for i in 1..runs.len() {
         if !comes_after(&runs[i - 1], &runs[i]) {
@@ -138,7 +144,8 @@ fn are_in_order(runs: &[ExtentItem]) -> bool
 /// Whether a run lies within the pages of a member.
 fn is_on_member(run: &ExtentItem, members: &[VolumeItem]) -> bool
     requires { Rises members.now }
-    ensures { IsTrue result ↔ IsSomeAnd (map.get (members_of members.now) run.now.vol) (λ member. run.now.first + run.now.count ≤ member.pages) }
+    ensures { IsTrue result ↔ IsSomeAnd (map.get (members_of members.now) run.now.vol)
+        (λ member. run.now.first + run.now.count ≤ member.pages) }
 {
     match line_of(members, run.vol) {
         Some(line) => u64::from(run.first) + u64::from(run.count) <= u64::from(line.pages),
@@ -149,7 +156,10 @@ fn is_on_member(run: &ExtentItem, members: &[VolumeItem]) -> bool
 /// Whether each run lies within the pages of a member.
 fn are_on_members(runs: &[ExtentItem], members: &[VolumeItem]) -> bool
     requires { Rises members.now }
-    ensures { IsTrue result ↔ All (λ run. IsSomeAnd (map.get (members_of members.now) run.vol) (λ member. run.first + run.count ≤ member.pages)) runs.now }
+    ensures { IsTrue result ↔ All
+        (λ run. IsSomeAnd (map.get (members_of members.now) run.vol)
+        (λ member. run.first + run.count ≤ member.pages))
+        runs.now }
 {
     for run in runs {
         if !is_on_member(run, members) {

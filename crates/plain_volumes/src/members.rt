@@ -20,11 +20,12 @@ pub fn rises(members: &[VolumeItem]) -> bool
     true
 }
 
-/// Whether a domain with these members, and the log on this volume, may show this list: in each line
-/// the pages used and free make up the member's pages, and the log's volume is marked alone.
+/// Whether a domain with these members, and the log on this volume, may show this list: in each
+/// line the pages used and free make up the member's pages, and the log's volume is marked alone.
 pub fn is_member_list(members: &[VolumeItem], log_volume: u32) -> bool
     requires { Rises members.now }
-    ensures { (s : State) → s.members ≡ members_of members.now → s.log_volume ≡ log_volume → IsTrue result ↔ ShowsMembers s members.now }
+    ensures { (s : State) → s.members ≡ members_of members.now → s.log_volume ≡ log_volume
+        → IsTrue result ↔ ShowsMembers s members.now }
 {
     for line in members {
         if !adds_up(line, log_volume) {

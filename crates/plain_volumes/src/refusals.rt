@@ -19,7 +19,8 @@ use fileset_model::{Command, Refusal, VolumeItem};
 /// rmvol.
 pub fn member_refusal(sizes: &[u32], members: &[VolumeItem], command: &Command) -> Option<Refusal>
     requires { Rises members.now }
-    ensures { (s : State) → HasVolumes s sizes.now members.now → result ≡ refusal_by_members s command.now }
+    ensures { (s : State) → HasVolumes s sizes.now members.now
+        → result ≡ refusal_by_members s command.now }
 {
     match command {
         Command::Migrate { from, to, .. } => migrate_refusal(members, *from, *to),
@@ -34,7 +35,10 @@ pub fn member_refusal(sizes: &[u32], members: &[VolumeItem], command: &Command) 
 
 fn migrate_refusal(members: &[VolumeItem], from: Option<u32>, to: u32) -> Option<Refusal>
     requires { Rises members.now }
-    ensures { result ≡ first_refusal (refuse_if (option_map_or (λ vol. not (map.contains_key (members_of members.now) vol)) from false) NoVolume ∷ refuse_if (not (is_open_member (members_of members.now) to)) NoVolume ∷ []) }
+    ensures { let all = members_of members.now in
+        result ≡ first_refusal
+        (refuse_if (option_map_or (λ vol. not (map.contains_key all vol)) from false) NoVolume
+        ∷ refuse_if (not (is_open_member all to)) NoVolume ∷ []) }
 {
     if let Some(vol) = from {
         if !is_member(members, vol) {
@@ -46,7 +50,12 @@ fn migrate_refusal(members: &[VolumeItem], from: Option<u32>, to: u32) -> Option
 
 fn addvol_refusal(sizes: &[u32], members: &[VolumeItem], vol: u32) -> Option<Refusal>
     requires { Rises members.now }
-    ensures { result ≡ first_refusal (refuse_if (not (map.contains_key (rack_of sizes.now) vol)) NoVolume ∷ refuse_if (map.contains_key (members_of members.now) vol) VolumeTaken ∷ refuse_if (nat_lt (option_map_or (λ pages. pages) (map.get (rack_of sizes.now) vol) 0) min_volume_pages) VolumeSmall ∷ []) }
+    ensures { let rack = rack_of sizes.now in
+        let size = option_map_or (λ pages. pages) (map.get rack vol) 0 in
+        result ≡ first_refusal
+        (refuse_if (not (map.contains_key rack vol)) NoVolume
+        ∷ refuse_if (map.contains_key (members_of members.now) vol) VolumeTaken
+        ∷ refuse_if (nat_lt size min_volume_pages) VolumeSmall ∷ []) }
 {
     let Some(pages) = rack_size(sizes, vol) else {
         return Some(Refusal::NoVolume);
@@ -62,7 +71,10 @@ fn addvol_refusal(sizes: &[u32], members: &[VolumeItem], vol: u32) -> Option<Ref
 
 fn rmvol_refusal(members: &[VolumeItem], vol: u32) -> Option<Refusal>
     requires { Rises members.now }
-    ensures { result ≡ first_refusal (refuse_if (not (map.contains_key (members_of members.now) vol)) NoVolume ∷ refuse_if (map.len (members_of members.now) == 1) LastVolume ∷ []) }
+    ensures { let all = members_of members.now in
+        result ≡ first_refusal
+        (refuse_if (not (map.contains_key all vol)) NoVolume
+        ∷ refuse_if (map.len all == 1) LastVolume ∷ []) }
 {
     if !is_member(members, vol) {
         return Some(Refusal::NoVolume);
@@ -96,7 +108,8 @@ fn open_needed(members: &[VolumeItem], vol: u32) -> Option<Refusal>
 
 fn stripe_refusal(members: &[VolumeItem], width: u8) -> Option<Refusal>
     requires { Rises members.now }
-    ensures { result ≡ refuse_if (nat_lt (length (open_members (members_of members.now))) width) NoVolume }
+    ensures { let targets = open_members (members_of members.now) in
+        result ≡ refuse_if (nat_lt (length targets) width) NoVolume }
 {
     if open_count(members) < width as usize {
         Some(Refusal::NoVolume)
