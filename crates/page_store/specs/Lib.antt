@@ -1,1 +1,2 @@
+pub mod Bitfiles
 pub mod Pages

@@ -1,0 +1,127 @@
+//! Files and directories by their tags.
+ghost use Rattle.std.specs.Prelude.{◌≡◌, ◌<◌, ◌≤◌, ℕ, IfErr, IfOk, IsSome, None, OnErr, OnOk};
+ghost use Rattle.std.specs.Option.{option_copied};
+ghost use Rattle.domain_base.specs.Limits.{file_pages, max_links};
+ghost use Rattle.page_store.specs.Bitfiles.{AreBitfiles, Bitfiles, IsCounted, IsDirectory, count_index, count_pages, index_at, insert_index, kind_at, linked, links_at, new_file, page_at, put_index, put_page, with_change, with_file, without_file};
+
+use crate::fault::StoreFault;
+use domain_base::{Kind, Page, Tag};
+use std::alloc::Global;
+
+/// A finite map from tag to file or directory, with a directory's pages and those of its index, and
+/// a count of misses. A call that changes it answers NoPage only where that count rose, OutOfMemory
+/// where no memory could be had, and has changed no file where it answers an Err.
+pub trait BitfileSet {
+    /// What each tag names.
+    ghost files: { Self → Bitfiles };
+
+    /// How often no page was free.
+    ghost missed: { Self → ℕ };
+
+    /// Whether the tag names a file or a directory; None exactly where it names nothing.
+    fn kind_of(&self, tag: Tag) -> Option<Kind>
+        ensures { result ≡ kind_at (files self.now) tag };
+
+    /// Makes a file or a directory of that owner, with one link and no page, and answers its tag, which
+    /// named nothing before.
+    fn make(&mut self, alloc: Global, kind: Kind, uid: u32, gid: u32) -> Result<Tag, StoreFault>
+        ensures fresh { IfOk result (λ tag. files self.old tag ≡ None) }
+        ensures ok { IfOk result (λ tag. files self.new ≡
+            with_file tag (new_file kind uid gid) (files self.old)) }
+        ensures err { OnErr result (files self.new ≡ files self.old) }
+        ensures no_page { IfErr result (IsCounted (missed self.old) (missed self.new)) }
+        ensures count { missed self.old ≤ missed self.new };
+
+    /// Takes a tag's file or directory away, with all its pages.
+    fn remove(&mut self, alloc: Global, tag: Tag) -> Result<(), StoreFault>
+        requires { IsSome (files self.old tag) }
+        ensures ok { OnOk result (files self.new ≡ without_file tag (files self.old)) }
+        ensures err { OnErr result (files self.new ≡ files self.old) }
+        ensures no_page { IfErr result (IsCounted (missed self.old) (missed self.new)) }
+        ensures count { missed self.old ≤ missed self.new };
+
+    /// How many pages a directory has; 0 where the tag names none.
+    fn dir_pages(&self, tag: Tag) -> u32
+        ensures { result ≡ count_pages (files self.now) tag };
+
+    /// A directory's page, counted from 0; None exactly where it has no such page.
+    fn dir_page(&self, tag: Tag, page: u32) -> Option<&Page>
+        ensures { option_copied result ≡ page_at (files self.now) tag page };
+
+    /// Puts a page of a directory in place of the one at that number, or behind its last one.
+    fn put_dir_page(
+        &mut self,
+        alloc: Global,
+        tag: Tag,
+        page: u32,
+        bytes: Page,
+    ) -> Result<(), StoreFault>
+        requires directory { IsDirectory (files self.old) tag }
+        requires place { page ≤ count_pages (files self.old) tag }
+        requires fits { page < file_pages }
+        ensures ok { OnOk result (files self.new ≡
+            with_change tag (put_page page bytes) (files self.old)) }
+        ensures err { OnErr result (files self.new ≡ files self.old) }
+        ensures no_page { IfErr result (IsCounted (missed self.old) (missed self.new)) }
+        ensures count { missed self.old ≤ missed self.new };
+
+    /// A page of a directory's index, counted from 0; None exactly where it has no such page.
+    fn index_page(&self, tag: Tag, page: u32) -> Option<&Page>
+        ensures { option_copied result ≡ index_at (files self.now) tag page };
+
+    /// Puts an index page in place of the one at that number, or behind the last one. OutOfMemory
+    /// also where the index would have 2^32 pages.
+    fn put_index_page(
+        &mut self,
+        alloc: Global,
+        tag: Tag,
+        page: u32,
+        bytes: Page,
+    ) -> Result<(), StoreFault>
+        requires directory { IsDirectory (files self.old) tag }
+        requires place { page ≤ count_index (files self.old) tag }
+        ensures ok { OnOk result (files self.new ≡
+            with_change tag (put_index page bytes) (files self.old)) }
+        ensures err { OnErr result (files self.new ≡ files self.old) }
+        ensures no_page { IfErr result (IsCounted (missed self.old) (missed self.new)) }
+        ensures count { missed self.old ≤ missed self.new };
+
+    /// Puts a new index page at that number; the pages from there on count one more. OutOfMemory also
+    /// where the index would have 2^32 pages.
+    fn insert_index_page(
+        &mut self,
+        alloc: Global,
+        tag: Tag,
+        page: u32,
+        bytes: Page,
+    ) -> Result<(), StoreFault>
+        requires directory { IsDirectory (files self.old) tag }
+        requires place { page ≤ count_index (files self.old) tag }
+        ensures ok { OnOk result (files self.new ≡
+            with_change tag (insert_index page bytes) (files self.old)) }
+        ensures err { OnErr result (files self.new ≡ files self.old) }
+        ensures no_page { IfErr result (IsCounted (missed self.old) (missed self.new)) }
+        ensures count { missed self.old ≤ missed self.new };
+
+    /// How many rows name a file or a directory; 0 where the tag names nothing.
+    fn links(&self, tag: Tag) -> u32
+        ensures { result ≡ links_at (files self.now) tag };
+
+    /// Sets how many rows name a tag's file or directory, from 1 to 1,000.
+    fn set_links(&mut self, alloc: Global, tag: Tag, links: u32) -> Result<(), StoreFault>
+        requires live { IsSome (files self.old tag) }
+        requires named { 1 ≤ links }
+        requires most { links ≤ max_links }
+        ensures ok { OnOk result (files self.new ≡
+            with_change tag (linked links) (files self.old)) }
+        ensures err { OnErr result (files self.new ≡ files self.old) }
+        ensures no_page { IfErr result (IsCounted (missed self.old) (missed self.new)) }
+        ensures count { missed self.old ≤ missed self.new };
+
+    /// How often no page was free. It never falls, and stays at its greatest value.
+    fn misses(&self) -> u64
+        ensures { result ≡ missed self.now };
+
+    /// Each is within its limits, its pages have 8,192 bytes, and only a directory has pages.
+    ghost sound: { (set : Self) → AreBitfiles (files set) };
+}
