@@ -1,0 +1,7 @@
+//! The maps of `page_store` in memory: pages by their homes, and files and directories by their tags.
+#![tactic(auto)]
+
+mod memory_pages;
+mod sorted;
+
+pub use memory_pages::MemoryPages;

@@ -1,0 +1,69 @@
+//! Pages of metadata in memory.
+ghost use Rattle.std.specs.Prelude.{◌≡◌, ◌+◌, ◌-◌, ◌^◌, ◌<◌, vec_capacity, vec_len};
+ghost use Rattle.page_store.specs.Pages.{no_pages};
+ghost use Rattle.memory_store.specs.Homes.{AreWholeValues, are_whole, number_of, pages_of};
+ghost use Rattle.memory_store.specs.Rising.{IsRising};
+
+use crate::sorted::{find, put, take};
+use domain_base::limits::PAGE_BYTES;
+use domain_base::{Home, OutOfMemory, Page};
+use page_store::MetaPages;
+use std::alloc::Global;
+
+/// Pages of metadata by their homes, in one list in the order of homes. There is room for as many
+/// more as the list has room for.
+#[derive(Drop)]
+pub struct MemoryPages {
+    entries: Vec<(u64, Page)>,
+    ghost rising: { IsRising entries.items },
+    ghost whole: { AreWholeValues entries.items },
+}
+
+/// The number of a home, which is greater where the volume is, or the page on it.
+fn key_of(home: &Home) -> u64
+    ensures value { result ≡ number_of home.now }
+    ensures width { home.now.page < 2 ^ 32 }
+{
+    let page = home.page;
+    (u64::from(home.vol.number()) << 32) + u64::from(page)
+}
+
+impl MemoryPages {
+    /// No page at any home, and no room for one.
+    pub fn new(alloc: Global) -> MemoryPages
+        ensures { ⟦<MemoryPages as MetaPages>⟧.pages result ≡ no_pages }
+    {
+        MemoryPages {
+            entries: Vec::new(alloc),
+        }
+    }
+}
+
+impl MetaPages for MemoryPages {
+    ghost pages = { λ store. pages_of store.entries.items };
+
+    ghost room = { λ store. vec_capacity store.entries - vec_len store.entries };
+
+    ghost whole = { λ store. are_whole store.entries.items store.whole };
+
+    fn get(&self, home: Home) -> Option<&Page> {
+        find(&self.entries, key_of(&home))
+    }
+
+    fn reserve(&mut self, _alloc: Global, more: usize) -> Result<(), OutOfMemory> {
+        self.entries.reserve(more)
+    }
+
+    fn spare(&self) -> usize {
+        self.entries.capacity() - self.entries.len()
+    }
+
+    fn put(&mut self, home: Home, page: Page) {
+        prove!(page.bytes().len() == PAGE_BYTES);
+        let _ = put(&mut self.entries, key_of(&home), page);
+    }
+
+    fn take_off(&mut self, home: Home) -> Option<Page> {
+        take(&mut self.entries, key_of(&home))
+    }
+}
