@@ -1,0 +1,39 @@
+use Rattle.std.proofs.Common.{set, subst, sym}
+use Rattle.page_store.specs.Bitfiles.{put_page}
+use Rattle.memory_store.specs.Rising.{IsGapFor, IsPlaceOf}
+use Rattle.memory_store.specs.Tags.{Changes}
+use Rattle.memory_store.proofs.FileLemmas.{changes_at_place, changes_in_gap, found_at_place, sound_at_place}
+use Rattle.memory_store.proofs.memory_bitfiles.put_page.Goals as goal
+
+pub put_page-requires-clause-directory : goal.put_page-requires-clause-directory
+put_page-requires-clause-directory c =
+    let place = subst (λ l. IsPlaceOf l c.args.key c.in-Ok.place) c.deref.ensures.value c.in-Ok.ensures.place in
+    rw (found_at_place _ _ _ place c.requires.rising c.index_mut.result.now c.index_mut.ensures.value) at c.requires.directory
+
+pub put_page-requires-clause-place : goal.put_page-requires-clause-place
+put_page-requires-clause-place c =
+    let place = subst (λ l. IsPlaceOf l c.args.key c.in-Ok.place) c.deref.ensures.value c.in-Ok.ensures.place in
+    rw (found_at_place _ _ _ place c.requires.rising c.index_mut.result.now c.index_mut.ensures.value) at c.requires.place
+
+pub returns-in_err-put_page-clause-sound : goal.returns-in_err-put_page-clause-sound
+returns-in_err-put_page-clause-sound c =
+    let place = subst (λ l. IsPlaceOf l c.args.key c.in-Ok.place) c.deref.ensures.value c.in-Ok.ensures.place in
+    sound_at_place _ _ _ place c.requires.rising c.requires.sound c.index_mut.result.now c.index_mut.ensures.value c.put_page.new.self c.put_page.ensures.sound
+
+pub returns-in_ok-put_page-clause-sound : goal.returns-in_ok-put_page-clause-sound
+returns-in_ok-put_page-clause-sound c =
+    let place = subst (λ l. IsPlaceOf l c.args.key c.in-Ok.place) c.deref.ensures.value c.in-Ok.ensures.place in
+    sound_at_place _ _ _ place c.requires.rising c.requires.sound c.index_mut.result.now c.index_mut.ensures.value c.put_page.new.self c.put_page.ensures.sound
+
+pub returns-in_ok-put_page-clause-ok : goal.returns-in_ok-put_page-clause-ok
+returns-in_ok-put_page-clause-ok c =
+    let files = c.args.files.now.items in
+    let item = c.index_mut.result.now in
+    let place = subst (λ l. IsPlaceOf l c.args.key c.in-Ok.place) c.deref.ensures.value c.in-Ok.ensures.place in
+    subst (λ file. Changes files (set files c.in-Ok.place (item.0, file)) c.args.key (put_page c.args.page c.args.bytes)) (sym c.in_ok-put_page.ensures.ok)
+    (changes_at_place files c.args.key c.in-Ok.place place c.requires.rising item c.index_mut.ensures.value (put_page c.args.page c.args.bytes))
+
+pub returns-in_default-clause-ok : goal.returns-in_default-clause-ok
+returns-in_default-clause-ok c =
+    let gap = subst (λ l. IsGapFor l c.args.key c.in_default.field-0) c.deref.ensures.value c.in_default.ensures.gap in
+    changes_in_gap _ _ _ gap (put_page c.args.page c.args.bytes)

@@ -1,0 +1,49 @@
+//! Which calls of a map in memory find no page.
+ghost use Rattle.std.specs.Prelude.{◌≡◌, ◌≤◌, IfErr, OnOk};
+ghost use Rattle.domain_base.specs.Counts.{HasRisen};
+ghost use Rattle.page_store.specs.declared.fault.StoreFault.TheVariants.{NoPage as IsNoPage};
+
+use page_store::StoreFault;
+
+/// The numbers of the calls that find no page, how many calls there were, and how many misses.
+#[derive(Drop)]
+pub(crate) struct Misses {
+    told: Vec<u64>,
+    calls: u64,
+    count: u64,
+}
+
+impl Misses {
+    /// No call yet.
+    pub(crate) fn new(told: Vec<u64>) -> Misses
+        ensures { result.count ≡ 0 }
+    {
+        Misses {
+            told,
+            calls: 0,
+            count: 0,
+        }
+    }
+
+    /// How many misses there were.
+    pub(crate) fn count(&self) -> u64
+        ensures { result ≡ self.now.count }
+    {
+        self.count
+    }
+
+    /// Counts one more call, and a miss where the call is one of those that find no page.
+    pub(crate) fn next_call(&mut self) -> Result<(), StoreFault>
+        ensures fault { IfErr result (λ fault. fault ≡ IsNoPage) }
+        ensures risen { IfErr result (λ _. HasRisen self.old.count self.new.count) }
+        ensures count { self.old.count ≤ self.new.count }
+    {
+        let call = self.calls;
+        self.calls = call.saturating_add(1);
+        if self.told.contains(&call) {
+            self.count = self.count.saturating_add(1);
+            return Err(StoreFault::NoPage);
+        }
+        Ok(())
+    }
+}
