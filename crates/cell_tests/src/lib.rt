@@ -1,0 +1,9 @@
+//! Tests of the maps in memory, and of cells and chains of cells on pages that were written by hand.
+#![tactic(auto)]
+
+#[cfg(test)]
+mod chains;
+#[cfg(test)]
+mod lines;
+#[cfg(test)]
+mod writing;
