@@ -2,8 +2,12 @@
 #![tactic(auto)]
 
 #[cfg(test)]
+mod bitfiles;
+#[cfg(test)]
 mod chains;
 #[cfg(test)]
 mod lines;
+#[cfg(test)]
+mod pages;
 #[cfg(test)]
 mod writing;
