@@ -15,7 +15,7 @@ use crate::reading::CELL_BYTES;
 use byteorder::{ByteOrder, LittleEndian};
 use domain_base::{CellAt, FilesetNo, Home, Page};
 use page_store::MetaPages;
-use record_table::{Record, write_record};
+use record_table::{Record, put, write_record};
 
 /// How many cells a page has.
 const CELLS: usize = 28;
@@ -23,23 +23,6 @@ const CELLS: usize = 28;
 /// The widths of the numbers in a cell's head: a zero, the next cell's volume, cell and page, the
 /// slot, the sequence, the fileset, the kind, the size of the records, and a zero.
 const HEAD: [u8; 10] = [2, 1, 1, 4, 4, 2, 1, 1, 2, 2];
-
-/// Writes numbers of these widths one after the other.
-#[tactic(auto, unfolding(record_table::specs::Records::spelled))]
-fn put(widths: &[u8], numbers: &[u64], out: &mut [u8]) -> usize
-    requires fit { Fit widths.now numbers.now }
-    requires room { sum widths.now ≤ length out.old }
-    ensures puts { PutsNumbers widths.now numbers.now out.old out.new result }
-    ensures fit { Fit widths.now numbers.now }
-{
-    let mut at = 0;
-    for (i, width) in widths.iter().enumerate() {
-        let width = usize::from(*width);
-        LittleEndian::write_uint(&mut out[at..], numbers[i], width);
-        at += width;
-    }
-    at
-}
 
 /// The volume, cell and page of an address, and zeros for none.
 fn address_of(next: &Option<CellAt>) -> (u8, u8, u32)

@@ -23,6 +23,7 @@ use domain_base::Version;
 pub use layout::Layout;
 pub use record::{Bad, ExtentField, HoleField, Leftover, Record};
 use table::{end_of, put_record, record_at};
+pub use writing::put;
 
 /// The greatest kind that is a record in a version: dense extents are none in version 3.
 fn last_kind_of(version: Version) -> u8

@@ -24,9 +24,10 @@ const DENSE: Layout<6> = Layout {
 
 const HOLE: Layout<2> = Layout { widths: [4, 4] };
 
-/// Writes numbers of these widths one after the other, and answers how many bytes they took.
+/// Writes numbers of these widths, each from 1 to 8 bytes, one after the other with the lowest byte
+/// first, and answers how many bytes they took. The bytes behind them stay as they were.
 #[tactic(auto, unfolding(crate::specs::Records::spelled))]
-fn put(widths: &[u8], numbers: &[u64], out: &mut [u8]) -> usize
+pub fn put(widths: &[u8], numbers: &[u64], out: &mut [u8]) -> usize
     requires fit { Fit widths.now numbers.now }
     requires room { sum widths.now ≤ length out.old }
     ensures { PutsNumbers widths.now numbers.now out.old out.new result }
