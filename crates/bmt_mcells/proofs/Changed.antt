@@ -4,7 +4,7 @@ use Rattle.std.proofs.lemmas.Bool.{cases_lt, and_from, and_parts, eqb-true, eq-e
 use Rattle.std.proofs.lemmas.List.{take_at, get_or-drop}
 use Rattle.std.proofs.lemmas.List.Sums.{count_by-le-length}
 use Rattle.std.specs.List.{count_by, range_with_len}
-use Rattle.std.specs.Option.{option_and_then}
+use Rattle.std.specs.Option.{option_and_then, option_map}
 use Rattle.byteorder.specs.Endian.{little_bytes}
 use Rattle.byteorder.specs.Numbers.{length-bytes_low_first, little_number-reads_back}
 use Rattle.domain_base.specs.Page.{overwritten}
@@ -13,12 +13,12 @@ use Rattle.domain_base.specs.declared.place.Home.{Home}
 use Rattle.page_store.specs.Pages.{Pages, same_home}
 use Rattle.record_table.specs.Fields.{number_at}
 use Rattle.record_table.proofs.Bytes.{little_number-take}
-use Rattle.bmt_mcells.specs.Cell.{Cell, IsCell, IsFreeCell}
-use Rattle.bmt_mcells.specs.CellPage.{ChangesCell, IsCellPage, cell_at, cell_of, free_cells, home_of, is_cell_page, with_cell}
+use Rattle.bmt_mcells.specs.Cell.{IsFreeOrUsed}
+use Rattle.bmt_mcells.specs.CellPage.{ChangesCell, IsCellPage, KeepsHeaders, KeepsWellFormed, cell_at, cell_of, free_cells, header, home_of, is_cell_page, with_cell}
 use Rattle.bmt_mcells.specs.Chain.{LeavesOthers, is_at}
 use Rattle.bmt_mcells.proofs.Places.{part_before, rest_after, part_there, long_still}
 
-number-same : (w at : ℕ) (xs ys : List ℕ) → take w (drop at xs) ≡ take w (drop at ys) → number_at w at xs ≡ number_at w at ys
+pub number-same : (w at : ℕ) (xs ys : List ℕ) → take w (drop at xs) ≡ take w (drop at ys) → number_at w at xs ≡ number_at w at ys
 unfolding number_at
 number-same w at xs ys same = little_number-take w (drop at xs) (drop at ys) same
 
@@ -93,7 +93,10 @@ module _ (page bytes : List ℕ) (c : ℕ) (whole : length page ≡ 8192) (len :
   unfolding one
   zeros_still = number-same 2 14 end page (ap (take 2) (behind 14 (omega arith)) ∙ part_before page bytes (16 + 292 * c) fits 14 2 (omega arith))
 
-  pub good_still : IsFreeCell bytes ⊎ ((content : Cell) × IsCell bytes content) → IsCellPage page → IsCellPage end
+  pub header_still : header end ≡ header page
+  header_still i = (number-same 4 4 end page (before 4 4 (omega arith)) i, number-same 4 8 end page (before 8 4 (omega arith)) i)
+
+  pub good_still : IsFreeOrUsed bytes → IsCellPage page → IsCellPage end
   good_still good was = record {
     magic = magic_still ∙ was.magic;
     free = count_right;
@@ -101,19 +104,19 @@ module _ (page bytes : List ℕ) (c : ℕ) (whole : length page ≡ 8192) (len :
     cells = λ j below. by_place j below (nat_eq j c) refl;
   }
     where
-      by_place : (j : ℕ) → j < 28 → (b : Bool) → nat_eq j c ≡ b → IsFreeCell (cell_of end j) ⊎ ((content : Cell) × IsCell (cell_of end j) content)
-      by_place j below true is = subst (λ bs. IsFreeCell bs ⊎ ((content : Cell) × IsCell bs content)) (sym (ap (cell_of end) (eqb-true j c is) ∙ cell_there)) good
-      by_place j below false is = subst (λ bs. IsFreeCell bs ⊎ ((content : Cell) × IsCell bs content)) (sym (cell_elsewhere j (λ same. both_ways (nat_eq j c) is (eq-eqb j c same)))) (was.cells j below)
+      by_place : (j : ℕ) → j < 28 → (b : Bool) → nat_eq j c ≡ b → IsFreeOrUsed (cell_of end j)
+      by_place j below true is = subst (λ bs. IsFreeOrUsed bs) (sym (ap (cell_of end) (eqb-true j c is) ∙ cell_there)) good
+      by_place j below false is = subst (λ bs. IsFreeOrUsed bs) (sym (cell_elsewhere j (λ same. both_ways (nat_eq j c) is (eq-eqb j c same)))) (was.cells j below)
 
 -- ---- a change in pages by their homes
 
 same_vol_page : (a b : Home) → a.vol ≡ b.vol → a.page ≡ b.page → a ≡ b
 same_vol_page a b vol page = ap (λ (n : ℕ). record a { vol = n }) vol ∙ ap (λ (n : ℕ). record b { page = n }) page
 
-homes_same : (a b : Home) → same_home a b ≡ true → a ≡ b
+pub homes_same : (a b : Home) → same_home a b ≡ true → a ≡ b
 homes_same a b same = let both = and_parts (nat_eq a.vol b.vol) (nat_eq a.page b.page) same in same_vol_page a b (eqb-true a.vol b.vol both.0) (eqb-true a.page b.page both.1)
 
-same_itself : (a : Home) → same_home a a ≡ true
+pub same_itself : (a : Home) → same_home a a ≡ true
 same_itself a = and_from (nat_eq a.vol a.vol) (nat_eq a.page a.page) (eq-eqb a.vol a.vol refl) (eq-eqb a.page a.page refl)
 
 abbrev cell_in : ℕ → List ℕ → Option (List ℕ)
@@ -151,7 +154,16 @@ module _ (at : CellAt) (bytes : List ℕ) (old new : Pages) (changes : ChangesCe
           ap (λ h. option_and_then (cell_in q.cell) (new h)) home ∙ ap (option_and_then (cell_in q.cell)) now_there ∙ cells_same q.cell other
           ∙ sym (ap (option_and_then (cell_in q.cell)) changes.was) ∙ sym (ap (λ h. option_and_then (cell_in q.cell) (old h)) home)
 
-  pub good_pages : IsFreeCell bytes ⊎ ((content : Cell) × IsCell bytes content) → (home : Home) → IfSome (old home) IsCellPage → IfSome (new home) IsCellPage
+  pub headers_stay : KeepsHeaders old new
+  headers_stay home = by_home (same_home home (home_of at)) refl
+    where
+      by_home : (b : Bool) → same_home home (home_of at) ≡ b → option_map header (new home) ≡ option_map header (old home)
+      by_home false other = ap (option_map header) (elsewhere home other)
+      by_home true same =
+          let is = homes_same home (home_of at) same in
+          ap (option_map header) (ap new is ∙ now_there) ∙ ap Some (header_still changes.page bytes at.cell whole len within) ∙ sym (ap (option_map header) (ap old is ∙ changes.was))
+
+  pub good_pages : IsFreeOrUsed bytes → KeepsWellFormed old new
   good_pages good home was = by_home (same_home home (home_of at)) refl
     where
       by_home : (b : Bool) → same_home home (home_of at) ≡ b → IfSome (new home) IsCellPage

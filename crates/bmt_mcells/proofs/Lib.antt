@@ -1,5 +1,7 @@
 pub mod Changed
 pub mod Frames
+pub mod Headers
+pub mod CellKinds
 pub mod Places
 pub mod Spellings
 pub mod OneByOne

@@ -17,12 +17,11 @@ use Rattle.bmt_mcells.specs.declared.head.CellHead.{CellHead}
 use Rattle.bmt_mcells.specs.Cell.{AreRecords, HasHead, IsAddress, IsCell, IsFileset, kind_number, spellings}
 use Rattle.bmt_mcells.proofs.Spellings.{spellings-append, spellings-push}
 
-any_of : List ℕ → List Rule
+abbrev pub any_of : List ℕ → List Rule
 any_of [] = []
 any_of (w ∷ ws) = Any ∷ any_of ws
 
-pass_any : (ws ns : List ℕ) → Fit ws ns → Passes ws (any_of ws) nothing_seen ns
-unfolding any_of
+pub pass_any : (ws ns : List ℕ) → Fit ws ns → Passes ws (any_of ws) nothing_seen ns
 pass_any [] [] fit = tt
 pass_any [] (n ∷ ns) fit = absurd fit
 pass_any (w ∷ ws) [] fit = absurd fit

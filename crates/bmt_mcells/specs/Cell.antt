@@ -1,5 +1,5 @@
 -- What stands in a cell, a piece of 292 bytes of a page of the bitfile metadata table.
-use Rattle.std.specs.Prelude.{◌≡◌, ◌+◌, ◌-◌, ◌*◌, ◌^◌, ◌<◌, ◌≤◌, ℕ, List, [], ◌∷◌, take, drop, length, Option, Some, None}
+use Rattle.std.specs.Prelude.{◌≡◌, ◌⊎◌, ◌+◌, ◌-◌, ◌*◌, ◌^◌, ◌<◌, ◌≤◌, ℕ, List, [], ◌∷◌, take, drop, length, Option, Some, None}
 use Rattle.std.specs.List.{flat_map, AllByRecursion}
 use Rattle.domain_base.specs.Page.{zero_bytes}
 use Rattle.domain_base.specs.declared.place.CellAt.{CellAt}
@@ -76,3 +76,7 @@ pub record IsCell (bytes : List ℕ) (cell : Cell) : Type 0 where
 -- a free cell is zeros
 abbrev pub IsFreeCell : List ℕ → Type 0
 IsFreeCell bytes = bytes ≡ zero_bytes 292
+
+-- a well-formed cell is free or in use
+abbrev pub IsFreeOrUsed : List ℕ → Type 0
+IsFreeOrUsed bytes = IsFreeCell bytes ⊎ ((cell : Cell) × IsCell bytes cell)

@@ -18,7 +18,7 @@ use page_store::MetaPages;
 pub(crate) const CELL_BYTES: usize = 292;
 
 /// The first bytes of a page of cells, `BMTP`, as a number.
-const MAGIC: u32 = 0x5054_4d42;
+pub(crate) const MAGIC: u32 = 0x5054_4d42;
 
 #[tactic(auto, unfolding(record_table::specs::Fields::number_at))]
 fn u8_at(bytes: &[u8], at: usize) -> u8
@@ -37,7 +37,7 @@ fn u16_at(bytes: &[u8], at: usize) -> u16
 }
 
 #[tactic(auto, unfolding(record_table::specs::Fields::number_at))]
-fn u32_at(bytes: &[u8], at: usize) -> u32
+pub(crate) fn u32_at(bytes: &[u8], at: usize) -> u32
     requires { at + 4 ≤ length bytes.now }
     ensures { result ≡ number_at 4 at bytes.now }
 {

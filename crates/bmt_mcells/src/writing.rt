@@ -1,13 +1,12 @@
 //! Cells, written to the pages that they stand on.
-ghost use Rattle.std.specs.Prelude.{◌≡◌, ◌+◌, ◌*◌, ◌<◌, ◌≤◌, ◌++◌, length, drop, sum, IfSome, IfNone, false};
+ghost use Rattle.std.specs.Prelude.{◌≡◌, ◌+◌, ◌*◌, ◌<◌, ◌≤◌, ◌++◌, length, drop, IfSome, Some, false};
 ghost use Rattle.domain_base.specs.Page.{zero_bytes};
-ghost use Rattle.record_table.specs.Fields.{Fit};
-ghost use Rattle.record_table.specs.Records.{Allowed, PutsNumbers, spelling};
+ghost use Rattle.record_table.specs.Records.{Allowed, spelling};
 ghost use Rattle.domain_base.specs.declared.place.Home.{Home};
 ghost use Rattle.page_store.specs.Pages.{same_home};
-ghost use Rattle.bmt_mcells.specs.CellPage.{ChangesCell, HasPlace, IsCellPage, free_cells as free_there, home_of as home_there, recounted};
+ghost use Rattle.bmt_mcells.specs.CellPage.{ChangesCell, HasPlace, KeepsHeaders, KeepsWellFormed, cell_at, free_cells as free_there, home_of as home_there, recounted};
 ghost use Rattle.bmt_mcells.specs.Chain.{LeavesOthers, StandsAt, is_at};
-ghost use Rattle.bmt_mcells.specs.Cell.{AreRecords, HasHead, IsAddress, IsCell, IsFileset, kind_number as number_there, spellings};
+ghost use Rattle.bmt_mcells.specs.Cell.{AreRecords, HasHead, IsAddress, IsCell, IsFileset, IsFreeOrUsed, kind_number as number_there, spellings};
 
 use crate::head::{CellHead, CellKind};
 use crate::list::RecordList;
@@ -18,7 +17,7 @@ use page_store::MetaPages;
 use record_table::{Record, put, write_record};
 
 /// How many cells a page has.
-const CELLS: usize = 28;
+pub(crate) const CELLS: usize = 28;
 
 /// The widths of the numbers in a cell's head: a zero, the next cell's volume, cell and page, the
 /// slot, the sequence, the fileset, the kind, the size of the records, and a zero.
@@ -167,9 +166,25 @@ fn change_cell<M: MetaPages>(pages: &mut M, at: &CellAt, bytes: &[u8])
     }
 }
 
+/// Puts these bytes into a cell. Every other cell stays, and the index and next page of each page.
+fn put_bytes<M: MetaPages>(pages: &mut M, at: &CellAt, bytes: &[u8])
+    requires place { HasPlace (M.pages pages.old) at.now }
+    requires len { length bytes.now ≡ 292 }
+    requires good { IsFreeOrUsed bytes.now }
+    ensures there { cell_at (M.pages pages.new) at.now ≡ Some bytes.now }
+    ensures others { LeavesOthers (is_at at.now) (M.pages pages.old) (M.pages pages.new) }
+    ensures well_formed { KeepsWellFormed (M.pages pages.old) (M.pages pages.new) }
+    ensures headers { KeepsHeaders (M.pages pages.old) (M.pages pages.new) }
+    ensures elsewhere { (home : Home) → same_home home (home_there at.now) ≡ false
+        → M.pages pages.new home ≡ M.pages pages.old home }
+    ensures room { M.room pages.new ≡ M.room pages.old }
+{
+    change_cell(pages, at, bytes);
+}
+
 /// Writes a cell in use, whatever stood there, and makes the count of its page's free cells what it
-/// then is. Every other cell stays. The page of cells is there, records are in their order and of at
-/// most 272 bytes together. It takes no memory.
+/// then is. Every other cell stays, and the index and next page of each page. The page of cells is
+/// there, records are in their order and of at most 272 bytes together. It takes no memory.
 pub fn write_cell<M: MetaPages>(pages: &mut M, at: CellAt, head: &CellHead, records: &RecordList)
     requires place { HasPlace (M.pages pages.old) at }
     requires next { IfSome head.now.next (λ at. at.cell < 28) }
@@ -180,13 +195,29 @@ pub fn write_cell<M: MetaPages>(pages: &mut M, at: CellAt, head: &CellHead, reco
       records = records.now;
     }) }
     ensures others { LeavesOthers (is_at at) (M.pages pages.old) (M.pages pages.new) }
-    ensures well_formed { (home : Home) → IfSome (M.pages pages.old home) IsCellPage
-        → IfSome (M.pages pages.new home) IsCellPage }
+    ensures well_formed { KeepsWellFormed (M.pages pages.old) (M.pages pages.new) }
+    ensures headers { KeepsHeaders (M.pages pages.old) (M.pages pages.new) }
     ensures elsewhere { (home : Home) → same_home home (home_there at) ≡ false
         → M.pages pages.new home ≡ M.pages pages.old home }
     ensures room { M.room pages.new ≡ M.room pages.old }
 {
     let mut bytes = [0; CELL_BYTES];
     put_cell(head, records.as_slice(), &mut bytes);
-    change_cell(pages, &at, &bytes);
+    put_bytes(pages, &at, &bytes);
+}
+
+/// Makes a cell a free one, 292 zeros, whatever stood there, and makes the count of its page's free
+/// cells what it then is. Every other cell stays, and the index and next page of each page. The page
+/// of cells is there. It takes no memory.
+pub fn clear_cell<M: MetaPages>(pages: &mut M, at: CellAt)
+    requires { HasPlace (M.pages pages.old) at }
+    ensures cleared { cell_at (M.pages pages.new) at ≡ Some (zero_bytes CELL_BYTES) }
+    ensures others { LeavesOthers (is_at at) (M.pages pages.old) (M.pages pages.new) }
+    ensures well_formed { KeepsWellFormed (M.pages pages.old) (M.pages pages.new) }
+    ensures headers { KeepsHeaders (M.pages pages.old) (M.pages pages.new) }
+    ensures elsewhere { (home : Home) → same_home home (home_there at) ≡ false
+        → M.pages pages.new home ≡ M.pages pages.old home }
+    ensures room { M.room pages.new ≡ M.room pages.old }
+{
+    put_bytes(pages, &at, &[0; CELL_BYTES]);
 }
