@@ -9,7 +9,7 @@ use Rattle.std.specs.Result.{OkIff}
 use Rattle.std.specs.Str.{bytes_eq}
 use Rattle.std.specs.Str.Parse.{ParsesUnsigned, digits_value}
 use Rattle.word_forms.specs.Forms.{number_below}
-use Rattle.advfs_run.specs.Usage.{are_plain_digits, form_of, in_range, pages_of, try_form}
+use Rattle.advfs_run.specs.Usage.{are_plain_digits, form_of, in_range, asked_pages, try_form}
 
 decimals : IsNumeralModel (λ ds. list_all is_ascii_digit ds ≡ true) (digits_value 10)
 decimals = numerals_by_value _ (search rules)
@@ -36,23 +36,23 @@ number_below-large : (word : List ℕ) → ¬ ((0 < length word) × (digits_valu
 unfolding number_below
 number_below-large word large = grind (arith, nat_tests)
 
-pages_of-number : (word : List ℕ) (number : Option ℕ) → are_plain_digits word ≡ true → number_below (2 ^ 32) word ≡ number → pages_of word ≡ in_range number
-pages_of-number word number plain is = rw plain (ap in_range is)
+asked_pages-number : (word : List ℕ) (number : Option ℕ) → are_plain_digits word ≡ true → number_below (2 ^ 32) word ≡ number → asked_pages word ≡ in_range number
+asked_pages-number word number plain is = rw plain (ap in_range is)
 
-pub pages_of-other : (word : List ℕ) → are_plain_digits word ≡ false → pages_of word ≡ None
-pages_of-other word other = rw other refl
+pub asked_pages-other : (word : List ℕ) → are_plain_digits word ≡ false → asked_pages word ≡ None
+asked_pages-other word other = rw other refl
 
 -- the parse of digits, in the range or not
-pub pages_of-parsed : (E : Type 0) (word : List ℕ) (pages : ℕ) → are_plain_digits word ≡ true → ParsesUnsigned {E = E} 32 10 word (Ok pages)
-    → pages_of word ≡ cond (leb 160 pages && leb pages 65_536) (Some pages) None
-pages_of-parsed E word pages plain parsed =
+pub asked_pages-parsed : (E : Type 0) (word : List ℕ) (pages : ℕ) → are_plain_digits word ≡ true → ParsesUnsigned {E = E} 32 10 word (Ok pages)
+    → asked_pages word ≡ cond (leb 160 pages && leb pages 65_536) (Some pages) None
+asked_pages-parsed E word pages plain parsed =
     let digits = digits_of word plain in
     let h = number_below-parsed {E = E} word (Ok pages) digits parsed in
-    pages_of-number word _ plain (number_below-Some word digits h.0.0 h.0.1) ∙ ap (λ n. in_range (Some n)) (sym h.1)
+    asked_pages-number word _ plain (number_below-Some word digits h.0.0 h.0.1) ∙ ap (λ n. in_range (Some n)) (sym h.1)
 
-pub pages_of-unparsed : (E : Type 0) (word : List ℕ) (e : E) → are_plain_digits word ≡ true → ParsesUnsigned {E = E} 32 10 word (Err e) → pages_of word ≡ None
-pages_of-unparsed E word e plain parsed =
-    pages_of-number word None plain (number_below-large word (number_below-parsed {E = E} word (Err e) (digits_of word plain) parsed))
+pub asked_pages-unparsed : (E : Type 0) (word : List ℕ) (e : E) → are_plain_digits word ≡ true → ParsesUnsigned {E = E} 32 10 word (Err e) → asked_pages word ≡ None
+asked_pages-unparsed E word e plain parsed =
+    asked_pages-number word None plain (number_below-large word (number_below-parsed {E = E} word (Err e) (digits_of word plain) parsed))
 
 -- ---- the words of a command line
 
@@ -77,7 +77,7 @@ pub form_of-no_word : (words rest : List (List ℕ)) (verb : List ℕ) → words
 form_of-no_word words rest verb is same none = after_try words rest verb is same ∙ try_form-none rest none
 
 pub form_of-word : (words rest more : List (List ℕ)) (verb word : List ℕ) (pages : Option ℕ) → words ≡ verb ∷ rest → bytes_eq verb (codes "try") ≡ true → rest ≡ word ∷ more
-    → pages_of word ≡ pages → form_of words ≡ option_map_or (λ n. cond (eqb (length more) 0) (Ok n) (Err 2)) pages (Err 1)
+    → asked_pages word ≡ pages → form_of words ≡ option_map_or (λ n. cond (eqb (length more) 0) (Ok n) (Err 2)) pages (Err 1)
 form_of-word words rest more verb word pages is same next found =
     after_try words rest verb is same ∙ ap try_form next ∙ ap (λ o. option_map_or (λ n. cond (eqb (length more) 0) (Ok n) (Err 2)) o (Err 1)) found
 

@@ -28,20 +28,28 @@ turns_of section = map_list (λ command. (Client section.number, command)) secti
 
 -- the commands that a script gives to an actor
 abbrev pub section_of : Script → Actor → List Command
-section_of script (Client number) = flat_map (λ section. if number == section.number then section.commands else []) script.clients
+section_of script (Client number) =
+    flat_map
+    (λ section. if number == section.number then section.commands else [])
+    script.clients
 section_of script Mover = option_map_or (λ section. section.commands) script.mover []
 
 -- a history goes on by these turns, each with this stamp, and the filesets with it
-pub record GoesOn (turns : List Turn) (stamp : ℕ) (old : List Entry) (all : FilesetMap) (new : List Entry) (all' : FilesetMap) : Type 0 where
+pub record GoesOn (turns : List Turn) (stamp : ℕ)
+    (old : List Entry) (all : FilesetMap) (new : List Entry) (all' : FilesetMap) : Type 0 where
   pub turns_are : map_list turn_of new ≡ map_list turn_of old ++ turns
   pub stamps : All (λ e. e.stamp ≡ stamp) old → All (λ e. e.stamp ≡ stamp) new
   pub plain : (first : FilesetMap) → PlainRun first old all → PlainRun first new all'
 
 -- for each client, the same sections in the same order
 abbrev pub SameByNumber : List Section → List Section → Type 0
-SameByNumber sections others = (n : ℕ) → filter (λ section. n == section.number) others ≡ filter (λ section. n == section.number) sections
+SameByNumber sections others =
+    (n : ℕ)
+    → filter (λ section. n == section.number) others
+    ≡ filter (λ section. n == section.number) sections
 
--- a history answers a script's client sections, one section after another, over filesets that begin with none
+-- a history answers a script's client sections, one section after another, over filesets that begin
+-- with none
 pub record AnswersScript (script : Script) (stamp : ℕ) (history : List Entry) : Type 0 where
   pub sections : List Section
   pub same : SameByNumber script.clients sections
@@ -50,8 +58,8 @@ pub record AnswersScript (script : Script) (stamp : ℕ) (history : List Entry) 
   pub all : FilesetMap
   pub plain : PlainRun map.empty history all
 
--- a history is legal in a domain that was just made on one volume of so many pages, and each of its replies is what the command
--- means to filesets alone, or out-of-memory
+-- a history is legal in a domain that was just made on one volume of so many pages, and each of its
+-- replies is what the command means to filesets alone, or out-of-memory
 pub record IsLegal (pages : ℕ) (history : List Entry) : Type 0 where
   pub all : FilesetMap
   pub plain : PlainRun map.empty history all

@@ -22,6 +22,12 @@ IsShort read = length read ≤ 33_554_432
 unfoldable pub IsNoLonger : List ℕ → Type 0
 IsNoLonger read = length read ≤ 33_554_433
 
+-- a text is handed on: known bytes grew by a front of it, and the rest of it waits
+pub record HandsOn (old new : Option (List ℕ)) (text waiting : List ℕ) : Type 0 where
+  pub front : List ℕ
+  pub whole : text ≡ front ++ waiting
+  pub grown : Appends old new front
+
 -- known bytes grew by a part of the text, from its front
 pub record AppendsFront (old new : Option (List ℕ)) (text : List ℕ) : Type 0 where
   pub front : List ℕ

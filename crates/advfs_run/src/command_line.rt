@@ -8,6 +8,7 @@ ghost use Rattle.advfs_run.specs.declared.status.Status.{Status as StatusOf};
 ghost use Rattle.advfs_run.specs.Usage.{form_of};
 
 use crate::gates::NoGate;
+use crate::help::{HELP, VERSION};
 use crate::running::run;
 use crate::sinks::WriterSink;
 use crate::sources::ReaderSource;
@@ -24,11 +25,6 @@ use std::{io, str};
 
 /// The bytes that a word of the command line may have.
 const WORD_BYTES: usize = 131_072;
-
-const HELP: &[u8] =
-    b"usage: advfs try PAGES < SCRIPT\n       advfs --help\n       advfs --version\n\nRuns the commands of a script over new filesets on a volume in memory of PAGES pages, from\n160 to 65536, and prints each command with its reply. docs/SCRIPT.md has the language.\n";
-
-const VERSION: &[u8] = b"advfs 0.1.0\n";
 
 /// The words after the program's name. One that is no text, or too long for any form, is given as
 /// an empty word, which no form has.
@@ -48,7 +44,7 @@ fn words_given(rt: &impl Env, alloc: Global) -> Result<Vec<String>, OutOfMemory>
 }
 
 /// What is printed for a lone word that asks about the program itself.
-fn text_asked(words: &[String]) -> Option<&'static [u8]> {
+fn text_asked(words: &[String]) -> Option<&'static str> {
     match words.first()?.as_str() {
         "--help" if words.len() == 1 => Some(HELP),
         "--version" if words.len() == 1 => Some(VERSION),
@@ -73,7 +69,7 @@ fn start(rt: &(impl Env + Input + Print), alloc: Global) -> Result<Status, OutOf
     let words = words_given(rt, alloc)?;
     let mut sink = WriterSink::new(io::writer(rt));
     if let Some(text) = text_asked(words.as_slice()) {
-        return Ok(match write_all(&mut sink, text) {
+        return Ok(match write_all(&mut sink, text.as_bytes()) {
             Ok(()) => Status::Ok,
             Err(_) => Status::SinkFault,
         });

@@ -4,6 +4,7 @@
 
 mod command_line;
 mod gates;
+mod help;
 mod print;
 mod running;
 mod sinks;
@@ -14,6 +15,7 @@ mod words;
 
 pub use command_line::{exit_code, program, rack_asked};
 pub use gates::{Gate, NoGate};
+pub use help::{HELP, VERSION};
 pub use print::{PrintError, print_history};
 pub use running::{Ended, run};
 pub use sinks::{MemorySink, Sink, WriterSink};

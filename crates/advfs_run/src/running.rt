@@ -230,7 +230,8 @@ pub fn run<S: Source, R: Rack + Send, K: Sink, G: Gate + Sync>(
     // The text that is printed.
     ensures printed { result.status ≡ Status.Ok
         → Appends (K.held sink.old) (K.held sink.new) (history_text result.history.items) }
-    ensures printed_front { AppendsFront (K.held sink.old) (K.held sink.new) (history_text result.history.items) }
+    ensures printed_front { AppendsFront (K.held sink.old) (K.held sink.new)
+        (history_text result.history.items) }
 
     // The causes of the other statuses.
     ensures usage { MatchResult (form_of (map string_bytes words.now))

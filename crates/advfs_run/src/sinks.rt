@@ -17,8 +17,8 @@ pub trait Sink {
     /// How many calls were refused.
     ghost faults: { Self → ℕ };
 
-    /// Writes a part of the piece, from its front, and answers how many bytes that are, which is none only for an empty
-    /// piece. A call that is refused writes nothing.
+    /// Writes a part of the piece, from its front, and answers how many bytes that are, which is
+    /// none only for an empty piece. A call that is refused writes nothing.
     fn write(&mut self, bytes: &[u8]) -> Result<usize, Failed>
         ensures bound { WritesAtMost result bytes.now }
         ensures takes { IfOk result (λ count. 0 < length bytes.now → 0 < count) }
@@ -31,8 +31,8 @@ pub trait Sink {
         ensures { result ≡ faults self.now };
 }
 
-/// A sink that keeps its bytes in memory. It refuses the calls that it was told to refuse, and those for which memory
-/// runs out.
+/// A sink that keeps its bytes in memory. It refuses the calls that it was told to refuse, and
+/// those for which memory runs out.
 #[derive(Debug, Drop)]
 pub struct MemorySink {
     bytes: Vec<u8>,
@@ -46,7 +46,12 @@ impl Model for MemorySink {
 
     ghost Value = { Store };
 
-    ghost view = { λ s. record { held = s.bytes.items; fails = s.fails.items; calls = s.calls; faults = s.faults } };
+    ghost view = { λ s. record {
+      held = s.bytes.items;
+      fails = s.fails.items;
+      calls = s.calls;
+      faults = s.faults;
+    } };
 }
 
 impl MemorySink {

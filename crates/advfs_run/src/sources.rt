@@ -8,7 +8,8 @@ use domain_base::Failed;
 use std::io::Read;
 use std::marker::Model;
 
-/// An input of bytes, read piece by piece. It is over once a call that has room for a byte gives none.
+/// An input of bytes, read piece by piece. It is over once a call that has room for a byte gives
+/// none.
 pub trait Source {
     /// What is still to come. A source whose bytes contracts do not see has None.
     ghost left: { Self → Option (List ℕ) };
@@ -16,8 +17,8 @@ pub trait Source {
     /// How many calls were refused.
     ghost faults: { Self → ℕ };
 
-    /// Fills a piece from its front with the next bytes, as far as they come, and answers how many these are. Nothing
-    /// is lost by a call that is refused: the next one goes on at the same byte.
+    /// Fills a piece from its front with the next bytes, as far as they come, and answers how many
+    /// these are. Nothing is lost by a call that is refused: the next one goes on at the same byte.
     fn read(&mut self, out: &mut [u8]) -> Result<usize, Failed>
         ensures bound { ReadsAtMost result out.new }
         ensures bytes { ReadConsumes (left self.old) (left self.new) result out.new }
@@ -45,15 +46,22 @@ impl Model for MemorySource {
 
     ghost Value = { Supply };
 
-    ghost view = { λ s. record { left = drop s.taken s.bytes.items; fails = s.fails.items; calls = s.calls; faults = s.faults } };
+    ghost view = { λ s. record {
+      left = drop s.taken s.bytes.items;
+      fails = s.fails.items;
+      calls = s.calls;
+      faults = s.faults;
+    } };
 
     ghost invariant = { λ s. s.taken ≤ vec_len s.bytes };
 }
 
 impl MemorySource {
-    /// A source that gives these bytes. `fails` names the calls that it refuses, the first call by 1.
+    /// A source that gives these bytes. `fails` names the calls that it refuses, the first call by
+    /// 1.
     pub fn new(bytes: Vec<u8>, fails: Vec<u64>) -> Self
-        ensures { result ≡ record { left = bytes.items; fails = fails.items; calls = 0; faults = 0 } }
+        ensures { result
+            ≡ record { left = bytes.items; fails = fails.items; calls = 0; faults = 0 } }
     {
         MemorySource {
             bytes,

@@ -20,8 +20,8 @@ pub enum Status {
     SourceFault,
     /// The script has more than 33,554,432 bytes.
     TooLong,
-    /// What `read_script` finds wrong with the script: which line, the first being 1, and which kind
-    /// of fault.
+    /// What `read_script` finds wrong with the script: which line, the first being 1, and which
+    /// kind of fault.
     BadScript { line: u32, kind: FaultKind },
     /// A call of the sink was refused. What went out before it are the first bytes of the history,
     /// and no others.

@@ -75,10 +75,13 @@ pub fn read_all<S: Source>(
     requires { limit < usize.MAX }
     // What was taken from the source is what is given at Ok, where nothing is left.
     ensures taken { (read : List ℕ) × Consumes (S.left source.old) (S.left source.new) read
-        × MatchResult result (λ bytes. (bytes.items ≡ read) × (length read ≤ limit)) (λ e. StopsAfter limit e read) }
+        × MatchResult result
+        (λ bytes. (bytes.items ≡ read) × (length read ≤ limit))
+        (λ e. StopsAfter limit e read) }
     ensures ended { OnOk result (IsAtEnd (S.left source.new)) }
     ensures never_falls { S.faults source.old ≤ S.faults source.new }
-    ensures source_fault { result ≡ Err ReadError.SourceFault → HasRisen (S.faults source.old) (S.faults source.new) }
+    ensures source_fault { result ≡ Err ReadError.SourceFault
+        → HasRisen (S.faults source.old) (S.faults source.new) }
 {
     let mut bytes = Vec::new(alloc);
     let mut piece = zeros(alloc, PIECE_BYTES)?;

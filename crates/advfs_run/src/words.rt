@@ -2,7 +2,7 @@
 ghost use Rattle.std.specs.Prelude.{◌≡◌, ◌==◌, map, slice_index, string_bytes};
 ghost use Rattle.std.specs.Char.{is_ascii_digit};
 ghost use Rattle.std.specs.List.{list_all};
-ghost use Rattle.advfs_run.specs.Usage.{are_plain_digits, form_of, pages_of};
+ghost use Rattle.advfs_run.specs.Usage.{are_plain_digits, form_of, asked_pages};
 
 use domain_base::limits::{MAX_VOLUME_PAGES, MIN_FIRST_VOLUME_PAGES};
 
@@ -27,7 +27,7 @@ fn are_plain_digits(bytes: &[u8]) -> bool
 
 /// How many pages a word asks for, where the first volume of a domain may have so many.
 fn pages_in(word: &str) -> Option<u32>
-    ensures { result ≡ pages_of word.now }
+    ensures { result ≡ asked_pages word.now }
 {
     if !are_plain_digits(word.as_bytes()) {
         return None;
@@ -38,8 +38,9 @@ fn pages_in(word: &str) -> Option<u32>
     }
 }
 
-/// The pages of the volume that the command line asks for. A line that is not understood gives, as its error, how many
-/// words stand in front of the first one that is out of place; where the line stops too early that is all of them.
+/// The pages of the volume that the command line asks for. A line that is not understood gives, as
+/// its error, how many words stand in front of the first one that is out of place; where the line
+/// stops too early that is all of them.
 pub fn pages_asked(words: &[String]) -> Result<u32, u32>
     ensures { result ≡ form_of (map string_bytes words.now) }
 {

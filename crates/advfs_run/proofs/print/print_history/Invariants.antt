@@ -1,11 +1,11 @@
 use Rattle.std.proofs.Common.{take, ◌≤◌}
-use Rattle.std.specs.Io.KnownBytes.{Appends}
 use Rattle.history_text.specs.History.{history_text}
+use Rattle.advfs_run.specs.Transfer.{HandsOn}
 use Rattle.advfs_run.proofs.print.print_history.Given as goal
 
--- the lines so far are printed
+-- the lines so far are handed on
 abbrev pub invariant-loop-entry : goal.invariant-loop-entry
 invariant-loop-entry g l = record {
-  printed : Appends (g.K.Sink.held l.initial.sink) (g.K.Sink.held l.sink) (history_text (take l.entry-index l.history));
+  handed : HandsOn (g.K.Sink.held l.initial.sink) (g.K.Sink.held l.sink) (history_text (take l.entry-index l.history)) l.buffer.items;
   count : g.K.Sink.faults l.initial.sink ≤ g.K.Sink.faults l.sink;
 }

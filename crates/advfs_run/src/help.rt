@@ -1,0 +1,58 @@
+//! What the program tells about itself.
+
+/// What `--help` prints: the command line, the forms of a script's words, and each command with
+/// its words.
+pub const HELP: &str = "\
+usage: advfs try PAGES < SCRIPT
+       advfs --help
+       advfs --version
+
+Runs the commands of a script over new filesets on a volume in memory of PAGES
+pages of 8192 bytes, from 160 to 65536, and prints each command with its reply.
+
+A script has a section for each of its clients, and there a line for each
+command. Words stand apart by spaces. A line that begins with # is a comment.
+
+  client N    begins the section of client N, from 1 to 8
+
+Words:
+  FS          the name of a fileset: 1 to 31 of letters, digits, _, - and .
+  P           FS:/ for the root, or FS:/NAME/NAME for what stands below it
+  NAMED PATH  FS:/NAME/NAME and /NAME/NAME, with at least one name
+  NAME        1 to 255 bytes; a space and others that do not print, and %, are
+              written % and two hexadecimal digits: a%20b
+  numbers     UID, GID and ID below 2^32, COUNT up to 8192, others below 2^64
+  WHO         user ID, group ID, or fileset 0
+  BYTES       in quotes, \"a word\", or two hexadecimal digits for each byte with
+              dots between them, and x with a count behind a repeated byte:
+              61.62.00x3
+
+Commands:
+  mkfset FS                        makes a fileset
+  rmfset FS                        removes it with all its files
+  showfsets                        lists the filesets
+  setquota FS WHO FILES BLOCKS     limits files and blocks of 512 bytes; 0: none
+  showquota FS WHO                 shows what is used, and the limits
+  create NAMED UID GID             makes an empty file
+  mkdir NAMED UID GID              makes an empty directory
+  write P OFFSET BYTES             writes into a file
+  read P OFFSET COUNT              reads a file
+  truncate P SIZE                  sets the size of a file
+  rename NAMED PATH                moves a file or a directory
+  link NAMED PATH                  gives a file one more path
+  links P                          counts the paths of a file
+  unlink NAMED                     removes a path of a file
+  rmdir NAMED                      removes an empty directory
+  list P                           lists the names in a directory
+  stat P                           shows what a file or a directory is
+  fsync P                          makes a file durable
+  chfile -L on P                   logs the data of a file
+  chfile -L off P                  no longer logs it
+  sync                             makes everything durable
+  cancel                           asks the running job of the mover to stop
+
+docs/SCRIPT.md has the full language, with each reply and each refusal.
+";
+
+/// What `--version` prints.
+pub const VERSION: &str = "advfs 0.1.0\n";
