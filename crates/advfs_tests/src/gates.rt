@@ -4,7 +4,8 @@ use std::alloc::{AllocError, Global};
 use std::sync::atomic::{AtomicU64, Ordering};
 use std::test::Fail;
 
-/// A gate that writes down who passes, two digits for each: the actor, and the length that it gives.
+/// A gate that writes down who passes, two digits for each: the actor, and the length that it
+/// gives.
 #[derive(Drop)]
 struct Recorder {
     digits: AtomicU64,

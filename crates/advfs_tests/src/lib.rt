@@ -6,6 +6,8 @@ mod errors;
 #[cfg(test)]
 mod gates;
 #[cfg(test)]
+mod help;
+#[cfg(test)]
 mod outcome;
 #[cfg(test)]
 mod runs;

@@ -6,11 +6,17 @@ use std::test::Fail;
 const FIRST: &str =
     "client 1\nmkfset home\ncreate home:/a 10 20\nwrite home:/a 0 \"abc\"\nread home:/a 0 3\n";
 
+/// How the run of the first script ends, with its history.
+const FIRST_ENDED: &str = "\
+Ok 0
+c1 mkfset home -> ok
+c1 create home:/a 10 20 -> ok
+c1 write home:/a 0 61.62.63 -> ok 3
+c1 read home:/a 0 3 -> ok 61.62.63
+";
+
 static SCRIPTS: [(&str, &str); 5] = [
-    (
-        FIRST,
-        "Ok 0\nc1 mkfset home -> ok\nc1 create home:/a 10 20 -> ok\nc1 write home:/a 0 61.62.63 -> ok 3\nc1 read home:/a 0 3 -> ok 61.62.63\n",
-    ),
+    (FIRST, FIRST_ENDED),
     ("client 1\n", "Ok 0\n"),
     ("", "Ok 0\n"),
     ("client 1\nwrite home:/a 0\n", "BadScript 2 5 5\n"),
@@ -37,7 +43,16 @@ static FAULTS: [(&[u64], &[u64], &str); 4] = [
     (&[1], &[], "SourceFault 3\n"),
     (&[2], &[], "SourceFault 3\n"),
     (&[], &[1], "SinkFault 8\n"),
-    (&[], &[2], "SinkFault 8\nc1 mkfset home -> ok\n"),
+    // A short history is written by one call.
+    (&[], &[2], FIRST_ENDED),
+];
+
+/// The sink's calls that are refused while a history of more than 65,536 bytes is printed, how the
+/// run ends, and how many of its large lines, with the two in front of them, the sink then has.
+static LARGE_FAULTS: [(&[u64], &str, Option<usize>); 3] = [
+    (&[], "Ok 0\n", Some(4)),
+    (&[1], "SinkFault 8\n", None),
+    (&[2], "SinkFault 8\n", Some(3)),
 ];
 
 #[test]
@@ -81,6 +96,70 @@ fn faults_end_a_run(rt: HostRuntime) -> Result<(), Fail> {
             outcome: want,
         };
         assert_eq!(rt; outcome(rt.alloc(), &case)?.as_slice(), want.as_bytes());
+    }
+    Ok(())
+}
+
+/// Adds a text so many times.
+fn push_times(out: &mut Vec<u8>, text: &str, count: usize) -> Result<(), AllocError> {
+    for _ in 0..count {
+        out.extend_from_slice(text.as_bytes())?;
+    }
+    Ok(())
+}
+
+/// A script of two commands and four that write 8,000 bytes each.
+fn large_script(alloc: Global) -> Result<Vec<u8>, AllocError> {
+    let mut script = Vec::new(alloc);
+    push_times(
+        &mut script,
+        "client 1\nmkfset home\ncreate home:/a 10 20\n",
+        1,
+    )?;
+    for _ in 0..4 {
+        push_times(&mut script, "write home:/a 0 \"", 1)?;
+        push_times(&mut script, "ab", 4_000)?;
+        push_times(&mut script, "\"\n", 1)?;
+    }
+    Ok(script)
+}
+
+/// A status line, and so many of the large lines of that script's history with the two in front of
+/// them. A large line has 24,030 bytes, so the third one fills the buffer.
+fn large_text(alloc: Global, status: &str, lines: Option<usize>) -> Result<Vec<u8>, AllocError> {
+    let mut text = Vec::from_slice(alloc, status.as_bytes())?;
+    let Some(lines) = lines else {
+        return Ok(text);
+    };
+    push_times(
+        &mut text,
+        "c1 mkfset home -> ok\nc1 create home:/a 10 20 -> ok\n",
+        1,
+    )?;
+    for _ in 0..lines {
+        push_times(&mut text, "c1 write home:/a 0 61.62", 1)?;
+        push_times(&mut text, ".61.62", 3_999)?;
+        push_times(&mut text, " -> ok 8000\n", 1)?;
+    }
+    Ok(text)
+}
+
+/// How the run of that script ends where these calls of the sink are refused.
+fn large_outcome(alloc: Global, fails: &[u64]) -> Result<Vec<u8>, AllocError> {
+    let mut source = MemorySource::new(large_script(alloc)?, Vec::new(alloc));
+    let mut sink = MemorySink::new(alloc, Vec::from_slice(alloc, fails)?);
+    let ended = ended(alloc, &["try", "512"], &mut source, &mut sink, &NoGate)?;
+    told(alloc, &ended, &sink)
+}
+
+#[test]
+fn a_large_history_is_written_in_pieces_of_whole_lines(rt: HostRuntime) -> Result<(), Fail> {
+    for (fails, status, lines) in LARGE_FAULTS.iter() {
+        let want = large_text(rt.alloc(), status, *lines)?;
+        assert_eq!(rt;
+            large_outcome(rt.alloc(), fails)?.as_slice(),
+            want.as_slice()
+        );
     }
     Ok(())
 }

@@ -5,22 +5,14 @@ use crate::table::is_history;
 static LOGGED_FLAG: &str = "
 c1 mkfset home -> ok
 c1 create home:/a 10 20 -> ok
-c1 stat home:/a -> ok file 10 20 0 0 -
 c1 chfile -L on home:/a -> ok
-c1 stat home:/a -> ok file 10 20 0 0 log
-c1 chfile -L on home:/a -> ok
-c1 stat home:/a -> ok file 10 20 0 0 log
 c1 write home:/a 0 61 -> ok 1
 c1 truncate home:/a 9000 -> ok
-c1 stat home:/a -> ok file 10 20 9000 1 log
 c1 rename home:/a /b -> ok
-c1 stat home:/b -> ok file 10 20 9000 1 log
 c1 clonefset home bak -> ok
 c1 chfile -L off home:/b -> ok
 c1 stat home:/b -> ok file 10 20 9000 1 -
 c1 stat bak:/b -> ok file 10 20 9000 1 log
-c1 chfile -L off home:/b -> ok
-c1 stat home:/b -> ok file 10 20 9000 1 -
 c1 chfile -L off bak:/b -> E8 read-only
 c1 stat bak:/b -> ok file 10 20 9000 1 log
 ";

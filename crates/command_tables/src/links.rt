@@ -1,24 +1,10 @@
-//! Links where clones stand, and the order of their refusals.
+//! Links where clones stand.
 
 use crate::table::is_history;
 
 static REFUSED: &str = "
-c1 link none:/a /b -> E1 no-fileset
 c1 mkfset home -> ok
-c1 mkdir home:/d 0 0 -> ok
 c1 create home:/a 0 0 -> ok
-c1 link home:/x /b -> E3 no-path
-c1 link home:/x/y /b -> E3 no-path
-c1 link home:/a/y /b -> E5 not-directory
-c1 link home:/d /b -> E6 is-directory
-c1 link home:/d /x/y -> E6 is-directory
-c1 link home:/a /x/y -> E3 no-path
-c1 link home:/a /a/y -> E5 not-directory
-c1 link home:/a /d -> E4 exists
-c1 links home:/d -> E6 is-directory
-c1 links home:/x -> E3 no-path
-c1 links none:/x -> E1 no-fileset
-c1 links home:/ -> E6 is-directory
 c1 clonefset home bak -> ok
 c1 link bak:/x /y -> E8 read-only
 c1 rename bak:/a /a -> E8 read-only
@@ -26,7 +12,7 @@ c1 links bak:/a -> ok 1
 ";
 
 #[test]
-fn refusals_of_link_stand_in_order(rt: HostRuntime) {
+fn a_clone_refuses_links_first(rt: HostRuntime) {
     is_history(&rt, REFUSED);
 }
 
