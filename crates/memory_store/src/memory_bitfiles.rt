@@ -5,7 +5,7 @@ ghost use Rattle.domain_base.specs.Limits.{file_pages, max_links};
 ghost use Rattle.domain_base.specs.declared.place.Kind.TheVariants.{Directory as ADirectory};
 ghost use Rattle.page_store.specs.Bitfiles.{Bitfile, insert_index, linked, new_file, put_index, put_page as with_page};
 ghost use Rattle.memory_store.specs.Rising.{IsRising, value_at};
-ghost use Rattle.memory_store.specs.Tags.{AreSound, AreUnused, Changes, are_bitfiles, files_of, number_of, root_alone};
+ghost use Rattle.memory_store.specs.Tags.{AreSound, AreUnused, Changes, IsDirectoryAt, are_bitfiles, count_index, count_pages, files_of, number_of, root_alone};
 
 use crate::misses::Misses;
 use crate::paged_file::PagedFile;
@@ -31,7 +31,8 @@ impl MemoryBitfiles {
     /// The root directory alone, of user 0 and group 0, with tag 1 and sequence 1. The numbers are
     /// those of the changing calls that find no page.
     pub fn new(alloc: Global, misses: Vec<u64>) -> Result<MemoryBitfiles, OutOfMemory>
-        ensures files { IfOk result (λ set. ⟦<MemoryBitfiles as BitfileSet>⟧.files set ≡ root_alone) }
+        ensures files { IfOk result (λ set.
+            ⟦<MemoryBitfiles as BitfileSet>⟧.files set ≡ root_alone) }
         ensures misses { IfOk result (λ set. ⟦<MemoryBitfiles as BitfileSet>⟧.missed set ≡ 0) }
     {
         let mut files = Vec::new(alloc);
@@ -50,7 +51,8 @@ impl MemoryBitfiles {
 
     /// The user and the group of what a tag names; None exactly where it names nothing.
     pub fn owner_of(&self, tag: Tag) -> Option<(u32, u32)>
-        ensures { result ≡ option_map (λ (file : Bitfile). (file.uid, file.gid)) (⟦<MemoryBitfiles as BitfileSet>⟧.files self.now tag) }
+        ensures { result ≡ option_map (λ (file : Bitfile). (file.uid, file.gid))
+            (⟦<MemoryBitfiles as BitfileSet>⟧.files self.now tag) }
     {
         match find(&self.files, key_of(&tag)) {
             Some(file) => Some(file.owner()),
@@ -197,8 +199,8 @@ fn put_page(
 ) -> Result<(), OutOfMemory>
     requires rising { IsRising files.old.items }
     requires sound { AreSound files.old.items }
-    requires directory { IsSomeAnd (value_at files.old.items key) (λ file. file.kind ≡ ADirectory) }
-    requires place { page ≤ option_map_or (λ (file : Bitfile). length file.pages) (value_at files.old.items key) 0 }
+    requires directory { IsDirectoryAt files.old.items key }
+    requires place { page ≤ count_pages files.old.items key }
     requires fits { page < file_pages }
     ensures ok { OnOk result (Changes files.old.items files.new.items key (with_page page bytes)) }
     ensures err { OnErr result (files.new.items ≡ files.old.items) }
@@ -220,8 +222,8 @@ fn put_index_page(
 ) -> Result<(), OutOfMemory>
     requires rising { IsRising files.old.items }
     requires sound { AreSound files.old.items }
-    requires directory { IsSomeAnd (value_at files.old.items key) (λ file. file.kind ≡ ADirectory) }
-    requires place { page ≤ option_map_or (λ (file : Bitfile). length file.index) (value_at files.old.items key) 0 }
+    requires directory { IsDirectoryAt files.old.items key }
+    requires place { page ≤ count_index files.old.items key }
     ensures ok { OnOk result (Changes files.old.items files.new.items key (put_index page bytes)) }
     ensures err { OnErr result (files.new.items ≡ files.old.items) }
     ensures rising { IsRising files.new.items }
@@ -242,8 +244,8 @@ fn insert_index_page(
 ) -> Result<(), OutOfMemory>
     requires rising { IsRising files.old.items }
     requires sound { AreSound files.old.items }
-    requires directory { IsSomeAnd (value_at files.old.items key) (λ file. file.kind ≡ ADirectory) }
-    requires place { page ≤ option_map_or (λ (file : Bitfile). length file.index) (value_at files.old.items key) 0 }
+    requires directory { IsDirectoryAt files.old.items key }
+    requires place { page ≤ count_index files.old.items key }
     ensures ok { OnOk result (Changes files.old.items files.new.items key (insert_index page bytes)) }
     ensures err { OnErr result (files.new.items ≡ files.old.items) }
     ensures rising { IsRising files.new.items }

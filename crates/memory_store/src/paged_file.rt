@@ -27,9 +27,23 @@ impl Model for PagedFile {
 
     ghost Value = { Bitfile };
 
-    ghost view = { λ f. record { kind = f.kind; uid = f.uid; gid = f.gid; links = f.links; pages = f.pages.items; index = f.index.items } };
+    ghost view = { λ f. record {
+      kind = f.kind;
+      uid = f.uid;
+      gid = f.gid;
+      links = f.links;
+      pages = f.pages.items;
+      index = f.index.items;
+    } };
 
-    ghost invariant = { λ f. IsBitfile (record { kind = f.kind; uid = f.uid; gid = f.gid; links = f.links; pages = f.pages.items; index = f.index.items }) };
+    ghost invariant = { λ f. IsBitfile (record {
+      kind = f.kind;
+      uid = f.uid;
+      gid = f.gid;
+      links = f.links;
+      pages = f.pages.items;
+      index = f.index.items;
+    }) };
 }
 
 impl PagedFile {
