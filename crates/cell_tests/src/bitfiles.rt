@@ -1,5 +1,5 @@
-//! Files and directories in memory, changed by lines of text: a word for the call, a tag, and what it
-//! is given.
+//! Files and directories in memory, changed by lines of text: a word for the call, a tag, and what
+//! it is given.
 ghost use Rattle.std.specs.Prelude.{◌≡◌, ◌≤◌, IsSome, IsTrue};
 ghost use Rattle.page_store.specs.Bitfiles.{IsDirectory, count_index};
 
@@ -164,8 +164,8 @@ fn push_mark(text: &mut String, page: &Page) -> Result<(), OutOfMemory> {
     text.push(page.bytes()[8_191] as char)
 }
 
-/// What a tag names, in words: the owner, the number of links, and the marks of its pages and of those
-/// of its index.
+/// What a tag names, in words: the owner, the number of links, and the marks of its pages and of
+/// those of its index.
 fn shown(alloc: Global, set: &MemoryBitfiles, tag: Tag) -> Result<String, OutOfMemory> {
     let Some((uid, gid)) = set.owner_of(tag) else {
         return String::from_str(alloc, " -");
@@ -215,8 +215,8 @@ index 1.1 0 i";
 /// What the tags name after these calls.
 static AFTER: &str = " - d0:0:1::i d10:5:1:cb:efhg - f7:3:1:: - -";
 
-/// Makes a call, and once more where it was told to find no page: then it has changed nothing and the
-/// count of misses has risen by one. Anything else is a failure.
+/// Makes a call, and once more where it was told to find no page: then it has changed nothing and
+/// the count of misses has risen by one. Anything else is a failure.
 fn call_twice(alloc: Global, set: &mut MemoryBitfiles, line: &str) -> Result<(), Fail> {
     let before = all_shown(alloc, set)?;
     let misses = set.misses();

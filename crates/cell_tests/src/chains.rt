@@ -4,9 +4,9 @@ use crate::lines::{first_wrong, pages_of};
 use std::alloc::Global;
 use std::test::Fail;
 
-/// A page with a cell of each kind, and one that nothing uses. A cell's words are its zero, the next
-/// cell's volume, cell and page, the slot and the sequence of its tag, the fileset and 1, the kind, the
-/// bytes of its records, a zero, and the records.
+/// A page with a cell of each kind, and one that nothing uses. A cell's words are its zero, the
+/// next cell's volume, cell and page, the slot and the sequence of its tag, the fileset and 1, the
+/// kind, the bytes of its records, a zero, and the records.
 static EACH_KIND: &str = "
 1.7 0 424d5450 07000000 09000000 1800 0000
 1.7 c0 0000 00 00 00000000 00000000 0000 00 04 1000 0000 0c001000 01000000 00020000 01000000
@@ -42,7 +42,8 @@ fn cells_of_each_kind(rt: HostRuntime) -> Result<(), Fail> {
     Ok(())
 }
 
-/// Chains whose cells lead where no cell of theirs is. Each has one record, of what is left to be done.
+/// Chains whose cells lead where no cell of theirs is. Each has one record, of what is left to be
+/// done.
 static ASTRAY: &str = "
 1.0 0 424d5450 00000000 00000000 0000 0000
 1.0 c0 0000 01 01 00000000 01000000 0100 01 01 0c00 0000 06000c00 01000000 00000000

@@ -1,4 +1,5 @@
-//! Tests of the maps in memory, and of cells and chains of cells on pages that were written by hand.
+//! Tests of the maps in memory, and of cells and chains of cells on pages that were written by
+//! hand.
 #![tactic(auto)]
 
 #[cfg(test)]

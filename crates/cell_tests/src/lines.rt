@@ -1,6 +1,7 @@
-//! Pages and what is read from them as lines of text. A line of a page has its volume and its number,
-//! a place, and bytes in hexadecimal digits: the place is a byte of the page, or `c` and the number of
-//! a cell. What no line says is zeros. A line of a reading has a word, a cell, and what comes of it.
+//! Pages and what is read from them as lines of text. A line of a page has its volume and its
+//! number, a place, and bytes in hexadecimal digits: the place is a byte of the page, or `c` and
+//! the number of a cell. What no line says is zeros. A line of a reading has a word, a cell, and
+//! what comes of it.
 ghost use Rattle.std.specs.Prelude.{◌+◌, ◌≤◌, length};
 
 use bmt_mcells::{CellHead, CellKind, ChainFault, read_chain, read_head};

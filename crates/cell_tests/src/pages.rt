@@ -6,7 +6,8 @@ use page_store::MetaPages;
 use std::alloc::Global;
 use std::test::Fail;
 
-/// One of twelve homes: three pages of each of four volumes, one of them the last that there may be.
+/// One of twelve homes: three pages of each of four volumes, one of them the last that there may
+/// be.
 fn home_of(number: u32) -> Result<Home, Fail> {
     let vol = VolIx::new(1 + number % 4 * 2).ok_or("a volume")?;
     let page = match number / 4 % 3 {
@@ -57,7 +58,8 @@ fn put(alloc: Global, pages: &mut MemoryPages, home: &Home, mark: u8) -> Result<
     Ok(fell == usize::from(new))
 }
 
-/// Takes a page off, and says its mark, and whether the room rose by one exactly where there was one.
+/// Takes a page off, and says its mark, and whether the room rose by one exactly where there was
+/// one.
 fn take(pages: &mut MemoryPages, home: &Home) -> (Option<u8>, bool) {
     let before = pages.spare();
     let mark = match pages.take_off(*home) {

@@ -106,7 +106,8 @@ static BEFORE: &str = "
 1.3 c9 ffff 01 02 03040506 07 ff ff ff ff ff ff 05 ff ff ff ff ff
 ";
 
-/// The page after cell 2 was written, after it was written over, and after the last cell was written.
+/// The page after cell 2 was written, after it was written over, and after the last cell was
+/// written.
 static STEPS: [&str; 3] = [
     "
 1.3 0 424d5450 03000000 07000000 1a00 0000

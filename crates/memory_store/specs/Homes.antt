@@ -12,11 +12,13 @@ number_of home = home.vol * 2 ^ 32 + home.page
 
 -- what stands at each home
 abbrev pub pages_of : List (ℕ × List ℕ) → Pages
-pages_of entries home = if nat_lt home.page (2 ^ 32) then value_at entries (number_of home) else None
+pages_of entries home =
+    if nat_lt home.page (2 ^ 32) then value_at entries (number_of home) else None
 
 -- each page has all its bytes
 abbrev pub AreWholeValues : List (ℕ × List ℕ) → Type 0
-AreWholeValues entries = (key : ℕ) → ForSome (value_at entries key) (λ page. length page ≡ page_bytes)
+AreWholeValues entries =
+    (key : ℕ) → ForSome (value_at entries key) (λ page. length page ≡ page_bytes)
 
 if_some : (found : Option (List ℕ)) → ForSome found (λ page. length page ≡ page_bytes) → IfSome found (λ page. length page ≡ page_bytes)
 if_some None whole = tt

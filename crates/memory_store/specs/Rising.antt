@@ -9,7 +9,8 @@ value_at (e ∷ es) key = if e.0 == key then Some e.1 else value_at es key
 -- the numbers rise, so none stands twice
 abbrev pub IsRising : {V : Type 0} → List (ℕ × V) → Type 0
 IsRising {V} es =
-    (i j : ℕ) (d : ℕ × V) → i < j → j < length es → (slice_index_or es i d).0 < (slice_index_or es j d).0
+    (i j : ℕ) (d : ℕ × V) → i < j → j < length es
+    → (slice_index_or es i d).0 < (slice_index_or es j d).0
 
 -- the entry at this place has the number
 pub record IsPlaceOf {V : Type 0} (es : List (ℕ × V)) (key place : ℕ) : Type 0 where
@@ -24,8 +25,10 @@ pub record IsGapFor {V : Type 0} (es : List (ℕ × V)) (key place : ℕ) : Type
 
 -- the number has the value, and all others have theirs
 abbrev pub Sets : {V : Type 0} → List (ℕ × V) → List (ℕ × V) → ℕ → V → Type 0
-Sets old new key value = (q : ℕ) → value_at new q ≡ (if key == q then Some value else value_at old q)
+Sets old new key value =
+    (q : ℕ) → value_at new q ≡ (if key == q then Some value else value_at old q)
 
 -- the number has no value, and all others have theirs
 abbrev pub Drops : {V : Type 0} → List (ℕ × V) → List (ℕ × V) → ℕ → Type 0
-Drops old new key = (q : ℕ) → value_at new q ≡ (if key == q then None else value_at old q)
+Drops old new key =
+    (q : ℕ) → value_at new q ≡ (if key == q then None else value_at old q)

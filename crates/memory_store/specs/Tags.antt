@@ -24,10 +24,12 @@ IsDirectoryAt entries key = IsSomeAnd (value_at entries key) (λ file. file.kind
 
 -- how many pages the directory of that number has, and its index; none where no file has it
 abbrev pub count_pages : List (ℕ × Bitfile) → ℕ → ℕ
-count_pages entries key = option_map_or (λ (file : Bitfile). length file.pages) (value_at entries key) 0
+count_pages entries key =
+    option_map_or (λ (file : Bitfile). length file.pages) (value_at entries key) 0
 
 abbrev pub count_index : List (ℕ × Bitfile) → ℕ → ℕ
-count_index entries key = option_map_or (λ (file : Bitfile). length file.index) (value_at entries key) 0
+count_index entries key =
+    option_map_or (λ (file : Bitfile). length file.index) (value_at entries key) 0
 
 -- no tag from this slot on names anything
 abbrev pub AreUnused : ℕ → List (ℕ × Bitfile) → Type 0
@@ -36,17 +38,20 @@ AreUnused slot entries = (key : ℕ) → slot * 2 ^ 16 ≤ key → is_some (valu
 -- the file of one number is changed, and all others stay
 abbrev pub Changes : List (ℕ × Bitfile) → List (ℕ × Bitfile) → ℕ → (Bitfile → Bitfile) → Type 0
 Changes old new key change =
-    (q : ℕ) → value_at new q ≡ (if key == q then option_map change (value_at old key) else value_at old q)
+    (q : ℕ)
+    → value_at new q ≡ (if key == q then option_map change (value_at old key) else value_at old q)
 
 -- the root directory alone, of user 0 and group 0, under the tag of slot 1 and sequence 1
 abbrev pub root_alone : Bitfiles
-root_alone tag = if same_tag tag (record { slot = 1; seq = 1 }) then Some (new_file Directory 0 0) else None
+root_alone tag =
+    if same_tag tag (record { slot = 1; seq = 1 }) then Some (new_file Directory 0 0) else None
 
 if_some : (found : Option Bitfile) → ForSome found IsBitfile → IfSome found IsBitfile
 if_some None sound = tt
 if_some (Some file) sound = sound file refl
 
-pub are_bitfiles : (entries : List (ℕ × Bitfile)) → AreSound entries → AreBitfiles (files_of entries)
+pub are_bitfiles :
+    (entries : List (ℕ × Bitfile)) → AreSound entries → AreBitfiles (files_of entries)
 are_bitfiles entries sound tag =
     elim (nat_lt tag.seq (2 ^ 16)) as (λ b. IfSome (if b then value_at entries (number_of tag) else None) IsBitfile) [
       | true ↦ if_some _ (sound (number_of tag))

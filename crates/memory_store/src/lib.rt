@@ -1,4 +1,5 @@
-//! The maps of `page_store` in memory: pages by their homes, and files and directories by their tags.
+//! The maps of `page_store` in memory: pages by their homes, and files and directories by their
+//! tags.
 #![tactic(auto)]
 
 mod memory_bitfiles;

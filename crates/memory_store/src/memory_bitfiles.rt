@@ -14,9 +14,9 @@ use domain_base::{Kind, OutOfMemory, Page, Tag};
 use page_store::{BitfileSet, StoreFault};
 use std::alloc::Global;
 
-/// Files and directories by their tags, in one list in the order of tags. Each new one takes the next
-/// slot, with sequence 1. It is told which of its changing calls answer NoPage, by their numbers,
-/// counted from 0: each of these raises its count of misses and changes nothing.
+/// Files and directories by their tags, in one list in the order of tags. Each new one takes the
+/// next slot, with sequence 1. It is told which of its changing calls answer NoPage, by their
+/// numbers, counted from 0: each of these raises its count of misses and changes nothing.
 #[derive(Drop)]
 pub struct MemoryBitfiles {
     files: Vec<(u64, PagedFile)>,
@@ -246,7 +246,8 @@ fn insert_index_page(
     requires sound { AreSound files.old.items }
     requires directory { IsDirectoryAt files.old.items key }
     requires place { page ≤ count_index files.old.items key }
-    ensures ok { OnOk result (Changes files.old.items files.new.items key (insert_index page bytes)) }
+    ensures ok { OnOk result
+        (Changes files.old.items files.new.items key (insert_index page bytes)) }
     ensures err { OnErr result (files.new.items ≡ files.old.items) }
     ensures rising { IsRising files.new.items }
     ensures sound { AreSound files.new.items }

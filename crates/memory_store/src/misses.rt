@@ -1,5 +1,6 @@
 //! Which calls of a map in memory find no page.
-ghost use Rattle.std.specs.Prelude.{◌≡◌, ◌≤◌, IfErr, OnOk};
+ghost use Rattle.std.specs.Prelude.{◌≡◌, ◌==◌, ◌≤◌, Err, IfErr, Ok, if◌then◌else◌};
+ghost use Rattle.std.specs.List.{list_any};
 ghost use Rattle.domain_base.specs.Counts.{HasRisen};
 ghost use Rattle.page_store.specs.declared.fault.StoreFault.TheVariants.{NoPage as IsNoPage};
 
@@ -34,7 +35,8 @@ impl Misses {
 
     /// Counts one more call, and a miss where the call is one of those that find no page.
     pub(crate) fn next_call(&mut self) -> Result<(), StoreFault>
-        ensures fault { IfErr result (λ fault. fault ≡ IsNoPage) }
+        ensures told { result ≡ (if list_any (λ call. call == self.old.calls) self.old.told.items
+            then Err IsNoPage else Ok tt) }
         ensures risen { IfErr result (λ _. HasRisen self.old.count self.new.count) }
         ensures count { self.old.count ≤ self.new.count }
     {

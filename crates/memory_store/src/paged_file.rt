@@ -10,8 +10,8 @@ use domain_base::{Kind, OutOfMemory, Page};
 use std::alloc::Global;
 use std::marker::Model;
 
-/// A file or a directory: its owner, how many rows name it, and a directory's pages and those of its
-/// index, in order.
+/// A file or a directory: its owner, how many rows name it, and a directory's pages and those of
+/// its index, in order.
 #[derive(Drop)]
 pub(crate) struct PagedFile {
     kind: Kind,
@@ -115,8 +115,8 @@ impl PagedFile {
         self.links = links;
     }
 
-    /// Puts a page of a directory in place of the one there, or behind the last. After an error all is
-    /// as before.
+    /// Puts a page of a directory in place of the one there, or behind the last. After an error all
+    /// is as before.
     pub(crate) fn put_page(&mut self, page: u32, bytes: Page) -> Result<(), OutOfMemory>
         requires directory { self.old.kind ≡ IsDirectory }
         requires place { page ≤ length self.old.pages }
@@ -144,8 +144,8 @@ impl PagedFile {
         put_entry(&mut self.index, page as usize, bytes)
     }
 
-    /// Puts a new index page at that number, and those from there on behind it. After an error all is
-    /// as before; there is one too where the index would have 2^32 pages.
+    /// Puts a new index page at that number, and those from there on behind it. After an error all
+    /// is as before; there is one too where the index would have 2^32 pages.
     pub(crate) fn insert_index_page(&mut self, page: u32, bytes: Page) -> Result<(), OutOfMemory>
         requires directory { self.old.kind ≡ IsDirectory }
         requires place { page ≤ length self.old.index }

@@ -9,7 +9,8 @@ use Rattle.domain_base.specs.declared.place.Tag.{Tag}
 use Rattle.page_store.specs.declared.fault.StoreFault.{StoreFault}
 use Rattle.page_store.specs.declared.fault.StoreFault.TheVariants.{NoPage, OutOfMemory}
 
--- a file or a directory: whose it is, how many rows name it, and a directory's pages and those of its index, in order
+-- a file or a directory: whose it is, how many rows name it, and a directory's pages and those of
+-- its index, in order
 pub record Bitfile : Type 0 where
   pub kind : Kind
   pub uid : ℕ
@@ -35,11 +36,13 @@ without_file tag files = λ t. if same_tag t tag then None else files t
 
 -- the same with the tag's file changed; where it names none, the same
 abbrev pub with_change : Tag → (Bitfile → Bitfile) → Bitfiles → Bitfiles
-with_change tag change files = option_map_or (λ file. with_file tag (change file) files) (files tag) files
+with_change tag change files =
+    option_map_or (λ file. with_file tag (change file) files) (files tag) files
 
 -- what a new tag names
 abbrev pub new_file : Kind → ℕ → ℕ → Bitfile
-new_file kind uid gid = record { kind = kind; uid = uid; gid = gid; links = 1; pages = []; index = [] }
+new_file kind uid gid =
+    record { kind = kind; uid = uid; gid = gid; links = 1; pages = []; index = [] }
 
 -- the pages with this one at a number: in place of the one there, or behind the last
 abbrev pub with_entry : ℕ → List ℕ → List (List ℕ) → List (List ℕ)
@@ -72,10 +75,12 @@ abbrev pub count_index : Bitfiles → Tag → ℕ
 count_index files tag = option_map_or (λ (file : Bitfile). length file.index) (files tag) 0
 
 abbrev pub page_at : Bitfiles → Tag → ℕ → Option (List ℕ)
-page_at files tag page = option_and_then (λ (file : Bitfile). slice_get file.pages page) (files tag)
+page_at files tag page =
+    option_and_then (λ (file : Bitfile). slice_get file.pages page) (files tag)
 
 abbrev pub index_at : Bitfiles → Tag → ℕ → Option (List ℕ)
-index_at files tag page = option_and_then (λ (file : Bitfile). slice_get file.index page) (files tag)
+index_at files tag page =
+    option_and_then (λ (file : Bitfile). slice_get file.index page) (files tag)
 
 abbrev pub IsDirectory : Bitfiles → Tag → Type 0
 IsDirectory files tag = IsSomeAnd (files tag) (λ file. file.kind ≡ Directory)

@@ -22,8 +22,8 @@ pub trait BitfileSet {
     fn kind_of(&self, tag: Tag) -> Option<Kind>
         ensures { result ≡ kind_at (files self.now) tag };
 
-    /// Makes a file or a directory of that owner, with one link and no page, and answers its tag, which
-    /// named nothing before.
+    /// Makes a file or a directory of that owner, with one link and no page, and answers its tag,
+    /// which named nothing before.
     fn make(&mut self, alloc: Global, kind: Kind, uid: u32, gid: u32) -> Result<Tag, StoreFault>
         ensures fresh { IfOk result (λ tag. files self.old tag ≡ None) }
         ensures ok { IfOk result (λ tag. files self.new ≡
@@ -86,8 +86,8 @@ pub trait BitfileSet {
         ensures no_page { IfErr result (IsCounted (missed self.old) (missed self.new)) }
         ensures count { missed self.old ≤ missed self.new };
 
-    /// Puts a new index page at that number; the pages from there on count one more. OutOfMemory also
-    /// where the index would have 2^32 pages.
+    /// Puts a new index page at that number; the pages from there on count one more. OutOfMemory
+    /// also where the index would have 2^32 pages.
     fn insert_index_page(
         &mut self,
         alloc: Global,
