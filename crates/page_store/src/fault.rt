@@ -11,7 +11,9 @@ use std::fmt;
 /// memory could be had.
 #[derive(Clone, Copy, Debug, PartialEq, Eq)]
 pub enum StoreFault {
+    /// No page was free.
     NoPage,
+    /// No memory could be had.
     OutOfMemory,
 }
 
