@@ -215,19 +215,31 @@ index 1.1 0 i";
 /// What the tags name after these calls.
 static AFTER: &str = " - d0:0:1::i d10:5:1:cb:efhg - f7:3:1:: - -";
 
-/// Makes a call, and once more where it was told to find no page: then it has changed nothing and
-/// the count of misses has risen by one. Anything else is a failure.
+/// What is told of a call that found no page: it has changed nothing, and the count of misses has
+/// risen by one.
+fn is_a_miss(
+    alloc: Global,
+    set: &MemoryBitfiles,
+    before: &str,
+    misses: u64,
+) -> Result<bool, OutOfMemory> {
+    let after = all_shown(alloc, set)?;
+    Ok(after.as_str() == before && set.misses().saturating_sub(misses) == 1)
+}
+
+/// Makes a call, and once more where it found no page. Any other failure is one of the test.
 fn call_twice(alloc: Global, set: &mut MemoryBitfiles, line: &str) -> Result<(), Fail> {
     let before = all_shown(alloc, set)?;
     let misses = set.misses();
-    if let Err(StoreFault::NoPage) = call(alloc, set, line)? {
-        let after = all_shown(alloc, set)?;
-        if after.as_str() != before.as_str() || set.misses() <= misses {
-            return Err(Fail::from("a call that changed nothing"));
-        }
-        return call(alloc, set, line)?.map_err(|_| Fail::from("a call that was not told"));
+    match call(alloc, set, line)? {
+        Ok(()) => return Ok(()),
+        Err(StoreFault::OutOfMemory) => return Err(Fail::from("memory")),
+        Err(StoreFault::NoPage) => {}
     }
-    Ok(())
+    if !is_a_miss(alloc, set, before.as_str(), misses)? {
+        return Err(Fail::from("a call that changed nothing"));
+    }
+    call(alloc, set, line)?.map_err(|_| Fail::from("a call that was not told"))
 }
 
 /// How many misses there are after all calls, and whether the tags name what they should.

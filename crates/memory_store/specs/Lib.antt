@@ -1,3 +1,4 @@
 pub mod Homes
+pub mod PageChanges
 pub mod Rising
 pub mod Tags

@@ -1,6 +1,6 @@
 -- Files and directories in memory, each under the number of its tag.
-use Rattle.std.specs.Prelude.{◌≡◌, ◌==◌, ◌+◌, ◌*◌, ◌^◌, ◌≤◌, ℕ, true, false, List, Option, Some, None, IfSome, IsSomeAnd, is_some, length, nat_lt, refl, if◌then◌else◌}
-use Rattle.std.specs.Option.{ForSome, option_map, option_map_or}
+use Rattle.std.specs.Prelude.{◌≡◌, ◌==◌, ◌+◌, ◌*◌, ◌^◌, ◌≤◌, ℕ, true, false, List, Option, Some, None, IfSome, IsSomeAnd, is_some, nat_lt, refl, if◌then◌else◌}
+use Rattle.std.specs.Option.{ForSome, option_map}
 use Rattle.domain_base.specs.declared.place.Tag.{Tag}
 use Rattle.domain_base.specs.declared.place.Kind.TheVariants.{Directory}
 use Rattle.page_store.specs.Bitfiles.{Bitfile, Bitfiles, AreBitfiles, IsBitfile, new_file, same_tag}
@@ -21,15 +21,6 @@ AreSound entries = (key : ℕ) → ForSome (value_at entries key) IsBitfile
 -- a directory has the number
 abbrev pub IsDirectoryAt : List (ℕ × Bitfile) → ℕ → Type 0
 IsDirectoryAt entries key = IsSomeAnd (value_at entries key) (λ file. file.kind ≡ Directory)
-
--- how many pages the directory of that number has, and its index; none where no file has it
-abbrev pub count_pages : List (ℕ × Bitfile) → ℕ → ℕ
-count_pages entries key =
-    option_map_or (λ (file : Bitfile). length file.pages) (value_at entries key) 0
-
-abbrev pub count_index : List (ℕ × Bitfile) → ℕ → ℕ
-count_index entries key =
-    option_map_or (λ (file : Bitfile). length file.index) (value_at entries key) 0
 
 -- no tag from this slot on names anything
 abbrev pub AreUnused : ℕ → List (ℕ × Bitfile) → Type 0

@@ -4,11 +4,12 @@ ghost use Rattle.std.specs.Option.{option_map, option_map_or};
 ghost use Rattle.domain_base.specs.Limits.{file_pages, max_links};
 ghost use Rattle.domain_base.specs.declared.place.Kind.TheVariants.{Directory as ADirectory};
 ghost use Rattle.page_store.specs.Bitfiles.{Bitfile, insert_index, linked, new_file, put_index, put_page as with_page};
+ghost use Rattle.memory_store.specs.PageChanges.{HasPlaceFor, changed};
 ghost use Rattle.memory_store.specs.Rising.{IsRising, value_at};
-ghost use Rattle.memory_store.specs.Tags.{AreSound, AreUnused, Changes, IsDirectoryAt, are_bitfiles, count_index, count_pages, files_of, number_of, root_alone};
+ghost use Rattle.memory_store.specs.Tags.{AreSound, AreUnused, Changes, IsDirectoryAt, are_bitfiles, files_of, number_of, root_alone};
 
 use crate::misses::Misses;
-use crate::paged_file::PagedFile;
+use crate::paged_file::{PageChange, PagedFile};
 use crate::sorted::{find, place_of, put, take};
 use domain_base::{Kind, OutOfMemory, Page, Tag};
 use page_store::{BitfileSet, StoreFault};
@@ -116,7 +117,13 @@ impl BitfileSet for MemoryBitfiles {
         bytes: Page,
     ) -> Result<(), StoreFault> {
         self.misses.next_call()?;
-        put_page(&mut self.files, key_of(&tag), page, bytes)?;
+        change_page(
+            &mut self.files,
+            key_of(&tag),
+            PageChange::PutPage,
+            page,
+            bytes,
+        )?;
         Ok(())
     }
 
@@ -132,7 +139,13 @@ impl BitfileSet for MemoryBitfiles {
         bytes: Page,
     ) -> Result<(), StoreFault> {
         self.misses.next_call()?;
-        put_index_page(&mut self.files, key_of(&tag), page, bytes)?;
+        change_page(
+            &mut self.files,
+            key_of(&tag),
+            PageChange::PutIndexPage,
+            page,
+            bytes,
+        )?;
         Ok(())
     }
 
@@ -144,7 +157,13 @@ impl BitfileSet for MemoryBitfiles {
         bytes: Page,
     ) -> Result<(), StoreFault> {
         self.misses.next_call()?;
-        insert_index_page(&mut self.files, key_of(&tag), page, bytes)?;
+        change_page(
+            &mut self.files,
+            key_of(&tag),
+            PageChange::InsertIndexPage,
+            page,
+            bytes,
+        )?;
         Ok(())
     }
 
@@ -190,70 +209,26 @@ fn set_links(files: &mut Vec<(u64, PagedFile)>, key: u64, links: u32)
     }
 }
 
-/// Puts a page of the directory of that number. After an error all is as before.
-fn put_page(
+/// Puts a page of the directory of that number, or of its index. After an error all is as before.
+fn change_page(
     files: &mut Vec<(u64, PagedFile)>,
     key: u64,
+    change: PageChange,
     page: u32,
     bytes: Page,
 ) -> Result<(), OutOfMemory>
     requires rising { IsRising files.old.items }
     requires sound { AreSound files.old.items }
     requires directory { IsDirectoryAt files.old.items key }
-    requires place { page ≤ count_pages files.old.items key }
-    requires fits { page < file_pages }
-    ensures ok { OnOk result (Changes files.old.items files.new.items key (with_page page bytes)) }
-    ensures err { OnErr result (files.new.items ≡ files.old.items) }
-    ensures rising { IsRising files.new.items }
-    ensures sound { AreSound files.new.items }
-{
-    if let Ok(place) = place_of(files, key) {
-        files[place].1.put_page(page, bytes)?;
-    }
-    Ok(())
-}
-
-/// Puts an index page of the directory of that number. After an error all is as before.
-fn put_index_page(
-    files: &mut Vec<(u64, PagedFile)>,
-    key: u64,
-    page: u32,
-    bytes: Page,
-) -> Result<(), OutOfMemory>
-    requires rising { IsRising files.old.items }
-    requires sound { AreSound files.old.items }
-    requires directory { IsDirectoryAt files.old.items key }
-    requires place { page ≤ count_index files.old.items key }
-    ensures ok { OnOk result (Changes files.old.items files.new.items key (put_index page bytes)) }
-    ensures err { OnErr result (files.new.items ≡ files.old.items) }
-    ensures rising { IsRising files.new.items }
-    ensures sound { AreSound files.new.items }
-{
-    if let Ok(place) = place_of(files, key) {
-        files[place].1.put_index_page(page, bytes)?;
-    }
-    Ok(())
-}
-
-/// Puts a new index page of the directory of that number. After an error all is as before.
-fn insert_index_page(
-    files: &mut Vec<(u64, PagedFile)>,
-    key: u64,
-    page: u32,
-    bytes: Page,
-) -> Result<(), OutOfMemory>
-    requires rising { IsRising files.old.items }
-    requires sound { AreSound files.old.items }
-    requires directory { IsDirectoryAt files.old.items key }
-    requires place { page ≤ count_index files.old.items key }
+    requires place { IsSomeAnd (value_at files.old.items key) (HasPlaceFor change page) }
     ensures ok { OnOk result
-        (Changes files.old.items files.new.items key (insert_index page bytes)) }
+        (Changes files.old.items files.new.items key (changed change page bytes)) }
     ensures err { OnErr result (files.new.items ≡ files.old.items) }
     ensures rising { IsRising files.new.items }
     ensures sound { AreSound files.new.items }
 {
     if let Ok(place) = place_of(files, key) {
-        files[place].1.insert_index_page(page, bytes)?;
+        files[place].1.change(change, page, bytes)?;
     }
     Ok(())
 }

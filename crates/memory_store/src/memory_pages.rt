@@ -31,7 +31,8 @@ fn key_of(home: &Home) -> u64
 impl MemoryPages {
     /// No page at any home, and no room for one.
     pub fn new(alloc: Global) -> MemoryPages
-        ensures { ⟦<MemoryPages as MetaPages>⟧.pages result ≡ no_pages }
+        ensures pages { ⟦<MemoryPages as MetaPages>⟧.pages result ≡ no_pages }
+        ensures room { ⟦<MemoryPages as MetaPages>⟧.room result ≡ 0 }
     {
         MemoryPages {
             entries: Vec::new(alloc),

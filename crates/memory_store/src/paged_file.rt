@@ -4,11 +4,21 @@ ghost use Rattle.std.specs.Option.{option_copied};
 ghost use Rattle.domain_base.specs.Limits.{file_pages, max_links};
 ghost use Rattle.domain_base.specs.declared.place.Kind.TheVariants.{Directory as IsDirectory};
 ghost use Rattle.page_store.specs.Bitfiles.{AreWholePages, IsBitfile, insert_index, linked, new_file, put_index, put_page, with_entry};
+ghost use Rattle.memory_store.specs.PageChanges.{HasPlaceFor, changed};
 
 use domain_base::limits::PAGE_BYTES;
 use domain_base::{Kind, OutOfMemory, Page};
 use std::alloc::Global;
 use std::marker::Model;
+
+/// Where a page of a directory goes: in place of one of its pages or of its index, or behind the last
+/// of them, or between those of its index.
+#[derive(Clone, Copy)]
+pub(crate) enum PageChange {
+    PutPage,
+    PutIndexPage,
+    InsertIndexPage,
+}
 
 /// A file or a directory: its owner, how many rows name it, and a directory's pages and those of
 /// its index, in order.
@@ -115,9 +125,30 @@ impl PagedFile {
         self.links = links;
     }
 
+    /// Puts a page of a directory or of its index. After an error all is as before; there is one too
+    /// where the index would have 2^32 pages.
+    pub(crate) fn change(
+        &mut self,
+        change: PageChange,
+        page: u32,
+        bytes: Page,
+    ) -> Result<(), OutOfMemory>
+        requires directory { self.old.kind ≡ IsDirectory }
+        requires place { HasPlaceFor change page self.old }
+        ensures ok { OnOk result (self.new ≡ changed change page bytes self.old) }
+        ensures err { OnErr result (self.new ≡ self.old) }
+        ensures sound { IsBitfile self.new }
+    {
+        match change {
+            PageChange::PutPage => self.put_page(page, bytes),
+            PageChange::PutIndexPage => self.put_index_page(page, bytes),
+            PageChange::InsertIndexPage => self.insert_index_page(page, bytes),
+        }
+    }
+
     /// Puts a page of a directory in place of the one there, or behind the last. After an error all
     /// is as before.
-    pub(crate) fn put_page(&mut self, page: u32, bytes: Page) -> Result<(), OutOfMemory>
+    fn put_page(&mut self, page: u32, bytes: Page) -> Result<(), OutOfMemory>
         requires directory { self.old.kind ≡ IsDirectory }
         requires place { page ≤ length self.old.pages }
         requires fits { page < file_pages }
@@ -130,7 +161,7 @@ impl PagedFile {
 
     /// Puts an index page in place of the one there, or behind the last. After an error all is as
     /// before; there is one too where the index would have 2^32 pages.
-    pub(crate) fn put_index_page(&mut self, page: u32, bytes: Page) -> Result<(), OutOfMemory>
+    fn put_index_page(&mut self, page: u32, bytes: Page) -> Result<(), OutOfMemory>
         requires directory { self.old.kind ≡ IsDirectory }
         requires place { page ≤ length self.old.index }
         ensures ok { OnOk result (self.new ≡ put_index page bytes self.old) }
@@ -146,7 +177,7 @@ impl PagedFile {
 
     /// Puts a new index page at that number, and those from there on behind it. After an error all
     /// is as before; there is one too where the index would have 2^32 pages.
-    pub(crate) fn insert_index_page(&mut self, page: u32, bytes: Page) -> Result<(), OutOfMemory>
+    fn insert_index_page(&mut self, page: u32, bytes: Page) -> Result<(), OutOfMemory>
         requires directory { self.old.kind ≡ IsDirectory }
         requires place { page ≤ length self.old.index }
         ensures ok { OnOk result (self.new ≡ insert_index page bytes self.old) }

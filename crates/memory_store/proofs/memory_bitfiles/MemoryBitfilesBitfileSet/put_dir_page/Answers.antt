@@ -7,6 +7,6 @@ use Rattle.memory_store.proofs.memory_bitfiles.MemoryBitfilesBitfileSet.put_dir_
 pub returns-clause-ok : goal.returns-clause-ok
 returns-clause-ok c =
     let old = c.args.self.now.files.items in
-    let new = c.put_page.new.files.items in
+    let new = c.change_page.new.files.items in
     files-change old new c.args.tag (put_page c.args.page c.args.bytes) c.key_of.ensures.width
-    (subst (λ key. Changes old new key (put_page c.args.page c.args.bytes)) c.key_of.ensures.value c.in_ok-put_page.ensures.ok)
+    (subst (λ key. Changes old new key (put_page c.args.page c.args.bytes)) c.key_of.ensures.value c.in_ok-change_page.ensures.ok)
