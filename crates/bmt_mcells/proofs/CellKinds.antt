@@ -1,6 +1,6 @@
 -- The kinds of cells: a cell whose kind is that of a free one is free on a well-formed page, and one of another kind is not.
 use Rattle.std.proofs.Common.{◌≡◌, ◌∙◌, ℕ, ◌+◌, ◌*◌, ◌<◌, true, Some, IsSomeAnd, List, drop, slice_index, sym, ap, subst, arith, ⊎_elim}
-use Rattle.std.proofs.lemmas.Bool.{eqb-true}
+use Rattle.std.proofs.lemmas.Bool.{eqb-true, eq-eqb}
 use Rattle.std.proofs.lemmas.List.{get_or-drop, get_or-take}
 use Rattle.domain_base.specs.Page.{zero_bytes, slice_index-zero_bytes}
 use Rattle.domain_base.specs.declared.place.CellAt.{CellAt}
@@ -36,3 +36,8 @@ pub used_not_zeros : (pages : Pages) (at : CellAt) → IsUsedAt pages at → ¬ 
 used_not_zeros pages at used zeros =
     let there = subst (λ o. IsSomeAnd o (λ bytes. ¬ number_at 1 15 bytes ≡ 0)) zeros used in
     there (number_one 15 (zero_bytes 292) ∙ slice_index-zero_bytes 292 15 (omega arith))
+
+-- a cell of zeros has the kind of a free one
+pub zeros_kind : (page : List ℕ) (c : ℕ) → IsFreeCell (cell_of page c) → is_free_in page c ≡ true
+zeros_kind page c free =
+    eq-eqb (slice_index page (31 + 292 * c)) 0 (sym (kind_there page c) ∙ ap (number_at 1 15) free ∙ number_one 15 (zero_bytes 292) ∙ slice_index-zero_bytes 292 15 (omega arith))

@@ -1,0 +1,3 @@
+pub mod Belong
+pub mod Cells
+pub mod VolumeTable

@@ -1,0 +1,17 @@
+//! Laws of free cells.
+ghost use Rattle.std.specs.Prelude.{◌≡◌, Bool, true, false};
+ghost use Rattle.domain_base.specs.declared.place.CellAt.{CellAt};
+ghost use Rattle.page_store.specs.Pages.{Pages};
+ghost use Rattle.bmt_mcells.specs.CellPage.{KeepsHeaders, KeepsWellFormed};
+ghost use Rattle.bmt_mcells.specs.Chain.{LeavesOthers};
+ghost use Rattle.free_cells.specs.Cells.{Cells, is_free};
+ghost use Rattle.free_cells.specs.Belong.{Belong};
+
+/// Free cells and pages that belong together do so still after a change of cells of which none is
+/// free.
+pub fn other_cells_stay()
+    ensures { (cells : Cells) (old new : Pages) (changed : CellAt → Bool)
+        → LeavesOthers changed old new → KeepsWellFormed old new → KeepsHeaders old new
+        → ((at : CellAt) → is_free cells at ≡ true → changed at ≡ false)
+        → Belong cells old → Belong cells new }
+{}

@@ -1,0 +1,148 @@
+//! The free cells of one volume.
+ghost use Rattle.std.specs.Prelude.{◌≡◌, ◌+◌, ◌-◌, ◌<◌, ◌≤◌, true, false, not, ◌&&◌, ◌||◌, [], ◌∷◌, ◌++◌, length, slice_index, vec_capacity, IfSome, IfNone, IfOk, OnOk, OnErr};
+ghost use Rattle.std.specs.List.{IsDistinct};
+ghost use Rattle.free_cells.specs.declared.volume.FreeCell.{FreeCell};
+ghost use Rattle.free_cells.specs.VolumeTable.{AreOn, IsOn, VolumeIs, no_table, same_cell, is_among, is_free_there};
+
+use bmt_mcells::is_free_cell;
+use domain_base::{OutOfMemory, Page};
+use std::alloc::Global;
+use std::marker::Model;
+
+/// How many cells a page has.
+const CELLS: u8 = 28;
+
+/// A free cell of a volume: a page of its table, and a cell of that page.
+#[derive(Clone, Copy, Debug)]
+pub struct FreeCell {
+    pub page: u32,
+    pub cell: u8,
+}
+
+/// The pages of a volume's table in their order, and their free cells. Contracts see these, and
+/// whether the volume is closed.
+#[derive(Debug, Drop)]
+pub struct VolumeCells {
+    table: Vec<u32>,
+    free: Vec<FreeCell>,
+    is_closed: bool,
+}
+
+impl Model for VolumeCells {
+    ghost use Rattle.std.specs.Vec.{vec_capacity};
+    ghost use Rattle.free_cells.specs.VolumeTable.{VolumeTable, IsKept, volume_code};
+
+    ghost Value = { VolumeTable };
+
+    ghost coded = { volume_code };
+
+    ghost view = { λ v. record { table = v.table.items; free = v.free.items; is_closed = v.is_closed } };
+
+    ghost invariant = { λ v. IsKept v.table.items v.free.items (vec_capacity v.free) };
+}
+
+/// Puts the free cells of the page with this number behind the others, of which none is on it.
+fn push_free(number: u32, page: &Page, free: &mut Vec<FreeCell>)
+    requires apart { IsDistinct same_cell free.old.items }
+    requires fresh { (f : FreeCell) → f.page ≡ number → is_among free.old.items f ≡ false }
+    requires room { length free.old.items + 28 ≤ vec_capacity free.old }
+    ensures apart { IsDistinct same_cell free.new.items }
+    ensures joined { (f : FreeCell) → is_among free.new.items f
+        ≡ is_among free.old.items f || is_free_there number page.now f }
+    ensures room { vec_capacity free.new ≡ vec_capacity free.old }
+{
+    for cell in 0..CELLS {
+        if is_free_cell(page, cell) {
+            free.push_reserved(FreeCell { page: number, cell });
+        }
+    }
+}
+
+impl VolumeCells {
+    /// A volume whose table has no page so far.
+    pub fn new(alloc: Global) -> Self
+        ensures { result ≡ no_table }
+    {
+        VolumeCells {
+            table: Vec::new(alloc),
+            free: Vec::new(alloc),
+            is_closed: false,
+        }
+    }
+
+    /// Takes a free cell. None exactly where the volume is closed or has none.
+    pub fn take(&mut self) -> Option<FreeCell>
+        ensures none { IfNone result ((f : FreeCell) → self.old.is_closed ≡ false
+            → is_among self.old.free f ≡ false) }
+        ensures unchanged { IfNone result (self.new ≡ self.old) }
+        ensures some { IfSome result (λ f. (self.old.is_closed ≡ false)
+            × (is_among self.old.free f ≡ true)) }
+        ensures taken { IfSome result (λ f. VolumeIs self.old.table self.old.is_closed
+            (λ g. not (same_cell f g) && is_among self.old.free g) self.new) }
+    {
+        if self.is_closed {
+            return None;
+        }
+        self.free.pop()
+    }
+
+    /// Puts a cell of the table among the free ones. Since each of these is another cell of the
+    /// table, there is room for it.
+    pub fn give_back(&mut self, cell: FreeCell)
+        requires used { is_among self.old.free cell ≡ false }
+        requires place { IsOn self.old.table cell }
+        requires others { AreOn self.old }
+        ensures { VolumeIs self.old.table self.old.is_closed
+            (λ g. same_cell cell g || is_among self.old.free g) self.new }
+    {
+        self.free.push_reserved(cell);
+    }
+
+    /// Puts a page behind the others of the table, and its free cells among the free ones. It takes
+    /// the room for all cells of the page to be free. At an Err nothing has changed.
+    pub fn add_page(&mut self, alloc: Global, number: u32, page: &Page) -> Result<(), OutOfMemory>
+        requires fresh { (f : FreeCell) → f.page ≡ number → is_among self.old.free f ≡ false }
+        requires others { AreOn self.old }
+        ensures ok { OnOk result (VolumeIs (self.old.table ++ number ∷ []) self.old.is_closed
+            (λ g. is_among self.old.free g || is_free_there number page.now g) self.new) }
+        ensures err { OnErr result (self.new ≡ self.old) }
+    {
+        let room = usize::from(CELLS) * (self.table.len() + 1) - self.free.len();
+        self.table.reserve(1)?;
+        self.free.reserve(room)?;
+        self.table.push_reserved(number);
+        push_free(number, page, &mut self.free);
+        Ok(())
+    }
+
+    /// Closes the volume, or opens it.
+    pub fn set_closed(&mut self, is_closed: bool)
+        ensures { self.new ≡ record self.old { is_closed = is_closed } }
+    {
+        self.is_closed = is_closed;
+    }
+
+    /// Forgets the table and its free cells, and opens the volume.
+    pub fn clear(&mut self)
+        ensures { self.new ≡ no_table }
+    {
+        self.table.clear();
+        self.free.clear();
+        self.is_closed = false;
+    }
+
+    /// How many pages the table has.
+    pub fn page_count(&self) -> usize
+        ensures { result ≡ length self.now.table }
+    {
+        self.table.len()
+    }
+
+    /// The last page of the table.
+    pub fn last_page(&self) -> u32
+        requires { 0 < length self.now.table }
+        ensures { result ≡ slice_index self.now.table (length self.now.table - 1) }
+    {
+        self.table[self.table.len() - 1]
+    }
+}
