@@ -1,9 +1,10 @@
 -- The free cells of a domain's volumes.
-use Rattle.std.specs.Prelude.{◌≡◌, ℕ, Bool, not, ◌&&◌, ◌==◌, nat_lt, List, [], ◌∷◌, ◌++◌, slice_index_or, if◌then◌else◌}
+use Rattle.std.specs.Prelude.{◌≡◌, ℕ, Bool, not, ◌&&◌, ◌||◌, ◌==◌, nat_lt, List, [], ◌∷◌, ◌++◌, slice_index_or, if◌then◌else◌}
 use Rattle.domain_base.specs.declared.place.CellAt.{CellAt}
 use Rattle.domain_base.specs.declared.place.Home.{Home}
 use Rattle.page_store.specs.Pages.{same_home}
-use Rattle.bmt_mcells.specs.CellPage.{home_of}
+use Rattle.bmt_mcells.specs.CellPage.{home_of, is_free_in}
+use Rattle.bmt_mcells.specs.Chain.{is_at}
 use Rattle.free_cells.specs.VolumeTable.{VolumeTable, no_table, is_among}
 
 -- each volume's table, that of volume k at place k - 1
@@ -23,22 +24,46 @@ is_closed cells vol = (volume_of cells vol).is_closed
 
 -- the cell is free, on a volume that is closed or not
 abbrev pub is_free : Cells → CellAt → Bool
-is_free cells at = is_among (volume_of cells at.vol).free (record { page = at.page; cell = at.cell })
+is_free cells at =
+    is_among (volume_of cells at.vol).free (record { page = at.page; cell = at.cell })
 
 -- the cell is free, and its volume is not closed
 abbrev pub can_take : Cells → CellAt → Bool
 can_take cells at = is_free cells at && not (is_closed cells at.vol)
 
 -- the volumes have these tables, these marks, and these free cells
-pub record Holds (table : ℕ → List ℕ) (closed : ℕ → Bool) (free : CellAt → Bool) (now : Cells) : Type 0 where
+pub record Holds (table : ℕ → List ℕ) (closed : ℕ → Bool) (free : CellAt → Bool) (now : Cells)
+    : Type 0 where
   pub tables : (vol : ℕ) → table_of now vol ≡ table vol
   pub marks : (vol : ℕ) → is_closed now vol ≡ closed vol
   pub cells : (at : CellAt) → is_free now at ≡ free at
 
 -- the tables with this page behind the others of its volume
 abbrev pub with_page_last : Home → Cells → ℕ → List ℕ
-with_page_last home cells vol = if vol == home.vol then table_of cells vol ++ home.page ∷ [] else table_of cells vol
+with_page_last home cells vol =
+    if vol == home.vol then table_of cells vol ++ home.page ∷ [] else table_of cells vol
 
 -- a cell of the page that stands there
 abbrev pub is_on : Home → CellAt → Bool
 is_on home at = same_home (home_of at) home && nat_lt at.cell 28
+
+-- a cell that was free is not, and all else is as it was
+abbrev pub TakesCell : CellAt → Cells → Cells → Type 0
+TakesCell at old new =
+    Holds (table_of old) (is_closed old) (λ q. not (is_at at q) && is_free old q) new
+
+-- a cell is free, and all else is as it was
+abbrev pub FreesCell : CellAt → Cells → Cells → Type 0
+FreesCell at old new = Holds (table_of old) (is_closed old) (λ q. is_at at q || is_free old q) new
+
+-- the page stands behind the others of its volume's table, and its cells of the kind of a free one
+-- are free
+abbrev pub JoinsPage : Home → List ℕ → Cells → Cells → Type 0
+JoinsPage home page old new =
+    Holds (with_page_last home old) (is_closed old)
+    (λ at. is_free old at || (is_on home at && is_free_in page at.cell)) new
+
+-- the same of a page of which every cell is free
+abbrev pub JoinsEmptyPage : Home → Cells → Cells → Type 0
+JoinsEmptyPage home old new =
+    Holds (with_page_last home old) (is_closed old) (λ at. is_free old at || is_on home at) new

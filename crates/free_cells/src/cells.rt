@@ -1,27 +1,27 @@
 //! The free cells of a domain's volumes.
-ghost use Rattle.std.specs.Prelude.{◌≡◌, ◌≢◌, ℕ, ◌+◌, ◌-◌, ◌<◌, ◌≤◌, true, false, not, ◌==◌, ◌&&◌, ◌||◌, if◌then◌else◌, List, [], ◌∷◌, ◌++◌, Contains, length, slice_index, IfOk, IfSome, IfNone, OnOk, OnErr, IsSomeAnd, Some};
+ghost use Rattle.std.specs.Prelude.{◌≡◌, ◌≢◌, ◌+◌, ◌-◌, ◌<◌, ◌≤◌, true, false, not, ◌==◌, ◌&&◌, if◌then◌else◌, List, [], Contains, length, IfOk, IfSome, IfNone, OnOk, OnErr, IsSomeAnd, Some};
 ghost use Rattle.domain_base.specs.declared.place.CellAt.{CellAt};
 ghost use Rattle.domain_base.specs.declared.place.Home.{Home};
 ghost use Rattle.page_store.specs.Pages.{Pages, same_home};
-ghost use Rattle.bmt_mcells.specs.CellPage.{IsCellPage, IsEmptyPage, IsUsedAt, KeepsHeaders, KeepsWellFormed, cell_at, home_of, index_of, is_free_in, next_of};
+ghost use Rattle.bmt_mcells.specs.CellPage.{HasPlace, IsEmptyPage, IsUsedAt, KeepsHeaders, KeepsWellFormed, cell_at, home_of};
 ghost use Rattle.bmt_mcells.specs.Chain.{LeavesOthers, is_at};
 ghost use Rattle.domain_base.specs.Page.{zero_bytes};
 ghost use Rattle.free_cells.specs.VolumeTable.{AreOn};
-ghost use Rattle.free_cells.specs.Cells.{Holds, can_take, is_closed, is_free, is_on, table_of, volume_of, with_page_last};
+ghost use Rattle.free_cells.specs.Cells.{FreesCell, Holds, JoinsEmptyPage, JoinsPage, TakesCell, can_take, is_closed, is_free, is_on, table_of, volume_of};
 ghost use Rattle.free_cells.specs.Belong.{Belong, IsNextPage, LeadsTo, last_home as last_of};
 
 use crate::linking::link_page;
 use crate::volume::{FreeCell, VolumeCells};
-use bmt_mcells::{clear_cell, empty_page, set_next};
+use bmt_mcells::{clear_cell, empty_page};
 use domain_base::limits::MAX_VOLUMES;
 use domain_base::{CellAt, Home, OutOfMemory, Page, VolIx};
 use page_store::MetaPages;
 use std::alloc::Global;
 use std::marker::Model;
 
-/// The free cells of a domain's volumes, and the pages that they stand on. For each volume contracts
+/// The free cells of a domain's volumes, and the pages that they stand on. Of each volume contracts
 /// see the pages of its table in their order, which of their cells are free, and whether the volume
-/// is closed, which is to say that no cell of it is handed out.
+/// is closed, so that no cell of it is handed out.
 #[derive(Debug, Drop)]
 pub struct FreeCells {
     volumes: Vec<VolumeCells>,
@@ -44,142 +44,14 @@ impl Model for FreeCells {
 impl FreeCells {
     /// No free cell: of each volume no page was read, and none is closed.
     pub fn new(alloc: Global) -> Result<Self, OutOfMemory>
-        ensures { IfOk result (Holds (λ _. []) (λ _. false) (λ _. false)) }
+        ensures value { IfOk result (Holds (λ _. []) (λ _. false) (λ _. false)) }
+        ensures belong { IfOk result (λ cells. (pages : Pages) → Belong cells pages) }
     {
         let mut volumes = Vec::with_capacity(alloc, MAX_VOLUMES as usize)?;
         for _ in 0..MAX_VOLUMES {
             volumes.push(VolumeCells::new(alloc))?;
         }
         Ok(FreeCells { volumes })
-    }
-
-    /// Closes the volume: no cell of it is handed out until it is activated.
-    pub fn close_volume(&mut self, vol: VolIx)
-        ensures value { Holds (table_of self.old) (λ v. if v == vol then true else is_closed self.old v)
-            (is_free self.old) self.new }
-        ensures belong { (pages : Pages) → Belong self.old pages → Belong self.new pages }
-    {
-        self.volumes[vol.index()].set_closed(true);
-    }
-
-    /// Takes a free cell of this volume. None exactly where it has none or is closed.
-    fn take_on(&mut self, vol: VolIx) -> Option<CellAt>
-        ensures none { IfNone result ((at : CellAt) → at.vol ≡ vol → can_take self.old at ≡ false) }
-        ensures unchanged { IfNone result (self.new ≡ self.old) }
-        ensures some { IfSome result (λ at. (at.vol ≡ vol) × (can_take self.old at ≡ true)) }
-        ensures taken { IfSome result (λ at. Holds (table_of self.old) (is_closed self.old)
-            (λ q. not (is_at at q) && is_free self.old q) self.new) }
-    {
-        let found = self.volumes[vol.index()].take()?;
-        Some(CellAt {
-            vol,
-            page: found.page,
-            cell: found.cell,
-        })
-    }
-
-    /// Takes a free cell of the first volume that is not closed and has one.
-    fn take_anywhere(&mut self) -> Option<CellAt>
-        ensures none { IfNone result ((at : CellAt) → can_take self.old at ≡ false) }
-        ensures unchanged { IfNone result (self.new ≡ self.old) }
-        ensures some { IfSome result (λ at. can_take self.old at ≡ true) }
-        ensures taken { IfSome result (λ at. Holds (table_of self.old) (is_closed self.old)
-            (λ q. not (is_at at q) && is_free self.old q) self.new) }
-    {
-        for index in 0..self.volumes.len() {
-            let vol = VolIx::new(index as u32 + 1).unwrap();
-            let found = self.take_on(vol);
-            if found.is_some() {
-                return found;
-            }
-        }
-        None
-    }
-
-    /// Takes a free cell of a volume that is not closed, of the preferred one if it has any. None
-    /// exactly where no such volume has one. It takes no memory and no pages.
-    pub fn new_cell(&mut self, prefer: VolIx) -> Option<CellAt>
-        ensures none { IfNone result ((at : CellAt) → can_take self.old at ≡ false) }
-        ensures unchanged { IfNone result (self.new ≡ self.old) }
-        ensures some { IfSome result (λ at. can_take self.old at ≡ true) }
-        ensures taken { IfSome result (λ at. Holds (table_of self.old) (is_closed self.old)
-            (λ q. not (is_at at q) && is_free self.old q) self.new) }
-        ensures preferred { IfSome result (λ at. (q : CellAt) → q.vol ≡ prefer
-            → can_take self.old q ≡ true → at.vol ≡ prefer) }
-        ensures belong { (pages : Pages) → Belong self.old pages → Belong self.new pages }
-    {
-        let preferred = self.take_on(prefer);
-        if preferred.is_some() {
-            return preferred;
-        }
-        self.take_anywhere()
-    }
-
-    /// Opens the volume again: its free cells are handed out.
-    pub fn activate(&mut self, vol: VolIx)
-        ensures value { Holds (table_of self.old) (λ v. if v == vol then false else is_closed self.old v)
-            (is_free self.old) self.new }
-        ensures belong { (pages : Pages) → Belong self.old pages → Belong self.new pages }
-    {
-        self.volumes[vol.index()].set_closed(false);
-    }
-
-    /// Forgets the volume: its table and its free cells. It is open then.
-    pub fn drop_volume(&mut self, vol: VolIx)
-        ensures value { Holds (λ v. if v == vol then [] else table_of self.old v)
-            (λ v. if v == vol then false else is_closed self.old v)
-            (λ at. not (at.vol == vol) && is_free self.old at) self.new }
-        ensures belong { (pages : Pages) → Belong self.old pages → Belong self.new pages }
-    {
-        self.volumes[vol.index()].clear();
-    }
-
-    /// Puts a cell of the table among the free ones.
-    fn give_back(&mut self, at: &CellAt)
-        requires used { is_free self.old at.now ≡ false }
-        requires place { Contains (table_of self.old at.now.vol) at.now.page }
-        requires below { at.now.cell < 28 }
-        requires others { AreOn (volume_of self.old at.now.vol) }
-        ensures { Holds (table_of self.old) (is_closed self.old)
-            (λ q. is_at at.now q || is_free self.old q) self.new }
-    {
-        self.volumes[at.vol.index()].give_back(FreeCell {
-            page: at.page,
-            cell: at.cell,
-        });
-    }
-
-    /// Clears a cell in use, on a page of its volume's table, and takes it back among the free ones:
-    /// it is 292 zeros then. Every other cell stays, and the index and next page of each page. It
-    /// takes no memory.
-    pub fn free_cell<M: MetaPages>(&mut self, pages: &mut M, at: CellAt)
-        requires belong { Belong self.old (M.pages pages.old) }
-        requires used { IsUsedAt (M.pages pages.old) at }
-        requires table { Contains (table_of self.old at.vol) at.page }
-        ensures value { Holds (table_of self.old) (is_closed self.old)
-            (λ q. is_at at q || is_free self.old q) self.new }
-        ensures cleared { cell_at (M.pages pages.new) at ≡ Some (zero_bytes 292) }
-        ensures others { LeavesOthers (is_at at) (M.pages pages.old) (M.pages pages.new) }
-        ensures well_formed { KeepsWellFormed (M.pages pages.old) (M.pages pages.new) }
-        ensures headers { KeepsHeaders (M.pages pages.old) (M.pages pages.new) }
-        ensures elsewhere { (home : Home) → same_home home (home_of at) ≡ false
-            → M.pages pages.new home ≡ M.pages pages.old home }
-        ensures room { M.room pages.new ≡ M.room pages.old }
-        ensures belong { Belong self.new (M.pages pages.new) }
-    {
-        clear_cell(pages, at);
-        self.give_back(&at);
-    }
-
-    /// Puts a page behind the others of its volume's table, and its free cells among the free ones.
-    fn join_page(&mut self, alloc: Global, home: &Home, page: &Page) -> Result<(), OutOfMemory>
-        requires fresh { ¬ Contains (table_of self.old home.now.vol) home.now.page }
-        requires others { AreOn (volume_of self.old home.now.vol) }
-        ensures ok { OnOk result (Holds (with_page_last home.now self.old) (is_closed self.old)
-            (λ at. is_free self.old at || (is_on home.now at && is_free_in page.now at.cell)) self.new) }
-        ensures err { OnErr result (self.new ≡ self.old) }
-    {
-        self.volumes[home.vol.index()].add_page(alloc, home.page, page)
     }
 
     /// Reads the page of cells that stands there, the next one of its volume's table: its cells of
@@ -195,9 +67,8 @@ impl FreeCells {
         requires page { IsSomeAnd (M.pages pages.now home)
             (IsNextPage (length (table_of self.old home.vol))) }
         requires linked { LeadsTo self.old home.vol (M.pages pages.now) home.page }
-        ensures ok { OnOk result (IsSomeAnd (M.pages pages.now home) (λ page.
-            Holds (with_page_last home self.old) (is_closed self.old)
-            (λ at. is_free self.old at || (is_on home at && is_free_in page at.cell)) self.new)) }
+        ensures ok { OnOk result (IsSomeAnd (M.pages pages.now home)
+            (λ page. JoinsPage home page self.old self.new)) }
         ensures err { OnErr result (self.new ≡ self.old) }
         ensures belong { Belong self.new (M.pages pages.now) }
     {
@@ -205,6 +76,166 @@ impl FreeCells {
             Some(page) => self.join_page(alloc, &home, page),
             None => Ok(()),
         }
+    }
+
+    /// Adds a page of 28 free cells, with no next page, behind the last page of its volume's table,
+    /// whose next page it becomes. All 28 cells join the free ones. Every other cell stays, and every
+    /// page but these two. It takes the room for the page, and for its cells to be free. At an Err
+    /// nothing has changed, but that there may be more room.
+    pub fn add_page<M: MetaPages>(
+        &mut self,
+        alloc: Global,
+        pages: &mut M,
+        home: Home,
+    ) -> Result<(), OutOfMemory>
+        requires belong { Belong self.old (M.pages pages.old) }
+        requires some { 0 < length (table_of self.old home.vol) }
+        requires ends { LeadsTo self.old home.vol (M.pages pages.old) 0 }
+        requires number { home.page ≢ 0 }
+        requires fresh { ¬ Contains (table_of self.old home.vol) home.page }
+        ensures ok { OnOk result (JoinsEmptyPage home self.old self.new) }
+        ensures page { OnOk result (IsSomeAnd (M.pages pages.new home)
+            (IsEmptyPage (length (table_of self.old home.vol)))) }
+        ensures linked { OnOk result (LeadsTo self.old home.vol (M.pages pages.new) home.page) }
+        ensures others { LeavesOthers (is_on home) (M.pages pages.old) (M.pages pages.new) }
+        ensures well_formed { KeepsWellFormed (M.pages pages.old) (M.pages pages.new) }
+        ensures elsewhere { (h : Home) → same_home h home ≡ false
+            → same_home h (last_of self.old home.vol) ≡ false
+            → M.pages pages.new h ≡ M.pages pages.old h }
+        ensures err { OnErr result ((self.new ≡ self.old)
+            × (M.pages pages.new ≡ M.pages pages.old)) }
+        ensures room { M.room pages.old ≤ M.room pages.new + 1 }
+        ensures belong { Belong self.new (M.pages pages.new) }
+    {
+        let last = self.last_home(home.vol);
+        let page = self.prepare_page(alloc, pages, &home)?;
+        link_page(pages, &last, &home, page);
+        Ok(())
+    }
+
+    /// Takes a free cell of a volume that is not closed, of the preferred one if it has any. None
+    /// exactly where no such volume has one. It takes no memory and no pages.
+    pub fn new_cell(&mut self, prefer: VolIx) -> Option<CellAt>
+        ensures none { IfNone result ((at : CellAt) → can_take self.old at ≡ false) }
+        ensures unchanged { IfNone result (self.new ≡ self.old) }
+        ensures some { IfSome result (λ at. can_take self.old at ≡ true) }
+        ensures place { IfSome result (λ at. (pages : Pages) → Belong self.old pages
+            → HasPlace pages at) }
+        ensures taken { IfSome result (λ at. TakesCell at self.old self.new) }
+        ensures preferred { IfSome result (λ at. (q : CellAt) → q.vol ≡ prefer
+            → can_take self.old q ≡ true → at.vol ≡ prefer) }
+        ensures belong { (pages : Pages) → Belong self.old pages → Belong self.new pages }
+    {
+        let preferred = self.take_on(prefer);
+        if preferred.is_some() {
+            return preferred;
+        }
+        self.take_anywhere()
+    }
+
+    /// Clears a cell in use, on a page of its volume's table, and takes it back among the free
+    /// ones: it is 292 zeros then. Every other cell stays, and the index and next page of each page.
+    /// It takes no memory.
+    pub fn free_cell<M: MetaPages>(&mut self, pages: &mut M, at: CellAt)
+        requires belong { Belong self.old (M.pages pages.old) }
+        requires used { IsUsedAt (M.pages pages.old) at }
+        requires table { Contains (table_of self.old at.vol) at.page }
+        ensures value { FreesCell at self.old self.new }
+        ensures cleared { cell_at (M.pages pages.new) at ≡ Some (zero_bytes 292) }
+        ensures others { LeavesOthers (is_at at) (M.pages pages.old) (M.pages pages.new) }
+        ensures well_formed { KeepsWellFormed (M.pages pages.old) (M.pages pages.new) }
+        ensures headers { KeepsHeaders (M.pages pages.old) (M.pages pages.new) }
+        ensures elsewhere { (home : Home) → same_home home (home_of at) ≡ false
+            → M.pages pages.new home ≡ M.pages pages.old home }
+        ensures room { M.room pages.new ≡ M.room pages.old }
+        ensures belong { Belong self.new (M.pages pages.new) }
+    {
+        clear_cell(pages, at);
+        self.give_back(&at);
+    }
+
+    /// Closes the volume: no cell of it is handed out until it is activated.
+    pub fn close_volume(&mut self, vol: VolIx)
+        ensures value { Holds (table_of self.old)
+            (λ v. if v == vol then true else is_closed self.old v) (is_free self.old) self.new }
+        ensures belong { (pages : Pages) → Belong self.old pages → Belong self.new pages }
+    {
+        self.volumes[vol.index()].set_closed(true);
+    }
+
+    /// Opens the volume again: its free cells are handed out.
+    pub fn activate(&mut self, vol: VolIx)
+        ensures value { Holds (table_of self.old)
+            (λ v. if v == vol then false else is_closed self.old v) (is_free self.old) self.new }
+        ensures belong { (pages : Pages) → Belong self.old pages → Belong self.new pages }
+    {
+        self.volumes[vol.index()].set_closed(false);
+    }
+
+    /// Forgets the volume: its table and its free cells. It is open then.
+    pub fn drop_volume(&mut self, vol: VolIx)
+        ensures value { Holds (λ v. if v == vol then [] else table_of self.old v)
+            (λ v. if v == vol then false else is_closed self.old v)
+            (λ at. not (at.vol == vol) && is_free self.old at) self.new }
+        ensures belong { (pages : Pages) → Belong self.old pages → Belong self.new pages }
+    {
+        self.volumes[vol.index()].clear();
+    }
+
+    /// Takes a free cell of this volume. None exactly where it has none or is closed.
+    fn take_on(&mut self, vol: VolIx) -> Option<CellAt>
+        ensures none { IfNone result ((at : CellAt) → at.vol ≡ vol → can_take self.old at ≡ false) }
+        ensures unchanged { IfNone result (self.new ≡ self.old) }
+        ensures some { IfSome result (λ at. (at.vol ≡ vol) × (can_take self.old at ≡ true)) }
+        ensures taken { IfSome result (λ at. TakesCell at self.old self.new) }
+    {
+        let found = self.volumes[vol.index()].take()?;
+        Some(CellAt {
+            vol,
+            page: found.page,
+            cell: found.cell,
+        })
+    }
+
+    /// Takes a free cell of the first volume that is not closed and has one.
+    fn take_anywhere(&mut self) -> Option<CellAt>
+        ensures none { IfNone result ((at : CellAt) → can_take self.old at ≡ false) }
+        ensures unchanged { IfNone result (self.new ≡ self.old) }
+        ensures some { IfSome result (λ at. can_take self.old at ≡ true) }
+        ensures taken { IfSome result (λ at. TakesCell at self.old self.new) }
+    {
+        for index in 0..self.volumes.len() {
+            let vol = VolIx::new(index as u32 + 1).unwrap();
+            let found = self.take_on(vol);
+            if found.is_some() {
+                return found;
+            }
+        }
+        None
+    }
+
+    /// Puts a cell of the table among the free ones.
+    fn give_back(&mut self, at: &CellAt)
+        requires used { is_free self.old at.now ≡ false }
+        requires place { Contains (table_of self.old at.now.vol) at.now.page }
+        requires below { at.now.cell < 28 }
+        requires others { AreOn (volume_of self.old at.now.vol) }
+        ensures { FreesCell at.now self.old self.new }
+    {
+        self.volumes[at.vol.index()].give_back(FreeCell {
+            page: at.page,
+            cell: at.cell,
+        });
+    }
+
+    /// Puts a page behind the others of its volume's table, and its free cells among the free ones.
+    fn join_page(&mut self, alloc: Global, home: &Home, page: &Page) -> Result<(), OutOfMemory>
+        requires fresh { ¬ Contains (table_of self.old home.now.vol) home.now.page }
+        requires others { AreOn (volume_of self.old home.now.vol) }
+        ensures ok { OnOk result (JoinsPage home.now page.now self.old self.new) }
+        ensures err { OnErr result (self.new ≡ self.old) }
+    {
+        self.volumes[home.vol.index()].add_page(alloc, home.page, page)
     }
 
     /// The index that the next page of the volume's table gets. A table of 2^32 pages counts as one
@@ -238,8 +269,7 @@ impl FreeCells {
         requires fresh { ¬ Contains (table_of self.old home.now.vol) home.now.page }
         requires others { AreOn (volume_of self.old home.now.vol) }
         ensures page { IfOk result (IsEmptyPage (length (table_of self.old home.now.vol))) }
-        ensures ok { IfOk result (λ page. Holds (with_page_last home.now self.old)
-            (is_closed self.old) (λ at. is_free self.old at || (is_on home.now at && is_free_in page at.cell)) self.new) }
+        ensures ok { IfOk result (λ page. JoinsPage home.now page self.old self.new) }
         ensures err { OnErr result (self.new ≡ self.old) }
         ensures pages { M.pages pages.new ≡ M.pages pages.old }
         ensures room { OnOk result (0 < M.room pages.new) }
@@ -250,40 +280,5 @@ impl FreeCells {
         pages.reserve(alloc, 1)?;
         self.join_page(alloc, home, &page)?;
         Ok(page)
-    }
-
-    /// Adds a page of 28 free cells behind the last page of its volume's table, whose next page it
-    /// becomes. All 28 cells join the free ones, and there is room for each of them to be free. Every
-    /// other cell and page stays. At an Err nothing has changed, but that there may be more room.
-    pub fn add_page<M: MetaPages>(
-        &mut self,
-        alloc: Global,
-        pages: &mut M,
-        home: Home,
-    ) -> Result<(), OutOfMemory>
-        requires belong { Belong self.old (M.pages pages.old) }
-        requires some { 0 < length (table_of self.old home.vol) }
-        requires ends { LeadsTo self.old home.vol (M.pages pages.old) 0 }
-        requires number { home.page ≢ 0 }
-        requires fresh { ¬ Contains (table_of self.old home.vol) home.page }
-        ensures ok { OnOk result (Holds (with_page_last home self.old) (is_closed self.old)
-            (λ at. is_free self.old at || is_on home at) self.new) }
-        ensures page { OnOk result (IsSomeAnd (M.pages pages.new home)
-            (IsEmptyPage (length (table_of self.old home.vol)))) }
-        ensures linked { OnOk result (LeadsTo self.old home.vol (M.pages pages.new) home.page) }
-        ensures others { LeavesOthers (is_on home) (M.pages pages.old) (M.pages pages.new) }
-        ensures well_formed { KeepsWellFormed (M.pages pages.old) (M.pages pages.new) }
-        ensures elsewhere { (h : Home) → same_home h home ≡ false
-            → same_home h (last_of self.old home.vol) ≡ false
-            → M.pages pages.new h ≡ M.pages pages.old h }
-        ensures err { OnErr result ((self.new ≡ self.old)
-            × (M.pages pages.new ≡ M.pages pages.old)) }
-        ensures room { M.room pages.old ≤ M.room pages.new + 1 }
-        ensures belong { Belong self.new (M.pages pages.new) }
-    {
-        let last = self.last_home(home.vol);
-        let page = self.prepare_page(alloc, pages, &home)?;
-        link_page(pages, &last, &home, page);
-        Ok(())
     }
 }

@@ -1,5 +1,5 @@
 //! The free cells of one volume.
-ghost use Rattle.std.specs.Prelude.{◌≡◌, ◌+◌, ◌-◌, ◌<◌, ◌≤◌, true, false, not, ◌&&◌, ◌||◌, [], ◌∷◌, ◌++◌, length, slice_index, vec_capacity, IfSome, IfNone, IfOk, OnOk, OnErr};
+ghost use Rattle.std.specs.Prelude.{◌≡◌, ◌+◌, ◌-◌, ◌<◌, ◌≤◌, true, false, not, ◌&&◌, ◌||◌, [], ◌∷◌, ◌++◌, length, slice_index, vec_capacity, IfSome, IfNone, OnOk, OnErr};
 ghost use Rattle.std.specs.List.{IsDistinct};
 ghost use Rattle.free_cells.specs.declared.volume.FreeCell.{FreeCell};
 ghost use Rattle.free_cells.specs.VolumeTable.{AreOn, IsOn, VolumeIs, no_table, same_cell, is_among, is_free_there};
@@ -36,7 +36,11 @@ impl Model for VolumeCells {
 
     ghost coded = { volume_code };
 
-    ghost view = { λ v. record { table = v.table.items; free = v.free.items; is_closed = v.is_closed } };
+    ghost view = { λ v. record {
+      table = v.table.items;
+      free = v.free.items;
+      is_closed = v.is_closed;
+    } };
 
     ghost invariant = { λ v. IsKept v.table.items v.free.items (vec_capacity v.free) };
 }
