@@ -1,2 +1,4 @@
+pub mod CommandForms
+pub mod CommandLemmas
 pub mod FindLemmas
-pub mod Joined
+mod Owners

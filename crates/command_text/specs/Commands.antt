@@ -58,16 +58,19 @@ row_of verb.Defragment = row (codes "defragment") 2 false
 -- all of them
 abbrev pub verbs : List Verb
 verbs =
-    verb.Mkfset ∷ verb.Rmfset ∷ verb.Clonefset ∷ verb.Showfsets ∷ verb.Setquota ∷ verb.Showquota ∷ verb.Create ∷ verb.Mkdir
-    ∷ verb.Write ∷ verb.Read ∷ verb.Truncate ∷ verb.Rename ∷ verb.Link ∷ verb.Links ∷ verb.Unlink ∷ verb.Rmdir ∷ verb.List
-    ∷ verb.Stat ∷ verb.Fsync ∷ verb.Chfile ∷ verb.Stripe ∷ verb.Sync ∷ verb.Cancel ∷ verb.Showfdmn ∷ verb.Showfile
-    ∷ verb.Migrate ∷ verb.Balance ∷ verb.Addvol ∷ verb.Rmvol ∷ verb.Chvol ∷ verb.Switchlog ∷ verb.Upgrade ∷ verb.Defragment ∷ []
+    verb.Mkfset ∷ verb.Rmfset ∷ verb.Clonefset ∷ verb.Showfsets ∷ verb.Setquota ∷ verb.Showquota
+    ∷ verb.Create ∷ verb.Mkdir ∷ verb.Write ∷ verb.Read ∷ verb.Truncate ∷ verb.Rename
+    ∷ verb.Link ∷ verb.Links ∷ verb.Unlink ∷ verb.Rmdir ∷ verb.List ∷ verb.Stat ∷ verb.Fsync
+    ∷ verb.Chfile ∷ verb.Stripe ∷ verb.Sync ∷ verb.Cancel ∷ verb.Showfdmn ∷ verb.Showfile
+    ∷ verb.Migrate ∷ verb.Balance ∷ verb.Addvol ∷ verb.Rmvol ∷ verb.Chvol ∷ verb.Switchlog
+    ∷ verb.Upgrade ∷ verb.Defragment ∷ []
 
 -- what a first word asks for, where it is known
 unfoldable pub verb_of : List ℕ → Option Verb
 verb_of word = find (λ v. bytes_eq (row_of v).text word) verbs
 
--- whether a line of this command may have so many words: `migrate` may leave out options, of two words each
+-- whether a line of this command may have so many words: `migrate` may leave out options, of two
+-- words each
 unfoldable pub takes : Verb → ℕ → Bool
 takes verb.Migrate count = list_any (λ n. n == count) (4 ∷ 6 ∷ 8 ∷ 10 ∷ [])
 takes verb count = count == (row_of verb).words
@@ -174,13 +177,15 @@ chvol (option ∷ v ∷ []) = do
   Some (ChvolA vol)
 chvol _ = None
 
--- an option with its number, where the words begin with it, and the words behind; without it all words are behind
+-- an option with its number, where the words begin with it, and the words behind; without it all
+-- words are behind
 abbrev pub Optional : Type 0
 Optional = Option ℕ × Words
 
 unfoldable pub optional : List ℕ → Words → Option Optional
 optional name (option ∷ value ∷ words) =
-    if bytes_eq option name then option_map (λ n. (Some n, words)) (number_below (2 ^ 32) value) else Some (None, option ∷ value ∷ words)
+    if bytes_eq option name then option_map (λ n. (Some n, words)) (number_below (2 ^ 32) value)
+    else Some (None, option ∷ value ∷ words)
 optional name words = Some (None, words)
 
 -- `migrate` moves pages of a file to a volume

@@ -39,13 +39,20 @@ command_words (command.Rmfset fileset) = codes "rmfset" ∷ fileset ∷ []
 command_words (command.Clonefset fileset new_name) = codes "clonefset" ∷ fileset ∷ new_name ∷ []
 command_words command.Showfsets = codes "showfsets" ∷ []
 command_words (command.Setquota fileset who files blocks) =
-    codes "setquota" ∷ fileset ∷ owner_kind who ∷ decimal (owner_id who) ∷ decimal files ∷ decimal blocks ∷ []
-command_words (command.Showquota fileset who) = codes "showquota" ∷ fileset ∷ owner_kind who ∷ decimal (owner_id who) ∷ []
-command_words (command.Create place uid gid) = codes "create" ∷ place_text place ∷ decimal uid ∷ decimal gid ∷ []
-command_words (command.Mkdir place uid gid) = codes "mkdir" ∷ place_text place ∷ decimal uid ∷ decimal gid ∷ []
-command_words (command.Write place offset bytes) = codes "write" ∷ place_text place ∷ decimal offset ∷ bytes_text bytes ∷ []
-command_words (command.Read place offset count) = codes "read" ∷ place_text place ∷ decimal offset ∷ decimal count ∷ []
-command_words (command.Truncate place size) = codes "truncate" ∷ place_text place ∷ decimal size ∷ []
+    codes "setquota" ∷ fileset ∷ owner_kind who ∷ decimal (owner_id who)
+    ∷ decimal files ∷ decimal blocks ∷ []
+command_words (command.Showquota fileset who) =
+    codes "showquota" ∷ fileset ∷ owner_kind who ∷ decimal (owner_id who) ∷ []
+command_words (command.Create place uid gid) =
+    codes "create" ∷ place_text place ∷ decimal uid ∷ decimal gid ∷ []
+command_words (command.Mkdir place uid gid) =
+    codes "mkdir" ∷ place_text place ∷ decimal uid ∷ decimal gid ∷ []
+command_words (command.Write place offset bytes) =
+    codes "write" ∷ place_text place ∷ decimal offset ∷ bytes_text bytes ∷ []
+command_words (command.Read place offset count) =
+    codes "read" ∷ place_text place ∷ decimal offset ∷ decimal count ∷ []
+command_words (command.Truncate place size) =
+    codes "truncate" ∷ place_text place ∷ decimal size ∷ []
 command_words (command.Rename place to) = codes "rename" ∷ place_text place ∷ path_text to ∷ []
 command_words (command.Link place to) = codes "link" ∷ place_text place ∷ path_text to ∷ []
 command_words (command.Links place) = codes "links" ∷ place_text place ∷ []
@@ -54,15 +61,17 @@ command_words (command.Rmdir place) = codes "rmdir" ∷ place_text place ∷ []
 command_words (command.List place) = codes "list" ∷ place_text place ∷ []
 command_words (command.Stat place) = codes "stat" ∷ place_text place ∷ []
 command_words (command.Fsync place) = codes "fsync" ∷ place_text place ∷ []
-command_words (command.Chfile place logged) = codes "chfile" ∷ codes "-L" ∷ switch_text logged ∷ place_text place ∷ []
-command_words (command.Stripe width place) = codes "stripe" ∷ codes "-n" ∷ decimal width ∷ place_text place ∷ []
+command_words (command.Chfile place logged) =
+    codes "chfile" ∷ codes "-L" ∷ switch_text logged ∷ place_text place ∷ []
+command_words (command.Stripe width place) =
+    codes "stripe" ∷ codes "-n" ∷ decimal width ∷ place_text place ∷ []
 command_words command.Sync = codes "sync" ∷ []
 command_words command.Cancel = codes "cancel" ∷ []
 command_words command.Showfdmn = codes "showfdmn" ∷ []
 command_words (command.Showfile place) = codes "showfile" ∷ place_text place ∷ []
 command_words (command.Migrate place first count from to) =
-    codes "migrate" ∷ option_words (codes "-p") first ++ option_words (codes "-n") count ++ option_words (codes "-s") from
-    ++ codes "-d" ∷ decimal to ∷ place_text place ∷ []
+    codes "migrate" ∷ option_words (codes "-p") first ++ option_words (codes "-n") count
+    ++ option_words (codes "-s") from ++ codes "-d" ∷ decimal to ∷ place_text place ∷ []
 command_words command.Balance = codes "balance" ∷ []
 command_words (command.Addvol vol) = codes "addvol" ∷ decimal vol ∷ []
 command_words (command.Rmvol vol) = codes "rmvol" ∷ decimal vol ∷ []

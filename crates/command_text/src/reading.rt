@@ -383,7 +383,8 @@ type Optional<'a, 'b> = (Option<u32>, &'a [&'b [u8]]);
 
 #[tactic(auto, unfolding(crate::specs::Commands::optional))]
 fn optional<'a, 'b>(option: &[u8], words: &'a [&'b [u8]]) -> Option<Optional<'a, 'b>>
-    ensures { option_map (λ r. (r.0, map (λ word. word.now) r.1.now)) result ≡ optional option.now (map (λ word. word.now) words.now) }
+    ensures { option_map (λ r. (r.0, map (λ word. word.now) r.1.now)) result
+        ≡ optional option.now (map (λ word. word.now) words.now) }
 {
     match words {
         [name, value, after @ ..] if *name == option => Some((Some(small_number(value)?), after)),

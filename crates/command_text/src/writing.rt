@@ -87,7 +87,8 @@ fn push_placed_numbers(
     second: u64,
 ) -> Result<(), OutOfMemory>
     ensures { OnOk result (out.new.items
-        ≡ out.old.items ++ text.now ++ spaced (place_text place.now ∷ decimal first ∷ decimal second ∷ [])) }
+        ≡ out.old.items ++ text.now
+        ++ spaced (place_text place.now ∷ decimal first ∷ decimal second ∷ [])) }
 {
     push_placed(out, text, place)?;
     push_number_word(out, first)?;
@@ -104,7 +105,8 @@ fn push_made(
     gid: u32,
 ) -> Result<(), OutOfMemory>
     ensures { OnOk result (out.new.items
-        ≡ out.old.items ++ text.now ++ spaced (place_text place.now ∷ decimal uid ∷ decimal gid ∷ [])) }
+        ≡ out.old.items ++ text.now
+        ++ spaced (place_text place.now ∷ decimal uid ∷ decimal gid ∷ [])) }
 {
     push_placed_numbers(out, text, place, u64::from(uid), u64::from(gid))
 }
@@ -226,7 +228,8 @@ fn push_stripe(out: &mut Vec<u8>, width: u8, place: &Place) -> Result<(), OutOfM
 
 /// Adds an option with its number, each behind a space, where it is given.
 fn push_option(out: &mut Vec<u8>, name: &[u8], n: Option<u32>) -> Result<(), OutOfMemory>
-    ensures { OnOk result (out.new.items ≡ out.old.items ++ behind_spaces (option_words name.now n)) }
+    ensures { OnOk result (out.new.items
+        ≡ out.old.items ++ behind_spaces (option_words name.now n)) }
 {
     if let Some(n) = n {
         out.push(b' ')?;

@@ -3,8 +3,8 @@ use Rattle.std.proofs.Common.{◌≡◌, ℕ, Some, unwrap_or, List, [], ◌∷�
 use Rattle.fileset_model.specs.declared.command.Command.{Command}
 use Rattle.command_text.specs.Commands.{command_of, verb_of}
 use Rattle.command_text.specs.Texts.{command_text}
-use Rattle.text_laws.specs.Said.{IsWellFormed, Says}
-use Rattle.text_laws.proofs.CommandLemmas.{printed_says}
+use Rattle.command_text.specs.WellFormed.{IsWellFormed, Says}
+use Rattle.command_text.proofs.CommandLemmas.{printed_says}
 
 some_one : {A : Type 0} (x y : A) → Some x ≡ Some y → x ≡ y
 some_one x y e = ap (λ o. unwrap_or o x) e

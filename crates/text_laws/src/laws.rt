@@ -2,7 +2,7 @@
 ghost use Rattle.std.specs.Prelude.{◌≡◌};
 ghost use Rattle.command_text.specs.Texts.{command_text};
 ghost use Rattle.fileset_model.specs.declared.command.Command.{Command as CommandOf};
-ghost use Rattle.text_laws.specs.Said.{IsWellFormed, Says};
+ghost use Rattle.command_text.specs.WellFormed.{IsWellFormed, Says};
 
 /// The text of a command, as a history writes it, says that very command by the table of commands,
 /// those on volumes among them. So no two commands have one text.

@@ -1,6 +1,13 @@
 pub mod Behind
 pub mod BytesLemmas
+pub mod ContentRead
+pub mod Cuts
 pub mod EachLemmas
+pub mod HexadecimalRead
 pub mod Joined
+pub mod NamesRead
 pub mod NumberLemmas
+pub mod NumbersRead
+pub mod PlacesRead
+pub mod ReadForms
 pub mod RunLemmas

@@ -34,7 +34,8 @@ has_length least most xs = nat_le least (length xs) && nat_le (length xs) most
 -- the number below the limit that the word's decimal digits say
 unfoldable pub number_below : ℕ → List ℕ → Option ℕ
 number_below limit word =
-    if nat_le 1 (length word) && list_all is_ascii_digit word && nat_lt (digits_value 10 word) limit then Some (digits_value 10 word) else None
+    if nat_le 1 (length word) && list_all is_ascii_digit word && nat_lt (digits_value 10 word) limit
+    then Some (digits_value 10 word) else None
 
 -- the number within these bounds
 unfoldable pub number_within : ℕ → ℕ → List ℕ → Option ℕ
@@ -77,7 +78,8 @@ stands_for_itself b = nat_le 33 b && nat_le b 126 && not (b == 37)
 abbrev pub is_escaped : ℕ → Bool
 is_escaped b = not (stands_for_itself b) && not (b == 0)
 
--- where a byte stands: at the beginning of one's spelling, behind a `%`, or behind a `%` and this digit
+-- where a byte stands: at the beginning of one's spelling, behind a `%`, or behind a `%` and this
+-- digit
 pub data Spelling : Type 0 where
   Begins : Spelling
   Percent : Spelling
@@ -90,7 +92,8 @@ bytes_from Percent [] = None
 bytes_from (Digit high) [] = None
 bytes_from Begins (b ∷ bs) =
     if b == 37 then bytes_from Percent bs
-    else (if stands_for_itself b && not (b == 47) then option_map (λ more. b ∷ more) (bytes_from Begins bs) else None)
+    else (if stands_for_itself b && not (b == 47)
+    then option_map (λ more. b ∷ more) (bytes_from Begins bs) else None)
 bytes_from Percent (b ∷ bs) = bytes_from (Digit b) bs
 bytes_from (Digit high) (b ∷ bs) = do
   byte ← byte_of high b
@@ -98,7 +101,8 @@ bytes_from (Digit high) (b ∷ bs) = do
 
 -- 1 to 255 bytes, and neither `.` nor `..`
 abbrev pub is_name : List ℕ → Bool
-is_name name = has_length 1 255 name && not (bytes_eq name (codes ".")) && not (bytes_eq name (codes ".."))
+is_name name =
+    has_length 1 255 name && not (bytes_eq name (codes ".")) && not (bytes_eq name (codes ".."))
 
 -- the name of a file or directory
 unfoldable pub name_of : List ℕ → Option (List ℕ)
@@ -110,7 +114,8 @@ name_of word = do
 unfoldable pub path_of : List ℕ → Option (List (List ℕ))
 path_of word =
     if bytes_eq word (codes "/") then Some []
-    else (if slice_index word 0 == 47 then names_of (slice_split (λ b. b == 47) (drop 1 word)) else None)
+    else (if slice_index word 0 == 47
+    then names_of (slice_split (λ b. b == 47) (drop 1 word)) else None)
   where
     names_of : List (List ℕ) → Option (List (List ℕ))
     names_of parts = do
@@ -145,9 +150,13 @@ is_quotable b = nat_le 32 b && nat_le b 126 && not (b == 34) && not (b == 92)
 unfoldable pub quoted_of : List ℕ → Option (List ℕ)
 quoted_of word =
     let inner = take (length word - 2) (drop 1 word) in
-    passing (nat_le 2 (length word) && slice_index word 0 == 34 && slice_index word (length word - 1) == 34 && list_all is_quotable inner) inner
+    passing
+    (nat_le 2 (length word) && slice_index word 0 == 34 && slice_index word (length word - 1) == 34
+    && list_all is_quotable inner)
+    inner
 
--- a byte, by two hexadecimal digits, and how often it stands in a row, behind an `x`, which is once where nothing is said
+-- a byte, by two hexadecimal digits, and how often it stands in a row, behind an `x`, which is once
+-- where nothing is said
 unfoldable pub run_of : List ℕ → Option Run
 run_of (high ∷ low ∷ []) = do
   byte ← byte_of high low
@@ -179,9 +188,11 @@ unfoldable pub owner_of : List ℕ → List ℕ → Option Owner
 owner_of kind id =
     if bytes_eq kind (codes "user") then option_map User (number_below (2 ^ 32) id)
     else (if bytes_eq kind (codes "group") then option_map Group (number_below (2 ^ 32) id)
-    else (if bytes_eq kind (codes "fileset") then option_map (λ _. Fileset) (number_within 0 0 id) else None))
+    else (if bytes_eq kind (codes "fileset")
+    then option_map (λ _. Fileset) (number_within 0 0 id) else None))
 
 -- whether the word says `on`
 unfoldable pub switch_of : List ℕ → Option Bool
 switch_of word =
-    if bytes_eq word (codes "on") then Some true else (if bytes_eq word (codes "off") then Some false else None)
+    if bytes_eq word (codes "on") then Some true
+    else (if bytes_eq word (codes "off") then Some false else None)

@@ -8,7 +8,8 @@ pub record Run : Type 0 where
   pub byte : ℕ
   pub count : ℕ
 
--- the runs with one byte more in front: in the first run if it has that byte, else in one of its own
+-- the runs with one byte more in front: in the first run if it has that byte, else in one of its
+-- own
 abbrev pub with_byte : ℕ → List Run → List Run
 with_byte b [] = record { byte = b; count = 1 } ∷ []
 with_byte b (run ∷ runs) =
@@ -40,7 +41,8 @@ hexadecimal b = digit_glyph false (b / 16) ∷ digit_glyph false (b % 16) ∷ []
 
 -- a byte, and how often it stands where that is more than once
 unfoldable pub run_text : Run → List ℕ
-run_text run = hexadecimal run.byte ++ (if nat_lt 1 run.count then codes "x" ++ decimal run.count else [])
+run_text run =
+    hexadecimal run.byte ++ (if nat_lt 1 run.count then codes "x" ++ decimal run.count else [])
 
 -- the runs, with a dot between two of them; no bytes are written `-`
 unfoldable pub bytes_text : List ℕ → List ℕ

@@ -118,7 +118,8 @@ fn run_len(bytes: &[u8]) -> usize
     ensures least { 0 < result }
     ensures within { result ≤ length bytes.now }
     ensures run { runs_of bytes.now
-        ≡ record { byte = slice_index bytes.now 0; count = result } ∷ runs_of (drop result bytes.now) }
+        ≡ record { byte = slice_index bytes.now 0; count = result }
+        ∷ runs_of (drop result bytes.now) }
 {
     front_len(bytes, bytes[0])
 }
@@ -126,7 +127,8 @@ fn run_len(bytes: &[u8]) -> usize
 /// Adds a byte, and how often it stands where that is more than once.
 #[tactic(auto, unfolding(crate::specs::Runs::run_text))]
 fn push_run(out: &mut Vec<u8>, byte: u8, count: usize) -> Result<(), OutOfMemory>
-    ensures { OnOk result (out.new.items ≡ out.old.items ++ run_text (record { byte = byte; count = count })) }
+    ensures { OnOk result (out.new.items
+        ≡ out.old.items ++ run_text (record { byte = byte; count = count })) }
 {
     push_hexadecimal(out, byte)?;
     if count > 1 {
@@ -136,7 +138,8 @@ fn push_run(out: &mut Vec<u8>, byte: u8, count: usize) -> Result<(), OutOfMemory
     Ok(())
 }
 
-/// Adds the bytes as their maximal runs, with a dot between two of them, or `-` where there are none.
+/// Adds the bytes as their maximal runs, with a dot between two of them, or `-` where there are
+/// none.
 pub fn push_bytes(out: &mut Vec<u8>, bytes: &[u8]) -> Result<(), OutOfMemory>
     ensures { OnOk result (out.new.items ≡ out.old.items ++ bytes_text bytes.now) }
 {
@@ -159,5 +162,6 @@ pub fn push_bytes(out: &mut Vec<u8>, bytes: &[u8]) -> Result<(), OutOfMemory>
 /// The runs that a history writes are maximal and give the bytes back, and no other runs do.
 pub fn runs_are_maximal()
     ensures form { (bytes : List ℕ) → IsRunLengthForm bytes (runs_of bytes) }
-    ensures only { (bytes : List ℕ) (runs : List Run) → IsRunLengthForm bytes runs → runs ≡ runs_of bytes }
+    ensures only { (bytes : List ℕ) (runs : List Run)
+        → IsRunLengthForm bytes runs → runs ≡ runs_of bytes }
 {}

@@ -1,13 +1,13 @@
 //! Names of filesets, names, paths and places, read and written.
-ghost use Rattle.std.specs.Prelude.{◌≡◌, ◌<◌, ◌≤◌, ◌==◌, not, ◌∷◌, ◌++◌, IfSome, IsNone, None, OnOk, length, map, option_map};
-ghost use Rattle.std.specs.List.{after_first, before_first, list_all, prefix_len};
+ghost use Rattle.std.specs.Prelude.{◌≡◌, ◌<◌, ◌∷◌, ◌++◌, IfSome, IsNone, None, OnOk, length, map, option_map};
+ghost use Rattle.std.specs.List.{list_all};
 ghost use Rattle.word_forms.specs.Forms.{Begins, bytes_from, each, fileset_of, is_escaped, is_fileset_character, is_fileset_name, is_name, name_of, named_path_of, named_place_of, path_of, place_of, stands_for_itself};
 ghost use Rattle.word_forms.specs.Read.{Gives};
 ghost use Rattle.word_forms.specs.Texts.{name_byte_text, name_text, path_text, place_text};
 
 use crate::fault::WordFault;
 use crate::numbers::{hexadecimal_byte, push_hexadecimal};
-use crate::splitting::parts;
+use crate::splitting::{halves, parts};
 use domain_base::OutOfMemory;
 use domain_base::limits::{MAX_FILESET_NAME, MAX_NAME, MAX_PATH_NAMES};
 use fileset_model::{FilesetName, Name, Path, Place};
@@ -154,31 +154,12 @@ pub fn named_path(alloc: Global, word: &[u8]) -> Result<Path, WordFault>
     Ok(path)
 }
 
-fn colon_at(word: &[u8]) -> usize
-    ensures value { result ≡ prefix_len (λ b. not (b == 58)) word.now }
-    ensures within { result ≤ length word.now }
-{
-    word.iter().take_while(|byte| **byte != b':').count()
-}
-
-/// What stands before the first colon, and what stands behind it.
-fn split_at_colon(word: &[u8]) -> (&[u8], &[u8])
-    ensures front { result.0.now ≡ before_first (λ b. b == 58) word.now }
-    ensures back { result.1.now ≡ after_first (λ b. b == 58) word.now }
-{
-    let (front, rest) = word.split_at(colon_at(word));
-    match rest {
-        [] => (front, rest),
-        [_, after @ ..] => (front, after),
-    }
-}
-
 /// The place that a word says: a fileset, `:` and a path.
 #[tactic(auto, unfolding(crate::specs::Forms::place_of))]
 pub fn place(alloc: Global, word: &[u8]) -> Result<Place, WordFault>
     ensures { Gives result (place_of word.now) }
 {
-    let (name, after) = split_at_colon(word);
+    let (name, after) = halves(word, b':');
     let fileset = fileset(alloc, name)?;
     let path = path(alloc, after)?;
     Ok(Place { fileset, path })

@@ -3,7 +3,7 @@ use Rattle.std.proofs.lemmas.Grind.{flat_map-append}
 use Rattle.std.proofs.lemmas.List.{append-nil}
 use Rattle.word_forms.specs.Texts.{behind_spaces, place_text}
 use Rattle.command_text.specs.Texts.{option_words, command_text}
-use Rattle.command_text.proofs.Joined.{added, join_with_byte-cons}
+use Rattle.word_forms.proofs.Joined.{added, join_with_byte-cons}
 use Rattle.command_text.proofs.writing.push_migrate.Goals as goal
 
 pub returns : goal.returns

@@ -1,4 +1,4 @@
-use Rattle.text_laws.proofs.CommandLemmas.{printed_says}
+use Rattle.command_text.proofs.CommandLemmas.{printed_says}
 use Rattle.text_laws.proofs.OneCommand.{one_command}
 use Rattle.text_laws.proofs.laws.printed_commands_are_read.Goals as goal
 

@@ -10,12 +10,14 @@ use Rattle.command_text.specs.Commands.{chfile, chvol, clonefset, command_of, ma
 use Rattle.command_text.specs.Texts.{command_text, command_words, owner_id, owner_kind, switch_text}
 use Rattle.word_forms.specs.Runs.{bytes_text}
 use Rattle.word_forms.specs.Texts.{path_text, place_text}
-use Rattle.text_laws.specs.Said.{IsWellFormed, IsNamedPath, Says}
-use Rattle.text_laws.proofs.Content.{content_lacks, content_read}
-use Rattle.text_laws.proofs.Cuts.{cut_joined, lacks}
-use Rattle.text_laws.proofs.Names.{named_path_read, path_lacks}
-use Rattle.text_laws.proofs.Numbers.{large_read, number_lacks, small_read, within_read}
-use Rattle.text_laws.proofs.Places.{fileset_lacks, fileset_read, id_lacks, kind_lacks, named_lacks, named_read, owner_read, place_lacks, place_read, switch_lacks, switch_read}
+use Rattle.command_text.specs.WellFormed.{IsWellFormed, Says}
+use Rattle.word_forms.specs.WellFormed.{IsNamedPath}
+use Rattle.word_forms.proofs.ContentRead.{content_lacks, content_read}
+use Rattle.word_forms.proofs.Cuts.{cut_joined, lacks}
+use Rattle.word_forms.proofs.NamesRead.{named_path_read, path_lacks}
+use Rattle.word_forms.proofs.NumbersRead.{large_read, number_lacks, small_read, within_read}
+use Rattle.word_forms.proofs.PlacesRead.{fileset_lacks, fileset_read, named_lacks, named_read, place_lacks, place_read}
+use Rattle.command_text.proofs.Owners.{id_lacks, kind_lacks, owner_read, switch_lacks, switch_read}
 
 -- the words of a command are cut apart again
 says : (c : Command) (v : Verb) (first : List ℕ) (behind : List (List ℕ)) → command_words c ≡ first ∷ behind → lacks 32 first ≡ true → list_all (lacks 32) behind ≡ true

@@ -9,9 +9,9 @@ use Rattle.word_forms.specs.Forms.{Begins, bytes_from, each, is_name, name_of, p
 use Rattle.word_forms.specs.Runs.{hexadecimal}
 use Rattle.word_forms.specs.Texts.{name_byte_text, name_text, path_text}
 use Rattle.word_forms.proofs.Joined.{flat_map-map}
-use Rattle.text_laws.specs.Said.{is_name_byte, is_written_name, IsPath, IsNamedPath}
-use Rattle.text_laws.proofs.Bytes.{byte_read, digit_range, high_small, low_small}
-use Rattle.text_laws.proofs.Cuts.{both, lacks, cut_parts}
+use Rattle.word_forms.specs.WellFormed.{is_name_byte, is_written_name, IsPath, IsNamedPath}
+use Rattle.word_forms.proofs.HexadecimalRead.{byte_read, digit_range, high_small, low_small}
+use Rattle.word_forms.proofs.Cuts.{both, lacks, cut_parts}
 
 byte_small : (b : ℕ) → is_name_byte b ≡ true → b < 256
 byte_small b e = grind (arith, nat_tests)
@@ -66,7 +66,7 @@ bytes_lack c (b ∷ name) is e =
     list_all-append (λ x. not (eqb x c)) (name_byte_text b) (flat_map name_byte_text name)
     ∙ rw (byte_lacks c b (stands_for_itself b) is refl h.0, bytes_lack c name is h.1) refl
 
-name_lacks : (c : ℕ) (name : List ℕ) → (c ≡ 32) ⊎ (c ≡ 47) → is_written_name name ≡ true → lacks c (name_text name) ≡ true
+pub name_lacks : (c : ℕ) (name : List ℕ) → (c ≡ 32) ⊎ (c ≡ 47) → is_written_name name ≡ true → lacks c (name_text name) ≡ true
 unfolding name_text
 name_lacks c name is e = bytes_lack c name is (both (is_name name) (list_all is_name_byte name) e).1
 

@@ -8,10 +8,10 @@ use Rattle.word_forms.specs.Forms.{bytes_of, each, has_length, run_of, runs_of_w
 use Rattle.word_forms.specs.Runs.{Run, bytes_of_run, bytes_text, hexadecimal, runs_of, run_text, with_byte}
 use Rattle.word_forms.proofs.Joined.{flat_map-map}
 use Rattle.word_forms.proofs.RunLemmas.{bytes_text-runs, dotted, runs_of_is_form}
-use Rattle.text_laws.specs.Said.{IsContent}
-use Rattle.text_laws.proofs.Bytes.{byte_read, digit_range, high_small, low_small}
-use Rattle.text_laws.proofs.Cuts.{both, lacks, weaker, cut_parts}
-use Rattle.text_laws.proofs.Numbers.{large_read, number_lacks}
+use Rattle.word_forms.specs.WellFormed.{IsContent}
+use Rattle.word_forms.proofs.HexadecimalRead.{byte_read, digit_range, high_small, low_small}
+use Rattle.word_forms.proofs.Cuts.{both, lacks, weaker, cut_parts}
+use Rattle.word_forms.proofs.NumbersRead.{large_read, number_lacks}
 
 -- a run of a byte, no longer than this
 abbrev bounded : ℕ → Run → Bool

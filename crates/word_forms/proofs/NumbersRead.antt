@@ -8,7 +8,7 @@ use Rattle.std.proofs.lemmas.Fmt.{decimal_nonempty, digits_decimal, digits_value
 use Rattle.std.proofs.lemmas.Str.Parse.{IsNumeralModel, numerals_by_value}
 use Rattle.word_forms.specs.Forms.{number_below, number_within}
 use Rattle.word_forms.proofs.NumberLemmas.{number-some}
-use Rattle.text_laws.proofs.Cuts.{lacks, weaker}
+use Rattle.word_forms.proofs.Cuts.{lacks, weaker}
 
 decimals : IsNumeralModel (λ ds. list_all is_ascii_digit ds ≡ true) (digits_value 10)
 decimals = numerals_by_value _ (search rules)
@@ -34,4 +34,8 @@ within_read least most n low high small =
 -- no digit is this byte
 pub number_lacks : (c n : ℕ) → n < 2 ^ 64 → c < 48 → lacks c (decimal n) ≡ true
 number_lacks c n fits other =
+    weaker is_ascii_digit (λ b. not (eqb b c)) (λ b e. grind (arith, nat_tests)) (decimal n) (digits_decimal decimals n fits)
+
+pub number_lacks_past : (c n : ℕ) → n < 2 ^ 64 → 57 < c → lacks c (decimal n) ≡ true
+number_lacks_past c n fits other =
     weaker is_ascii_digit (λ b. not (eqb b c)) (λ b e. grind (arith, nat_tests)) (decimal n) (digits_decimal decimals n fits)
