@@ -85,18 +85,24 @@ field_text name n = name ++ codes "=" ++ decimal n
 
 -- the numbers that a refusal gives
 unfoldable pub refusal_fields : Refusal → List (List ℕ)
-refusal_fields (refusal.QuotaFiles limit used) = field_text (codes "limit") limit ∷ field_text (codes "used") used ∷ []
+refusal_fields (refusal.QuotaFiles limit used) =
+    field_text (codes "limit") limit ∷ field_text (codes "used") used ∷ []
 refusal_fields (refusal.QuotaBlocks limit used asked) =
-    field_text (codes "limit") limit ∷ field_text (codes "used") used ∷ field_text (codes "asked") asked ∷ []
-refusal_fields (refusal.NoSpace free need) = field_text (codes "free") free ∷ field_text (codes "need") need ∷ []
-refusal_fields (refusal.NoRoom vol free) = field_text (codes "vol") vol ∷ field_text (codes "free") free ∷ []
+    field_text (codes "limit") limit ∷ field_text (codes "used") used
+    ∷ field_text (codes "asked") asked ∷ []
+refusal_fields (refusal.NoSpace free need) =
+    field_text (codes "free") free ∷ field_text (codes "need") need ∷ []
+refusal_fields (refusal.NoRoom vol free) =
+    field_text (codes "vol") vol ∷ field_text (codes "free") free ∷ []
 refusal_fields (refusal.ReadFault vol) = field_text (codes "vol") vol ∷ []
 refusal_fields (refusal.Panicked vol) = field_text (codes "vol") vol ∷ []
 refusal_fields (refusal.Unsettled moved) = field_text (codes "moved") moved ∷ []
 refusal_fields _ = []
 
 unfoldable pub refusal_text : Refusal → List ℕ
-refusal_text r = codes "E" ++ decimal (refusal_number r) ++ codes " " ++ refusal_name r ++ behind_spaces (refusal_fields r)
+refusal_text r =
+    codes "E" ++ decimal (refusal_number r) ++ codes " " ++ refusal_name r
+    ++ behind_spaces (refusal_fields r)
 
 -- ** Replies
 
@@ -115,15 +121,19 @@ fileset_item_text item = item.fileset ++ original_text item.original
 -- `L` for the volume of the log, `C` for a closed one, `-` for any other
 abbrev pub flag_text : Bool → Bool → List ℕ
 flag_text has_log closed =
-    if has_log then (if closed then codes "LC" else codes "L") else (if closed then codes "C" else codes "-")
+    if has_log then (if closed then codes "LC" else codes "L")
+    else (if closed then codes "C" else codes "-")
 
 abbrev pub volume_item_text : VolumeItem → List ℕ
 volume_item_text item =
-    join_with_byte 58 (decimal item.vol ∷ decimal item.pages ∷ decimal item.used ∷ decimal item.free ∷ flag_text item.has_log item.closed ∷ [])
+    join_with_byte 58
+    (decimal item.vol ∷ decimal item.pages ∷ decimal item.used ∷ decimal item.free
+    ∷ flag_text item.has_log item.closed ∷ [])
 
 abbrev pub extent_item_text : ExtentItem → List ℕ
 extent_item_text item =
-    decimal item.page ++ codes "+" ++ decimal item.count ++ codes "@" ++ decimal item.vol ++ codes ":" ++ decimal item.first
+    decimal item.page ++ codes "+" ++ decimal item.count ++ codes "@" ++ decimal item.vol
+    ++ codes ":" ++ decimal item.first
 
 abbrev pub logged_text : Bool → List ℕ
 logged_text logged = if logged then codes "log" else codes "-"
@@ -135,11 +145,14 @@ reply_words (reply.Count n) = decimal n ∷ []
 reply_words (reply.Read bytes) = bytes_text bytes ∷ []
 reply_words (reply.Names names) = map name_item_text names
 reply_words (reply.FileStat uid gid size pages logged) =
-    codes "file" ∷ decimal uid ∷ decimal gid ∷ decimal size ∷ decimal pages ∷ logged_text logged ∷ []
-reply_words (reply.DirStat uid gid rows) = codes "dir" ∷ decimal uid ∷ decimal gid ∷ decimal rows ∷ []
+    codes "file" ∷ decimal uid ∷ decimal gid ∷ decimal size ∷ decimal pages
+    ∷ logged_text logged ∷ []
+reply_words (reply.DirStat uid gid rows) =
+    codes "dir" ∷ decimal uid ∷ decimal gid ∷ decimal rows ∷ []
 reply_words (reply.Filesets filesets) = map fileset_item_text filesets
 reply_words (reply.Quota files files_limit blocks blocks_limit) =
-    codes "files" ∷ decimal files ∷ decimal files_limit ∷ codes "blocks" ∷ decimal blocks ∷ decimal blocks_limit ∷ []
+    codes "files" ∷ decimal files ∷ decimal files_limit
+    ∷ codes "blocks" ∷ decimal blocks ∷ decimal blocks_limit ∷ []
 reply_words (reply.Volumes volumes) = map volume_item_text volumes
 reply_words (reply.Extents extents) = map extent_item_text extents
 reply_words (reply.Refused r) = []
@@ -152,7 +165,9 @@ reply_text answer = codes "ok" ++ behind_spaces (reply_words answer)
 
 -- the line of an entry; its stamp is not written
 unfoldable pub line_of : Entry → List ℕ
-line_of entry = actor_text entry.actor ++ codes " " ++ command_text entry.command ++ codes " -> " ++ reply_text entry.reply ++ codes "\n"
+line_of entry =
+    actor_text entry.actor ++ codes " " ++ command_text entry.command ++ codes " -> "
+    ++ reply_text entry.reply ++ codes "\n"
 
 -- the lines one after another
 abbrev pub history_text : List Entry → List ℕ

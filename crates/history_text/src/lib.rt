@@ -6,3 +6,4 @@ mod refusal_text;
 mod reply_text;
 
 pub use history::history_line;
+pub use refusal_text::refusal_number;

@@ -7,8 +7,9 @@ use domain_base::OutOfMemory;
 use fileset_model::Refusal;
 use word_forms::push_number;
 
+/// The number by which a refusal is named.
 #[tactic(auto, unfolding(crate::specs::History::refusal_number))]
-fn number_of(refusal: Refusal) -> u64
+pub fn refusal_number(refusal: Refusal) -> u64
     ensures { result ≡ refusal_number refusal }
 {
     match refusal {
@@ -96,7 +97,8 @@ fn push_field(out: &mut Vec<u8>, name: &str, n: u64) -> Result<(), OutOfMemory>
 /// Adds the numbers that a refusal gives, a space before each.
 #[tactic(auto, unfolding(crate::specs::History::refusal_fields))]
 fn push_fields(out: &mut Vec<u8>, refusal: Refusal) -> Result<(), OutOfMemory>
-    ensures { OnOk result (out.new.items ≡ out.old.items ++ behind_spaces (refusal_fields refusal)) }
+    ensures { OnOk result (out.new.items
+        ≡ out.old.items ++ behind_spaces (refusal_fields refusal)) }
 {
     match refusal {
         Refusal::QuotaFiles { limit, used } => {
@@ -131,7 +133,7 @@ pub fn push_refusal(out: &mut Vec<u8>, refusal: Refusal) -> Result<(), OutOfMemo
     ensures { OnOk result (out.new.items ≡ out.old.items ++ refusal_text refusal) }
 {
     out.push(b'E')?;
-    push_number(out, number_of(refusal))?;
+    push_number(out, refusal_number(refusal))?;
     out.push(b' ')?;
     out.extend_from_slice(name_of(refusal).as_bytes())?;
     push_fields(out, refusal)?;

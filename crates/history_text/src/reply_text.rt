@@ -29,7 +29,8 @@ fn push_name_item(out: &mut Vec<u8>, item: &NameItem) -> Result<(), OutOfMemory>
 }
 
 fn push_names(out: &mut Vec<u8>, items: &[NameItem]) -> Result<(), OutOfMemory>
-    ensures { OnOk result (out.new.items ≡ out.old.items ++ behind_spaces (map name_item_text items.now)) }
+    ensures { OnOk result (out.new.items
+        ≡ out.old.items ++ behind_spaces (map name_item_text items.now)) }
 {
     for item in items {
         push_name_item(out, item)?;
@@ -57,7 +58,8 @@ fn push_fileset_item(out: &mut Vec<u8>, item: &FilesetItem) -> Result<(), OutOfM
 }
 
 fn push_filesets(out: &mut Vec<u8>, items: &[FilesetItem]) -> Result<(), OutOfMemory>
-    ensures { OnOk result (out.new.items ≡ out.old.items ++ behind_spaces (map fileset_item_text items.now)) }
+    ensures { OnOk result (out.new.items
+        ≡ out.old.items ++ behind_spaces (map fileset_item_text items.now)) }
 {
     for item in items {
         push_fileset_item(out, item)?;
@@ -89,7 +91,8 @@ fn push_volume_item(out: &mut Vec<u8>, item: &VolumeItem) -> Result<(), OutOfMem
 }
 
 fn push_volumes(out: &mut Vec<u8>, items: &[VolumeItem]) -> Result<(), OutOfMemory>
-    ensures { OnOk result (out.new.items ≡ out.old.items ++ behind_spaces (map volume_item_text items.now)) }
+    ensures { OnOk result (out.new.items
+        ≡ out.old.items ++ behind_spaces (map volume_item_text items.now)) }
 {
     for item in items {
         push_volume_item(out, item)?;
@@ -108,7 +111,8 @@ fn push_extent_item(out: &mut Vec<u8>, item: &ExtentItem) -> Result<(), OutOfMem
 }
 
 fn push_extents(out: &mut Vec<u8>, items: &[ExtentItem]) -> Result<(), OutOfMemory>
-    ensures { OnOk result (out.new.items ≡ out.old.items ++ behind_spaces (map extent_item_text items.now)) }
+    ensures { OnOk result (out.new.items
+        ≡ out.old.items ++ behind_spaces (map extent_item_text items.now)) }
 {
     for item in items {
         push_extent_item(out, item)?;
@@ -164,7 +168,8 @@ fn push_quota(
     blocks_limit: u64,
 ) -> Result<(), OutOfMemory>
     ensures { OnOk result (out.new.items
-        ≡ out.old.items ++ behind_spaces (reply_words (Reply.Quota files files_limit blocks blocks_limit))) }
+        ≡ out.old.items
+        ++ behind_spaces (reply_words (Reply.Quota files files_limit blocks blocks_limit))) }
 {
     out.extend_from_slice(b" files")?;
     push_marked(out, b' ', files)?;
