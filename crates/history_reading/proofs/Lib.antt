@@ -1,0 +1,4 @@
+pub mod LineLemmas
+mod ReplyForms
+mod ReplyRead
+mod Steps
