@@ -1,7 +1,10 @@
-//! Laws of the text of commands, each the contract of a function without a body.
+//! Laws of the text of commands and of lines, each the contract of a function without a body.
 ghost use Rattle.std.specs.Prelude.{◌≡◌};
 ghost use Rattle.command_text.specs.Texts.{command_text};
 ghost use Rattle.fileset_model.specs.declared.command.Command.{Command as CommandOf};
+ghost use Rattle.fileset_model.specs.declared.entry.Entry.{Entry as EntryOf};
+ghost use Rattle.history_reading.specs.Entries.{IsEntry, unstamped};
+ghost use Rattle.history_text.specs.History.{line_of};
 ghost use Rattle.command_text.specs.WellFormed.{IsWellFormed, Says};
 
 /// The text of a command, as a history writes it, says that very command by the table of commands,
@@ -11,4 +14,10 @@ pub fn printed_commands_are_read()
         → Says (command_text command) command }
     ensures one { (command other : CommandOf) → IsWellFormed command → IsWellFormed other
         → command_text command ≡ command_text other → command ≡ other }
+{}
+
+/// Entries with one line are the same but for their stamps, which are not written.
+pub fn lines_tell_entries_apart()
+    ensures { (entry other : EntryOf) → IsEntry entry → IsEntry other
+        → line_of entry ≡ line_of other → unstamped entry ≡ unstamped other }
 {}

@@ -1,6 +1,7 @@
-//! Laws of the text of commands: what a history writes, the grammar of scripts reads.
+//! Laws of the text of commands and of lines: what a history writes, the table of commands reads,
+//! and no two entries have one line.
 #![tactic(auto)]
 
 mod laws;
 
-pub use laws::printed_commands_are_read;
+pub use laws::{lines_tell_entries_apart, printed_commands_are_read};
