@@ -1,6 +1,6 @@
 -- Free cells and pages stay together.
-use Rattle.std.proofs.Common.{◌≡◌, ◌∙◌, ◌⊎◌, inl, inr, ⊎_elim, ℕ, zero, suc, ◌+◌, ◌-◌, ◌<◌, ◌≤◌, Bool, true, false, cond, ◌&&◌, ◌||◌, nat_eq, nat_lt, Option, Some, None, IfSome, IsSomeAnd, List, [], ◌∷◌, ◌++◌, length, slice_index, get_or, refl, subst, sym, arith, ap}
-use Rattle.std.proofs.lemmas.Bool.{and_parts, or_cases, cases_Bool, both_ways, and_from, eqb-true, eq-eqb, ltb-true, cases_lt}
+use Rattle.std.proofs.Common.{◌≡◌, ◌∙◌, ◌⊎◌, inl, inr, ⊎_elim, ℕ, zero, suc, ◌+◌, ◌-◌, ◌<◌, ◌≤◌, Bool, true, false, not, cond, ◌&&◌, ◌||◌, nat_eq, nat_lt, Option, Some, None, IfSome, IsSomeAnd, List, [], ◌∷◌, ◌++◌, length, slice_index, get_or, refl, subst, sym, arith, ap}
+use Rattle.std.proofs.lemmas.Bool.{not-true, and_parts, or_cases, cases_Bool, both_ways, and_from, eqb-true, eq-eqb, ltb-true, cases_lt}
 use Rattle.std.proofs.lemmas.List.{get_or_append_left, length_push}
 use Rattle.std.proofs.Math.Seq.{get_or-append_seam}
 use Rattle.std.proofs.lemmas.List.Elements.{Contains-append_left, Contains-get_or, Contains-push}
@@ -15,7 +15,7 @@ use Rattle.bmt_mcells.specs.Chain.{LeavesOthers, is_at}
 use Rattle.bmt_mcells.proofs.CellKinds.{free_kind, used_not_zeros, zeros_kind}
 use Rattle.bmt_mcells.proofs.Changed.{homes_same}
 use Rattle.free_cells.specs.VolumeTable.{AreOn}
-use Rattle.free_cells.specs.Cells.{Cells, Holds, is_closed, is_free, is_on, table_of, volume_of, with_page_last}
+use Rattle.free_cells.specs.Cells.{Cells, Holds, TakesCell, is_closed, is_free, is_on, table_of, volume_of, with_page_last}
 use Rattle.free_cells.specs.Belong.{Belong, IsNextPage, IsPageOf, LeadsTo, home_at, last_home}
 
 -- the page at a place of a volume's table
@@ -325,3 +325,12 @@ pub last_leads : (cells : Cells) (vol : ℕ) (pages : Pages) (next : ℕ) → Is
 last_leads cells vol pages next is place last =
     let e : length (table_of cells vol) - 1 ≡ place = omega (arith, last) in
     subst (λ n. IsSomeAnd (pages (home_at cells vol n)) (λ page. next_of page ≡ next)) e is
+
+-- ---- a cell that was handed out is written
+
+pub belong_written : (old new : Cells) (before after : Pages) (at : CellAt) → TakesCell at old new → LeavesOthers (is_at at) before after
+    → KeepsWellFormed before after → KeepsHeaders before after → Belong new before → Belong new after
+belong_written old new before after at takes others good headers belong = belong_still new before after (is_at at) others good headers other belong
+  where
+    other : (q : CellAt) → is_free new q ≡ true → is_at at q ≡ false
+    other q free = not-true (is_at at q) (and_parts (not (is_at at q)) (is_free old q) (sym (takes.cells q) ∙ free)).0

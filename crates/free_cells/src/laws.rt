@@ -3,8 +3,8 @@ ghost use Rattle.std.specs.Prelude.{◌≡◌, Bool, true, false};
 ghost use Rattle.domain_base.specs.declared.place.CellAt.{CellAt};
 ghost use Rattle.page_store.specs.Pages.{Pages};
 ghost use Rattle.bmt_mcells.specs.CellPage.{KeepsHeaders, KeepsWellFormed};
-ghost use Rattle.bmt_mcells.specs.Chain.{LeavesOthers};
-ghost use Rattle.free_cells.specs.Cells.{Cells, is_free};
+ghost use Rattle.bmt_mcells.specs.Chain.{LeavesOthers, is_at};
+ghost use Rattle.free_cells.specs.Cells.{Cells, TakesCell, is_free};
 ghost use Rattle.free_cells.specs.Belong.{Belong};
 
 /// Free cells and pages that belong together do so still after a change of cells of which none is
@@ -14,4 +14,12 @@ pub fn other_cells_stay()
         → LeavesOthers changed old new → KeepsWellFormed old new → KeepsHeaders old new
         → ((at : CellAt) → is_free cells at ≡ true → changed at ≡ false)
         → Belong cells old → Belong cells new }
+{}
+
+/// A cell that was handed out may be written: free cells and pages that belong together do so still
+/// after a change of that cell alone.
+pub fn written_cell_stays()
+    ensures { (old new : Cells) (before after : Pages) (at : CellAt) → TakesCell at old new
+        → LeavesOthers (is_at at) before after → KeepsWellFormed before after
+        → KeepsHeaders before after → Belong new before → Belong new after }
 {}

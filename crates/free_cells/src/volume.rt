@@ -5,12 +5,10 @@ ghost use Rattle.free_cells.specs.declared.volume.FreeCell.{FreeCell};
 ghost use Rattle.free_cells.specs.VolumeTable.{AreOn, IsOn, VolumeIs, no_table, same_cell, is_among, is_free_there};
 
 use bmt_mcells::is_free_cell;
+use domain_base::limits::PAGE_CELLS;
 use domain_base::{OutOfMemory, Page};
 use std::alloc::Global;
 use std::marker::Model;
-
-/// How many cells a page has.
-const CELLS: u8 = 28;
 
 /// A free cell of a volume: a page of its table, and a cell of that page.
 #[derive(Clone, Copy, Debug)]
@@ -55,7 +53,7 @@ fn push_free(number: u32, page: &Page, free: &mut Vec<FreeCell>)
         ≡ is_among free.old.items f || is_free_there number page.now f }
     ensures room { vec_capacity free.new ≡ vec_capacity free.old }
 {
-    for cell in 0..CELLS {
+    for cell in 0..PAGE_CELLS {
         if is_free_cell(page, cell) {
             free.push_reserved(FreeCell { page: number, cell });
         }
@@ -111,7 +109,7 @@ impl VolumeCells {
             (λ g. is_among self.old.free g || is_free_there number page.now g) self.new) }
         ensures err { OnErr result (self.new ≡ self.old) }
     {
-        let room = usize::from(CELLS) * (self.table.len() + 1) - self.free.len();
+        let room = usize::from(PAGE_CELLS) * (self.table.len() + 1) - self.free.len();
         self.table.reserve(1)?;
         self.free.reserve(room)?;
         self.table.push_reserved(number);
