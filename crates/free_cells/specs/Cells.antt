@@ -47,7 +47,7 @@ with_page_last home cells vol =
 abbrev pub is_on : Home → CellAt → Bool
 is_on home at = same_home (home_of at) home && nat_lt at.cell 28
 
--- a cell that was free is not, and all else is as it was
+-- a cell is free no more, and all else is as it was
 abbrev pub TakesCell : CellAt → Cells → Cells → Type 0
 TakesCell at old new =
     Holds (table_of old) (is_closed old) (λ q. not (is_at at q) && is_free old q) new

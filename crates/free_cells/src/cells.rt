@@ -79,9 +79,9 @@ impl FreeCells {
     }
 
     /// Adds a page of 28 free cells, with no next page, behind the last page of its volume's table,
-    /// whose next page it becomes. All 28 cells join the free ones. Every other cell stays, and every
-    /// page but these two. It takes the room for the page, and for its cells to be free. At an Err
-    /// nothing has changed, but that there may be more room.
+    /// whose next page it becomes. All 28 cells join the free ones. Every other cell stays, and
+    /// every page but these two. It takes the room for the page, and for its cells to be free. At an
+    /// Err nothing has changed, but that there may be more room.
     pub fn add_page<M: MetaPages>(
         &mut self,
         alloc: Global,
@@ -134,8 +134,8 @@ impl FreeCells {
     }
 
     /// Clears a cell in use, on a page of its volume's table, and takes it back among the free
-    /// ones: it is 292 zeros then. Every other cell stays, and the index and next page of each page.
-    /// It takes no memory.
+    /// ones: it is 292 zeros then. Every other cell stays, and the index and next page of each
+    /// page. It takes no memory.
     pub fn free_cell<M: MetaPages>(&mut self, pages: &mut M, at: CellAt)
         requires belong { Belong self.old (M.pages pages.old) }
         requires used { IsUsedAt (M.pages pages.old) at }
