@@ -1,5 +1,5 @@
 //! Lines, read back.
-ghost use Rattle.std.specs.Prelude.{◌≡◌, ◌≢◌, ◌-◌, ◌≤◌, not, Err, IfOk, IfErr, length, map, take};
+ghost use Rattle.std.specs.Prelude.{◌≡◌, ◌≢◌, ◌↔◌, ◌-◌, ◌≤◌, not, Err, IfOk, IfErr, IsTrue, length, map, take};
 ghost use Rattle.std.specs.List.{after_first, before_first, prefix_len};
 ghost use Rattle.fileset_model.specs.declared.entry.Entry.{Entry as EntryOf};
 ghost use Rattle.history_reading.specs.Entries.{IsEntry, IsNoLine};
@@ -117,13 +117,20 @@ fn entry(alloc: Global, line: &[u8]) -> Result<Entry, WordFault>
     said_entry(alloc, front, after)
 }
 
+/// Whether the bytes of a line are those that were written.
+fn is_same(written: &[u8], line: &[u8]) -> bool
+    ensures { IsTrue result ↔ (written.now ≡ line.now) }
+{
+    written == line
+}
+
 /// The entry, where this is its line.
 fn confirmed(alloc: Global, entry: Entry, line: &[u8]) -> Result<Entry, WordFault>
     ensures ok { IfOk result (λ same. (same ≡ entry) × (line_of entry ≡ line.now)) }
     ensures malformed { result ≡ Err WordFault.Malformed → line_of entry ≢ line.now }
 {
     let written = history_line(alloc, &entry)?;
-    if written.as_slice() == line {
+    if is_same(written.as_slice(), line) {
         Ok(entry)
     } else {
         Err(WordFault::Malformed)
