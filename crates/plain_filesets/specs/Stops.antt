@@ -8,12 +8,16 @@ use Rattle.fileset_model.specs.declared.reply.Reply.{Reply}
 use Rattle.plain_filesets.specs.declared.stop.Stop.{Stop}
 use Rattle.plain_filesets.specs.declared.stop.Stop.TheVariants.{Refused, OutOfMemory}
 
+-- a check that takes no memory passes where nothing is refused, and else answers the refusal
+abbrev pub Refuses : {T : Type 0} → Option Refusal → Result T Refusal → Type 0
+Refuses refusal result = MatchResult result (λ _. refusal ≡ None) (λ why. refusal ≡ Some why)
+
 -- a stop for this refusal; want of memory may stop a command at any time
 abbrev pub StopsFor : Option Refusal → Stop → Type 0
 StopsFor refusal (Refused why) = refusal ≡ Some why
 StopsFor refusal OutOfMemory = Unit {0}
 
--- a check passes where nothing is refused, and else stops for the refusal
+-- a check that takes memory passes where nothing is refused, and else stops for the refusal
 abbrev pub Checks : {T : Type 0} → Option Refusal → Result T Stop → Type 0
 Checks refusal result = MatchResult result (λ _. refusal ≡ None) (StopsFor refusal)
 

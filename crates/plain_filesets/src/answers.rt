@@ -26,7 +26,7 @@ fn answer(alloc: Global, filesets: &mut Filesets, command: &Command) -> Result<R
 {
     match command {
         Command::Mkfset { fileset } => fileset::mkfset(alloc, filesets, fileset),
-        Command::Rmfset { fileset } => fileset::rmfset(filesets, fileset),
+        Command::Rmfset { fileset } => Ok(fileset::rmfset(filesets, fileset)?),
         Command::Clonefset { fileset, new_name } => fileset::clonefset(
             alloc, filesets, fileset, new_name,
         ),

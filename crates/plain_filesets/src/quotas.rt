@@ -38,7 +38,8 @@ pub(crate) fn check_owner(
         used: usage.blocks,
         asked: blocks,
     };
-    refuse_if(passes(limits.blocks, usage.blocks, blocks), blocks_refusal)
+    refuse_if(passes(limits.blocks, usage.blocks, blocks), blocks_refusal)?;
+    Ok(())
 }
 
 /// The check of so many more files or blocks of these ids for the limits of the user, the group

@@ -8,8 +8,7 @@ ghost use Rattle.fileset_model.specs.Pages.{absent_pages};
 ghost use Rattle.fileset_model.specs.Paths.{directory_here, directory_refusal, file_here, first_refusal, node_at, refuse_if as refusal_if, target_refusal, walk_refusal};
 ghost use Rattle.fileset_model.specs.declared.command.Command.TheVariants.{Clonefset};
 ghost use Rattle.fileset_model.specs.declared.reply.Refusal.TheVariants.{NoFileset as NoFilesetRefusal, TooFar as TooFarRefusal};
-ghost use Rattle.plain_filesets.specs.Stops.{Checks};
-ghost use Rattle.plain_filesets.specs.declared.stop.Stop.TheVariants as stops;
+ghost use Rattle.plain_filesets.specs.Stops.{Checks, Refuses};
 
 use crate::quotas::check_quota;
 use crate::stop::{Stop, refuse_if};
@@ -21,15 +20,15 @@ use fileset_model::{
 use std::alloc::Global;
 
 /// Read-only, where the fileset is a clone.
-pub(crate) fn check_writable(slot: &FilesetSlot) -> Result<(), Stop>
-    ensures { Checks (read_only slot.now) result }
+pub(crate) fn check_writable(slot: &FilesetSlot) -> Result<(), Refusal>
+    ensures { Refuses (read_only slot.now) result }
 {
     refuse_if(slot.role.is_clone(), Refusal::ReadOnly)
 }
 
 /// Out-of-sync, where what a path leads to lost its frozen content.
-pub(crate) fn check_in_sync(slot: &FilesetSlot, path: &Path) -> Result<(), Stop>
-    ensures { Checks (out_of_sync slot.now path.now) result }
+pub(crate) fn check_in_sync(slot: &FilesetSlot, path: &Path) -> Result<(), Refusal>
+    ensures { Refuses (out_of_sync slot.now path.now) result }
 {
     match slot.tree.number_at(path) {
         Some(number) => refuse_if(slot.role.is_out_of_sync(number), Refusal::OutOfSync),
@@ -38,26 +37,26 @@ pub(crate) fn check_in_sync(slot: &FilesetSlot, path: &Path) -> Result<(), Stop>
 }
 
 /// Exists, where a path leads to something.
-pub(crate) fn check_not_taken(slot: &FilesetSlot, path: &Path) -> Result<(), Stop>
-    ensures { Checks (path_taken slot.now path.now) result }
+pub(crate) fn check_not_taken(slot: &FilesetSlot, path: &Path) -> Result<(), Refusal>
+    ensures { Refuses (path_taken slot.now path.now) result }
 {
     refuse_if(slot.tree.number_at(path).is_some(), Refusal::Exists)
 }
 
 /// What keeps a command from looking a name up in the directory at this path.
-pub(crate) fn check_directory(slot: &FilesetSlot, path: &Path) -> Result<(), Stop>
-    ensures { Checks (directory_refusal slot.now path.now) result }
+pub(crate) fn check_directory(slot: &FilesetSlot, path: &Path) -> Result<(), Refusal>
+    ensures { Refuses (directory_refusal slot.now path.now) result }
 {
     let Some(node) = slot.tree.node_at(path) else {
-        return Err(Stop::Refused(Refusal::NoPath));
+        return Err(Refusal::NoPath);
     };
     refuse_if(!node.is_directory(), Refusal::NotDirectory)?;
     check_in_sync(slot, path)
 }
 
 /// Is-directory, where a path leads to one.
-pub(crate) fn check_not_directory(slot: &FilesetSlot, path: &Path) -> Result<(), Stop>
-    ensures { Checks (directory_here slot.now path.now) result }
+pub(crate) fn check_not_directory(slot: &FilesetSlot, path: &Path) -> Result<(), Refusal>
+    ensures { Refuses (directory_here slot.now path.now) result }
 {
     match slot.tree.node_at(path) {
         Some(node) => refuse_if(node.is_directory(), Refusal::IsDirectory),
@@ -66,8 +65,8 @@ pub(crate) fn check_not_directory(slot: &FilesetSlot, path: &Path) -> Result<(),
 }
 
 /// Not-directory, where a path leads to a file.
-pub(crate) fn check_not_file(slot: &FilesetSlot, path: &Path) -> Result<(), Stop>
-    ensures { Checks (file_here slot.now path.now) result }
+pub(crate) fn check_not_file(slot: &FilesetSlot, path: &Path) -> Result<(), Refusal>
+    ensures { Refuses (file_here slot.now path.now) result }
 {
     match slot.tree.node_at(path) {
         Some(node) => refuse_if(!node.is_directory(), Refusal::NotDirectory),
@@ -91,7 +90,8 @@ pub(crate) fn check_target(alloc: Global, slot: &FilesetSlot, path: &Path) -> Re
     ensures { Checks (target_refusal slot.now path.now) result }
 {
     check_walk(alloc, slot, path)?;
-    refuse_if(slot.tree.number_at(path).is_none(), Refusal::NoPath)
+    refuse_if(slot.tree.number_at(path).is_none(), Refusal::NoPath)?;
+    Ok(())
 }
 
 /// Not-empty, where a directory has rows or is the root, and so has to stay.
@@ -99,10 +99,9 @@ pub(crate) fn check_empty(alloc: Global, slot: &FilesetSlot, path: &Path) -> Res
     ensures { Checks (not_empty slot.now path.now) result }
 {
     let rows = slot.tree.rows(alloc, path)?;
-    refuse_if(
-        path.as_slice().is_empty() || !rows.is_empty(),
-        Refusal::NotEmpty,
-    )
+    let stays = path.as_slice().is_empty() || !rows.is_empty();
+    refuse_if(stays, Refusal::NotEmpty)?;
+    Ok(())
 }
 
 /// Whether a file or directory can be made at a path.
@@ -128,7 +127,8 @@ pub(crate) fn check_file(alloc: Global, slot: &FilesetSlot, path: &Path) -> Resu
 {
     check_writable(slot)?;
     check_target(alloc, slot, path)?;
-    check_not_directory(slot, path)
+    check_not_directory(slot, path)?;
+    Ok(())
 }
 
 /// Whether the bytes can be written at a path.
@@ -203,7 +203,8 @@ pub(crate) fn check_read(alloc: Global, slot: &FilesetSlot, path: &Path) -> Resu
 {
     check_target(alloc, slot, path)?;
     check_not_directory(slot, path)?;
-    check_in_sync(slot, path)
+    check_in_sync(slot, path)?;
+    Ok(())
 }
 
 /// Whether the file at a path can get this size.
@@ -218,7 +219,8 @@ pub(crate) fn check_truncate(
         ∷ refusal_if (nat_lt FILE_BYTES size) TooFarRefusal ∷ [])) result }
 {
     check_file(alloc, slot, path)?;
-    refuse_if(size > LARGEST_FILE, Refusal::TooFar)
+    refuse_if(size > LARGEST_FILE, Refusal::TooFar)?;
+    Ok(())
 }
 
 /// Whether there is an empty directory to be removed at a path.
@@ -244,12 +246,13 @@ pub(crate) fn check_link(
     check_file(alloc, slot, path)?;
     check_walk(alloc, slot, to)?;
     check_not_taken(slot, to)?;
-    check_links(slot, path)
+    check_links(slot, path)?;
+    Ok(())
 }
 
 /// Links-full, where a path leads to a file with as many paths as a file may have.
-pub(crate) fn check_links(slot: &FilesetSlot, path: &Path) -> Result<(), Stop>
-    ensures { Checks (links_full slot.now path.now) result }
+pub(crate) fn check_links(slot: &FilesetSlot, path: &Path) -> Result<(), Refusal>
+    ensures { Refuses (links_full slot.now path.now) result }
 {
     match slot.tree.number_at(path) {
         Some(number) => {
@@ -310,7 +313,7 @@ pub(crate) fn check_replace(
             check_not_file(slot, to)?;
             check_empty(alloc, slot, to)
         }
-        _ => check_not_directory(slot, to),
+        _ => Ok(check_not_directory(slot, to)?),
     }
 }
 
@@ -321,7 +324,8 @@ pub(crate) fn check_list(alloc: Global, slot: &FilesetSlot, path: &Path) -> Resu
 {
     check_target(alloc, slot, path)?;
     check_not_file(slot, path)?;
-    check_in_sync(slot, path)
+    check_in_sync(slot, path)?;
+    Ok(())
 }
 
 /// Whether the attributes at a path can be shown.
@@ -330,7 +334,8 @@ pub(crate) fn check_stat(alloc: Global, slot: &FilesetSlot, path: &Path) -> Resu
         ∷ out_of_sync slot.now path.now ∷ [])) result }
 {
     check_target(alloc, slot, path)?;
-    check_in_sync(slot, path)
+    check_in_sync(slot, path)?;
+    Ok(())
 }
 
 /// Whether a fileset can be cloned under a new name.
@@ -338,8 +343,8 @@ pub(crate) fn check_clonefset(
     filesets: &Filesets,
     name: &FilesetName,
     new_name: &FilesetName,
-) -> Result<(), Stop>
-    ensures { Checks (refusal_of filesets.now (Clonefset name.now new_name.now)) result }
+) -> Result<(), Refusal>
+    ensures { Refuses (refusal_of filesets.now (Clonefset name.now new_name.now)) result }
 {
     let slot = slot_of(filesets, name)?;
     refuse_if(slot.role.is_clone(), Refusal::CloneOfClone)?;
@@ -348,8 +353,8 @@ pub(crate) fn check_clonefset(
 }
 
 /// Whether a fileset can be added under a name.
-pub(crate) fn check_new_name(filesets: &Filesets, name: &FilesetName) -> Result<(), Stop>
-    ensures { Checks (first_refusal (name_taken filesets.now name.now
+pub(crate) fn check_new_name(filesets: &Filesets, name: &FilesetName) -> Result<(), Refusal>
+    ensures { Refuses (first_refusal (name_taken filesets.now name.now
         ∷ filesets_full filesets.now ∷ [])) result }
 {
     refuse_if(filesets.slot(name).is_some(), Refusal::FilesetExists)?;
@@ -363,11 +368,10 @@ pub(crate) fn check_new_name(filesets: &Filesets, name: &FilesetName) -> Result<
 pub(crate) fn slot_of<'a>(
     filesets: &'a Filesets,
     name: &FilesetName,
-) -> Result<&'a FilesetSlot, Stop>
+) -> Result<&'a FilesetSlot, Refusal>
     ensures { MatchResult result
         (λ slot. map.get filesets.now name.now ≡ Some slot.now)
-        (λ stop. (map.get filesets.now name.now ≡ None)
-        × (stop ≡ stops.Refused NoFilesetRefusal)) }
+        (λ why. (map.get filesets.now name.now ≡ None) × (why ≡ NoFilesetRefusal)) }
 {
-    filesets.slot(name).ok_or(Stop::Refused(Refusal::NoFileset))
+    filesets.slot(name).ok_or(Refusal::NoFileset)
 }

@@ -1,7 +1,7 @@
 //! What stops a command.
 ghost use Rattle.std.specs.Prelude.{◌≡◌};
 ghost use Rattle.fileset_model.specs.Paths.{refuse_if as refusal_if};
-ghost use Rattle.plain_filesets.specs.Stops.{Checks};
+ghost use Rattle.plain_filesets.specs.Stops.{Refuses};
 ghost use Rattle.plain_filesets.specs.declared.stop.Stop.TheVariants as stops;
 
 use domain_base::OutOfMemory;
@@ -24,12 +24,20 @@ impl From<OutOfMemory> for Stop {
     }
 }
 
-/// Stops for the refusal, where the test is true.
-pub(crate) fn refuse_if(test: bool, refusal: Refusal) -> Result<(), Stop>
-    ensures { Checks (refusal_if test refusal) result }
+impl From<Refusal> for Stop {
+    ghost from_gives = { λ refusal stop. stop ≡ stops.Refused refusal };
+
+    fn from(refusal: Refusal) -> Stop {
+        Stop::Refused(refusal)
+    }
+}
+
+/// The refusal as an error, where the test is true.
+pub(crate) fn refuse_if(test: bool, refusal: Refusal) -> Result<(), Refusal>
+    ensures { Refuses (refusal_if test refusal) result }
 {
     if test {
-        return Err(Stop::Refused(refusal));
+        return Err(refusal);
     }
     Ok(())
 }

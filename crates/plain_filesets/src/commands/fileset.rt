@@ -1,4 +1,6 @@
 //! The commands on whole filesets, and on the limits of owners.
+ghost use Rattle.std.specs.Prelude.{◌≡◌, IfErr, IfOk, OnErr};
+ghost use Rattle.fileset_model.specs.Apply.{Answers, refusal_of};
 ghost use Rattle.fileset_model.specs.declared.command.Command.TheVariants.{Clonefset, Mkfset, Rmfset, Setquota, Showfsets, Showquota};
 ghost use Rattle.plain_filesets.specs.Stops.{AnswersOrStops};
 
@@ -20,8 +22,10 @@ pub(crate) fn mkfset(
 }
 
 /// Removes a fileset, unless it has a clone.
-pub(crate) fn rmfset(filesets: &mut Filesets, name: &FilesetName) -> Result<Reply, Stop>
-    ensures { AnswersOrStops filesets.old (Rmfset name.now) result filesets.new }
+pub(crate) fn rmfset(filesets: &mut Filesets, name: &FilesetName) -> Result<Reply, Refusal>
+    ensures ok { IfOk result (λ reply. Answers filesets.old (Rmfset name.now) reply filesets.new) }
+    ensures err { IfErr result (λ why. refusal_of filesets.old (Rmfset name.now) ≡ Some why) }
+    ensures same { OnErr result (filesets.new ≡ filesets.old) }
 {
     slot_of(filesets, name)?;
     refuse_if(filesets.has_clone(name), Refusal::HasClone)?;

@@ -4,6 +4,7 @@ use Rattle.fileset_model.specs.Orders.{Path}
 use Rattle.fileset_model.specs.Paths.{directory_refusal, first_refusal, walk_refusal}
 use Rattle.fileset_model.specs.declared.reply.Refusal.{Refusal}
 use Rattle.plain_filesets.specs.Stops.{StopsFor}
+use Rattle.plain_filesets.specs.declared.stop.Stop.TheVariants.{Refused}
 use Rattle.plain_filesets.proofs.WalkLemmas.{stops_on_walk, walk-step}
 use Rattle.plain_filesets.proofs.refusals.check_walk.Goals as goal
 
@@ -13,7 +14,7 @@ returns-in_err-check_directory c =
     let path = c.args.path.now in
     let count = c.loop-count.count in
     let within : count < length path = subst (λ (p : Path). count < length p) c.as_slice-count-end.ensures c.loop-count-test.true in
-    let stop = c.in_err-check_directory.field-0.0 in
+    let stop = Refused c.in_err-check_directory.field-0.0 in
     let here : StopsFor (directory_refusal slot (take count path)) stop =
     subst (λ (p : Path). StopsFor (directory_refusal slot p) stop) c.in_ok-directory.ensures c.in_err-check_directory.ensures in
     let stops : StopsFor (walk_refusal slot path) stop = stops_on_walk slot path count stop within c.loop-count.invariant here in
