@@ -21,7 +21,8 @@ kind_number Volume = 4
 -- the numbers of an address: a volume from 1 to 8, a page and a cell of it; three zeros are none
 abbrev pub IsAddress : ℕ → ℕ → ℕ → Option CellAt → Type 0
 IsAddress vol cell page None = (vol ≡ 0) × (cell ≡ 0) × (page ≡ 0)
-IsAddress vol cell page (Some at) = ((1 ≤ vol) × (vol ≤ 8) × (cell ≤ 27)) × (at ≡ record { vol = vol; page = page; cell = cell })
+IsAddress vol cell page (Some at) = ((1 ≤ vol) × (vol ≤ 8) × (cell ≤ 27))
+    × (at ≡ record { vol = vol; page = page; cell = cell })
 
 -- a fileset's number and 1 more; 0 is none
 abbrev pub IsFileset : ℕ → Option ℕ → Type 0
@@ -70,7 +71,8 @@ pub record Cell : Type 0 where
 pub record IsCell (bytes : List ℕ) (cell : Cell) : Type 0 where
   pub head : HasHead bytes cell.head (length (spellings cell.records))
   pub records : take (length (spellings cell.records)) (drop 20 bytes) ≡ spellings cell.records
-  pub others : drop (20 + length (spellings cell.records)) bytes ≡ zero_bytes (272 - length (spellings cell.records))
+  pub others : drop (20 + length (spellings cell.records)) bytes ≡ zero_bytes
+      (272 - length (spellings cell.records))
   pub well_formed : AreRecords cell.records
 
 -- a free cell is zeros

@@ -61,7 +61,8 @@ home_of at = record { vol = at.vol; page = at.page }
 -- the bytes of a cell, where its page is there and one of the table, and has such a cell
 abbrev pub cell_at : Pages → CellAt → Option (List ℕ)
 cell_at pages at =
-    option_and_then (λ page. if is_cell_page page && nat_lt at.cell 28 then Some (cell_of page at.cell) else None) (pages (home_of at))
+    option_and_then (λ page. if is_cell_page page && nat_lt at.cell 28
+    then Some (cell_of page at.cell) else None) (pages (home_of at))
 
 -- a cell is there, and its kind is not that of a free one
 abbrev pub IsUsedAt : Pages → CellAt → Type 0
@@ -69,13 +70,16 @@ IsUsedAt pages at = IsSomeAnd (cell_at pages at) (λ bytes. ¬ number_at 1 15 by
 
 -- a page of the table is there, and has such a cell
 abbrev pub HasPlace : Pages → CellAt → Type 0
-HasPlace pages at = IsSomeAnd (pages (home_of at)) (λ page. is_cell_page page ≡ true) × (at.cell < 28)
+HasPlace pages at = IsSomeAnd (pages (home_of at)) (λ page. is_cell_page page ≡ true)
+    × (at.cell < 28)
 
--- pages in which the bytes of a cell were changed, and the count of free cells that stands on its page
+-- pages in which the bytes of a cell were changed, and the count of free cells that stands on its
+-- page
 pub record ChangesCell (at : CellAt) (bytes : List ℕ) (old new : Pages) : Type 0 where
   pub page : List ℕ
   pub was : old (home_of at) ≡ Some page
-  pub is : (home : Home) → new home ≡ (if same_home home (home_of at) then Some (with_cell at.cell bytes page) else old home)
+  pub is : (home : Home) → new home ≡
+      (if same_home home (home_of at) then Some (with_cell at.cell bytes page) else old home)
 
 -- a page in place of which another stands, made from it
 pub record ChangesPage (home : Home) (change : List ℕ → List ℕ) (old new : Pages) : Type 0 where
@@ -89,7 +93,8 @@ with_next next page = overwritten page 8 (little_bytes 4 next)
 
 -- a change after which each page that was well formed is so still
 abbrev pub KeepsWellFormed : Pages → Pages → Type 0
-KeepsWellFormed old new = (home : Home) → IfSome (old home) IsCellPage → IfSome (new home) IsCellPage
+KeepsWellFormed old new = (home : Home) → IfSome (old home) IsCellPage
+    → IfSome (new home) IsCellPage
 
 -- a change that leaves each page's index and next page
 abbrev pub header : List ℕ → ℕ × ℕ

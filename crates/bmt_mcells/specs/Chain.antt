@@ -23,7 +23,8 @@ pub record HasHeadAt (pages : Pages) (at : CellAt) (head : CellHead) : Type 0 wh
   pub size : ℕ
   pub is : HasHead bytes head size
 
--- the kinds of cells that a cell may lead to: chain cells behind the first cell of a file, quota cells behind one
+-- the kinds of cells that a cell may lead to: chain cells behind the first cell of a file, quota
+-- cells behind one
 abbrev pub may_follow : CellKind → CellKind → Bool
 may_follow Primary Chain = true
 may_follow Chain Chain = true
@@ -42,12 +43,14 @@ places cells = map (λ (c : PlacedCell). c.at) cells
 abbrev pub key_of : CellAt → ℕ
 key_of at = (at.vol * 2 ^ 32 + at.page) * 256 + at.cell
 
--- the cells that were passed from a place on, and the one that was come to: each stands where the one before it leads,
--- and none was passed twice
+-- the cells that were passed from a place on, and the one that was come to: each stands where the
+-- one before it leads, and none was passed twice
 pub data Path (pages : Pages) (start : CellAt) : List PlacedCell → PlacedCell → Type 0 where
-  begins : (cell : Cell) → StandsAt pages start cell → Path pages start [] (record { at = start; cell = cell })
+  begins : (cell : Cell) → StandsAt pages start cell
+      → Path pages start [] (record { at = start; cell = cell })
   goes_on : (passed : List PlacedCell) (last : PlacedCell) (at : CellAt) (cell : Cell)
-      → Path pages start passed last → last.cell.head.next ≡ Some at → ¬ Contains (places (passed ++ last ∷ [])) at
+      → Path pages start passed last → last.cell.head.next ≡ Some at
+      → ¬ Contains (places (passed ++ last ∷ [])) at
       → StandsAt pages at cell → may_follow last.cell.head.kind cell.head.kind ≡ true
       → Path pages start (passed ++ last ∷ []) (record { at = at; cell = cell })
 
@@ -66,16 +69,21 @@ records_of cells = flat_map (λ (c : PlacedCell). c.cell.records) cells
 -- a next address that is wrong: it leads back, or to no cell in use that may follow
 abbrev pub LeadsAstray : Pages → List PlacedCell → PlacedCell → CellAt → Type 0
 LeadsAstray pages passed last at =
-    Contains (places (passed ++ last ∷ [])) at ⊎ ((head : CellHead) → HasHeadAt pages at head → may_follow last.cell.head.kind head.kind ≡ false)
+    Contains (places (passed ++ last ∷ [])) at
+    ⊎ ((head : CellHead) → HasHeadAt pages at head
+    → may_follow last.cell.head.kind head.kind ≡ false)
 
--- where the chain from a place on is broken: at that place, where no cell stands; at a cell whose next address is wrong; or
--- at a cell that one leads to and whose records are not well formed
+-- where the chain from a place on is broken: at that place, where no cell stands; at a cell whose
+-- next address is wrong; or at a cell that one leads to and whose records are not well formed
 pub data IsBroken (pages : Pages) (start : CellAt) : CellAt → Type 0 where
   no_cell : ((cell : Cell) → ¬ StandsAt pages start cell) → IsBroken pages start start
-  astray : (passed : List PlacedCell) (last : PlacedCell) (at : CellAt) → Path pages start passed last → last.cell.head.next ≡ Some at
+  astray : (passed : List PlacedCell) (last : PlacedCell) (at : CellAt)
+      → Path pages start passed last → last.cell.head.next ≡ Some at
       → LeadsAstray pages passed last at → IsBroken pages start last.at
-  bad_cell : (passed : List PlacedCell) (last : PlacedCell) (at : CellAt) (head : CellHead) → Path pages start passed last → last.cell.head.next ≡ Some at
-      → ¬ Contains (places (passed ++ last ∷ [])) at → HasHeadAt pages at head → may_follow last.cell.head.kind head.kind ≡ true
+  bad_cell : (passed : List PlacedCell) (last : PlacedCell) (at : CellAt) (head : CellHead)
+      → Path pages start passed last → last.cell.head.next ≡ Some at
+      → ¬ Contains (places (passed ++ last ∷ [])) at → HasHeadAt pages at head
+      → may_follow last.cell.head.kind head.kind ≡ true
       → ((cell : Cell) → ¬ StandsAt pages at cell) → IsBroken pages start at
 
 -- what a change of some cells leaves: every other cell has its bytes

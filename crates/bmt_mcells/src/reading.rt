@@ -47,9 +47,11 @@ pub(crate) fn u32_at(bytes: &[u8], at: usize) -> u32
 /// The address in a cell's first eight bytes, if it is one: of a cell, or of none.
 fn next_of(cell: &[u8]) -> Option<Option<CellAt>>
     requires { 8 ≤ length cell.now }
-    ensures some { IfSome result (IsAddress (number_at 1 2 cell.now) (number_at 1 3 cell.now) (number_at 4 4 cell.now)) }
+    ensures some { IfSome result (IsAddress (number_at 1 2 cell.now) (number_at 1 3 cell.now)
+        (number_at 4 4 cell.now)) }
     ensures none { IfNone result ((next : Option CellAt)
-        → ¬ IsAddress (number_at 1 2 cell.now) (number_at 1 3 cell.now) (number_at 4 4 cell.now) next) }
+        → ¬ IsAddress (number_at 1 2 cell.now) (number_at 1 3 cell.now)
+        (number_at 4 4 cell.now) next) }
 {
     let number = u8_at(cell, 3);
     let page = u32_at(cell, 4);

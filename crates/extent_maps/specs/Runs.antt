@@ -65,7 +65,8 @@ goes_on_last (other ∷ next ∷ runs) run = goes_on_last (next ∷ runs) run
 abbrev pub joined : Run → Run → Run
 joined run next = record run { count = run.count + next.count }
 
--- the pages of a run in front of the one that stands so many behind its first, and those from that one on
+-- the pages of a run in front of the one that stands so many behind its first, and those from that
+-- one on
 abbrev pub front_of : ℕ → Run → Run
 front_of count run = record run { count = count }
 
@@ -146,5 +147,6 @@ home_at Absent = None
 pub record IsPartedAt (from : ℕ) (runs front tail : List Run) : Type 0 where
   pub front_runs : AreRuns front
   pub tail_runs : AreRuns tail
-  pub front_places : (p : ℕ) → place_of front p ≡ (if nat_lt p from then place_of runs p else Absent)
+  pub front_places : (p : ℕ) → place_of front p ≡
+      (if nat_lt p from then place_of runs p else Absent)
   pub tail_places : (p : ℕ) → place_of tail p ≡ (if nat_lt p from then Absent else place_of runs p)

@@ -11,7 +11,8 @@ use Rattle.free_space.specs.Spaces.{Spaces}
 abbrev pub same_page : Waiting → Waiting → Bool
 same_page v w = nat_eq v.page w.page
 
--- used pages are the volume's, and the pages that wait are used and all different: so the counts are counts of pages
+-- used pages are the volume's, and the pages that wait are used and all different: so the counts
+-- are counts of pages
 pub record IsSound (pages : ℕ) (used : FinSet nat_cmp) (waiting : List Waiting) : Type 0 where
   pub limit : pages ≤ 2 ^ 20
   pub within : (p : ℕ) → contains used p ≡ true → p < pages
@@ -29,6 +30,7 @@ abbrev pub AreSound : Spaces → Type 0
 AreSound s = AreSoundVolumes s.volumes
 
 -- what a volume keeps besides: the room for each of its pages to wait
-pub record IsKept (pages : ℕ) (used : FinSet nat_cmp) (waiting : List Waiting) (room : ℕ) : Type 0 where
+pub record IsKept (pages : ℕ) (used : FinSet nat_cmp) (waiting : List Waiting)
+    (room : ℕ) : Type 0 where
   pub sound : IsSound pages used waiting
   pub enough : pages ≤ room

@@ -12,7 +12,8 @@ pub record Spaces : Type 0 where
   pub misses : ℕ
 
 abbrev pub spaces_code : Coded Spaces
-spaces_code = code_by (List (Option VolumeSpace) × ℕ) (coded× (coded_list (coded_option volume_space_code)) coded_ℕ) (λ s. (s.volumes, s.misses))
+spaces_code = code_by (List (Option VolumeSpace) × ℕ)
+    (coded× (coded_list (coded_option volume_space_code)) coded_ℕ) (λ s. (s.volumes, s.misses))
     (λ p. record { volumes = p.0; misses = p.1 }) (λ _. refl)
 
 -- eight places with no volume
@@ -44,11 +45,13 @@ CanTake s vol p = IsSomeAnd (volume_of s vol) (λ v. (v.is_open ≡ true) × IsF
 
 -- the same of so many pages in a row from page p on
 abbrev pub CanTakeRun : Spaces → ℕ → ℕ → ℕ → Type 0
-CanTakeRun s vol p count = IsSomeAnd (volume_of s vol) (λ v. (v.is_open ≡ true) × AreFreePages v p count)
+CanTakeRun s vol p count = IsSomeAnd (volume_of s vol)
+    (λ v. (v.is_open ≡ true) × AreFreePages v p count)
 
 -- page p of the volume is used and does not wait
 abbrev pub IsHeld : Spaces → ℕ → ℕ → Type 0
-IsHeld s vol p = IsSomeAnd (volume_of s vol) (λ v. (contains v.used p ≡ true) × (is_waiting v p ≡ false))
+IsHeld s vol p = IsSomeAnd (volume_of s vol)
+    (λ v. (contains v.used p ≡ true) × (is_waiting v p ≡ false))
 
 -- one miss more, while the count can rise
 abbrev pub missed : Spaces → Spaces

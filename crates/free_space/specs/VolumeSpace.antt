@@ -24,14 +24,16 @@ same_use Metadata Data = false
 same_use Metadata Metadata = true
 
 abbrev use_code : Coded PageUse
-use_code = code_by Bool coded_bool (λ k. same_use k Metadata) (λ b. if b then Metadata else Data) both
+use_code = code_by Bool coded_bool (λ k. same_use k Metadata)
+    (λ b. if b then Metadata else Data) both
   where
     both : (k : PageUse) → (if same_use k Metadata then Metadata else Data) ≡ k
     both Data = refl
     both Metadata = refl
 
 abbrev waiting_code : Coded (List Waiting)
-waiting_code = coded_list (code_by (ℕ × (PageUse × ℕ)) (coded× coded_ℕ (coded× use_code coded_ℕ)) (λ w. (w.page, (w.kind, w.group)))
+waiting_code = coded_list (code_by (ℕ × (PageUse × ℕ)) (coded× coded_ℕ (coded× use_code coded_ℕ))
+    (λ w. (w.page, (w.kind, w.group)))
     (λ p. record { page = p.0; kind = p.1.0; group = p.1.1 }) (λ _. refl))
 
 abbrev pub volume_space_code : Coded VolumeSpace
@@ -96,7 +98,8 @@ is_due kind group w = same_use w.kind kind && nat_le w.group group
 
 -- the used pages without those that are due
 abbrev pub without_due : FinSet nat_cmp → List Waiting → PageUse → ℕ → FinSet nat_cmp
-without_due used waiting kind group = retain used (λ p. not (list_any (λ w. p == w.page && is_due kind group w) waiting))
+without_due used waiting kind group = retain used
+    (λ p. not (list_any (λ w. p == w.page && is_due kind group w) waiting))
 
 -- what is not due
 abbrev pub still_waiting : PageUse → ℕ → List Waiting → List Waiting
@@ -104,4 +107,7 @@ still_waiting kind group waiting = filter (λ w. not (is_due kind group w)) wait
 
 -- the pages of that use that wait for that group or one before it are free
 abbrev pub with_released : PageUse → ℕ → VolumeSpace → VolumeSpace
-with_released kind group v = record v { used = without_due v.used v.waiting kind group; waiting = still_waiting kind group v.waiting }
+with_released kind group v = record v {
+  used = without_due v.used v.waiting kind group;
+  waiting = still_waiting kind group v.waiting;
+}

@@ -30,9 +30,15 @@ impl Model for Volume {
 
     ghost coded = { volume_space_code };
 
-    ghost view = { λ v. record { pages = v.map.pages; is_open = v.is_open; used = v.map.used; waiting = v.waiting.items } };
+    ghost view = { λ v. record {
+      pages = v.map.pages;
+      is_open = v.is_open;
+      used = v.map.used;
+      waiting = v.waiting.items;
+    } };
 
-    ghost invariant = { λ v. IsKept v.map.pages v.map.used v.waiting.items (vec_capacity v.waiting) };
+    ghost invariant = { λ v. IsKept v.map.pages v.map.used v.waiting.items
+        (vec_capacity v.waiting) };
 }
 
 /// Frees the pages of that use that wait for a group up to `group`, and strikes them off the list.

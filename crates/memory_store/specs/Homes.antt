@@ -20,13 +20,16 @@ abbrev pub AreWholeValues : List (ℕ × List ℕ) → Type 0
 AreWholeValues entries =
     (key : ℕ) → ForSome (value_at entries key) (λ page. length page ≡ page_bytes)
 
-if_some : (found : Option (List ℕ)) → ForSome found (λ page. length page ≡ page_bytes) → IfSome found (λ page. length page ≡ page_bytes)
+if_some : (found : Option (List ℕ)) → ForSome found (λ page. length page ≡ page_bytes)
+    → IfSome found (λ page. length page ≡ page_bytes)
 if_some None whole = tt
 if_some (Some page) whole = whole page refl
 
 pub are_whole : (entries : List (ℕ × List ℕ)) → AreWholeValues entries → AreWhole (pages_of entries)
 are_whole entries whole home =
-    elim (nat_lt home.page (2 ^ 32)) as (λ b. IfSome (if b then value_at entries (number_of home) else None) (λ page. length page ≡ page_bytes)) [
+    elim (nat_lt home.page (2 ^ 32)) as
+    (λ b. IfSome (if b then value_at entries (number_of home) else None)
+    (λ page. length page ≡ page_bytes)) [
       | true ↦ if_some _ (whole (number_of home))
       | false ↦ tt
     ]

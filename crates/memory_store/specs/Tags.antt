@@ -44,7 +44,8 @@ if_some (Some file) sound = sound file refl
 pub are_bitfiles :
     (entries : List (ℕ × Bitfile)) → AreSound entries → AreBitfiles (files_of entries)
 are_bitfiles entries sound tag =
-    elim (nat_lt tag.seq (2 ^ 16)) as (λ b. IfSome (if b then value_at entries (number_of tag) else None) IsBitfile) [
+    elim (nat_lt tag.seq (2 ^ 16)) as
+    (λ b. IfSome (if b then value_at entries (number_of tag) else None) IsBitfile) [
       | true ↦ if_some _ (sound (number_of tag))
       | false ↦ tt
     ]

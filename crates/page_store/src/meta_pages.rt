@@ -34,13 +34,15 @@ pub trait MetaPages {
     fn put(&mut self, home: Home, page: Page)
         requires { (0 < room self.old) ⊎ IsSome (pages self.old home) }
         ensures value { pages self.new ≡ with_page home page (pages self.old) }
-        ensures left { room self.new ≡ (if is_some (pages self.old home) then room self.old else room self.old - 1) };
+        ensures left { room self.new ≡
+            (if is_some (pages self.old home) then room self.old else room self.old - 1) };
 
     /// Takes the page off that stands at a home, which leaves room for one more.
     fn take_off(&mut self, home: Home) -> Option<Page>
         ensures taken { result ≡ pages self.old home }
         ensures value { pages self.new ≡ without_page home (pages self.old) }
-        ensures left { room self.new ≡ (if is_some (pages self.old home) then room self.old + 1 else room self.old) };
+        ensures left { room self.new ≡
+            (if is_some (pages self.old home) then room self.old + 1 else room self.old) };
 
     /// A page has 8,192 bytes.
     ghost whole: { (store : Self) → AreWhole (pages store) };

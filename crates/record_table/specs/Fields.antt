@@ -13,10 +13,20 @@ unfoldable pub number_at : ℕ → ℕ → List ℕ → ℕ
 number_at w at bytes = little_number w (drop at bytes)
 
 abbrev pub extent_at : ℕ → List ℕ → ExtentField
-extent_at at bytes = record { page = number_at 4 at bytes; count = number_at 4 (at + 4) bytes; vol = number_at 4 (at + 8) bytes; first = number_at 4 (at + 12) bytes }
+extent_at at bytes = record {
+  page = number_at 4 at bytes;
+  count = number_at 4 (at + 4) bytes;
+  vol = number_at 4 (at + 8) bytes;
+  first = number_at 4 (at + 12) bytes;
+}
 
 abbrev pub dense_at : ℕ → List ℕ → ExtentField
-dense_at at bytes = record { page = number_at 2 at bytes; count = number_at 2 (at + 2) bytes; vol = number_at 1 (at + 4) bytes; first = number_at 4 (at + 8) bytes }
+dense_at at bytes = record {
+  page = number_at 2 at bytes;
+  count = number_at 2 (at + 2) bytes;
+  vol = number_at 1 (at + 4) bytes;
+  first = number_at 4 (at + 8) bytes;
+}
 
 abbrev pub hole_at : ℕ → List ℕ → HoleField
 hole_at at bytes = record { page = number_at 4 at bytes; count = number_at 4 (at + 4) bytes }
@@ -24,7 +34,8 @@ hole_at at bytes = record { page = number_at 4 at bytes; count = number_at 4 (at
 -- n rows of so many bytes, one after the other
 abbrev pub rows_at : {X : Type 0} → (ℕ → List ℕ → X) → ℕ → ℕ → ℕ → List ℕ → List X
 rows_at row bytes_each zero at bytes = []
-rows_at row bytes_each (suc n) at bytes = row at bytes ∷ rows_at row bytes_each n (at + bytes_each) bytes
+rows_at row bytes_each (suc n) at bytes = row at bytes
+    ∷ rows_at row bytes_each n (at + bytes_each) bytes
 
 abbrev pub extents : ℕ → ℕ → List ℕ → List ExtentField
 extents = rows_at extent_at 16
@@ -38,8 +49,10 @@ holes = rows_at hole_at 8
 -- eight bytes
 abbrev pub volumes : ℕ → List ℕ → List ℕ
 volumes at bytes =
-    number_at 1 at bytes ∷ number_at 1 (at + 1) bytes ∷ number_at 1 (at + 2) bytes ∷ number_at 1 (at + 3) bytes
-    ∷ number_at 1 (at + 4) bytes ∷ number_at 1 (at + 5) bytes ∷ number_at 1 (at + 6) bytes ∷ number_at 1 (at + 7) bytes ∷ []
+    number_at 1 at bytes ∷ number_at 1 (at + 1) bytes ∷ number_at 1 (at + 2) bytes
+    ∷ number_at 1 (at + 3) bytes
+    ∷ number_at 1 (at + 4) bytes ∷ number_at 1 (at + 5) bytes ∷ number_at 1 (at + 6) bytes
+    ∷ number_at 1 (at + 7) bytes ∷ []
 
 -- what is left, by its number
 abbrev pub leftover_of : ℕ → Leftover
@@ -49,8 +62,11 @@ leftover_of n = if n == 1 then Trim else Remove
 abbrev pub readers : List (List ℕ → Record)
 readers =
     (λ bytes. Pending Trim)
-    ∷ (λ bytes. Attributes (number_at 4 4 bytes) (number_at 4 8 bytes) (number_at 4 12 bytes) (number_at 4 16 bytes) (number_at 8 20 bytes) (number_at 4 28 bytes) (number_at 4 32 bytes) (number_at 8 36 bytes) (number_at 8 44 bytes))
-    ∷ (λ bytes. CloneFile (number_at 1 6 bytes) (number_at 1 7 bytes) (number_at 4 8 bytes) (number_at 4 12 bytes))
+    ∷ (λ bytes. Attributes (number_at 4 4 bytes) (number_at 4 8 bytes) (number_at 4 12 bytes)
+    (number_at 4 16 bytes) (number_at 8 20 bytes) (number_at 4 28 bytes) (number_at 4 32 bytes)
+    (number_at 8 36 bytes) (number_at 8 44 bytes))
+    ∷ (λ bytes. CloneFile (number_at 1 6 bytes) (number_at 1 7 bytes) (number_at 4 8 bytes)
+    (number_at 4 12 bytes))
     ∷ (λ bytes. Extents (extents 16 4 bytes))
     ∷ (λ bytes. ShortExtents (extents 4 4 bytes))
     ∷ (λ bytes. Holes (holes 16 4 bytes))

@@ -26,7 +26,8 @@ hole_widths = 4 ∷ 4 ∷ []
 abbrev pub cell_widths : List ℕ
 cell_widths = 2 ∷ 1 ∷ 1 ∷ 4 ∷ []
 
--- The widths of each kind, by its number. There is no kind 0: of its fields only the first is there, the kind itself.
+-- The widths of each kind, by its number. There is no kind 0: of its fields only the first is
+-- there, the kind itself.
 abbrev pub layouts : List (List ℕ)
 layouts =
     (1 ∷ [])

@@ -49,7 +49,8 @@ leftover_number Remove = 2
 
 -- the numbers in a record's fields behind its head, with the zeros that the format wants
 abbrev pub fields : Record → List ℕ
-fields (Attributes kind uid gid flags size keep links birth unsynced) = kind ∷ uid ∷ gid ∷ flags ∷ size ∷ keep ∷ links ∷ birth ∷ unsynced ∷ []
+fields (Attributes kind uid gid flags size keep links birth unsynced) = kind ∷ uid ∷ gid ∷ flags
+    ∷ size ∷ keep ∷ links ∷ birth ∷ unsynced ∷ []
 fields (CloneFile vol cell page frozen) = 0 ∷ vol ∷ cell ∷ page ∷ frozen ∷ 0 ∷ []
 fields (Extents rows) = flat_map extent_numbers rows
 fields (ShortExtents rows) = flat_map extent_numbers rows
@@ -64,7 +65,8 @@ fields (Volume vol pages bitmap_pages) = vol ∷ pages ∷ bitmap_pages ∷ []
 fields (DenseExtents rows) = flat_map dense_numbers rows
 fields (ShortDense rows) = flat_map dense_numbers rows
 
--- the numbers in all fields: the head's are the kind, a zero and the length, the head's four bytes counted
+-- the numbers in all fields: the head's are the kind, a zero and the length, the head's four bytes
+-- counted
 abbrev pub numbers : Record → List ℕ
 numbers r = kind_of r ∷ 0 ∷ size_of (kind_of r) ∷ fields r
 
@@ -84,7 +86,8 @@ pub record IsShort (e : ExtentField) : Type 0 where
   pub count : e.count < 2 ^ 16
   pub volume : e.vol < 2 ^ 8
 
--- a call that wrote these numbers in these widths to the front of the bytes, and answered how many bytes they took
+-- a call that wrote these numbers in these widths to the front of the bytes, and answered how many
+-- bytes they took
 pub record PutsNumbers (ws ns : List ℕ) (old new : List ℕ) (taken : ℕ) : Type 0 where
   pub size : taken ≡ sum ws
   pub written : new ≡ spelled ws ns ++ drop (sum ws) old
@@ -94,11 +97,14 @@ abbrev pub Puts : Record → List ℕ → List ℕ → ℕ → Type 0
 Puts r = PutsNumbers (widths (kind_of r)) (numbers r)
 
 -- the same for the numbers of a record of rows, each in these widths
-abbrev pub PutsRows : {X : Type 0} → List ℕ → (X → List ℕ) → ℕ → List X → List ℕ → List ℕ → ℕ → Type 0
+abbrev pub PutsRows : {X : Type 0} → List ℕ → (X → List ℕ) → ℕ → List X → List ℕ → List ℕ → ℕ
+    → Type 0
 PutsRows ws row kind rows =
-    PutsNumbers (with_head (repeated (length rows) ws)) (kind ∷ 0 ∷ (4 + sum ws * length rows) ∷ flat_map row rows)
+    PutsNumbers (with_head (repeated (length rows) ws))
+    (kind ∷ 0 ∷ (4 + sum ws * length rows) ∷ flat_map row rows)
 
--- Consecutive file pages that begin at file page `from` or later, and end at or before the last one.
+-- Consecutive file pages that begin at file page `from` or later, and end at or before the last
+-- one.
 pub record IsRun (from page count : ℕ) : Type 0 where
   pub begins : from ≤ page
   pub some : 1 ≤ count
@@ -120,10 +126,12 @@ pub record NoHole (h : HoleField) : Type 0 where
   pub page : h.page ≡ 0
   pub count : h.count ≡ 0
 
--- Extents of file pages from `from` on, each behind the end of the one before it, and zeros behind the last.
+-- Extents of file pages from `from` on, each behind the end of the one before it, and zeros behind
+-- the last.
 abbrev pub AreExtents : ℕ → List ExtentField → Type 0
 AreExtents from [] = Unit {0}
-AreExtents from (e ∷ es) = (IsExtent from e × AreExtents (e.page + e.count) es) ⊎ AllByRecursion NoExtent (e ∷ es)
+AreExtents from (e ∷ es) = (IsExtent from e × AreExtents (e.page + e.count) es)
+    ⊎ AllByRecursion NoExtent (e ∷ es)
 
 -- the same, where the number of pages of each has two bytes
 abbrev pub AreDense : List ExtentField → Type 0
@@ -132,16 +140,21 @@ AreDense es = AreExtents 0 es × AllByRecursion (λ e. e.count < 2 ^ 16) es
 -- holes likewise
 abbrev pub AreHoles : ℕ → List HoleField → Type 0
 AreHoles from [] = Unit {0}
-AreHoles from (h ∷ hs) = (IsRun from h.page h.count × AreHoles (h.page + h.count) hs) ⊎ AllByRecursion NoHole (h ∷ hs)
+AreHoles from (h ∷ hs) = (IsRun from h.page h.count × AreHoles (h.page + h.count) hs)
+    ⊎ AllByRecursion NoHole (h ∷ hs)
 
--- A cell's address is a volume from 1 to 8, one of the cells 0 to 27 and a page. All zeros stand for no cell.
+-- A cell's address is a volume from 1 to 8, one of the cells 0 to 27 and a page. All zeros stand
+-- for no cell.
 abbrev pub IsCell : ℕ → ℕ → ℕ → Type 0
-IsCell vol cell page = ((vol ≡ 0) × (cell ≡ 0) × (page ≡ 0)) ⊎ (((1 ≤ vol) × (vol ≤ 8)) × (cell ≤ 27) × (page < 2 ^ 32))
+IsCell vol cell page = ((vol ≡ 0) × (cell ≡ 0) × (page ≡ 0))
+    ⊎ (((1 ≤ vol) × (vol ≤ 8)) × (cell ≤ 27) × (page < 2 ^ 32))
 
--- The records that the format allows. A field of which it says nothing has any number that its width holds.
+-- The records that the format allows. A field of which it says nothing has any number that its
+-- width holds.
 unfoldable pub Allowed : Record → Type 0
 Allowed (Attributes kind uid gid flags size keep links birth unsynced) =
-    ((1 ≤ kind) × (kind ≤ 2)) × (uid < 2 ^ 32) × (gid < 2 ^ 32) × (flags ≤ 1) × (size < 2 ^ 64) × (keep < 2 ^ 32)
+    ((1 ≤ kind) × (kind ≤ 2)) × (uid < 2 ^ 32) × (gid < 2 ^ 32) × (flags ≤ 1) × (size < 2 ^ 64)
+    × (keep < 2 ^ 32)
     × ((1 ≤ links) × (links ≤ 1000)) × (birth < 2 ^ 64) × (unsynced < 2 ^ 64)
 Allowed (CloneFile vol cell page frozen) = IsCell vol cell page × (frozen < 2 ^ 32)
 Allowed (Extents rows) = (length rows ≡ 16) × AreExtents 0 rows
@@ -152,8 +165,10 @@ Allowed (UserQuota id files blocks) = (id < 2 ^ 32) × (files < 2 ^ 64) × (bloc
 Allowed (GroupQuota id files blocks) = (id < 2 ^ 32) × (files < 2 ^ 64) × (blocks < 2 ^ 64)
 Allowed (DirIndex vol page entries) = ((1 ≤ vol) × (vol ≤ 8)) × (page < 2 ^ 32) × (entries < 2 ^ 32)
 Allowed (Parent slot seq) = (slot < 2 ^ 32) × (seq < 2 ^ 16)
-Allowed (Stripe width mark vols) = (width < 2 ^ 8) × (mark < 2 ^ 8) × (length vols ≡ 8) × AllByRecursion (λ v. v < 2 ^ 8) vols
-Allowed (Volume vol pages bitmap_pages) = (vol < 2 ^ 32) × (pages < 2 ^ 32) × (bitmap_pages < 2 ^ 32)
+Allowed (Stripe width mark vols) = (width < 2 ^ 8) × (mark < 2 ^ 8) × (length vols ≡ 8)
+    × AllByRecursion (λ v. v < 2 ^ 8) vols
+Allowed (Volume vol pages bitmap_pages) = (vol < 2 ^ 32) × (pages < 2 ^ 32)
+    × (bitmap_pages < 2 ^ 32)
 Allowed (DenseExtents rows) = (length rows ≡ 22) × AreDense rows
 Allowed (ShortDense rows) = (length rows ≡ 4) × AreDense rows
 

@@ -20,7 +20,8 @@ allows (Range least most) seen n = nat_le least n && nat_le n most
 allows Volume seen n = nat_le n 8
 allows (IfUsed most) seen n = (n == 0) || (seen.used && nat_le n most)
 allows Page seen n = (n == 0) || (nat_le seen.from n && nat_lt n 65536)
-allows Count seen n = if n == 0 then seen.page == 0 else (nat_le seen.from seen.page && nat_le (seen.page + n) 65536)
+allows Count seen n = if n == 0 then seen.page == 0
+    else (nat_le seen.from seen.page && nat_le (seen.page + n) 65536)
 
 -- what the fields behind it have to know
 abbrev pub after : Rule → Seen → ℕ → Seen
@@ -29,16 +30,18 @@ after (Range least most) seen n = seen
 after Volume seen n = record seen { used = nat_lt 0 n }
 after (IfUsed most) seen n = seen
 after Page seen n = record seen { page = n }
-after Count seen n = if n == 0 then record { from = 65536; page = 0; used = false } else record { from = seen.page + n; page = 0; used = true }
+after Count seen n = if n == 0 then record { from = 65536; page = 0; used = false }
+    else record { from = seen.page + n; page = 0; used = true }
 
--- Where fields of these widths and rules end, or the start of the first that the bytes do not fill as they should. Nothing
--- fills a field without a rule.
+-- Where fields of these widths and rules end, or the start of the first that the bytes do not fill
+-- as they should. Nothing fills a field without a rule.
 unfoldable pub scan : List ℕ → List Rule → Seen → List ℕ → ℕ → Result ℕ ℕ
 scan [] rs seen bytes at = Ok at
 scan (w ∷ ws) [] seen bytes at = Err at
 scan (w ∷ ws) (r ∷ rs) seen bytes at =
     if nat_lt (length bytes) w then Err at
-    else (if allows r seen (little_number w bytes) then scan ws rs (after r seen (little_number w bytes)) (drop w bytes) (at + w) else Err at)
+    else (if allows r seen (little_number w bytes)
+    then scan ws rs (after r seen (little_number w bytes)) (drop w bytes) (at + w) else Err at)
 
 -- widths of fields that hold numbers of up to 64 bits
 abbrev pub are_widths : List ℕ → Bool
@@ -65,8 +68,10 @@ with_head_rules kind size rs = exactly kind ∷ exactly 0 ∷ exactly size ∷ r
 abbrev pub rule_lists : List (List Rule)
 rule_lists =
     []
-    ∷ with_head_rules 1 52 (Range 1 2 ∷ Any ∷ Any ∷ Range 0 1 ∷ Any ∷ Any ∷ Range 1 1000 ∷ Any ∷ Any ∷ [])
-    ∷ with_head_rules 2 20 (exactly 0 ∷ Volume ∷ IfUsed 27 ∷ IfUsed 4294967295 ∷ Any ∷ exactly 0 ∷ [])
+    ∷ with_head_rules 1 52 (Range 1 2 ∷ Any ∷ Any ∷ Range 0 1 ∷ Any ∷ Any ∷ Range 1 1000 ∷ Any
+    ∷ Any ∷ [])
+    ∷ with_head_rules 2 20 (exactly 0 ∷ Volume ∷ IfUsed 27 ∷ IfUsed 4294967295 ∷ Any ∷ exactly 0
+    ∷ [])
     ∷ with_head_rules 3 260 (repeated_rules 16 extent_rules)
     ∷ with_head_rules 4 68 (repeated_rules 4 extent_rules)
     ∷ with_head_rules 5 132 (repeated_rules 16 hole_rules)

@@ -11,7 +11,8 @@ pub record VolumePages : Type 0 where
 
 abbrev pub volume_pages_code : Coded VolumePages
 volume_pages_code =
-    code_by (ℕ × FinSet nat_cmp) (coded× coded_ℕ (code coded_ℕ)) (λ m. (m.pages, m.used)) (λ p. record { pages = p.0; used = p.1 })
+    code_by (ℕ × FinSet nat_cmp) (coded× coded_ℕ (code coded_ℕ)) (λ m. (m.pages, m.used))
+    (λ p. record { pages = p.0; used = p.1 })
     (λ _. refl)
 
 -- that many pages in a row from page p on, all of them the volume's and none used
