@@ -18,7 +18,10 @@ drafted (Some d) = d.done.items ++ record { number = d.number; commands = d.comm
 -- the sections with one command more in the last of them
 abbrev pub with_command : List Section → Command → List Section
 with_command [] command = []
-with_command (section ∷ []) command = record { number = section.number; commands = section.commands ++ command ∷ [] } ∷ []
+with_command (section ∷ []) command = record {
+  number = section.number;
+  commands = section.commands ++ command ∷ [];
+} ∷ []
 with_command (section ∷ next ∷ sections) command = section ∷ with_command (next ∷ sections) command
 
 -- the sections with one statement more
@@ -28,7 +31,8 @@ with_statement sections (Gives command) = with_command sections command
 
 -- the sections with what one line more says
 abbrev pub with_line : List Section → List ℕ → List Section
-with_line so_far text = unwrap_or (option_map (with_statement so_far) (statement_of_line text)) so_far
+with_line so_far text = unwrap_or
+    (option_map (with_statement so_far) (statement_of_line text)) so_far
 
 -- the line has that fault after these sections, unless memory ran out
 abbrev pub Refuses : List Section → List ℕ → LineFault → Type 0
@@ -44,13 +48,15 @@ Says so_far text (Some statement) =
 
 -- a statement that the sections cannot take
 abbrev pub IsRefused : List Section → Statement → LineFault → Type 0
-IsRefused so_far statement (line.Kind kind) = first_kind (kinds_of_statement so_far (Some statement)) ≡ Some kind
+IsRefused so_far statement (line.Kind kind) = first_kind
+    (kinds_of_statement so_far (Some statement)) ≡ Some kind
 IsRefused so_far statement line.OutOfMemory = Unit {0}
 
 -- a statement that was added to the sections
 abbrev pub IsAdded : List Section → Statement → List Section → Type 0
 IsAdded so_far statement next =
-    (first_kind (kinds_of_statement so_far (Some statement)) ≡ None) × (next ≡ with_statement so_far statement)
+    (first_kind (kinds_of_statement so_far (Some statement)) ≡ None)
+    × (next ≡ with_statement so_far statement)
 
 -- a good line, and the sections after it
 abbrev pub IsTaken : List Section → List ℕ → List Section → Type 0

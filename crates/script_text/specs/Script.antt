@@ -1,4 +1,5 @@
--- What a script says: its sections with their commands, or its first bad line and what is wrong with it.
+-- What a script says: its sections with their commands, or its first bad line and what is wrong
+-- with it.
 use Rattle.std.specs.Prelude.{◌≡◌, ℕ, ◌+◌, ◌-◌, ◌^◌, min, Bool, false, ◌&&◌, ◌||◌, not, ◌==◌, if◌then◌else◌, nat_le, Option, Some, None, is_none, option_map, unwrap_or, Result, Ok, Err, List, [], ◌∷◌, ◌++◌, length, slice_index, codes}
 use Rattle.std.specs.List.{list_any, filter_map}
 use Rattle.std.specs.Str.{bytes_eq}
@@ -35,7 +36,8 @@ verb_in_scripts word = verb_of word >>= λ verb. passing (row_of verb).in_script
 
 -- the first words that are known
 abbrev pub keyword_of : List ℕ → Option Keyword
-keyword_of word = if is_section_word word then Some keyword.Client else option_map keyword.Command (verb_in_scripts word)
+keyword_of word = if is_section_word word then Some keyword.Client
+    else option_map keyword.Command (verb_in_scripts word)
 
 -- whether its line may have so many words
 abbrev pub takes_count : Keyword → ℕ → Bool
@@ -69,7 +71,10 @@ commands_at_front (Gives command ∷ statements) = command ∷ commands_at_front
 -- the sections that the statements open, each with its commands in order
 abbrev pub sections_of : List Statement → List Section
 sections_of [] = []
-sections_of (Opens n ∷ statements) = record { number = n; commands = commands_at_front statements } ∷ sections_of statements
+sections_of (Opens n ∷ statements) = record {
+  number = n;
+  commands = commands_at_front statements;
+} ∷ sections_of statements
 sections_of (Gives command ∷ statements) = sections_of statements
 
 abbrev pub sections_in : List (List ℕ) → List Section
@@ -83,7 +88,8 @@ is_script_byte b = b == 9 || is_printable b
 
 -- a known first word, with another number of words than its form has
 abbrev pub has_other_count : List (List ℕ) → Bool
-has_other_count words = unwrap_or (option_map (λ k. not (takes_count k (length words))) (keyword_of (first_word words))) false
+has_other_count words = unwrap_or
+    (option_map (λ k. not (takes_count k (length words))) (keyword_of (first_word words))) false
 
 -- a section whose number another one has
 abbrev pub is_section_twice : List Section → Option Statement → Bool
@@ -108,7 +114,8 @@ first_kind (k ∷ kinds) = if k.1 then Some k.0 else first_kind kinds
 -- the faults of a statement that comes after these sections
 abbrev pub kinds_of_statement : List Section → Option Statement → List (FaultKind × Bool)
 kinds_of_statement so_far statement =
-    (fault.SectionTwice, is_section_twice so_far statement) ∷ (fault.TooManyCommands, is_one_too_many so_far statement) ∷ []
+    (fault.SectionTwice, is_section_twice so_far statement)
+    ∷ (fault.TooManyCommands, is_one_too_many so_far statement) ∷ []
 
 -- each kind of fault, in order, with whether a line with these words has it after these sections
 abbrev pub kinds_of_words : List Section → List ℕ → List (List ℕ) → List (FaultKind × Bool)
@@ -122,7 +129,8 @@ kinds_of_words so_far line words =
 
 -- what is wrong with a line after these sections
 abbrev pub kind_of_line : List Section → List ℕ → Option FaultKind
-kind_of_line so_far line = if is_skipped line then None else first_kind (kinds_of_words so_far line (words_of line))
+kind_of_line so_far line = if is_skipped line then None
+    else first_kind (kinds_of_words so_far line (words_of line))
 
 -- the number by which a fault is named
 abbrev pub kind_number : FaultKind → ℕ
@@ -146,7 +154,8 @@ pub record BadLine : Type 0 where
 abbrev pub first_bad : List (List ℕ) → List (List ℕ) → Option BadLine
 first_bad before [] = None
 first_bad before (line ∷ more) = unwrap_or
-    (option_map (λ kind. Some (record { line = length before + 1; kind = kind })) (kind_of_line (sections_in before) line))
+    (option_map (λ kind. Some (record { line = length before + 1; kind = kind }))
+    (kind_of_line (sections_in before) line))
     (first_bad (before ++ line ∷ []) more)
 
 -- the script that the text says, or its first bad line
@@ -155,7 +164,8 @@ script_of text = unwrap_or
     (option_map Err (first_bad [] (lines text)))
     (Ok (record { clients = sections_in (lines text); mover = None }))
 
--- A fault that a reader reports: that bad line, as far as a number of 32 bits goes. Memory may run out at any script.
+-- A fault that a reader reports: that bad line, as far as a number of 32 bits goes. Memory may run
+-- out at any script.
 abbrev pub Reports : ScriptFault → Result Script BadLine → Type 0
 Reports (Bad line kind) meaning =
     (bad : BadLine) × (meaning ≡ Err bad) × (line ≡ min bad.line (2 ^ 32 - 1)) × (kind ≡ bad.kind)

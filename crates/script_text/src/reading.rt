@@ -40,7 +40,8 @@ fn read_line(
     draft: &Option<Draft>,
     line: &[u8],
 ) -> Result<Option<Statement>, LineFault>
-    ensures { MatchResult result (Says (drafted draft.now) line.now) (Refuses (drafted draft.now) line.now) }
+    ensures { MatchResult result (Says (drafted draft.now) line.now)
+        (Refuses (drafted draft.now) line.now) }
 {
     if line.first() == Some(&b'#') {
         return Ok(None);

@@ -73,7 +73,8 @@ fn opens(words: &[&[u8]]) -> Result<Statement, WordFault>
 }
 
 fn gives(alloc: Global, verb: Verb, words: &[&[u8]]) -> Result<Statement, WordFault>
-    ensures { Gives result (statement_after (Keyword.Command verb) (map (λ word. word.now) words.now)) }
+    ensures { Gives result (statement_after (Keyword.Command verb)
+        (map (λ word. word.now) words.now)) }
 {
     let command = command(alloc, verb, words)?;
     Ok(Statement::Gives(command))

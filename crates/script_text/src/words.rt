@@ -62,7 +62,8 @@ fn quote_at(text: &[u8]) -> usize
 /// next quote where the first is a quote and there is a next one.
 fn begun_len(text: &[u8]) -> usize
     requires { 0 < length text.now }
-    ensures value { result ≡ (if is_quote (slice_index text.now 0) && list_any is_quote (drop 1 text.now)
+    ensures value { result ≡ (if is_quote (slice_index text.now 0)
+        && list_any is_quote (drop 1 text.now)
         then prefix_len (λ b. not (is_quote b)) (drop 1 text.now) + 2 else 1) }
     ensures within { result ≤ length text.now }
     ensures least { 0 < result }

@@ -78,7 +78,8 @@ pub(crate) fn read_file(
     offset: u64,
     count: u32,
 ) -> Result<Reply, OutOfMemory>
-    ensures { IfOk result (λ reply. reply ≡ option_map_or (read_of offset count) (node_at tree.now path.now) DoneReply) }
+    ensures { IfOk result (λ reply. reply ≡ option_map_or (read_of offset count)
+        (node_at tree.now path.now) DoneReply) }
 {
     match tree.node_at(path) {
         Some(Node::File { size, pages, .. }) => {
@@ -137,7 +138,8 @@ pub(crate) fn attributes(
     tree: &FilesetTree,
     path: &Path,
 ) -> Result<Reply, OutOfMemory>
-    ensures { IfOk result (λ reply. reply ≡ option_map_or (stat_of tree.now path.now) (node_at tree.now path.now) DoneReply) }
+    ensures { IfOk result (λ reply. reply ≡ option_map_or (stat_of tree.now path.now)
+        (node_at tree.now path.now) DoneReply) }
 {
     match tree.node_at(path) {
         Some(
