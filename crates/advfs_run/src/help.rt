@@ -11,21 +11,22 @@ Runs the commands of a script over new filesets on a volume in memory of PAGES
 pages of 8192 bytes, from 160 to 65536, and prints each command with its reply.
 
 A script has a section for each of its clients, and there a line for each
-command. Words stand apart by spaces. A line that begins with # is a comment.
+command, 2000 at most. Words stand apart by spaces. A line that begins with # is
+a comment.
 
   client N    begins the section of client N, from 1 to 8
 
 Words:
   FS          the name of a fileset: 1 to 31 of letters, digits, _, - and .
   P           FS:/ for the root, or FS:/NAME/NAME for what stands below it
-  NAMED PATH  FS:/NAME/NAME and /NAME/NAME, with at least one name
-  NAME        1 to 255 bytes; a space and others that do not print, and %, are
-              written % and two hexadecimal digits: a%20b
+  NAMED PATH  FS:/NAME/NAME and /NAME/NAME, with 1 to 32 names
+  NAME        1 to 255 bytes; a space, others that do not print, and % itself
+              are written % and two hexadecimal digits: a%20b
   numbers     UID, GID and ID below 2^32, COUNT up to 8192, others below 2^64
   WHO         user ID, group ID, or fileset 0
-  BYTES       in quotes, \"a word\", or two hexadecimal digits for each byte with
-              dots between them, and x with a count behind a repeated byte:
-              61.62.00x3
+  BYTES       1 to 8192 bytes: \"a word\" in quotes; or two hexadecimal digits for
+              each, with dots between them, and x and a count behind a byte that
+              stands several times: 61.62.00x3
 
 Commands:
   mkfset FS                        makes a fileset
