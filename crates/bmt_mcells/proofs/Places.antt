@@ -1,5 +1,5 @@
 -- A page of cells in which one was changed.
-use Rattle.std.proofs.Common.{◌≡◌, ◌∙◌, ℕ, ◌+◌, ◌-◌, ◌*◌, ◌<◌, ◌≤◌, Bool, true, false, cond, nat_eq, Option, Some, None, is_some, List, ◌++◌, length, take, drop, get_or, slice_index, refl, sym, ap, arith, append_assoc, length-append, length-drop, length-take}
+use Rattle.std.proofs.Common.{◌≡◌, ◌∙◌, ℕ, ◌+◌, ◌-◌, ◌*◌, ◌<◌, ◌≤◌, Bool, true, false, cond, nat_eq, Option, Some, None, List, ◌++◌, length, take, drop, get_or, slice_index, refl, sym, ap, arith, append_assoc, length-append, length-drop, length-take}
 use Rattle.std.proofs.lemmas.List.{take_at, drop_at, drop-drop, take-append-drop, take-append-le, drop-append-le}
 use Rattle.std.proofs.lemmas.Bool.{and_from, eqb-true, eq-eqb}
 use Rattle.std.proofs.lemmas.List.Sums.{count_by_more_yes, count_by_more_no}
@@ -7,7 +7,10 @@ use Rattle.std.proofs.lemmas.List.FromFn.{get_or-range_with_len}
 use Rattle.std.specs.List.{count_by, range_with_len}
 use Rattle.domain_base.specs.Page.{overwritten}
 use Rattle.domain_base.specs.declared.place.Home.{Home}
-use Rattle.page_store.specs.Pages.{Pages, without_page}
+use Rattle.std.specs.Option.{IsSomeAnd, unwrap_or}
+use Rattle.domain_base.specs.declared.place.CellAt.{CellAt}
+use Rattle.page_store.specs.Pages.{Pages, same_home, with_page}
+use Rattle.bmt_mcells.specs.CellPage.{ChangesCell, ChangesPage, home_of, recounted}
 
 -- ---- counting
 
@@ -18,17 +21,34 @@ not_eq n other = by_test (nat_eq n 0) refl
     by_test true is = absurd (other (eqb-true n 0 is))
     by_test false is = refl
 
--- ---- the room of a store, from which a page was taken off and put back
+-- ---- bytes of a page changed, and then the count of its free cells
 
-pub same_room : (was mid new : ℕ) (taken left : Option (List ℕ)) (page : List ℕ) → taken ≡ Some page → left ≡ None → mid ≡ cond (is_some taken) (was + 1) was → new ≡ cond (is_some left) mid (mid - 1)
-    → new ≡ was
-same_room was mid new taken left page some none is_mid is_new =
-    let middle : mid ≡ was + 1 = is_mid ∙ ap (λ (o : Option (List ℕ)). cond (is_some o) (was + 1) was) some in
-    let end : new ≡ mid - 1 = is_new ∙ ap (λ (o : Option (List ℕ)). cond (is_some o) mid (mid - 1)) none in
-    omega (arith, middle, end)
+same_home_refl : (home : Home) → same_home home home ≡ true
+same_home_refl home = and_from (nat_eq home.vol home.vol) (nat_eq home.page home.page) (eq-eqb home.vol home.vol refl) (eq-eqb home.page home.page refl)
 
-pub none_there : (home : Home) (pages : Pages) → without_page home pages home ≡ None
-none_there home pages = ap (λ (b : Bool). cond b None (pages home)) (and_from (nat_eq home.vol home.vol) (nat_eq home.page home.page) (eq-eqb home.vol home.vol refl) (eq-eqb home.page home.page refl))
+some_is : (x y : List ℕ) → Some x ≡ Some y → x ≡ y
+some_is x y e = ap (λ (o : Option (List ℕ)). unwrap_or o x) e
+
+pub changed_twice : (old mid new : Pages) (at : CellAt) (bytes : List ℕ)
+    → IsSomeAnd (old (home_of at)) (λ page. mid ≡ with_page (home_of at) (overwritten page (16 + 292 * at.cell) bytes) old)
+    → ChangesPage (home_of at) recounted mid new → ChangesCell at bytes old new
+changed_twice old mid new at bytes some changes = go (old (home_of at)) refl some
+  where
+    home : Home
+    home = home_of at
+
+    go : (o : Option (List ℕ)) → old (home_of at) ≡ o → IsSomeAnd o (λ page. mid ≡ with_page (home_of at) (overwritten page (16 + 292 * at.cell) bytes) old) → ChangesCell at bytes old new
+    go None was e = absurd e
+    go (Some page) was e =
+        let put = overwritten page (16 + 292 * at.cell) bytes in
+        let here : Some changes.page ≡ Some put = sym changes.was ∙ ap (λ (pages : Pages). pages home) e ∙ ap (λ b. cond b (Some put) (old home)) (same_home_refl home) in
+        let same : changes.page ≡ put = some_is changes.page put here in
+        record { page = page; was = was; is = λ h. changes.is h ∙ step page put h (same_home h home) refl e same }
+      where
+        step : (page put : List ℕ) (h : Home) (b : Bool) → same_home h home ≡ b → mid ≡ with_page home put old → changes.page ≡ put
+            → cond (same_home h home) (Some (recounted changes.page)) (mid h) ≡ cond (same_home h home) (Some (recounted put)) (old h)
+        step page put h true is e same = rw is (ap (λ p. Some (recounted p)) same)
+        step page put h false is e same = rw is (ap (λ (pages : Pages). pages h) e ∙ ap (λ b. cond b (Some put) (old h)) is)
 
 kind_at : List ℕ → ℕ → ℕ
 kind_at page cell = slice_index page (31 + 292 * cell)

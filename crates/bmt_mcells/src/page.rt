@@ -72,15 +72,6 @@ pub fn empty_page(alloc: Global, index: u32) -> Result<Page, OutOfMemory>
     Ok(page)
 }
 
-/// Writes a page's next page.
-fn put_next(page: &mut Page, next: u32)
-    ensures { page.new ≡ with_next next page.old }
-{
-    let mut bytes = [0; 4];
-    LittleEndian::write_u32(&mut bytes, next);
-    page.set(8, &bytes);
-}
-
 /// Changes a page's next page in place.
 fn change_next<M: MetaPages>(pages: &mut M, home: &Home, next: u32)
     requires { IsSome (M.pages pages.old home.now) }
@@ -88,10 +79,9 @@ fn change_next<M: MetaPages>(pages: &mut M, home: &Home, next: u32)
         (M.pages pages.new) }
     ensures room { M.room pages.new ≡ M.room pages.old }
 {
-    if let Some(mut page) = pages.take_off(*home) {
-        put_next(&mut page, next);
-        pages.put(*home, page);
-    }
+    let mut bytes = [0; 4];
+    LittleEndian::write_u32(&mut bytes, next);
+    pages.set(*home, 8, &bytes);
 }
 
 /// Makes `next` the next page of the page that stands there, or gives it none where that is 0. Every

@@ -1,10 +1,11 @@
 //! Cells, written to the pages that they stand on.
-ghost use Rattle.std.specs.Prelude.{◌≡◌, ◌+◌, ◌*◌, ◌<◌, ◌≤◌, ◌++◌, length, drop, IfSome, Some, false};
+ghost use Rattle.std.specs.Prelude.{◌≡◌, ◌+◌, ◌*◌, ◌<◌, ◌≤◌, ◌++◌, length, drop, IfSome, IsSome, Some, false};
+ghost use Rattle.byteorder.specs.Endian.{little_bytes};
 ghost use Rattle.domain_base.specs.Page.{zero_bytes};
 ghost use Rattle.record_table.specs.Records.{Allowed, spelling};
 ghost use Rattle.domain_base.specs.declared.place.Home.{Home};
 ghost use Rattle.page_store.specs.Pages.{same_home};
-ghost use Rattle.bmt_mcells.specs.CellPage.{ChangesCell, HasPlace, KeepsHeaders, KeepsWellFormed, cell_at, free_cells as free_there, home_of as home_there, recounted};
+ghost use Rattle.bmt_mcells.specs.CellPage.{ChangesCell, ChangesPage, HasPlace, KeepsHeaders, KeepsWellFormed, cell_at, free_cells as free_there, home_of as home_there, recounted};
 ghost use Rattle.bmt_mcells.specs.Chain.{LeavesOthers, StandsAt, is_at};
 ghost use Rattle.bmt_mcells.specs.Cell.{AreRecords, HasHead, IsAddress, IsCell, IsFileset, IsFreeOrUsed, kind_number as number_there, spellings};
 
@@ -133,13 +134,25 @@ fn free_cells(page: &[u8]) -> u16
     count
 }
 
-/// Makes the page's count of free cells what it is.
-fn recount(page: &mut Page)
-    ensures { page.new ≡ recounted page.old }
+/// The bytes of the count of a page's free cells.
+fn count_of(page: &Page) -> [u8; 2]
+    ensures { result ≡ little_bytes 2 (free_there page.now) }
 {
     let mut count = [0; 2];
     LittleEndian::write_u16(&mut count, free_cells(page.bytes()));
-    page.set(12, &count);
+    count
+}
+
+/// Makes the count of a page's free cells what it is, in place.
+fn recount<M: MetaPages>(pages: &mut M, home: &Home)
+    requires { IsSome (M.pages pages.old home.now) }
+    ensures changes { ChangesPage home.now recounted (M.pages pages.old) (M.pages pages.new) }
+    ensures room { M.room pages.new ≡ M.room pages.old }
+{
+    if let Some(page) = pages.get(*home) {
+        let count = count_of(page);
+        pages.set(*home, 12, &count);
+    }
 }
 
 /// The home of a cell's page.
@@ -159,11 +172,8 @@ fn change_cell<M: MetaPages>(pages: &mut M, at: &CellAt, bytes: &[u8])
     ensures changes { ChangesCell at.now bytes.now (M.pages pages.old) (M.pages pages.new) }
     ensures room { M.room pages.new ≡ M.room pages.old }
 {
-    if let Some(mut page) = pages.take_off(home_of(at)) {
-        page.set(16 + CELL_BYTES * usize::from(at.cell), bytes);
-        recount(&mut page);
-        pages.put(home_of(at), page);
-    }
+    pages.set(home_of(at), 16 + CELL_BYTES * usize::from(at.cell), bytes);
+    recount(pages, &home_of(at));
 }
 
 /// Puts these bytes into a cell. Every other cell stays, and the index and next page of each page.

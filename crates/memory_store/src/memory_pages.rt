@@ -1,10 +1,11 @@
 //! Pages of metadata in memory.
-ghost use Rattle.std.specs.Prelude.{◌≡◌, ◌+◌, ◌-◌, ◌^◌, ◌<◌, vec_capacity, vec_len};
+ghost use Rattle.std.specs.Prelude.{◌≡◌, ◌+◌, ◌-◌, ◌^◌, ◌<◌, ◌≤◌, IsSome, IsSomeAnd, length, vec_capacity, vec_len};
+ghost use Rattle.domain_base.specs.Page.{overwritten};
 ghost use Rattle.page_store.specs.Pages.{no_pages};
 ghost use Rattle.memory_store.specs.Homes.{AreWholeValues, are_whole, number_of, pages_of};
-ghost use Rattle.memory_store.specs.Rising.{IsRising};
+ghost use Rattle.memory_store.specs.Rising.{IsRising, Sets, value_at};
 
-use crate::sorted::{find, put, take};
+use crate::sorted::{find, place_of, put, take};
 use domain_base::limits::PAGE_BYTES;
 use domain_base::{Home, OutOfMemory, Page};
 use page_store::MetaPages;
@@ -26,6 +27,22 @@ fn key_of(home: &Home) -> u64
 {
     let page = home.page;
     (u64::from(home.vol.number()) << 32) + u64::from(page)
+}
+
+/// Writes these bytes into the page of that number, from byte `at` on.
+fn set_bytes(entries: &mut Vec<(u64, Page)>, key: u64, at: usize, bytes: &[u8])
+    requires rising { IsRising entries.old.items }
+    requires there { IsSome (value_at entries.old.items key) }
+    requires fits { at + length bytes.now ≤ PAGE_BYTES }
+    ensures value { IsSomeAnd (value_at entries.old.items key)
+        (λ page. Sets entries.old.items entries.new.items key (overwritten page at bytes.now)) }
+    ensures rising { IsRising entries.new.items }
+    ensures len { vec_len entries.new ≡ vec_len entries.old }
+    ensures capacity { vec_capacity entries.new ≡ vec_capacity entries.old }
+{
+    if let Ok(place) = place_of(entries, key) {
+        entries[place].1.set(at, bytes);
+    }
 }
 
 impl MemoryPages {
@@ -62,6 +79,10 @@ impl MetaPages for MemoryPages {
     fn put(&mut self, home: Home, page: Page) {
         prove!(page.bytes().len() == PAGE_BYTES);
         let _ = put(&mut self.entries, key_of(&home), page);
+    }
+
+    fn set(&mut self, home: Home, at: usize, bytes: &[u8]) {
+        set_bytes(&mut self.entries, key_of(&home), at, bytes);
     }
 
     fn take_off(&mut self, home: Home) -> Option<Page> {

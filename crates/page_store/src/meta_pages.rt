@@ -1,14 +1,16 @@
 //! Pages of metadata by their homes.
-ghost use Rattle.std.specs.Prelude.{◌≡◌, ◌⊎◌, ◌+◌, ◌-◌, ◌<◌, ◌≤◌, ℕ, List, Option, is_some, if◌then◌else◌, IsSome, OnOk};
+ghost use Rattle.std.specs.Prelude.{◌≡◌, ◌⊎◌, ◌+◌, ◌-◌, ◌<◌, ◌≤◌, ℕ, List, Option, is_some, if◌then◌else◌, IsSome, IsSomeAnd, OnOk, length};
 ghost use Rattle.std.specs.Option.{option_copied};
+ghost use Rattle.domain_base.specs.Limits.{page_bytes};
+ghost use Rattle.domain_base.specs.Page.{overwritten};
 ghost use Rattle.domain_base.specs.declared.place.Home.{Home};
 ghost use Rattle.page_store.specs.Pages.{Pages, AreWhole, with_page, without_page};
 
 use domain_base::{Home, OutOfMemory, Page};
 use std::alloc::Global;
 
-/// A finite map from home to page, with room for more pages. What changes in place is taken off,
-/// changed and put back: neither of these takes memory.
+/// A finite map from home to page, with room for more pages. A page is changed where it stands, or
+/// taken off, changed and put back: none of these takes memory.
 pub trait MetaPages {
     /// What stands at each home.
     ghost pages: { Self → Pages };
@@ -36,6 +38,14 @@ pub trait MetaPages {
         ensures value { pages self.new ≡ with_page home page (pages self.old) }
         ensures left { room self.new ≡
             (if is_some (pages self.old home) then room self.old else room self.old - 1) };
+
+    /// Writes these bytes into the page that stands at a home, from byte `at` on, and leaves all others.
+    fn set(&mut self, home: Home, at: usize, bytes: &[u8])
+        requires there { IsSome (pages self.old home) }
+        requires fits { at + length bytes.now ≤ page_bytes }
+        ensures value { IsSomeAnd (pages self.old home) (λ page. pages self.new
+            ≡ with_page home (overwritten page at bytes.now) (pages self.old)) }
+        ensures left { room self.new ≡ room self.old };
 
     /// Takes the page off that stands at a home, which leaves room for one more.
     fn take_off(&mut self, home: Home) -> Option<Page>

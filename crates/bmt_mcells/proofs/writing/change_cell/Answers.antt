@@ -1,12 +1,21 @@
-use Rattle.std.proofs.Common.{◌∙◌, sym, ap}
-use Rattle.page_store.specs.Pages.{Pages, without_page}
-use Rattle.bmt_mcells.proofs.Places.{same_room, none_there}
+use Rattle.std.proofs.Common.{◌≡◌, ◌+◌, ◌*◌, subst}
+use Rattle.std.specs.Option.{IsSomeAnd}
+use Rattle.domain_base.specs.Page.{overwritten}
+use Rattle.domain_base.specs.declared.place.Home.{Home}
+use Rattle.page_store.specs.Pages.{with_page}
+use Rattle.bmt_mcells.specs.CellPage.{ChangesPage, home_of, recounted}
+use Rattle.bmt_mcells.proofs.Places.{changed_twice}
 use Rattle.bmt_mcells.proofs.writing.change_cell.Goals as goal
 
-pub returns-in-Some-clause-room : goal.returns-in-Some-clause-room
-returns-in-Some-clause-room g c =
-    let store = g.M.MetaPages.pages c.args.pages.now in
-    let home = c.home_of.result in
-    same_room (g.M.MetaPages.room c.args.pages.now) (g.M.MetaPages.room c.take_off.new.self) (g.M.MetaPages.room c.put.new.self) (store home) (g.M.MetaPages.pages c.take_off.new.self c.home_of-in-Some.result) c.in-Some.page
-    (sym c.take_off.ensures.taken ∙ c.in-Some.is) (ap (λ (pages : Pages). pages c.home_of-in-Some.result) c.take_off.ensures.value ∙ ap (without_page home store) (c.home_of-in-Some.ensures ∙ sym c.home_of.ensures) ∙ none_there home store)
-    c.take_off.ensures.left c.put.ensures.left
+pub returns-clause-changes : goal.returns-clause-changes
+returns-clause-changes g c =
+    let old = g.M.MetaPages.pages c.args.pages.now in
+    let mid = g.M.MetaPages.pages c.set.new.self in
+    let new = g.M.MetaPages.pages c.recount.new.pages in
+    let at = c.args.at.now in
+    let bytes = c.args.bytes.now in
+    let set : IsSomeAnd (old (home_of at)) (λ page. mid ≡ with_page (home_of at) (overwritten page (16 + 292 * c.from.result) bytes) old) =
+    subst (λ (h : Home). IsSomeAnd (old h) (λ page. mid ≡ with_page h (overwritten page (16 + 292 * c.from.result) bytes) old)) c.home_of.ensures c.set.ensures.value in
+    let cell : IsSomeAnd (old (home_of at)) (λ page. mid ≡ with_page (home_of at) (overwritten page (16 + 292 * at.cell) bytes) old) =
+    subst (λ n. IsSomeAnd (old (home_of at)) (λ page. mid ≡ with_page (home_of at) (overwritten page (16 + 292 * n) bytes) old)) c.from.ensures set in
+    changed_twice old mid new at bytes cell (subst (λ (h : Home). ChangesPage h recounted mid new) c.home_of-2.ensures c.recount.ensures.changes)
