@@ -4,4 +4,6 @@
 #[cfg(test)]
 mod lines;
 #[cfg(test)]
+mod read_back;
+#[cfg(test)]
 mod scripts;

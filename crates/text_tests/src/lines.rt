@@ -11,7 +11,7 @@ use std::test::Fail;
 use word_forms::runs_are_maximal;
 
 /// Bytes that were read, as a history writes them.
-static READS: [(&str, &str); 6] = [
+pub(crate) static READS: [(&str, &str); 6] = [
     ("abc", "61.62.63"),
     ("\0A", "00.41"),
     ("", "-"),
@@ -21,7 +21,7 @@ static READS: [(&str, &str); 6] = [
 ];
 
 /// Refusals as a history writes them.
-static REFUSALS: [(Refusal, &str); 9] = [
+pub(crate) static REFUSALS: [(Refusal, &str); 9] = [
     (Refusal::NoFileset, "E1 no-fileset"),
     (Refusal::TooFar, "E14 too-far"),
     (Refusal::CloneOfClone, "E16 clone-of-clone"),
