@@ -8,7 +8,7 @@ use Rattle.extent_maps.specs.declared.run.RunPlace.{RunPlace}
 use Rattle.extent_maps.specs.declared.run.RunPlace.TheVariants as place
 use Rattle.extent_maps.specs.declared.run.PagePlace.{PagePlace}
 use Rattle.extent_maps.specs.declared.run.PagePlace.TheVariants.{At, Hole, Absent}
-use Rattle.extent_maps.specs.Runs.{AreRuns, BeginFrom, BeginUpTo, ChangesPlace, EndUpTo, FirstFollows, FitsVolume, Follows, IsRun, SamePlaces, behind, covers, end_of, first_goes_on, front_of, front_piece, goes_on, goes_on_last, joined, place_of, placed, rest_from, rest_piece, same_place, with_place}
+use Rattle.extent_maps.specs.Runs.{AreRuns, BeginBehind, BeginFrom, BeginUpTo, ChangesPlace, EndUpTo, FirstFollows, FitsVolume, Follows, IsRun, PutsRun, SamePlaces, behind, covers, end_of, first_goes_on, front_of, front_piece, goes_on, goes_on_last, joined, place_of, placed, rest_from, rest_piece, same_place, with_place}
 use Rattle.extent_maps.proofs.RunLemmas.{absent_before, all_map, behind_first, covers_not_before, covers_not_behind}
 
 -- the first place of two that is not absent
@@ -21,7 +21,7 @@ pub over_placed : (x : RunPlace) (b : PagePlace) → placed x ≡ over (placed x
 over_placed (place.At home) b = refl
 over_placed place.Holes b = refl
 
-never_absent : (x : RunPlace) → placed x ≡ Absent → ⊥
+pub never_absent : (x : RunPlace) → placed x ≡ Absent → ⊥
 never_absent (place.At home) e = absurd cc
 never_absent place.Holes e = absurd cc
 
@@ -228,7 +228,7 @@ goes_on_end (a ∷ b ∷ xs) x run = goes_on_end (b ∷ xs) x run
 pub goes_on_place : (runs : List Run) (k : ℕ) (d run : Run) → k < length runs → goes_on_last (take (suc k) runs) run ≡ goes_on (get_or runs k d) run
 goes_on_place runs k d run within = ap (λ l. goes_on_last l run) (take_next runs k d within) ∙ goes_on_end (take k runs) (get_or runs k d) run
 
-end_at : (runs : List Run) (at k : ℕ) (d : Run) (page : ℕ) → EndUpTo page (take at runs) → k < at → k < length runs → end_of (get_or runs k d) ≤ page
+pub end_at : (runs : List Run) (at k : ℕ) (d : Run) (page : ℕ) → EndUpTo page (take at runs) → k < at → k < length runs → end_of (get_or runs k d) ≤ page
 end_at runs zero k d page h lt within = absurd (omega arith)
 end_at [] (suc at) k d page h lt within = absurd (omega arith)
 end_at (r ∷ rs) (suc at) zero d page h lt within = h.0
@@ -317,29 +317,45 @@ over_absent Hole b e = e
 abbrev pub one : ℕ → RunPlace → Run
 one page first = record { page = page; count = 1; first = first }
 
-pub put_places : (runs : List Run) (at page : ℕ) (first : RunPlace) (run : Run) (rest : List Run) → place_of runs page ≡ Absent
-    → SamePlaces (one page first ∷ drop at runs) (run ∷ rest) → ChangesPlace page (placed first) runs (take at runs ++ run ∷ rest)
-put_places runs at page first run rest absent same p = go (eqb p page) refl
+pub absent_after : (xs : List Run) (page n : ℕ) → EndUpTo n xs → n ≤ page → place_of xs page ≡ Absent
+absent_after [] page n h le = refl
+absent_after (x ∷ xs) page n h le = rw (covers_not_behind x page (omega (arith, h.0, le))) (absent_after xs page n h.1 le)
+
+pub put_places : (runs : List Run) (at : ℕ) (put run : Run) (rest : List Run) → EndUpTo put.page (take at runs)
+    → SamePlaces (put ∷ drop at runs) (run ∷ rest) → PutsRun put runs (take at runs ++ run ∷ rest)
+put_places runs at put run rest ends same p = go (covers put p) refl
   where
     F : PagePlace
     F = place_of (take at runs) p
 
-    whole : (q : ℕ) → place_of runs q ≡ over (place_of (take at runs) q) (place_of (drop at runs) q)
-    whole q = ap (λ l. place_of l q) (sym (take-append-drop at runs)) ∙ place_append (take at runs) (drop at runs) q
+    whole : place_of runs p ≡ over F (place_of (drop at runs) p)
+    whole = ap (λ l. place_of l p) (sym (take-append-drop at runs)) ∙ place_append (take at runs) (drop at runs) p
 
-    new : place_of (take at runs ++ run ∷ rest) p ≡ over F (place_of (one page first ∷ drop at runs) p)
+    new : place_of (take at runs ++ run ∷ rest) p ≡ over F (place_of (put ∷ drop at runs) p)
     new = place_append (take at runs) (run ∷ rest) p ∙ ap (over F) (same p)
 
-    go : (b : Bool) → eqb p page ≡ b → place_of (take at runs ++ run ∷ rest) p ≡ with_place page (placed first) (place_of runs) p
+    go : (b : Bool) → covers put p ≡ b → place_of (take at runs ++ run ∷ rest) p ≡ cond (covers put p) (placed (behind (p - put.page) put.first)) (place_of runs p)
+    go true e =
+        let front : F ≡ Absent = absent_after (take at runs) p put.page ends (covers_is put p e).0 in
+        new ∙ rw (front, e) refl
+    go false e = new ∙ rw e (sym whole)
+
+-- a run of one page has that page alone
+pub one_page : (runs new : List Run) (page : ℕ) (first : RunPlace) → PutsRun (one page first) runs new → ChangesPlace page (placed first) runs new
+one_page runs new page first puts p = go (eqb p page) refl
+  where
+    go : (b : Bool) → eqb p page ≡ b → place_of new p ≡ with_place page (placed first) (place_of runs) p
     go true e =
         let here : p ≡ page = eqb-true p page e in
-        let front : F ≡ Absent = ap (place_of (take at runs)) here ∙ over_absent (place_of (take at runs) page) (place_of (drop at runs) page) (sym (whole page) ∙ absent) in
         let has : covers (one page first) p ≡ true = covers_from (one page first) p (omega (arith, here)) (omega (arith, here)) in
         let offset : p - page ≡ 0 = omega (arith, here) in
-        new ∙ rw (front, has, e, offset) (ap placed (behind_none first))
+        puts p ∙ rw (has, e, offset) (ap placed (behind_none first))
     go false e =
         let lacks : covers (one page first) p ≡ false = grind (arith, e) in
-        new ∙ rw (lacks, e) (sym (whole p))
+        puts p ∙ rw (lacks, e) refl
+
+pub behind_one : (runs : List Run) (page : ℕ) → BeginBehind page runs → BeginFrom (page + 1) runs
+behind_one runs page h = all_map {P = λ (x : Run). page < x.page} {Q = λ (x : Run). page + 1 ≤ x.page} (λ x lt. omega (arith, lt)) runs h
 
 -- ** A page cut out of a run
 
@@ -430,10 +446,6 @@ ends_first x (x2 ∷ xs) run ys h = let rest = ends_first x2 xs run ys h.2 in om
 pub ends_before : (xs : List Run) (run : Run) (ys : List Run) → AreRuns (xs ++ run ∷ ys) → EndUpTo run.page xs
 ends_before [] run ys h = tt
 ends_before (x ∷ xs) run ys h = (ends_first x xs run ys h, ends_before xs run ys (back_of (x ∷ []) (xs ++ run ∷ ys) h))
-
-pub absent_after : (xs : List Run) (page n : ℕ) → EndUpTo n xs → n ≤ page → place_of xs page ≡ Absent
-absent_after [] page n h le = refl
-absent_after (x ∷ xs) page n h le = rw (covers_not_behind x page (omega (arith, h.0, le))) (absent_after xs page n h.1 le)
 
 abbrev pub piece : Run → ℕ → PagePlace
 piece run p = cond (covers run p) (placed (behind (p - run.page) run.first)) Absent

@@ -1,3 +1,4 @@
 mod RunLemmas
 mod EditLemmas
 mod PartLemmas
+mod PutLemmas

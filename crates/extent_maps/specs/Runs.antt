@@ -137,6 +137,15 @@ SamePlaces old new = (page : ℕ) → place_of new page ≡ place_of old page
 abbrev pub ChangesPlace : ℕ → PagePlace → List Run → List Run → Type 0
 ChangesPlace page place old new = (p : ℕ) → place_of new p ≡ with_place page place (place_of old) p
 
+-- none of the run's pages is there or kept
+abbrev pub IsFree : Run → List Run → Type 0
+IsFree run runs = (page : ℕ) → covers run page ≡ true → place_of runs page ≡ Absent
+
+-- the runs have exactly the pages of one at its places, and all others where they were
+abbrev pub PutsRun : Run → List Run → List Run → Type 0
+PutsRun run old new = (page : ℕ) → place_of new page
+    ≡ (if covers run page then placed (behind (page - run.page) run.first) else place_of old page)
+
 -- the home of a page that has one
 abbrev pub home_at : PagePlace → Option Home
 home_at (At home) = Some home

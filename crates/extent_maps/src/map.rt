@@ -1,8 +1,8 @@
 //! The map from a file's pages to their places.
-ghost use Rattle.std.specs.Prelude.{◌≡◌, ◌+◌, ◌<◌, ◌≤◌, ◌++◌, ◌∷◌, [], IfOk, IfSome, IfNone, IsOk, IsSome, OnErr, OnOk, if◌then◌else◌, take, drop, length, nat_lt, slice_index_or, true, vec_capacity, vec_len};
+ghost use Rattle.std.specs.Prelude.{◌≡◌, ◌+◌, ◌<◌, ◌≤◌, ◌++◌, ◌∷◌, [], IfOk, IfSome, IfNone, IsOk, IsSome, OnErr, OnOk, IsTrue, ◌↔◌, false, if◌then◌else◌, take, drop, length, nat_lt, slice_index_or, true, vec_capacity, vec_len};
 ghost use Rattle.extent_maps.specs.declared.run.PagePlace.TheVariants.{Absent, At, Hole};
 ghost use Rattle.extent_maps.specs.declared.run.Run.{Run as RunOf};
-ghost use Rattle.extent_maps.specs.Runs.{AreRuns, BeginBefore, BeginBehind, BeginFrom, BeginUpTo, ChangesPlace, EndUpTo, Has, IsPartedAt, IsRun, SamePlaces, covers, end_of, first_goes_on as goes_on_there, front_piece, goes_on_last, home_at, place_of, placed, rest_from};
+ghost use Rattle.extent_maps.specs.Runs.{AreRuns, BeginBefore, BeginBehind, BeginFrom, BeginUpTo, ChangesPlace, EndUpTo, Has, IsFree, IsPartedAt, IsRun, PutsRun, SamePlaces, covers, end_of, first_goes_on as goes_on_there, front_piece, goes_on_last, home_at, place_of, placed, rest_from};
 
 use crate::run::{PagePlace, Run, RunPlace};
 use domain_base::limits::FILE_PAGES;
@@ -177,6 +177,21 @@ fn join_before(runs: &mut Vec<Run>, at: usize, run: &Run) -> Result<(), OutOfMem
     insert_run(runs, at, run)
 }
 
+/// Puts a run in front of those from the place on.
+fn place_run(runs: &mut Vec<Run>, at: usize, run: Run) -> Result<(), OutOfMemory>
+    requires within { at ≤ vec_len runs.old }
+    requires runs { AreRuns runs.old.items }
+    requires run { IsRun run }
+    requires before { EndUpTo run.page (take at runs.old.items) }
+    requires behind { BeginFrom (end_of run) (drop at runs.old.items) }
+    ensures runs { OnOk result (AreRuns runs.new.items) }
+    ensures places { OnOk result (PutsRun run runs.old.items runs.new.items) }
+    ensures room { vec_len runs.old < vec_capacity runs.old → IsOk result }
+{
+    let run = join_next(runs, at, run);
+    join_before(runs, at, &run)
+}
+
 /// Puts a page at a home, or keeps it as a hole.
 fn put_page(runs: &mut Vec<Run>, page: u32, first: RunPlace) -> Result<(), OutOfMemory>
     requires runs { AreRuns runs.old.items }
@@ -187,8 +202,39 @@ fn put_page(runs: &mut Vec<Run>, page: u32, first: RunPlace) -> Result<(), OutOf
     ensures room { vec_len runs.old < vec_capacity runs.old → IsOk result }
 {
     let at = count_up_to(runs, page);
-    let run = join_next(runs, at, Run::one(page, first));
-    join_before(runs, at, &run)
+    place_run(runs, at, Run::one(page, first))
+}
+
+/// Whether the run in front of the place ends at the page or before it.
+fn ends_before(runs: &[Run], at: usize, page: u32) -> bool
+    requires runs { AreRuns runs.now }
+    requires within { at ≤ length runs.now }
+    ensures { IsTrue result ↔ EndUpTo page (take at runs.now) }
+{
+    match at.checked_sub(1) {
+        Some(before) => runs[before].end() <= page,
+        None => true,
+    }
+}
+
+/// Puts the pages of a run at its places. It answers false exactly where one of them is there or
+/// kept already, and then nothing has changed.
+fn put_run(runs: &mut Vec<Run>, run: &Run) -> Result<bool, OutOfMemory>
+    requires runs { AreRuns runs.old.items }
+    requires run { IsRun run.now }
+    ensures runs { OnOk result (AreRuns runs.new.items) }
+    ensures free { IfOk result (λ put. IsTrue put ↔ IsFree run.now runs.old.items) }
+    ensures places { IfOk result (λ put. IsTrue put → PutsRun run.now runs.old.items runs.new.items) }
+    ensures taken { IfOk result (λ put. put ≡ false → runs.new.items ≡ runs.old.items) }
+    ensures room { vec_len runs.old < vec_capacity runs.old → IsOk result }
+{
+    let at = count_before(runs, run.end());
+    if ends_before(runs, at, run.page) {
+        let Run { page, count, first } = *run;
+        place_run(runs, at, Run { page, count, first })?;
+        return Ok(true);
+    }
+    Ok(false)
 }
 
 /// Puts the pages of a run from the one on that stands so many behind its first behind that run.
@@ -337,6 +383,19 @@ impl ExtentMap {
     {
         self.runs.reserve(1)?;
         put_page(&mut self.runs, page, RunPlace::Holes)
+    }
+
+    /// Puts the pages of a run at its places. It answers false exactly where one of them is there or
+    /// kept already, and then nothing has changed. After an error nothing has changed.
+    pub fn put_run(&mut self, run: &Run) -> Result<bool, OutOfMemory>
+        requires { IsRun run.now }
+        ensures free { IfOk result (λ put. IsTrue put ↔ IsFree run.now self.old) }
+        ensures places { IfOk result (λ put. IsTrue put → PutsRun run.now self.old self.new) }
+        ensures taken { IfOk result (λ put. put ≡ false → self.new ≡ self.old) }
+        ensures err { OnErr result (self.new ≡ self.old) }
+    {
+        self.runs.reserve(1)?;
+        put_run(&mut self.runs, run)
     }
 
     /// Takes a page off, and tells the home that it had, if any. A page in the middle of a run leaves
