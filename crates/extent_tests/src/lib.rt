@@ -1,0 +1,7 @@
+//! Tests of where the pages of a file stand.
+#![tactic(auto)]
+
+#[cfg(test)]
+mod random;
+#[cfg(test)]
+mod runs;
