@@ -1,4 +1,4 @@
 mod RunLemmas
-mod EditLemmas
+pub mod EditLemmas
 mod PartLemmas
 mod PutLemmas
