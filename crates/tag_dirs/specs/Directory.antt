@@ -1,0 +1,91 @@
+-- Tag directories: the pages of one, and what their entries say.
+use Rattle.std.specs.Prelude.{◌≡◌, ◌==◌, ◌+◌, ◌/◌, ◌%◌, ℕ, Bool, false, List, [], ◌∷◌, Option, Some, None, IfSome, IsSomeAnd, slice_get, if◌then◌else◌}
+use Rattle.std.specs.List.{list_any}
+use Rattle.std.specs.Option.{option_and_then, option_map}
+use Rattle.domain_base.specs.declared.place.CellAt.{CellAt}
+use Rattle.domain_base.specs.declared.place.Home.{Home}
+use Rattle.domain_base.specs.declared.place.Tag.{Tag}
+use Rattle.page_store.specs.Pages.{Pages, same_home}
+use Rattle.page_store.specs.Bitfiles.{same_tag}
+use Rattle.tag_dirs.specs.declared.dir.TagPlace.{TagPlace}
+use Rattle.tag_dirs.specs.declared.page.TagEntry.{TagEntry}
+use Rattle.tag_dirs.specs.TagPage.{ChangesEntry, IsAllowed, IsTagPage, entry_of, index_of, next_of, slot_of}
+
+-- the home of the page that comes behind the one at a place
+abbrev pub home_behind : List TagPlace → ℕ → Option Home
+home_behind places k = option_map (λ (p : TagPlace). p.home) (slice_get places (k + 1))
+
+-- a well-formed page with the place's index and this next page
+pub record IsPageOf (place : TagPlace) (next : Option Home) (page : List ℕ) : Type 0 where
+  pub good : IsTagPage page
+  pub indexed : index_of page ≡ place.index
+  pub linked : next_of page ≡ next
+
+-- the places of a directory, in its chain's order: the pages are there, each leads to the next one
+-- and the last to none, no index stands twice, and so no home, and the first index is 0
+pub record IsDirectory (pages : Pages) (places : List TagPlace) : Type 0 where
+  pub run : (k : ℕ) → IfSome (slice_get places k)
+      (λ place. IsSomeAnd (pages place.home) (IsPageOf place (home_behind places k)))
+  pub apart : (j k : ℕ) (p q : TagPlace) → slice_get places j ≡ Some p
+      → slice_get places k ≡ Some q → p.index ≡ q.index → j ≡ k
+  pub first : IfSome (slice_get places 0) (λ place. place.index ≡ 0)
+
+-- the home of the page with an index
+abbrev pub home_with : List TagPlace → ℕ → Option Home
+home_with [] index = None
+home_with (p ∷ ps) index = if p.index == index then Some p.home else home_with ps index
+
+-- a page of the directory stands there
+abbrev pub has_home : List TagPlace → Home → Bool
+has_home places home = list_any (λ (p : TagPlace). same_home home p.home) places
+
+-- the entry of a slot, if a page has it
+abbrev pub entry_at : Pages → List TagPlace → ℕ → Option TagEntry
+entry_at pages places slot =
+    option_map (λ page. entry_of page (slot % 1022))
+    (option_and_then pages (home_with places (slot / 1022)))
+
+-- a slot's last sequence, if a page has it
+abbrev pub sequence_of : Pages → List TagPlace → ℕ → Option ℕ
+sequence_of pages places slot = option_map (λ (e : TagEntry). e.seq) (entry_at pages places slot)
+
+-- the cell that an entry leads to for a tag with this sequence
+abbrev pub cell_for : ℕ → TagEntry → Option CellAt
+cell_for seq entry = if entry.seq == seq then entry.at else None
+
+-- the cell that a tag leads to
+abbrev pub cell_of : Pages → List TagPlace → Tag → Option CellAt
+cell_of pages places tag = option_and_then (cell_for tag.seq) (entry_at pages places tag.slot)
+
+-- pages of which one has another entry
+pub record ChangesAt (home : Home) (place : ℕ) (entry : TagEntry) (old new : Pages) : Type 0 where
+  pub page : List ℕ
+  pub changed : List ℕ
+  pub was : old home ≡ Some page
+  pub is : new home ≡ Some changed
+  pub change : ChangesEntry place entry page changed
+  pub elsewhere : (h : Home) → same_home h home ≡ false → new h ≡ old h
+
+-- a well-formed page that may have this entry there
+pub record CanHave (place : ℕ) (entry : TagEntry) (page : List ℕ) : Type 0 where
+  pub good : IsTagPage page
+  pub allowed : IsAllowed (slot_of page place) entry
+
+-- a directory in which one slot has another entry, and all others are as they were
+pub record ChangesSlot (slot : ℕ) (entry : TagEntry) (places : List TagPlace) (old new : Pages)
+    : Type 0 where
+  pub directory : IsDirectory new places
+  pub entries : (s : ℕ) → entry_at new places s
+      ≡ (if s == slot then Some entry else entry_at old places s)
+  pub elsewhere : (h : Home) → has_home places h ≡ false → new h ≡ old h
+
+-- a directory in which the tag leads to this cell, or to none, its slot has its sequence, and all
+-- other tags and slots are as they were
+pub record SetsTag (tag : Tag) (cell : Option CellAt) (places : List TagPlace) (old new : Pages)
+    : Type 0 where
+  pub directory : IsDirectory new places
+  pub cells : (t : Tag) → cell_of new places t
+      ≡ (if same_tag t tag then cell else cell_of old places t)
+  pub sequences : (s : ℕ) → sequence_of new places s
+      ≡ (if s == tag.slot then Some tag.seq else sequence_of old places s)
+  pub elsewhere : (h : Home) → has_home places h ≡ false → new h ≡ old h

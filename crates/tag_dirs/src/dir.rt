@@ -1,0 +1,166 @@
+//! The tag directory of a fileset.
+ghost use Rattle.std.specs.Prelude.{◌≡◌, ◌<◌, ◌≤◌, ◌≢◌, ◌/◌, ◌%◌, ℕ, false, true, [], length, IfOk, IfSome, IfNone, IsSome, None, Some};
+ghost use Rattle.page_store.specs.Pages.{Pages};
+ghost use Rattle.tag_dirs.specs.declared.page.TagEntry.{TagEntry as Entry};
+ghost use Rattle.tag_dirs.specs.TagPage.{IsAllowed};
+ghost use Rattle.tag_dirs.specs.Directory.{ChangesSlot, IsDirectory, SetsTag, cell_of, entry_at as entry_there, home_with, sequence_of};
+
+use crate::entries::change_entry;
+use crate::page::{ENTRIES, TagEntry, read_entry};
+use domain_base::{CellAt, Home, Tag};
+use page_store::MetaPages;
+use std::alloc::Global;
+use std::collections::HashMap;
+use std::marker::Model;
+
+/// A page of a directory: its index, which says the slots of its entries, and where it stands.
+#[derive(Clone, Copy, Debug, PartialEq, Eq)]
+pub struct TagPlace {
+    pub index: u32,
+    pub home: Home,
+}
+
+/// The tag directory of a fileset: its pages, in their chain's order. The pages themselves stand
+/// among the pages of metadata that each call is given.
+#[derive(Debug, Drop)]
+pub struct TagDir {
+    places: Vec<TagPlace>,
+    homes: HashMap<u32, Home>,
+}
+
+impl Model for TagDir {
+    ghost use Rattle.std.specs.Prelude.{◌≡◌, ℕ, List, nat_eq};
+    ghost use Rattle.std.specs.HashMap.{get};
+    ghost use Rattle.tag_dirs.specs.declared.dir.TagPlace.{TagPlace};
+    ghost use Rattle.tag_dirs.specs.Directory.{home_with};
+
+    ghost Value = { List TagPlace };
+
+    ghost view = { λ d. d.places.items };
+
+    ghost invariant = { λ d. (index : ℕ) → get nat_eq d.homes index ≡ home_with d.places.items index };
+}
+
+impl TagDir {
+    /// A directory without a page.
+    pub fn new(alloc: Global) -> Self
+        ensures { result ≡ [] }
+    {
+        TagDir {
+            places: Vec::new(alloc),
+            homes: HashMap::new(alloc),
+        }
+    }
+
+    /// The cell that the tag leads to. None exactly where no page has its slot, or the entry there
+    /// is not used or has another sequence.
+    pub fn look<M: MetaPages>(&self, pages: &M, tag: Tag) -> Option<CellAt>
+        requires { IsDirectory (M.pages pages.now) self.now }
+        ensures { result ≡ cell_of (M.pages pages.now) self.now tag }
+    {
+        let entry = self.entry_at(pages, tag.slot)?;
+        if entry.seq == tag.seq { entry.at } else { None }
+    }
+
+    /// Makes a tag, as a clone's entry, lead to this cell. Its slot's entry is not used. False exactly
+    /// where no page of the directory has the slot, and then nothing has changed. It takes no memory.
+    pub fn enter_as<M: MetaPages>(&mut self, pages: &mut M, tag: Tag, at: CellAt) -> bool
+        requires directory { IsDirectory (M.pages pages.old) self.old }
+        requires slot { tag.slot ≢ 0 }
+        requires seq { 1 ≤ tag.seq }
+        requires cell { at.cell < 28 }
+        requires free { IfSome (entry_there (M.pages pages.old) self.old tag.slot)
+            (λ entry. entry.at ≡ None) }
+        ensures entered { result ≡ true → SetsTag tag (Some at) self.old (M.pages pages.old)
+            (M.pages pages.new) }
+        ensures missing { result ≡ false → (sequence_of (M.pages pages.old) self.old tag.slot ≡ None)
+            × (M.pages pages.new ≡ M.pages pages.old) }
+        ensures same { self.new ≡ self.old }
+        ensures room { M.room pages.new ≡ M.room pages.old }
+    {
+        let Some(home) = self.home_of(tag.slot) else {
+            return false;
+        };
+        self.change(
+            pages,
+            &home,
+            tag.slot,
+            &TagEntry {
+                seq: tag.seq,
+                at: Some(at),
+            },
+        );
+        true
+    }
+
+    /// Makes a tag that is in use lead to another cell. It takes no memory.
+    pub fn switch<M: MetaPages>(&mut self, pages: &mut M, tag: Tag, at: CellAt)
+        requires directory { IsDirectory (M.pages pages.old) self.old }
+        requires used { IsSome (cell_of (M.pages pages.old) self.old tag) }
+        requires cell { at.cell < 28 }
+        ensures value { SetsTag tag (Some at) self.old (M.pages pages.old) (M.pages pages.new) }
+        ensures same { self.new ≡ self.old }
+        ensures room { M.room pages.new ≡ M.room pages.old }
+    {
+        if let Some(home) = self.home_of(tag.slot) {
+            self.change(
+                pages,
+                &home,
+                tag.slot,
+                &TagEntry {
+                    seq: tag.seq,
+                    at: Some(at),
+                },
+            );
+        }
+    }
+
+    /// Takes a tag out of use. Its slot keeps its sequence. It takes no memory.
+    pub fn drop_tag<M: MetaPages>(&mut self, pages: &mut M, tag: Tag)
+        requires directory { IsDirectory (M.pages pages.old) self.old }
+        requires used { IsSome (cell_of (M.pages pages.old) self.old tag) }
+        ensures value { SetsTag tag None self.old (M.pages pages.old) (M.pages pages.new) }
+        ensures same { self.new ≡ self.old }
+        ensures room { M.room pages.new ≡ M.room pages.old }
+    {
+        if let Some(home) = self.home_of(tag.slot) {
+            self.change(
+                pages,
+                &home,
+                tag.slot,
+                &TagEntry {
+                    seq: tag.seq,
+                    at: None,
+                },
+            );
+        }
+    }
+
+    /// The home of the page that has the slot.
+    fn home_of(&self, slot: u32) -> Option<Home>
+        ensures { result ≡ home_with self.now (slot / 1022) }
+    {
+        let index = slot / ENTRIES as u32;
+        self.homes.get(&index).copied()
+    }
+
+    /// The entry of a slot, if a page has it.
+    fn entry_at<M: MetaPages>(&self, pages: &M, slot: u32) -> Option<TagEntry>
+        requires { IsDirectory (M.pages pages.now) self.now }
+        ensures { result ≡ entry_there (M.pages pages.now) self.now slot }
+    {
+        let page = pages.get(self.home_of(slot)?)?;
+        Some(read_entry(page, slot as usize % ENTRIES))
+    }
+
+    /// Changes the entry of a slot, in place.
+    fn change<M: MetaPages>(&self, pages: &mut M, home: &Home, slot: u32, entry: &TagEntry)
+        requires directory { IsDirectory (M.pages pages.old) self.now }
+        requires home { home_with self.now (slot / 1022) ≡ Some home.now }
+        requires allowed { IsAllowed slot entry.now }
+        ensures changes { ChangesSlot slot entry.now self.now (M.pages pages.old) (M.pages pages.new) }
+        ensures room { M.room pages.new ≡ M.room pages.old }
+    {
+        change_entry(pages, home, slot as usize % ENTRIES, entry);
+    }
+}

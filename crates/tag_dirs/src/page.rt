@@ -1,0 +1,114 @@
+//! Tag pages: what they begin with, and their entries.
+ghost use Rattle.std.specs.Prelude.{◌≡◌, ◌+◌, ◌*◌, ◌<◌, ◌≤◌, true, false, length, IfOk, IfSome, IfNone};
+ghost use Rattle.record_table.specs.Fields.{number_at};
+ghost use Rattle.bmt_mcells.specs.Cell.{IsAddress};
+ghost use Rattle.tag_dirs.specs.TagPage.{ChangesEntry, IsAllowed, IsNewPage, IsTagPage, entry_of, is_takeable, slot_of};
+
+use byteorder::{ByteOrder, LittleEndian};
+use domain_base::{CellAt, Home, OutOfMemory, Page, VolIx};
+use record_table::put;
+use std::alloc::Global;
+
+/// How many entries a page has.
+pub(crate) const ENTRIES: usize = 1_022;
+
+/// The first bytes of a tag page, `TAGP`, as a number.
+const MAGIC: u32 = 0x5047_4154;
+
+/// The widths of the numbers of an entry: the sequence, and the volume, cell and page of its cell.
+const ENTRY: [u8; 4] = [2, 1, 1, 4];
+
+/// An entry of a tag directory: the sequence with which it was last taken, from 1 on, or 0; and the
+/// cell that it leads to, if it is used.
+#[derive(Clone, Copy, Debug, PartialEq, Eq)]
+pub struct TagEntry {
+    pub seq: u16,
+    pub at: Option<CellAt>,
+}
+
+#[tactic(auto, unfolding(record_table::specs::Fields::number_at))]
+fn u8_at(bytes: &[u8], at: usize) -> u8
+    requires { at + 1 ≤ length bytes.now }
+    ensures { result ≡ number_at 1 at bytes.now }
+{
+    bytes[at]
+}
+
+#[tactic(auto, unfolding(record_table::specs::Fields::number_at))]
+fn u16_at(bytes: &[u8], at: usize) -> u16
+    requires { at + 2 ≤ length bytes.now }
+    ensures { result ≡ number_at 2 at bytes.now }
+{
+    LittleEndian::read_u16(&bytes[at..])
+}
+
+#[tactic(auto, unfolding(record_table::specs::Fields::number_at))]
+fn u32_at(bytes: &[u8], at: usize) -> u32
+    requires { at + 4 ≤ length bytes.now }
+    ensures { result ≡ number_at 4 at bytes.now }
+{
+    LittleEndian::read_u32(&bytes[at..])
+}
+
+/// An entry of a tag page.
+pub(crate) fn read_entry(page: &Page, entry: usize) -> TagEntry
+    requires good { IsTagPage page.now }
+    requires place { entry < 1022 }
+    ensures { result ≡ entry_of page.now entry }
+{
+    let bytes = page.bytes();
+    let seq = u16_at(bytes, 16 + 8 * entry);
+    match VolIx::new(u32::from(u8_at(bytes, 18 + 8 * entry))) {
+        Some(vol) => TagEntry {
+            seq,
+            at: Some(CellAt {
+                vol,
+                page: u32_at(bytes, 20 + 8 * entry),
+                cell: u8_at(bytes, 19 + 8 * entry),
+            }),
+        },
+        None => TagEntry { seq, at: None },
+    }
+}
+
+/// The volume, cell and page of an entry's cell, and zeros for none.
+fn address_of(at: &Option<CellAt>) -> (u8, u8, u32)
+    requires { IfSome at.now (λ cell. cell.cell < 28) }
+    ensures { IsAddress result.0 result.1 result.2 at.now }
+{
+    match at {
+        Some(at) => (at.vol.number() as u8, at.cell, at.page),
+        None => (0, 0, 0),
+    }
+}
+
+/// The eight bytes of an entry.
+fn spell(entry: &TagEntry, out: &mut [u8])
+    requires cell { IfSome entry.now.at (λ at. at.cell < 28) }
+    requires len { length out.old ≡ 8 }
+    ensures len { length out.new ≡ 8 }
+    ensures seq { number_at 2 0 out.new ≡ entry.now.seq }
+    ensures at { IsAddress (number_at 1 2 out.new) (number_at 1 3 out.new) (number_at 4 4 out.new)
+        entry.now.at }
+{
+    let (vol, cell, page) = address_of(&entry.at);
+    let numbers = [
+        u64::from(entry.seq),
+        u64::from(vol),
+        u64::from(cell),
+        u64::from(page),
+    ];
+    put(&ENTRY, &numbers, out);
+}
+
+/// Writes an entry of a page, and leaves all others.
+pub(crate) fn put_entry(page: &mut Page, place: usize, entry: &TagEntry)
+    requires good { IsTagPage page.old }
+    requires place { place < 1022 }
+    requires allowed { IsAllowed (slot_of page.old place) entry.now }
+    ensures { ChangesEntry place entry.now page.old page.new }
+{
+    let mut bytes = [0; 8];
+    spell(entry, &mut bytes);
+    page.set(16 + 8 * place, &bytes);
+}
