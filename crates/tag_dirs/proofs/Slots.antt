@@ -27,21 +27,21 @@ map_and : {X : Type 0} {P Q : X → Type 0} → ((x : X) → P x → Q x) → (o
 map_and f None is = is
 map_and f (Some x) is = f x is
 
-map_if : {X : Type 0} {P Q : X → Type 0} → ((x : X) → P x → Q x) → (o : Option X) → IfSome o P → IfSome o Q
+pub map_if : {X : Type 0} {P Q : X → Type 0} → ((x : X) → P x → Q x) → (o : Option X) → IfSome o P → IfSome o Q
 map_if f None is = tt
 map_if f (Some x) is = f x is
 
 -- ---- the place with an index
 
-record Found (places : List TagPlace) (index : ℕ) (home : Home) : Type 0 where
-  k : ℕ
-  p : TagPlace
-  there : slice_get places k ≡ Some p
-  indexed : p.index ≡ index
-  stands : p.home ≡ home
-  listed : has_home places home ≡ true
+pub record Found (places : List TagPlace) (index : ℕ) (home : Home) : Type 0 where
+  pub k : ℕ
+  pub p : TagPlace
+  pub there : slice_get places k ≡ Some p
+  pub indexed : p.index ≡ index
+  pub stands : p.home ≡ home
+  pub listed : has_home places home ≡ true
 
-found : (places : List TagPlace) (index : ℕ) (home : Home) → home_with places index ≡ Some home → Found places index home
+pub found : (places : List TagPlace) (index : ℕ) (home : Home) → home_with places index ≡ Some home → Found places index home
 found [] index home is = absurd (none_is_some home is)
 found (p ∷ ps) index home is = by_test (nat_eq p.index index) refl (λ later. found ps index home later)
   where

@@ -1,5 +1,5 @@
 -- Tag directories: the pages of one, and what their entries say.
-use Rattle.std.specs.Prelude.{◌≡◌, ◌==◌, ◌+◌, ◌/◌, ◌%◌, ℕ, Bool, false, List, [], ◌∷◌, Option, Some, None, IfSome, IsSomeAnd, slice_get, if◌then◌else◌}
+use Rattle.std.specs.Prelude.{◌≡◌, ◌==◌, ◌+◌, ◌/◌, ◌%◌, ℕ, Bool, true, false, List, [], ◌∷◌, Option, Some, None, IfSome, IsSomeAnd, slice_get, if◌then◌else◌}
 use Rattle.std.specs.List.{list_any}
 use Rattle.std.specs.Option.{option_and_then, option_map}
 use Rattle.domain_base.specs.declared.place.CellAt.{CellAt}
@@ -9,7 +9,7 @@ use Rattle.page_store.specs.Pages.{Pages, same_home}
 use Rattle.page_store.specs.Bitfiles.{same_tag}
 use Rattle.tag_dirs.specs.declared.dir.TagPlace.{TagPlace}
 use Rattle.tag_dirs.specs.declared.page.TagEntry.{TagEntry}
-use Rattle.tag_dirs.specs.TagPage.{ChangesEntry, IsAllowed, IsTagPage, entry_of, index_of, next_of, slot_of}
+use Rattle.tag_dirs.specs.TagPage.{ChangesEntry, IsAllowed, IsTagPage, entry_of, index_of, is_takeable, next_of, slot_of}
 
 -- the home of the page that comes behind the one at a place
 abbrev pub home_behind : List TagPlace → ℕ → Option Home
@@ -56,6 +56,27 @@ cell_for seq entry = if entry.seq == seq then entry.at else None
 -- the cell that a tag leads to
 abbrev pub cell_of : Pages → List TagPlace → Tag → Option CellAt
 cell_of pages places tag = option_and_then (cell_for tag.seq) (entry_at pages places tag.slot)
+
+-- the entry may be taken, and then has this sequence
+abbrev pub RisesTo : ℕ → TagEntry → Type 0
+RisesTo seq entry = (is_takeable entry ≡ true) × (entry.seq + 1 ≡ seq)
+
+-- a tag that may be taken: its slot is not 0, and its entry may be taken and then has its sequence
+abbrev pub CanTake : Pages → List TagPlace → Tag → Type 0
+CanTake pages places tag =
+    (¬ tag.slot ≡ 0) × IsSomeAnd (entry_at pages places tag.slot) (RisesTo tag.seq)
+
+-- a tag of the page at a place that may be taken
+abbrev pub TakesOn : Pages → TagPlace → Tag → Type 0
+TakesOn pages place tag =
+    (tag.slot / 1022 ≡ place.index) × (¬ tag.slot ≡ 0)
+    × IsSomeAnd (pages place.home) (λ page. RisesTo tag.seq (entry_of page (tag.slot % 1022)))
+
+-- the page at a place has none
+abbrev pub HasNone : Pages → TagPlace → Type 0
+HasNone pages place =
+    (slot : ℕ) → slot / 1022 ≡ place.index → ¬ slot ≡ 0
+    → IfSome (pages place.home) (λ page. is_takeable (entry_of page (slot % 1022)) ≡ false)
 
 -- pages of which one has another entry
 pub record ChangesAt (home : Home) (place : ℕ) (entry : TagEntry) (old new : Pages) : Type 0 where

@@ -50,10 +50,14 @@ pub record IsTagPage (page : List ℕ) : Type 0 where
   pub spelled : (e : ℕ) → e < 1022 → IsSpelled page e
   pub entries : (e : ℕ) → e < 1022 → IsAllowed (slot_of page e) (entry_of page e)
 
--- an entry that may be taken: it is free, its sequence can rise, and it is not that of slot 0
-abbrev pub is_takeable : List ℕ → ℕ → Bool
-is_takeable page e =
-    not (slot_of page e == 0) && (nat_lt (number_at 2 (16 + 8 * e) page) 65535 && not (is_some (cell_in page e)))
+-- an entry that may be taken: it is free, and its sequence can rise
+abbrev pub is_takeable : TagEntry → Bool
+is_takeable entry = nat_lt entry.seq 65535 && not (is_some entry.at)
+
+-- a well-formed page with this index
+pub record HasIndex (index : ℕ) (page : List ℕ) : Type 0 where
+  pub good : IsTagPage page
+  pub indexed : index_of page ≡ index
 
 -- a page of which one entry was changed: every other entry stays, and the index and next page
 pub record ChangesEntry (place : ℕ) (entry : TagEntry) (old new : List ℕ) : Type 0 where

@@ -1,12 +1,14 @@
 //! The tag directory of a fileset.
-ghost use Rattle.std.specs.Prelude.{◌≡◌, ◌<◌, ◌≤◌, ◌≢◌, ◌/◌, ◌%◌, ℕ, false, true, [], length, IfOk, IfSome, IfNone, IsSome, None, Some};
+ghost use Rattle.std.specs.Prelude.{◌≡◌, ◌<◌, ◌≤◌, ◌≢◌, ◌/◌, ◌%◌, ℕ, false, true, [], length, IfOk, IfSome, IfNone, IsSome, None, Some, IsSomeAnd};
 ghost use Rattle.page_store.specs.Pages.{Pages};
 ghost use Rattle.tag_dirs.specs.declared.page.TagEntry.{TagEntry as Entry};
 ghost use Rattle.tag_dirs.specs.TagPage.{IsAllowed};
-ghost use Rattle.tag_dirs.specs.Directory.{ChangesSlot, IsDirectory, SetsTag, cell_of, entry_at as entry_there, home_with, sequence_of};
+ghost use Rattle.domain_base.specs.declared.place.Tag.{Tag};
+ghost use Rattle.tag_dirs.specs.TagPage.{HasIndex};
+ghost use Rattle.tag_dirs.specs.Directory.{ChangesSlot, IsDirectory, SetsTag, cell_of, entry_at as entry_there, home_with, sequence_of, CanTake, HasNone, TakesOn};
 
 use crate::entries::change_entry;
-use crate::page::{ENTRIES, TagEntry, read_entry};
+use crate::page::{ENTRIES, TagEntry, find_takeable, read_entry};
 use domain_base::{CellAt, Home, Tag};
 use page_store::MetaPages;
 use std::alloc::Global;
@@ -41,6 +43,36 @@ impl Model for TagDir {
     ghost invariant = { λ d. (index : ℕ) → get nat_eq d.homes index ≡ home_with d.places.items index };
 }
 
+/// A tag of the page at a place that may be taken.
+fn find_on<M: MetaPages>(pages: &M, place: &TagPlace) -> Option<Tag>
+    requires { IsSomeAnd (M.pages pages.now place.now.home) (HasIndex place.now.index) }
+    ensures some { IfSome result (TakesOn (M.pages pages.now) place.now) }
+    ensures none { IfNone result (HasNone (M.pages pages.now) place.now) }
+{
+    let page = pages.get(place.home)?;
+    let first = usize::from(place.index == 0);
+    let entry = find_takeable(page, first)?;
+    Some(Tag {
+        slot: ENTRIES as u32 * place.index + entry as u32,
+        seq: read_entry(page, entry).seq + 1,
+    })
+}
+
+/// A tag of a directory that may be taken, on the first page that has one.
+fn find_in<M: MetaPages>(pages: &M, places: &[TagPlace]) -> Option<Tag>
+    requires { IsDirectory (M.pages pages.now) places.now }
+    ensures some { IfSome result (CanTake (M.pages pages.now) places.now) }
+    ensures none { IfNone result ((tag : Tag) → ¬ CanTake (M.pages pages.now) places.now tag) }
+{
+    for place in places {
+        let found = find_on(pages, place);
+        if found.is_some() {
+            return found;
+        }
+    }
+    None
+}
+
 impl TagDir {
     /// A directory without a page.
     pub fn new(alloc: Global) -> Self
@@ -60,6 +92,25 @@ impl TagDir {
     {
         let entry = self.entry_at(pages, tag.slot)?;
         if entry.seq == tag.seq { entry.at } else { None }
+    }
+
+    /// Takes a free entry, and makes its tag lead to this cell: the tag has the entry's slot, and a
+    /// sequence of one more than the slot's last. None exactly where no page has a free entry of a
+    /// slot other than 0 whose sequence can rise, and then nothing has changed. It takes no memory.
+    pub fn enter<M: MetaPages>(&mut self, pages: &mut M, at: CellAt) -> Option<Tag>
+        requires directory { IsDirectory (M.pages pages.old) self.old }
+        requires cell { at.cell < 28 }
+        ensures none { IfNone result ((tag : Tag) → ¬ CanTake (M.pages pages.old) self.old tag) }
+        ensures unchanged { IfNone result (M.pages pages.new ≡ M.pages pages.old) }
+        ensures free { IfSome result (CanTake (M.pages pages.old) self.old) }
+        ensures entered { IfSome result (λ tag. SetsTag tag (Some at) self.old (M.pages pages.old)
+            (M.pages pages.new)) }
+        ensures same { self.new ≡ self.old }
+        ensures room { M.room pages.new ≡ M.room pages.old }
+    {
+        let tag = find_in(pages, self.places.as_slice())?;
+        self.enter_as(pages, tag, at);
+        Some(tag)
     }
 
     /// Makes a tag, as a clone's entry, lead to this cell. Its slot's entry is not used. False exactly

@@ -1,5 +1,5 @@
 //! Tag pages: what they begin with, and their entries.
-ghost use Rattle.std.specs.Prelude.{◌≡◌, ◌+◌, ◌*◌, ◌<◌, ◌≤◌, true, false, length, IfOk, IfSome, IfNone};
+ghost use Rattle.std.specs.Prelude.{ℕ, ◌≡◌, ◌+◌, ◌*◌, ◌<◌, ◌≤◌, true, false, length, IfOk, IfSome, IfNone};
 ghost use Rattle.record_table.specs.Fields.{number_at};
 ghost use Rattle.bmt_mcells.specs.Cell.{IsAddress};
 ghost use Rattle.tag_dirs.specs.TagPage.{ChangesEntry, IsAllowed, IsNewPage, IsTagPage, entry_of, is_takeable, slot_of};
@@ -69,6 +69,29 @@ pub(crate) fn read_entry(page: &Page, entry: usize) -> TagEntry
         },
         None => TagEntry { seq, at: None },
     }
+}
+
+/// Whether an entry may be taken: it is free, and its sequence can rise.
+fn can_take(entry: &TagEntry) -> bool
+    ensures { result ≡ is_takeable entry.now }
+{
+    entry.seq < u16::MAX && entry.at.is_none()
+}
+
+/// The first entry of a page, from a place on, that may be taken.
+pub(crate) fn find_takeable(page: &Page, first: usize) -> Option<usize>
+    requires good { IsTagPage page.now }
+    ensures some { IfSome result (λ e. (first ≤ e) × (e < 1022)
+        × (is_takeable (entry_of page.now e) ≡ true)) }
+    ensures none { IfNone result ((e : ℕ) → first ≤ e → e < 1022
+        → is_takeable (entry_of page.now e) ≡ false) }
+{
+    for entry in first..ENTRIES {
+        if can_take(&read_entry(page, entry)) {
+            return Some(entry);
+        }
+    }
+    None
 }
 
 /// The volume, cell and page of an entry's cell, and zeros for none.
