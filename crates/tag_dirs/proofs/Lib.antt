@@ -1,3 +1,5 @@
+pub mod Added
+pub mod NewPage
 pub mod Slots
 pub mod Takeable
 pub mod WrittenEntry

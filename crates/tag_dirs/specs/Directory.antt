@@ -1,5 +1,5 @@
 -- Tag directories: the pages of one, and what their entries say.
-use Rattle.std.specs.Prelude.{◌≡◌, ◌==◌, ◌+◌, ◌/◌, ◌%◌, ℕ, Bool, true, false, List, [], ◌∷◌, Option, Some, None, IfSome, IsSomeAnd, slice_get, if◌then◌else◌}
+use Rattle.std.specs.Prelude.{◌≡◌, ◌==◌, ◌+◌, ◌/◌, ◌%◌, ℕ, Bool, true, false, List, [], ◌∷◌, ◌++◌, ◌⊎◌, length, Option, Some, None, IfSome, IsSomeAnd, slice_get, if◌then◌else◌}
 use Rattle.std.specs.List.{list_any}
 use Rattle.std.specs.Option.{option_and_then, option_map}
 use Rattle.domain_base.specs.declared.place.CellAt.{CellAt}
@@ -9,7 +9,7 @@ use Rattle.page_store.specs.Pages.{Pages, same_home}
 use Rattle.page_store.specs.Bitfiles.{same_tag}
 use Rattle.tag_dirs.specs.declared.dir.TagPlace.{TagPlace}
 use Rattle.tag_dirs.specs.declared.page.TagEntry.{TagEntry}
-use Rattle.tag_dirs.specs.TagPage.{ChangesEntry, IsAllowed, IsTagPage, entry_of, index_of, is_takeable, next_of, slot_of}
+use Rattle.tag_dirs.specs.TagPage.{ChangesEntry, IsAllowed, IsTagPage, LinksPage, entry_of, index_of, is_takeable, next_of, slot_of}
 
 -- the home of the page that comes behind the one at a place
 abbrev pub home_behind : List TagPlace → ℕ → Option Home
@@ -110,3 +110,50 @@ pub record SetsTag (tag : Tag) (cell : Option CellAt) (places : List TagPlace) (
   pub sequences : (s : ℕ) → sequence_of new places s
       ≡ (if s == tag.slot then Some tag.seq else sequence_of old places s)
   pub elsewhere : (h : Home) → has_home places h ≡ false → new h ≡ old h
+
+-- pages of which one leads to another next page
+pub record LinksAt (last home : Home) (old new : Pages) : Type 0 where
+  pub page : List ℕ
+  pub changed : List ℕ
+  pub was : old last ≡ Some page
+  pub is : new last ≡ Some changed
+  pub change : LinksPage home page changed
+  pub elsewhere : (h : Home) → same_home h last ≡ false → new h ≡ old h
+
+-- the last of the places leads to the home
+pub record LinksFrom (places : List TagPlace) (home : Home) (old new : Pages) : Type 0 where
+  pub k : ℕ
+  pub p : TagPlace
+  pub there : slice_get places k ≡ Some p
+  pub last : k + 1 ≡ length places
+  pub links : LinksAt p.home home old new
+
+-- the last of the places, if there is one, leads to the home
+abbrev pub LinksLast : List TagPlace → Home → Pages → Pages → Type 0
+LinksLast places home old new = ((places ≡ []) × (new ≡ old)) ⊎ LinksFrom places home old new
+
+-- a directory with one page more, whose entries were never used; all other slots are as they were
+pub record AddsPage (place : TagPlace) (places : List TagPlace) (old new : Pages) : Type 0 where
+  pub directory : IsDirectory new (places ++ place ∷ [])
+  pub entries : (s : ℕ) → entry_at new (places ++ place ∷ []) s
+      ≡ (if s / 1022 == place.index then Some (record { seq = 0; at = None }) else entry_at old places s)
+  pub elsewhere : (h : Home) → has_home places h ≡ false → same_home h place.home ≡ false
+      → new h ≡ old h
+
+-- a place with this home is the last one
+pub record LastPlace (places : List TagPlace) (home : Home) : Type 0 where
+  pub k : ℕ
+  pub p : TagPlace
+  pub there : slice_get places k ≡ Some p
+  pub last : k + 1 ≡ length places
+  pub stands : p.home ≡ home
+
+-- the home of the last place, or none where there is no place
+abbrev pub IsLast : List TagPlace → Option Home → Type 0
+IsLast places None = places ≡ []
+IsLast places (Some home) = LastPlace places home
+
+-- the page at a home, if there is one, leads to the next one
+abbrev pub Leads : Option Home → Home → Pages → Pages → Type 0
+Leads None next old new = new ≡ old
+Leads (Some home) next old new = LinksAt home next old new

@@ -67,6 +67,13 @@ pub record ChangesEntry (place : ℕ) (entry : TagEntry) (old new : List ℕ) : 
   pub next : next_of new ≡ next_of old
   pub good : IsTagPage new
 
+-- a page that leads to another next page, and is else as it was
+pub record LinksPage (home : Home) (old new : List ℕ) : Type 0 where
+  pub next : next_of new ≡ Some home
+  pub index : index_of new ≡ index_of old
+  pub entries : (e : ℕ) → entry_of new e ≡ entry_of old e
+  pub good : IsTagPage new
+
 -- a well-formed page with this index, no next page, and no entry that was ever used
 pub record IsNewPage (index : ℕ) (page : List ℕ) : Type 0 where
   pub good : IsTagPage page

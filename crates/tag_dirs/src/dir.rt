@@ -1,15 +1,15 @@
 //! The tag directory of a fileset.
-ghost use Rattle.std.specs.Prelude.{◌≡◌, ◌<◌, ◌≤◌, ◌≢◌, ◌/◌, ◌%◌, ℕ, false, true, [], length, IfOk, IfSome, IfNone, IsSome, None, Some, IsSomeAnd};
+ghost use Rattle.std.specs.Prelude.{◌+◌, ◌∷◌, ◌++◌, OnOk, OnErr, ◌≡◌, ◌<◌, ◌≤◌, ◌≢◌, ◌/◌, ◌%◌, ℕ, false, true, [], length, IfOk, IfSome, IfNone, IsSome, None, Some, IsSomeAnd};
 ghost use Rattle.page_store.specs.Pages.{Pages};
 ghost use Rattle.tag_dirs.specs.declared.page.TagEntry.{TagEntry as Entry};
 ghost use Rattle.tag_dirs.specs.TagPage.{IsAllowed};
 ghost use Rattle.domain_base.specs.declared.place.Tag.{Tag};
 ghost use Rattle.tag_dirs.specs.TagPage.{HasIndex};
-ghost use Rattle.tag_dirs.specs.Directory.{ChangesSlot, IsDirectory, SetsTag, cell_of, entry_at as entry_there, home_with, sequence_of, CanTake, HasNone, TakesOn};
+ghost use Rattle.tag_dirs.specs.Directory.{AddsPage, IsLast, has_home, ChangesSlot, IsDirectory, SetsTag, cell_of, entry_at as entry_there, home_with, sequence_of, CanTake, HasNone, TakesOn};
 
-use crate::entries::change_entry;
-use crate::page::{ENTRIES, TagEntry, find_takeable, read_entry};
-use domain_base::{CellAt, Home, Tag};
+use crate::entries::{change_entry, lead_on};
+use crate::page::{ENTRIES, TagEntry, find_takeable, new_page, read_entry};
+use domain_base::{CellAt, Home, OutOfMemory, Tag};
 use page_store::MetaPages;
 use std::alloc::Global;
 use std::collections::HashMap;
@@ -73,6 +73,16 @@ fn find_in<M: MetaPages>(pages: &M, places: &[TagPlace]) -> Option<Tag>
     None
 }
 
+/// The home of the last page, if there is one.
+fn last_home(places: &[TagPlace]) -> Option<Home>
+    ensures { IsLast places.now result }
+{
+    if places.is_empty() {
+        return None;
+    }
+    Some(places[places.len() - 1].home)
+}
+
 impl TagDir {
     /// A directory without a page.
     pub fn new(alloc: Global) -> Self
@@ -82,6 +92,54 @@ impl TagDir {
             places: Vec::new(alloc),
             homes: HashMap::new(alloc),
         }
+    }
+
+    /// Adds a page whose entries were never used, with this index, behind the last page, which leads
+    /// to it. The first page has index 0. All other entries stay. It takes the room for the page
+    /// before anything changes: at an Err there may be more room, and all else is as it was.
+    pub fn add_page<M: MetaPages>(
+        &mut self,
+        alloc: Global,
+        pages: &mut M,
+        index: u32,
+        home: Home,
+    ) -> Result<(), OutOfMemory>
+        requires directory { IsDirectory (M.pages pages.old) self.old }
+        requires index { index < 4202512 }
+        requires first { self.old ≡ [] → index ≡ 0 }
+        requires unused { home_with self.old index ≡ None }
+        requires apart { has_home self.old home ≡ false }
+        ensures ok { OnOk result (self.new ≡ self.old ++ record {
+          index = index;
+          home = home;
+        } ∷ []) }
+        ensures added { OnOk result (AddsPage (record {
+          index = index;
+          home = home;
+        }) self.old (M.pages pages.old) (M.pages pages.new)) }
+        ensures err { OnErr result ((self.new ≡ self.old)
+            × (M.pages pages.new ≡ M.pages pages.old)) }
+        ensures room { M.room pages.old ≤ M.room pages.new + 1 }
+    {
+        let page = new_page(alloc, index)?;
+        pages.reserve(alloc, 1)?;
+        let last = last_home(self.places.as_slice());
+        self.push(TagPlace { index, home })?;
+        lead_on(pages, &last, &home);
+        pages.put(home, page);
+        Ok(())
+    }
+
+    /// Puts a place behind the others. At an Err nothing has changed.
+    fn push(&mut self, place: TagPlace) -> Result<(), OutOfMemory>
+        requires { home_with self.old place.index ≡ None }
+        ensures ok { OnOk result (self.new ≡ self.old ++ place ∷ []) }
+        ensures err { OnErr result (self.new ≡ self.old) }
+    {
+        self.places.reserve(1)?;
+        self.homes.insert(place.index, place.home)?;
+        self.places.push_reserved(place);
+        Ok(())
     }
 
     /// The cell that the tag leads to. None exactly where no page has its slot, or the entry there

@@ -1,8 +1,9 @@
 //! One entry of a page among the pages of metadata.
-ghost use Rattle.std.specs.Prelude.{◌≡◌, ◌<◌, IsSomeAnd};
-ghost use Rattle.tag_dirs.specs.Directory.{CanHave, ChangesAt};
+ghost use Rattle.std.specs.Prelude.{◌≡◌, ◌<◌, IfSome, IsSomeAnd};
+ghost use Rattle.tag_dirs.specs.TagPage.{IsTagPage};
+ghost use Rattle.tag_dirs.specs.Directory.{CanHave, ChangesAt, Leads, LinksAt};
 
-use crate::page::{TagEntry, put_entry};
+use crate::page::{TagEntry, put_entry, put_next};
 use domain_base::Home;
 use page_store::MetaPages;
 
@@ -16,5 +17,28 @@ pub(crate) fn change_entry<M: MetaPages>(pages: &mut M, home: &Home, place: usiz
     if let Some(mut page) = pages.take_off(*home) {
         put_entry(&mut page, place, entry);
         pages.put(*home, page);
+    }
+}
+
+/// Makes the tag page that stands there lead to another next page, in place.
+fn change_next<M: MetaPages>(pages: &mut M, home: &Home, next: &Home)
+    requires { IsSomeAnd (M.pages pages.old home.now) IsTagPage }
+    ensures changes { LinksAt home.now next.now (M.pages pages.old) (M.pages pages.new) }
+    ensures room { M.room pages.new ≡ M.room pages.old }
+{
+    if let Some(mut page) = pages.take_off(*home) {
+        put_next(&mut page, next);
+        pages.put(*home, page);
+    }
+}
+
+/// Makes the page at a home, if one is given, lead to another next page.
+pub(crate) fn lead_on<M: MetaPages>(pages: &mut M, last: &Option<Home>, next: &Home)
+    requires { IfSome last.now (λ home. IsSomeAnd (M.pages pages.old home) IsTagPage) }
+    ensures leads { Leads last.now next.now (M.pages pages.old) (M.pages pages.new) }
+    ensures room { M.room pages.new ≡ M.room pages.old }
+{
+    if let Some(home) = last {
+        change_next(pages, home, next);
     }
 }

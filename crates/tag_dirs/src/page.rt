@@ -1,8 +1,9 @@
 //! Tag pages: what they begin with, and their entries.
-ghost use Rattle.std.specs.Prelude.{ℕ, ◌≡◌, ◌+◌, ◌*◌, ◌<◌, ◌≤◌, true, false, length, IfOk, IfSome, IfNone};
+ghost use Rattle.std.specs.Prelude.{IfOk, ℕ, ◌≡◌, ◌+◌, ◌*◌, ◌<◌, ◌≤◌, true, false, length, IfOk, IfSome, IfNone};
+ghost use Rattle.domain_base.specs.Page.{zero_bytes};
 ghost use Rattle.record_table.specs.Fields.{number_at};
 ghost use Rattle.bmt_mcells.specs.Cell.{IsAddress};
-ghost use Rattle.tag_dirs.specs.TagPage.{ChangesEntry, IsAllowed, IsNewPage, IsTagPage, entry_of, is_takeable, slot_of};
+ghost use Rattle.tag_dirs.specs.TagPage.{IsNewPage, LinksPage, ChangesEntry, IsAllowed, IsNewPage, IsTagPage, entry_of, is_takeable, slot_of};
 
 use byteorder::{ByteOrder, LittleEndian};
 use domain_base::{CellAt, Home, OutOfMemory, Page, VolIx};
@@ -17,6 +18,13 @@ const MAGIC: u32 = 0x5047_4154;
 
 /// The widths of the numbers of an entry: the sequence, and the volume, cell and page of its cell.
 const ENTRY: [u8; 4] = [2, 1, 1, 4];
+
+/// The widths of the numbers that a page begins with: `TAGP`, the index, and the volume and page of
+/// the next page's home.
+const HEADER: [u8; 4] = [4; 4];
+
+/// The widths of the numbers of a home.
+const HOME: [u8; 2] = [4; 2];
 
 /// An entry of a tag directory: the sequence with which it was last taken, from 1 on, or 0; and the
 /// cell that it leads to, if it is used.
@@ -134,4 +142,37 @@ pub(crate) fn put_entry(page: &mut Page, place: usize, entry: &TagEntry)
     let mut bytes = [0; 8];
     spell(entry, &mut bytes);
     page.set(16 + 8 * place, &bytes);
+}
+
+/// Writes to a page of zeros what a page with no next one begins with.
+fn put_header(page: &mut Page, index: u32)
+    requires zeros { page.old ≡ zero_bytes 8192 }
+    requires index { index < 4202512 }
+    ensures { IsNewPage index page.new }
+{
+    let mut header = [0; 16];
+    let numbers = [u64::from(MAGIC), u64::from(index), 0, 0];
+    put(&HEADER, &numbers, &mut header);
+    page.set(0, &header);
+}
+
+/// A page with this index, no next page, and no entry that was ever used.
+pub(crate) fn new_page(alloc: Global, index: u32) -> Result<Page, OutOfMemory>
+    requires { index < 4202512 }
+    ensures { IfOk result (IsNewPage index) }
+{
+    let mut page = Page::zeros(alloc)?;
+    put_header(&mut page, index);
+    Ok(page)
+}
+
+/// Writes the home of a page's next page.
+pub(crate) fn put_next(page: &mut Page, next: &Home)
+    requires { IsTagPage page.old }
+    ensures { LinksPage next.now page.old page.new }
+{
+    let mut bytes = [0; 8];
+    let numbers = [u64::from(next.vol.number()), u64::from(next.page)];
+    put(&HOME, &numbers, &mut bytes);
+    page.set(8, &bytes);
 }
