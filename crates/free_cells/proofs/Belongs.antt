@@ -1,7 +1,7 @@
 -- Free cells and pages stay together.
 use Rattle.std.proofs.Common.{◌≡◌, ◌∙◌, ◌⊎◌, inl, inr, ⊎_elim, ℕ, zero, suc, ◌+◌, ◌-◌, ◌<◌, ◌≤◌, Bool, true, false, not, cond, ◌&&◌, ◌||◌, nat_eq, nat_lt, Option, Some, None, IfSome, IsSomeAnd, List, [], ◌∷◌, ◌++◌, length, slice_index, get_or, refl, subst, sym, arith, ap}
 use Rattle.std.proofs.lemmas.Bool.{not-true, and_parts, or_cases, cases_Bool, both_ways, and_from, eqb-true, eq-eqb, ltb-true, cases_lt}
-use Rattle.std.proofs.lemmas.List.{get_or_append_left, length_push}
+use Rattle.std.proofs.lemmas.List.{get_or_append_left, get_or_default, length_push}
 use Rattle.std.proofs.Math.Seq.{get_or-append_seam}
 use Rattle.std.proofs.lemmas.List.Elements.{Contains-append_left, Contains-get_or, Contains-push}
 use Rattle.std.specs.List.{Contains}
@@ -74,6 +74,16 @@ module _ (cells : Cells) (old new : Pages) where
   belong_still changed others good headers apart = belong_on
       (λ vol place within is. page_stays (table_of cells vol) place (old (home_at cells vol place)) (new (home_at cells vol place)) (good (home_at cells vol place)) (headers (home_at cells vol place)) is)
       (λ at free. others at (apart at free))
+
+  -- a change of pages that stand in no table
+  pub belong_beside : ((vol place : ℕ) → place < length (table_of cells vol) → new (home_at cells vol place) ≡ old (home_at cells vol place)) → Belong cells old → Belong cells new
+  belong_beside stay belong = belong_on
+      (λ vol place within is. subst (λ o. IsSomeAnd o (IsPageOf (table_of cells vol) place)) (sym (stay vol place within)) is)
+      (λ at free. let on = belong.on_table at free in
+      let page : slice_index (table_of cells at.vol) on.0 ≡ at.page = get_or_default (table_of cells at.vol) on.0 0 at.page on.1 ∙ on.2 in
+      let home : home_at cells at.vol on.0 ≡ home_of at = ap (λ p. record { vol = at.vol; page = p }) page in
+      ap (option_and_then (λ p. cond (is_cell_page p && nat_lt at.cell 28) (Some (cell_of p at.cell)) None)) (subst (λ h. new h ≡ old h) home (stay at.vol on.0 on.1)))
+      belong
 
 -- ---- a cell is freed
 

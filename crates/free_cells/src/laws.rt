@@ -1,11 +1,11 @@
 //! Laws of free cells.
-ghost use Rattle.std.specs.Prelude.{◌≡◌, Bool, true, false};
+ghost use Rattle.std.specs.Prelude.{◌≡◌, ◌<◌, ℕ, Bool, true, false, length};
 ghost use Rattle.domain_base.specs.declared.place.CellAt.{CellAt};
 ghost use Rattle.page_store.specs.Pages.{Pages};
 ghost use Rattle.bmt_mcells.specs.CellPage.{KeepsHeaders, KeepsWellFormed};
 ghost use Rattle.bmt_mcells.specs.Chain.{LeavesOthers, is_at};
-ghost use Rattle.free_cells.specs.Cells.{Cells, TakesCell, is_free};
-ghost use Rattle.free_cells.specs.Belong.{Belong};
+ghost use Rattle.free_cells.specs.Cells.{Cells, TakesCell, is_free, table_of};
+ghost use Rattle.free_cells.specs.Belong.{Belong, home_at};
 
 /// Free cells and pages that belong together do so still after a change of cells of which none is
 /// free.
@@ -22,4 +22,13 @@ pub fn written_cell_stays()
     ensures { (old new : Cells) (before after : Pages) (at : CellAt) → TakesCell at old new
         → LeavesOthers (is_at at) before after → KeepsWellFormed before after
         → KeepsHeaders before after → Belong new before → Belong new after }
+{}
+
+/// Free cells and pages that belong together do so still after a change of pages that stand in no
+/// volume's table.
+pub fn other_pages_stay()
+    ensures { (cells : Cells) (old new : Pages)
+        → ((vol place : ℕ) → place < length (table_of cells vol)
+        → new (home_at cells vol place) ≡ old (home_at cells vol place))
+        → Belong cells old → Belong cells new }
 {}

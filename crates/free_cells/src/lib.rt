@@ -7,4 +7,4 @@ mod linking;
 mod volume;
 
 pub use cells::FreeCells;
-pub use laws::{other_cells_stay, written_cell_stays};
+pub use laws::{other_cells_stay, other_pages_stay, written_cell_stays};
