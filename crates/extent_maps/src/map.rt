@@ -66,7 +66,8 @@ fn find(runs: &[Run], page: u32) -> Option<usize>
 /// Puts an item at the place, in front of those from there on. After an error nothing has changed.
 fn insert<T: Drop>(items: &mut Vec<T>, at: usize, item: T) -> Result<(), OutOfMemory>
     requires within { at ≤ vec_len items.old }
-    ensures ok { OnOk result (items.new.items ≡ take at items.old.items ++ item ∷ drop at items.old.items) }
+    ensures ok { OnOk result (items.new.items ≡ take at items.old.items ++ item
+        ∷ drop at items.old.items) }
     ensures err { OnErr result (items.new.items ≡ items.old.items) }
     ensures lower { vec_len items.old ≤ vec_len items.new }
     ensures len { vec_len items.new ≤ vec_len items.old + 1 }
@@ -80,7 +81,8 @@ fn insert<T: Drop>(items: &mut Vec<T>, at: usize, item: T) -> Result<(), OutOfMe
 /// Puts a run at the place, in front of those from there on. After an error nothing has changed.
 fn insert_run(runs: &mut Vec<Run>, at: usize, run: &Run) -> Result<(), OutOfMemory>
     requires within { at ≤ vec_len runs.old }
-    ensures ok { OnOk result (runs.new.items ≡ take at runs.old.items ++ run.now ∷ drop at runs.old.items) }
+    ensures ok { OnOk result (runs.new.items ≡ take at runs.old.items ++ run.now
+        ∷ drop at runs.old.items) }
     ensures err { OnErr result (runs.new.items ≡ runs.old.items) }
     ensures lower { vec_len runs.old ≤ vec_len runs.new }
     ensures len { vec_len runs.new ≤ vec_len runs.old + 1 }
@@ -152,7 +154,8 @@ fn extend(runs: &mut Vec<Run>, at: usize, next: &Run)
     requires back { AreRuns (next.now ∷ drop (at + 1) runs.old.items) }
     requires goes_on { goes_on_last (take (at + 1) runs.old.items) next.now ≡ true }
     ensures runs { AreRuns runs.new.items }
-    ensures places { SamePlaces (take (at + 1) runs.old.items ++ next.now ∷ drop (at + 1) runs.old.items) runs.new.items }
+    ensures places { SamePlaces (take (at + 1) runs.old.items ++ next.now
+        ∷ drop (at + 1) runs.old.items) runs.new.items }
     ensures len { vec_len runs.new ≡ vec_len runs.old }
 {
     let run = runs[at].with(next);
@@ -166,7 +169,8 @@ fn join_before(runs: &mut Vec<Run>, at: usize, run: &Run) -> Result<(), OutOfMem
     requires before { EndUpTo run.now.page (take at runs.old.items) }
     requires back { AreRuns (run.now ∷ drop at runs.old.items) }
     ensures runs { OnOk result (AreRuns runs.new.items) }
-    ensures places { OnOk result (SamePlaces (take at runs.old.items ++ run.now ∷ drop at runs.old.items) runs.new.items) }
+    ensures places { OnOk result (SamePlaces
+        (take at runs.old.items ++ run.now ∷ drop at runs.old.items) runs.new.items) }
     ensures len { vec_len runs.new ≤ vec_len runs.old + 1 }
     ensures room { vec_len runs.old < vec_capacity runs.old → IsOk result }
 {
@@ -224,7 +228,8 @@ fn put_run(runs: &mut Vec<Run>, run: &Run) -> Result<bool, OutOfMemory>
     requires run { IsRun run.now }
     ensures runs { OnOk result (AreRuns runs.new.items) }
     ensures free { IfOk result (λ put. IsTrue put ↔ IsFree run.now runs.old.items) }
-    ensures places { IfOk result (λ put. IsTrue put → PutsRun run.now runs.old.items runs.new.items) }
+    ensures places { IfOk result (λ put. IsTrue put
+        → PutsRun run.now runs.old.items runs.new.items) }
     ensures taken { IfOk result (λ put. put ≡ false → runs.new.items ≡ runs.old.items) }
     ensures room { vec_len runs.old < vec_capacity runs.old → IsOk result }
 {
@@ -327,7 +332,8 @@ fn move_rest(
     requires front { BeginBefore from (take at runs.old.items) }
     requires back { BeginFrom from tail.old.items }
     requires tail { tail.old.items ≡ drop at runs.old.items }
-    ensures parts { OnOk result (IsPartedAt from runs.old.items (take at runs.new.items) tail.new.items) }
+    ensures parts { OnOk result (IsPartedAt from runs.old.items
+        (take at runs.new.items) tail.new.items) }
     ensures err { OnErr result (runs.new.items ≡ runs.old.items) }
 {
     let Some(before) = at.checked_sub(1) else {

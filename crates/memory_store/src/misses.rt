@@ -1,5 +1,5 @@
 //! Which calls of a map in memory find no page.
-ghost use Rattle.std.specs.Prelude.{◌≡◌, ◌==◌, ◌≤◌, Err, IfErr, Ok, if◌then◌else◌};
+ghost use Rattle.std.specs.Prelude.{◌≡◌, ◌==◌, ◌≤◌, Err, IfErr, Ok, if◌then◌else◌, ◌+◌, ◌-◌, ◌^◌, min};
 ghost use Rattle.std.specs.List.{list_any};
 ghost use Rattle.domain_base.specs.Counts.{HasRisen};
 ghost use Rattle.page_store.specs.declared.fault.StoreFault.TheVariants.{NoPage as IsNoPage};
@@ -37,6 +37,8 @@ impl Misses {
     pub(crate) fn next_call(&mut self) -> Result<(), StoreFault>
         ensures told { result ≡ (if list_any (λ call. call == self.old.calls) self.old.told.items
             then Err IsNoPage else Ok tt) }
+        ensures counted { self.new.calls ≡ min (self.old.calls + 1) (2 ^ 64 - 1) }
+        ensures same { self.new.told.items ≡ self.old.told.items }
         ensures risen { IfErr result (λ _. HasRisen self.old.count self.new.count) }
         ensures count { self.old.count ≤ self.new.count }
     {

@@ -136,7 +136,8 @@ LinksLast places home old new = ((places ≡ []) × (new ≡ old)) ⊎ LinksFrom
 pub record AddsPage (place : TagPlace) (places : List TagPlace) (old new : Pages) : Type 0 where
   pub directory : IsDirectory new (places ++ place ∷ [])
   pub entries : (s : ℕ) → entry_at new (places ++ place ∷ []) s
-      ≡ (if s / 1022 == place.index then Some (record { seq = 0; at = None }) else entry_at old places s)
+      ≡ (if s / 1022 == place.index then Some (record { seq = 0; at = None })
+      else entry_at old places s)
   pub elsewhere : (h : Home) → has_home places h ≡ false → same_home h place.home ≡ false
       → new h ≡ old h
 

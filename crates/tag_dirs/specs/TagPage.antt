@@ -10,7 +10,11 @@ use Rattle.tag_dirs.specs.declared.page.TagEntry.{TagEntry}
 abbrev pub cell_in : List ℕ → ℕ → Option CellAt
 cell_in page e =
     if number_at 1 (18 + 8 * e) page == 0 then None
-    else Some (record { vol = number_at 1 (18 + 8 * e) page; page = number_at 4 (20 + 8 * e) page; cell = number_at 1 (19 + 8 * e) page })
+    else Some (record {
+      vol = number_at 1 (18 + 8 * e) page;
+      page = number_at 4 (20 + 8 * e) page;
+      cell = number_at 1 (19 + 8 * e) page;
+    })
 
 -- an entry: its last sequence, and the cell
 abbrev pub entry_of : List ℕ → ℕ → TagEntry

@@ -40,7 +40,8 @@ impl Model for TagDir {
 
     ghost view = { λ d. d.places.items };
 
-    ghost invariant = { λ d. (index : ℕ) → get nat_eq d.homes index ≡ home_with d.places.items index };
+    ghost invariant = { λ d. (index : ℕ)
+        → get nat_eq d.homes index ≡ home_with d.places.items index };
 }
 
 /// A tag of the page at a place that may be taken.
@@ -182,7 +183,8 @@ impl TagDir {
             (λ entry. entry.at ≡ None) }
         ensures entered { result ≡ true → SetsTag tag (Some at) self.old (M.pages pages.old)
             (M.pages pages.new) }
-        ensures missing { result ≡ false → (sequence_of (M.pages pages.old) self.old tag.slot ≡ None)
+        ensures missing { result ≡ false
+            → (sequence_of (M.pages pages.old) self.old tag.slot ≡ None)
             × (M.pages pages.new ≡ M.pages pages.old) }
         ensures same { self.new ≡ self.old }
         ensures room { M.room pages.new ≡ M.room pages.old }
@@ -267,7 +269,8 @@ impl TagDir {
         requires directory { IsDirectory (M.pages pages.old) self.now }
         requires home { home_with self.now (slot / 1022) ≡ Some home.now }
         requires allowed { IsAllowed slot entry.now }
-        ensures changes { ChangesSlot slot entry.now self.now (M.pages pages.old) (M.pages pages.new) }
+        ensures changes { ChangesSlot slot entry.now self.now (M.pages pages.old)
+            (M.pages pages.new) }
         ensures room { M.room pages.new ≡ M.room pages.old }
     {
         change_entry(pages, home, slot as usize % ENTRIES, entry);
