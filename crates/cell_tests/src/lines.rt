@@ -95,6 +95,21 @@ pub fn pages_of(alloc: Global, text: &str) -> Result<MemoryPages, Fail> {
     Ok(pages)
 }
 
+/// Whether the pages at a home have the same bytes, or no page stands there in either.
+fn are_same(one: &MemoryPages, other: &MemoryPages, home: &Home) -> bool {
+    match (one.get(*home), other.get(*home)) {
+        (Some(one), Some(other)) => one.bytes() == other.bytes(),
+        (None, None) => true,
+        _ => false,
+    }
+}
+
+/// Whether a page of a text stands at its home.
+pub fn is_told(alloc: Global, pages: &MemoryPages, text: &str, home: &Home) -> Result<bool, Fail> {
+    let want = pages_of(alloc, text)?;
+    Ok(are_same(pages, &want, home))
+}
+
 fn shown_cell(alloc: Global, at: &CellAt) -> Result<String, OutOfMemory> {
     format!(in alloc; "{}.{}.{}", at.vol.number(), at.page, at.cell)
 }

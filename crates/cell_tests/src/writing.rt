@@ -3,7 +3,7 @@ ghost use Rattle.std.specs.Prelude.{◌≡◌, ◌<◌, ◌≤◌, IfOk, IfSome,
 ghost use Rattle.bmt_mcells.specs.Cell.{AreRecords, spellings};
 ghost use Rattle.bmt_mcells.specs.CellPage.{HasPlace, is_cell_page as begins};
 
-use crate::lines::{cell_of, home_of, pages_of};
+use crate::lines::{cell_of, home_of, is_told, pages_of};
 use bmt_mcells::{CellHead, CellKind, ChainFault, RecordList, read_chain, write_cell};
 use byteorder::{ByteOrder, LittleEndian};
 use domain_base::{CellAt, FilesetNo, Home, OutOfMemory, Page, VolIx};
@@ -47,7 +47,7 @@ fn leads_well(head: &CellHead) -> bool
 }
 
 /// The limits of a user and of a group.
-fn limits(alloc: Global, user: u32, group: u32) -> Result<RecordList, OutOfMemory>
+pub fn limits(alloc: Global, user: u32, group: u32) -> Result<RecordList, OutOfMemory>
     ensures good { IfOk result AreRecords }
     ensures fits { IfOk result (λ records. length (spellings records) ≤ 272) }
 {
@@ -88,15 +88,6 @@ fn head_of(next: Option<CellAt>, kind: CellKind) -> CellHead {
         seq: 3,
         fileset: FilesetNo::new(1),
         kind,
-    }
-}
-
-/// Whether the pages at a home have the same bytes, or no page stands there in either.
-fn are_same(one: &MemoryPages, other: &MemoryPages, home: &Home) -> bool {
-    match (one.get(*home), other.get(*home)) {
-        (Some(one), Some(other)) => one.bytes() == other.bytes(),
-        (None, None) => true,
-        _ => false,
     }
 }
 
@@ -152,12 +143,6 @@ fn write_step(alloc: Global, pages: &mut MemoryPages, step: usize) -> Result<(),
             write_limits(alloc, pages, &cell_of("1.3.27")?, &head, 0)
         }
     }
-}
-
-/// Whether a page of a text stands at its home.
-fn is_told(alloc: Global, pages: &MemoryPages, text: &str, home: &Home) -> Result<bool, Fail> {
-    let want = pages_of(alloc, text)?;
-    Ok(are_same(pages, &want, home))
 }
 
 /// The first step after which the page is another one than is told.
