@@ -38,6 +38,16 @@ fn second_home() -> Home
     }
 }
 
+/// Page 9 of volume 1.
+fn added_home() -> Home
+    ensures { result ≡ record { vol = 1; page = 9 } }
+{
+    Home {
+        vol: VolIx::new(1).unwrap(),
+        page: 9,
+    }
+}
+
 /// Puts a page of free cells at a home, with index 0.
 fn put_empty(alloc: Global, pages: &mut MemoryPages, home: Home) -> Result<(), OutOfMemory>
     ensures there { OnOk result (IsSomeAnd (⟦<MemoryPages as MetaPages>⟧.pages pages.new home)
@@ -133,10 +143,8 @@ fn with_limits(alloc: Global, cell: u8) -> Result<String, OutOfMemory> {
     let head = "0000 00 00 00000000 0a000000 0300 02 03 3800 0000";
     let user = "07001c00 05000000 00000000 0300000000000000 0004000000000000";
     let group = "08001c00 07000000 00000000 0000000000000000 0000000000000001";
-    format!(in alloc;
-        "1.3 0 424d5450 00000000 00000000 1b00 0000
-1.3 {front} {head} {user} {group}"
-    )
+    format!(in alloc; "1.3 0 424d5450 00000000 00000000 1b00 0000
+1.3 {front} {head} {user} {group}")
 }
 
 /// Whether the page is as it should be before a cell was taken, after it was written, and after it
@@ -162,6 +170,12 @@ fn a_page_is_read_and_a_cell_comes_and_goes(rt: HostRuntime) -> Result<(), Fail>
     Ok(())
 }
 
+/// The last page of the table and the one behind it, after that was added.
+static LINKED: &str = "
+1.3 0 424d5450 00000000 09000000 1c00 0000
+1.9 0 424d5450 01000000 00000000 1c00 0000
+";
+
 /// How many cells 60 calls hand out, and whether they all differ.
 fn all_taken(alloc: Global, cells: &mut FreeCells) -> Result<(usize, bool), OutOfMemory> {
     let mut taken = Vec::new(alloc);
@@ -173,6 +187,24 @@ fn all_taken(alloc: Global, cells: &mut FreeCells) -> Result<(usize, bool), OutO
         }
     }
     Ok((taken.len(), differ))
+}
+
+/// Whether both pages are as they should be after one was added, how many cells they have, and
+/// whether these differ.
+fn added_page(alloc: Global) -> Result<([bool; 2], (usize, bool)), Fail> {
+    let mut pages = two_pages(alloc)?;
+    let mut cells = one_read(alloc, &pages)?;
+    cells.add_page(alloc, &mut pages, added_home())?;
+    let last = is_told(alloc, &pages, LINKED, &first_home())?;
+    let added = is_told(alloc, &pages, LINKED, &added_home())?;
+    Ok(([last, added], all_taken(alloc, &mut cells)?))
+}
+
+#[test]
+fn an_added_page_joins(rt: HostRuntime) -> Result<(), Fail> {
+    let seen = added_page(rt.alloc())?;
+    assert_eq!(rt; seen, ([true, true], (56, true)));
+    Ok(())
 }
 
 /// The free cells of both volumes, whose pages were read.
