@@ -143,8 +143,10 @@ fn with_limits(alloc: Global, cell: u8) -> Result<String, OutOfMemory> {
     let head = "0000 00 00 00000000 0a000000 0300 02 03 3800 0000";
     let user = "07001c00 05000000 00000000 0300000000000000 0004000000000000";
     let group = "08001c00 07000000 00000000 0000000000000000 0000000000000001";
-    format!(in alloc; "1.3 0 424d5450 00000000 00000000 1b00 0000
-1.3 {front} {head} {user} {group}")
+    format!(in alloc;
+        "1.3 0 424d5450 00000000 00000000 1b00 0000
+1.3 {front} {head} {user} {group}"
+    )
 }
 
 /// Whether the page is as it should be before a cell was taken, after it was written, and after it
