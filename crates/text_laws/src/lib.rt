@@ -3,5 +3,7 @@
 #![tactic(auto)]
 
 mod laws;
+mod reading_back;
 
 pub use laws::{lines_tell_entries_apart, printed_commands_are_read};
+pub use reading_back::written_and_read;
