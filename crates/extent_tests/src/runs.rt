@@ -14,7 +14,7 @@ fn row(run: &Run) -> [u32; 4] {
     }
 }
 
-fn rows(alloc: Global, map: &ExtentMap) -> Result<Vec<[u32; 4]>, Fail> {
+pub(crate) fn rows(alloc: Global, map: &ExtentMap) -> Result<Vec<[u32; 4]>, Fail> {
     Ok(map.runs().iter().map(row).collect(alloc)?)
 }
 
