@@ -1,0 +1,5 @@
+//! Tests of tag directories.
+#![tactic(auto)]
+
+#[cfg(test)]
+mod tags;
