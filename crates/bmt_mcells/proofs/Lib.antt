@@ -5,5 +5,8 @@ pub mod CellKinds
 pub mod Places
 pub mod Spellings
 pub mod OneByOne
+pub mod Found
 pub mod Walk
+pub mod Unique
+pub mod Linked
 pub mod Written

@@ -42,7 +42,7 @@ pub read_is : (q r : Record) (m n : ℕ) → read q m ≡ read r n → q ≡ r
 read_is q r m n same = let both : pair q m ≡ pair r n = cc in ap (λ (p : Record × ℕ). p.0) both
 
 -- each record is one of version 4
-known : (r : Record) → kind_of r ≤ last_kind Four
+pub known : (r : Record) → kind_of r ≤ last_kind Four
 known r = let h = is_kind r in let high : kind_of r < 15 = h.1 in omega arith
 
 -- the records that were read so far

@@ -9,7 +9,7 @@ use Rattle.record_table.proofs.EachKind.{is_kind}
 use Rattle.bmt_mcells.specs.Cell.{AreRising, place_of, spellings}
 
 -- a record has at least a byte
-some_bytes : (r : Record) → Allowed r → 1 ≤ length (spelling r)
+pub some_bytes : (r : Record) → Allowed r → 1 ≤ length (spelling r)
 some_bytes r allowed = omega (arith, length-spelling r allowed, kind-size (kind_of r) (is_kind r))
 
 pub spellings-append : (xs ys : List Record) → spellings (xs ++ ys) ≡ spellings xs ++ spellings ys

@@ -73,14 +73,16 @@ kind_back Chain = refl
 kind_back Quota = refl
 kind_back Volume = refl
 
+pub one_kind : (a b : CellKind) → kind_number a ≡ kind_number b → a ≡ b
+one_kind a b same = sym (kind_back a) ∙ ap kind_from same ∙ kind_back b
+
 some_is : (a b : List ℕ) → Some a ≡ Some b → a ≡ b
 some_is a b same = cc
 
 kinds_same : (pages : Pages) (at : CellAt) (head : CellHead) (cell : Cell) → HasHeadAt pages at head → StandsAt pages at cell → head.kind ≡ cell.head.kind
 kinds_same pages at head cell has stands =
     let bytes : has.bytes ≡ stands.bytes = some_is has.bytes stands.bytes (sym has.there ∙ stands.there) in
-    let numbers : kind_number head.kind ≡ kind_number cell.head.kind = sym has.is.kind ∙ ap (number_at 1 15) bytes ∙ stands.is.head.kind in
-    sym (kind_back head.kind) ∙ ap kind_from numbers ∙ kind_back cell.head.kind
+    one_kind head.kind cell.head.kind (sym has.is.kind ∙ ap (number_at 1 15) bytes ∙ stands.is.head.kind)
 
 all_push : (cells : List PlacedCell) (c : PlacedCell) → AllByRecursion (λ (c : PlacedCell). IsKeyed c.at) cells → IsKeyed c.at → AllByRecursion (λ (c : PlacedCell). IsKeyed c.at) (cells ++ c ∷ [])
 all_push [] c all new = (new, tt)

@@ -1,5 +1,5 @@
 -- What stands in a cell, a piece of 292 bytes of a page of the bitfile metadata table.
-use Rattle.std.specs.Prelude.{◌≡◌, ◌⊎◌, ◌+◌, ◌-◌, ◌*◌, ◌^◌, ◌<◌, ◌≤◌, ℕ, List, [], ◌∷◌, take, drop, length, Option, Some, None}
+use Rattle.std.specs.Prelude.{◌≡◌, ◌==◌, ◌⊎◌, ◌+◌, ◌-◌, ◌*◌, ◌^◌, ◌<◌, ◌≤◌, ℕ, List, [], ◌∷◌, take, drop, length, Option, Some, None, if◌then◌else◌}
 use Rattle.std.specs.List.{flat_map, AllByRecursion}
 use Rattle.domain_base.specs.Page.{zero_bytes}
 use Rattle.domain_base.specs.declared.place.CellAt.{CellAt}
@@ -74,6 +74,11 @@ pub record IsCell (bytes : List ℕ) (cell : Cell) : Type 0 where
   pub others : drop (20 + length (spellings cell.records)) bytes ≡ zero_bytes
       (272 - length (spellings cell.records))
   pub well_formed : AreRecords cell.records
+
+-- the first record of a kind, if there is one
+abbrev pub record_of : ℕ → List Record → Option Record
+record_of kind [] = None
+record_of kind (r ∷ rs) = if kind_of r == kind then Some r else record_of kind rs
 
 -- a free cell is zeros
 abbrev pub IsFreeCell : List ℕ → Type 0

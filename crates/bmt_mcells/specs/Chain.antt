@@ -62,6 +62,30 @@ pub record IsChain (pages : Pages) (start : CellAt) (cells : List PlacedCell) : 
   pub ends : last.cell.head.next ≡ None
   pub all : cells ≡ passed ++ last ∷ []
 
+-- the cells that come behind a head: each stands where the one before it leads, and may follow it,
+-- and the last leads to none
+abbrev pub Follow : Pages → CellHead → List PlacedCell → Type 0
+Follow pages head [] = head.next ≡ None
+Follow pages head (c ∷ cs) = (head.next ≡ Some c.at)
+    × (may_follow head.kind c.cell.head.kind ≡ true) × StandsAt pages c.at c.cell
+    × Follow pages c.cell.head cs
+
+-- no two of the cells stand at one place
+abbrev pub AreDistinct : List PlacedCell → Type 0
+AreDistinct [] = Unit {0}
+AreDistinct (c ∷ cs) = (¬ Contains (places cs) c.at) × AreDistinct cs
+
+-- a cell, and those that follow it: so a chain is said cell by cell
+pub record AreLinked (pages : Pages) (first : PlacedCell) (rest : List PlacedCell) : Type 0 where
+  pub stands : StandsAt pages first.at first.cell
+  pub follow : Follow pages first.cell.head rest
+  pub distinct : AreDistinct (first ∷ rest)
+
+-- such cells from a place on
+abbrev pub LinksFrom : Pages → CellAt → List PlacedCell → Type 0
+LinksFrom pages start [] = ⊥
+LinksFrom pages start (first ∷ rest) = (first.at ≡ start) × AreLinked pages first rest
+
 -- the records of a chain, in its order
 abbrev pub records_of : List PlacedCell → List Record
 records_of cells = flat_map (λ (c : PlacedCell). c.cell.records) cells

@@ -76,7 +76,7 @@ fn leads_on<M: MetaPages>(pages: &M, seen: &HashSet<u64>, kind: CellKind, next: 
 }
 
 /// Reads the cell that stands there: its head, and its records, which it appends.
-fn read_at<M: MetaPages>(
+pub(crate) fn read_at<M: MetaPages>(
     pages: &M,
     at: &CellAt,
     found: &mut Vec<Record>,

@@ -1,7 +1,8 @@
 //! The records of a cell, read one after the other.
-ghost use Rattle.std.specs.Prelude.{◌≡◌, ◌==◌, length, IfOk};
+ghost use Rattle.std.specs.Prelude.{◌≡◌, ◌==◌, List, length, IfOk};
 ghost use Rattle.std.specs.List.{list_all};
-ghost use Rattle.bmt_mcells.specs.Cell.{id_of as id_there, place_of as place_there};
+ghost use Rattle.record_table.specs.declared.record.Record.{Record as RecordOf};
+ghost use Rattle.bmt_mcells.specs.Cell.{AreRecords, id_of as id_there, place_of as place_there, record_of, spellings};
 ghost use Rattle.bmt_mcells.specs.Reading.{ReadsRecords, ReadsCell};
 
 use crate::head::CellHead;
@@ -71,4 +72,22 @@ pub(crate) fn read_cell(
     }
     let whole = read_records(&cell[20..20 + size], found)?;
     Ok(if whole { Some(head) } else { None })
+}
+
+/// The first record of a kind among those that the bytes are.
+pub(crate) fn first_record(bytes: &[u8], kind: u8) -> Option<Record>
+    ensures { (records : List RecordOf) → AreRecords records → bytes.now ≡ spellings records
+        → result ≡ record_of kind records }
+{
+    let mut at = 0;
+    while at < bytes.len() {
+        let Ok((record, length)) = read_record(&bytes[at..], Version::Four) else {
+            return None;
+        };
+        if record.kind() == kind {
+            return Some(record);
+        }
+        at += length;
+    }
+    None
 }
