@@ -1,4 +1,4 @@
-mod RunLemmas
+pub mod RunLemmas
 pub mod EditLemmas
 mod PartLemmas
 mod PutLemmas
