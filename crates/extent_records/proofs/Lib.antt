@@ -1,1 +1,6 @@
 pub mod PutLemmas
+pub mod FewestLemmas
+pub mod WritingLemmas
+pub mod RecordLemmas
+pub mod FrontLemmas
+pub mod RowLemmas

@@ -1,6 +1,12 @@
 //! How a file's map of pages stands in the records of its mcells.
 #![tactic(auto)]
 
+mod changes;
 mod reading;
+mod rows;
+mod writing;
 
+pub use changes::{cut_from, cut_page, keep_hole, put_page, switch_page};
 pub use reading::read_map;
+pub use rows::{place_in, used_rows};
+pub use writing::{empty_extents, empty_holes, empty_short};

@@ -124,7 +124,7 @@ fn put_holes(map: &mut ExtentMap, rows: &[HoleField]) -> Result<bool, OutOfMemor
 
 /// Puts the pages that a record names to the map. It answers false where some have no place, or one
 /// of them would be there twice.
-fn put_record(map: &mut ExtentMap, value: &Record) -> Result<bool, OutOfMemory>
+pub(crate) fn put_record(map: &mut ExtentMap, value: &Record) -> Result<bool, OutOfMemory>
     ensures { IfOk result (Puts (runs_in value.now) map.old map.new) }
 {
     match value {

@@ -1,0 +1,128 @@
+//! Changes of one record.
+ghost use Rattle.std.specs.Prelude.{◌≡◌, ℕ, ◌≤◌, ◌<◌, [], ◌↔◌, IfOk, IsSome, IsTrue, OnErr, OnOk, length, true, false};
+ghost use Rattle.extent_maps.specs.declared.run.PagePlace.TheVariants.{Absent, At, Hole};
+ghost use Rattle.extent_maps.specs.Runs.{SamePlaces, home_at, place_of, with_place};
+ghost use Rattle.record_table.specs.Records.{kind_of};
+ghost use Rattle.extent_records.specs.Rows.{runs_in};
+ghost use Rattle.extent_records.specs.Writing.{IsLeastRecord, IsMapRecord, Rewrites, Suits, is_of_holes, most_rows, places_before, places_in, rows_for};
+
+use crate::reading::put_record;
+use crate::writing::with_runs;
+use domain_base::limits::{FILE_PAGES, MAX_VOLUMES};
+use domain_base::{Home, OutOfMemory};
+use extent_maps::{ExtentMap, PagePlace};
+use record_table::Record;
+use std::alloc::Global;
+
+/// The map that a record says.
+fn map_of(alloc: Global, value: &Record) -> Result<ExtentMap, OutOfMemory>
+    requires { IsMapRecord value.now }
+    ensures { IfOk result (SamePlaces (runs_in value.now)) }
+{
+    let mut map = ExtentMap::new(alloc);
+    put_record(&mut map, value)?;
+    Ok(map)
+}
+
+/// Gives a record the places of a map, or leaves it where no record of its kind has them.
+fn write_map(value: &mut Record, map: &ExtentMap) -> bool
+    requires is_map { IsMapRecord value.old }
+    requires suits { (page : ℕ) → Suits (kind_of value.old) (place_of map.now page) }
+    ensures written { Rewrites (place_of map.now) value.old value.new result }
+    ensures room { length (rows_for (kind_of value.old) map.now) ≤ most_rows (kind_of value.old)
+        → IsTrue result }
+{
+    match with_runs(value, map.runs()) {
+        Some(new) => {
+            *value = new;
+            true
+        }
+        None => false,
+    }
+}
+
+/// Puts a page at a home. It answers false exactly where no record of that kind says the map with
+/// that page there, since it wants more rows than the record has; then, and after an error, nothing
+/// has changed.
+pub fn put_page(
+    alloc: Global,
+    value: &mut Record,
+    page: u32,
+    home: Home,
+) -> Result<bool, OutOfMemory>
+    requires is_map { IsMapRecord value.old }
+    requires extents { is_of_holes (kind_of value.old) ≡ false }
+    requires absent { places_in value.old page ≡ Absent }
+    requires small { page < FILE_PAGES }
+    ensures ok { IfOk result (Rewrites (with_place page (At home) (places_in value.old)) value.old
+        value.new) }
+    ensures err { OnErr result (value.new ≡ value.old) }
+{
+    prove!(home.vol.number() <= MAX_VOLUMES);
+    let mut map = map_of(alloc, value)?;
+    map.put(page, home)?;
+    Ok(write_map(value, &map))
+}
+
+/// Keeps a page as a hole, in a record of holes. It answers false exactly where no record of that
+/// kind says the map so; then, and after an error, nothing has changed.
+pub fn keep_hole(alloc: Global, value: &mut Record, page: u32) -> Result<bool, OutOfMemory>
+    requires is_map { IsMapRecord value.old }
+    requires holes { is_of_holes (kind_of value.old) ≡ true }
+    requires absent { places_in value.old page ≡ Absent }
+    requires small { page < FILE_PAGES }
+    ensures ok { IfOk result (Rewrites (with_place page Hole (places_in value.old)) value.old
+        value.new) }
+    ensures err { OnErr result (value.new ≡ value.old) }
+{
+    let mut map = map_of(alloc, value)?;
+    map.keep_hole(page)?;
+    Ok(write_map(value, &map))
+}
+
+/// Takes a page off. It answers false exactly where no record of that kind says the map so, since a
+/// page in the middle of a row leaves two; then, and after an error, nothing has changed.
+pub fn cut_page(alloc: Global, value: &mut Record, page: u32) -> Result<bool, OutOfMemory>
+    requires { IsMapRecord value.old }
+    ensures ok { IfOk result (Rewrites (with_place page Absent (places_in value.old)) value.old
+        value.new) }
+    ensures err { OnErr result (value.new ≡ value.old) }
+{
+    let mut map = map_of(alloc, value)?;
+    map.cut(page)?;
+    Ok(write_map(value, &map))
+}
+
+/// Puts a page that has a home at another one. It answers false exactly where no record of that
+/// kind says the map so; then, and after an error, nothing has changed.
+pub fn switch_page(
+    alloc: Global,
+    value: &mut Record,
+    page: u32,
+    home: Home,
+) -> Result<bool, OutOfMemory>
+    requires is_map { IsMapRecord value.old }
+    requires there { IsSome (home_at (places_in value.old page)) }
+    ensures ok { IfOk result (Rewrites (with_place page (At home) (places_in value.old)) value.old
+        value.new) }
+    ensures err { OnErr result (value.new ≡ value.old) }
+{
+    prove!(home.vol.number() <= MAX_VOLUMES);
+    let mut map = map_of(alloc, value)?;
+    map.switch(page, home)?;
+    Ok(write_map(value, &map))
+}
+
+/// Takes all pages from one on off: what is left always has room. After an error nothing has
+/// changed.
+pub fn cut_from(alloc: Global, value: &mut Record, from: u32) -> Result<(), OutOfMemory>
+    requires { IsMapRecord value.old }
+    ensures ok { OnOk result (IsLeastRecord (kind_of value.old)
+        (places_before from (places_in value.old)) value.new) }
+    ensures err { OnErr result (value.new ≡ value.old) }
+{
+    let mut map = map_of(alloc, value)?;
+    map.split_tail(alloc, from)?;
+    write_map(value, &map);
+    Ok(())
+}

@@ -1,0 +1,117 @@
+//! What a record says, by its rows.
+ghost use Rattle.std.specs.Prelude.{◌≡◌, ◌+◌, ◌-◌, ◌<◌, ◌≤◌, ◌↔◌, [], IsTrue, length};
+ghost use Rattle.std.specs.List.{AllByRecursion, flat_map};
+ghost use Rattle.extent_maps.specs.Runs.{place_of};
+ghost use Rattle.extent_records.specs.Rows.{IsPlaced, holes_at, runs_at, runs_in};
+ghost use Rattle.extent_records.specs.Writing.{IsMapRecord, places_in};
+
+use domain_base::{Home, VolIx};
+use extent_maps::PagePlace;
+use record_table::{ExtentField, HoleField, Record};
+
+/// Where a row has a page.
+fn place_at(row: &ExtentField, page: u32) -> PagePlace
+    requires { AllByRecursion IsPlaced (runs_at row.now) }
+    ensures { result ≡ place_of (runs_at row.now) page }
+{
+    match VolIx::new(row.vol) {
+        Some(vol) if row.page <= page && page - row.page < row.count => PagePlace::At(Home {
+            vol,
+            page: row.first + (page - row.page),
+        }),
+        _ => PagePlace::Absent,
+    }
+}
+
+/// Whether a row of holes has a page.
+fn hole_at(row: &HoleField, page: u32) -> PagePlace
+    ensures { result ≡ place_of (holes_at row.now) page }
+{
+    if row.page <= page && page - row.page < row.count {
+        PagePlace::Hole
+    } else {
+        PagePlace::Absent
+    }
+}
+
+/// Where the rows have a page.
+fn place_among(rows: &[ExtentField], page: u32) -> PagePlace
+    requires { AllByRecursion IsPlaced (flat_map runs_at rows.now) }
+    ensures { result ≡ place_of (flat_map runs_at rows.now) page }
+{
+    for row in rows {
+        match place_at(row, page) {
+            PagePlace::Absent => {}
+            place => return place,
+        }
+    }
+    PagePlace::Absent
+}
+
+/// The same for rows of holes.
+fn hole_among(rows: &[HoleField], page: u32) -> PagePlace
+    ensures { result ≡ place_of (flat_map holes_at rows.now) page }
+{
+    for row in rows {
+        match hole_at(row, page) {
+            PagePlace::Absent => {}
+            place => return place,
+        }
+    }
+    PagePlace::Absent
+}
+
+/// Where a record has a page.
+pub fn place_in(value: &Record, page: u32) -> PagePlace
+    requires { IsMapRecord value.now }
+    ensures { result ≡ places_in value.now page }
+{
+    match value {
+        Record::Extents { rows } => place_among(rows, page),
+        Record::ShortExtents { rows } => place_among(rows, page),
+        Record::DenseExtents { rows } => place_among(rows, page),
+        Record::ShortDense { rows } => place_among(rows, page),
+        Record::Holes { rows } => hole_among(rows, page),
+        _ => PagePlace::Absent,
+    }
+}
+
+/// How many rows are used.
+fn used_extents(rows: &[ExtentField]) -> usize
+    ensures { result ≡ length (flat_map runs_at rows.now) }
+{
+    let mut used = 0;
+    for row in rows {
+        if row.count != 0 {
+            used += 1;
+        }
+    }
+    used
+}
+
+/// The same for rows of holes.
+fn used_holes(rows: &[HoleField]) -> usize
+    ensures { result ≡ length (flat_map holes_at rows.now) }
+{
+    let mut used = 0;
+    for row in rows {
+        if row.count != 0 {
+            used += 1;
+        }
+    }
+    used
+}
+
+/// How many rows of a record are used: 0 where it says no page.
+pub fn used_rows(value: &Record) -> usize
+    ensures { result ≡ length (runs_in value.now) }
+{
+    match value {
+        Record::Extents { rows } => used_extents(rows),
+        Record::ShortExtents { rows } => used_extents(rows),
+        Record::DenseExtents { rows } => used_extents(rows),
+        Record::ShortDense { rows } => used_extents(rows),
+        Record::Holes { rows } => used_holes(rows),
+        _ => 0,
+    }
+}
