@@ -4,3 +4,4 @@ pub mod WritingLemmas
 pub mod RecordLemmas
 pub mod FrontLemmas
 pub mod RowLemmas
+pub mod ChainLemmas

@@ -18,12 +18,12 @@ there_placed : (x : RunPlace) → there (placed x) ≡ 1
 there_placed (place.At home) = refl
 there_placed place.Holes = refl
 
-times_append : (xs ys : List Run) (p : ℕ) → times (xs ++ ys) p ≡ times xs p + times ys p
+pub times_append : (xs ys : List Run) (p : ℕ) → times (xs ++ ys) p ≡ times xs p + times ys p
 times_append [] ys p = omega arith
 times_append (x ∷ xs) ys p = let rest = times_append xs ys p in omega (arith, rest)
 
 -- a page that is in one run at most is there if it is in one
-there_times : (runs : List Run) (p : ℕ) → times runs p ≤ 1 → there (place_of runs p) ≡ times runs p
+pub there_times : (runs : List Run) (p : ℕ) → times runs p ≤ 1 → there (place_of runs p) ≡ times runs p
 there_times [] p le = refl
 there_times (r ∷ rs) p le = go (covers r p) refl (there_times rs p)
   where
@@ -41,15 +41,15 @@ there_over Absent b le = omega arith
 there_over (At home) b le = omega (arith, le)
 there_over Hole b le = omega (arith, le)
 
-all_append : (P : Run → Type 0) (xs ys : List Run) → AllByRecursion P xs → AllByRecursion P ys → AllByRecursion P (xs ++ ys)
+pub all_append : (P : Run → Type 0) (xs ys : List Run) → AllByRecursion P xs → AllByRecursion P ys → AllByRecursion P (xs ++ ys)
 all_append P [] ys a b = b
 all_append P (x ∷ xs) ys a b = (a.0, all_append P xs ys a.1 b)
 
-all_front : (P : Run → Type 0) (xs ys : List Run) → AllByRecursion P (xs ++ ys) → AllByRecursion P xs
+pub all_front : (P : Run → Type 0) (xs ys : List Run) → AllByRecursion P (xs ++ ys) → AllByRecursion P xs
 all_front P [] ys a = tt
 all_front P (x ∷ xs) ys a = (a.0, all_front P xs ys a.1)
 
-all_back : (P : Run → Type 0) (xs ys : List Run) → AllByRecursion P (xs ++ ys) → AllByRecursion P ys
+pub all_back : (P : Run → Type 0) (xs ys : List Run) → AllByRecursion P (xs ++ ys) → AllByRecursion P ys
 all_back P [] ys a = a
 all_back P (x ∷ xs) ys a = all_back P xs ys a.1
 

@@ -8,6 +8,7 @@ use Rattle.extent_maps.specs.declared.run.PagePlace.{PagePlace}
 use Rattle.extent_maps.specs.declared.run.PagePlace.TheVariants.{At, Hole, Absent}
 use Rattle.extent_maps.specs.Runs.{place_of}
 use Rattle.extent_maps.proofs.EditLemmas.{over, place_append}
+use Rattle.extent_records.proofs.PutLemmas.{all_back, all_front}
 
 over_there : (a b : PagePlace) → (a ≡ Absent → ⊥) → over a b ≡ a
 over_there a b some = go a some
@@ -16,14 +17,6 @@ over_there a b some = go a some
     go Absent = λ some. absurd (some refl)
     go (At home) = λ some. refl
     go Hole = λ some. refl
-
-all_front : (P : Run → Type 0) (xs ys : List Run) → AllByRecursion P (xs ++ ys) → AllByRecursion P xs
-all_front P [] ys a = tt
-all_front P (x ∷ xs) ys a = (a.0, all_front P xs ys a.1)
-
-all_back : (P : Run → Type 0) (xs ys : List Run) → AllByRecursion P (xs ++ ys) → AllByRecursion P ys
-all_back P [] ys a = a
-all_back P (x ∷ xs) ys a = all_back P xs ys a.1
 
 module _ {X : Type 0} (f : X → List Run) where
   pub row_all : (P : Run → Type 0) (rows : List X) (i : ℕ) (d : X) → i < length rows → AllByRecursion P (flat_map f rows) → AllByRecursion P (f (get_or rows i d))
