@@ -1,0 +1,4 @@
+pub mod Spaces
+pub mod Allocated
+pub mod MapRecords
+pub mod Walks
