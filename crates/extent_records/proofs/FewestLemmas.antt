@@ -146,7 +146,7 @@ rest_tails most from y x ys xs h r same less p = go (ltb p (end_of y)) refl
 pub pieces_one : (most : ℕ) (run : Run) → run.count ≤ most → pieces most run ≡ run ∷ []
 pieces_one most run le = rw (le-leb run.count most le) refl
 
-few_pieces : (most : ℕ) (run : Run) → (1 ≤ length (pieces most run)) × (length (pieces most run) ≤ 2)
+pub few_pieces : (most : ℕ) (run : Run) → (1 ≤ length (pieces most run)) × (length (pieces most run) ≤ 2)
 few_pieces most run = elim (cases_Bool (leb run.count most)) [
   | inl short ↦ rw short (omega arith, omega arith)
   | inr long ↦ rw long (omega arith, omega arith)

@@ -5,3 +5,4 @@ pub mod RecordLemmas
 pub mod FrontLemmas
 pub mod RowLemmas
 pub mod ChainLemmas
+pub mod ListingLemmas

@@ -160,7 +160,7 @@ on_volume : (kind : ℕ) (x : RunPlace) → Suits kind (placed x) → OnVolume x
 on_volume kind (place.At home) h = h.1
 on_volume kind place.Holes h = tt
 
-rows_placed : (kind from : ℕ) (rows : List Run) → AreRowsFrom kind from rows → AllByRecursion IsPlaced rows
+pub rows_placed : (kind from : ℕ) (rows : List Run) → AreRowsFrom kind from rows → AllByRecursion IsPlaced rows
 rows_placed kind from [] h = tt
 rows_placed kind from (r ∷ rs) h = (record { is_run = h.0.is_run; volume = on_volume kind r.first h.0.suits }, rows_placed kind (end_of r) rs h.1)
 
@@ -171,7 +171,7 @@ no_times kind from (r ∷ rs) p h lt =
     let tail = no_times kind (end_of r) rs p h.1 (omega (arith, before)) in
     rw (covers_not_before r p before) (omega (arith, tail))
 
-rows_once : (kind from : ℕ) (rows : List Run) → AreRowsFrom kind from rows → NoPageTwice rows
+pub rows_once : (kind from : ℕ) (rows : List Run) → AreRowsFrom kind from rows → NoPageTwice rows
 rows_once kind from [] h p = omega arith
 rows_once kind from (r ∷ rs) h p = go (ltb p (end_of r)) refl (rows_once kind (end_of r) rs h.1 p)
   where
@@ -184,6 +184,14 @@ rows_once kind from (r ∷ rs) h p = go (ltb p (end_of r)) refl (rows_once kind 
     go false e tail = rw (covers_not_behind r p (ltb-false p (end_of r) e)) (omega (arith, tail))
 
 -- ** A record that was written, or that has too few rows
+
+pub map_of_rows : (kind : ℕ) (rows : List Run) (r : Record) → 1 ≤ most_rows kind → AreRowsFrom kind 0 rows → HasRows kind rows r → IsMapRecord r
+map_of_rows kind rows r some are has = record {
+  has_rows = subst (λ k. 1 ≤ most_rows k) (sym has.of_kind) some;
+  allowed = has.allowed;
+  placed = subst (AllByRecursion IsPlaced) (sym has.says) (rows_placed kind 0 rows are);
+  once = subst NoPageTwice (sym has.says) (rows_once kind 0 rows are);
+}
 
 pub written : (runs : List Run) (old new : Record) → AreRuns runs → AllSuit (kind_of old) runs → IsMapRecord old
     → HasRows (kind_of old) (rows_for (kind_of old) runs) new → Rewrites (place_of runs) old new true
@@ -206,12 +214,7 @@ written runs old new h suits before has = record {
     are = rows_of_runs (kind_of old) runs h suits
 
     is_map : IsMapRecord new
-    is_map = record {
-      has_rows = subst (λ k. 1 ≤ most_rows k) (sym has.of_kind) before.has_rows;
-      allowed = has.allowed;
-      placed = subst (AllByRecursion IsPlaced) (sym has.says) (rows_placed (kind_of old) 0 rows are);
-      once = subst NoPageTwice (sym has.says) (rows_once (kind_of old) 0 rows are);
-    }
+    is_map = map_of_rows (kind_of old) rows new before.has_rows are has
 
     says : SaysPlaces (kind_of old) (place_of runs) new
     says = record {

@@ -14,10 +14,14 @@ pub record CanTake (page : ℕ) (r : Record) : Type 0 where
   pub is_map : 1 ≤ most_rows (kind_of r) → IsMapRecord r
   pub absent : places_in r page ≡ Absent
 
+-- records of that kind have rows of extents
+abbrev pub HasExtents : ℕ → Type 0
+HasExtents kind = (1 ≤ most_rows kind) × (is_of_holes kind ≡ false)
+
 -- rows of that kind are for pages at such a place
 abbrev pub IsFor : PagePlace → ℕ → Type 0
 IsFor Absent kind = ⊥
-IsFor (At home) kind = (1 ≤ most_rows kind) × (is_of_holes kind ≡ false)
+IsFor (At home) kind = HasExtents kind
 IsFor Hole kind = is_of_holes kind ≡ true
 
 -- the record can have the page at that place beside what it has
@@ -52,8 +56,8 @@ abbrev pub Finds : (Record → Type 0) → List Record → Option ℕ → Type 0
 Finds P records (Some i) = IsFirst P records i
 Finds P records None = IsNone P records
 
--- the record for a page: the first that takes it where it joins a row, else the first that takes it,
--- else none
+-- the record for a page: the first that takes it where it joins a row, else the first that takes
+-- it, else none
 abbrev pub IsChoice : ℕ → PagePlace → List Record → Option ℕ → Type 0
 IsChoice page place records (Some i) =
     IsFirst (λ r. Takes page place r × Joins page place r) records i
@@ -68,7 +72,8 @@ ChangesAlone records old new = (p : ℕ)
 
 -- a chain's map after the change of one record: pages that are there in no other record have the
 -- places that the new one says, and all whose places there stayed are where they were
-pub record FollowsChange (records : List Record) (old new : Record) (after : List Record) : Type 0 where
+pub record FollowsChange (records : List Record) (old new : Record) (after : List Record)
+    : Type 0 where
   pub one_map : AreOneMap after
   pub changed : (p : ℕ) → place_of (runs_of records) p ≡ places_in old p
       → place_of (runs_of after) p ≡ places_in new p

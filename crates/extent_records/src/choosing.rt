@@ -1,10 +1,10 @@
 //! Which record of a chain takes a page.
-ghost use Rattle.std.specs.Prelude.{◌≡◌, ◌<◌, ◌≤◌, ◌↔◌, IfOk, IsTrue, false};
+ghost use Rattle.std.specs.Prelude.{◌≡◌, ◌<◌, ◌↔◌, IfOk, IsTrue, false};
 ghost use Rattle.std.specs.List.{AllByRecursion};
 ghost use Rattle.extent_maps.specs.declared.run.PagePlace.TheVariants.{At, Hole};
 ghost use Rattle.record_table.specs.Records.{kind_of};
-ghost use Rattle.extent_records.specs.Writing.{IsMapRecord, is_of_holes, most_rows};
-ghost use Rattle.extent_records.specs.Chains.{CanTake, Finds, IsChoice, IsNext, Joins, JoinsBefore, Takes};
+ghost use Rattle.extent_records.specs.Writing.{IsMapRecord, is_of_holes};
+ghost use Rattle.extent_records.specs.Chains.{CanTake, Finds, HasExtents, IsChoice, IsNext, Joins, JoinsBefore, Takes};
 
 use crate::changes::{keep_hole, put_page};
 use crate::rows::place_in;
@@ -49,8 +49,7 @@ fn joins(value: &Record, page: u32, place: &PagePlace) -> bool
 
 /// Whether a record's rows are extents.
 fn has_extents(value: &Record) -> bool
-    ensures { IsTrue result ↔ ((1 ≤ most_rows (kind_of value.now)) × (is_of_holes (kind_of value.now)
-        ≡ false)) }
+    ensures { IsTrue result ↔ HasExtents (kind_of value.now) }
 {
     match value {
         Record::Extents { .. }
@@ -137,7 +136,8 @@ fn first_joined(
 ) -> Result<Option<usize>, OutOfMemory>
     requires records { AllByRecursion (CanTake page) records.now }
     requires small { page < FILE_PAGES }
-    ensures { IfOk result (Finds (λ r. Takes page place.now r × Joins page place.now r) records.now) }
+    ensures { IfOk result (Finds (λ r. Takes page place.now r × Joins page place.now r)
+        records.now) }
 {
     for (i, value) in records.iter().enumerate() {
         if takes_joined(alloc, value, page, place)? {
@@ -185,8 +185,8 @@ fn choose(
 }
 
 /// Which record of a chain takes a page at a home, where none of them has that page: the first in
-/// which it joins a row, else the first that has room. None comes exactly where no record of extents
-/// among them has room for it.
+/// which it joins a row, else the first that has room. None comes exactly where no record of
+/// extents among them has room for it.
 pub fn record_for(
     alloc: Global,
     records: &[Record],

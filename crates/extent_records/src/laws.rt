@@ -7,8 +7,8 @@ ghost use Rattle.extent_records.specs.Rows.{AreOneMap, runs_of};
 ghost use Rattle.extent_records.specs.Writing.{IsMapRecord, places_in};
 ghost use Rattle.extent_records.specs.Chains.{ChangesAlone, ChangesChain, FollowsChange};
 
-/// One record of a chain is changed, and no other has a page that has another place then. The records
-/// say one map again, which is changed at these pages alone.
+/// One record of a chain is changed, and no other has a page that has another place then. The
+/// records say one map again, which is changed at these pages alone.
 pub fn one_record_changes()
     ensures { (records : List Record) (i : ℕ) (old new : Record) → i < length records
         → get_or records i old ≡ old → AreOneMap records → IsMapRecord new

@@ -4,6 +4,7 @@
 mod changes;
 mod choosing;
 mod laws;
+mod listing;
 mod reading;
 mod rows;
 mod writing;
@@ -11,6 +12,7 @@ mod writing;
 pub use changes::{cut_from, cut_page, keep_hole, put_page, switch_page};
 pub use choosing::{record_for, record_for_hole};
 pub use laws::{one_page_changes, one_record_changes};
+pub use listing::map_records;
 pub use reading::read_map;
 pub use rows::{place_in, used_rows};
 pub use writing::{empty_extents, empty_holes, empty_short};

@@ -1,0 +1,87 @@
+-- The records of a whole map.
+use Rattle.std.specs.Prelude.{◌≡◌, ℕ, ◌≤◌, List, [], ◌∷◌, ◌++◌, take, drop, length}
+use Rattle.std.specs.List.{AllByRecursion, flat_map}
+use Rattle.domain_base.specs.declared.version.Version.{Version}
+use Rattle.extent_maps.specs.declared.run.RunPlace.{RunPlace}
+use Rattle.extent_maps.specs.declared.run.RunPlace.TheVariants as place
+use Rattle.extent_maps.specs.declared.run.Run.{Run}
+use Rattle.record_table.specs.declared.record.Record.{Record}
+use Rattle.record_table.specs.Records.{kind_of}
+use Rattle.extent_records.specs.Rows.{OnVolume, runs_in}
+use Rattle.extent_records.specs.Writing.{IsMapRecord, chain_kind, hole_kind, most_rows, rows_for, short_kind}
+
+-- the run, if its pages have homes, and if they are holes
+abbrev pub home_part : RunPlace → Run → List Run
+home_part (place.At home) run = run ∷ []
+home_part place.Holes run = []
+
+abbrev pub hole_part : RunPlace → Run → List Run
+hole_part (place.At home) run = []
+hole_part place.Holes run = run ∷ []
+
+-- the runs whose pages have homes, and those of holes
+abbrev pub homes_in : List Run → List Run
+homes_in = flat_map (λ run. home_part run.first run)
+
+abbrev pub holes_in : List Run → List Run
+holes_in = flat_map (λ run. hole_part run.first run)
+
+-- a record of that kind whose rows are the runs
+pub record HoldsRuns (kind : ℕ) (runs : List Run) (r : Record) : Type 0 where
+  pub is_map : IsMapRecord r
+  pub of_kind : kind_of r ≡ kind
+  pub rows : runs_in r ≡ rows_for kind runs
+
+-- records of that kind that hold the runs, each but the last as many as it has rows
+abbrev pub Fills : ℕ → List Run → List Record → Type 0
+Fills kind runs [] = runs ≡ []
+Fills kind runs (r ∷ rs) = (1 ≤ length runs) × HoldsRuns kind (take (most_rows kind) runs) r
+    × Fills kind (drop (most_rows kind) runs) rs
+
+-- The records of a map: that of the primary cell, then those of extents and those of holes of the
+-- chain's cells, each but the last of a sort full.
+pub record ListsMap (version : Version) (map : List Run) (records : List Record) : Type 0 where
+  pub short : Record
+  pub chain : List Record
+  pub kept : List Record
+  pub list : records ≡ short ∷ (chain ++ kept)
+  pub first : HoldsRuns (short_kind version)
+      (take (most_rows (short_kind version)) (homes_in map)) short
+  pub extents : Fills (chain_kind version)
+      (drop (most_rows (short_kind version)) (homes_in map)) chain
+  pub holes : Fills hole_kind (holes_in map) kept
+
+-- ** What the functions within the crate ask and answer
+
+-- the run's pages are on one of the volumes 1 to 8
+abbrev pub HasHome : RunPlace → Type 0
+HasHome (place.At home) = OnVolume (place.At home)
+HasHome place.Holes = ⊥
+
+abbrev pub IsHole : RunPlace → Type 0
+IsHole (place.At home) = ⊥
+IsHole place.Holes = Unit {0}
+
+abbrev pub AllHomes : List Run → Type 0
+AllHomes = AllByRecursion (λ (run : Run). HasHome run.first)
+
+abbrev pub AllHoles : List Run → Type 0
+AllHoles = AllByRecursion (λ (run : Run). IsHole run.first)
+
+-- one record more, which holds the runs
+pub record AddsOne (kind : ℕ) (runs : List Run) (old new : List Record) : Type 0 where
+  pub more : Record
+  pub list : new ≡ old ++ more ∷ []
+  pub holds : HoldsRuns kind runs more
+
+-- records more, which they fill
+pub record AddsAll (kind : ℕ) (runs : List Run) (old new : List Record) : Type 0 where
+  pub more : List Record
+  pub list : new ≡ old ++ more
+  pub fills : Fills kind runs more
+
+-- the same for the runs that come first, and the records of those that are left come behind them
+pub record AddsFirst (kind : ℕ) (runs rest : List Run) (old new : List Record) : Type 0 where
+  pub more : List Record
+  pub list : new ≡ old ++ more
+  pub fills : (others : List Record) → Fills kind rest others → Fills kind runs (more ++ others)
