@@ -10,6 +10,7 @@ use Rattle.tag_dirs.specs.declared.dir.TagPlace.{TagPlace}
 use Rattle.tag_dirs.specs.declared.page.TagEntry.{TagEntry}
 use Rattle.tag_dirs.specs.TagPage.{IsNewPage, IsTagPage, entry_of}
 use Rattle.tag_dirs.specs.Directory.{AddsPage, IsDirectory, IsLast, IsPageOf, Leads, LinksAt, LinksLast, entry_at, has_home, home_behind, home_with}
+use Rattle.tag_dirs.proofs.Places.{home_pushed}
 use Rattle.tag_dirs.proofs.Slots.{found, same_some}
 
 -- ---- places with one more behind them
@@ -44,37 +45,6 @@ listed (x ∷ xs) zero p there =
     let same = same_some x p there in
     or_left (same_home p.home x.home) (has_home xs p.home) (ap (λ (q : TagPlace). same_home p.home q.home) same ∙ same_itself p.home)
 listed (x ∷ xs) (suc k) p there = or_right (same_home p.home x.home) (has_home xs p.home) (listed xs k p there)
-
-home_added : (places : List TagPlace) (p : TagPlace) (i : ℕ) (h : Home) → home_with places i ≡ Some h → home_with (places ++ p ∷ []) i ≡ Some h
-home_added [] p i h is = absurd (none_is is)
-  where
-    none_is : None ≡ Some h → ⊥
-    none_is is = subst Test is tt
-      where
-        Test : Option Home → Type 0
-        Test None = Unit {0}
-        Test (Some y) = ⊥
-home_added (x ∷ xs) p i h is = by_test (nat_eq x.index i) refl (λ later. home_added xs p i h later)
-  where
-    by_test : (b : Bool) → nat_eq x.index i ≡ b → (home_with xs i ≡ Some h → home_with (xs ++ p ∷ []) i ≡ Some h) → home_with (x ∷ xs ++ p ∷ []) i ≡ Some h
-    by_test true same later = ap (λ b. cond b (Some x.home) (home_with (xs ++ p ∷ []) i)) same ∙ sym (ap (λ b. cond b (Some x.home) (home_with xs i)) same) ∙ is
-    by_test false other later = ap (λ b. cond b (Some x.home) (home_with (xs ++ p ∷ []) i)) other ∙ later (sym (ap (λ b. cond b (Some x.home) (home_with xs i)) other) ∙ is)
-
-pub home_last : (places : List TagPlace) (p : TagPlace) (i : ℕ) → home_with places i ≡ None → home_with (places ++ p ∷ []) i ≡ cond (nat_eq p.index i) (Some p.home) None
-home_last [] p i is = refl
-home_last (x ∷ xs) p i is = by_test (nat_eq x.index i) refl (λ later. home_last xs p i later)
-  where
-    some_is : Some x.home ≡ None → ⊥
-    some_is is = subst Test is tt
-      where
-        Test : Option Home → Type 0
-        Test None = ⊥
-        Test (Some y) = Unit {0}
-
-    by_test : (b : Bool) → nat_eq x.index i ≡ b → (home_with xs i ≡ None → home_with (xs ++ p ∷ []) i ≡ cond (nat_eq p.index i) (Some p.home) None)
-        → home_with (x ∷ xs ++ p ∷ []) i ≡ cond (nat_eq p.index i) (Some p.home) None
-    by_test true same later = absurd (some_is (sym (ap (λ b. cond b (Some x.home) (home_with xs i)) same) ∙ is))
-    by_test false other later = ap (λ b. cond b (Some x.home) (home_with (xs ++ p ∷ []) i)) other ∙ later (sym (ap (λ b. cond b (Some x.home) (home_with xs i)) other) ∙ is)
 
 -- no place of places has an index that none is found with
 none_with : (places : List TagPlace) (k : ℕ) (q : TagPlace) (i : ℕ) → slice_get places k ≡ Some q → home_with places i ≡ None → q.index ≡ i → ⊥
@@ -200,38 +170,33 @@ module _ (old mid new : Pages) (places : List TagPlace) (index : ℕ) (home : Ho
   fresh = record { seq = 0; at = None }
 
   entries : (s : ℕ) → entry_at new all s ≡ cond (nat_eq (s / 1022) index) (Some fresh) (entry_at old places s)
-  entries s = by_home (home_with places (s / 1022)) refl
+  entries s = by_index (nat_eq index (s / 1022)) refl
     where
-      some_is : {h : Home} → Some h ≡ None → ⊥
-      some_is is = subst Test is tt
+      read_at : Pages → Option Home → Option TagEntry
+      read_at ps o = option_map (read s) (option_and_then ps o)
+
+      after : Bool → Option TagEntry
+      after b = cond b (Some fresh) (entry_at old places s)
+
+      flip : (b : Bool) → nat_eq index (s / 1022) ≡ b → nat_eq (s / 1022) index ≡ b
+      flip true same = eq-eqb (s / 1022) index (sym (eqb-true index (s / 1022) same))
+      flip false other = by_test (nat_eq (s / 1022) index) refl
         where
-          Test : Option Home → Type 0
-          Test None = ⊥
-          Test (Some y) = Unit {0}
+          by_test : (b : Bool) → nat_eq (s / 1022) index ≡ b → nat_eq (s / 1022) index ≡ false
+          by_test true is = absurd (both_ways (nat_eq index (s / 1022)) other (eq-eqb index (s / 1022) (sym (eqb-true (s / 1022) index is))))
+          by_test false is = is
 
-      by_test : (h : Home) → home_with places (s / 1022) ≡ Some h → (b : Bool) → nat_eq (s / 1022) index ≡ b → nat_eq (s / 1022) index ≡ false
-      by_test h at true same = absurd (some_is (sym at ∙ ap (home_with places) (eqb-true (s / 1022) index same) ∙ unused))
-      by_test h at false other = other
+      stands : (b : Bool) → nat_eq index (s / 1022) ≡ b → home_with all (s / 1022) ≡ cond b (Some home) (home_with places (s / 1022))
+      stands b is = home_pushed places p (s / 1022) unused ∙ ap (λ b. cond b (Some home) (home_with places (s / 1022))) is
 
-      by_index : home_with places (s / 1022) ≡ None → (b : Bool) → nat_eq (s / 1022) index ≡ b → entry_at new all s ≡ cond (nat_eq (s / 1022) index) (Some fresh) (entry_at old places s)
-      by_index none true same =
-          let here = eqb-true (s / 1022) index same in
-          ap (λ o. option_map (read s) (option_and_then new o)) (home_last places p (s / 1022) none ∙ ap (λ b. cond b (Some home) None) (eq-eqb index (s / 1022) (sym here)))
-          ∙ ap (option_map (read s)) there ∙ ap Some (is.fresh (s % 1022) (omega arith)) ∙ sym (ap (λ b. cond b (Some fresh) (entry_at old places s)) same)
-      by_index none false other =
-          ap (λ o. option_map (read s) (option_and_then new o)) (home_last places p (s / 1022) none ∙ ap (λ b. cond b (Some home) None) (flip (nat_eq index (s / 1022)) refl))
-          ∙ sym (ap (λ o. option_map (read s) (option_and_then old o)) none) ∙ sym (ap (λ b. cond b (Some fresh) (entry_at old places s)) other)
-        where
-          flip : (b : Bool) → nat_eq index (s / 1022) ≡ b → nat_eq index (s / 1022) ≡ false
-          flip true is = absurd (both_ways (nat_eq (s / 1022) index) other (eq-eqb (s / 1022) index (sym (eqb-true index (s / 1022) is))))
-          flip false is = is
+      stays : (o : Option Home) → home_with places (s / 1022) ≡ o → read_at new o ≡ read_at old o
+      stays None at = refl
+      stays (Some h) at = ap (option_map (read s)) (away h (not_home h (found places (s / 1022) h at).listed)) ∙ mid_entries s h
 
-      by_home : (o : Option Home) → home_with places (s / 1022) ≡ o → entry_at new all s ≡ cond (nat_eq (s / 1022) index) (Some fresh) (entry_at old places s)
-      by_home None at = by_index at (nat_eq (s / 1022) index) refl
-      by_home (Some h) at =
-          ap (λ o. option_map (read s) (option_and_then new o)) (home_added places p (s / 1022) h at)
-          ∙ ap (option_map (read s)) (away h (not_home h (found places (s / 1022) h at).listed)) ∙ mid_entries s h
-          ∙ sym (ap (λ o. option_map (read s) (option_and_then old o)) at) ∙ sym (ap (λ b. cond b (Some fresh) (entry_at old places s)) (by_test h at (nat_eq (s / 1022) index) refl))
+      by_index : (b : Bool) → nat_eq index (s / 1022) ≡ b → entry_at new all s ≡ after (nat_eq (s / 1022) index)
+      by_index true same =
+          ap (read_at new) (stands true same) ∙ ap (option_map (read s)) there ∙ ap Some (is.fresh (s % 1022) (omega arith)) ∙ sym (ap after (flip true same))
+      by_index false other = ap (read_at new) (stands false other) ∙ stays (home_with places (s / 1022)) refl ∙ sym (ap after (flip false other))
 
   order : (k n : ℕ) → (k < n) ⊎ ((k ≡ n) ⊎ (n < k))
   order k n = elim (cases_lt k n) [ inl less ↦ inl less | inr more ↦ elim (cases_lt n k) [ inl less ↦ inr (inr less) | inr same ↦ inr (inl (omega (arith, more, same))) ] ]
@@ -321,22 +286,3 @@ last_there pages places (Some h) dir is =
     good : (o : Option (List ℕ)) → IsSomeAnd o (IsPageOf is.p (home_behind places is.k)) → IsSomeAnd o IsTagPage
     good None x = x
     good (Some page) x = x.good
-
--- what the table of homes says with one place more
-pub table_added : (places : List TagPlace) (p : TagPlace) (i : ℕ) → home_with places p.index ≡ None → home_with (places ++ p ∷ []) i ≡ cond (nat_eq p.index i) (Some p.home) (home_with places i)
-table_added places p i unused = by_home (home_with places i) refl
-  where
-    some_is : {h : Home} → Some h ≡ None → ⊥
-    some_is is = subst Test is tt
-      where
-        Test : Option Home → Type 0
-        Test None = ⊥
-        Test (Some y) = Unit {0}
-
-    by_test : (h : Home) → home_with places i ≡ Some h → (b : Bool) → nat_eq p.index i ≡ b → nat_eq p.index i ≡ false
-    by_test h at true same = absurd (some_is (sym at ∙ ap (home_with places) (sym (eqb-true p.index i same)) ∙ unused))
-    by_test h at false other = other
-
-    by_home : (o : Option Home) → home_with places i ≡ o → home_with (places ++ p ∷ []) i ≡ cond (nat_eq p.index i) (Some p.home) (home_with places i)
-    by_home None at = home_last places p i at ∙ ap (λ o. cond (nat_eq p.index i) (Some p.home) o) (sym at)
-    by_home (Some h) at = home_added places p i h at ∙ sym (ap (λ b. cond b (Some p.home) (home_with places i)) (by_test h at (nat_eq p.index i) refl) ∙ at)

@@ -13,7 +13,7 @@ use Rattle.tag_dirs.specs.declared.page.TagEntry.{TagEntry}
 use Rattle.tag_dirs.specs.TagPage.{IsAllowed, IsTagPage, entry_of, index_of, slot_of}
 use Rattle.tag_dirs.specs.Directory.{CanHave, ChangesAt, ChangesSlot, IsDirectory, IsPageOf, SetsTag, cell_for, cell_of, entry_at, has_home, home_behind, home_with, sequence_of}
 
-none_is_some : {X : Type 0} (x : X) → None ≡ Some x → ⊥
+pub none_is_some : {X : Type 0} (x : X) → None ≡ Some x → ⊥
 none_is_some {X} x is = subst Test is tt
   where
     Test : Option X → Type 0

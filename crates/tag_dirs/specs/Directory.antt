@@ -35,6 +35,18 @@ abbrev pub home_with : List TagPlace → ℕ → Option Home
 home_with [] index = None
 home_with (p ∷ ps) index = if p.index == index then Some p.home else home_with ps index
 
+-- the number of the page with an index, counted along the chain from 0
+abbrev pub number_with : List TagPlace → ℕ → Option ℕ
+number_with [] index = None
+number_with (p ∷ ps) index =
+    if p.index == index then Some 0 else option_map (λ k. k + 1) (number_with ps index)
+
+-- what a directory in memory keeps beside its places: a table that has each page's number by its
+-- index, and as many guesses as places
+pub record IsKept (places : List TagPlace) (numbers : ℕ → Option ℕ) (guesses : ℕ) : Type 0 where
+  pub table : (index : ℕ) → numbers index ≡ number_with places index
+  pub guessed : guesses ≡ length places
+
 -- a page of the directory stands there
 abbrev pub has_home : List TagPlace → Home → Bool
 has_home places home = list_any (λ (p : TagPlace). same_home home p.home) places

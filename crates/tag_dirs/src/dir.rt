@@ -4,11 +4,12 @@ ghost use Rattle.page_store.specs.Pages.{Pages};
 ghost use Rattle.tag_dirs.specs.declared.page.TagEntry.{TagEntry as Entry};
 ghost use Rattle.tag_dirs.specs.TagPage.{IsAllowed};
 ghost use Rattle.domain_base.specs.declared.place.Tag.{Tag};
-ghost use Rattle.tag_dirs.specs.TagPage.{HasIndex};
-ghost use Rattle.tag_dirs.specs.Directory.{AddsPage, IsLast, has_home, ChangesSlot, IsDirectory, SetsTag, cell_of, entry_at as entry_there, home_with, sequence_of, CanTake, HasNone, TakesOn};
+ghost use Rattle.tag_dirs.specs.Directory.{AddsPage, IsLast, has_home, ChangesSlot, IsDirectory, SetsTag, cell_of, entry_at as entry_there, home_with, number_with, sequence_of, CanTake};
 
 use crate::entries::{change_entry, lead_on};
-use crate::page::{ENTRIES, TagEntry, find_takeable, new_page, read_entry};
+use crate::finding::{find_in, guess_in};
+use crate::guess::Guess;
+use crate::page::{ENTRIES, TagEntry, can_take, new_page, read_entry};
 use domain_base::{CellAt, Home, OutOfMemory, Tag};
 use page_store::MetaPages;
 use std::alloc::Global;
@@ -23,55 +24,26 @@ pub struct TagPlace {
 }
 
 /// The tag directory of a fileset: its pages, in their chain's order. The pages themselves stand
-/// among the pages of metadata that each call is given.
+/// among the pages of metadata that each call is given. Which of their entries may be free is
+/// guessed, and no part of what contracts see.
 #[derive(Debug, Drop)]
 pub struct TagDir {
     places: Vec<TagPlace>,
-    homes: HashMap<u32, Home>,
+    guesses: Vec<Guess>,
+    numbers: HashMap<u32, usize>,
 }
 
 impl Model for TagDir {
-    ghost use Rattle.std.specs.Prelude.{◌≡◌, ℕ, List, nat_eq};
+    ghost use Rattle.std.specs.Prelude.{List, nat_eq, vec_len};
     ghost use Rattle.std.specs.HashMap.{get};
     ghost use Rattle.tag_dirs.specs.declared.dir.TagPlace.{TagPlace};
-    ghost use Rattle.tag_dirs.specs.Directory.{home_with};
+    ghost use Rattle.tag_dirs.specs.Directory.{IsKept};
 
     ghost Value = { List TagPlace };
 
     ghost view = { λ d. d.places.items };
 
-    ghost invariant = { λ d. (index : ℕ)
-        → get nat_eq d.homes index ≡ home_with d.places.items index };
-}
-
-/// A tag of the page at a place that may be taken.
-fn find_on<M: MetaPages>(pages: &M, place: &TagPlace) -> Option<Tag>
-    requires { IsSomeAnd (M.pages pages.now place.now.home) (HasIndex place.now.index) }
-    ensures some { IfSome result (TakesOn (M.pages pages.now) place.now) }
-    ensures none { IfNone result (HasNone (M.pages pages.now) place.now) }
-{
-    let page = pages.get(place.home)?;
-    let first = usize::from(place.index == 0);
-    let entry = find_takeable(page, first)?;
-    Some(Tag {
-        slot: ENTRIES as u32 * place.index + entry as u32,
-        seq: read_entry(page, entry).seq + 1,
-    })
-}
-
-/// A tag of a directory that may be taken, on the first page that has one.
-fn find_in<M: MetaPages>(pages: &M, places: &[TagPlace]) -> Option<Tag>
-    requires { IsDirectory (M.pages pages.now) places.now }
-    ensures some { IfSome result (CanTake (M.pages pages.now) places.now) }
-    ensures none { IfNone result ((tag : Tag) → ¬ CanTake (M.pages pages.now) places.now tag) }
-{
-    for place in places {
-        let found = find_on(pages, place);
-        if found.is_some() {
-            return found;
-        }
-    }
-    None
+    ghost invariant = { λ d. IsKept d.places.items (get nat_eq d.numbers) (vec_len d.guesses) };
 }
 
 /// The home of the last page, if there is one.
@@ -91,7 +63,8 @@ impl TagDir {
     {
         TagDir {
             places: Vec::new(alloc),
-            homes: HashMap::new(alloc),
+            guesses: Vec::new(alloc),
+            numbers: HashMap::new(alloc),
         }
     }
 
@@ -125,21 +98,23 @@ impl TagDir {
         let page = new_page(alloc, index)?;
         pages.reserve(alloc, 1)?;
         let last = last_home(self.places.as_slice());
-        self.push(TagPlace { index, home })?;
+        self.push(TagPlace { index, home }, Guess::of_new(index))?;
         lead_on(pages, &last, &home);
         pages.put(home, page);
         Ok(())
     }
 
-    /// Puts a place behind the others. At an Err nothing has changed.
-    fn push(&mut self, place: TagPlace) -> Result<(), OutOfMemory>
+    /// Puts a place behind the others, with the guess of its page. At an Err nothing has changed.
+    fn push(&mut self, place: TagPlace, guess: Guess) -> Result<(), OutOfMemory>
         requires { home_with self.old place.index ≡ None }
         ensures ok { OnOk result (self.new ≡ self.old ++ place ∷ []) }
         ensures err { OnErr result (self.new ≡ self.old) }
     {
         self.places.reserve(1)?;
-        self.homes.insert(place.index, place.home)?;
+        self.guesses.reserve(1)?;
+        self.numbers.insert(place.index, self.places.len())?;
         self.places.push_reserved(place);
+        self.guesses.push_reserved(guess);
         Ok(())
     }
 
@@ -167,7 +142,7 @@ impl TagDir {
         ensures same { self.new ≡ self.old }
         ensures room { M.room pages.new ≡ M.room pages.old }
     {
-        let tag = find_in(pages, self.places.as_slice())?;
+        let tag = self.find(pages)?;
         self.enter_as(pages, tag, at);
         Some(tag)
     }
@@ -189,19 +164,14 @@ impl TagDir {
         ensures same { self.new ≡ self.old }
         ensures room { M.room pages.new ≡ M.room pages.old }
     {
-        let Some(home) = self.home_of(tag.slot) else {
-            return false;
-        };
         self.change(
             pages,
-            &home,
             tag.slot,
             &TagEntry {
                 seq: tag.seq,
                 at: Some(at),
             },
-        );
-        true
+        )
     }
 
     /// Makes a tag that is in use lead to another cell. It takes no memory.
@@ -213,17 +183,14 @@ impl TagDir {
         ensures same { self.new ≡ self.old }
         ensures room { M.room pages.new ≡ M.room pages.old }
     {
-        if let Some(home) = self.home_of(tag.slot) {
-            self.change(
-                pages,
-                &home,
-                tag.slot,
-                &TagEntry {
-                    seq: tag.seq,
-                    at: Some(at),
-                },
-            );
-        }
+        self.change(
+            pages,
+            tag.slot,
+            &TagEntry {
+                seq: tag.seq,
+                at: Some(at),
+            },
+        );
     }
 
     /// Takes a tag out of use. Its slot keeps its sequence. It takes no memory.
@@ -234,25 +201,44 @@ impl TagDir {
         ensures same { self.new ≡ self.old }
         ensures room { M.room pages.new ≡ M.room pages.old }
     {
-        if let Some(home) = self.home_of(tag.slot) {
-            self.change(
-                pages,
-                &home,
-                tag.slot,
-                &TagEntry {
-                    seq: tag.seq,
-                    at: None,
-                },
-            );
+        self.change(
+            pages,
+            tag.slot,
+            &TagEntry {
+                seq: tag.seq,
+                at: None,
+            },
+        );
+    }
+
+    /// A tag that may be taken: first where the guesses say, and then on all pages.
+    fn find<M: MetaPages>(&mut self, pages: &M) -> Option<Tag>
+        requires { IsDirectory (M.pages pages.now) self.old }
+        ensures some { IfSome result (CanTake (M.pages pages.now) self.old) }
+        ensures none { IfNone result ((tag : Tag) → ¬ CanTake (M.pages pages.now) self.old tag) }
+        ensures same { self.new ≡ self.old }
+    {
+        let guessed = guess_in(pages, self.places.as_slice(), &mut self.guesses);
+        if guessed.is_some() {
+            return guessed;
         }
+        find_in(pages, self.places.as_slice())
+    }
+
+    /// The number of the page that has the slot, counted along the chain.
+    fn number_of(&self, slot: u32) -> Option<usize>
+        ensures { result ≡ number_with self.now (slot / 1022) }
+    {
+        let index = slot / ENTRIES as u32;
+        self.numbers.get(&index).copied()
     }
 
     /// The home of the page that has the slot.
     fn home_of(&self, slot: u32) -> Option<Home>
         ensures { result ≡ home_with self.now (slot / 1022) }
     {
-        let index = slot / ENTRIES as u32;
-        self.homes.get(&index).copied()
+        let number = self.number_of(slot)?;
+        Some(self.places[number].home)
     }
 
     /// The entry of a slot, if a page has it.
@@ -264,15 +250,44 @@ impl TagDir {
         Some(read_entry(page, slot as usize % ENTRIES))
     }
 
-    /// Changes the entry of a slot, in place.
-    fn change<M: MetaPages>(&self, pages: &mut M, home: &Home, slot: u32, entry: &TagEntry)
+    /// Changes the entry of a slot, in place. False exactly where no page has the slot, and then
+    /// nothing has changed.
+    fn change<M: MetaPages>(&mut self, pages: &mut M, slot: u32, entry: &TagEntry) -> bool
+        requires directory { IsDirectory (M.pages pages.old) self.old }
+        requires allowed { IsAllowed slot entry.now }
+        ensures changes { result ≡ true → ChangesSlot slot entry.now self.old (M.pages pages.old)
+            (M.pages pages.new) }
+        ensures missing { result ≡ false → (home_with self.old (slot / 1022) ≡ None)
+            × (M.pages pages.new ≡ M.pages pages.old) }
+        ensures same { self.new ≡ self.old }
+        ensures room { M.room pages.new ≡ M.room pages.old }
+    {
+        let Some(number) = self.number_of(slot) else {
+            return false;
+        };
+        let before = self.change_on(pages, number, slot, entry);
+        let place = slot as usize % ENTRIES;
+        self.guesses[number].note_change(place, before, can_take(entry));
+        true
+    }
+
+    /// Changes the entry of a slot on the page with that number, and tells whether the one before
+    /// could be taken.
+    fn change_on<M: MetaPages>(
+        &self,
+        pages: &mut M,
+        number: usize,
+        slot: u32,
+        entry: &TagEntry,
+    ) -> bool
         requires directory { IsDirectory (M.pages pages.old) self.now }
-        requires home { home_with self.now (slot / 1022) ≡ Some home.now }
+        requires number { number_with self.now (slot / 1022) ≡ Some number }
         requires allowed { IsAllowed slot entry.now }
         ensures changes { ChangesSlot slot entry.now self.now (M.pages pages.old)
             (M.pages pages.new) }
         ensures room { M.room pages.new ≡ M.room pages.old }
     {
-        change_entry(pages, home, slot as usize % ENTRIES, entry);
+        let home = self.places[number].home;
+        change_entry(pages, &home, slot as usize % ENTRIES, entry)
     }
 }

@@ -3,21 +3,30 @@ ghost use Rattle.std.specs.Prelude.{◌≡◌, ◌<◌, IfSome, IsSomeAnd};
 ghost use Rattle.tag_dirs.specs.TagPage.{IsTagPage};
 ghost use Rattle.tag_dirs.specs.Directory.{CanHave, ChangesAt, Leads, LinksAt};
 
-use crate::page::{TagEntry, put_entry, put_next};
+use crate::page::{TagEntry, can_take, put_entry, put_next, read_entry};
 use domain_base::Home;
 use page_store::MetaPages;
 
-/// Changes an entry of the tag page that stands there, in place. All other entries and pages stay.
-pub(crate) fn change_entry<M: MetaPages>(pages: &mut M, home: &Home, place: usize, entry: &TagEntry)
+/// Changes an entry of the tag page that stands there, in place, and tells whether the one before
+/// could be taken. All other entries and pages stay.
+pub(crate) fn change_entry<M: MetaPages>(
+    pages: &mut M,
+    home: &Home,
+    place: usize,
+    entry: &TagEntry,
+) -> bool
     requires page { IsSomeAnd (M.pages pages.old home.now) (CanHave place entry.now) }
     requires place { place < 1022 }
     ensures changes { ChangesAt home.now place entry.now (M.pages pages.old) (M.pages pages.new) }
     ensures room { M.room pages.new ≡ M.room pages.old }
 {
-    if let Some(mut page) = pages.take_off(*home) {
-        put_entry(&mut page, place, entry);
-        pages.put(*home, page);
-    }
+    let Some(mut page) = pages.take_off(*home) else {
+        return false;
+    };
+    let before = can_take(&read_entry(&page, place));
+    put_entry(&mut page, place, entry);
+    pages.put(*home, page);
+    before
 }
 
 /// Makes the tag page that stands there lead to another next page, in place.

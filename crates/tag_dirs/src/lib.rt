@@ -3,6 +3,8 @@
 
 mod dir;
 mod entries;
+mod finding;
+mod guess;
 mod page;
 
 pub use dir::{TagDir, TagPlace};

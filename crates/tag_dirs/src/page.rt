@@ -3,7 +3,7 @@ ghost use Rattle.std.specs.Prelude.{IfOk, ℕ, ◌≡◌, ◌+◌, ◌*◌, ◌<
 ghost use Rattle.domain_base.specs.Page.{zero_bytes};
 ghost use Rattle.record_table.specs.Fields.{number_at};
 ghost use Rattle.bmt_mcells.specs.Cell.{IsAddress};
-ghost use Rattle.tag_dirs.specs.TagPage.{IsNewPage, LinksPage, ChangesEntry, IsAllowed, IsNewPage, IsTagPage, entry_of, is_takeable, slot_of};
+ghost use Rattle.tag_dirs.specs.TagPage.{LinksPage, ChangesEntry, IsAllowed, IsNewPage, IsTagPage, entry_of, index_of, is_takeable, next_of, slot_of};
 
 use byteorder::{ByteOrder, LittleEndian};
 use domain_base::{CellAt, Home, OutOfMemory, Page, VolIx};
@@ -79,8 +79,29 @@ pub(crate) fn read_entry(page: &Page, entry: usize) -> TagEntry
     }
 }
 
+/// The index of a tag page.
+pub(crate) fn read_index(page: &Page) -> u32
+    requires { IsTagPage page.now }
+    ensures { result ≡ index_of page.now }
+{
+    u32_at(page.bytes(), 4)
+}
+
+/// The home of the page that is next to a tag page, if there is one.
+pub(crate) fn read_next(page: &Page) -> Option<Home>
+    requires { IsTagPage page.now }
+    ensures { result ≡ next_of page.now }
+{
+    let bytes = page.bytes();
+    let vol = VolIx::new(u32_at(bytes, 8))?;
+    Some(Home {
+        vol,
+        page: u32_at(bytes, 12),
+    })
+}
+
 /// Whether an entry may be taken: it is free, and its sequence can rise.
-fn can_take(entry: &TagEntry) -> bool
+pub(crate) fn can_take(entry: &TagEntry) -> bool
     ensures { result ≡ is_takeable entry.now }
 {
     entry.seq < u16::MAX && entry.at.is_none()

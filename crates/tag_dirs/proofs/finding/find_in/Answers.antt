@@ -4,7 +4,7 @@ use Rattle.std.proofs.lemmas.Option.{slice_get_read, slice_get_within}
 use Rattle.tag_dirs.specs.Directory.{HasNone}
 use Rattle.tag_dirs.proofs.Slots.{map_if, same_some}
 use Rattle.tag_dirs.proofs.Takeable.{none_found, tag_found}
-use Rattle.tag_dirs.proofs.dir.find_in.Goals as goal
+use Rattle.tag_dirs.proofs.finding.find_in.Goals as goal
 
 none_of : {X : Type 0} {P : Type 0} (o : Option X) → is_some o ≡ false → IfNone o P → P
 none_of None is none = none
@@ -21,7 +21,7 @@ loop-place-preserved g c =
     let places = c.args.places.now in
     let at = c.loop-place.place-index in
     let there : slice_get places at ≡ Some c.place-item.result = slice_get_read places (length places) at c.place-item.result refl (omega arith) c.place-item.is in
-    let none : HasNone (g.M.MetaPages.pages c.args.pages.now) c.place-item.result = none_of c.find_on-found.result (sym c.is_some.ensures ∙ c.if-is_some.false) c.find_on-found.ensures.none in
+    let none : HasNone (g.M.MetaPages.pages c.args.pages.now) c.place-item.result = none_of c.find_on-found.result (sym c.is_some.ensures ∙ c.if-is_some.false) (c.find_on-found.ensures.none refl) in
     λ k p below is. elim (cases_lt k at) [
       | inl less ↦ c.loop-place.invariant k p less is
       | inr not_less ↦
