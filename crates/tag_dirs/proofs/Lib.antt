@@ -1,6 +1,7 @@
 pub mod Added
 pub mod NewPage
 pub mod Places
+pub mod Reading
 pub mod Slots
 pub mod Takeable
 pub mod WrittenEntry

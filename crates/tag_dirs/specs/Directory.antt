@@ -30,6 +30,16 @@ pub record IsDirectory (pages : Pages) (places : List TagPlace) : Type 0 where
       → slice_get places k ≡ Some q → p.index ≡ q.index → j ≡ k
   pub first : IfSome (slice_get places 0) (λ place. place.index ≡ 0)
 
+-- a directory whose first page stands at the home
+pub record IsDirectoryAt (pages : Pages) (first : Home) (places : List TagPlace) : Type 0 where
+  pub directory : IsDirectory pages places
+  pub begins : IsSomeAnd (slice_get places 0) (λ place. place.home ≡ first)
+
+-- there is one
+pub record HasDirectory (pages : Pages) (first : Home) : Type 0 where
+  pub places : List TagPlace
+  pub is : IsDirectoryAt pages first places
+
 -- the home of the page with an index
 abbrev pub home_with : List TagPlace → ℕ → Option Home
 home_with [] index = None
@@ -170,3 +180,14 @@ IsLast places (Some home) = LastPlace places home
 abbrev pub Leads : Option Home → Home → Pages → Pages → Type 0
 Leads None next old new = new ≡ old
 Leads (Some home) next old new = LinksAt home next old new
+
+-- a well-formed page with an index that none of the places has
+pub record CanJoin (places : List TagPlace) (page : List ℕ) : Type 0 where
+  pub good : IsTagPage page
+  pub unused : home_with places (index_of page) ≡ None
+
+-- the page at the home stands behind the others, and this is its next page
+pub record JoinsPage (home : Home) (page : List ℕ) (old new : List TagPlace) (next : Option Home)
+    : Type 0 where
+  pub joined : new ≡ old ++ (record { index = index_of page; home = home }) ∷ []
+  pub linked : next ≡ next_of page

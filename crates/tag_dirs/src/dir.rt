@@ -4,12 +4,12 @@ ghost use Rattle.page_store.specs.Pages.{Pages};
 ghost use Rattle.tag_dirs.specs.declared.page.TagEntry.{TagEntry as Entry};
 ghost use Rattle.tag_dirs.specs.TagPage.{IsAllowed};
 ghost use Rattle.domain_base.specs.declared.place.Tag.{Tag};
-ghost use Rattle.tag_dirs.specs.Directory.{AddsPage, IsLast, has_home, ChangesSlot, IsDirectory, SetsTag, cell_of, entry_at as entry_there, home_with, number_with, sequence_of, CanTake};
+ghost use Rattle.tag_dirs.specs.Directory.{AddsPage, IsLast, has_home, ChangesSlot, IsDirectory, SetsTag, cell_of, entry_at as entry_there, home_with, number_with, sequence_of, CanJoin, CanTake, HasDirectory, IsDirectoryAt, JoinsPage};
 
 use crate::entries::{change_entry, lead_on};
 use crate::finding::{find_in, guess_in};
 use crate::guess::Guess;
-use crate::page::{ENTRIES, TagEntry, can_take, new_page, read_entry};
+use crate::page::{ENTRIES, TagEntry, can_take, new_page, read_entry, read_index, read_next};
 use domain_base::{CellAt, Home, OutOfMemory, Tag};
 use page_store::MetaPages;
 use std::alloc::Global;
@@ -66,6 +66,41 @@ impl TagDir {
             guesses: Vec::new(alloc),
             numbers: HashMap::new(alloc),
         }
+    }
+
+    /// The directory whose first page stands there.
+    pub fn read<M: MetaPages>(alloc: Global, pages: &M, first: Home) -> Result<Self, OutOfMemory>
+        requires { HasDirectory (M.pages pages.now) first }
+        ensures { IfOk result (IsDirectoryAt (M.pages pages.now) first) }
+    {
+        let mut dir = TagDir::new(alloc);
+        let mut next = Some(first);
+        while let Some(home) = next {
+            next = dir.join(pages, &home)?;
+        }
+        Ok(dir)
+    }
+
+    /// Puts the page that stands there behind the others, and answers the home of its next page.
+    fn join<M: MetaPages>(&mut self, pages: &M, home: &Home) -> Result<Option<Home>, OutOfMemory>
+        requires { IsSomeAnd (M.pages pages.now home.now) (CanJoin self.old) }
+        ensures { IfOk result (λ next. IsSomeAnd (M.pages pages.now home.now)
+            (λ page. JoinsPage home.now page self.old self.new next)) }
+    {
+        let Some(page) = pages.get(*home) else {
+            return Ok(None);
+        };
+        let index = read_index(page);
+        let home = *home;
+        self.push(TagPlace { index, home }, Guess::of_page(page, index))?;
+        Ok(read_next(page))
+    }
+
+    /// The pages of the directory and where they stand, in their chain's order.
+    pub fn places(&self) -> &[TagPlace]
+        ensures { result.now ≡ self.now }
+    {
+        self.places.as_slice()
     }
 
     /// Adds a page whose entries were never used, with this index, behind the last page, which leads

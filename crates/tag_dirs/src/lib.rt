@@ -5,6 +5,8 @@ mod dir;
 mod entries;
 mod finding;
 mod guess;
+mod laws;
 mod page;
 
 pub use dir::{TagDir, TagPlace};
+pub use laws::one_directory;
