@@ -236,14 +236,8 @@ impl TagDir {
         ensures same { self.new ≡ self.old }
         ensures room { M.room pages.new ≡ M.room pages.old }
     {
-        self.change(
-            pages,
-            tag.slot,
-            &TagEntry {
-                seq: tag.seq,
-                at: None,
-            },
-        );
+        let seq = tag.seq;
+        self.change(pages, tag.slot, &TagEntry { seq, at: None });
     }
 
     /// A tag that may be taken: first where the guesses say, and then on all pages.
