@@ -1,0 +1,5 @@
+use Rattle.dir_pages.proofs.Parts.{rows_are_once}
+use Rattle.dir_pages.proofs.laws.rows_stand_once.Goals as goal
+
+pub returns : goal.returns
+returns c = rows_are_once

@@ -1,0 +1,12 @@
+use Rattle.std.proofs.Common.{◌∙◌, [], ◌∷◌, ◌++◌, ap}
+use Rattle.std.proofs.lemmas.List.{append-nil}
+use Rattle.domain_base.specs.Page.{overwritten}
+use Rattle.record_table.specs.Records.{spelled}
+use Rattle.dir_pages.specs.RowPage.{header_widths}
+use Rattle.dir_pages.proofs.Parts.{spelled_header}
+use Rattle.dir_pages.proofs.page.put_header.Goals as goal
+
+pub returns-clause-value : goal.returns-clause-value
+returns-clause-value c =
+    let header = c.put.ensures.written ∙ (λ i. spelled header_widths (c.from.ensures i ∷ c.args.size ∷ c.args.count ∷ 0 ∷ []) ++ []) ∙ append-nil (spelled_header c.args.size c.args.count) in
+    c.set.ensures.value ∙ ap (overwritten c.args.page.now 0) header

@@ -1,0 +1,3 @@
+pub mod RowPage
+pub mod Rows
+pub mod Views
