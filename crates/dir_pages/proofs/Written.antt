@@ -9,7 +9,7 @@ use Rattle.dir_pages.specs.declared.row.Row.{Row}
 use Rattle.dir_pages.specs.Rows.{IsRow, spelled_row, spelling}
 use Rattle.dir_pages.specs.RowPage.{HasRows, IsRowPage, closed, header, page_of}
 use Rattle.dir_pages.proofs.Again.{spelling-append}
-use Rattle.dir_pages.proofs.Parts.{header_long, rows_are_once, spelled_header}
+use Rattle.dir_pages.proofs.Parts.{header_long, read_alike, rows_are_once, spelled_header}
 
 -- ---- bytes overwritten
 
@@ -42,7 +42,7 @@ over_twice page one two at n next fits =
 pub made : (page : List ℕ) (rows : List Row) (rest : List ℕ) → page ≡ page_of rows rest → length page ≡ 8192 → AllByRecursion IsRow rows → HasRows rows rest page
 made page rows rest is whole good =
     let row_page : IsRowPage page rows = record { whole = whole; rest = rest; parts = is; good = good } in
-    record { value = is; good = row_page; read = rows_are_once page rows row_page }
+    record { value = is; good = read_alike page rows row_page; read = rows_are_once page rows row_page }
 
 pub good_more : (rows : List Row) (row : Row) → AllByRecursion IsRow rows → IsRow row → AllByRecursion IsRow (rows ++ row ∷ [])
 good_more [] row good one = (one, tt)

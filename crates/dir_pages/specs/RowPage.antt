@@ -60,7 +60,7 @@ RowsOnce = (page : List ℕ) (rows : List Row) → IsRowPage page rows → rows_
 -- a page that has these rows now, and behind them these bytes
 pub record HasRows (rows : List Row) (rest page : List ℕ) : Type 0 where
   pub value : page ≡ page_of rows rest
-  pub good : IsRowPage page rows
+  pub good : IsDirPage page
   pub read : rows_of page ≡ rows
 
 -- the list in which the bytes from a gap's end up to another end stand where the gap was, and as

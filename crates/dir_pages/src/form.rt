@@ -137,8 +137,8 @@ fn are_page_bytes(bytes: &[u8]) -> bool
     are_rows(u16_at(bytes, 6), &bytes[ROWS_START..end])
 }
 
-/// Whether a page is a directory page: `DIRP`, the bytes of the rows, how many rows there are, eight
-/// zeros, and the rows, each of them well formed. Two rows may have one name.
+/// Whether a page is a directory page: `DIRP`, the bytes of the rows, how many rows there are,
+/// eight zeros, and the rows, each of them well formed. Two rows may have one name.
 pub fn is_row_page(page: &Page) -> bool
     ensures good { result ≡ true → IsDirPage page.now }
     ensures bad { result ≡ false → (rows : List Row) → ¬ IsRowPage page.now rows }

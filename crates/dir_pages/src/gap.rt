@@ -11,15 +11,16 @@ fn move_byte(page: &mut Page, at: usize, len: usize, end: usize)
     requires place { at < end }
     requires within { end ≤ 8192 }
     requires small { len ≤ 8192 }
-    ensures { page.new ≡ overwritten page.old at ((if nat_lt (at + len) end then slice_index page.old (at + len) else 0) ∷ []) }
+    ensures { page.new ≡ overwritten page.old at
+        ((if nat_lt (at + len) end then slice_index page.old (at + len) else 0) ∷ []) }
 {
     let from = at + len;
     let byte = if from < end { page.bytes()[from] } else { 0 };
     page.set(at, &[byte]);
 }
 
-/// Moves the bytes behind a gap of a page, up to an end, to the front of the gap, and writes as many
-/// zeros behind them as the gap had bytes.
+/// Moves the bytes behind a gap of a page, up to an end, to the front of the gap, and writes zeros
+/// behind them, as many as the gap had bytes.
 pub(crate) fn close_gap(page: &mut Page, gap: usize, len: usize, end: usize)
     requires whole { length page.old ≡ 8192 }
     requires gap { gap + len ≤ end }

@@ -133,8 +133,8 @@ fn put_row(page: &mut Page, at: usize, tag: Tag, kind: Kind, name: &[u8])
 }
 
 /// Adds a row behind the last one. False exactly where it does not fit into the page (`has_room`),
-/// and then the page is as before. It takes no memory. No other row is looked at: whether the name is
-/// new is for the caller to know.
+/// and then the page is as before. It takes no memory. No other row is looked at: whether the name
+/// is new is for the caller to know.
 pub fn add_row(page: &mut Page, tag: Tag, kind: Kind, name: &[u8]) -> bool
     requires page { IsDirPage page.old }
     requires name { is_row_name name.now ≡ true }
@@ -145,6 +145,7 @@ pub fn add_row(page: &mut Page, tag: Tag, kind: Kind, name: &[u8]) -> bool
       name = name.now;
     } ∷ []) (drop (8 + length name.now) (behind page.old)) page.new }
     ensures full { result ≡ false → page.new ≡ page.old }
+    ensures page { IsDirPage page.new }
 {
     if !has_room(page, name) {
         return false;
@@ -175,14 +176,15 @@ fn place_of(page: &Page, name: &[u8]) -> Option<RowPlace>
 }
 
 /// Removes the first row that has the name, and closes the gap: the rows behind it follow the ones
-/// before it, and as many zeros as it had bytes stand behind the last row. False exactly where no row
-/// has the name, and then the page is as before. It takes no memory.
+/// before it, and as many zeros as it had bytes stand behind the last row. False exactly where no
+/// row has the name, and then the page is as before. It takes no memory.
 pub fn remove_row(page: &mut Page, name: &[u8]) -> bool
     requires { IsDirPage page.old }
     ensures named { result ≡ is_named name.now (rows_of page.old) }
     ensures removed { result ≡ true → HasRows (without name.now (rows_of page.old))
         (zero_bytes (8 + length name.now) ++ behind page.old) page.new }
     ensures missing { result ≡ false → page.new ≡ page.old }
+    ensures page { IsDirPage page.new }
 {
     let Some(place) = place_of(page, name) else {
         return false;
@@ -214,7 +216,8 @@ fn copy_rows(alloc: Global, page: &Page) -> Result<RowList, OutOfMemory>
 /// The rows of a page, in their order. Bad exactly where the page is no directory page.
 pub fn read_rows(alloc: Global, page: &Page) -> Result<RowList, RowsFault>
     ensures ok { IfOk result (IsRowPage page.now) }
-    ensures bad { IfErr result (λ fault. fault ≡ Bad → (rows : List RowItem) → ¬ IsRowPage page.now rows) }
+    ensures bad { IfErr result (λ fault. fault ≡ Bad
+        → (rows : List RowItem) → ¬ IsRowPage page.now rows) }
 {
     if !is_row_page(page) {
         return Err(RowsFault::Bad);

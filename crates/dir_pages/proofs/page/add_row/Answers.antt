@@ -1,4 +1,4 @@
-use Rattle.std.proofs.Common.{◌≡◌, ◌∙◌, ◌+◌, ◌≤◌, [], ◌∷◌, ◌++◌, length, drop, sym, ap, subst, arith}
+use Rattle.std.proofs.Common.{◌≡◌, ◌∙◌, ◌+◌, ◌≤◌, [], ◌∷◌, ◌++◌, length, drop, refl, sym, ap, subst, arith}
 use Rattle.std.proofs.lemmas.Bool.{leb-true}
 use Rattle.dir_pages.specs.declared.row.Row.{Row}
 use Rattle.dir_pages.specs.Rows.{spelled_row, spelling}
@@ -35,3 +35,6 @@ returns-clause-added c always =
     let done = added page rows is row c.put_row.new.page c.put_header.new.page at size count start within c.put_row.ensures.value sized counted c.put_header.ensures.value c.put_header.ensures.len
     (record { slot = c.put_row.ensures.slot; seq = c.put_row.ensures.seq; named = c.requires.name }) in
     subst (λ bs. HasRows (rows ++ row ∷ []) bs c.put_header.new.page) (λ i. drop (long i) (sym (behind_is page rows is) i)) done
+
+pub returns-clause-page : goal.returns-clause-page
+returns-clause-page c = (returns-clause-added c refl).good

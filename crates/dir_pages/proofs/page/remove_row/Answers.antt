@@ -1,4 +1,4 @@
-use Rattle.std.proofs.Common.{◌≡◌, ◌∙◌, ◌+◌, ◌-◌, ◌++◌, length, sym, ap, subst, arith}
+use Rattle.std.proofs.Common.{◌≡◌, ◌∙◌, ◌+◌, ◌-◌, ◌++◌, length, refl, sym, ap, subst, arith}
 use Rattle.domain_base.specs.Page.{zero_bytes}
 use Rattle.dir_pages.specs.Rows.{spelling}
 use Rattle.dir_pages.specs.RowPage.{HasRows, behind, rows_of}
@@ -48,3 +48,6 @@ returns-clause-removed c always =
     at.starts at.sized (ap (λ n. 16 + n) used) c.close_gap.ensures sized counted c.put_header.ensures.value c.put_header.ensures.len in
     subst (λ left. HasRows left (zero_bytes (8 + length name) ++ behind page) c.put_header.new.page) (sym (without_place name rows start len at))
     (subst (λ bs. HasRows (at.front ++ at.back) bs c.put_header.new.page) (λ i. zero_bytes (place_long name rows start len at i) ++ sym (behind_is page rows is) i) done)
+
+pub returns-clause-page : goal.returns-clause-page
+returns-clause-page c = (returns-clause-removed c refl).good
