@@ -1,0 +1,14 @@
+//! The fileset table: which filesets a domain has, and where the pages of each begin.
+#![tactic(auto)]
+
+mod fields;
+mod laws;
+mod reading;
+mod rules;
+mod slot;
+mod table;
+mod writing;
+
+pub use laws::{a_page_is_one_table, written_and_read};
+pub use slot::{FilesetEntry, SlotItem, TableFault};
+pub use table::FilesetTable;

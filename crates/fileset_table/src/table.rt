@@ -1,0 +1,145 @@
+//! The fileset table in memory.
+ghost use Rattle.std.specs.Prelude.{◌≡◌, true, false, length, drop, take, IfOk, IfSome, IfNone, IsSomeAnd, Some, slice_get};
+ghost use Rattle.std.specs.List.{list_any};
+ghost use Rattle.fileset_table.specs.Page.{IsTablePage};
+ghost use Rattle.fileset_table.specs.Reading.{Reads};
+ghost use Rattle.fileset_table.specs.Table.{IsCount, IsNewTable, IsTable, has_name, is_free, with_slot};
+
+use crate::reading::read_table;
+use crate::slot::{SlotItem, TableFault};
+use crate::writing::put_table;
+use domain_base::limits::FILESET_SLOTS;
+use domain_base::{FilesetNo, OutOfMemory, Page};
+use std::alloc::Global;
+use std::marker::Model;
+
+/// The fileset table of a domain: its 32 slots, and how many clones were ever made.
+#[derive(Drop)]
+pub struct FilesetTable {
+    slots: Vec<SlotItem>,
+    made: u64,
+}
+
+impl Model for FilesetTable {
+    ghost use Rattle.fileset_table.specs.Table.{IsTable, Table, table_code};
+
+    ghost Value = { Table };
+
+    ghost coded = { table_code };
+
+    ghost view = { λ t. record { slots = t.slots.items; made = t.made } };
+
+    ghost invariant = { λ t. IsTable (record { slots = t.slots.items; made = t.made }) };
+}
+
+impl FilesetTable {
+    /// 32 free slots, and no clone made.
+    pub fn new(alloc: Global) -> Result<FilesetTable, OutOfMemory>
+        ensures { IfOk result IsNewTable }
+    {
+        let mut slots = Vec::with_capacity(alloc, FILESET_SLOTS as usize)?;
+        for _ in 0..FILESET_SLOTS {
+            slots.push(SlotItem::Free)?;
+        }
+        Ok(FilesetTable { slots, made: 0 })
+    }
+
+    /// Reads a page. Bad comes exactly where it says no table.
+    pub fn read(alloc: Global, page: &Page) -> Result<FilesetTable, TableFault>
+        ensures { Reads (IsTablePage page.now) result }
+    {
+        let (slots, made) = read_table(alloc, page.bytes())?;
+        Ok(FilesetTable { slots, made })
+    }
+
+    /// Writes the table to a page; the bytes behind the last slot stay.
+    pub fn write(&self, page: &mut Page)
+        ensures table { IsTablePage page.new self.now }
+        ensures rest { drop 4112 page.new ≡ drop 4112 page.old }
+    {
+        put_table(&self.slots, self.made, page);
+    }
+
+    /// What a slot has. The table keeps its rules.
+    pub fn slot(&self, number: FilesetNo) -> &SlotItem
+        ensures value { slice_get self.now.slots number ≡ Some result.now }
+        ensures good { IsTable self.now }
+    {
+        &self.slots[number.number() as usize]
+    }
+
+    /// Puts this into a slot.
+    pub fn set_slot(&mut self, number: FilesetNo, item: SlotItem)
+        requires { IsTable (with_slot number item self.old) }
+        ensures { self.new ≡ with_slot number item self.old }
+    {
+        self.slots[number.number() as usize] = item;
+    }
+
+    /// How many clones were made.
+    pub fn made(&self) -> u64
+        ensures { result ≡ self.now.made }
+    {
+        self.made
+    }
+
+    /// Says how many clones were made.
+    pub fn set_made(&mut self, made: u64)
+        requires { IsCount made }
+        ensures { self.new ≡ record self.old { made = made } }
+    {
+        self.made = made;
+    }
+
+    /// The slot of the original or clone of this name. None exactly where there is none; a fileset
+    /// that is being removed has no name.
+    pub fn find(&self, name: &[u8]) -> Option<FilesetNo>
+        ensures some { IfSome result (λ number.
+            IsSomeAnd (slice_get self.now.slots number) (λ item. has_name name.now item ≡ true)) }
+        ensures none { IfNone result (list_any (has_name name.now) self.now.slots ≡ false) }
+    {
+        find_slot(&self.slots, name)
+    }
+
+    /// The first slot that is free. None exactly where none is.
+    pub fn free_slot(&self) -> Option<FilesetNo>
+        ensures some { IfSome result (λ number.
+            IsSomeAnd (slice_get self.now.slots number) (λ item. is_free item ≡ true)) }
+        ensures first { IfSome result (λ number.
+            list_any is_free (take number self.now.slots) ≡ false) }
+        ensures none { IfNone result (list_any is_free self.now.slots ≡ false) }
+    {
+        find_free(&self.slots)
+    }
+}
+
+/// The first of the slots with a fileset of this name.
+fn find_slot(slots: &[SlotItem], name: &[u8]) -> Option<FilesetNo>
+    requires { length slots.now ≡ 32 }
+    ensures some { IfSome result (λ number.
+        IsSomeAnd (slice_get slots.now number) (λ item. has_name name.now item ≡ true)) }
+    ensures none { IfNone result (list_any (has_name name.now) slots.now ≡ false) }
+{
+    for (number, slot) in slots.iter().enumerate() {
+        if slot.has_name(name) {
+            return FilesetNo::new(number as u32);
+        }
+    }
+    None
+}
+
+/// The first of the slots that is free.
+fn find_free(slots: &[SlotItem]) -> Option<FilesetNo>
+    requires { length slots.now ≡ 32 }
+    ensures some { IfSome result (λ number.
+        IsSomeAnd (slice_get slots.now number) (λ item. is_free item ≡ true)) }
+    ensures first { IfSome result (λ number. list_any is_free (take number slots.now) ≡ false) }
+    ensures none { IfNone result (list_any is_free slots.now ≡ false) }
+{
+    for (number, slot) in slots.iter().enumerate() {
+        if slot.is_free() {
+            return FilesetNo::new(number as u32);
+        }
+    }
+    None
+}
