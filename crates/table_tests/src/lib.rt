@@ -1,0 +1,7 @@
+//! Tests of the fileset table and of quotas.
+#![tactic(auto)]
+
+#[cfg(test)]
+mod lines;
+#[cfg(test)]
+mod tables;
