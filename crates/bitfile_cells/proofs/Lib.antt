@@ -2,3 +2,4 @@ pub mod Spaces
 pub mod Allocated
 pub mod MapRecords
 pub mod Walks
+pub mod Replaced

@@ -1,2 +1,3 @@
 pub mod Allocated
+pub mod Changes
 pub mod Files

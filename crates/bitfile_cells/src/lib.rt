@@ -1,8 +1,10 @@
 //! The chain of cells of a file or directory: its records, and where its pages stand.
 #![tactic(auto)]
 
+mod changing;
 mod taking;
 mod walking;
 
+pub use changing::{clear_record, set_record};
 pub use taking::take_cell;
 pub use walking::find_place;

@@ -1,0 +1,135 @@
+//! One record of a cell put in place of another, or taken away.
+ghost use Rattle.std.specs.Prelude.{◌≡◌, ◌++◌, IfOk, IfSome, None, OnErr, OnOk, Some, false};
+ghost use Rattle.domain_base.specs.declared.place.Home.{Home as HomeOf};
+ghost use Rattle.page_store.specs.Pages.{same_home};
+ghost use Rattle.record_table.specs.Records.{Allowed, kind_of};
+ghost use Rattle.bmt_mcells.specs.Cell.{AreRecords, Cell, spellings};
+ghost use Rattle.bmt_mcells.specs.CellPage.{KeepsHeaders, KeepsWellFormed, home_of as home_there};
+ghost use Rattle.bmt_mcells.specs.Chain.{LeavesOthers, StandsAt, is_at};
+ghost use Rattle.bitfile_cells.specs.Changes.{HasRoom, IsInUse, above, below, with_kind, with_record};
+
+use bmt_mcells::{RecordList, read_used, write_cell};
+use domain_base::{CellAt, OutOfMemory};
+use page_store::MetaPages;
+use record_table::Record;
+use std::alloc::Global;
+
+/// Appends the records of smaller kinds.
+fn push_below(records: &[Record], kind: u8, found: &mut Vec<Record>) -> Result<(), OutOfMemory>
+    ensures { OnOk result (found.new.items ≡ found.old.items ++ below kind records.now) }
+{
+    for value in records {
+        if value.kind() < kind {
+            found.push(*value)?;
+        }
+    }
+    Ok(())
+}
+
+/// Appends the records of greater kinds.
+fn push_above(records: &[Record], kind: u8, found: &mut Vec<Record>) -> Result<(), OutOfMemory>
+    ensures { OnOk result (found.new.items ≡ found.old.items ++ above kind records.now) }
+{
+    for value in records {
+        if kind < value.kind() {
+            found.push(*value)?;
+        }
+    }
+    Ok(())
+}
+
+/// The records with this one, or none, in place of those of a kind.
+fn replaced(
+    alloc: Global,
+    records: &[Record],
+    kind: u8,
+    value: &Option<Record>,
+) -> Result<RecordList, OutOfMemory>
+    ensures { IfOk result (λ found. found ≡ with_kind kind value.now records.now) }
+{
+    let mut found = Vec::new(alloc);
+    push_below(records, kind, &mut found)?;
+    if let Some(value) = value {
+        found.push(*value)?;
+    }
+    push_above(records, kind, &mut found)?;
+    Ok(RecordList::from_vec(found))
+}
+
+/// Puts a record, or none, in place of those of a kind in the cell in use that stands there. After an
+/// error nothing has changed.
+fn change_record<M: MetaPages>(
+    alloc: Global,
+    pages: &mut M,
+    at: &CellAt,
+    kind: u8,
+    value: &Option<Record>,
+) -> Result<(), OutOfMemory>
+    requires room { HasRoom (M.pages pages.old) at.now kind value.now }
+    requires allowed { IfSome value.now Allowed }
+    requires of_kind { IfSome value.now (λ r. kind_of r ≡ kind) }
+    ensures ok { (cell : Cell) → StandsAt (M.pages pages.old) at.now cell
+        → OnOk result (StandsAt (M.pages pages.new) at.now
+        (with_record kind value.now cell)) }
+    ensures err { OnErr result (M.pages pages.new ≡ M.pages pages.old) }
+    ensures others { LeavesOthers (is_at at.now) (M.pages pages.old) (M.pages pages.new) }
+    ensures well_formed { KeepsWellFormed (M.pages pages.old) (M.pages pages.new) }
+    ensures headers { KeepsHeaders (M.pages pages.old) (M.pages pages.new) }
+    ensures elsewhere { (home : HomeOf) → same_home home (home_there at.now) ≡ false
+        → M.pages pages.new home ≡ M.pages pages.old home }
+    ensures room { M.room pages.new ≡ M.room pages.old }
+{
+    let Some(used) = read_used(alloc, pages, *at)? else {
+        return Ok(());
+    };
+    let records = replaced(alloc, used.records.as_slice(), kind, value)?;
+    write_cell(pages, *at, &used.head, &records);
+    Ok(())
+}
+
+/// Puts a record in place of those of its kind in the cell in use that stands there, or among its
+/// records where it has none of that kind: the cell has room for it. Every other cell stays, and the
+/// index and next page of each page. After an error nothing has changed.
+pub fn set_record<M: MetaPages>(
+    alloc: Global,
+    pages: &mut M,
+    at: CellAt,
+    value: &Record,
+) -> Result<(), OutOfMemory>
+    requires room { HasRoom (M.pages pages.old) at (kind_of value.now) (Some value.now) }
+    requires allowed { Allowed value.now }
+    ensures ok { (cell : Cell) → StandsAt (M.pages pages.old) at cell
+        → OnOk result (StandsAt (M.pages pages.new) at
+        (with_record (kind_of value.now) (Some value.now) cell)) }
+    ensures err { OnErr result (M.pages pages.new ≡ M.pages pages.old) }
+    ensures others { LeavesOthers (is_at at) (M.pages pages.old) (M.pages pages.new) }
+    ensures well_formed { KeepsWellFormed (M.pages pages.old) (M.pages pages.new) }
+    ensures headers { KeepsHeaders (M.pages pages.old) (M.pages pages.new) }
+    ensures elsewhere { (home : HomeOf) → same_home home (home_there at) ≡ false
+        → M.pages pages.new home ≡ M.pages pages.old home }
+    ensures room { M.room pages.new ≡ M.room pages.old }
+{
+    change_record(alloc, pages, &at, value.kind(), &Some(*value))
+}
+
+/// Takes the records of a kind off the cell in use that stands there. Every other cell stays, and the
+/// index and next page of each page. After an error nothing has changed.
+pub fn clear_record<M: MetaPages>(
+    alloc: Global,
+    pages: &mut M,
+    at: CellAt,
+    kind: u8,
+) -> Result<(), OutOfMemory>
+    requires { IsInUse (M.pages pages.old) at }
+    ensures ok { (cell : Cell) → StandsAt (M.pages pages.old) at cell
+        → OnOk result (StandsAt (M.pages pages.new) at (with_record kind None cell)) }
+    ensures err { OnErr result (M.pages pages.new ≡ M.pages pages.old) }
+    ensures others { LeavesOthers (is_at at) (M.pages pages.old) (M.pages pages.new) }
+    ensures well_formed { KeepsWellFormed (M.pages pages.old) (M.pages pages.new) }
+    ensures headers { KeepsHeaders (M.pages pages.old) (M.pages pages.new) }
+    ensures elsewhere { (home : HomeOf) → same_home home (home_there at) ≡ false
+        → M.pages pages.new home ≡ M.pages pages.old home }
+    ensures room { M.room pages.new ≡ M.room pages.old }
+{
+    change_record(alloc, pages, &at, kind, &None)
+}
