@@ -58,15 +58,8 @@ abbrev pub HasHome : RunPlace → Type 0
 HasHome (place.At home) = OnVolume (place.At home)
 HasHome place.Holes = ⊥
 
-abbrev pub IsHole : RunPlace → Type 0
-IsHole (place.At home) = ⊥
-IsHole place.Holes = Unit {0}
-
 abbrev pub AllHomes : List Run → Type 0
 AllHomes = AllByRecursion (λ (run : Run). HasHome run.first)
-
-abbrev pub AllHoles : List Run → Type 0
-AllHoles = AllByRecursion (λ (run : Run). IsHole run.first)
 
 -- one record more, which holds the runs
 pub record AddsOne (kind : ℕ) (runs : List Run) (old new : List Record) : Type 0 where

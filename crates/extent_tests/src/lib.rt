@@ -2,8 +2,12 @@
 #![tactic(auto)]
 
 #[cfg(test)]
+mod changes;
+#[cfg(test)]
 mod random;
 #[cfg(test)]
 mod records;
 #[cfg(test)]
 mod runs;
+#[cfg(test)]
+mod writing;

@@ -10,13 +10,13 @@ use std::test::Fail;
 
 /// Numbers that are always the same ones.
 #[derive(Drop)]
-struct Random {
-    state: u64,
+pub(crate) struct Random {
+    pub(crate) state: u64,
 }
 
 impl Random {
     /// The next number, below 32,768.
-    fn next(&mut self) -> u32
+    pub(crate) fn next(&mut self) -> u32
         ensures { result < 32_768 }
     {
         let next = (self.state % 2_147_483_648 * 1_103_515_245 + 12_345) % 2_147_483_648;
@@ -27,13 +27,13 @@ impl Random {
 
 /// A page of the plain list, and where it is.
 #[derive(Clone, Copy, Debug, PartialEq, Eq)]
-struct Entry {
-    page: u32,
-    place: PagePlace,
+pub(crate) struct Entry {
+    pub(crate) page: u32,
+    pub(crate) place: PagePlace,
 }
 
 /// Where the list has a page.
-fn place_in(list: &[Entry], page: u32) -> PagePlace {
+pub(crate) fn place_in(list: &[Entry], page: u32) -> PagePlace {
     match list.iter().find(|entry| entry.page == page) {
         Some(entry) => entry.place,
         None => PagePlace::Absent,
@@ -41,7 +41,7 @@ fn place_in(list: &[Entry], page: u32) -> PagePlace {
 }
 
 /// One of the first or the last 48 pages of a file.
-fn some_page(random: &mut Random) -> u32
+pub(crate) fn some_page(random: &mut Random) -> u32
     ensures { result < FILE_PAGES }
 {
     let number = random.next() % 96;
@@ -49,7 +49,7 @@ fn some_page(random: &mut Random) -> u32
 }
 
 /// A home on one of two volumes: pages one after another often get homes that are so too.
-fn some_home(random: &mut Random, page: u32) -> Result<Home, Fail>
+pub(crate) fn some_home(random: &mut Random, page: u32) -> Result<Home, Fail>
     requires { page < FILE_PAGES }
     ensures { IfOk result (λ home. home.page < 100_000) }
 {
@@ -83,7 +83,7 @@ fn is_next(place: PagePlace, next: PagePlace) -> bool {
 }
 
 /// How many pages of the list do not go on from the page in front of them.
-fn count_runs(list: &[Entry]) -> usize {
+pub(crate) fn count_runs(list: &[Entry]) -> usize {
     list.iter().filter(|entry| !goes_on(list, entry)).count()
 }
 

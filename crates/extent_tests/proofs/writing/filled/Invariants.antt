@@ -1,0 +1,7 @@
+use Rattle.std.proofs.Common.{◌≡◌}
+use Rattle.record_table.specs.Records.{kind_of}
+use Rattle.extent_records.specs.Writing.{IsMapRecord}
+use Rattle.extent_tests.proofs.writing.filled.Given as goal
+
+abbrev pub invariant-loop-page : goal.invariant-loop-page
+invariant-loop-page l = record { is_map : IsMapRecord l.value; same_kind : kind_of l.value ≡ kind_of l.empty }
