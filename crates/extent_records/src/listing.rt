@@ -7,7 +7,9 @@ ghost use Rattle.extent_records.specs.Rows.{AreOneMap, IsMapOf};
 ghost use Rattle.extent_records.specs.Writing.{AllSuit, IsMapRecord, chain_kind, hole_kind, most_rows, short_kind};
 ghost use Rattle.extent_records.specs.Listing.{AddsAll, AddsOne, AllHomes, HoldsRuns, ListsMap, hole_part, holes_in, home_part, homes_in};
 
-use crate::writing::{empty_extents, empty_holes, empty_short, with_runs};
+use crate::writing::{
+    CHAIN_ROWS, DENSE_ROWS, SHORT_ROWS, empty_extents, empty_holes, empty_short, with_runs,
+};
 use domain_base::limits::MAX_VOLUMES;
 use domain_base::{OutOfMemory, Version};
 use extent_maps::{ExtentMap, Run, RunPlace};
@@ -19,9 +21,9 @@ fn row_count(value: &Record) -> usize
     ensures { result ≡ most_rows (kind_of value.now) }
 {
     match value {
-        Record::Extents { .. } | Record::Holes { .. } => 16,
-        Record::ShortExtents { .. } | Record::ShortDense { .. } => 4,
-        Record::DenseExtents { .. } => 22,
+        Record::Extents { .. } | Record::Holes { .. } => CHAIN_ROWS,
+        Record::ShortExtents { .. } | Record::ShortDense { .. } => SHORT_ROWS,
+        Record::DenseExtents { .. } => DENSE_ROWS,
         _ => 0,
     }
 }
@@ -142,7 +144,7 @@ fn push_short(records: &mut Vec<Record>, version: Version, homes: &[Run]) -> Res
     ensures { OnOk result (AddsOne (short_kind version)
         (take (most_rows (short_kind version)) homes.now) records.old.items records.new.items) }
 {
-    let first = homes.len().min(4);
+    let first = homes.len().min(SHORT_ROWS);
     push_record(records, &empty_short(version), &homes[..first])
 }
 
@@ -154,7 +156,7 @@ fn push_chain(records: &mut Vec<Record>, version: Version, homes: &[Run]) -> Res
     ensures { OnOk result (AddsAll (chain_kind version)
         (drop (most_rows (short_kind version)) homes.now) records.old.items records.new.items) }
 {
-    let first = homes.len().min(4);
+    let first = homes.len().min(SHORT_ROWS);
     push_records(records, &empty_extents(version), &homes[first..])
 }
 

@@ -9,6 +9,15 @@ use domain_base::{Home, Version};
 use extent_maps::{Run, RunPlace};
 use record_table::{ExtentField, HoleField, Record};
 
+/// How many rows the record of a primary cell has.
+pub(crate) const SHORT_ROWS: usize = 4;
+
+/// How many rows a record of extents or of holes of a chain's cell has.
+pub(crate) const CHAIN_ROWS: usize = 16;
+
+/// How many rows it has where they are dense.
+pub(crate) const DENSE_ROWS: usize = 22;
+
 /// How many pages a dense row has at most: its count has two bytes.
 const DENSE_PAGES: u32 = 65_535;
 
@@ -74,7 +83,7 @@ fn extents(rows: &[Run]) -> Option<Record>
     requires { AreRowsFrom 3 0 rows.now }
     ensures { IsRecordOf 3 rows.now result }
 {
-    if 16 < rows.len() {
+    if CHAIN_ROWS < rows.len() {
         return None;
     }
     Some(Record::Extents {
@@ -87,7 +96,7 @@ fn short_extents(rows: &[Run]) -> Option<Record>
     requires { AreRowsFrom 4 0 rows.now }
     ensures { IsRecordOf 4 rows.now result }
 {
-    if 4 < rows.len() {
+    if SHORT_ROWS < rows.len() {
         return None;
     }
     Some(Record::ShortExtents {
@@ -100,7 +109,7 @@ fn holes(rows: &[Run]) -> Option<Record>
     requires { AreRowsFrom 5 0 rows.now }
     ensures { IsRecordOf 5 rows.now result }
 {
-    if 16 < rows.len() {
+    if CHAIN_ROWS < rows.len() {
         return None;
     }
     Some(Record::Holes {
@@ -113,7 +122,7 @@ fn dense_extents(rows: &[Run]) -> Option<Record>
     requires { AreRowsFrom 13 0 rows.now }
     ensures { IsRecordOf 13 rows.now result }
 {
-    if 22 < rows.len() {
+    if DENSE_ROWS < rows.len() {
         return None;
     }
     Some(Record::DenseExtents {
@@ -126,7 +135,7 @@ fn short_dense(rows: &[Run]) -> Option<Record>
     requires { AreRowsFrom 14 0 rows.now }
     ensures { IsRecordOf 14 rows.now result }
 {
-    if 4 < rows.len() {
+    if SHORT_ROWS < rows.len() {
         return None;
     }
     Some(Record::ShortDense {

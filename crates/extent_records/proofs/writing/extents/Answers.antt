@@ -5,4 +5,4 @@ use Rattle.extent_records.proofs.WritingLemmas.{extents_are}
 use Rattle.extent_records.proofs.writing.extents.Goals as goal
 
 pub returns : goal.returns
-returns c = subst (λ l. HasRows 3 c.args.rows.now (Extents l)) (sym c.extent_rows.ensures) (extents_are c.args.rows.now c.requires c.if-rows-gt16.false)
+returns c = subst (λ l. HasRows 3 c.args.rows.now (Extents l)) (sym c.extent_rows.ensures) (extents_are c.args.rows.now c.requires c.if-rows-gt-CHAIN_ROWS.false)

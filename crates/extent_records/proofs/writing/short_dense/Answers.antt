@@ -5,4 +5,4 @@ use Rattle.extent_records.proofs.WritingLemmas.{short_dense_are}
 use Rattle.extent_records.proofs.writing.short_dense.Goals as goal
 
 pub returns : goal.returns
-returns c = subst (λ l. HasRows 14 c.args.rows.now (ShortDense l)) (sym c.extent_rows.ensures) (short_dense_are c.args.rows.now c.requires c.if-rows-gt4.false)
+returns c = subst (λ l. HasRows 14 c.args.rows.now (ShortDense l)) (sym c.extent_rows.ensures) (short_dense_are c.args.rows.now c.requires c.if-rows-gt-SHORT_ROWS.false)
