@@ -1,24 +1,31 @@
 -- What the change of one record does to the map of its chain.
-use Rattle.std.proofs.Common.{◌≡◌, ℕ, suc, ◌+◌, ◌<◌, ◌≤◌, Bool, true, false, cond, eqb, List, ◌∷◌, ◌++◌, length, get_or, set, take, drop, refl, sym, ap, subst, ◌∙◌, ◌⊎◌, inl, inr, arith}
+use Rattle.std.proofs.Common.{◌≡◌, ℕ, suc, ◌+◌, ◌-◌, ◌<◌, ◌≤◌, Bool, true, false, cond, eqb, ltb, List, [], ◌∷◌, ◌++◌, length, get_or, set, take, drop, refl, sym, ap, subst, ◌∙◌, ◌⊎◌, inl, inr, arith}
 use Rattle.std.specs.List.{flat_map, AllByRecursion}
 use Rattle.std.proofs.lemmas.Grind.{flat_map-append}
 use Rattle.std.proofs.lemmas.List.{set_split, take-append-drop, drop_more}
-use Rattle.std.proofs.lemmas.Bool.{eqb-true}
+use Rattle.std.proofs.lemmas.Bool.{cases_Bool, eqb-true}
 use Rattle.extent_maps.specs.declared.run.Run.{Run}
+use Rattle.extent_maps.specs.declared.run.RunPlace.{RunPlace}
+use Rattle.extent_maps.specs.declared.run.RunPlace.TheVariants as place
 use Rattle.extent_maps.specs.declared.run.PagePlace.{PagePlace}
 use Rattle.extent_maps.specs.declared.run.PagePlace.TheVariants.{At, Hole, Absent}
-use Rattle.extent_maps.specs.Runs.{place_of, with_place}
+use Rattle.extent_maps.specs.Runs.{Places, behind, covers, place_of, placed, with_place}
 use Rattle.extent_maps.proofs.EditLemmas.{over, place_append}
 use Rattle.record_table.specs.declared.record.Record.{Record}
 use Rattle.extent_records.specs.Rows.{AreOneMap, IsPlaced, NoPageTwice, runs_in, runs_of, there, times}
-use Rattle.extent_records.specs.Writing.{IsMapRecord, places_in}
-use Rattle.extent_records.specs.Chains.{ChangesAlone, ChangesChain, FollowsChange}
+use Rattle.extent_records.specs.Writing.{IsMapRecord, places_before, places_in}
+use Rattle.extent_records.specs.Chains.{AreCutRecords, ChangesAlone, ChangesChain, CutsChain, FollowsChange}
 use Rattle.extent_records.proofs.PutLemmas.{all_append, all_back, all_front, there_times, times_append}
 
 none_there : (x : PagePlace) → there x ≡ 0 → x ≡ Absent
 none_there Absent e = refl
 none_there (At home) e = absurd (omega (arith, e))
 none_there Hole e = absurd (omega (arith, e))
+
+over_absent : (x : PagePlace) → over x Absent ≡ x
+over_absent Absent = refl
+over_absent (At home) = refl
+over_absent Hole = refl
 
 -- ** Runs in front of a record's and behind them
 
@@ -57,11 +64,6 @@ module _ (front old new back : List Run) (few : NoPageTwice (front ++ (old ++ ba
       let a : place_of front p ≡ Absent = none_there (place_of front p) (there_times front p (omega (arith, sum p)) ∙ none.0) in
       let b : place_of back p ≡ Absent = none_there (place_of back p) (there_times back p (omega (arith, sum p)) ∙ none.1) in
       whole new p ∙ ap (λ x. over x (over (place_of new p) (place_of back p))) a ∙ ap (over (place_of new p)) b ∙ over_absent (place_of new p)
-    where
-      over_absent : (x : PagePlace) → over x Absent ≡ x
-      over_absent Absent = refl
-      over_absent (At home) = refl
-      over_absent Hole = refl
 
   pub once_after : (p : ℕ) → (place_of new p ≡ place_of old p) ⊎ (place_of (front ++ (old ++ back)) p ≡ place_of old p) → times (front ++ (new ++ back)) p ≤ 1
   once_after p (inl e) = omega (arith, sum p, same_times p e, times_append front (new ++ back) p, times_append new back p)
@@ -145,3 +147,102 @@ one_page_follows records i old new page x lt is one map there change = record { 
         let is = eqb-true p page e in
         follows.changed p (ap (place_of (runs_of records)) is ∙ there ∙ ap (places_in old) (sym is)) ∙ change p ∙ ap (λ b. cond b x (places_in old p)) e ∙ sym (ap (λ b. cond b x (place_of (runs_of records) p)) e)
     go p false e = follows.same p (change p ∙ ap (λ b. cond b x (places_in old p)) e) ∙ sym (ap (λ b. cond b x (place_of (runs_of records) p)) e)
+
+-- ** A page that a record has
+
+pub shows_record : (records : List Record) (i : ℕ) (r : Record) (p : ℕ) → i < length records → get_or records i r ≡ r → AreOneMap records
+    → (places_in r p ≡ Absent) ⊎ (place_of (runs_of records) p ≡ places_in r p)
+shows_record records i r p lt is one = go (places_in r p) (there_times (runs_in r) p (omega (arith, all, few))) refl
+  where
+    front : List Run
+    front = flat_map runs_in (take i records)
+
+    back : List Run
+    back = flat_map runs_in (drop (i + 1) records)
+
+    all : times (runs_of records) p ≡ times front p + (times (runs_in r) p + times back p)
+    all = ap (λ l. times l p) (around records i r lt is) ∙ times_append front (runs_in r ++ back) p ∙ ap (λ n. times front p + n) (times_append (runs_in r) back p)
+
+    few : times (runs_of records) p ≤ 1
+    few = one.once p
+
+    alone : times (runs_in r) p ≡ 1 → place_of (runs_of records) p ≡ places_in r p
+    alone e =
+        let a : place_of front p ≡ Absent = none_there (place_of front p) (there_times front p (omega (arith, all, few)) ∙ omega (arith, all, few, e)) in
+        let b : place_of back p ≡ Absent = none_there (place_of back p) (there_times back p (omega (arith, all, few)) ∙ omega (arith, all, few, e)) in
+        ap (λ l. place_of l p) (around records i r lt is) ∙ place_append front (runs_in r ++ back) p ∙ ap (over (place_of front p)) (place_append (runs_in r) back p)
+        ∙ ap (λ x. over x (over (places_in r p) (place_of back p))) a ∙ ap (over (places_in r p)) b ∙ over_absent (places_in r p)
+
+    go : (x : PagePlace) → there x ≡ times (runs_in r) p → places_in r p ≡ x → (places_in r p ≡ Absent) ⊎ (place_of (runs_of records) p ≡ places_in r p)
+    go Absent t e = inl e
+    go (At home) t e = inr (alone (sym t))
+    go Hole t e = inr (alone (sym t))
+
+-- ** All records cut
+
+there_few : (runs : List Run) (p : ℕ) → there (place_of runs p) ≤ times runs p
+there_few [] p = omega arith
+there_few (r ∷ rs) p = go (covers r p) refl (there_few rs p)
+  where
+    one : (x : RunPlace) → there (placed x) ≤ 1
+    one (place.At home) = omega arith
+    one place.Holes = omega arith
+
+    go : (b : Bool) → covers r p ≡ b → there (place_of rs p) ≤ times rs p → there (place_of (r ∷ rs) p) ≤ times (r ∷ rs) p
+    go true e tail = rw e (omega (arith, one (behind (p - r.page) r.first)))
+    go false e tail = rw e (omega (arith, tail))
+
+there_before : (from : ℕ) (places : Places) (p : ℕ) → there (places_before from places p) ≤ there (places p)
+there_before from places p = elim (cases_Bool (ltb p from)) [
+  | inl lt ↦ rw lt (omega arith)
+  | inr ge ↦ rw ge (omega arith)
+]
+
+before_over : (from : ℕ) (a b : Places) (p : ℕ) → over (places_before from a p) (places_before from b p) ≡ places_before from (λ q. over (a q) (b q)) p
+before_over from a b p = elim (cases_Bool (ltb p from)) [
+  | inl lt ↦ rw lt refl
+  | inr ge ↦ rw ge refl
+]
+
+cut_times : (from : ℕ) (olds news : List Record) (p : ℕ) → AreCutRecords from olds news → times (runs_of news) p ≤ times (runs_of olds) p
+cut_times from [] [] p h = omega arith
+cut_times from [] (n ∷ ns) p h = absurd h
+cut_times from (o ∷ os) [] p h = absurd h
+cut_times from (o ∷ os) (n ∷ ns) p h =
+    omega (
+      arith,
+      cut_times from os ns p h.1,
+      times_append (runs_in n) (runs_of ns) p,
+      times_append (runs_in o) (runs_of os) p,
+      there_times (runs_in n) p (h.0.once p),
+      ap there (h.0.places p),
+      there_before from (places_in o) p,
+      there_few (runs_in o) p,
+    )
+
+cut_places : (from : ℕ) (olds news : List Record) (p : ℕ) → AreCutRecords from olds news → place_of (runs_of news) p ≡ places_before from (place_of (runs_of olds)) p
+cut_places from [] [] p h = elim (cases_Bool (ltb p from)) [
+  | inl lt ↦ rw lt refl
+  | inr ge ↦ rw ge refl
+]
+cut_places from [] (n ∷ ns) p h = absurd h
+cut_places from (o ∷ os) [] p h = absurd h
+cut_places from (o ∷ os) (n ∷ ns) p h =
+    place_append (runs_in n) (runs_of ns) p ∙ ap (λ x. over x (place_of (runs_of ns) p)) (h.0.places p)
+    ∙ ap (over (places_before from (places_in o) p)) (cut_places from os ns p h.1) ∙ before_over from (places_in o) (place_of (runs_of os)) p
+    ∙ ap (λ x. cond (ltb p from) x Absent) (sym (place_append (runs_in o) (runs_of os) p))
+
+cut_placed : (from : ℕ) (olds news : List Record) → AreCutRecords from olds news → AllByRecursion IsPlaced (runs_of news)
+cut_placed from [] [] h = tt
+cut_placed from [] (n ∷ ns) h = absurd h
+cut_placed from (o ∷ os) [] h = absurd h
+cut_placed from (o ∷ os) (n ∷ ns) h = all_append IsPlaced (runs_in n) (runs_of ns) h.0.placed (cut_placed from os ns h.1)
+
+pub cuts_chain : (from : ℕ) (olds news : List Record) → AreOneMap olds → AreCutRecords from olds news → CutsChain from olds news
+cuts_chain from olds news one h = record {
+  one_map = record {
+    placed = cut_placed from olds news h;
+    once = λ p. omega (arith, cut_times from olds news p h, one.once p);
+  };
+  places = λ p. cut_places from olds news p h;
+}

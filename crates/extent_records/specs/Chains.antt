@@ -1,13 +1,13 @@
 -- One record of a chain's: which one takes a page, and what its change does to the chain's map.
-use Rattle.std.specs.Prelude.{◌≡◌, ℕ, ◌+◌, ◌<◌, ◌≤◌, ◌⊎◌, true, false, List, take, length, get_or, Option, Some, None}
+use Rattle.std.specs.Prelude.{◌≡◌, ℕ, ◌+◌, ◌<◌, ◌≤◌, ◌⊎◌, true, false, List, [], ◌∷◌, take, length, get_or, Option, Some, None}
 use Rattle.std.specs.List.{AllByRecursion}
 use Rattle.extent_maps.specs.declared.run.PagePlace.{PagePlace}
 use Rattle.extent_maps.specs.declared.run.PagePlace.TheVariants.{At, Hole, Absent}
 use Rattle.extent_maps.specs.Runs.{place_of, with_place}
 use Rattle.record_table.specs.declared.record.Record.{Record}
 use Rattle.record_table.specs.Records.{kind_of}
-use Rattle.extent_records.specs.Rows.{AreOneMap, runs_of}
-use Rattle.extent_records.specs.Writing.{CanSay, IsMapRecord, is_of_holes, most_rows, places_in}
+use Rattle.extent_records.specs.Rows.{AreOneMap, IsPlaced, NoPageTwice, runs_in, runs_of}
+use Rattle.extent_records.specs.Writing.{CanSay, IsMapRecord, is_of_holes, most_rows, places_before, places_in}
 
 -- a record of a chain that does not have the page: if it has rows, they say where pages stand
 pub record CanTake (page : ℕ) (r : Record) : Type 0 where
@@ -84,3 +84,22 @@ pub record FollowsChange (records : List Record) (old new : Record) (after : Lis
 pub record ChangesChain (page : ℕ) (place : PagePlace) (old new : List Record) : Type 0 where
   pub one_map : AreOneMap new
   pub places : (p : ℕ) → place_of (runs_of new) p ≡ with_place page place (place_of (runs_of old)) p
+
+-- a record that has of another the pages in front of one, where the other has them
+pub record IsCutRecord (from : ℕ) (old new : Record) : Type 0 where
+  pub placed : AllByRecursion IsPlaced (runs_in new)
+  pub once : NoPageTwice (runs_in new)
+  pub places : (p : ℕ) → places_in new p ≡ places_before from (places_in old) p
+
+-- the same for each record of a chain
+abbrev pub AreCutRecords : ℕ → List Record → List Record → Type 0
+AreCutRecords from [] [] = Unit {0}
+AreCutRecords from [] (new ∷ news) = ⊥
+AreCutRecords from (old ∷ olds) [] = ⊥
+AreCutRecords from (old ∷ olds) (new ∷ news) = IsCutRecord from old new
+    × AreCutRecords from olds news
+
+-- a chain whose map has of another's the pages in front of one
+pub record CutsChain (from : ℕ) (old new : List Record) : Type 0 where
+  pub one_map : AreOneMap new
+  pub places : (p : ℕ) → place_of (runs_of new) p ≡ places_before from (place_of (runs_of old)) p

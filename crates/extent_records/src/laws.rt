@@ -1,11 +1,12 @@
 //! What the change of one record does to the map of its chain.
-ghost use Rattle.std.specs.Prelude.{◌≡◌, ◌<◌, ℕ, List, length, get_or, slice_set};
+ghost use Rattle.std.specs.Prelude.{◌≡◌, ◌<◌, ◌⊎◌, ℕ, List, length, get_or, slice_set};
 ghost use Rattle.extent_maps.specs.declared.run.PagePlace.{PagePlace};
+ghost use Rattle.extent_maps.specs.declared.run.PagePlace.TheVariants.{Absent};
 ghost use Rattle.extent_maps.specs.Runs.{place_of, with_place};
 ghost use Rattle.record_table.specs.declared.record.Record.{Record};
 ghost use Rattle.extent_records.specs.Rows.{AreOneMap, runs_of};
 ghost use Rattle.extent_records.specs.Writing.{IsMapRecord, places_in};
-ghost use Rattle.extent_records.specs.Chains.{ChangesAlone, ChangesChain, FollowsChange};
+ghost use Rattle.extent_records.specs.Chains.{AreCutRecords, ChangesAlone, ChangesChain, CutsChain, FollowsChange};
 
 /// One record of a chain is changed, and no other has a page that has another place then. The
 /// records say one map again, which is changed at these pages alone.
@@ -24,4 +25,17 @@ pub fn one_page_changes()
         → place_of (runs_of records) page ≡ places_in old page
         → ((p : ℕ) → places_in new p ≡ with_place page place (places_in old) p)
         → ChangesChain page place records (slice_set records i new) }
+{}
+
+/// A chain has a page where a record of it has the page, if that has it.
+pub fn a_chain_shows_its_records()
+    ensures { (records : List Record) (i : ℕ) (r : Record) (p : ℕ) → i < length records
+        → get_or records i r ≡ r → AreOneMap records
+        → (places_in r p ≡ Absent) ⊎ (place_of (runs_of records) p ≡ places_in r p) }
+{}
+
+/// Each record of a chain loses its pages from one on: the chain's map loses these pages alone.
+pub fn cut_records_cut_the_map()
+    ensures { (from : ℕ) (old new : List Record) → AreOneMap old → AreCutRecords from old new
+        → CutsChain from old new }
 {}

@@ -11,7 +11,9 @@ mod writing;
 
 pub use changes::{cut_from, cut_page, keep_hole, put_page, switch_page};
 pub use choosing::{record_for, record_for_hole};
-pub use laws::{one_page_changes, one_record_changes};
+pub use laws::{
+    a_chain_shows_its_records, cut_records_cut_the_map, one_page_changes, one_record_changes,
+};
 pub use listing::map_records;
 pub use reading::read_map;
 pub use rows::{place_in, used_rows};
