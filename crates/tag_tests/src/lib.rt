@@ -2,4 +2,8 @@
 #![tactic(auto)]
 
 #[cfg(test)]
-mod tags;
+mod lines;
+#[cfg(test)]
+mod random;
+#[cfg(test)]
+mod trial;
