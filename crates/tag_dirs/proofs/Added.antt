@@ -10,7 +10,7 @@ use Rattle.tag_dirs.specs.declared.dir.TagPlace.{TagPlace}
 use Rattle.tag_dirs.specs.declared.page.TagEntry.{TagEntry}
 use Rattle.tag_dirs.specs.TagPage.{IsNewPage, IsTagPage, entry_of}
 use Rattle.tag_dirs.specs.Directory.{AddsPage, IsDirectory, IsLast, IsPageOf, Leads, LinksAt, LinksLast, entry_at, has_home, home_behind, home_with}
-use Rattle.tag_dirs.proofs.Places.{home_pushed}
+use Rattle.tag_dirs.proofs.Places.{get_at, home_pushed}
 use Rattle.tag_dirs.proofs.Slots.{found, same_some}
 
 -- ---- places with one more behind them
@@ -19,12 +19,6 @@ get_front : (places : List TagPlace) (p : TagPlace) (k : ℕ) → k < length pla
 get_front [] p k less = absurd (omega (arith, less))
 get_front (x ∷ xs) p zero less = refl
 get_front (x ∷ xs) p (suc k) less = get_front xs p k (omega (arith, less))
-
-get_last : (places : List TagPlace) (p : TagPlace) (k : ℕ) → k ≡ length places → slice_get (places ++ p ∷ []) k ≡ Some p
-get_last [] p zero is = refl
-get_last [] p (suc k) is = absurd (omega (arith, is))
-get_last (x ∷ xs) p zero is = absurd (omega (arith, is))
-get_last (x ∷ xs) p (suc k) is = get_last xs p k (omega (arith, is))
 
 get_none : (places : List TagPlace) (p : TagPlace) (k : ℕ) → length places < k → slice_get (places ++ p ∷ []) k ≡ None
 get_none [] p zero less = absurd (omega (arith, less))
@@ -127,7 +121,7 @@ module _ (old mid new : Pages) (places : List TagPlace) (index : ℕ) (home : Ho
         where
           last_page : q ≡ l.p → k ≡ l.k → IsSomeAnd (mid q.home) (IsPageOf q (home_behind all k))
           last_page same here =
-              let behind : home_behind all k ≡ Some home = ap (option_map (λ (x : TagPlace). x.home)) (get_last places p (k + 1) (omega (arith, here, l.last))) in
+              let behind : home_behind all k ≡ Some home = ap (option_map (λ (x : TagPlace). x.home)) (get_at places p [] (k + 1) (omega (arith, here, l.last))) in
               let homes : q.home ≡ l.p.home = ap (λ (x : TagPlace). x.home) same in
               let was : IsPageOf q (home_behind places k) l.links.page = subst (λ o. IsSomeAnd o (IsPageOf q (home_behind places k))) (ap old homes ∙ l.links.was) (old_page k q at) in
               subst (λ o. IsSomeAnd o (IsPageOf q (home_behind all k))) (sym (ap mid homes ∙ l.links.is))
@@ -212,7 +206,7 @@ module _ (old mid new : Pages) (places : List TagPlace) (index : ℕ) (home : Ho
       by_order (inl less) = subst (λ o. IfSome o (λ (place : TagPlace). IsSomeAnd (new place.home) (IsPageOf place (home_behind all k)))) (sym (get_front places p k less)) (front (slice_get places k) refl)
       by_order (inr (inl same)) =
           let behind : home_behind all k ≡ None = ap (option_map (λ (x : TagPlace). x.home)) (get_none places p (k + 1) (omega (arith, same))) in
-          subst (λ o. IfSome o (λ (place : TagPlace). IsSomeAnd (new place.home) (IsPageOf place (home_behind all k)))) (sym (get_last places p k same))
+          subst (λ o. IfSome o (λ (place : TagPlace). IsSomeAnd (new place.home) (IsPageOf place (home_behind all k)))) (sym (get_at places p [] k same))
           (subst (λ o. IsSomeAnd o (IsPageOf p (home_behind all k))) (sym there) (record { good = is.good; indexed = is.indexed; linked = is.last ∙ sym behind }))
       by_order (inr (inr more)) = subst (λ o. IfSome o (λ (place : TagPlace). IsSomeAnd (new place.home) (IsPageOf place (home_behind all k)))) (sym (get_none places p k more)) tt
 
@@ -229,7 +223,7 @@ module _ (old mid new : Pages) (places : List TagPlace) (index : ℕ) (home : Ho
 
       by_order : (k < length places) ⊎ ((k ≡ length places) ⊎ (length places < k)) → (slice_get places k ≡ Some q) ⊎ ((k ≡ length places) × (p ≡ q))
       by_order (inl less) = inl (sym (get_front places p k less) ∙ at)
-      by_order (inr (inl same)) = inr (same, same_some p q (sym (get_last places p k same) ∙ at))
+      by_order (inr (inl same)) = inr (same, same_some p q (sym (get_at places p [] k same) ∙ at))
       by_order (inr (inr more)) = absurd (none_is (sym (get_none places p k more) ∙ at))
 
   distinct : (j k : ℕ) (a b : TagPlace) → slice_get all j ≡ Some a → slice_get all k ≡ Some b → a.index ≡ b.index → j ≡ k
@@ -248,7 +242,7 @@ module _ (old mid new : Pages) (places : List TagPlace) (index : ℕ) (home : Ho
   first_is : IfSome (slice_get all 0) (λ place. place.index ≡ 0)
   first_is = elim (cases_lt 0 (length places)) [
     | inl less ↦ subst (λ o. IfSome o (λ (place : TagPlace). place.index ≡ 0)) (sym (get_front places p 0 less)) dir.first
-    | inr none ↦ subst (λ o. IfSome o (λ (place : TagPlace). place.index ≡ 0)) (sym (get_last places p 0 (omega (arith, none)))) (first (empty places none))
+    | inr none ↦ subst (λ o. IfSome o (λ (place : TagPlace). place.index ≡ 0)) (sym (get_at places p [] 0 (omega (arith, none)))) (first (empty places none))
   ]
 
   elsewhere : (h : Home) → has_home places h ≡ false → same_home h home ≡ false → new h ≡ old h

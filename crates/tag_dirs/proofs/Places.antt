@@ -1,5 +1,5 @@
 -- The places of a directory by their indexes, and with one more place behind them.
-use Rattle.std.proofs.Common.{◌≡◌, ◌∙◌, ℕ, suc, ◌+◌, Bool, true, false, cond, nat_eq, Option, Some, None, List, [], ◌∷◌, ◌++◌, length, slice_get, get_or, ◌<◌, refl, sym, ap, subst, arith}
+use Rattle.std.proofs.Common.{◌≡◌, ◌∙◌, ℕ, zero, suc, ◌+◌, Bool, true, false, cond, nat_eq, Option, Some, None, List, [], ◌∷◌, ◌++◌, length, slice_get, get_or, ◌<◌, refl, sym, ap, subst, arith}
 use Rattle.std.proofs.lemmas.Bool.{eqb-true, eq-eqb, both_ways}
 use Rattle.std.proofs.lemmas.Option.{slice_get_read, slice_get_within}
 use Rattle.std.specs.Option.{option_map}
@@ -31,6 +31,12 @@ not_both x p i other same true is = absurd (both_ways (nat_eq x.index p.index) o
 not_both x p i other same false is = is
 
 -- ---- with one more place
+
+pub get_at : (done : List TagPlace) (p : TagPlace) (ps : List TagPlace) (k : ℕ) → k ≡ length done → slice_get (done ++ p ∷ ps) k ≡ Some p
+get_at [] p ps zero is = refl
+get_at [] p ps (suc k) is = absurd (omega (arith, is))
+get_at (x ∷ xs) p ps zero is = absurd (omega (arith, is))
+get_at (x ∷ xs) p ps (suc k) is = get_at xs p ps k (omega (arith, is))
 
 pub home_pushed : (places : List TagPlace) (p : TagPlace) (i : ℕ) → home_with places p.index ≡ None → home_with (places ++ p ∷ []) i ≡ cond (nat_eq p.index i) (Some p.home) (home_with places i)
 home_pushed [] p i unused = refl

@@ -11,18 +11,13 @@ use Rattle.page_store.specs.Pages.{Pages}
 use Rattle.tag_dirs.specs.declared.dir.TagPlace.{TagPlace}
 use Rattle.tag_dirs.specs.TagPage.{index_of}
 use Rattle.tag_dirs.specs.Directory.{CanJoin, IsDirectory, IsDirectoryAt, IsPageOf, JoinsPage, home_behind, home_with}
+use Rattle.tag_dirs.proofs.Places.{get_at}
 use Rattle.tag_dirs.proofs.Slots.{map_and, none_is_some, same_some}
 
 abbrev pub first_home : List TagPlace → Option Home
 first_home places = option_map (λ (p : TagPlace). p.home) (slice_get places 0)
 
 -- ---- places on both sides of one
-
-get_at : (done : List TagPlace) (p : TagPlace) (ps : List TagPlace) (k : ℕ) → k ≡ length done → slice_get (done ++ p ∷ ps) k ≡ Some p
-get_at [] p ps zero is = refl
-get_at [] p ps (suc k) is = absurd (omega (arith, is))
-get_at (x ∷ xs) p ps zero is = absurd (omega (arith, is))
-get_at (x ∷ xs) p ps (suc k) is = get_at xs p ps k (omega (arith, is))
 
 get_after : (done : List TagPlace) (p : TagPlace) (ps : List TagPlace) (k : ℕ) → k ≡ length done + 1 → slice_get (done ++ p ∷ ps) k ≡ slice_get ps 0
 get_after [] p ps zero is = absurd (omega (arith, is))

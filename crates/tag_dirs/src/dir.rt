@@ -68,7 +68,8 @@ impl TagDir {
         }
     }
 
-    /// The directory whose first page stands there.
+    /// The directory whose first page stands there, read along its chain. It counts which entries of
+    /// its pages may be taken.
     pub fn read<M: MetaPages>(alloc: Global, pages: &M, first: Home) -> Result<Self, OutOfMemory>
         requires { HasDirectory (M.pages pages.now) first }
         ensures { IfOk result (IsDirectoryAt (M.pages pages.now) first) }
@@ -103,9 +104,9 @@ impl TagDir {
         self.places.as_slice()
     }
 
-    /// Adds a page whose entries were never used, with this index, behind the last page, which leads
-    /// to it. The first page has index 0. All other entries stay. It takes the room for the page
-    /// before anything changes: at an Err there may be more room, and all else is as it was.
+    /// Adds a page whose entries were never used, with this index, behind the last page, which then
+    /// leads to it. The first page has index 0. All other entries stay. It takes the room for the
+    /// page before anything changes: at an Err there may be more room, and all else is as it was.
     pub fn add_page<M: MetaPages>(
         &mut self,
         alloc: Global,
@@ -182,8 +183,9 @@ impl TagDir {
         Some(tag)
     }
 
-    /// Makes a tag, as a clone's entry, lead to this cell. Its slot's entry is not used. False exactly
-    /// where no page of the directory has the slot, and then nothing has changed. It takes no memory.
+    /// Makes a tag, as a clone's entry, lead to this cell. Its slot's entry is not used. False
+    /// exactly where no page of the directory has the slot, and then nothing has changed. It takes
+    /// no memory.
     pub fn enter_as<M: MetaPages>(&mut self, pages: &mut M, tag: Tag, at: CellAt) -> bool
         requires directory { IsDirectory (M.pages pages.old) self.old }
         requires slot { tag.slot ≢ 0 }

@@ -1,5 +1,5 @@
-//! Calls on a directory as lines of text: a word for the call, what it is given, and what it answers.
-//! A tag is written as `slot.sequence`, and a cell as the number of its page.
+//! Calls on a directory as lines of text: a word for the call, what it is given, and what it
+//! answers. A tag is written as `slot.sequence`, and a cell as the number of its page.
 ghost use Rattle.tag_tests.specs.Trial.{IsTrial};
 
 use crate::trial::{Trial, home};
@@ -193,8 +193,8 @@ fn first_wrong(alloc: Global, text: &str) -> Result<Option<usize>, Fail> {
     Ok(None)
 }
 
-/// A tag comes and goes: it leads to nothing once it is dropped, also where its slot is taken again,
-/// with the next sequence.
+/// A tag comes and goes: it leads to nothing once it is dropped, also where its slot is taken
+/// again, with the next sequence.
 static COMES_AND_GOES: &str = "add 0 = done
 enter 20 = 1.1
 look 1.1 = 20
