@@ -257,6 +257,7 @@ look 3066.2 = 40
 look 4087.9 = 24
 look 8175.65535 = 41
 look 7154.3 = no
+drop 4087.9 = done
 enter 51 = 3.1
 fill 1018 = 1021.6
 enter 52 = 7154.4
