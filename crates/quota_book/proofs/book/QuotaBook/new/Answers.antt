@@ -1,0 +1,13 @@
+use Rattle.std.proofs.Common.{◌≡◌, ◌∙◌, ap}
+use Rattle.std.specs.FinMap.{empty, from_sorted}
+use Rattle.fileset_model.specs.Orders.{owner_cmp}
+use Rattle.fileset_model.specs.declared.fileset.Limits.{Limits}
+use Rattle.fileset_model.specs.declared.fileset.Usage.{Usage}
+use Rattle.fileset_model.proofs.EntryLemmas.{from_sorted-empty}
+use Rattle.quota_book.proofs.book.QuotaBook.new.Goals as goal
+
+pub returns : goal.returns
+returns c =
+    let totals : from_sorted {X = Usage} {R = owner_cmp} c.new.result.items ≡ empty = ap from_sorted c.new.ensures.items ∙ from_sorted-empty owner_cmp in
+    let limits : from_sorted {X = Limits} {R = owner_cmp} c.new-2.result.items ≡ empty = ap from_sorted c.new-2.ensures.items ∙ from_sorted-empty owner_cmp in
+    λ i. record { totals = totals i; limits = limits i }

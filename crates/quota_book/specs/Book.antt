@@ -1,0 +1,110 @@
+-- What the owners of a fileset use, and their limits.
+use Rattle.std.specs.Prelude.{◌≡◌, ◌+◌, ◌-◌, ◌^◌, ◌<◌, ◌≤◌, ◌==◌, ◌&&◌, ℕ, Bool, List, [], ◌∷◌, Option, Some, unwrap_or, refl, if◌then◌else◌}
+use Rattle.std.specs.Coded.{Coded, code_by, coded×}
+use Rattle.std.specs.FinMap as map
+use Rattle.fileset_model.specs.Orders.{owner_cmp}
+use Rattle.fileset_model.specs.Paths.{first_refusal, refuse_if}
+use Rattle.fileset_model.specs.Usage.{is_owned, passes}
+use Rattle.fileset_model.specs.declared.command.Owner.{Owner}
+use Rattle.fileset_model.specs.declared.command.Owner.TheVariants.{User, Group, Fileset}
+use Rattle.fileset_model.specs.declared.fileset.Limits.{Limits}
+use Rattle.fileset_model.specs.declared.fileset.Usage.{Usage}
+use Rattle.fileset_model.specs.declared.reply.Refusal.{Refusal}
+use Rattle.fileset_model.specs.declared.reply.Refusal.TheVariants.{QuotaFiles, QuotaBlocks}
+use Rattle.fileset_model.specs.contracts.command.Owner as owner
+use Rattle.fileset_model.specs.contracts.fileset.Limits as limits
+use Rattle.fileset_model.specs.contracts.fileset.Usage as usage
+use Rattle.quota_book.specs.Owners.{nothing, same_owner, used_in}
+
+-- from owners to what they use, and to their limits
+pub record Book : Type 0 where
+  pub totals : map.FinMap owner_cmp Usage
+  pub limits : map.FinMap owner_cmp Limits
+
+abbrev pub book_code : Coded Book
+book_code =
+    code_by (map.FinMap owner_cmp Usage × map.FinMap owner_cmp Limits)
+    (coded× (map.code owner.the_row.coded usage.the_row.coded)
+    (map.code owner.the_row.coded limits.the_row.coded))
+    (λ b. (b.totals, b.limits))
+    (λ p. record { totals = p.0; limits = p.1 })
+    (λ _. refl)
+
+abbrev pub empty_book : Book
+empty_book = record { totals = map.empty; limits = map.empty }
+
+-- what an owner uses, and their limits
+abbrev pub used : Book → Owner → Usage
+used book who = unwrap_or (map.get book.totals who) nothing
+
+abbrev pub limits_in : Book → Owner → Limits
+limits_in book who = unwrap_or (map.get book.limits who) (record { files = 0; blocks = 0 })
+
+-- no owner who uses nothing has an entry
+abbrev pub HasNoTrace : Book → Type 0
+HasNoTrace book = (who : Owner) → ¬ map.get book.totals who ≡ Some nothing
+
+abbrev pub is_nothing : Usage → Bool
+is_nothing usage = usage.files == 0 && usage.blocks == 0
+
+-- what the limits of an owner refuse, of so many more files and blocks
+abbrev pub refusal_in : Book → Owner → ℕ → ℕ → Option Refusal
+refusal_in book who files blocks =
+    let limits : Limits = limits_in book who in
+    let usage : Usage = used book who in
+    first_refusal
+    (refuse_if (passes limits.files usage.files files) (QuotaFiles limits.files usage.files)
+    ∷ refuse_if (passes limits.blocks usage.blocks blocks)
+    (QuotaBlocks limits.blocks usage.blocks blocks)
+    ∷ [])
+
+-- so much more, and so much less
+abbrev pub raised : ℕ → ℕ → Usage → Usage
+raised files blocks usage = record { files = usage.files + files; blocks = usage.blocks + blocks }
+
+abbrev pub lowered : ℕ → ℕ → Usage → Usage
+lowered files blocks usage = record { files = usage.files - files; blocks = usage.blocks - blocks }
+
+-- so much more is below 2^64; one usage is within another
+abbrev pub IsBelow : ℕ → ℕ → Usage → Type 0
+IsBelow files blocks usage = (usage.files + files < 2 ^ 64) × (usage.blocks + blocks < 2 ^ 64)
+
+abbrev pub IsWithin : Usage → Usage → Type 0
+IsWithin part usage = (part.files ≤ usage.files) × (part.blocks ≤ usage.blocks)
+
+-- the same of what the user, the group and the fileset use
+pub record FitsAll (uid gid files blocks : ℕ) (uses : Owner → Usage) : Type 0 where
+  pub user : IsBelow files blocks (uses (User uid))
+  pub group : IsBelow files blocks (uses (Group gid))
+  pub all : IsBelow files blocks (uses Fileset)
+
+pub record HasAll (uid gid files blocks : ℕ) (uses : Owner → Usage) : Type 0 where
+  pub user : IsWithin (record { files = files; blocks = blocks }) (uses (User uid))
+  pub group : IsWithin (record { files = files; blocks = blocks }) (uses (Group gid))
+  pub all : IsWithin (record { files = files; blocks = blocks }) (uses Fileset)
+
+-- each of them uses so much more, or less, and no other owner does
+abbrev pub ChargesAll : ℕ → ℕ → ℕ → ℕ → (Owner → Usage) → (Owner → Usage) → Type 0
+ChargesAll uid gid files blocks old new = (who : Owner) → new who
+    ≡ (if is_owned who uid gid then raised files blocks (old who) else old who)
+
+abbrev pub RefundsAll : ℕ → ℕ → ℕ → ℕ → (Owner → Usage) → (Owner → Usage) → Type 0
+RefundsAll uid gid files blocks old new = (who : Owner) → new who
+    ≡ (if is_owned who uid gid then lowered files blocks (old who) else old who)
+
+pub record Charges (uid gid files blocks : ℕ) (old new : Book) : Type 0 where
+  pub totals : ChargesAll uid gid files blocks (used old) (used new)
+  pub limits : new.limits ≡ old.limits
+
+pub record Refunds (uid gid files blocks : ℕ) (old new : Book) : Type 0 where
+  pub totals : RefundsAll uid gid files blocks (used old) (used new)
+  pub limits : new.limits ≡ old.limits
+
+-- totals of which one owner's is so much more, or less
+abbrev pub AddsTo : Owner → ℕ → ℕ → List (Owner × Usage) → List (Owner × Usage) → Type 0
+AddsTo who files blocks old new = (other : Owner) → used_in new other
+    ≡ (if same_owner other who then raised files blocks (used_in old who) else used_in old other)
+
+abbrev pub TakesFrom : Owner → ℕ → ℕ → List (Owner × Usage) → List (Owner × Usage) → Type 0
+TakesFrom who files blocks old new = (other : Owner) → used_in new other
+    ≡ (if same_owner other who then lowered files blocks (used_in old who) else used_in old other)
