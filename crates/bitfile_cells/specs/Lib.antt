@@ -1,3 +1,4 @@
 pub mod Allocated
 pub mod Changes
+pub mod FileChanges
 pub mod Files
