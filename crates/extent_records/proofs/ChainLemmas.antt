@@ -180,7 +180,7 @@ shows_record records i r p lt is one = go (places_in r p) (there_times (runs_in 
 
 -- ** All records cut
 
-there_few : (runs : List Run) (p : ℕ) → there (place_of runs p) ≤ times runs p
+pub there_few : (runs : List Run) (p : ℕ) → there (place_of runs p) ≤ times runs p
 there_few [] p = omega arith
 there_few (r ∷ rs) p = go (covers r p) refl (there_few rs p)
   where

@@ -16,17 +16,17 @@ abbrev pub RisingFrom : ℕ → ℕ → List Run → Type 0
 RisingFrom most from [] = Unit {0}
 RisingFrom most from (run ∷ runs) = (from ≤ run.page) × (1 ≤ run.count) × (run.count ≤ most) × RisingFrom most (end_of run) runs
 
-behind_none : (x : RunPlace) → behind 0 x ≡ x
+pub behind_none : (x : RunPlace) → behind 0 x ≡ x
 behind_none (place.At home) = grind arith
 behind_none place.Holes = refl
 
-placed_is : (x y : RunPlace) → placed x ≡ placed y → x ≡ y
+pub placed_is : (x y : RunPlace) → placed x ≡ placed y → x ≡ y
 placed_is (place.At a) (place.At b) e = cc
 placed_is (place.At a) place.Holes e = absurd cc
 placed_is place.Holes (place.At b) e = absurd cc
 placed_is place.Holes place.Holes e = refl
 
-same_self : (x : RunPlace) → same_place x x ≡ true
+pub same_self : (x : RunPlace) → same_place x x ≡ true
 same_self (place.At a) = and_from (eqb a.vol a.vol) (eqb a.page a.page) (eq-eqb a.vol a.vol refl) (eq-eqb a.page a.page refl)
 same_self place.Holes = refl
 
@@ -47,7 +47,7 @@ place_start r rs some =
     let none : r.page - r.page ≡ 0 = omega arith in
     place_first r rs r.page (omega arith) (omega (arith, some)) ∙ ap (λ n. placed (behind n r.first)) none ∙ ap placed (behind_none r.first)
 
-place_not_before : (r : Run) (rs : List Run) (p : ℕ) → p < r.page → place_of (r ∷ rs) p ≡ place_of rs p
+pub place_not_before : (r : Run) (rs : List Run) (p : ℕ) → p < r.page → place_of (r ∷ rs) p ≡ place_of rs p
 place_not_before r rs p lt = rw (covers_not_before r p lt) refl
 
 pub place_not_behind : (r : Run) (rs : List Run) (p : ℕ) → end_of r ≤ p → place_of (r ∷ rs) p ≡ place_of rs p

@@ -6,3 +6,4 @@ pub mod FrontLemmas
 pub mod RowLemmas
 pub mod ChainLemmas
 pub mod ListingLemmas
+pub mod LeastLemmas

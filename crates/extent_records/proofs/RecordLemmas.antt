@@ -135,7 +135,7 @@ holes_suit (e ∷ es) = elim (cases_Bool (eqb e.count 0)) [
   | inr some ↦ rw some (refl, holes_suit es)
 ]
 
-rows_suit : (r : Record) → AllByRecursion IsPlaced (runs_in r) → AllSuit (kind_of r) (runs_in r)
+pub rows_suit : (r : Record) → AllByRecursion IsPlaced (runs_in r) → AllSuit (kind_of r) (runs_in r)
 rows_suit (Extents rows) h = extents_suit 3 rows refl h
 rows_suit (ShortExtents rows) h = extents_suit 4 rows refl h
 rows_suit (DenseExtents rows) h = extents_suit 13 rows refl h

@@ -1,14 +1,14 @@
 -- The records of a whole map.
-use Rattle.std.specs.Prelude.{◌≡◌, ℕ, ◌≤◌, List, [], ◌∷◌, ◌++◌, take, drop, length}
+use Rattle.std.specs.Prelude.{◌≡◌, ℕ, true, false, ◌≤◌, List, [], ◌∷◌, ◌++◌, take, drop, length}
 use Rattle.std.specs.List.{AllByRecursion, flat_map}
 use Rattle.domain_base.specs.declared.version.Version.{Version}
 use Rattle.extent_maps.specs.declared.run.RunPlace.{RunPlace}
 use Rattle.extent_maps.specs.declared.run.RunPlace.TheVariants as place
 use Rattle.extent_maps.specs.declared.run.Run.{Run}
 use Rattle.record_table.specs.declared.record.Record.{Record}
-use Rattle.record_table.specs.Records.{kind_of}
-use Rattle.extent_records.specs.Rows.{OnVolume, runs_in}
-use Rattle.extent_records.specs.Writing.{IsMapRecord, chain_kind, hole_kind, most_rows, rows_for, short_kind}
+use Rattle.record_table.specs.Records.{Allowed, kind_of}
+use Rattle.extent_records.specs.Rows.{AreOneMap, IsMapOf, OnVolume, runs_in}
+use Rattle.extent_records.specs.Writing.{IsMapRecord, chain_kind, hole_kind, is_of_holes, most_rows, rows_for, short_kind}
 
 -- the run, if its pages have homes, and if they are holes
 abbrev pub home_part : RunPlace → Run → List Run
@@ -78,3 +78,28 @@ pub record AddsFirst (kind : ℕ) (runs rest : List Run) (old new : List Record)
   pub more : List Record
   pub list : new ≡ old ++ more
   pub fills : (others : List Record) → Fills kind rest others → Fills kind runs (more ++ others)
+
+-- a record of a chain's cell, with no more rows than those that a version writes
+pub record IsOfChain (version : Version) (r : Record) : Type 0 where
+  pub allowed : Allowed r
+  pub rows : most_rows (kind_of r) ≤ most_rows (chain_kind version)
+  pub holes : is_of_holes (kind_of r) ≡ true → most_rows (kind_of r) ≤ most_rows hole_kind
+
+-- Records that say a map, as cells of a file can have them: one of extents of the primary cell, and
+-- any of chain cells.
+pub record SaysMap (version : Version) (map : List Run) (records : List Record) : Type 0 where
+  pub short : Record
+  pub chain : List Record
+  pub list : records ≡ short ∷ chain
+  pub allowed : Allowed short
+  pub rows : most_rows (kind_of short) ≤ most_rows (short_kind version)
+  pub extents : is_of_holes (kind_of short) ≡ false
+  pub each : AllByRecursion (IsOfChain version) chain
+  pub one_map : AreOneMap records
+  pub same : IsMapOf records map
+
+-- records that say a map, and no others that do are fewer
+pub record IsLeastList (version : Version) (map : List Run) (records : List Record) : Type 0 where
+  pub says : SaysMap version map records
+  pub least : (others : List Record) → SaysMap version map others
+      → length records ≤ length others

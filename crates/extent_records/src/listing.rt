@@ -5,7 +5,7 @@ ghost use Rattle.extent_maps.specs.Runs.{AreRuns};
 ghost use Rattle.record_table.specs.Records.{kind_of};
 ghost use Rattle.extent_records.specs.Rows.{AreOneMap, IsMapOf};
 ghost use Rattle.extent_records.specs.Writing.{AllSuit, IsMapRecord, chain_kind, hole_kind, most_rows, short_kind};
-ghost use Rattle.extent_records.specs.Listing.{AddsAll, AddsOne, AllHomes, HoldsRuns, ListsMap, hole_part, holes_in, home_part, homes_in};
+ghost use Rattle.extent_records.specs.Listing.{AddsAll, AddsOne, AllHomes, HoldsRuns, IsLeastList, ListsMap, hole_part, holes_in, home_part, homes_in};
 
 use crate::writing::{
     CHAIN_ROWS, DENSE_ROWS, SHORT_ROWS, empty_extents, empty_holes, empty_short, with_runs,
@@ -170,8 +170,8 @@ fn push_kept(records: &mut Vec<Record>, holes: &[Run]) -> Result<(), OutOfMemory
 }
 
 /// The records of a map, as that version writes them: the one of the file's primary cell, which may
-/// say no page, those of extents of chain cells, and those of holes. Of the last two sorts each
-/// record but the last is full, and no row is shorter than it can be.
+/// say no page, those of extents of chain cells, and those of holes. No records that say the map are
+/// fewer: of the last two sorts each but the last is full, and no row is shorter than it can be.
 pub fn map_records(
     alloc: Global,
     map: &ExtentMap,
@@ -180,6 +180,7 @@ pub fn map_records(
     ensures one_map { IfOk result (λ records. AreOneMap records.items) }
     ensures map { IfOk result (λ records. IsMapOf records.items map.now) }
     ensures each { IfOk result (λ records. AllByRecursion IsMapRecord records.items) }
+    ensures least { IfOk result (λ records. IsLeastList version map.now records.items) }
     ensures full { IfOk result (λ records. ListsMap version map.now records.items) }
 {
     let homes = homes_of(alloc, map.runs())?;

@@ -1,6 +1,7 @@
 use Rattle.std.proofs.Common.{◌≡◌, ap, subst, ◌∙◌}
 use Rattle.extent_records.specs.Listing.{AllHomes, homes_in, holes_in}
 use Rattle.extent_records.proofs.ListingLemmas.{all_maps, are_one_map, is_map_of, lists_map}
+use Rattle.extent_records.proofs.LeastLemmas.{least_list}
 use Rattle.extent_records.proofs.listing.map_records.Goals.{After-drop-homes-2}
 use Rattle.extent_records.proofs.listing.map_records.Goals as goal
 
@@ -21,6 +22,9 @@ returns-clause-one_map c = are_one_map c.args.version c.args.map.now c.push_kept
 
 pub returns-clause-map : goal.returns-clause-map
 returns-clause-map c = is_map_of c.args.version c.args.map.now c.push_kept.new.records.items c.runs.ensures.longest (all_homes c) (returns-clause-full c)
+
+pub returns-clause-least : goal.returns-clause-least
+returns-clause-least c = least_list c.args.version c.args.map.now c.push_kept.new.records.items c.runs.ensures.longest (returns-clause-full c) (returns-clause-one_map c) (returns-clause-map c)
 
 pub returns-clause-each : goal.returns-clause-each
 returns-clause-each c = all_maps c.args.version c.args.map.now c.push_kept.new.records.items c.runs.ensures.longest (all_homes c) (returns-clause-full c)
