@@ -1,2 +1,5 @@
 pub mod Changes
+pub mod ModelChanges
+pub mod OneNode
 pub mod Removal
+pub mod Sums

@@ -39,7 +39,7 @@ module _ {K X : Type 0} {R : K → K → Ordering} (o : IsTotalOrder R) (key : K
       by_test true same rest = let there : Some e.1 ≡ None = sym (ap (λ b. cond b (Some e.1) (find R key es)) same) ∙ none in absurd (cc)
       by_test false apart rest = kept e es apart ∙ ap (λ rest. e ∷ rest) (rest (sym (ap (λ b. cond b (Some e.1) (find R key es)) apart) ∙ none))
 
-  none_above : (x : K) (es : List (K × X)) → R key x ≡ Equal → T (below_all R x es) → find R key es ≡ None
+  pub none_above : (x : K) (es : List (K × X)) → R key x ≡ Equal → T (below_all R x es) → find R key es ≡ None
   none_above x [] same below = refl
   none_above x (e ∷ es) same below =
       let apart : R key e.0 ≡ Less = o.congr key x e.0 same ∙ less (R x e.0) (first (is_lt (R x e.0)) (below_all R x es) below) in

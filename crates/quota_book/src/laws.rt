@@ -1,0 +1,70 @@
+//! Laws of a book whose totals are the sums over a fileset's files and directories.
+ghost use Rattle.std.specs.Prelude.{◌≡◌, ◌+◌, ◌∷◌, ℕ, false, [], Option, Some, None};
+ghost use Rattle.std.specs.FinMap as map;
+ghost use Rattle.fileset_model.specs.Apply.{empty_fileset, is_named_elsewhere, with_change, with_node, without};
+ghost use Rattle.fileset_model.specs.Fileset.{Fileset};
+ghost use Rattle.fileset_model.specs.Orders.{Path};
+ghost use Rattle.fileset_model.specs.Paths.{first_refusal};
+ghost use Rattle.fileset_model.specs.Usage.{blocks_of, quota_refusal};
+ghost use Rattle.fileset_model.specs.declared.command.Owner.TheVariants.{User, Group, Fileset as WholeFileset};
+ghost use Rattle.fileset_model.specs.declared.node.Node.{Node};
+ghost use Rattle.quota_book.specs.Book.{Book, Charges, HasAll, Refunds, empty_book, refusal_in, used};
+ghost use Rattle.quota_book.specs.Sums.{ChangesNode, CountsMore, IsBookOf, IsNotRoot, gid_of, uid_of};
+
+/// The law that a charge keeps the totals the sums from scratch: where one file or directory counts
+/// so much more after a change than before it, the book with that charge is the new fileset's.
+pub fn charges_keep_the_sums()
+    ensures { (old new : Fileset) (number : ℕ) (was is : Option Node) (uid gid files blocks : ℕ)
+        (book charged : Book) → IsBookOf book old → ChangesNode number was is old new
+        → CountsMore uid gid files blocks was is → Charges uid gid files blocks book charged
+        → IsBookOf charged new }
+{}
+
+/// The law that a refund keeps them so too, and that what is refunded was counted.
+pub fn refunds_keep_the_sums()
+    ensures sums { (old new : Fileset) (number : ℕ) (was is : Option Node)
+        (uid gid files blocks : ℕ) (book refunded : Book) → IsBookOf book old
+        → ChangesNode number was is old new → CountsMore uid gid files blocks is was
+        → Refunds uid gid files blocks book refunded → IsBookOf refunded new }
+    ensures enough { (old new : Fileset) (number : ℕ) (was is : Option Node)
+        (uid gid files blocks : ℕ) (book : Book) → IsBookOf book old
+        → ChangesNode number was is old new → CountsMore uid gid files blocks is was
+        → HasAll uid gid files blocks (used book) }
+{}
+
+/// The law that a fileset's book answers as its check says: of the user, the group and the fileset
+/// in turn. The book of a fileset with a root alone is empty.
+pub fn books_answer_as_filesets()
+    ensures asked { (book : Book) (tree : Fileset) (uid gid files blocks : ℕ) → IsBookOf book tree
+        → quota_refusal tree uid gid files blocks
+        ≡ first_refusal (refusal_in book (User uid) files blocks
+        ∷ refusal_in book (Group gid) files blocks ∷ refusal_in book WholeFileset files blocks
+        ∷ []) }
+    ensures empty { (root : ℕ) → IsBookOf empty_book (empty_fileset root) }
+{}
+
+/// The law that the changes of a fileset by which a file or directory comes, changes and goes are
+/// changes of one: a new one at a path, another one in its place, and its last path taken away.
+pub fn filesets_change_one_by_one()
+    ensures made { (tree : Fileset) (path : Path) (number : ℕ) (node : Node) → ¬ path ≡ []
+        → IsNotRoot tree number → map.get tree.nodes number ≡ None
+        → ChangesNode number None (Some node) tree (with_node path number node tree) }
+    ensures changed { (tree : Fileset) (path : Path) (number : ℕ) (node : Node)
+        (change : Node → Node) → map.get tree.paths path ≡ Some number → IsNotRoot tree number
+        → map.get tree.nodes number ≡ Some node → ChangesNode number (Some node)
+        (Some (change node)) tree (with_change path change tree) }
+    ensures gone { (tree : Fileset) (path : Path) (number : ℕ) (node : Node) → ¬ path ≡ []
+        → map.get tree.paths path ≡ Some number → is_named_elsewhere tree path number ≡ false
+        → IsNotRoot tree number → map.get tree.nodes number ≡ Some node
+        → ChangesNode number (Some node) None tree (without path tree) }
+{}
+
+/// The law that a file or directory counts one file and its blocks, for its ids, and that one with
+/// the same ids and more blocks counts these more.
+pub fn nodes_count_for_their_ids()
+    ensures one { (node : Node) → CountsMore (uid_of node) (gid_of node) 1 (blocks_of node) None
+        (Some node) }
+    ensures grown { (node grown : Node) (blocks : ℕ) → uid_of grown ≡ uid_of node
+        → gid_of grown ≡ gid_of node → blocks_of grown ≡ blocks_of node + blocks
+        → CountsMore (uid_of node) (gid_of node) 0 blocks (Some node) (Some grown) }
+{}
