@@ -7,7 +7,7 @@ ghost use Rattle.extent_records.specs.Writing.{IsMapRecord, is_of_holes};
 ghost use Rattle.extent_records.specs.Chains.{CanTake, Finds, HasExtents, IsChoice, IsNext, Joins, JoinsBefore, Takes};
 
 use crate::changes::{keep_hole, put_page};
-use crate::rows::place_in;
+use crate::rows::{place_in, row_count};
 use domain_base::limits::FILE_PAGES;
 use domain_base::{Home, OutOfMemory};
 use extent_maps::PagePlace;
@@ -121,10 +121,10 @@ fn takes_joined(
     ensures { IfOk result (λ takes. IsTrue takes ↔ (Takes page place.now value.now
         × Joins page place.now value.now)) }
 {
-    if !takes(alloc, value, page, place)? {
+    if row_count(value) == 0 || !joins(value, page, place) {
         return Ok(false);
     }
-    Ok(joins(value, page, place))
+    takes(alloc, value, page, place)
 }
 
 /// The first record that can have a page at a place where it joins a row.

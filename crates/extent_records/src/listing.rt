@@ -7,26 +7,13 @@ ghost use Rattle.extent_records.specs.Rows.{AreOneMap, IsMapOf};
 ghost use Rattle.extent_records.specs.Writing.{AllSuit, IsMapRecord, chain_kind, hole_kind, most_rows, short_kind};
 ghost use Rattle.extent_records.specs.Listing.{AddsAll, AddsOne, AllHomes, HoldsRuns, IsLeastList, ListsMap, hole_part, holes_in, home_part, homes_in};
 
-use crate::writing::{
-    CHAIN_ROWS, DENSE_ROWS, SHORT_ROWS, empty_extents, empty_holes, empty_short, with_runs,
-};
+use crate::rows::row_count;
+use crate::writing::{SHORT_ROWS, empty_extents, empty_holes, empty_short, with_runs};
 use domain_base::limits::MAX_VOLUMES;
 use domain_base::{OutOfMemory, Version};
 use extent_maps::{ExtentMap, Run, RunPlace};
 use record_table::Record;
 use std::alloc::Global;
-
-/// How many rows a record has.
-fn row_count(value: &Record) -> usize
-    ensures { result ≡ most_rows (kind_of value.now) }
-{
-    match value {
-        Record::Extents { .. } | Record::Holes { .. } => CHAIN_ROWS,
-        Record::ShortExtents { .. } | Record::ShortDense { .. } => SHORT_ROWS,
-        Record::DenseExtents { .. } => DENSE_ROWS,
-        _ => 0,
-    }
-}
 
 /// Puts a run behind the others.
 fn push_run(runs: &mut Vec<Run>, run: &Run) -> Result<(), OutOfMemory>
@@ -170,8 +157,8 @@ fn push_kept(records: &mut Vec<Record>, holes: &[Run]) -> Result<(), OutOfMemory
 }
 
 /// The records of a map, as that version writes them: the one of the file's primary cell, which may
-/// say no page, those of extents of chain cells, and those of holes. No records that say the map are
-/// fewer: of the last two sorts each but the last is full, and no row is shorter than it can be.
+/// say no page, those of extents of chain cells, and those of holes. No records that say the map
+/// are fewer: of the last two sorts each but the last is full, and no row is shorter than it can be.
 pub fn map_records(
     alloc: Global,
     map: &ExtentMap,

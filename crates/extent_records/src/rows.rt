@@ -2,9 +2,11 @@
 ghost use Rattle.std.specs.Prelude.{◌≡◌, ◌+◌, ◌-◌, ◌<◌, ◌≤◌, ◌↔◌, [], IsTrue, length};
 ghost use Rattle.std.specs.List.{AllByRecursion, flat_map};
 ghost use Rattle.extent_maps.specs.Runs.{place_of};
+ghost use Rattle.record_table.specs.Records.{kind_of};
 ghost use Rattle.extent_records.specs.Rows.{IsPlaced, holes_at, runs_at, runs_in};
-ghost use Rattle.extent_records.specs.Writing.{IsMapRecord, places_in};
+ghost use Rattle.extent_records.specs.Writing.{IsMapRecord, most_rows, places_in};
 
+use crate::writing::{CHAIN_ROWS, DENSE_ROWS, SHORT_ROWS};
 use domain_base::{Home, VolIx};
 use extent_maps::PagePlace;
 use record_table::{ExtentField, HoleField, Record};
@@ -112,6 +114,18 @@ pub fn used_rows(value: &Record) -> usize
         Record::DenseExtents { rows } => used_extents(rows),
         Record::ShortDense { rows } => used_extents(rows),
         Record::Holes { rows } => used_holes(rows),
+        _ => 0,
+    }
+}
+
+/// How many rows a record has.
+pub(crate) fn row_count(value: &Record) -> usize
+    ensures { result ≡ most_rows (kind_of value.now) }
+{
+    match value {
+        Record::Extents { .. } | Record::Holes { .. } => CHAIN_ROWS,
+        Record::ShortExtents { .. } | Record::ShortDense { .. } => SHORT_ROWS,
+        Record::DenseExtents { .. } => DENSE_ROWS,
         _ => 0,
     }
 }
