@@ -1,0 +1,70 @@
+//! What a file or directory is.
+ghost use Rattle.std.specs.Prelude.{◌≡◌};
+ghost use Rattle.bitfile_core.specs.Files.{attributes_in, keep_in, says_remove as removes};
+
+use domain_base::Kind;
+use record_table::{Leftover, Record};
+
+/// What a file or directory is: its kind, its owner, whether its data is logged, its size in bytes,
+/// and how many rows name it.
+#[derive(Clone, Copy, Debug, PartialEq, Eq)]
+pub struct Attributes {
+    pub kind: Kind,
+    pub uid: u32,
+    pub gid: u32,
+    pub is_logged: bool,
+    pub size: u64,
+    pub links: u32,
+}
+
+/// What a record says of its file, if it is one of attributes.
+pub(crate) fn read_attributes(value: &Record) -> Option<Attributes>
+    ensures { result ≡ attributes_in value.now }
+{
+    match value {
+        Record::Attributes {
+            kind,
+            uid,
+            gid,
+            flags,
+            size,
+            links,
+            ..
+        } => Some(Attributes {
+            kind: if *kind == 2 {
+                Kind::Directory
+            } else {
+                Kind::File
+            },
+            uid: *uid,
+            gid: *gid,
+            is_logged: *flags == 1,
+            size: *size,
+            links: *links,
+        }),
+        _ => None,
+    }
+}
+
+/// How many of its first pages a file keeps, by its record of attributes.
+pub(crate) fn read_keep(value: &Record) -> Option<u32>
+    ensures { result ≡ keep_in value.now }
+{
+    match value {
+        Record::Attributes { keep, .. } => Some(*keep),
+        _ => None,
+    }
+}
+
+/// Whether a record of work that is left says that all of the file goes.
+pub(crate) fn says_remove(value: &Record) -> bool
+    ensures { result ≡ removes value.now }
+{
+    match value {
+        Record::Pending { what } => match what {
+            Leftover::Remove => true,
+            Leftover::Trim => false,
+        },
+        _ => false,
+    }
+}

@@ -1,0 +1,99 @@
+//! The files of a fileset, looked at.
+ghost use Rattle.std.specs.Prelude.{◌≡◌, List};
+ghost use Rattle.std.specs.Option.{option_and_then};
+ghost use Rattle.bmt_mcells.specs.Chain.{PlacedCell};
+ghost use Rattle.bitfile_cells.specs.Files.{HasFile, IsFile};
+ghost use Rattle.bitfile_core.specs.Files.{AreFiles, Chains, HasFiles, IsLiveCell, attributes_of, first_record as first_there, is_removed, keep_of, of_live, place_at};
+
+use crate::attributes::{Attributes, read_attributes, read_keep, says_remove};
+use bitfile_cells::find_place;
+use bmt_mcells::find_record;
+use domain_base::{CellAt, FilesetNo, Tag};
+use extent_maps::PagePlace;
+use page_store::MetaPages;
+use record_table::Record;
+use tag_dirs::TagDir;
+
+/// The files and directories of a fileset: its number, and its tag directory. The pages of cells
+/// and tags stand among the pages of metadata that each call is given.
+#[derive(Drop)]
+pub struct Bitfiles {
+    fileset: FilesetNo,
+    tags: TagDir,
+}
+
+/// The record of a kind in the first cell of a file.
+fn first_record<M: MetaPages>(pages: &M, at: &CellAt, kind: u8) -> Option<Record>
+    ensures { (cells : List PlacedCell) → IsFile (M.pages pages.now) at.now cells
+        → result ≡ first_there kind cells }
+{
+    find_record(pages, *at, kind)
+}
+
+/// Whether a file is to be removed.
+fn is_pending<M: MetaPages>(pages: &M, at: &CellAt) -> bool
+    ensures { (cells : List PlacedCell) → IsFile (M.pages pages.now) at.now cells
+        → result ≡ is_removed cells }
+{
+    match first_record(pages, at, 6) {
+        Some(value) => says_remove(&value),
+        None => false,
+    }
+}
+
+impl Bitfiles {
+    /// The files of this fileset, whose tag directory this is.
+    pub fn new(fileset: FilesetNo, tags: TagDir) -> Self
+        ensures fileset { result.fileset ≡ fileset }
+        ensures tags { result.tags ≡ tags }
+    {
+        Bitfiles { fileset, tags }
+    }
+
+    /// The first cell of the file that a tag names, if it is not to be removed.
+    fn live_cell<M: MetaPages>(&self, pages: &M, tag: Tag) -> Option<CellAt>
+        requires { HasFiles self.now.fileset self.now.tags (M.pages pages.now) }
+        ensures { (chains : Chains) → AreFiles self.now.fileset self.now.tags (M.pages pages.now) chains
+            → IsLiveCell (M.pages pages.now) (chains tag) result }
+    {
+        let at = self.tags.look(pages, tag)?;
+        if is_pending(pages, &at) {
+            return None;
+        }
+        Some(at)
+    }
+
+    /// What the file or directory is that a tag names. None exactly where it names none, or one that
+    /// is to be removed.
+    pub fn attributes<M: MetaPages>(&self, pages: &M, tag: Tag) -> Option<Attributes>
+        requires { HasFiles self.now.fileset self.now.tags (M.pages pages.now) }
+        ensures { (chains : Chains) → AreFiles self.now.fileset self.now.tags (M.pages pages.now) chains
+            → result ≡ option_and_then (of_live attributes_of) (chains tag) }
+    {
+        let at = self.live_cell(pages, tag)?;
+        read_attributes(&first_record(pages, &at, 1)?)
+    }
+
+    /// How many of its first pages the file keeps that a tag names: what is behind them is to be let
+    /// go. None exactly where the tag names none, or one that is to be removed.
+    pub fn keep<M: MetaPages>(&self, pages: &M, tag: Tag) -> Option<u32>
+        requires { HasFiles self.now.fileset self.now.tags (M.pages pages.now) }
+        ensures { (chains : Chains) → AreFiles self.now.fileset self.now.tags (M.pages pages.now) chains
+            → result ≡ option_and_then (of_live keep_of) (chains tag) }
+    {
+        let at = self.live_cell(pages, tag)?;
+        read_keep(&first_record(pages, &at, 1)?)
+    }
+
+    /// Where the file has a page that a tag names, whatever it keeps. It takes no memory.
+    pub fn page_home<M: MetaPages>(&self, pages: &M, tag: Tag, page: u32) -> PagePlace
+        requires { HasFiles self.now.fileset self.now.tags (M.pages pages.now) }
+        ensures { (chains : Chains) → AreFiles self.now.fileset self.now.tags (M.pages pages.now) chains
+            → result ≡ place_at chains tag page }
+    {
+        match self.tags.look(pages, tag) {
+            Some(at) => find_place(pages, at, page),
+            None => PagePlace::Absent,
+        }
+    }
+}

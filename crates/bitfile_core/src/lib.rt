@@ -1,0 +1,8 @@
+//! The files and directories of a fileset by their tags, over its tag directory and their cells.
+#![tactic(auto)]
+
+mod attributes;
+mod bitfiles;
+
+pub use attributes::Attributes;
+pub use bitfiles::Bitfiles;
