@@ -1,4 +1,5 @@
 pub mod Added
+pub mod InPlace
 pub mod NewPage
 pub mod Places
 pub mod Reading

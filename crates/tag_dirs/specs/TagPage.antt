@@ -1,5 +1,6 @@
 -- Tag pages: 16 bytes, and 1,022 entries of 8 bytes.
 use Rattle.std.specs.Prelude.{◌≡◌, ◌==◌, ◌&&◌, ◌+◌, ◌*◌, ◌<◌, ◌≤◌, ℕ, Bool, not, List, Option, Some, None, IfSome, is_some, length, nat_lt, if◌then◌else◌}
+use Rattle.domain_base.specs.Page.{overwritten}
 use Rattle.domain_base.specs.declared.place.CellAt.{CellAt}
 use Rattle.domain_base.specs.declared.place.Home.{Home}
 use Rattle.record_table.specs.Fields.{number_at}
@@ -84,3 +85,14 @@ pub record IsNewPage (index : ℕ) (page : List ℕ) : Type 0 where
   pub indexed : index_of page ≡ index
   pub last : next_of page ≡ None
   pub fresh : (e : ℕ) → e < 1022 → entry_of page e ≡ record { seq = 0; at = None }
+
+-- eight bytes which, written in place of an entry, make it this one
+abbrev pub SpellsEntry : TagEntry → List ℕ → Type 0
+SpellsEntry entry bytes =
+    (page : List ℕ) (place : ℕ) → place < 1022 → IsTagPage page → IsAllowed (slot_of page place) entry
+    → ChangesEntry place entry page (overwritten page (16 + 8 * place) bytes)
+
+-- eight bytes which, written in place of the next page's home, make it this one
+abbrev pub SpellsNext : Home → List ℕ → Type 0
+SpellsNext home bytes =
+    (page : List ℕ) → IsTagPage page → LinksPage home page (overwritten page 8 bytes)

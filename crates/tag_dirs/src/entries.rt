@@ -3,9 +3,20 @@ ghost use Rattle.std.specs.Prelude.{◌≡◌, ◌<◌, IfSome, IsSomeAnd};
 ghost use Rattle.tag_dirs.specs.TagPage.{IsTagPage};
 ghost use Rattle.tag_dirs.specs.Directory.{CanHave, ChangesAt, Leads, LinksAt};
 
-use crate::page::{TagEntry, can_take, put_entry, put_next, read_entry};
+use crate::page::{TagEntry, can_take, entry_bytes, next_bytes, read_entry};
 use domain_base::Home;
 use page_store::MetaPages;
+
+/// Whether an entry of the tag page that stands there may be taken.
+fn can_take_at<M: MetaPages>(pages: &M, home: &Home, place: usize) -> bool
+    requires page { IsSomeAnd (M.pages pages.now home.now) IsTagPage }
+    requires place { place < 1022 }
+{
+    match pages.get(*home) {
+        Some(page) => can_take(&read_entry(page, place)),
+        None => false,
+    }
+}
 
 /// Changes an entry of the tag page that stands there, in place, and tells whether the one before
 /// could be taken. All other entries and pages stay.
@@ -20,12 +31,8 @@ pub(crate) fn change_entry<M: MetaPages>(
     ensures changes { ChangesAt home.now place entry.now (M.pages pages.old) (M.pages pages.new) }
     ensures room { M.room pages.new ≡ M.room pages.old }
 {
-    let Some(mut page) = pages.take_off(*home) else {
-        return false;
-    };
-    let before = can_take(&read_entry(&page, place));
-    put_entry(&mut page, place, entry);
-    pages.put(*home, page);
+    let before = can_take_at(pages, home, place);
+    pages.set(*home, 16 + 8 * place, &entry_bytes(entry));
     before
 }
 
@@ -35,10 +42,7 @@ fn change_next<M: MetaPages>(pages: &mut M, home: &Home, next: &Home)
     ensures changes { LinksAt home.now next.now (M.pages pages.old) (M.pages pages.new) }
     ensures room { M.room pages.new ≡ M.room pages.old }
 {
-    if let Some(mut page) = pages.take_off(*home) {
-        put_next(&mut page, next);
-        pages.put(*home, page);
-    }
+    pages.set(*home, 8, &next_bytes(next));
 }
 
 /// Makes the page at a home, if one is given, lead to another next page.

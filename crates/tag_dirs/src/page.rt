@@ -3,7 +3,7 @@ ghost use Rattle.std.specs.Prelude.{IfOk, ℕ, ◌≡◌, ◌+◌, ◌*◌, ◌<
 ghost use Rattle.domain_base.specs.Page.{zero_bytes};
 ghost use Rattle.record_table.specs.Fields.{number_at};
 ghost use Rattle.bmt_mcells.specs.Cell.{IsAddress};
-ghost use Rattle.tag_dirs.specs.TagPage.{LinksPage, ChangesEntry, IsAllowed, IsNewPage, IsTagPage, entry_of, index_of, is_takeable, next_of, slot_of};
+ghost use Rattle.tag_dirs.specs.TagPage.{IsNewPage, IsTagPage, SpellsEntry, SpellsNext, entry_of, index_of, is_takeable, next_of};
 
 use byteorder::{ByteOrder, LittleEndian};
 use domain_base::{CellAt, Home, OutOfMemory, Page, VolIx};
@@ -134,7 +134,7 @@ fn address_of(at: &Option<CellAt>) -> (u8, u8, u32)
     }
 }
 
-/// The eight bytes of an entry.
+/// Writes the eight bytes of an entry.
 fn spell(entry: &TagEntry, out: &mut [u8])
     requires cell { IfSome entry.now.at (λ at. at.cell < 28) }
     requires len { length out.old ≡ 8 }
@@ -153,16 +153,14 @@ fn spell(entry: &TagEntry, out: &mut [u8])
     put(&ENTRY, &numbers, out);
 }
 
-/// Writes an entry of a page, and leaves all others.
-pub(crate) fn put_entry(page: &mut Page, place: usize, entry: &TagEntry)
-    requires good { IsTagPage page.old }
-    requires place { place < 1022 }
-    requires allowed { IsAllowed (slot_of page.old place) entry.now }
-    ensures { ChangesEntry place entry.now page.old page.new }
+/// The eight bytes of an entry.
+pub(crate) fn entry_bytes(entry: &TagEntry) -> [u8; 8]
+    requires { IfSome entry.now.at (λ at. at.cell < 28) }
+    ensures { SpellsEntry entry.now result }
 {
     let mut bytes = [0; 8];
     spell(entry, &mut bytes);
-    page.set(16 + 8 * place, &bytes);
+    bytes
 }
 
 /// Writes to a page of zeros what a page with no next one begins with.
@@ -187,13 +185,12 @@ pub(crate) fn new_page(alloc: Global, index: u32) -> Result<Page, OutOfMemory>
     Ok(page)
 }
 
-/// Writes the home of a page's next page.
-pub(crate) fn put_next(page: &mut Page, next: &Home)
-    requires { IsTagPage page.old }
-    ensures { LinksPage next.now page.old page.new }
+/// The eight bytes of a next page's home.
+pub(crate) fn next_bytes(next: &Home) -> [u8; 8]
+    ensures { SpellsNext next.now result }
 {
     let mut bytes = [0; 8];
     let numbers = [u64::from(next.vol.number()), u64::from(next.page)];
     put(&HOME, &numbers, &mut bytes);
-    page.set(8, &bytes);
+    bytes
 }

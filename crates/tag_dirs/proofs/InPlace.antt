@@ -1,0 +1,48 @@
+-- Pages of which eight bytes were written in place.
+use Rattle.std.proofs.Common.{◌≡◌, ◌∙◌, ℕ, ◌+◌, ◌*◌, ◌<◌, Bool, false, cond, Option, Some, None, IsSomeAnd, List, refl, ap}
+use Rattle.domain_base.specs.Page.{overwritten}
+use Rattle.domain_base.specs.declared.place.Home.{Home}
+use Rattle.page_store.specs.Pages.{Pages, same_home, with_page}
+use Rattle.bmt_mcells.proofs.Changed.{same_itself}
+use Rattle.tag_dirs.specs.declared.page.TagEntry.{TagEntry}
+use Rattle.tag_dirs.specs.TagPage.{IsTagPage, SpellsEntry, SpellsNext}
+use Rattle.tag_dirs.specs.Directory.{CanHave, ChangesAt, LinksAt}
+
+module _ (old new : Pages) (home : Home) where
+  -- the page that was written is there, and all others are as they were
+  abbrev Writes : ℕ → List ℕ → Type 0
+  Writes at bytes = IsSomeAnd (old home) (λ page. new ≡ with_page home (overwritten page at bytes) old)
+
+  there : (page : List ℕ) → new ≡ with_page home page old → new home ≡ Some page
+  there page is = ap (λ (ps : Pages). ps home) is ∙ ap (λ (b : Bool). cond b (Some page) (old home)) (same_itself home)
+
+  away : (page : List ℕ) → new ≡ with_page home page old → (h : Home) → same_home h home ≡ false → new h ≡ old h
+  away page is h other = ap (λ (ps : Pages). ps h) is ∙ ap (λ (b : Bool). cond b (Some page) (old h)) other
+
+  pub entry_set : (place : ℕ) (entry : TagEntry) (bytes : List ℕ) → place < 1022 → SpellsEntry entry bytes → IsSomeAnd (old home) (CanHave place entry) → Writes (16 + 8 * place) bytes → ChangesAt home place entry old new
+  entry_set place entry bytes below spells can writes = by_page (old home) refl can writes
+    where
+      by_page : (o : Option (List ℕ)) → old home ≡ o → IsSomeAnd o (CanHave place entry) → IsSomeAnd o (λ page. new ≡ with_page home (overwritten page (16 + 8 * place) bytes) old) → ChangesAt home place entry old new
+      by_page None at can writes = absurd can
+      by_page (Some page) at can writes = record {
+        page = page;
+        changed = overwritten page (16 + 8 * place) bytes;
+        was = at;
+        is = there (overwritten page (16 + 8 * place) bytes) writes;
+        change = spells page place below can.good can.allowed;
+        elsewhere = away (overwritten page (16 + 8 * place) bytes) writes;
+      }
+
+  pub next_set : (next : Home) (bytes : List ℕ) → SpellsNext next bytes → IsSomeAnd (old home) IsTagPage → Writes 8 bytes → LinksAt home next old new
+  next_set next bytes spells good writes = by_page (old home) refl good writes
+    where
+      by_page : (o : Option (List ℕ)) → old home ≡ o → IsSomeAnd o IsTagPage → IsSomeAnd o (λ page. new ≡ with_page home (overwritten page 8 bytes) old) → LinksAt home next old new
+      by_page None at good writes = absurd good
+      by_page (Some page) at good writes = record {
+        page = page;
+        changed = overwritten page 8 bytes;
+        was = at;
+        is = there (overwritten page 8 bytes) writes;
+        change = spells page good;
+        elsewhere = away (overwritten page 8 bytes) writes;
+      }
