@@ -1,2 +1,4 @@
 pub mod Orders
+pub mod Pages
 pub mod Parts
+pub mod Sets

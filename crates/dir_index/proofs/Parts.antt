@@ -3,14 +3,14 @@ use Rattle.std.proofs.Common.{◌≡◌, ◌∙◌, ℕ, zero, suc, ◌+◌, ◌
 use Rattle.std.proofs.lemmas.List.{drop-drop, take-append-drop, take_all}
 use Rattle.std.proofs.Math.Seq.{take-add}
 use Rattle.std.specs.List.{AllByRecursion}
-use Rattle.std.specs.Option.{IfSome, option_and_then, option_map_or}
+use Rattle.std.specs.Option.{is_some, IfSome, option_and_then, option_map_or}
 use Rattle.domain_base.specs.declared.place.Tag.{Tag}
 use Rattle.page_store.specs.Bitfiles.{Bitfile, Bitfiles, IsBitfile, index_at}
 use Rattle.record_table.specs.Fields.{number_at}
 use Rattle.dir_index.specs.declared.entry.IndexEntry.{IndexEntry}
 use Rattle.dir_index.specs.Entries.{EndsBelow, Rise, first_from, is_below}
-use Rattle.dir_index.specs.Index.{IsIndex, IsIndexPage, all_entries, between, entries_from, entries_of, entry_at, index_pages}
-use Rattle.dir_index.proofs.Orders.{all_below, first-append, first_here, or_first, or_none, rise_left, rise_right}
+use Rattle.dir_index.specs.Index.{FirstPage, IsFirstPage, IsIndex, IsIndexPage, all_entries, between, entries_from, entries_of, entry_at, index_pages}
+use Rattle.dir_index.proofs.Orders.{all_below, first-append, first_here, or_first, or_is_none, or_is_some, or_none, rise_left, rise_right}
 
 got : {X : Type 0} (xs : List X) (k : ℕ) (x : X) → slice_get xs k ≡ Some x → drop k xs ≡ x ∷ drop (k + 1) xs
 got [] zero x is = absurd cc
@@ -173,3 +173,69 @@ module _ (index : List (List ℕ)) (key : IndexEntry) (low middle high : ℕ) (p
   pub pages_halved : first_from key (all_entries (between low high index))
       ≡ or_first (first_from key (all_entries (between low middle index))) (or_first (first_from key (entries_of page)) (first_from key (all_entries (between (middle + 1) high index))))
   pages_halved = ap (first_from key) pages_split ∙ three key (all_entries (between low middle index)) (entries_of page) (all_entries (between (middle + 1) high index))
+
+-- ---- the first page with an entry that is not below the key
+
+module _ (index : List (List ℕ)) (key : IndexEntry) (low middle high : ℕ) (above : low ≤ middle) (below : middle < high) (is : IsIndex index) where
+  pub no_page : (o : Option ℕ) → slice_get index middle ≡ None → IsFirstPage key index low middle o → IsFirstPage key index low high o
+  no_page None none first = ap (λ pages. first_from key (all_entries pages)) (cut index low middle high (omega (arith, below)) none) ∙ first
+  no_page (Some n) none first = first
+
+  module _ (page : List ℕ) (found : slice_get index middle ≡ Some page) where
+    pub page_skipped : (o : Option ℕ) → EndsBelow key (entries_of page) → IsFirstPage key index (middle + 1) high o → IsFirstPage key index low high o
+    page_skipped None at first = pages_skipped index key low middle high page above below is found at ∙ first
+    page_skipped (Some n) at first = record {
+      page = first.page;
+      there = first.there;
+      begins = omega (arith, first.begins, above);
+      before = pages_skipped index key low middle n page above (omega (arith, first.begins)) is found at ∙ first.before;
+      here = first.here;
+    }
+
+    pub page_before : (o : Option ℕ) → is_some o ≡ true → IsFirstPage key index low middle o → IsFirstPage key index low high o
+    page_before None some first = absurd cc
+    page_before (Some n) some first = first
+
+    pub none_before : (o : Option ℕ) → is_some o ≡ false → IsFirstPage key index low middle o → first_from key (all_entries (between low middle index)) ≡ None
+    none_before None none first = first
+    none_before (Some n) none first = absurd cc
+
+    pub page_here : first_from key (all_entries (between low middle index)) ≡ None → is_some (first_from key (entries_of page)) ≡ true → FirstPage key index low middle
+    page_here before here = record { page = page; there = found; begins = above; before = before; here = here }
+
+    pub page_behind : (o : Option ℕ) → first_from key (all_entries (between low middle index)) ≡ None → is_some (first_from key (entries_of page)) ≡ false
+        → IsFirstPage key index (middle + 1) high o → IsFirstPage key index low high o
+    page_behind None before here first =
+        pages_halved index key low middle high page above below is found ∙ or_none (first_from key (all_entries (between low middle index))) (or_first (first_from key (entries_of page)) (first_from key (all_entries (between (middle + 1) high index)))) before
+        ∙ or_is_none (first_from key (entries_of page)) (first_from key (all_entries (between (middle + 1) high index))) here ∙ first
+    page_behind (Some n) before here first = record {
+      page = first.page;
+      there = first.there;
+      begins = omega (arith, first.begins, above);
+      before = pages_halved index key low middle n page above (omega (arith, first.begins)) is found
+          ∙ or_none (first_from key (all_entries (between low middle index))) (or_first (first_from key (entries_of page)) (first_from key (all_entries (between (middle + 1) n index)))) before
+          ∙ or_is_none (first_from key (entries_of page)) (first_from key (all_entries (between (middle + 1) n index))) here ∙ first.before;
+      here = first.here;
+    }
+
+-- an index, split at a page
+pub index_split : (index : List (List ℕ)) (k : ℕ) (page : List ℕ) → slice_get index k ≡ Some page → index ≡ take k index ++ page ∷ drop (k + 1) index
+index_split index k page there = sym (take-append-drop k index) ∙ ap (λ ps. take k index ++ ps) (got index k page there)
+
+pub split_entries : (index : List (List ℕ)) (k : ℕ) (page : List ℕ) → slice_get index k ≡ Some page → all_entries index ≡ all_entries (take k index) ++ (entries_of page ++ all_entries (drop (k + 1) index))
+split_entries index k page there = ap all_entries (index_split index k page there) ∙ all-append (take k index) (page ∷ drop (k + 1) index)
+
+pub from_start : (index : List (List ℕ)) (n : ℕ) → between 0 n index ≡ take n index
+from_start index n = let e : n - 0 ≡ n = omega arith in ap (λ k. take k index) e
+
+pub first_found : (index : List (List ℕ)) (key : IndexEntry) (n : ℕ) (page : List ℕ) → slice_get index n ≡ Some page → FirstPage key index 0 n → first_from key (entries_of page) ≡ first_from key (all_entries index)
+first_found index key n page at first =
+    let same : page ≡ first.page = some_page page first.page (sym at ∙ first.there) in
+    let none : first_from key (all_entries (take n index)) ≡ None = ap (λ ps. first_from key (all_entries ps)) (sym (from_start index n)) ∙ first.before in
+    sym
+    (ap (first_from key) (split_entries index n page at) ∙ three key (all_entries (take n index)) (entries_of page) (all_entries (drop (n + 1) index))
+    ∙ or_none (first_from key (all_entries (take n index))) (or_first (first_from key (entries_of page)) (first_from key (all_entries (drop (n + 1) index)))) none
+    ∙ or_is_some (first_from key (entries_of page)) (first_from key (all_entries (drop (n + 1) index))) (ap (λ p. is_some (first_from key (entries_of p))) same ∙ first.here))
+  where
+    some_page : (a b : List ℕ) → Some a ≡ Some b → a ≡ b
+    some_page a b e = cc

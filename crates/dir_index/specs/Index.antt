@@ -1,12 +1,14 @@
 -- Index pages: 16 bytes, and up to 1,022 entries of 8 bytes.
-use Rattle.std.specs.Prelude.{◌≡◌, ◌+◌, ◌-◌, ◌*◌, ◌≤◌, ℕ, zero, suc, List, [], ◌∷◌, ◌++◌, length, take, drop}
+use Rattle.std.specs.Prelude.{◌≡◌, ◌+◌, ◌-◌, ◌*◌, ◌^◌, ◌<◌, ◌≤◌, ℕ, zero, suc, true, Option, Some, None, is_some, List, [], ◌∷◌, ◌++◌, length, take, drop, slice_get}
 use Rattle.std.specs.List.{AllByRecursion}
 use Rattle.std.specs.Option.{option_map_or}
 use Rattle.domain_base.specs.declared.place.Tag.{Tag}
 use Rattle.page_store.specs.Bitfiles.{Bitfile, Bitfiles}
+use Rattle.domain_base.specs.Page.{zero_bytes}
 use Rattle.record_table.specs.Fields.{number_at}
+use Rattle.record_table.specs.Records.{spelled}
 use Rattle.dir_index.specs.declared.entry.IndexEntry.{IndexEntry}
-use Rattle.dir_index.specs.Entries.{Rise}
+use Rattle.dir_index.specs.Entries.{Rise, first_from}
 
 -- the entry of that number on a page
 abbrev pub entry_at : List ℕ → ℕ → IndexEntry
@@ -46,3 +48,45 @@ index_pages files tag = option_map_or (λ (file : Bitfile). file.index) (files t
 -- the pages from one number to another
 abbrev pub between : ℕ → ℕ → List (List ℕ) → List (List ℕ)
 between low high pages = take (high - low) (drop low pages)
+
+-- the first page from a number on that has an entry which is not below the key
+pub record FirstPage (key : IndexEntry) (index : List (List ℕ)) (low number : ℕ) : Type 0 where
+  pub page : List ℕ
+  pub there : slice_get index number ≡ Some page
+  pub begins : low ≤ number
+  pub before : first_from key (all_entries (between low number index)) ≡ None
+  pub here : is_some (first_from key (entries_of page)) ≡ true
+
+-- the same of the pages from one number to another, or none where they have no such entry
+abbrev pub IsFirstPage : IndexEntry → List (List ℕ) → ℕ → ℕ → Option ℕ → Type 0
+IsFirstPage key index low high None =
+    first_from key (all_entries (between low high index)) ≡ None
+IsFirstPage key index low high (Some number) = FirstPage key index low number
+
+-- the bytes of an entry, and of entries one behind the other
+abbrev pub spelled_entry : IndexEntry → List ℕ
+spelled_entry entry = spelled (4 ∷ 4 ∷ []) (entry.hash ∷ entry.page ∷ [])
+
+abbrev pub spelling : List IndexEntry → List ℕ
+spelling [] = []
+spelling (entry ∷ entries) = spelled_entry entry ++ spelling entries
+
+-- what a page of so many entries begins with: `DIRX`, their number, and zeros for the next page
+abbrev pub header : ℕ → List ℕ
+header count = spelled (4 ∷ 4 ∷ 8 ∷ []) (0x58524944 ∷ count ∷ 0 ∷ [])
+
+-- a page as it is written: these entries, and zeros behind them
+abbrev pub index_page_of : List IndexEntry → List ℕ
+index_page_of entries =
+    header (length entries) ++ spelling entries ++ zero_bytes (8176 - 8 * length entries)
+
+-- a page that was written with these entries
+pub record IsPageOf (entries : List IndexEntry) (page : List ℕ) : Type 0 where
+  pub value : page ≡ index_page_of entries
+  pub good : IsIndexPage page
+  pub read : entries_of page ≡ entries
+
+-- an entry whose numbers fit its fields
+pub record Fits (entry : IndexEntry) : Type 0 where
+  pub hash : entry.hash < 2 ^ 32
+  pub page : entry.page < 2 ^ 32

@@ -8,6 +8,9 @@ use crate::entry::{IndexEntry, is_below};
 use byteorder::{ByteOrder, LittleEndian};
 use domain_base::Page;
 
+/// How many entries a page has at most.
+pub(crate) const ENTRIES: usize = 1_022;
+
 #[tactic(auto, unfolding(record_table::specs::Fields::number_at))]
 fn u32_at(bytes: &[u8], at: usize) -> u32
     requires { at + 4 ≤ length bytes.now }

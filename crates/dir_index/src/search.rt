@@ -1,46 +1,54 @@
 //! The pages of a directory that have rows of a hash.
 ghost use Rattle.std.specs.Prelude.{◌≡◌, ◌≤◌, IfSome, IfNone};
 ghost use Rattle.dir_index.specs.Entries.{HasNext, IsNext, first_from};
-ghost use Rattle.dir_index.specs.Index.{IsIndex, all_entries, between, index_pages};
+ghost use Rattle.dir_index.specs.Index.{IsFirstPage, IsIndex, all_entries, index_pages};
 
 use crate::entry::IndexEntry;
 use crate::page::{ends_below, first_on};
 use domain_base::Tag;
 use page_store::BitfileSet;
 
-/// The first entry that is not below the key, of the pages of an index from one number to another.
-/// It halves the pages at each look, and looks at both halves only where the page between them has
-/// no entry.
-fn first_between<S: BitfileSet>(
+/// The first page of an index, of those from one number to another, that has an entry which is not
+/// below the key. It halves the pages at each look, and looks at both halves only where the page
+/// between them has no entry.
+pub(crate) fn page_from<S: BitfileSet>(
     set: &S,
     dir: Tag,
     key: &IndexEntry,
     low: u32,
     high: u32,
-) -> Option<IndexEntry>
+) -> Option<u32>
     requires { IsIndex (index_pages (S.files set.now) dir) }
-    ensures { result ≡ first_from key.now
-        (all_entries (between low high (index_pages (S.files set.now) dir))) }
+    ensures { IsFirstPage key.now (index_pages (S.files set.now) dir) low high result }
 {
     if low >= high {
         return None;
     }
     let middle = low + (high - low) / 2;
     let Some(page) = set.index_page(dir, middle) else {
-        return first_between(set, dir, key, low, middle);
+        return page_from(set, dir, key, low, middle);
     };
     if ends_below(page, key) {
-        return first_between(set, dir, key, middle + 1, high);
+        return page_from(set, dir, key, middle + 1, high);
     }
-    let before = first_between(set, dir, key, low, middle);
+    let before = page_from(set, dir, key, low, middle);
     if before.is_some() {
         return before;
     }
-    let here = first_on(page, key);
-    if here.is_some() {
-        return here;
+    if first_on(page, key).is_some() {
+        return Some(middle);
     }
-    first_between(set, dir, key, middle + 1, high)
+    page_from(set, dir, key, middle + 1, high)
+}
+
+/// The first entry of an index that is not below the key.
+fn first_entry<S: BitfileSet>(set: &S, dir: Tag, key: &IndexEntry) -> Option<IndexEntry>
+    requires { IsIndex (index_pages (S.files set.now) dir) }
+    ensures { result ≡ first_from key.now (all_entries (index_pages (S.files set.now) dir)) }
+{
+    let number = page_from(set, dir, key, 0, u32::MAX)?;
+    let page = set.index_page(dir, number)?;
+    first_on(page, key)
 }
 
 /// The least page of a directory, from `from` on, that an entry of its index with the hash names.
@@ -53,7 +61,7 @@ pub fn next_page<S: BitfileSet>(set: &S, dir: Tag, hash: u32, from: u32) -> Opti
         (all_entries (index_pages (S.files set.now) dir))) }
 {
     let key = IndexEntry { hash, page: from };
-    let entry = first_between(set, dir, &key, 0, u32::MAX)?;
+    let entry = first_entry(set, dir, &key)?;
     if entry.hash == hash {
         Some(entry.page)
     } else {

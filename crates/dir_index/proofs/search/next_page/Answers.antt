@@ -9,21 +9,15 @@ use Rattle.dir_index.proofs.search.next_page.Goals as goal
 pub returns-in_err-entry-clause-none : goal.returns-in_err-entry-clause-none
 returns-in_err-entry-clause-none g c =
     let files = g.S.BitfileSet.files c.args.set.now in
-    let key : IndexEntry = record { hash = c.args.hash; page = c.args.from } in
-    let all = ap (λ pages. first_from key (all_entries pages)) (whole_index files c.args.dir (g.met.S.BitfileSet.sound c.args.set.now c.args.dir)) in
     subst (λ o. IfNone o (¬ HasNext c.args.hash c.args.from (all_entries (index_pages files c.args.dir)))) (sym c.from_residual.ensures)
-    (none_next c.args.hash c.args.from (all_entries (index_pages files c.args.dir)) (sym (c.first_between.ensures ∙ all) ∙ c.in_err-entry.was))
+    (none_next c.args.hash c.args.from (all_entries (index_pages files c.args.dir)) (sym c.first_entry.ensures ∙ c.in_err-entry.was))
 
 pub returns-then-entry-hash-clause-some : goal.returns-then-entry-hash-clause-some
 returns-then-entry-hash-clause-some g c =
     let files = g.S.BitfileSet.files c.args.set.now in
-    let key : IndexEntry = record { hash = c.args.hash; page = c.args.from } in
-    let all = ap (λ pages. first_from key (all_entries pages)) (whole_index files c.args.dir (g.met.S.BitfileSet.sound c.args.set.now c.args.dir)) in
-    some_next c.args.hash c.args.from (all_entries (index_pages files c.args.dir)) c.in_ok-entry.entry c.requires.rise (sym (c.first_between.ensures ∙ all) ∙ c.in_ok-entry.was) c.if-entry-hash.true
+    some_next c.args.hash c.args.from (all_entries (index_pages files c.args.dir)) c.in_ok-entry.entry c.requires.rise (sym c.first_entry.ensures ∙ c.in_ok-entry.was) c.if-entry-hash.true
 
 pub returns-else-entry-hash-clause-none : goal.returns-else-entry-hash-clause-none
 returns-else-entry-hash-clause-none g c =
     let files = g.S.BitfileSet.files c.args.set.now in
-    let key : IndexEntry = record { hash = c.args.hash; page = c.args.from } in
-    let all = ap (λ pages. first_from key (all_entries pages)) (whole_index files c.args.dir (g.met.S.BitfileSet.sound c.args.set.now c.args.dir)) in
-    other_next c.args.hash c.args.from (all_entries (index_pages files c.args.dir)) c.in_ok-entry.entry c.requires.rise (sym (c.first_between.ensures ∙ all) ∙ c.in_ok-entry.was) c.if-entry-hash.false
+    other_next c.args.hash c.args.from (all_entries (index_pages files c.args.dir)) c.in_ok-entry.entry c.requires.rise (sym c.first_entry.ensures ∙ c.in_ok-entry.was) c.if-entry-hash.false

@@ -1,0 +1,17 @@
+use Rattle.std.proofs.Common.{◌≡◌, ◌∙◌, ◌+◌, ◌-◌, ◌*◌, ◌≤◌, length, min, refl, take, drop, arith}
+use Rattle.dir_index.proofs.Sets.{built_all, built_more, built_only}
+use Rattle.dir_index.proofs.change.build.Goals as goal
+
+pub loop-number-preserved : goal.loop-number-preserved
+loop-number-preserved g c =
+    let list = c.args.entries.now in
+    let number = c.loop-number.number in
+    let from = 1022 * number in
+    let old = g.S.BitfileSet.files c.args.set.now in
+    let mid = g.S.BitfileSet.files c.loop-number.set in
+    let new = g.S.BitfileSet.files c.put_part.new.set in
+    let within : from ≤ length list = omega (arith, c.max-pages.ensures, c.div_ceil.ensures, c.loop-number-test.true) in
+    record {
+      built = built_more c.args.dir list (take (c.min-end.result - from) (drop from list)) number from c.min-end.result old mid new c.requires.directory c.loop-number.invariant.built c.in_ok-put_part.ensures.ok refl within c.min-end.ensures refl;
+      count = omega (arith, c.loop-number.invariant.count, c.in_ok-put_part.ensures.count);
+    }

@@ -1,0 +1,9 @@
+use Rattle.std.proofs.Common.{◌≤◌}
+use Rattle.dir_index.proofs.Sets.{Built}
+use Rattle.dir_index.proofs.change.build.Given as goal
+
+abbrev pub invariant-loop-number : goal.invariant-loop-number
+invariant-loop-number g l = record {
+  built : Built l.dir l.entries l.number (g.S.BitfileSet.files l.initial.set) (g.S.BitfileSet.files l.set);
+  count : g.S.BitfileSet.missed l.initial.set ≤ g.S.BitfileSet.missed l.set;
+}
