@@ -110,7 +110,7 @@ records_replaced kind value rs good allowed of_kind = record {
 
 -- ---- records without those of a kind take no more bytes
 
-parted : (kind : ℕ) (rs : List Record) → length (spellings (below kind rs)) + length (spellings (above kind rs)) ≤ length (spellings rs)
+pub parted : (kind : ℕ) (rs : List Record) → length (spellings (below kind rs)) + length (spellings (above kind rs)) ≤ length (spellings rs)
 parted kind [] = omega arith
 parted kind (r ∷ rs) =
     let before = parted kind rs in

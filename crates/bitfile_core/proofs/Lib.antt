@@ -1,1 +1,6 @@
 pub mod Live
+pub mod FirstCell
+pub mod Tags
+pub mod Room
+pub mod OneFile
+pub mod SetFirst

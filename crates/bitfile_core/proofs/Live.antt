@@ -10,6 +10,7 @@ use Rattle.bitfile_core.specs.Files.{IsFirstUnless, IsLiveCell, is_removed, of_l
 -- a file that is not to be removed, whose chain begins at that cell
 pub record LiveAt {X : Type 0} (what : List PlacedCell → Option X) (pages : Pages) (at : CellAt) (chain : Option (List PlacedCell)) : Type 0 where
   pub cells : List PlacedCell
+  pub is : chain ≡ Some cells
   pub is_file : IsFile pages at cells
   pub has : option_and_then (of_live what) chain ≡ what cells
 
@@ -31,4 +32,4 @@ module _ {X : Type 0} (what : List PlacedCell → Option X) (pages : Pages) wher
     where
       by_removed : (b : Bool) → is_removed cells ≡ b → IsFirstUnless b pages cells (Some at) → LiveAt what pages at (Some cells)
       by_removed true is live = absurd (some_is_none at live)
-      by_removed false is live = record { cells = cells; is_file = live; has = ap (λ (b : Bool). cond b None (what cells)) is }
+      by_removed false is live = record { cells = cells; is = refl; is_file = live; has = ap (λ (b : Bool). cond b None (what cells)) is }

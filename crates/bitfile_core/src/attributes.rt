@@ -1,5 +1,6 @@
 //! What a file or directory is.
 ghost use Rattle.std.specs.Prelude.{◌≡◌};
+ghost use Rattle.bitfile_core.specs.Changes.{with_attributes as changed};
 ghost use Rattle.bitfile_core.specs.Files.{attributes_in, keep_in, says_remove as removes};
 
 use domain_base::Kind;
@@ -66,5 +67,33 @@ pub(crate) fn says_remove(value: &Record) -> bool
             Leftover::Trim => false,
         },
         _ => false,
+    }
+}
+
+/// The record of attributes that says these, with what else the old one says.
+pub(crate) fn with_attributes(was: &Record, value: &Attributes) -> Record
+    ensures { result ≡ changed value.now was.now }
+{
+    match was {
+        Record::Attributes {
+            keep,
+            birth,
+            unsynced,
+            ..
+        } => Record::Attributes {
+            kind: match value.kind {
+                Kind::File => 1,
+                Kind::Directory => 2,
+            },
+            uid: value.uid,
+            gid: value.gid,
+            flags: u32::from(value.is_logged),
+            size: value.size,
+            keep: *keep,
+            links: value.links,
+            birth: *birth,
+            unsynced: *unsynced,
+        },
+        _ => *was,
     }
 }

@@ -1,17 +1,20 @@
 //! The files of a fileset, looked at.
-ghost use Rattle.std.specs.Prelude.{◌≡◌, List};
+ghost use Rattle.std.specs.Prelude.{◌≡◌, List, OnErr, OnOk};
 ghost use Rattle.std.specs.Option.{option_and_then};
+ghost use Rattle.bmt_mcells.specs.CellPage.{KeepsHeaders, KeepsWellFormed};
 ghost use Rattle.bmt_mcells.specs.Chain.{PlacedCell};
 ghost use Rattle.bitfile_cells.specs.Files.{HasFile, IsFile};
+ghost use Rattle.bitfile_core.specs.Changes.{CanSay, ChangesFirst, says_attributes, with_chain, with_first};
 ghost use Rattle.bitfile_core.specs.Files.{AreFiles, Chains, HasFiles, IsLiveCell, attributes_of, first_record as first_there, is_removed, keep_of, of_live, place_at};
 
-use crate::attributes::{Attributes, read_attributes, read_keep, says_remove};
-use bitfile_cells::find_place;
+use crate::attributes::{Attributes, read_attributes, read_keep, says_remove, with_attributes};
+use bitfile_cells::{find_place, set_record};
 use bmt_mcells::find_record;
-use domain_base::{CellAt, FilesetNo, Tag};
+use domain_base::{CellAt, FilesetNo, OutOfMemory, Tag};
 use extent_maps::PagePlace;
 use page_store::MetaPages;
 use record_table::Record;
+use std::alloc::Global;
 use tag_dirs::TagDir;
 
 /// The files and directories of a fileset: its number, and its tag directory. The pages of cells
@@ -53,7 +56,8 @@ impl Bitfiles {
     /// The first cell of the file that a tag names, if it is not to be removed.
     fn live_cell<M: MetaPages>(&self, pages: &M, tag: Tag) -> Option<CellAt>
         requires { HasFiles self.now.fileset self.now.tags (M.pages pages.now) }
-        ensures { (chains : Chains) → AreFiles self.now.fileset self.now.tags (M.pages pages.now) chains
+        ensures { (chains : Chains)
+            → AreFiles self.now.fileset self.now.tags (M.pages pages.now) chains
             → IsLiveCell (M.pages pages.now) (chains tag) result }
     {
         let at = self.tags.look(pages, tag)?;
@@ -67,7 +71,8 @@ impl Bitfiles {
     /// is to be removed.
     pub fn attributes<M: MetaPages>(&self, pages: &M, tag: Tag) -> Option<Attributes>
         requires { HasFiles self.now.fileset self.now.tags (M.pages pages.now) }
-        ensures { (chains : Chains) → AreFiles self.now.fileset self.now.tags (M.pages pages.now) chains
+        ensures { (chains : Chains)
+            → AreFiles self.now.fileset self.now.tags (M.pages pages.now) chains
             → result ≡ option_and_then (of_live attributes_of) (chains tag) }
     {
         let at = self.live_cell(pages, tag)?;
@@ -78,7 +83,8 @@ impl Bitfiles {
     /// go. None exactly where the tag names none, or one that is to be removed.
     pub fn keep<M: MetaPages>(&self, pages: &M, tag: Tag) -> Option<u32>
         requires { HasFiles self.now.fileset self.now.tags (M.pages pages.now) }
-        ensures { (chains : Chains) → AreFiles self.now.fileset self.now.tags (M.pages pages.now) chains
+        ensures { (chains : Chains)
+            → AreFiles self.now.fileset self.now.tags (M.pages pages.now) chains
             → result ≡ option_and_then (of_live keep_of) (chains tag) }
     {
         let at = self.live_cell(pages, tag)?;
@@ -88,12 +94,47 @@ impl Bitfiles {
     /// Where the file has a page that a tag names, whatever it keeps. It takes no memory.
     pub fn page_home<M: MetaPages>(&self, pages: &M, tag: Tag, page: u32) -> PagePlace
         requires { HasFiles self.now.fileset self.now.tags (M.pages pages.now) }
-        ensures { (chains : Chains) → AreFiles self.now.fileset self.now.tags (M.pages pages.now) chains
+        ensures { (chains : Chains)
+            → AreFiles self.now.fileset self.now.tags (M.pages pages.now) chains
             → result ≡ place_at chains tag page }
     {
         match self.tags.look(pages, tag) {
             Some(at) => find_place(pages, at, page),
             None => PagePlace::Absent,
         }
+    }
+    /// Sets what the file or directory is that a live tag names: its kind stays, and it has from 1 to
+    /// 1,000 links. Where its pages stand, how many it keeps and every other file stay. After an error
+    /// nothing has changed.
+    pub fn set_attributes<M: MetaPages>(
+        &self,
+        alloc: Global,
+        pages: &mut M,
+        tag: Tag,
+        value: &Attributes,
+    ) -> Result<(), OutOfMemory>
+        requires files { HasFiles self.now.fileset self.now.tags (M.pages pages.old) }
+        requires live { (chains : Chains)
+            → AreFiles self.now.fileset self.now.tags (M.pages pages.old) chains
+            → CanSay value.now tag chains }
+        ensures ok { (chains : Chains)
+            → AreFiles self.now.fileset self.now.tags (M.pages pages.old) chains
+            → OnOk result (AreFiles self.now.fileset self.now.tags (M.pages pages.new)
+            (with_chain tag (with_first (says_attributes value.now)) chains)) }
+        ensures err { OnErr result (M.pages pages.new ≡ M.pages pages.old) }
+        ensures beside { (chains : Chains)
+            → AreFiles self.now.fileset self.now.tags (M.pages pages.old) chains
+            → ChangesFirst (chains tag) (M.pages pages.old) (M.pages pages.new) }
+        ensures well_formed { KeepsWellFormed (M.pages pages.old) (M.pages pages.new) }
+        ensures headers { KeepsHeaders (M.pages pages.old) (M.pages pages.new) }
+        ensures room { M.room pages.new ≡ M.room pages.old }
+    {
+        let Some(at) = self.live_cell(pages, tag) else {
+            return Ok(());
+        };
+        let Some(was) = first_record(pages, &at, 1) else {
+            return Ok(());
+        };
+        set_record(alloc, pages, at, &with_attributes(&was, value))
     }
 }

@@ -1,0 +1,207 @@
+-- A record of a file's first cell that says nothing of pages is changed: the file stays one.
+use Rattle.std.proofs.Common.{◌≡◌, ◌≢◌, ◌∙◌, ℕ, suc, ◌<◌, ◌≤◌, ◌&&◌, Bool, true, false, cond, nat_eq, nat_lt, List, [], ◌∷◌, ◌++◌, filter, Option, Some, None, IfSome, IsSome, Contains, refl, sym, ap, subst, arith, ⊎_elim}
+use Rattle.std.proofs.lemmas.Bool.{and_parts, both_ways, cases_Bool, cases_lt, eqb-true, eq-eqb, false_from_ne_true, lt-ltb, ltb-true}
+use Rattle.std.proofs.lemmas.Grind.{flat_map-append}
+use Rattle.std.specs.List.{AllByRecursion}
+use Rattle.std.specs.Option.{option_to_list}
+use Rattle.domain_base.specs.declared.place.CellAt.{CellAt}
+use Rattle.page_store.specs.Pages.{Pages}
+use Rattle.record_table.specs.declared.record.Record.{Record}
+use Rattle.record_table.specs.Records.{kind_of}
+use Rattle.bmt_mcells.specs.declared.head.CellHead.{CellHead}
+use Rattle.bmt_mcells.specs.Cell.{record_of}
+use Rattle.bmt_mcells.specs.Chain.{Follow, LeavesOthers, PlacedCell, StandsAt, is_at, places, records_of}
+use Rattle.bmt_mcells.proofs.Frames.{stands_stays}
+use Rattle.extent_maps.specs.declared.run.Run.{Run}
+use Rattle.extent_records.specs.Rows.{IsPlaced, NoPageTwice, runs_in, runs_of}
+use Rattle.bitfile_cells.specs.Changes.{above, below, with_kind, with_record}
+use Rattle.bitfile_cells.specs.Files.{AreFile, has_rows, map_records}
+use Rattle.bitfile_cells.proofs.MapRecords.{runs_by_map}
+
+-- ---- other cells
+
+at_parts : (a b : CellAt) → is_at a b ≡ true → a ≡ b
+at_parts a b same =
+    let outer = and_parts (nat_eq a.vol b.vol) (nat_eq a.page b.page && nat_eq a.cell b.cell) same in
+    let inner = and_parts (nat_eq a.page b.page) (nat_eq a.cell b.cell) outer.1 in
+    let vol = eqb-true a.vol b.vol outer.0 in
+    let page = eqb-true a.page b.page inner.0 in
+    let cell = eqb-true a.cell b.cell inner.1 in
+    (λ i. record { vol = vol i; page = page i; cell = cell i })
+
+pub not_at : (a b : CellAt) → ¬ a ≡ b → is_at a b ≡ false
+not_at a b other = false_from_ne_true (is_at a b) (λ same. other (at_parts a b same))
+
+pub follow_apart : (old new : Pages) (at : CellAt) → LeavesOthers (is_at at) old new → (head : CellHead) (cs : List PlacedCell) → ¬ Contains (places cs) at → Follow old head cs → Follow new head cs
+follow_apart old new at leaves head [] apart follow = follow
+follow_apart old new at leaves head (c ∷ cs) apart follow = (
+  follow.0,
+  follow.1,
+  stands_stays old new (is_at at) leaves c.at c.cell (not_at at c.at (λ same. apart (0, omega arith, sym same))) follow.2,
+  follow_apart old new at leaves c.cell.head cs (λ inside. apart (suc inside.0, omega (arith, inside.1), inside.2)) follow.3,
+)
+
+-- ---- a filter of a filter
+
+filter_true : (p : Record → Bool) (r : Record) (rs : List Record) → p r ≡ true → filter p (r ∷ rs) ≡ r ∷ filter p rs
+filter_true p r rs is = ap (λ (b : Bool). cond b (r ∷ filter p rs) (filter p rs)) is
+
+filter_false : (p : Record → Bool) (r : Record) (rs : List Record) → p r ≡ false → filter p (r ∷ rs) ≡ filter p rs
+filter_false p r rs is = ap (λ (b : Bool). cond b (r ∷ filter p rs) (filter p rs)) is
+
+filters_swap : (p q : Record → Bool) (rs : List Record) → filter p (filter q rs) ≡ filter q (filter p rs)
+filters_swap p q [] = refl
+filters_swap p q (r ∷ rs) = ⊎_elim
+    (λ is_q. ⊎_elim
+    (λ is_p. ap (filter p) (filter_true q r rs is_q) ∙ filter_true p r (filter q rs) is_p ∙ ap (λ (xs : List Record). r ∷ xs) (filters_swap p q rs)
+    ∙ sym (ap (filter q) (filter_true p r rs is_p) ∙ filter_true q r (filter p rs) is_q))
+    (λ no_p. ap (filter p) (filter_true q r rs is_q) ∙ filter_false p r (filter q rs) no_p ∙ filters_swap p q rs ∙ sym (ap (filter q) (filter_false p r rs no_p)))
+    (cases_Bool (p r)))
+    (λ no_q. ⊎_elim
+    (λ is_p. ap (filter p) (filter_false q r rs no_q) ∙ filters_swap p q rs ∙ sym (ap (filter q) (filter_true p r rs is_p) ∙ filter_false q r (filter p rs) no_q))
+    (λ no_p. ap (filter p) (filter_false q r rs no_q) ∙ filters_swap p q rs ∙ sym (ap (filter q) (filter_false p r rs no_p)))
+    (cases_Bool (p r)))
+    (cases_Bool (q r))
+
+filter-append : (p : Record → Bool) (xs ys : List Record) → filter p (xs ++ ys) ≡ filter p xs ++ filter p ys
+filter-append p [] ys = refl
+filter-append p (x ∷ xs) ys = ⊎_elim
+    (λ is. filter_true p x (xs ++ ys) is ∙ ap (λ (zs : List Record). x ∷ zs) (filter-append p xs ys) ∙ sym (ap (λ (zs : List Record). zs ++ filter p ys) (filter_true p x xs is)))
+    (λ is. filter_false p x (xs ++ ys) is ∙ filter-append p xs ys ∙ sym (ap (λ (zs : List Record). zs ++ filter p ys) (filter_false p x xs is)))
+    (cases_Bool (p x))
+
+-- ---- the record with rows stays
+
+module _ (kind : ℕ) (value : Option Record) (rs : List Record) (map : Record) (only : map_records rs ≡ map ∷ []) (other : kind_of map ≢ kind) (nothing : IfSome value (λ r. has_rows r ≡ false)) where
+  middle_none : map_records (option_to_list value) ≡ []
+  middle_none = by_value value nothing
+    where
+      by_value : (value : Option Record) → IfSome value (λ r. has_rows r ≡ false) → map_records (option_to_list value) ≡ []
+      by_value None nothing = refl
+      by_value (Some v) nothing = filter_false has_rows v [] nothing
+
+  below_map : map_records (below kind rs) ≡ below kind (map ∷ [])
+  below_map = filters_swap has_rows (λ r. nat_lt (kind_of r) kind) rs ∙ ap (below kind) only
+
+  above_map : map_records (above kind rs) ≡ above kind (map ∷ [])
+  above_map = filters_swap has_rows (λ r. nat_lt kind (kind_of r)) rs ∙ ap (above kind) only
+
+  whole : map_records (with_kind kind value rs) ≡ below kind (map ∷ []) ++ above kind (map ∷ [])
+  whole =
+      filter-append has_rows (below kind rs) (option_to_list value ++ above kind rs)
+      ∙ (λ i. below_map i ++ (filter-append has_rows (option_to_list value) (above kind rs) ∙ (λ j. middle_none j ++ above_map j)) i)
+
+  pub map_stays : map_records (with_kind kind value rs) ≡ map ∷ []
+  map_stays = whole ∙ ⊎_elim
+      (λ less. (λ i. filter_true (λ r. nat_lt (kind_of r) kind) map [] (lt-ltb (kind_of map) kind less) i
+      ++ filter_false (λ r. nat_lt kind (kind_of r)) map [] (false_from_ne_true (nat_lt kind (kind_of map)) (λ more. omega (arith, less, ltb-true kind (kind_of map) more))) i))
+      (λ not_less. (λ i. filter_false (λ r. nat_lt (kind_of r) kind) map [] (false_from_ne_true (nat_lt (kind_of map) kind) (λ less. omega (arith, not_less, ltb-true (kind_of map) kind less))) i
+      ++ filter_true (λ r. nat_lt kind (kind_of r)) map [] (lt-ltb kind (kind_of map) (greater not_less)) i))
+      (cases_lt (kind_of map) kind)
+    where
+      greater : kind ≤ kind_of map → kind < kind_of map
+      greater le = ⊎_elim (λ less. less) (λ not_less. absurd (other (let e : kind_of map ≡ kind = omega (arith, le, not_less) in e))) (cases_lt kind (kind_of map))
+
+-- ---- a record of another kind stays
+
+find_filter : (j : ℕ) (p : Record → Bool) (rs : List Record) → ((r : Record) → kind_of r ≡ j → p r ≡ true) → record_of j (filter p rs) ≡ record_of j rs
+find_filter j p [] keeps = refl
+find_filter j p (r ∷ rs) keeps = ⊎_elim
+    (λ is. ap (record_of j) (filter_true p r rs is) ∙ ap (λ o. cond (nat_eq (kind_of r) j) (Some r) o) (find_filter j p rs keeps))
+    (λ is_not. ap (record_of j) (filter_false p r rs is_not) ∙ find_filter j p rs keeps
+    ∙ sym (ap (λ (b : Bool). cond b (Some r) (record_of j rs)) (false_from_ne_true (nat_eq (kind_of r) j) (λ same. both_ways (p r) is_not (keeps r (eqb-true (kind_of r) j same))))))
+    (cases_Bool (p r))
+
+find_none : (j : ℕ) (p : Record → Bool) (rs : List Record) → ((r : Record) → kind_of r ≡ j → p r ≡ false) → record_of j (filter p rs) ≡ None
+find_none j p [] drops = refl
+find_none j p (r ∷ rs) drops = ⊎_elim
+    (λ is. ap (record_of j) (filter_true p r rs is)
+    ∙ ap (λ (b : Bool). cond b (Some r) (record_of j (filter p rs))) (false_from_ne_true (nat_eq (kind_of r) j) (λ same. both_ways (p r) (drops r (eqb-true (kind_of r) j same)) is))
+    ∙ find_none j p rs drops)
+    (λ is_not. ap (record_of j) (filter_false p r rs is_not) ∙ find_none j p rs drops)
+    (cases_Bool (p r))
+
+find_behind : (j : ℕ) (xs ys : List Record) → record_of j xs ≡ None → record_of j (xs ++ ys) ≡ record_of j ys
+find_behind j [] ys none = refl
+find_behind j (x ∷ xs) ys none = ⊎_elim
+    (λ same. absurd (some_is_none x (sym (ap (λ (b : Bool). cond b (Some x) (record_of j xs)) same) ∙ none)))
+    (λ other. ap (λ (b : Bool). cond b (Some x) (record_of j (xs ++ ys))) other
+    ∙ find_behind j xs ys (sym (ap (λ (b : Bool). cond b (Some x) (record_of j xs)) other) ∙ none))
+    (cases_Bool (nat_eq (kind_of x) j))
+  where
+    some_is_none : (x : Record) → Some x ≡ None → ⊥
+    some_is_none x e = cc
+
+find_front : (j : ℕ) (xs ys : List Record) → record_of j ys ≡ None → record_of j (xs ++ ys) ≡ record_of j xs
+find_front j [] ys none = none
+find_front j (x ∷ xs) ys none = ap (λ o. cond (nat_eq (kind_of x) j) (Some x) o) (find_front j xs ys none)
+
+-- the record of the kind is the one that was put, and those of other kinds are as they were
+pub find_put : (kind : ℕ) (value : Option Record) (rs : List Record) → IfSome value (λ r. kind_of r ≡ kind) → record_of kind (with_kind kind value rs) ≡ value
+find_put kind value rs of_kind =
+    find_behind kind (below kind rs) (option_to_list value ++ above kind rs) (find_none kind (λ r. nat_lt (kind_of r) kind) rs (λ r is. false_from_ne_true (nat_lt (kind_of r) kind) (λ less. omega (arith, is, ltb-true (kind_of r) kind less))))
+    ∙ by_value value of_kind
+  where
+    none_above : record_of kind (above kind rs) ≡ None
+    none_above = find_none kind (λ r. nat_lt kind (kind_of r)) rs (λ r is. false_from_ne_true (nat_lt kind (kind_of r)) (λ more. omega (arith, is, ltb-true kind (kind_of r) more)))
+
+    by_value : (value : Option Record) → IfSome value (λ r. kind_of r ≡ kind) → record_of kind (option_to_list value ++ above kind rs) ≡ value
+    by_value None of_kind = none_above
+    by_value (Some v) of_kind = ap (λ (b : Bool). cond b (Some v) (record_of kind (above kind rs))) (eq-eqb (kind_of v) kind of_kind)
+
+pub find_other : (kind j : ℕ) (value : Option Record) (rs : List Record) → j ≢ kind → IfSome value (λ r. kind_of r ≡ kind) → record_of j (with_kind kind value rs) ≡ record_of j rs
+find_other kind j value rs other of_kind = ⊎_elim
+    (λ less.
+    find_front j (below kind rs) (option_to_list value ++ above kind rs)
+    (find_behind j (option_to_list value) (above kind rs) (middle value of_kind)
+    ∙ find_none j (λ r. nat_lt kind (kind_of r)) rs (λ r is. false_from_ne_true (nat_lt kind (kind_of r)) (λ more. omega (arith, is, less, ltb-true kind (kind_of r) more))))
+    ∙ find_filter j (λ r. nat_lt (kind_of r) kind) rs (λ r is. lt-ltb (kind_of r) kind (omega (arith, is, less))))
+    (λ not_less.
+    find_behind j (below kind rs) (option_to_list value ++ above kind rs) (find_none j (λ r. nat_lt (kind_of r) kind) rs (λ r is. false_from_ne_true (nat_lt (kind_of r) kind) (λ less. omega (arith, is, not_less, ltb-true (kind_of r) kind less))))
+    ∙ find_behind j (option_to_list value) (above kind rs) (middle value of_kind)
+    ∙ find_filter j (λ r. nat_lt kind (kind_of r)) rs (λ r is. lt-ltb kind (kind_of r) (subst (λ (n : ℕ). kind < n) (sym is) (greater not_less))))
+    (cases_lt j kind)
+  where
+    greater : kind ≤ j → kind < j
+    greater le = ⊎_elim (λ less. less) (λ not_less. absurd (other (let e : j ≡ kind = omega (arith, le, not_less) in e))) (cases_lt kind j)
+
+    middle : (value : Option Record) → IfSome value (λ r. kind_of r ≡ kind) → record_of j (option_to_list value) ≡ None
+    middle None of_kind = refl
+    middle (Some v) of_kind = ap (λ (b : Bool). cond b (Some v) None) (false_from_ne_true (nat_eq (kind_of v) j) (λ same. other (sym (eqb-true (kind_of v) j same) ∙ of_kind)))
+
+-- ---- the file
+
+module _ (old new : Pages) (first : PlacedCell) (rest : List PlacedCell) (kind : ℕ) (value : Option Record) (are : AreFile old first rest) (leaves : LeavesOthers (is_at first.at) old new)
+    (stands : StandsAt new first.at (with_record kind value first.cell)) (of_kind : IfSome value (λ r. kind_of r ≡ kind)) (nothing : IfSome value (λ r. has_rows r ≡ false))
+    (other : kind_of are.value ≢ kind) (attributes : IsSome (record_of 1 (with_kind kind value first.cell.records))) where
+  abbrev now : PlacedCell
+  now = record { at = first.at; cell = with_record kind value first.cell }
+
+  map_now : map_records now.cell.records ≡ are.value ∷ []
+  map_now = map_stays kind value first.cell.records are.value are.map.only other nothing
+
+  runs_now : runs_of now.cell.records ≡ runs_of first.cell.records
+  runs_now = runs_by_map now.cell.records ∙ ap runs_of (map_now ∙ sym are.map.only) ∙ sym (runs_by_map first.cell.records)
+
+  pub runs_same : runs_of (records_of (now ∷ rest)) ≡ runs_of (records_of (first ∷ rest))
+  runs_same =
+      flat_map-append runs_in now.cell.records (records_of rest) ∙ ap (λ (xs : List Run). xs ++ runs_of (records_of rest)) runs_now
+      ∙ sym (flat_map-append runs_in first.cell.records (records_of rest))
+
+  pub file_now : AreFile new now rest
+  file_now = record {
+    links = record {
+      stands = stands;
+      follow = follow_apart old new first.at leaves first.cell.head rest are.links.distinct.0 are.links.follow;
+      distinct = are.links.distinct;
+    };
+    primary = are.primary;
+    attributes = attributes;
+    value = are.value;
+    map = record { only = map_now; is_map = are.map.is_map };
+    others = are.others;
+    one_map = record {
+      placed = subst (AllByRecursion IsPlaced) (sym runs_same) are.one_map.placed;
+      once = subst NoPageTwice (sym runs_same) are.one_map.once;
+    };
+  }
