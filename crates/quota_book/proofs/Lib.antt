@@ -1,5 +1,7 @@
+pub mod Cells
 pub mod Changes
 pub mod ModelChanges
+pub mod Once
 pub mod OneNode
 pub mod Removal
 pub mod Sums

@@ -1,3 +1,4 @@
 pub mod Book
 pub mod Owners
+pub mod QuotaCells
 pub mod Sums

@@ -1,4 +1,4 @@
--- A book whose totals are the sums over a fileset's files and directories, and changes of one of these.
+-- A book whose totals are the sums over a fileset's files and directories, and changes of one.
 use Rattle.std.specs.Prelude.{◌≡◌, ◌+◌, ◌==◌, ℕ, false, [], Option, Some, None, if◌then◌else◌}
 use Rattle.std.specs.Ordering.{nat_cmp}
 use Rattle.std.specs.Option.{option_map_or}

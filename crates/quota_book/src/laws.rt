@@ -1,14 +1,18 @@
 //! Laws of a book whose totals are the sums over a fileset's files and directories.
-ghost use Rattle.std.specs.Prelude.{◌≡◌, ◌+◌, ◌∷◌, ℕ, false, [], Option, Some, None};
+ghost use Rattle.std.specs.Prelude.{◌≡◌, ◌+◌, ◌∷◌, ℕ, false, [], List, Option, Some, None, if◌then◌else◌};
 ghost use Rattle.std.specs.FinMap as map;
 ghost use Rattle.fileset_model.specs.Apply.{empty_fileset, is_named_elsewhere, with_change, with_node, without};
 ghost use Rattle.fileset_model.specs.Fileset.{Fileset};
 ghost use Rattle.fileset_model.specs.Orders.{Path};
 ghost use Rattle.fileset_model.specs.Paths.{first_refusal};
 ghost use Rattle.fileset_model.specs.Usage.{blocks_of, quota_refusal};
+ghost use Rattle.fileset_model.specs.declared.command.Owner.{Owner};
+ghost use Rattle.fileset_model.specs.declared.fileset.Limits.{Limits};
 ghost use Rattle.fileset_model.specs.declared.command.Owner.TheVariants.{User, Group, Fileset as WholeFileset};
 ghost use Rattle.fileset_model.specs.declared.node.Node.{Node};
 ghost use Rattle.quota_book.specs.Book.{Book, Charges, HasAll, Refunds, empty_book, refusal_in, used};
+ghost use Rattle.quota_book.specs.Owners.{same_owner};
+ghost use Rattle.quota_book.specs.QuotaCells.{Said, all_said, limits_at, touched, with_quota};
 ghost use Rattle.quota_book.specs.Sums.{ChangesNode, CountsMore, IsBookOf, IsNotRoot, gid_of, uid_of};
 
 /// The law that a charge keeps the totals the sums from scratch: where one file or directory counts
@@ -67,4 +71,13 @@ pub fn nodes_count_for_their_ids()
     ensures grown { (node grown : Node) (blocks : ℕ) → uid_of grown ≡ uid_of node
         → gid_of grown ≡ gid_of node → blocks_of grown ≡ blocks_of node + blocks
         → CountsMore (uid_of node) (gid_of node) 0 blocks (Some node) (Some grown) }
+{}
+
+/// The law that a change of an owner's limits is a change of the one cell that it touches: all
+/// other owners keep their limits.
+pub fn one_cell_is_touched()
+    ensures { (cells : List Said) (who other : Owner) (limits : Limits) (k : ℕ)
+        → touched cells who ≡ Some k
+        → limits_at (all_said (with_quota k who limits cells)) other
+        ≡ (if same_owner other who then limits else limits_at (all_said cells) other) }
 {}

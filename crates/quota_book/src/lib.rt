@@ -4,10 +4,12 @@
 mod book;
 mod entries;
 mod laws;
+mod quota_cells;
 mod totals;
 
 pub use book::QuotaBook;
 pub use laws::{
     books_answer_as_filesets, charges_keep_the_sums, filesets_change_one_by_one,
-    nodes_count_for_their_ids, refunds_keep_the_sums,
+    nodes_count_for_their_ids, one_cell_is_touched, refunds_keep_the_sums,
 };
+pub use quota_cells::{are_once, read_limits};
