@@ -5,7 +5,8 @@ ghost use Rattle.quota_book.specs.Book.{FitsAll, HasAll, IsBelow, IsWithin, used
 
 use domain_base::OutOfMemory;
 use fileset_model::{Limits, Owner, Refusal, Usage};
-use quota_book::QuotaBook;
+use quota_book::{QuotaBook, are_once, read_limits};
+use record_table::Record;
 use std::alloc::Global;
 use std::test::Fail;
 
@@ -145,17 +146,26 @@ fn done(alloc: Global, book: &mut QuotaBook, line: &str) -> Result<String, Fail>
     Ok(String::from_str(alloc, "done")?)
 }
 
-/// The first of these lines that is not so.
-fn first_wrong(alloc: Global, lines: &'static str) -> Result<Option<&'static str>, Fail> {
-    let mut book = QuotaBook::new(alloc);
+/// The first of these lines that is not so of a book.
+fn first_wrong_of(
+    alloc: Global,
+    book: &mut QuotaBook,
+    lines: &'static str,
+) -> Result<Option<&'static str>, Fail> {
     for line in lines.lines() {
         if let Some((front, want)) = line.split_once(" -> ") {
-            if done(alloc, &mut book, front)?.as_str() != want {
+            if done(alloc, book, front)?.as_str() != want {
                 return Ok(Some(line));
             }
         }
     }
     Ok(None)
+}
+
+/// The same of a new book.
+fn first_wrong(alloc: Global, lines: &'static str) -> Result<Option<&'static str>, Fail> {
+    let mut book = QuotaBook::new(alloc);
+    first_wrong_of(alloc, &mut book, lines)
 }
 
 /// `show` tells files and blocks, each with its limit.
@@ -231,5 +241,111 @@ ask user 0 18446744073709551615 18446744073709551615 -> none
 fn numbers_are_as_large_as_can_be(rt: HostRuntime) -> Result<(), Fail> {
     let wrong = first_wrong(rt.alloc(), GREATEST)?;
     assert_eq!(rt; wrong, None);
+    Ok(())
+}
+
+/// The record that a line tells: the kind of its owner, an id, and limits of files and of blocks.
+fn record_of(line: &str) -> Result<Record, Fail> {
+    let (kind, rest) = word_of(line)?;
+    let (id, rest) = id_of(rest)?;
+    let Usage { files, blocks } = usage_of(rest)?;
+    match kind {
+        "user" => Ok(Record::UserQuota { id, files, blocks }),
+        _ => Ok(Record::GroupQuota { id, files, blocks }),
+    }
+}
+
+fn records_of(alloc: Global, lines: &str) -> Result<Vec<Record>, Fail> {
+    let mut records = Vec::new(alloc);
+    for line in lines.lines() {
+        if !line.is_empty() {
+            let record = record_of(line)?;
+            records.push(record)?;
+        }
+    }
+    Ok(records)
+}
+
+/// A book with the limits that the records say, if they say nothing of an owner twice.
+fn book_of(alloc: Global, records: &[Record]) -> Result<Option<QuotaBook>, OutOfMemory> {
+    if !are_once(alloc, records)? {
+        return Ok(None);
+    }
+    let book = read_limits(alloc, records)?;
+    Ok(Some(book))
+}
+
+/// Twenty records, of which a cell holds nine, so that they stand in three cells.
+static RECORDS: &str = "
+user 0 1 2
+user 1 3 4
+user 2 5 6
+user 3 7 8
+user 4 9 10
+user 5 11 12
+user 6 13 14
+user 7 15 16
+user 8 17 18
+user 9 0 0
+user 10 0 20
+user 4294967295 18446744073709551615 0
+group 0 21 22
+group 1 23 24
+group 2 25 26
+group 3 27 28
+group 4 29 30
+group 5 31 32
+group 10 33 34
+group 4294967295 0 18446744073709551615
+";
+
+static LIMITS: &str = "
+show user 0 0 0 -> 0 1 0 2
+show user 8 0 0 -> 0 17 0 18
+show user 9 0 0 -> 0 0 0 0
+show user 10 0 0 -> 0 0 0 20
+show user 11 0 0 -> 0 0 0 0
+show user 4294967295 0 0 -> 0 18446744073709551615 0 0
+show group 0 0 0 -> 0 21 0 22
+show group 5 0 0 -> 0 31 0 32
+show group 6 0 0 -> 0 0 0 0
+show group 10 0 0 -> 0 33 0 34
+show group 4294967295 0 0 -> 0 0 0 18446744073709551615
+show fileset 0 0 0 -> 0 0 0 0
+ask user 10 9 20 -> none
+ask user 10 9 21 -> blocks 20 0 21
+ask user 9 9 9 -> none
+";
+
+/// The first line that is not so of the book of the records.
+fn first_wrong_read(alloc: Global) -> Result<Option<&'static str>, Fail> {
+    let records = records_of(alloc, RECORDS)?;
+    let mut book = book_of(alloc, &records)?.ok_or("each owner once")?;
+    first_wrong_of(alloc, &mut book, LIMITS)
+}
+
+#[test]
+fn limits_are_read_from_twenty_records(rt: HostRuntime) -> Result<(), Fail> {
+    let wrong = first_wrong_read(rt.alloc())?;
+    assert_eq!(rt; wrong, None);
+    Ok(())
+}
+
+/// Whether records say nothing of an owner twice.
+fn once(alloc: Global, lines: &str) -> Result<bool, Fail> {
+    let records = records_of(alloc, lines)?;
+    Ok(are_once(alloc, &records)?)
+}
+
+/// A user and a group of one id are two owners.
+#[test]
+fn an_owner_that_comes_twice_is_told(rt: HostRuntime) -> Result<(), Fail> {
+    let alloc = rt.alloc();
+    let seen = [
+        once(alloc, "user 7 1 1\nuser 8 1 1\ngroup 7 1 1")?,
+        once(alloc, "user 7 1 1\ngroup 7 1 1\nuser 8 1 1\nuser 7 1 1")?,
+        once(alloc, "user 7 0 0\nuser 7 1 1")?,
+    ];
+    assert_eq!(rt; seen, [true, false, false]);
     Ok(())
 }
