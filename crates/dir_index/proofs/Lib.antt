@@ -1,4 +1,5 @@
 pub mod Orders
 pub mod Pages
 pub mod Parts
+pub mod Removed
 pub mod Sets

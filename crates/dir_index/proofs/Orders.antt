@@ -213,3 +213,112 @@ or_is_none (Some e) b none = absurd cc
 pub some_or : (a : Option IndexEntry) (e : IndexEntry) → Some (unwrap_or a e) ≡ or_first a (Some e)
 some_or None e = refl
 some_or (Some x) e = refl
+
+-- ---- an entry more, or one less
+
+all_append : (P : IndexEntry → Type 0) (xs ys : List IndexEntry) → AllByRecursion P xs → AllByRecursion P ys → AllByRecursion P (xs ++ ys)
+all_append P [] ys all more = more
+all_append P (x ∷ xs) ys all more = (all.0, all_append P xs ys all.1 more)
+
+pub all_both : (P : IndexEntry → Type 0) (xs ys : List IndexEntry) → AllByRecursion P xs → AllByRecursion P ys → AllByRecursion P (xs ++ ys)
+all_both = all_append
+
+all_right : (P : IndexEntry → Type 0) (xs ys : List IndexEntry) → AllByRecursion P (xs ++ ys) → AllByRecursion P ys
+all_right P [] ys all = all
+all_right P (x ∷ xs) ys all = all_right P xs ys all.1
+
+pub rise_without : (front : List IndexEntry) (m : IndexEntry) (back : List IndexEntry) → Rise (front ++ m ∷ back) → Rise (front ++ back)
+rise_without [] m back rise = rise.1
+rise_without (x ∷ front) m back rise = (
+  all_append (λ later. is_below later x ≡ false) front back (all_left (λ later. is_below later x ≡ false) front (m ∷ back) rise.0) (all_right (λ later. is_below later x ≡ false) front (m ∷ back) rise.0).1,
+  rise_without front m back rise.1,
+)
+
+not_both : (a b : IndexEntry) → Below a b → Below b a → ⊥
+not_both a b (inl less) (inl more) = omega (arith, less, more)
+not_both a b (inl less) (inr same) = omega (arith, less, same.0)
+not_both a b (inr same) (inl more) = omega (arith, same.0, more)
+not_both a b (inr same) (inr page) = omega (arith, same.1, page.1)
+
+not_above : (a b : IndexEntry) → is_below a b ≡ true → is_below b a ≡ false
+not_above a b below = by_test (is_below b a) refl
+  where
+    by_test : (t : Bool) → is_below b a ≡ t → is_below b a ≡ false
+    by_test true more = absurd (not_both a b (below_is a b below) (below_is b a more))
+    by_test false other = other
+
+-- what is not below one that is not below the key is not below the key
+still_above : (y m key : IndexEntry) → is_below y m ≡ false → is_below m key ≡ false → is_below y key ≡ false
+still_above y m key over high = by_test (is_below y key) refl
+  where
+    step : NotBelow y m → NotBelow m key → Below y key → ⊥
+    step (inl a) (inl b) (inl c) = omega (arith, a, b, c)
+    step (inl a) (inl b) (inr c) = omega (arith, a, b, c.0)
+    step (inl a) (inr b) (inl c) = omega (arith, a, b.0, c)
+    step (inl a) (inr b) (inr c) = omega (arith, a, b.0, c.0)
+    step (inr a) (inl b) (inl c) = omega (arith, a.0, b, c)
+    step (inr a) (inl b) (inr c) = omega (arith, a.0, b, c.0)
+    step (inr a) (inr b) (inl c) = omega (arith, a.0, b.0, c)
+    step (inr a) (inr b) (inr c) = omega (arith, a.1, b.1, c.1)
+
+    by_test : (t : Bool) → is_below y key ≡ t → is_below y key ≡ false
+    by_test true below = absurd (step (not_below_is y m over) (not_below_is m key high) (below_is y key below))
+    by_test false other = other
+
+all_above : (key m : IndexEntry) (ys : List IndexEntry) → is_below m key ≡ false → AllByRecursion (λ later. is_below later m ≡ false) ys → AllByRecursion (λ later. is_below later key ≡ false) ys
+all_above key m [] high all = tt
+all_above key m (y ∷ ys) high all = (still_above y m key all.0 high, all_above key m ys high all.1)
+
+-- the first of some entries, if there is one, is not below the key
+abbrev pub StartsHigh : IndexEntry → List IndexEntry → Type 0
+StartsHigh key [] = Unit {0}
+StartsHigh key (y ∷ ys) = is_below y key ≡ false
+
+key_above : (key : IndexEntry) (ys : List IndexEntry) → Rise ys → StartsHigh key ys → AllByRecursion (λ later. is_below later key ≡ false) ys
+key_above key [] rise high = tt
+key_above key (y ∷ ys) rise high = (high, all_above key y ys high rise.0)
+
+pub rise_with : (front : List IndexEntry) (key : IndexEntry) (back : List IndexEntry) → Rise (front ++ back) → AllByRecursion (λ entry. is_below entry key ≡ true) front → StartsHigh key back → Rise (front ++ key ∷ back)
+rise_with [] key back rise low high = (key_above key back rise high, rise)
+rise_with (x ∷ front) key back rise low high = (
+  all_append (λ later. is_below later x ≡ false) front (key ∷ back) (all_left (λ later. is_below later x ≡ false) front back rise.0) (not_above x key low.0, all_right (λ later. is_below later x ≡ false) front back rise.0),
+  rise_with front key back rise.1 low.1 high,
+)
+
+-- entries of which none is not below the key are all below it
+pub none_from : (key : IndexEntry) (xs : List IndexEntry) → first_from key xs ≡ None → AllByRecursion (λ entry. is_below entry key ≡ true) xs
+none_from key [] none = tt
+none_from key (x ∷ xs) none = by_test (is_below x key) refl (none_from key xs)
+  where
+    not_some : Some x ≡ None → ⊥
+    not_some e = cc
+
+    by_test : (t : Bool) → is_below x key ≡ t → (first_from key xs ≡ None → AllByRecursion (λ entry. is_below entry key ≡ true) xs) → (is_below x key ≡ true) × AllByRecursion (λ entry. is_below entry key ≡ true) xs
+    by_test true below later = (below, later (sym (first_below key x xs below) ∙ none))
+    by_test false other later = absurd (not_some (sym (first_here key x xs other) ∙ none))
+
+low_not : (key : IndexEntry) (xs : List IndexEntry) → AllByRecursion (λ entry. is_below entry key ≡ true) xs → Has xs key.hash key.page → ⊥
+low_not key [] low has = has
+low_not key (x ∷ xs) low (inr has) = low_not key xs low.1 has
+low_not key (x ∷ xs) low (inl here) = too_low (below_is x key low.0)
+  where
+    too_low : Below x key → ⊥
+    too_low (inl less) = omega (arith, less, here.0)
+    too_low (inr same) = omega (arith, same.1, here.1)
+
+same_entry : (m key : IndexEntry) → NotBelow m key → NotBelow key m → m ≡ key
+same_entry m key (inl a) (inl b) = absurd (omega (arith, a, b))
+same_entry m key (inl a) (inr b) = absurd (omega (arith, a, b.0))
+same_entry m key (inr a) (inl b) = absurd (omega (arith, a.0, b))
+same_entry m key (inr a) (inr b) = let page : m.page ≡ key.page = omega (arith, a.1, b.1) in λ i. record { hash = a.0 i; page = page i }
+
+-- an entry that is there is the first that is not below it
+pub first_is : (key : IndexEntry) (front : List IndexEntry) (m : IndexEntry) (back : List IndexEntry) → Rise (front ++ m ∷ back) → AllByRecursion (λ entry. is_below entry key ≡ true) front → is_below m key ≡ false
+    → Has (front ++ m ∷ back) key.hash key.page → m ≡ key
+first_is key [] m back rise low high (inl here) = λ i. record { hash = here.0 i; page = here.1 i }
+first_is key [] m back rise low high (inr has) = same_entry m key (not_below_is m key high) (not_below_is key m (has_all (λ y. is_below y m ≡ false) back key.hash key.page rise.0 has))
+first_is key (x ∷ front) m back rise low high (inr has) = first_is key front m back rise.1 low.1 high has
+first_is key (x ∷ front) m back rise low high (inl here) = absurd (low_not key (x ∷ []) (low.0, tt) (inl here))
+
+pub is_there : (key : IndexEntry) (xs : List IndexEntry) → Has xs key.hash key.page → first_from key xs ≡ None → ⊥
+is_there key xs has none = low_not key xs (none_from key xs none) has

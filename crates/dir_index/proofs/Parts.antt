@@ -239,3 +239,6 @@ first_found index key n page at first =
   where
     some_page : (a b : List ℕ) → Some a ≡ Some b → a ≡ b
     some_page a b e = cc
+
+pub entries_more : (page : List ℕ) (n : ℕ) → entries_from page 0 (n + 1) ≡ entries_from page 0 n ++ entry_at page n ∷ []
+entries_more page n = entries_last page 0 n ∙ (let e : 0 + n ≡ n = omega arith in ap (λ m. entries_from page 0 n ++ entry_at page m ∷ []) e)

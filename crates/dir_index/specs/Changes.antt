@@ -1,9 +1,10 @@
 -- Changes of a directory's index.
-use Rattle.std.specs.Prelude.{◌≡◌, ℕ, List, [], ◌∷◌, ◌++◌}
+use Rattle.std.specs.Prelude.{◌≡◌, ℕ, true, false, List, ◌∷◌, ◌++◌}
+use Rattle.std.specs.List.{AllByRecursion}
 use Rattle.domain_base.specs.declared.place.Tag.{Tag}
 use Rattle.page_store.specs.Bitfiles.{Bitfile, Bitfiles, put_index, with_change}
 use Rattle.dir_index.specs.declared.entry.IndexEntry.{IndexEntry}
-use Rattle.dir_index.specs.Entries.{Rise}
+use Rattle.dir_index.specs.Entries.{is_below}
 use Rattle.dir_index.specs.Index.{IsIndex, IsPageOf, all_entries, index_pages}
 
 -- a file with other index pages
@@ -25,3 +26,22 @@ pub record PutsPage (dir : Tag) (number : ℕ) (part : List IndexEntry) (old new
   pub page : List ℕ
   pub made : IsPageOf part page
   pub changed : new ≡ with_change dir (put_index number page) old
+
+-- one entry less stands in a directory's index, and all else is as it was
+pub record RemovesEntry (dir : Tag) (entry : IndexEntry) (old new : Bitfiles) : Type 0 where
+  pub others : OnlyIndex dir old new
+  pub good : IsIndex (index_pages new dir)
+  pub front : List IndexEntry
+  pub back : List IndexEntry
+  pub were : all_entries (index_pages old dir) ≡ front ++ entry ∷ back
+  pub are : all_entries (index_pages new dir) ≡ front ++ back
+
+-- entries without the first one that is not below this one
+pub record Cuts (key : IndexEntry) (list left : List IndexEntry) : Type 0 where
+  pub front : List IndexEntry
+  pub middle : IndexEntry
+  pub back : List IndexEntry
+  pub were : list ≡ front ++ middle ∷ back
+  pub are : left ≡ front ++ back
+  pub low : AllByRecursion (λ entry. is_below entry key ≡ true) front
+  pub high : is_below middle key ≡ false

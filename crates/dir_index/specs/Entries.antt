@@ -1,5 +1,5 @@
 -- Entries of an index: the hash of a name, and the directory page that has a row of that hash.
-use Rattle.std.specs.Prelude.{◌≡◌, ◌==◌, ◌&&◌, ◌||◌, ◌+◌, ◌*◌, ◌%◌, ◌^◌, ◌≤◌, ◌⊎◌, ℕ, Bool, true, false, not, List, [], ◌∷◌, ◌++◌, Option, nat_lt}
+use Rattle.std.specs.Prelude.{◌≡◌, ◌==◌, ◌&&◌, ◌||◌, ◌+◌, ◌*◌, ◌%◌, ◌^◌, ◌≤◌, ◌⊎◌, ℕ, Bool, true, false, not, List, [], ◌∷◌, ◌++◌, Option, nat_lt, length, take, slice_get, Some}
 use Rattle.std.specs.List.{AllByRecursion, find}
 use Rattle.dir_index.specs.declared.entry.IndexEntry.{IndexEntry}
 
@@ -47,3 +47,9 @@ pub record EndsBelow (key : IndexEntry) (entries : List IndexEntry) : Type 0 whe
   pub last : IndexEntry
   pub parts : entries ≡ front ++ last ∷ []
   pub below : is_below last key ≡ true
+
+-- so many entries stand before the first that is not below this one
+pub record IsPlace (key : IndexEntry) (entries : List IndexEntry) (place : ℕ) : Type 0 where
+  pub within : place ≤ length entries
+  pub below : AllByRecursion (λ entry. is_below entry key ≡ true) (take place entries)
+  pub above : (entry : IndexEntry) → slice_get entries place ≡ Some entry → is_below entry key ≡ false

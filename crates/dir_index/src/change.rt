@@ -1,14 +1,15 @@
-//! An index built of entries.
-ghost use Rattle.std.specs.Prelude.{◌≡◌, ◌≤◌, [], length, IfErr, OnErr, OnOk};
+//! Changes of an index.
+ghost use Rattle.std.specs.Prelude.{◌≡◌, ◌≤◌, [], true, is_some, length, IfErr, IfOk, OnErr, OnOk};
 ghost use Rattle.page_store.specs.Bitfiles.{IsCounted, IsDirectory, count_index};
-ghost use Rattle.dir_index.specs.Changes.{OnlyIndex, PutsPage, SetsEntries};
-ghost use Rattle.dir_index.specs.Entries.{Rise};
-ghost use Rattle.dir_index.specs.Index.{index_pages};
+ghost use Rattle.dir_index.specs.Changes.{Cuts, OnlyIndex, PutsPage, RemovesEntry, SetsEntries};
+ghost use Rattle.dir_index.specs.Entries.{Has, Rise, first_from};
+ghost use Rattle.dir_index.specs.Index.{IsIndex, IsIndexPage, all_entries, entries_of, index_pages};
 
 use crate::entry::IndexEntry;
-use crate::page::ENTRIES;
+use crate::page::{ENTRIES, count_below, read_entries};
+use crate::search::page_from;
 use crate::write::entry_page;
-use domain_base::Tag;
+use domain_base::{OutOfMemory, Page, Tag};
 use page_store::{BitfileSet, StoreFault};
 use std::alloc::Global;
 
@@ -58,4 +59,47 @@ pub fn build<S: BitfileSet>(
         put_part(set, alloc, dir, number, &entries[from..end])?;
     }
     Ok(())
+}
+
+/// The entries of a page without the first one that is not below the key, which there is.
+fn entries_without(
+    alloc: Global,
+    page: &Page,
+    key: &IndexEntry,
+) -> Result<Vec<IndexEntry>, OutOfMemory>
+    requires page { IsIndexPage page.now }
+    requires there { is_some (first_from key.now (entries_of page.now)) ≡ true }
+    ensures cut { IfOk result (λ list. Cuts key.now (entries_of page.now) list.items) }
+    ensures few { IfOk result (λ list. length list.items ≤ 1022) }
+{
+    let mut list = read_entries(alloc, page)?;
+    let place = count_below(list.as_slice(), key);
+    list.remove(place);
+    Ok(list)
+}
+
+/// Takes one entry out of the index of a directory. The entry is there; of equal ones one goes. At an
+/// Err nothing has changed.
+pub fn remove_entry<S: BitfileSet>(
+    set: &mut S,
+    alloc: Global,
+    dir: Tag,
+    entry: IndexEntry,
+) -> Result<(), StoreFault>
+    requires directory { IsDirectory (S.files set.old) dir }
+    requires index { IsIndex (index_pages (S.files set.old) dir) }
+    requires there { Has (all_entries (index_pages (S.files set.old) dir)) entry.hash entry.page }
+    ensures ok { OnOk result (RemovesEntry dir entry (S.files set.old) (S.files set.new)) }
+    ensures err { OnErr result (S.files set.new ≡ S.files set.old) }
+    ensures no_page { IfErr result (IsCounted (S.missed set.old) (S.missed set.new)) }
+    ensures count { S.missed set.old ≤ S.missed set.new }
+{
+    let Some(number) = page_from(set, dir, &entry, 0, u32::MAX) else {
+        return Ok(());
+    };
+    let Some(page) = set.index_page(dir, number) else {
+        return Ok(());
+    };
+    let list = entries_without(alloc, page, &entry)?;
+    put_part(set, alloc, dir, number as usize, list.as_slice())
 }

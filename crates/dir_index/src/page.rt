@@ -1,12 +1,13 @@
 //! Index pages and their entries.
-ghost use Rattle.std.specs.Prelude.{◌≡◌, ◌+◌, ◌-◌, ◌<◌, ◌≤◌, true, length, take, drop};
+ghost use Rattle.std.specs.Prelude.{◌≡◌, ◌+◌, ◌-◌, ◌<◌, ◌≤◌, true, IfOk, length, take, drop};
 ghost use Rattle.record_table.specs.Fields.{number_at};
-ghost use Rattle.dir_index.specs.Entries.{EndsBelow, Rise, first_from};
+ghost use Rattle.dir_index.specs.Entries.{EndsBelow, IsPlace, Rise, first_from};
 ghost use Rattle.dir_index.specs.Index.{IsIndexPage, entries_of, entry_at};
 
 use crate::entry::{IndexEntry, is_below};
 use byteorder::{ByteOrder, LittleEndian};
-use domain_base::Page;
+use domain_base::{OutOfMemory, Page};
+use std::alloc::Global;
 
 /// How many entries a page has at most.
 pub(crate) const ENTRIES: usize = 1_022;
@@ -74,4 +75,28 @@ pub(crate) fn first_on(page: &Page, key: &IndexEntry) -> Option<IndexEntry>
     ensures { result ≡ first_from key.now (entries_of page.now) }
 {
     first_among(page, key, 0, count_entries(page))
+}
+
+/// Copies of the entries of a page.
+pub(crate) fn read_entries(alloc: Global, page: &Page) -> Result<Vec<IndexEntry>, OutOfMemory>
+    requires { IsIndexPage page.now }
+    ensures { IfOk result (λ list. list.items ≡ entries_of page.now) }
+{
+    let mut list = Vec::new(alloc);
+    for entry in 0..count_entries(page) {
+        list.push(read_entry(page, entry))?;
+    }
+    Ok(list)
+}
+
+/// How many entries stand before the first that is not below the key.
+pub(crate) fn count_below(entries: &[IndexEntry], key: &IndexEntry) -> usize
+    ensures { IsPlace key.now entries.now result }
+{
+    for (place, entry) in entries.iter().enumerate() {
+        if !is_below(entry, key) {
+            return place;
+        }
+    }
+    entries.len()
 }
