@@ -1,3 +1,4 @@
+pub mod Added
 pub mod Orders
 pub mod Pages
 pub mod Parts

@@ -4,6 +4,7 @@ use Rattle.std.proofs.lemmas.Bool.{and_from, and_parts, both_ways, cases_lt, eq-
 use Rattle.std.specs.List.{AllByRecursion}
 use Rattle.std.specs.Option.{is_some, unwrap_or}
 use Rattle.dir_index.specs.declared.entry.IndexEntry.{IndexEntry}
+use Rattle.dir_index.specs.Changes.{StartsHigh}
 use Rattle.dir_index.specs.Entries.{Has, HasNext, IsNext, Rise, first_from, is_below}
 
 -- ---- the order of two entries
@@ -268,11 +269,6 @@ still_above y m key over high = by_test (is_below y key) refl
 all_above : (key m : IndexEntry) (ys : List IndexEntry) → is_below m key ≡ false → AllByRecursion (λ later. is_below later m ≡ false) ys → AllByRecursion (λ later. is_below later key ≡ false) ys
 all_above key m [] high all = tt
 all_above key m (y ∷ ys) high all = (still_above y m key all.0 high, all_above key m ys high all.1)
-
--- the first of some entries, if there is one, is not below the key
-abbrev pub StartsHigh : IndexEntry → List IndexEntry → Type 0
-StartsHigh key [] = Unit {0}
-StartsHigh key (y ∷ ys) = is_below y key ≡ false
 
 key_above : (key : IndexEntry) (ys : List IndexEntry) → Rise ys → StartsHigh key ys → AllByRecursion (λ later. is_below later key ≡ false) ys
 key_above key [] rise high = tt

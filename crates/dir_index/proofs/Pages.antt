@@ -1,6 +1,6 @@
 -- Index pages as they are written.
-use Rattle.std.proofs.Common.{◌≡◌, ◌∙◌, ℕ, zero, suc, ◌+◌, ◌-◌, ◌*◌, ◌^◌, ◌<◌, ◌≤◌, List, [], ◌∷◌, ◌++◌, length, take, drop, get_or, replicate, refl, sym, ap, subst, arith, append_assoc, length-append, length-take}
-use Rattle.std.proofs.lemmas.List.{append-nil, drop-drop, drop_at, take_all, take_at, take_more}
+use Rattle.std.proofs.Common.{◌≡◌, ◌∙◌, ℕ, zero, suc, ◌+◌, ◌-◌, ◌*◌, ◌<◌, ◌≤◌, List, [], ◌∷◌, ◌++◌, length, take, drop, get_or, replicate, refl, sym, ap, subst, arith, append_assoc, length-append, length-take}
+use Rattle.std.proofs.lemmas.List.{append-nil, drop-drop, drop_at, take_at, take_more}
 use Rattle.std.proofs.Math.Seq.{drop-append-add}
 use Rattle.std.specs.List.{AllByRecursion}
 use Rattle.domain_base.specs.Page.{overwritten, zero_bytes, length-zero_bytes}
@@ -12,7 +12,7 @@ use Rattle.record_table.specs.Rules.{nothing_seen}
 use Rattle.record_table.proofs.Scan.{Passes, decoded, decoded_again}
 use Rattle.record_table.proofs.Spelling.{length-spelled}
 use Rattle.dir_index.specs.declared.entry.IndexEntry.{IndexEntry}
-use Rattle.dir_index.specs.Index.{Fits, IsIndexPage, IsPageOf, entries_from, entries_of, entry_at, header, index_page_of, spelled_entry, spelling}
+use Rattle.dir_index.specs.Index.{Fits, IsPageOf, entries_from, header, index_page_of, spelled_entry, spelling}
 
 -- ---- numbers read again
 

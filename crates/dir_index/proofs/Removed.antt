@@ -1,15 +1,15 @@
 -- One entry less in an index.
-use Rattle.std.proofs.Common.{◌≡◌, ◌∙◌, ◌⊎◌, inl, inr, ℕ, zero, suc, ◌+◌, ◌-◌, ◌<◌, ◌≤◌, Bool, true, false, Option, Some, None, List, [], ◌∷◌, ◌++◌, length, take, drop, slice_get, refl, sym, ap, subst, arith, append_assoc, length-append}
+use Rattle.std.proofs.Common.{◌≡◌, ◌∙◌, inl, inr, ℕ, zero, suc, ◌+◌, ◌<◌, true, false, Option, Some, None, List, [], ◌∷◌, ◌++◌, length, take, drop, slice_get, refl, sym, ap, subst, arith, append_assoc, length-append}
 use Rattle.std.proofs.lemmas.Bool.{both_ways, cases_lt}
-use Rattle.std.proofs.lemmas.List.{append-nil, take-append-drop, take_all}
+use Rattle.std.proofs.lemmas.List.{take_all}
 use Rattle.std.specs.List.{AllByRecursion}
 use Rattle.std.specs.Option.{is_some, option_map_or}
 use Rattle.domain_base.specs.declared.place.Tag.{Tag}
 use Rattle.page_store.specs.Bitfiles.{Bitfile, Bitfiles, IsDirectory, count_index, with_change, with_entry}
 use Rattle.dir_index.specs.declared.entry.IndexEntry.{IndexEntry}
 use Rattle.dir_index.specs.Entries.{Has, IsPlace, Rise, first_from, is_below}
-use Rattle.dir_index.specs.Index.{FirstPage, IsFirstPage, IsIndex, IsIndexPage, all_entries, between, entries_of, index_pages}
-use Rattle.dir_index.specs.Changes.{Cuts, OnlyIndex, PutsPage, RemovesEntry, with_index}
+use Rattle.dir_index.specs.Index.{FirstPage, IsIndex, IsIndexPage, all_entries, entries_of, index_pages}
+use Rattle.dir_index.specs.Changes.{Cuts, PutsPage, RemovesEntry, with_index}
 use Rattle.dir_index.proofs.Orders.{all_both, first_is, none_from, rise_without}
 use Rattle.dir_index.proofs.Parts.{all-append, from_start, split_entries}
 use Rattle.dir_index.proofs.Sets.{index_of_file, only, pages_now, put_on, same_pages, the_file}

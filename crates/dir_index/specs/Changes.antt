@@ -1,11 +1,11 @@
 -- Changes of a directory's index.
-use Rattle.std.specs.Prelude.{◌≡◌, ℕ, true, false, List, ◌∷◌, ◌++◌}
+use Rattle.std.specs.Prelude.{◌≡◌, ◌+◌, ◌≤◌, ℕ, true, false, Some, None, List, [], ◌∷◌, ◌++◌, length, take, drop, slice_get}
 use Rattle.std.specs.List.{AllByRecursion}
 use Rattle.domain_base.specs.declared.place.Tag.{Tag}
-use Rattle.page_store.specs.Bitfiles.{Bitfile, Bitfiles, put_index, with_change}
+use Rattle.page_store.specs.Bitfiles.{Bitfile, Bitfiles, insert_index, put_index, with_change}
 use Rattle.dir_index.specs.declared.entry.IndexEntry.{IndexEntry}
-use Rattle.dir_index.specs.Entries.{is_below}
-use Rattle.dir_index.specs.Index.{IsIndex, IsPageOf, all_entries, index_pages}
+use Rattle.dir_index.specs.Entries.{first_from, is_below}
+use Rattle.dir_index.specs.Index.{IsIndex, IsIndexPage, IsPageOf, all_entries, entries_of, index_pages}
 
 -- a file with other index pages
 abbrev pub with_index : List (List ℕ) → Bitfile → Bitfile
@@ -45,3 +45,49 @@ pub record Cuts (key : IndexEntry) (list left : List IndexEntry) : Type 0 where
   pub are : left ≡ front ++ back
   pub low : AllByRecursion (λ entry. is_below entry key ≡ true) front
   pub high : is_below middle key ≡ false
+
+-- one entry more stands in a directory's index, and all else is as it was
+pub record AddsEntry (dir : Tag) (entry : IndexEntry) (old new : Bitfiles) : Type 0 where
+  pub others : OnlyIndex dir old new
+  pub good : IsIndex (index_pages new dir)
+  pub front : List IndexEntry
+  pub back : List IndexEntry
+  pub were : all_entries (index_pages old dir) ≡ front ++ back
+  pub are : all_entries (index_pages new dir) ≡ front ++ entry ∷ back
+
+-- the first of some entries, if there is one, is not below this one
+abbrev pub StartsHigh : IndexEntry → List IndexEntry → Type 0
+StartsHigh key [] = Unit {0}
+StartsHigh key (entry ∷ entries) = is_below entry key ≡ false
+
+-- entries with this one put before the first that is not below it
+pub record Adds (key : IndexEntry) (list more : List IndexEntry) : Type 0 where
+  pub front : List IndexEntry
+  pub back : List IndexEntry
+  pub were : list ≡ front ++ back
+  pub are : more ≡ front ++ key ∷ back
+  pub low : AllByRecursion (λ entry. is_below entry key ≡ true) front
+  pub high : StartsHigh key back
+
+-- the page of an index to which an entry goes: no entry before it is not below this one, and it has
+-- one that is not, or is the last page
+pub record IsPageFor (key : IndexEntry) (index : List (List ℕ)) (number : ℕ) : Type 0 where
+  pub page : List ℕ
+  pub there : slice_get index number ≡ Some page
+  pub before : first_from key (all_entries (take number index)) ≡ None
+  pub last : first_from key (entries_of page) ≡ None → drop (number + 1) index ≡ []
+
+-- an index page that has these entries was put before those from a number on
+pub record InsertsPage (dir : Tag) (number : ℕ) (part : List IndexEntry) (old new : Bitfiles) : Type 0 where
+  pub page : List ℕ
+  pub made : IsPageOf part page
+  pub changed : new ≡ with_change dir (insert_index number page) old
+
+-- entries stand on the page of that number now, or on it and a new one behind it
+pub record Spreads (dir : Tag) (number : ℕ) (list : List IndexEntry) (old new : Bitfiles) : Type 0 where
+  pub pages : List (List ℕ)
+  pub good : AllByRecursion IsIndexPage pages
+  pub read : all_entries pages ≡ list
+  pub some : 1 ≤ length pages
+  pub changed : new ≡ with_change dir (with_index (take number (index_pages old dir) ++ pages
+      ++ drop (number + 1) (index_pages old dir))) old

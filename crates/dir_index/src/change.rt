@@ -1,13 +1,13 @@
 //! Changes of an index.
-ghost use Rattle.std.specs.Prelude.{◌≡◌, ◌≤◌, [], true, is_some, length, IfErr, IfOk, OnErr, OnOk};
+ghost use Rattle.std.specs.Prelude.{◌≡◌, ◌<◌, ◌≤◌, [], true, is_some, length, IfErr, IfOk, OnErr, OnOk};
 ghost use Rattle.page_store.specs.Bitfiles.{IsCounted, IsDirectory, count_index};
-ghost use Rattle.dir_index.specs.Changes.{Cuts, OnlyIndex, PutsPage, RemovesEntry, SetsEntries};
+ghost use Rattle.dir_index.specs.Changes.{Adds, AddsEntry, Cuts, InsertsPage, OnlyIndex, PutsPage, RemovesEntry, SetsEntries, Spreads};
 ghost use Rattle.dir_index.specs.Entries.{Has, Rise, first_from};
 ghost use Rattle.dir_index.specs.Index.{IsIndex, IsIndexPage, all_entries, entries_of, index_pages};
 
 use crate::entry::IndexEntry;
 use crate::page::{ENTRIES, count_below, read_entries};
-use crate::search::page_from;
+use crate::search::{page_for, page_from};
 use crate::write::entry_page;
 use domain_base::{OutOfMemory, Page, Tag};
 use page_store::{BitfileSet, StoreFault};
@@ -34,6 +34,30 @@ fn put_part<S: BitfileSet>(
     };
     let page = entry_page(alloc, entries)?;
     set.put_index_page(alloc, dir, place, page)
+}
+
+/// Puts a new index page of these entries before those from a number on.
+fn insert_part<S: BitfileSet>(
+    set: &mut S,
+    alloc: Global,
+    dir: Tag,
+    number: usize,
+    entries: &[IndexEntry],
+) -> Result<(), StoreFault>
+    requires directory { IsDirectory (S.files set.old) dir }
+    requires place { number ≤ count_index (S.files set.old) dir }
+    requires few { length entries.now ≤ 1022 }
+    ensures ok { OnOk result (InsertsPage dir number entries.now (S.files set.old)
+        (S.files set.new)) }
+    ensures err { OnErr result (S.files set.new ≡ S.files set.old) }
+    ensures no_page { IfErr result (IsCounted (S.missed set.old) (S.missed set.new)) }
+    ensures count { S.missed set.old ≤ S.missed set.new }
+{
+    let Ok(place) = u32::try_from(number) else {
+        return Err(StoreFault::OutOfMemory);
+    };
+    let page = entry_page(alloc, entries)?;
+    set.insert_index_page(alloc, dir, place, page)
 }
 
 /// Makes the index of a directory that has none, of entries that rise; equal ones may follow each
@@ -102,4 +126,68 @@ pub fn remove_entry<S: BitfileSet>(
     };
     let list = entries_without(alloc, page, &entry)?;
     put_part(set, alloc, dir, number as usize, list.as_slice())
+}
+
+/// The entries of a page and one more, which stands before the first that is not below it.
+fn entries_with(
+    alloc: Global,
+    page: &Page,
+    key: &IndexEntry,
+) -> Result<Vec<IndexEntry>, OutOfMemory>
+    requires { IsIndexPage page.now }
+    ensures adds { IfOk result (λ list. Adds key.now (entries_of page.now) list.items) }
+    ensures few { IfOk result (λ list. length list.items ≤ 1023) }
+{
+    let mut list = read_entries(alloc, page)?;
+    let place = count_below(list.as_slice(), key);
+    list.insert(place, *key)?;
+    Ok(list)
+}
+
+/// Puts entries, of which there may be one too many for a page, on the page of a number; the second
+/// half of too many goes to a new page behind it.
+fn spread<S: BitfileSet>(
+    set: &mut S,
+    alloc: Global,
+    dir: Tag,
+    number: usize,
+    list: &[IndexEntry],
+) -> Result<(), StoreFault>
+    requires directory { IsDirectory (S.files set.old) dir }
+    requires place { number < count_index (S.files set.old) dir }
+    requires few { length list.now ≤ 1023 }
+    ensures ok { OnOk result (Spreads dir number list.now (S.files set.old) (S.files set.new)) }
+    ensures err { OnErr result (OnlyIndex dir (S.files set.old) (S.files set.new)) }
+    ensures no_page { IfErr result (IsCounted (S.missed set.old) (S.missed set.new)) }
+    ensures count { S.missed set.old ≤ S.missed set.new }
+{
+    if list.len() <= ENTRIES {
+        return put_part(set, alloc, dir, number, list);
+    }
+    let half = ENTRIES / 2;
+    insert_part(set, alloc, dir, number + 1, &list[half..])?;
+    put_part(set, alloc, dir, number, &list[..half])
+}
+
+/// Adds an entry to the index of a directory, behind all that are below it. At an Err nothing but the
+/// directory's index may have changed.
+pub fn add_entry<S: BitfileSet>(
+    set: &mut S,
+    alloc: Global,
+    dir: Tag,
+    entry: IndexEntry,
+) -> Result<(), StoreFault>
+    requires directory { IsDirectory (S.files set.old) dir }
+    requires index { IsIndex (index_pages (S.files set.old) dir) }
+    ensures ok { OnOk result (AddsEntry dir entry (S.files set.old) (S.files set.new)) }
+    ensures err { OnErr result (OnlyIndex dir (S.files set.old) (S.files set.new)) }
+    ensures no_page { IfErr result (IsCounted (S.missed set.old) (S.missed set.new)) }
+    ensures count { S.missed set.old ≤ S.missed set.new }
+{
+    let number = page_for(set, dir, &entry);
+    let Some(page) = set.index_page(dir, number) else {
+        return Ok(());
+    };
+    let list = entries_with(alloc, page, &entry)?;
+    spread(set, alloc, dir, number as usize, list.as_slice())
 }

@@ -7,6 +7,6 @@ mod page;
 mod search;
 mod write;
 
-pub use change::{build, remove_entry};
+pub use change::{add_entry, build, remove_entry};
 pub use entry::{IndexEntry, name_hash};
 pub use search::next_page;

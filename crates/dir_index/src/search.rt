@@ -1,5 +1,6 @@
 //! The pages of a directory that have rows of a hash.
-ghost use Rattle.std.specs.Prelude.{◌≡◌, ◌≤◌, IfSome, IfNone};
+ghost use Rattle.std.specs.Prelude.{◌≡◌, ◌+◌, ◌<◌, ◌≤◌, length, IfSome, IfNone};
+ghost use Rattle.dir_index.specs.Changes.{IsPageFor};
 ghost use Rattle.dir_index.specs.Entries.{HasNext, IsNext, first_from};
 ghost use Rattle.dir_index.specs.Index.{IsFirstPage, IsIndex, all_entries, index_pages};
 
@@ -39,6 +40,33 @@ pub(crate) fn page_from<S: BitfileSet>(
         return Some(middle);
     }
     page_from(set, dir, key, middle + 1, high)
+}
+
+/// The last page of an index that has more than `low` pages, and at most `high`.
+fn last_page<S: BitfileSet>(set: &S, dir: Tag, low: u32, high: u32) -> u32
+    requires some { low < length (index_pages (S.files set.now) dir) }
+    requires most { length (index_pages (S.files set.now) dir) ≤ high }
+    ensures { result + 1 ≡ length (index_pages (S.files set.now) dir) }
+{
+    if high <= low + 1 {
+        return low;
+    }
+    let middle = low + (high - low) / 2;
+    if set.index_page(dir, middle).is_some() {
+        return last_page(set, dir, middle, high);
+    }
+    last_page(set, dir, low, middle)
+}
+
+/// The page of an index to which an entry goes: the first that has one not below it, or the last.
+pub(crate) fn page_for<S: BitfileSet>(set: &S, dir: Tag, key: &IndexEntry) -> u32
+    requires { IsIndex (index_pages (S.files set.now) dir) }
+    ensures { IsPageFor key.now (index_pages (S.files set.now) dir) result }
+{
+    match page_from(set, dir, key, 0, u32::MAX) {
+        Some(number) => number,
+        None => last_page(set, dir, 0, u32::MAX),
+    }
 }
 
 /// The first entry of an index that is not below the key.

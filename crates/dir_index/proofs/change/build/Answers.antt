@@ -1,5 +1,5 @@
-use Rattle.std.proofs.Common.{◌≡◌, ◌∙◌, ◌+◌, ◌-◌, ◌*◌, ◌≤◌, length, min, refl, take, drop, arith}
-use Rattle.dir_index.proofs.Sets.{built_all, built_more, built_only}
+use Rattle.std.proofs.Common.{◌-◌, ◌*◌, ◌≤◌, length, refl, take, drop, arith}
+use Rattle.dir_index.proofs.Sets.{built_more}
 use Rattle.dir_index.proofs.change.build.Goals as goal
 
 pub loop-number-preserved : goal.loop-number-preserved

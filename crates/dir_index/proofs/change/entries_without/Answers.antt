@@ -1,4 +1,4 @@
-use Rattle.std.proofs.Common.{◌≡◌, ◌∙◌, ◌+◌, ◌<◌, ◌≤◌, ◌++◌, suc, length, take, drop, ap, subst, arith, length-append, length-drop, length-take}
+use Rattle.std.proofs.Common.{◌∙◌, ◌++◌, suc, length, take, drop, ap, subst, arith, length-append, length-drop, length-take}
 use Rattle.record_table.specs.Fields.{number_at}
 use Rattle.dir_index.specs.Entries.{IsPlace}
 use Rattle.dir_index.specs.Index.{entries_of}

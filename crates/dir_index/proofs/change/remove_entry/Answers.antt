@@ -1,8 +1,8 @@
-use Rattle.std.proofs.Common.{◌≡◌, ◌∙◌, ◌<◌, ◌≤◌, OnOk, length, sym, ap, subst, arith}
+use Rattle.std.proofs.Common.{◌∙◌, OnOk, sym, ap, subst, arith}
 use Rattle.std.proofs.lemmas.Result.{on_ok_weaker}
 use Rattle.dir_index.specs.Entries.{first_from}
 use Rattle.dir_index.specs.Index.{all_entries, index_pages}
-use Rattle.dir_index.specs.Changes.{PutsPage, RemovesEntry}
+use Rattle.dir_index.specs.Changes.{PutsPage}
 use Rattle.dir_index.proofs.Orders.{is_there}
 use Rattle.dir_index.proofs.Parts.{index_is, page_good, whole_index}
 use Rattle.dir_index.proofs.Removed.{below_length, count_is, removes}

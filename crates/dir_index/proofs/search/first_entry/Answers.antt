@@ -1,4 +1,4 @@
-use Rattle.std.proofs.Common.{◌≡◌, ◌∙◌, None, sym, ap}
+use Rattle.std.proofs.Common.{◌∙◌, sym, ap}
 use Rattle.dir_index.specs.Entries.{first_from}
 use Rattle.dir_index.specs.Index.{all_entries, index_pages}
 use Rattle.dir_index.proofs.Parts.{first_found, index_is, page_good, rise_page, whole_index}

@@ -1,9 +1,7 @@
-use Rattle.std.proofs.Common.{◌∙◌, IfNone, sym, ap, subst}
-use Rattle.dir_index.specs.declared.entry.IndexEntry.{IndexEntry}
-use Rattle.dir_index.specs.Entries.{HasNext, first_from}
+use Rattle.std.proofs.Common.{◌∙◌, IfNone, sym, subst}
+use Rattle.dir_index.specs.Entries.{HasNext}
 use Rattle.dir_index.specs.Index.{all_entries, index_pages}
 use Rattle.dir_index.proofs.Orders.{none_next, other_next, some_next}
-use Rattle.dir_index.proofs.Parts.{whole_index}
 use Rattle.dir_index.proofs.search.next_page.Goals as goal
 
 pub returns-in_err-entry-clause-none : goal.returns-in_err-entry-clause-none
