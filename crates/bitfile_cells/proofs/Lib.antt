@@ -3,3 +3,4 @@ pub mod Allocated
 pub mod MapRecords
 pub mod Walks
 pub mod Replaced
+pub mod Gathers

@@ -1,13 +1,13 @@
 -- The record of a cell that says where pages stand, found by its kind.
 use Rattle.std.proofs.Common.{◌≡◌, ◌∙◌, ℕ, ◌<◌, Bool, true, false, cond, nat_eq, List, [], ◌∷◌, ◌++◌, length, get_or, Option, Some, None, is_some, refl, sym, ap, subst, arith, ⊎_elim, zero, suc}
 use Rattle.std.proofs.lemmas.Bool.{both_ways, cases_Bool, eqb-true, eq-eqb, le-leb, or_cases, or_left, or_right, true≢false}
-use Rattle.std.specs.List.{list_any}
+use Rattle.std.specs.List.{AllByRecursion, list_any}
 use Rattle.record_table.specs.declared.record.Record.{Record}
 use Rattle.record_table.specs.declared.record.Record.TheVariants.{Attributes, CloneFile, Extents, ShortExtents, Holes, Pending, UserQuota, GroupQuota, DirIndex, Parent, Stripe, Volume, DenseExtents, ShortDense}
 use Rattle.record_table.specs.Records.{kind_of}
 use Rattle.bmt_mcells.specs.Cell.{Cell, record_of}
 use Rattle.extent_maps.specs.declared.run.Run.{Run}
-use Rattle.extent_records.specs.Rows.{runs_in, runs_of}
+use Rattle.extent_records.specs.Rows.{AreOneMap, IsPlaced, NoPageTwice, runs_in, runs_of}
 use Rattle.extent_records.specs.Writing.{IsMapRecord}
 use Rattle.bitfile_cells.specs.Files.{HasMap, has_rows, map_records}
 
@@ -64,16 +64,16 @@ says_nothing (DenseExtents rows) has = absurd (true≢false has)
 says_nothing (ShortDense rows) has = absurd (true≢false has)
 
 -- what a list of records with one more is, by what that one is
-rows_true : (x : Record) (rs : List Record) → has_rows x ≡ true → map_records (x ∷ rs) ≡ x ∷ map_records rs
+pub rows_true : (x : Record) (rs : List Record) → has_rows x ≡ true → map_records (x ∷ rs) ≡ x ∷ map_records rs
 rows_true x rs is = ap (λ (b : Bool). cond b (x ∷ map_records rs) (map_records rs)) is
 
-rows_false : (x : Record) (rs : List Record) → has_rows x ≡ false → map_records (x ∷ rs) ≡ map_records rs
+pub rows_false : (x : Record) (rs : List Record) → has_rows x ≡ false → map_records (x ∷ rs) ≡ map_records rs
 rows_false x rs is = ap (λ (b : Bool). cond b (x ∷ map_records rs) (map_records rs)) is
 
-kind_true : (kind : ℕ) (x : Record) (rs : List Record) → nat_eq (kind_of x) kind ≡ true → record_of kind (x ∷ rs) ≡ Some x
+pub kind_true : (kind : ℕ) (x : Record) (rs : List Record) → nat_eq (kind_of x) kind ≡ true → record_of kind (x ∷ rs) ≡ Some x
 kind_true kind x rs is = ap (λ (b : Bool). cond b (Some x) (record_of kind rs)) is
 
-kind_false : (kind : ℕ) (x : Record) (rs : List Record) → nat_eq (kind_of x) kind ≡ false → record_of kind (x ∷ rs) ≡ record_of kind rs
+pub kind_false : (kind : ℕ) (x : Record) (rs : List Record) → nat_eq (kind_of x) kind ≡ false → record_of kind (x ∷ rs) ≡ record_of kind rs
 kind_false kind x rs is = ap (λ (b : Bool). cond b (Some x) (record_of kind rs)) is
 
 pub some_is : (x y : Record) → Some x ≡ Some y → x ≡ y
@@ -114,10 +114,10 @@ tail_of : List Record → List Record
 tail_of [] = []
 tail_of (z ∷ zs) = zs
 
-head_same : (x y : Record) (xs : List Record) → x ∷ xs ≡ y ∷ [] → x ≡ y
+pub head_same : (x y : Record) (xs : List Record) → x ∷ xs ≡ y ∷ [] → x ≡ y
 head_same x y xs same = ap (λ rs. get_or rs 0 x) same
 
-tail_same : (x y : Record) (xs : List Record) → x ∷ xs ≡ y ∷ [] → xs ≡ []
+pub tail_same : (x y : Record) (xs : List Record) → x ∷ xs ≡ y ∷ [] → xs ≡ []
 unfolding tail_of
 tail_same x y xs same = ap tail_of same
 
@@ -185,3 +185,16 @@ none_is (Some r) is = absurd (true≢false is)
 
 pub one_map_record : (value : Record) → IsMapRecord value → map_records (value ∷ []) ≡ value ∷ []
 one_map_record value is_map = rows_true value [] (value_has_rows value is_map)
+
+-- records with rows say one map where all say one
+pub one_map_of : (records : List Record) → AreOneMap records → AreOneMap (map_records records)
+one_map_of records one = record {
+  placed = subst (AllByRecursion IsPlaced) (runs_by_map records) one.placed;
+  once = subst NoPageTwice (runs_by_map records) one.once;
+}
+
+pub one_map_back : (records : List Record) → AreOneMap (map_records records) → AreOneMap records
+one_map_back records one = record {
+  placed = subst (AllByRecursion IsPlaced) (sym (runs_by_map records)) one.placed;
+  once = subst NoPageTwice (sym (runs_by_map records)) one.once;
+}

@@ -13,7 +13,7 @@ use Rattle.bmt_mcells.specs.Cell.{AreRecords, AreRising, id_of, place_of, spelli
 use Rattle.bmt_mcells.proofs.Spellings.{spellings-append}
 use Rattle.bitfile_cells.specs.Changes.{HasRoom, IsInUse, above, below, with_kind}
 
-id_small : (r : Record) → Allowed r → id_of r < 2 ^ 32
+pub id_small : (r : Record) → Allowed r → id_of r < 2 ^ 32
 unfolding Allowed
 id_small (Attributes kind uid gid flags size keep links birth unsynced) allowed = omega arith
 id_small (CloneFile vol cell page frozen) allowed = omega arith
@@ -32,10 +32,10 @@ id_small (ShortDense rows) allowed = omega arith
 
 -- ---- what passes a test
 
-filter_true : (p : Record → Bool) (r : Record) (rs : List Record) → p r ≡ true → filter p (r ∷ rs) ≡ r ∷ filter p rs
+pub filter_true : (p : Record → Bool) (r : Record) (rs : List Record) → p r ≡ true → filter p (r ∷ rs) ≡ r ∷ filter p rs
 filter_true p r rs is = ap (λ (b : Bool). cond b (r ∷ filter p rs) (filter p rs)) is
 
-filter_false : (p : Record → Bool) (r : Record) (rs : List Record) → p r ≡ false → filter p (r ∷ rs) ≡ filter p rs
+pub filter_false : (p : Record → Bool) (r : Record) (rs : List Record) → p r ≡ false → filter p (r ∷ rs) ≡ filter p rs
 filter_false p r rs is = ap (λ (b : Bool). cond b (r ∷ filter p rs) (filter p rs)) is
 
 all_filter : (P : Record → Type 0) (p : Record → Bool) (rs : List Record) → AllByRecursion P rs → AllByRecursion P (filter p rs)

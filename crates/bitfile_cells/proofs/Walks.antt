@@ -29,7 +29,7 @@ pub record Mapped (c : PlacedCell) : Type 0 where
 map_cell : (c : PlacedCell) → IsMapCell c.cell → Mapped c
 map_cell c is = record { value = is.value; map = record { only = ap map_records is.only ∙ one_map_record is.value is.is_map; is_map = is.is_map } }
 
-map_cells : (cs : List PlacedCell) → AllByRecursion (λ (c : PlacedCell). IsMapCell c.cell) cs → AllByRecursion Mapped cs
+pub map_cells : (cs : List PlacedCell) → AllByRecursion (λ (c : PlacedCell). IsMapCell c.cell) cs → AllByRecursion Mapped cs
 map_cells [] all = tt
 map_cells (c ∷ cs) all = (map_cell c all.0, map_cells cs all.1)
 
@@ -39,11 +39,11 @@ RestAt pages None rest = rest ≡ []
 RestAt pages (Some at) [] = ⊥
 RestAt pages (Some at) (c ∷ cs) = (c.at ≡ at) × StandsAt pages c.at c.cell × Follow pages c.cell.head cs
 
-rest_of : (pages : Pages) (head : CellHead) (cs : List PlacedCell) → Follow pages head cs → RestAt pages head.next cs
+pub rest_of : (pages : Pages) (head : CellHead) (cs : List PlacedCell) → Follow pages head cs → RestAt pages head.next cs
 rest_of pages head [] follow = subst (λ next. RestAt pages next []) (sym follow) refl
 rest_of pages head (c ∷ cs) follow = subst (λ next. RestAt pages next (c ∷ cs)) (sym follow.0) (refl, follow.2, follow.3)
 
-all_push : (cs : List PlacedCell) (c : PlacedCell) → AllByRecursion (λ (c : PlacedCell). IsNumbered c.at) cs → IsNumbered c.at → AllByRecursion (λ (c : PlacedCell). IsNumbered c.at) (cs ++ c ∷ [])
+pub all_push : (cs : List PlacedCell) (c : PlacedCell) → AllByRecursion (λ (c : PlacedCell). IsNumbered c.at) cs → IsNumbered c.at → AllByRecursion (λ (c : PlacedCell). IsNumbered c.at) (cs ++ c ∷ [])
 all_push [] c all new = (new, tt)
 all_push (x ∷ cs) c all new = (all.0, all_push cs c all.1 new)
 
@@ -167,16 +167,18 @@ keys_below (c ∷ cs) all q any = ⊎_elim
     (or_cases (nat_eq q (key_of c.at)) (list_any (nat_eq q) (map (λ (c : PlacedCell). key_of c.at) cs)) any)
 
 -- a walk has passed fewer cells than there are
-pub way_short : (pages : Pages) (page i : ℕ) (next : Option CellAt) (start : CellAt) (cells : List PlacedCell) → IsFile pages start cells → IsOnWay pages page i next cells → i ≤ 9895604649984
-way_short pages page i next start cells is way =
+pub walk_short : (passed rest : List PlacedCell) → AreDistinct (passed ++ rest) → AllByRecursion (λ (c : PlacedCell). IsNumbered c.at) passed → length passed ≤ 9895604649984
+walk_short passed rest distinct numbered =
     omega (
       arith,
-      way.count,
-      length-map way.passed (λ (c : PlacedCell). key_of c.at),
-      length-le_from_distinct_below (map (λ (c : PlacedCell). key_of c.at) way.passed) 9895604649984
-          (keys_distinct way.passed way.rest (subst AreDistinct way.all (distinct_file start cells is)) way.numbered) (keys_below way.passed way.numbered),
+      length-map passed (λ (c : PlacedCell). key_of c.at),
+      length-le_from_distinct_below (map (λ (c : PlacedCell). key_of c.at) passed) 9895604649984 (keys_distinct passed rest distinct numbered) (keys_below passed numbered),
     )
-  where
-    distinct_file : (start : CellAt) (cells : List PlacedCell) → IsFile pages start cells → AreDistinct cells
-    distinct_file start [] is = tt
-    distinct_file start (first ∷ rest) is = is.1.links.distinct
+
+pub distinct_file : (pages : Pages) (start : CellAt) (cells : List PlacedCell) → IsFile pages start cells → AreDistinct cells
+distinct_file pages start [] is = tt
+distinct_file pages start (first ∷ rest) is = is.1.links.distinct
+
+pub way_short : (pages : Pages) (page i : ℕ) (next : Option CellAt) (start : CellAt) (cells : List PlacedCell) → IsFile pages start cells → IsOnWay pages page i next cells → i ≤ 9895604649984
+way_short pages page i next start cells is way =
+    omega (arith, way.count, walk_short way.passed way.rest (subst AreDistinct way.all (distinct_file pages start cells is)) way.numbered)

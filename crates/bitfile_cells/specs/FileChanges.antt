@@ -1,5 +1,5 @@
 -- What a change of one page of a file changes, and what it leaves.
-use Rattle.std.specs.Prelude.{◌≡◌, ℕ, not, List, [], ◌∷◌, filter, Contains}
+use Rattle.std.specs.Prelude.{◌≡◌, ℕ, not, List, ◌∷◌, filter, Contains}
 use Rattle.std.specs.List.{AllByRecursion}
 use Rattle.domain_base.specs.declared.place.CellAt.{CellAt}
 use Rattle.page_store.specs.Pages.{Pages}

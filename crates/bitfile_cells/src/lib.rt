@@ -2,9 +2,11 @@
 #![tactic(auto)]
 
 mod changing;
+mod maps;
 mod taking;
 mod walking;
 
 pub use changing::{clear_record, set_record};
+pub use maps::read_file_map;
 pub use taking::take_cell;
 pub use walking::find_place;

@@ -15,7 +15,7 @@ use page_store::MetaPages;
 use record_table::Record;
 
 /// More cells than there are: of 8 volumes, each of 2^32 pages of 256 cells.
-const CELLS: u64 = 1 << 44;
+pub(crate) const CELLS: u64 = 1 << 44;
 
 /// The kinds of records that say where pages stand.
 const MAP_KINDS: [u8; 5] = [3, 4, 5, 13, 14];
