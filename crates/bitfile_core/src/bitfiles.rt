@@ -1,17 +1,18 @@
 //! The files of a fileset, looked at.
-ghost use Rattle.std.specs.Prelude.{◌≡◌, List, OnErr, OnOk};
+ghost use Rattle.std.specs.Prelude.{◌≡◌, ℕ, IfOk, List, OnErr, OnOk};
 ghost use Rattle.std.specs.Option.{option_and_then};
 ghost use Rattle.bmt_mcells.specs.CellPage.{KeepsHeaders, KeepsWellFormed};
 ghost use Rattle.bmt_mcells.specs.Chain.{PlacedCell};
+ghost use Rattle.extent_maps.specs.Runs.{place_of};
 ghost use Rattle.bitfile_cells.specs.Files.{HasFile, IsFile};
 ghost use Rattle.bitfile_core.specs.Changes.{CanSay, ChangesFirst, says_attributes, with_chain, with_first};
 ghost use Rattle.bitfile_core.specs.Files.{AreFiles, Chains, HasFiles, IsLiveCell, attributes_of, first_record as first_there, is_removed, keep_of, of_live, place_at};
 
 use crate::attributes::{Attributes, read_attributes, read_keep, says_remove, with_attributes};
-use bitfile_cells::{find_place, set_record};
+use bitfile_cells::{find_place, read_file_map, set_record};
 use bmt_mcells::find_record;
 use domain_base::{CellAt, FilesetNo, OutOfMemory, Tag};
-use extent_maps::PagePlace;
+use extent_maps::{ExtentMap, PagePlace};
 use page_store::MetaPages;
 use record_table::Record;
 use std::alloc::Global;
@@ -103,6 +104,24 @@ impl Bitfiles {
             None => PagePlace::Absent,
         }
     }
+    /// Where all pages of the file stand that a tag names, whatever it keeps: no page if it names none.
+    pub fn read_map<M: MetaPages>(
+        &self,
+        alloc: Global,
+        pages: &M,
+        tag: Tag,
+    ) -> Result<ExtentMap, OutOfMemory>
+        requires { HasFiles self.now.fileset self.now.tags (M.pages pages.now) }
+        ensures { (chains : Chains)
+            → AreFiles self.now.fileset self.now.tags (M.pages pages.now) chains
+            → IfOk result (λ map. (page : ℕ) → place_of map page ≡ place_at chains tag page) }
+    {
+        match self.tags.look(pages, tag) {
+            Some(at) => read_file_map(alloc, pages, at),
+            None => Ok(ExtentMap::new(alloc)),
+        }
+    }
+
     /// Sets what the file or directory is that a live tag names: its kind stays, and it has from 1 to
     /// 1,000 links. Where its pages stand, how many it keeps and every other file stay. After an error
     /// nothing has changed.
