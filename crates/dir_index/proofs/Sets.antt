@@ -1,5 +1,5 @@
 -- Files of which the index of a directory was changed.
-use Rattle.std.proofs.Common.{◌≡◌, ◌∙◌, ◌⊎◌, inl, inr, ℕ, ◌+◌, ◌-◌, ◌*◌, ◌<◌, ◌≤◌, Bool, true, false, cond, min, nat_eq, Option, Some, None, List, [], ◌∷◌, ◌++◌, length, take, drop, refl, sym, ap, subst, arith, length-append}
+use Rattle.std.proofs.Common.{Result, Ok, Err, OnOk, OnErr, ◌≡◌, ◌∙◌, ◌⊎◌, inl, inr, ℕ, ◌+◌, ◌-◌, ◌*◌, ◌<◌, ◌≤◌, Bool, true, false, cond, min, nat_eq, Option, Some, None, List, [], ◌∷◌, ◌++◌, length, take, drop, refl, sym, ap, subst, arith, length-append}
 use Rattle.std.proofs.lemmas.Bool.{and_from, and_parts, cases_lt, eq-eqb, eqb-true}
 use Rattle.std.proofs.lemmas.List.{append-nil, drop_all, take_all}
 use Rattle.std.proofs.Math.Seq.{take-add}
@@ -161,3 +161,16 @@ built_count dir list number old new directory built = let at = the_file dir old 
 
 pub built_directory : (dir : Tag) (list : List IndexEntry) (number : ℕ) (old new : Bitfiles) → IsDirectory old dir → Built dir list number old new → IsDirectory new dir
 built_directory dir list number old new directory built = let at = the_file dir old directory in directory_now dir old at.file at.is built.index new built.changed at.kind
+
+-- ---- the directory stays one
+
+pub still_directory : (dir : Tag) (old new : Bitfiles) → IsDirectory old dir → OnlyIndex dir old new → IsDirectory new dir
+still_directory dir old new directory only = let at = the_file dir old directory in directory_now dir old at.file at.is (index_pages new dir) new only at.kind
+
+pub either_directory : {T E : Type 0} (dir : Tag) (old new : Bitfiles) (r : Result T E) → IsDirectory old dir → OnOk r (OnlyIndex dir old new) → OnErr r (OnlyIndex dir old new) → IsDirectory new dir
+either_directory dir old new (Ok x) directory ok err = still_directory dir old new directory ok
+either_directory dir old new (Err e) directory ok err = still_directory dir old new directory err
+
+pub put_directory : {T E : Type 0} (dir : Tag) (old new : Bitfiles) (r : Result T E) → IsDirectory old dir → OnOk r (OnlyIndex dir old new) → OnErr r (new ≡ old) → IsDirectory new dir
+put_directory dir old new (Ok x) directory ok err = still_directory dir old new directory ok
+put_directory dir old new (Err e) directory ok err = subst (λ fs. IsDirectory fs dir) (sym err) directory

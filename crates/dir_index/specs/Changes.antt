@@ -22,7 +22,8 @@ pub record SetsEntries (dir : Tag) (list : List IndexEntry) (old new : Bitfiles)
   pub entries : all_entries (index_pages new dir) ≡ list
 
 -- an index page was put at a number that has these entries
-pub record PutsPage (dir : Tag) (number : ℕ) (part : List IndexEntry) (old new : Bitfiles) : Type 0 where
+pub record PutsPage (dir : Tag) (number : ℕ) (part : List IndexEntry) (old new : Bitfiles)
+    : Type 0 where
   pub page : List ℕ
   pub made : IsPageOf part page
   pub changed : new ≡ with_change dir (put_index number page) old
@@ -78,13 +79,15 @@ pub record IsPageFor (key : IndexEntry) (index : List (List ℕ)) (number : ℕ)
   pub last : first_from key (entries_of page) ≡ None → drop (number + 1) index ≡ []
 
 -- an index page that has these entries was put before those from a number on
-pub record InsertsPage (dir : Tag) (number : ℕ) (part : List IndexEntry) (old new : Bitfiles) : Type 0 where
+pub record InsertsPage (dir : Tag) (number : ℕ) (part : List IndexEntry) (old new : Bitfiles)
+    : Type 0 where
   pub page : List ℕ
   pub made : IsPageOf part page
   pub changed : new ≡ with_change dir (insert_index number page) old
 
 -- entries stand on the page of that number now, or on it and a new one behind it
-pub record Spreads (dir : Tag) (number : ℕ) (list : List IndexEntry) (old new : Bitfiles) : Type 0 where
+pub record Spreads (dir : Tag) (number : ℕ) (list : List IndexEntry) (old new : Bitfiles)
+    : Type 0 where
   pub pages : List (List ℕ)
   pub good : AllByRecursion IsIndexPage pages
   pub read : all_entries pages ≡ list

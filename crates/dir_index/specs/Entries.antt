@@ -19,7 +19,8 @@ is_below a b = nat_lt a.hash b.hash || ((a.hash == b.hash) && nat_lt a.page b.pa
 -- entries of which none is below one before it
 abbrev pub Rise : List IndexEntry → Type 0
 Rise [] = Unit {0}
-Rise (entry ∷ entries) = AllByRecursion (λ later. is_below later entry ≡ false) entries × Rise entries
+Rise (entry ∷ entries) =
+    AllByRecursion (λ later. is_below later entry ≡ false) entries × Rise entries
 
 -- an entry with the hash and the page is there
 abbrev pub Has : List IndexEntry → ℕ → ℕ → Type 0
@@ -52,4 +53,5 @@ pub record EndsBelow (key : IndexEntry) (entries : List IndexEntry) : Type 0 whe
 pub record IsPlace (key : IndexEntry) (entries : List IndexEntry) (place : ℕ) : Type 0 where
   pub within : place ≤ length entries
   pub below : AllByRecursion (λ entry. is_below entry key ≡ true) (take place entries)
-  pub above : (entry : IndexEntry) → slice_get entries place ≡ Some entry → is_below entry key ≡ false
+  pub above : (entry : IndexEntry) → slice_get entries place ≡ Some entry
+      → is_below entry key ≡ false

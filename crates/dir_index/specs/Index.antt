@@ -12,7 +12,10 @@ use Rattle.dir_index.specs.Entries.{Rise, first_from}
 
 -- the entry of that number on a page
 abbrev pub entry_at : List ℕ → ℕ → IndexEntry
-entry_at page k = record { hash = number_at 4 (16 + 8 * k) page; page = number_at 4 (20 + 8 * k) page }
+entry_at page k = record {
+  hash = number_at 4 (16 + 8 * k) page;
+  page = number_at 4 (20 + 8 * k) page;
+}
 
 -- so many entries of a page, from a number on
 abbrev pub entries_from : List ℕ → ℕ → ℕ → List IndexEntry
@@ -23,8 +26,8 @@ entries_from page k (suc n) = entry_at page k ∷ entries_from page (k + 1) n
 abbrev pub entries_of : List ℕ → List IndexEntry
 entries_of page = entries_from page 0 (number_at 4 4 page)
 
--- a well-formed page by itself: `DIRX`, and as many entries as it says. Where the next page stands is
--- not looked at
+-- a well-formed page by itself: `DIRX`, and as many entries as it says. Where the next page stands
+-- is not looked at
 pub record IsIndexPage (page : List ℕ) : Type 0 where
   pub whole : length page ≡ 8192
   pub magic : number_at 4 0 page ≡ 0x58524944

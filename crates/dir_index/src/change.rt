@@ -73,6 +73,7 @@ pub fn build<S: BitfileSet>(
     requires rise { Rise entries.now }
     ensures ok { OnOk result (SetsEntries dir entries.now (S.files set.old) (S.files set.new)) }
     ensures err { OnErr result (OnlyIndex dir (S.files set.old) (S.files set.new)) }
+    ensures directory { IsDirectory (S.files set.new) dir }
     ensures no_page { IfErr result (IsCounted (S.missed set.old) (S.missed set.new)) }
     ensures count { S.missed set.old ≤ S.missed set.new }
 {
@@ -102,8 +103,8 @@ fn entries_without(
     Ok(list)
 }
 
-/// Takes one entry out of the index of a directory. The entry is there; of equal ones one goes. At an
-/// Err nothing has changed.
+/// Takes one entry out of the index of a directory. The entry is there; of equal ones one goes. At
+/// an Err nothing has changed.
 pub fn remove_entry<S: BitfileSet>(
     set: &mut S,
     alloc: Global,
@@ -115,6 +116,7 @@ pub fn remove_entry<S: BitfileSet>(
     requires there { Has (all_entries (index_pages (S.files set.old) dir)) entry.hash entry.page }
     ensures ok { OnOk result (RemovesEntry dir entry (S.files set.old) (S.files set.new)) }
     ensures err { OnErr result (S.files set.new ≡ S.files set.old) }
+    ensures directory { IsDirectory (S.files set.new) dir }
     ensures no_page { IfErr result (IsCounted (S.missed set.old) (S.missed set.new)) }
     ensures count { S.missed set.old ≤ S.missed set.new }
 {
@@ -169,8 +171,8 @@ fn spread<S: BitfileSet>(
     put_part(set, alloc, dir, number, &list[..half])
 }
 
-/// Adds an entry to the index of a directory, behind all that are below it. At an Err nothing but the
-/// directory's index may have changed.
+/// Adds an entry to the index of a directory, behind all that are below it. At an Err nothing but
+/// the directory's index may have changed.
 pub fn add_entry<S: BitfileSet>(
     set: &mut S,
     alloc: Global,
@@ -181,6 +183,7 @@ pub fn add_entry<S: BitfileSet>(
     requires index { IsIndex (index_pages (S.files set.old) dir) }
     ensures ok { OnOk result (AddsEntry dir entry (S.files set.old) (S.files set.new)) }
     ensures err { OnErr result (OnlyIndex dir (S.files set.old) (S.files set.new)) }
+    ensures directory { IsDirectory (S.files set.new) dir }
     ensures no_page { IfErr result (IsCounted (S.missed set.old) (S.missed set.new)) }
     ensures count { S.missed set.old ≤ S.missed set.new }
 {

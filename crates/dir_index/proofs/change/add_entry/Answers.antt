@@ -3,6 +3,7 @@ use Rattle.std.proofs.lemmas.Result.{on_ok_weaker}
 use Rattle.dir_index.specs.Changes.{Spreads}
 use Rattle.dir_index.proofs.Added.{added}
 use Rattle.dir_index.proofs.Parts.{index_is}
+use Rattle.dir_index.proofs.Sets.{either_directory}
 use Rattle.dir_index.proofs.change.add_entry.Goals as goal
 
 pub returns-clause-ok : goal.returns-clause-ok
@@ -15,3 +16,7 @@ returns-clause-ok g c =
     on_ok_weaker c.spread.result
     (λ spreads. added c.args.dir c.args.entry number list old new c.requires.directory c.requires.index c.in-Some.page.now found c.page_for-number.ensures c.in_ok-list.ensures.adds spreads)
     (subst (λ part. OnOk c.spread.result (Spreads c.args.dir number part old new)) c.as_slice.ensures.value c.spread.ensures.ok)
+
+pub returns-clause-directory : goal.returns-clause-directory
+returns-clause-directory g c =
+    either_directory c.args.dir (g.S.BitfileSet.files c.args.set.now) (g.S.BitfileSet.files c.spread.new.set) c.spread.result c.requires.directory (on_ok_weaker c.spread.result (λ adds. adds.others) (returns-clause-ok g c)) c.spread.ensures.err

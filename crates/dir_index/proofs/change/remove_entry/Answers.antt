@@ -6,6 +6,7 @@ use Rattle.dir_index.specs.Changes.{PutsPage}
 use Rattle.dir_index.proofs.Orders.{is_there}
 use Rattle.dir_index.proofs.Parts.{index_is, page_good, whole_index}
 use Rattle.dir_index.proofs.Removed.{below_length, count_is, removes}
+use Rattle.dir_index.proofs.Sets.{put_directory}
 use Rattle.dir_index.proofs.change.remove_entry.Goals as goal
 
 pub returns-in_default-clause-ok : goal.returns-in_default-clause-ok
@@ -35,3 +36,7 @@ returns-clause-ok g c =
     on_ok_weaker c.put_part.result
     (λ puts. removes c.args.dir c.args.entry c.in-Some.number list old new c.requires.directory c.requires.index c.in-Some-index_page.page.now found c.in-Some.ensures c.requires.there c.in_ok-list.ensures.cut puts)
     (subst (λ part. OnOk c.put_part.result (PutsPage c.args.dir c.in-Some.number part old new)) c.as_slice.ensures.value c.put_part.ensures.ok)
+
+pub returns-clause-directory : goal.returns-clause-directory
+returns-clause-directory g c =
+    put_directory c.args.dir (g.S.BitfileSet.files c.args.set.now) (g.S.BitfileSet.files c.put_part.new.set) c.put_part.result c.requires.directory (on_ok_weaker c.put_part.result (λ removes. removes.others) (returns-clause-ok g c)) c.put_part.ensures.err
