@@ -61,11 +61,13 @@ abbrev pub IsCellNumber : Option CellAt → Type 0
 IsCellNumber quota = IfSome quota (λ at. at.cell < 28)
 
 -- a name is of the form of fileset names, and a quota cell is one of its page's
+abbrev pub IsAllowedEntry : FilesetEntry → Type 0
+IsAllowedEntry entry = (is_fileset_name entry.name ≡ true) × IsCellNumber entry.quota
+
 abbrev pub IsAllowed : SlotItem → Type 0
 IsAllowed Free = Unit {0}
-IsAllowed (Original entry) = (is_fileset_name entry.name ≡ true) × IsCellNumber entry.quota
-IsAllowed (Clone original number entry) =
-    (is_fileset_name entry.name ≡ true) × IsCellNumber entry.quota
+IsAllowed (Original entry) = IsAllowedEntry entry
+IsAllowed (Clone original number entry) = IsAllowedEntry entry
 IsAllowed (Removed first_tag quota) = IsCellNumber quota
 
 -- at most 16 slots have filesets that are not being removed

@@ -1,6 +1,7 @@
 //! The fileset table: which filesets a domain has, and where the pages of each begin.
 #![tactic(auto)]
 
+mod allowed;
 mod fields;
 mod laws;
 mod reading;

@@ -1,17 +1,20 @@
 //! The fileset table in memory.
-ghost use Rattle.std.specs.Prelude.{◌≡◌, true, false, length, drop, take, IfOk, IfSome, IfNone, IsSomeAnd, Some, slice_get};
+ghost use Rattle.std.specs.Prelude.{◌≡◌, ◌<◌, true, false, length, drop, take, IfErr, IfOk, IfSome, IfNone, IsSomeAnd, OnOk, Some, slice_get, slice_set};
 ghost use Rattle.std.specs.List.{list_any};
 ghost use Rattle.fileset_table.specs.Page.{IsTablePage};
 ghost use Rattle.fileset_table.specs.Reading.{Reads};
-ghost use Rattle.fileset_table.specs.Table.{IsCount, IsNewTable, IsTable, has_name, is_free, with_slot};
+ghost use Rattle.fileset_table.specs.Table.{AreTogether, IsCount, IsNewTable, IsTable, has_name, is_free, with_slot};
 
+use crate::allowed::is_allowed;
 use crate::reading::read_table;
+use crate::rules::are_slots;
 use crate::slot::{SlotItem, TableFault};
 use crate::writing::put_table;
 use domain_base::limits::FILESET_SLOTS;
 use domain_base::{FilesetNo, OutOfMemory, Page};
 use std::alloc::Global;
 use std::marker::Model;
+use std::mem::replace;
 
 /// The fileset table of a domain: its 32 slots, and how many clones were ever made.
 #[derive(Drop)]
@@ -76,6 +79,20 @@ impl FilesetTable {
         self.slots[number.number() as usize] = item;
     }
 
+    /// Puts this into a slot where that leaves a table; else it hands it back, and nothing changes.
+    pub fn try_set_slot(&mut self, number: FilesetNo, item: SlotItem) -> Result<(), SlotItem>
+        ensures ok { OnOk result (IsTable (with_slot number item self.old)
+            × (self.new ≡ with_slot number item self.old)) }
+        ensures err { IfErr result (λ back. (back ≡ item) × (self.new ≡ self.old)
+            × ¬ IsTable (with_slot number item self.old)) }
+    {
+        let at = number.number() as usize;
+        if !is_allowed(&item) {
+            return Err(item);
+        }
+        try_exchange(&mut self.slots, at, item)
+    }
+
     /// How many clones were made.
     pub fn made(&self) -> u64
         ensures { result ≡ self.now.made }
@@ -111,6 +128,31 @@ impl FilesetTable {
     {
         find_free(&self.slots)
     }
+}
+
+/// Puts this into a slot, and answers what it had.
+fn exchange(slots: &mut Vec<SlotItem>, at: usize, item: SlotItem) -> SlotItem
+    requires { at < length slots.old.items }
+    ensures slots { slots.new.items ≡ slice_set slots.old.items at item }
+    ensures had { slice_get slots.old.items at ≡ Some result }
+{
+    replace(&mut slots[at], item)
+}
+
+/// Puts this into a slot where all slots then keep the rules that none can keep by itself; else it
+/// hands it back, and nothing changes.
+fn try_exchange(slots: &mut Vec<SlotItem>, at: usize, item: SlotItem) -> Result<(), SlotItem>
+    requires { at < length slots.old.items }
+    ensures ok { OnOk result (AreTogether (slice_set slots.old.items at item)
+        × (slots.new.items ≡ slice_set slots.old.items at item)) }
+    ensures err { IfErr result (λ back. (back ≡ item) × (slots.new.items ≡ slots.old.items)
+        × ¬ AreTogether (slice_set slots.old.items at item)) }
+{
+    let had = exchange(slots, at, item);
+    if are_slots(slots) {
+        return Ok(());
+    }
+    Err(exchange(slots, at, had))
 }
 
 /// The first of the slots with a fileset of this name.
