@@ -6,4 +6,6 @@ mod lines;
 #[cfg(test)]
 mod quotas;
 #[cfg(test)]
+mod random;
+#[cfg(test)]
 mod tables;
