@@ -38,7 +38,7 @@ filter_true p r rs is = ap (λ (b : Bool). cond b (r ∷ filter p rs) (filter p 
 pub filter_false : (p : Record → Bool) (r : Record) (rs : List Record) → p r ≡ false → filter p (r ∷ rs) ≡ filter p rs
 filter_false p r rs is = ap (λ (b : Bool). cond b (r ∷ filter p rs) (filter p rs)) is
 
-all_filter : (P : Record → Type 0) (p : Record → Bool) (rs : List Record) → AllByRecursion P rs → AllByRecursion P (filter p rs)
+pub all_filter : (P : Record → Type 0) (p : Record → Bool) (rs : List Record) → AllByRecursion P rs → AllByRecursion P (filter p rs)
 all_filter P p [] all = tt
 all_filter P p (r ∷ rs) all = ⊎_elim
     (λ is. subst (AllByRecursion P) (sym (filter_true p r rs is)) (all.0, all_filter P p rs all.1))
@@ -74,7 +74,7 @@ rising_append : (low high : ℕ) (xs ys : List Record) → low ≤ high → AreR
 rising_append low high [] ys le rising all more = rising_lower high low ys le more
 rising_append low high (x ∷ xs) ys le rising all more = (rising.0, rising_append (place_of x) high xs ys all.0 rising.1 all.1 more)
 
-all_append : (P : Record → Type 0) (xs ys : List Record) → AllByRecursion P xs → AllByRecursion P ys → AllByRecursion P (xs ++ ys)
+pub all_append : (P : Record → Type 0) (xs ys : List Record) → AllByRecursion P xs → AllByRecursion P ys → AllByRecursion P (xs ++ ys)
 all_append P [] ys all more = more
 all_append P (x ∷ xs) ys all more = (all.0, all_append P xs ys all.1 more)
 

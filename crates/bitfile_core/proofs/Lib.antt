@@ -4,3 +4,4 @@ pub mod Tags
 pub mod Room
 pub mod OneFile
 pub mod SetFirst
+pub mod FirstRoom

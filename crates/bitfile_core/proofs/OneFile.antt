@@ -1,7 +1,9 @@
 -- One tag's file is changed, and all others stay.
 use Rattle.std.proofs.Common.{◌≡◌, ◌∙◌, ℕ, Bool, true, false, cond, nat_eq, List, [], ◌∷◌, Option, Some, None, IfSome, IsSomeAnd, Contains, refl, sym, ap, subst, arith, ⊎_elim}
 use Rattle.std.proofs.lemmas.Bool.{and_parts, cases_Bool, eqb-true}
+use Rattle.std.specs.List.{AllByRecursion}
 use Rattle.std.specs.Option.{option_map}
+use Rattle.record_table.specs.Records.{kind_of}
 use Rattle.domain_base.specs.declared.place.CellAt.{CellAt}
 use Rattle.domain_base.specs.declared.place.Home.{Home}
 use Rattle.domain_base.specs.declared.place.Tag.{Tag}
@@ -13,7 +15,7 @@ use Rattle.bmt_mcells.specs.Chain.{LeavesOthers, PlacedCell, is_at, places as ce
 use Rattle.tag_dirs.specs.declared.dir.TagPlace.{TagPlace}
 use Rattle.tag_dirs.specs.Directory.{cell_of}
 use Rattle.bitfile_cells.specs.Files.{AreFile, IsFile}
-use Rattle.bitfile_core.specs.Files.{AreApart, AreFiles, Chains, IsOf, LeadsToFile}
+use Rattle.bitfile_core.specs.Files.{AreApart, AreFiles, Chains, IsOf, LeadsToFile, is_first_kind}
 use Rattle.bitfile_core.specs.Changes.{with_chain, with_first}
 use Rattle.bitfile_core.proofs.Tags.{cell_stays, directory_stays, file_stays}
 
@@ -74,7 +76,8 @@ module _ (change : Cell → Cell) where
 
     module _ (old new : Pages) (fileset : ℕ) (places : List TagPlace) (are : AreFiles fileset places old chains) (first : PlacedCell) (rest : List PlacedCell) (is : chains tag ≡ Some (first ∷ rest)) (bytes : List ℕ)
         (there : cell_at old first.at ≡ Some bytes) (leaves : LeavesOthers (is_at first.at) old new) (elsewhere : (home : Home) → same_home home (home_of first.at) ≡ false → new home ≡ old home)
-        (file_now : AreFile new (record { at = first.at; cell = change first.cell }) rest) (head : (change first.cell).head ≡ first.cell.head) where
+        (file_now : AreFile new (record { at = first.at; cell = change first.cell }) rest) (head : (change first.cell).head ≡ first.cell.head)
+        (kinds : AllByRecursion (λ r. is_first_kind (kind_of r) ≡ true) (change first.cell).records) where
       cells_lead : (t : Tag) → cell_of new places t ≡ cell_of old places t
       cells_lead = cell_stays old new places first.at are.directory bytes there elsewhere
 
@@ -88,6 +91,7 @@ module _ (change : Cell → Cell) where
       leads_now = record {
         leads = subst (λ o. IsSomeAnd o (λ at. IsFile new at (record { at = first.at; cell = change first.cell } ∷ rest))) (sym (cells_lead tag)) (by_cell (cell_of old places tag) was.leads);
         is_of = is_of_now;
+        kinds = kinds;
       }
         where
           by_cell : (o : Option CellAt) → IsSomeAnd o (λ at. IsFile old at (first ∷ rest)) → IsSomeAnd o (λ at. IsFile new at (record { at = first.at; cell = change first.cell } ∷ rest))
@@ -99,6 +103,7 @@ module _ (change : Cell → Cell) where
       other_stays t other cells of leads_to = record {
         leads = subst (λ o. IsSomeAnd o (λ at. IsFile new at cells)) (sym (cells_lead t)) (by_cell (cell_of old places t) leads_to.leads);
         is_of = leads_to.is_of;
+        kinds = leads_to.kinds;
       }
         where
           apart : ¬ Contains (cell_places cells) first.at

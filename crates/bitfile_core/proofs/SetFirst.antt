@@ -1,5 +1,5 @@
 -- A tag's attributes are set: the first cell of its file has another record of attributes.
-use Rattle.std.proofs.Common.{◌≡◌, ◌∙◌, ℕ, false, nat_le, List, ◌∷◌, [], Some, None, IfSome, IsSome, IsSomeAnd, Ok, Err, OnOk, Result, refl, sym, ap, subst}
+use Rattle.std.proofs.Common.{Option, true, ◌≡◌, ◌∙◌, ℕ, false, nat_le, List, ◌∷◌, [], Some, None, IfSome, IsSome, IsSomeAnd, Ok, Err, OnOk, Result, refl, sym, ap, subst}
 use Rattle.std.proofs.lemmas.Bool.{true≢false}
 use Rattle.std.specs.Option.{option_and_then, option_map}
 use Rattle.domain_base.specs.declared.place.CellAt.{CellAt}
@@ -18,7 +18,8 @@ use Rattle.bitfile_cells.specs.Files.{AreFile, IsFile, has_rows}
 use Rattle.bitfile_cells.proofs.MapRecords.{kind_found, value_has_rows}
 use Rattle.bitfile_core.specs.declared.attributes.Attributes.{Attributes}
 use Rattle.bitfile_core.specs.Changes.{CanSay, ChangesFirst, says_attributes, with_attributes, with_chain, with_first}
-use Rattle.bitfile_core.specs.Files.{AreFiles, Chains, IsLiveCell, attributes_in, attributes_of, first_record}
+use Rattle.bitfile_core.specs.Files.{AreFiles, Chains, HasFirstKinds, IsLiveCell, LeadsToFile, is_first_kind, attributes_in, attributes_of, first_record}
+use Rattle.bitfile_core.proofs.FirstRoom.{kinds_replaced}
 use Rattle.bitfile_core.proofs.FirstCell.{file_now, find_put}
 use Rattle.bitfile_core.proofs.Live.{live_none, live_some}
 use Rattle.bitfile_core.proofs.OneFile.{files_now}
@@ -73,6 +74,10 @@ module _ (pages : Pages) (value : Attributes) (tag : Tag) (chains : Chains) (at 
   room_now fit =
       same_room pages at the_first.first.cell was now stands_first (ap (λ kind. record_of kind the_first.first.cell.records) kind_now ∙ the_first.has) (allowed_now fit)
 
+  kinds_of : (fileset : ℕ) (places : List TagPlace) (o : Option (List PlacedCell)) → IfSome o (LeadsToFile fileset places pages tag) → IfSome o (λ cells. HasFirstKinds cells)
+  kinds_of fileset places None some = tt
+  kinds_of fileset places (Some cells) some = some.kinds
+
   pub files_set : (fileset : ℕ) (places : List TagPlace) (after : Pages) → AreFiles fileset places pages chains
       → StandsAt after at (with_record (kind_of now) (Some now) the_first.first.cell) → LeavesOthers (is_at at) pages after
       → ((home : Home) → same_home home (home_of at) ≡ false → after home ≡ pages home) → AreFiles fileset places after (with_chain tag (with_first (says_attributes value)) chains)
@@ -93,6 +98,7 @@ module _ (pages : Pages) (value : Attributes) (tag : Tag) (chains : Chains) (at 
       (λ kind. true≢false (sym (value_has_rows f.are.value f.are.map.is_map) ∙ ap (λ k. nat_le 1 (most_rows k)) kind))
       (subst (λ o. IsSome o) (sym (find_put 1 new_value f.first.cell.records of_kind ∙ value_is)) refl))
       refl
+      (kinds_replaced 1 new_value f.first.cell.records (subst (λ o. IfSome o (λ cells. HasFirstKinds cells)) f.is (kinds_of fileset places (chains tag) (are.some tag))) (subst (λ o. IfSome o (λ r. is_first_kind (kind_of r) ≡ true)) (sym value_is) (ap is_first_kind kind_now)))
 
   pub changes_first : (after : Pages) → LeavesOthers (is_at at) pages after → ((home : Home) → same_home home (home_of at) ≡ false → after home ≡ pages home) → ChangesFirst (chains tag) pages after
   changes_first after leaves elsewhere =

@@ -1,5 +1,6 @@
 -- The files and directories of a fileset: what each tag names.
 use Rattle.std.specs.Prelude.{◌≡◌, ◌==◌, ℕ, Bool, true, false, List, [], ◌∷◌, Contains, Option, Some, None, IfSome, IsSomeAnd, if◌then◌else◌}
+use Rattle.std.specs.List.{AllByRecursion, list_any}
 use Rattle.std.specs.Option.{option_and_then, option_map_or}
 use Rattle.domain_base.specs.declared.place.CellAt.{CellAt}
 use Rattle.domain_base.specs.declared.place.Kind.TheVariants.{Directory, File}
@@ -8,6 +9,7 @@ use Rattle.page_store.specs.Pages.{Pages}
 use Rattle.page_store.specs.Bitfiles.{same_tag}
 use Rattle.record_table.specs.declared.record.Record.{Record}
 use Rattle.record_table.specs.declared.record.Record.TheVariants as written
+use Rattle.record_table.specs.Records.{kind_of}
 use Rattle.record_table.specs.declared.record.Leftover.TheVariants.{Remove, Trim}
 use Rattle.bmt_mcells.specs.Cell.{record_of}
 use Rattle.bmt_mcells.specs.Chain.{PlacedCell, places}
@@ -72,6 +74,18 @@ IsOf fileset tag (first ∷ rest) =
     (first.cell.head.slot ≡ tag.slot) × (first.cell.head.seq ≡ tag.seq)
     × (first.cell.head.fileset ≡ Some fileset)
 
+-- the kinds of records that the first cell of a file or directory may have
+abbrev pub first_kinds : List ℕ
+first_kinds = 1 ∷ 2 ∷ 4 ∷ 6 ∷ 9 ∷ 10 ∷ 11 ∷ 14 ∷ []
+
+abbrev pub is_first_kind : ℕ → Bool
+is_first_kind kind = list_any (λ k. kind == k) first_kinds
+
+abbrev pub HasFirstKinds : List PlacedCell → Type 0
+HasFirstKinds [] = ⊥
+HasFirstKinds (first ∷ rest) =
+    AllByRecursion (λ r. is_first_kind (kind_of r) ≡ true) first.cell.records
+
 -- no cell is in both chains
 abbrev pub AreApart : List PlacedCell → List PlacedCell → Type 0
 AreApart xs ys = (at : CellAt) → Contains (places xs) at → ¬ Contains (places ys) at
@@ -81,6 +95,7 @@ pub record LeadsToFile (fileset : ℕ) (places : List TagPlace) (pages : Pages) 
     (cells : List PlacedCell) : Type 0 where
   pub leads : IsSomeAnd (cell_of pages places tag) (λ at. IsFile pages at cells)
   pub is_of : IsOf fileset tag cells
+  pub kinds : HasFirstKinds cells
 
 -- the files of a fileset: each tag that is used leads to a file's chain, which names it, and no two
 -- of them share a cell
