@@ -1,0 +1,117 @@
+//! Indexes made, looked through, and changed.
+
+use crate::steps::{ROOT, add, add_all, count_found, indexed, page_of, remove, remove_odd};
+use dir_index::{IndexEntry, name_hash};
+use hex::decode;
+use page_store::BitfileSet;
+use std::alloc::Global;
+use std::test::Fail;
+
+/// The entries of a hash and a page.
+fn entry(hash: u32, page: u32) -> IndexEntry {
+    IndexEntry { hash, page }
+}
+
+/// `Aa` and `BB` have one hash, 65 · 31 + 97 and 66 · 31 + 66. That of seven letters z is 122 times
+/// the powers of 31 from the 0th to the 6th, which are 917,087,137 together: 111,884,630,714, less
+/// 26 times 2^32.
+#[test]
+fn names_have_their_hashes(rt: HostRuntime) {
+    let seen = [
+        name_hash(b""),
+        name_hash(b"a"),
+        name_hash(b"Aa"),
+        name_hash(b"BB"),
+        name_hash(b"docs"),
+        name_hash(b"zzzzzzz"),
+        name_hash(&[255, 255]),
+    ];
+    let want = [0, 97, 2_112, 2_112, 3_088_955, 215_481_018, 8_160];
+    assert_eq!(rt; seen, want);
+}
+
+/// Three entries on one page: hash 5 on pages 1 and 3, and hash 9 on page 0.
+fn looked_up(alloc: Global) -> Result<[u32; 8], Fail> {
+    let set = indexed(
+        alloc,
+        &[
+            IndexEntry { hash: 5, page: 1 },
+            IndexEntry { hash: 5, page: 3 },
+            IndexEntry { hash: 9, page: 0 },
+        ],
+    )?;
+    Ok([
+        page_of(&set, ROOT, 5, 0),
+        page_of(&set, ROOT, 5, 1),
+        page_of(&set, ROOT, 5, 2),
+        page_of(&set, ROOT, 5, 4),
+        page_of(&set, ROOT, 9, 0),
+        page_of(&set, ROOT, 9, 1),
+        page_of(&set, ROOT, 7, 0),
+        page_of(&set, ROOT, 0, 0),
+    ])
+}
+
+#[test]
+fn the_next_page_of_a_hash_is_found(rt: HostRuntime) -> Result<(), Fail> {
+    let seen = looked_up(rt.alloc())?;
+    assert_eq!(rt; seen, [1, 1, 3, 999, 0, 999, 999, 999]);
+    Ok(())
+}
+
+/// Whether the first index page of the root begins with bytes in hexadecimal digits.
+fn begins_with<S: BitfileSet>(alloc: Global, set: &S, text: &str) -> Result<bool, Fail> {
+    let want = decode(alloc, text)?;
+    let page = set.index_page(ROOT, 0).ok_or("a page")?;
+    Ok(page.bytes().starts_with(&want))
+}
+
+const THREE: &str = "4449525803000000000000000000000005000000010000000500000003000000\
+    090000000000000000000000";
+
+const TWO: &str = "444952580200000000000000000000000500000003000000\
+    090000000000000000000000";
+
+/// The page of three entries added in another order, and after one of them is removed twice.
+fn written(alloc: Global) -> Result<[bool; 4], Fail> {
+    let mut set = indexed(alloc, &[])?;
+    add(&mut set, alloc, ROOT, entry(5, 3))?;
+    add(&mut set, alloc, ROOT, entry(9, 0))?;
+    add(&mut set, alloc, ROOT, entry(5, 1))?;
+    let three = begins_with(alloc, &set, THREE)?;
+    let first = remove(&mut set, alloc, ROOT, entry(5, 1))?;
+    let again = remove(&mut set, alloc, ROOT, entry(5, 1))?;
+    let two = begins_with(alloc, &set, TWO)?;
+    Ok([three, first, again, two])
+}
+
+#[test]
+fn entries_stand_in_their_order(rt: HostRuntime) -> Result<(), Fail> {
+    let seen = written(rt.alloc())?;
+    assert_eq!(rt; seen, [true, true, false, true]);
+    Ok(())
+}
+
+/// How many of 1,200 entries are found after all were added, how many index pages there are, and how
+/// many are removed and then found after every second was removed.
+fn spread(alloc: Global) -> Result<([u32; 3], [bool; 3]), Fail> {
+    let mut set = indexed(alloc, &[])?;
+    add_all(&mut set, alloc, ROOT, 1_200)?;
+    let all = count_found(&set, ROOT, 1_200);
+    let pages = [
+        set.index_page(ROOT, 0).is_some(),
+        set.index_page(ROOT, 1).is_some(),
+        set.index_page(ROOT, 2).is_some(),
+    ];
+    let removed = remove_odd(&mut set, alloc, ROOT, 1_200)?;
+    let left = count_found(&set, ROOT, 1_200);
+    Ok(([all, removed, left], pages))
+}
+
+/// The 1,023rd entry makes a second page, and 1,200 do not make a third.
+#[test]
+fn a_full_page_is_halved(rt: HostRuntime) -> Result<(), Fail> {
+    let seen = spread(rt.alloc())?;
+    assert_eq!(rt; seen, ([1_200, 600, 600], [true, true, false]));
+    Ok(())
+}
