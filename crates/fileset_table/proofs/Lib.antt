@@ -1,4 +1,6 @@
 pub mod Distinct
+pub mod Joining
+pub mod Leaving
 pub mod NameSpelling
 pub mod NewTable
 pub mod ReadSlots

@@ -10,6 +10,8 @@ mod slot;
 mod table;
 mod writing;
 
-pub use laws::{a_page_is_one_table, written_and_read};
+pub use laws::{
+    a_clone_joins, a_fileset_leaves, a_page_is_one_table, an_original_joins, written_and_read,
+};
 pub use slot::{FilesetEntry, SlotItem, TableFault};
 pub use table::FilesetTable;
