@@ -4,3 +4,6 @@ pub mod MapRecords
 pub mod Walks
 pub mod Replaced
 pub mod Gathers
+pub mod OneRecord
+pub mod ChainChanges
+pub mod Chosen

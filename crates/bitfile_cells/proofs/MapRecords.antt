@@ -198,3 +198,20 @@ one_map_back records one = record {
   placed = subst (AllByRecursion IsPlaced) (sym (runs_by_map records)) one.placed;
   once = subst NoPageTwice (sym (runs_by_map records)) one.once;
 }
+
+-- a kind whose records have rows is greater than that of attributes
+pub rows_kind : (r : Record) → has_rows r ≡ true → 1 < kind_of r
+rows_kind (Attributes kind uid gid flags size keep links birth unsynced) has = absurd (true≢false (sym has))
+rows_kind (CloneFile vol cell page frozen) has = absurd (true≢false (sym has))
+rows_kind (Extents rows) has = omega arith
+rows_kind (ShortExtents rows) has = omega arith
+rows_kind (Holes rows) has = omega arith
+rows_kind (Pending what) has = absurd (true≢false (sym has))
+rows_kind (UserQuota id files blocks) has = absurd (true≢false (sym has))
+rows_kind (GroupQuota id files blocks) has = absurd (true≢false (sym has))
+rows_kind (DirIndex vol page entries) has = absurd (true≢false (sym has))
+rows_kind (Parent slot seq) has = absurd (true≢false (sym has))
+rows_kind (Stripe width mark vols) has = absurd (true≢false (sym has))
+rows_kind (Volume vol pages bitmap_pages) has = absurd (true≢false (sym has))
+rows_kind (DenseExtents rows) has = omega arith
+rows_kind (ShortDense rows) has = omega arith

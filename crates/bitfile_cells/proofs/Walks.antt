@@ -75,7 +75,7 @@ way_begins pages page start (first ∷ rest) is = record {
 pub cell_places : (cell : Cell) (value : Record) (page : ℕ) → HasMap cell value → place_of (runs_of cell.records) page ≡ places_in value page
 cell_places cell value page has = ap (λ rs. place_of rs page) (runs_by_map cell.records ∙ ap runs_of has.only ∙ append-nil (runs_in value))
 
-first_places : (c : PlacedCell) (cs : List PlacedCell) (page : ℕ) → places_of (c ∷ cs) page ≡ over (place_of (runs_of c.cell.records) page) (places_of cs page)
+pub first_places : (c : PlacedCell) (cs : List PlacedCell) (page : ℕ) → places_of (c ∷ cs) page ≡ over (place_of (runs_of c.cell.records) page) (places_of cs page)
 first_places c cs page = ap (λ rs. place_of rs page) (flat_map-append runs_in c.cell.records (records_of cs)) ∙ place_append (runs_of c.cell.records) (runs_of (records_of cs)) page
 
 module _ (pages : Pages) (page i : ℕ) (at : CellAt) (cells : List PlacedCell) (way : IsOnWay pages page i (Some at) cells) where

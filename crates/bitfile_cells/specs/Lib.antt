@@ -2,3 +2,4 @@ pub mod Allocated
 pub mod Changes
 pub mod FileChanges
 pub mod Files
+pub mod MapChanges

@@ -3,10 +3,12 @@
 
 mod changing;
 mod maps;
+mod putting;
 mod taking;
 mod walking;
 
 pub use changing::{clear_record, set_record};
 pub use maps::read_file_map;
+pub use putting::put_in_records;
 pub use taking::take_cell;
 pub use walking::find_place;

@@ -15,8 +15,8 @@ use page_store::MetaPages;
 use record_table::Record;
 use std::alloc::Global;
 
-/// The addresses of a file's cells in the order of its chain, and the record of each that says where
-/// pages stand.
+/// The addresses of a file's cells in the order of its chain, and the record of each that says
+/// where pages stand.
 #[derive(Drop)]
 pub(crate) struct FileMaps {
     pub places: Vec<CellAt>,

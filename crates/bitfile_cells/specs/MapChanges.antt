@@ -1,0 +1,48 @@
+-- The change of the one record of a cell that says where pages stand.
+use Rattle.std.specs.Prelude.{◌≡◌, ℕ, false, List, Some, Contains}
+use Rattle.std.specs.List.{AllByRecursion}
+use Rattle.domain_base.specs.declared.place.CellAt.{CellAt}
+use Rattle.domain_base.specs.declared.place.Home.{Home}
+use Rattle.page_store.specs.Pages.{Pages, same_home}
+use Rattle.record_table.specs.declared.record.Record.{Record}
+use Rattle.record_table.specs.Records.{kind_of}
+use Rattle.bmt_mcells.specs.Cell.{Cell}
+use Rattle.bmt_mcells.specs.CellPage.{cell_at, home_of}
+use Rattle.bmt_mcells.specs.Chain.{PlacedCell, StandsAt, places, records_of}
+use Rattle.extent_maps.specs.declared.run.PagePlace.{PagePlace}
+use Rattle.extent_maps.specs.Runs.{with_place}
+use Rattle.extent_records.specs.Chains.{IsNone, Takes}
+use Rattle.extent_records.specs.Writing.{IsMapRecord, places_in}
+use Rattle.bitfile_cells.specs.Changes.{with_record}
+use Rattle.bitfile_cells.specs.Files.{HasMap, map_records}
+
+-- a cell in use stands there whose record that says where pages stand is this one
+pub record HasMapIs (pages : Pages) (at : CellAt) (value : Record) : Type 0 where
+  pub cell : Cell
+  pub stands : StandsAt pages at cell
+  pub map : HasMap cell value
+
+-- that record has one page at another place, and the cell is the same but for it
+pub record ChangesMap (at : CellAt) (value : Record) (page : ℕ) (place : PagePlace) (old new : Pages)
+    : Type 0 where
+  pub after : Record
+  pub is_map : IsMapRecord after
+  pub same_kind : kind_of after ≡ kind_of value
+  pub at_page : (p : ℕ) → places_in after p ≡ with_place page place (places_in value) p
+  pub cell : (cell : Cell) → StandsAt old at cell
+      → StandsAt new at (with_record (kind_of value) (Some after) cell)
+
+-- no record of the chain can have the page at that place
+abbrev pub NoneTakes : ℕ → PagePlace → List PlacedCell → Type 0
+NoneTakes page place chain = IsNone (Takes page place) (map_records (records_of chain))
+
+-- each cell but those of the chain has its bytes
+abbrev pub LeavesApart : List PlacedCell → Pages → Pages → Type 0
+LeavesApart chain old new =
+    (at : CellAt) → ¬ Contains (places chain) at → cell_at new at ≡ cell_at old at
+
+-- each page but those of the chain's cells stays
+abbrev pub LeavesPages : List PlacedCell → Pages → Pages → Type 0
+LeavesPages chain old new =
+    (home : Home) → AllByRecursion (λ (c : PlacedCell). same_home home (home_of c.at) ≡ false) chain
+    → new home ≡ old home
