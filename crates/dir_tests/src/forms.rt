@@ -87,7 +87,8 @@ fn a_row_is_found_by_its_whole_name(rt: HostRuntime) -> Result<(), Fail> {
         text.push_str(found(rt.alloc(), name)?.as_str())?;
         text.push_str(" ")?;
     }
-    let rows = count_rows(&dir_page_of(rt.alloc(), TWO)?);
+    let page = dir_page_of(rt.alloc(), TWO)?;
+    let rows = count_rows(&page);
     assert_eq!(rt; (text.as_str(), rows), ("2.1 f 1023.258 d - - - - - ", 2));
     Ok(())
 }
