@@ -5,5 +5,6 @@ pub mod RecordLemmas
 pub mod FrontLemmas
 pub mod RowLemmas
 pub mod ChainLemmas
+pub mod DenseLemmas
 pub mod ListingLemmas
 pub mod LeastLemmas

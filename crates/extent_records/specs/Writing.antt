@@ -42,6 +42,12 @@ chain_kind Four = 13
 abbrev pub hole_kind : ℕ
 hole_kind = 5
 
+-- the kind that the last version writes in place of a kind: that of dense extents for plain ones
+abbrev pub dense_kind : ℕ → ℕ
+dense_kind kind =
+    if kind == chain_kind Three then chain_kind Four
+    else (if kind == short_kind Three then short_kind Four else kind)
+
 -- the rows of that kind are holes
 abbrev pub is_of_holes : ℕ → Bool
 is_of_holes kind = kind == hole_kind

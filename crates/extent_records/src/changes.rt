@@ -15,7 +15,7 @@ use record_table::Record;
 use std::alloc::Global;
 
 /// The map that a record says.
-fn map_of(alloc: Global, value: &Record) -> Result<ExtentMap, OutOfMemory>
+pub(crate) fn map_of(alloc: Global, value: &Record) -> Result<ExtentMap, OutOfMemory>
     requires { IsMapRecord value.now }
     ensures { IfOk result (SamePlaces (runs_in value.now)) }
 {

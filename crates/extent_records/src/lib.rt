@@ -3,6 +3,7 @@
 
 mod changes;
 mod choosing;
+mod dense;
 mod laws;
 mod listing;
 mod reading;
@@ -11,6 +12,7 @@ mod writing;
 
 pub use changes::{cut_from, cut_page, keep_hole, put_page, switch_page};
 pub use choosing::{record_for, record_for_hole};
+pub use dense::as_dense;
 pub use laws::{
     a_chain_shows_its_records, cut_records_cut_the_map, one_page_changes, one_record_changes,
 };

@@ -79,7 +79,7 @@ fn holes_of(alloc: Global, runs: &[Run]) -> Result<Vec<Run>, OutOfMemory>
 }
 
 /// A record of a value's kind that holds these runs, of which there are no more than it has rows.
-fn holding(value: &Record, runs: &[Run]) -> Record
+pub(crate) fn holding(value: &Record, runs: &[Run]) -> Record
     requires is_map { IsMapRecord value.now }
     requires runs { AreRuns runs.now }
     requires suits { AllSuit (kind_of value.now) runs.now }
