@@ -4,6 +4,8 @@
 #[cfg(test)]
 mod changes;
 #[cfg(test)]
+mod dense;
+#[cfg(test)]
 mod random;
 #[cfg(test)]
 mod records;

@@ -69,7 +69,7 @@ fn holes_stand_at_both_ends(rt: HostRuntime) -> Result<(), Fail> {
     Ok(())
 }
 
-/// Runs of two volumes that touch, and then with the first page of the second one cut out.
+/// Runs of two volumes that touch, at pages of these volumes whose numbers go on.
 #[test]
 fn runs_on_two_volumes_stay_two(rt: HostRuntime) -> Result<(), Fail> {
     let map = map_of(

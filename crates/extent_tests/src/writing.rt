@@ -16,7 +16,7 @@ use std::alloc::Global;
 use std::test::Fail;
 
 /// The page of a volume.
-fn home(vol: u32, page: u32) -> Result<Home, Fail>
+pub(crate) fn home(vol: u32, page: u32) -> Result<Home, Fail>
     ensures { IfOk result (λ home. home.page ≡ page) }
 {
     let vol = VolIx::new(vol).ok_or("a volume")?;
@@ -41,7 +41,7 @@ fn put(alloc: Global, value: &mut Record, page: u32, vol: u32, at: u32) -> Resul
 }
 
 /// A record in which pages are put, each with its volume and its page there.
-fn filled(alloc: Global, empty: &Record, pages: &[[u32; 3]]) -> Result<Record, Fail>
+pub(crate) fn filled(alloc: Global, empty: &Record, pages: &[[u32; 3]]) -> Result<Record, Fail>
     requires is_map { IsMapRecord empty.now }
     requires extents { is_of_holes (kind_of empty.now) ≡ false }
     ensures is_map { IfOk result IsMapRecord }
@@ -57,7 +57,7 @@ fn filled(alloc: Global, empty: &Record, pages: &[[u32; 3]]) -> Result<Record, F
 }
 
 /// The numbers of the rows that are used.
-fn used(alloc: Global, rows: &[ExtentField]) -> Result<Vec<[u32; 4]>, Fail> {
+pub(crate) fn used(alloc: Global, rows: &[ExtentField]) -> Result<Vec<[u32; 4]>, Fail> {
     Ok(
         rows.iter()
             .filter(|row| row.count != 0)
@@ -78,7 +78,7 @@ fn listed(alloc: Global, value: &Record) -> Result<Vec<[u32; 4]>, Fail> {
 }
 
 /// Three pages in a row, and three single ones.
-static FOUR_ROWS: [[u32; 3]; 6] = [
+pub(crate) static FOUR_ROWS: [[u32; 3]; 6] = [
     [0, 1, 10],
     [1, 1, 11],
     [2, 1, 12],
