@@ -5,3 +5,5 @@ pub mod Room
 pub mod OneFile
 pub mod SetFirst
 pub mod FirstRoom
+pub mod Removed
+pub mod RemoveFile

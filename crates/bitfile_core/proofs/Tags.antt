@@ -20,11 +20,11 @@ use Rattle.bitfile_core.proofs.FirstCell.{follow_apart, not_at}
 
 -- ---- pages of tags are none of cells
 
-all_by_index : {X : Type 0} (P : X → Type 0) (xs : List X) → ((k : ℕ) → IfSome (slice_get xs k) P) → AllByRecursion P xs
+pub all_by_index : {X : Type 0} (P : X → Type 0) (xs : List X) → ((k : ℕ) → IfSome (slice_get xs k) P) → AllByRecursion P xs
 all_by_index P [] all = tt
 all_by_index P (x ∷ xs) all = (all 0, all_by_index P xs (λ k. all (suc k)))
 
-page_stands : (pages : Pages) (at : CellAt) (bytes : List ℕ) → cell_at pages at ≡ Some bytes → IsSomeAnd (pages (home_of at)) (λ page. is_cell_page page ≡ true)
+pub page_stands : (pages : Pages) (at : CellAt) (bytes : List ℕ) → cell_at pages at ≡ Some bytes → IsSomeAnd (pages (home_of at)) (λ page. is_cell_page page ≡ true)
 page_stands pages at bytes there = by_page (pages (home_of at)) there
   where
     none_is_some : None ≡ Some bytes → ⊥
@@ -37,7 +37,7 @@ page_stands pages at bytes there = by_page (pages (home_of at)) there
         (λ not_both. absurd (none_is_some (sym (ap (λ (b : Bool). cond b (Some (bytes_of page at.cell)) None) not_both) ∙ is)))
         (cases_Bool (is_cell_page page && nat_lt at.cell 28))
 
-not_both_kinds : (o : Option (List ℕ)) (place : TagPlace) (next : Option Home) → IsSomeAnd o (λ page. is_cell_page page ≡ true) → IsSomeAnd o (IsPageOf place next) → ⊥
+pub not_both_kinds : (o : Option (List ℕ)) (place : TagPlace) (next : Option Home) → IsSomeAnd o (λ page. is_cell_page page ≡ true) → IsSomeAnd o (IsPageOf place next) → ⊥
 not_both_kinds None place next cells tags = cells
 not_both_kinds (Some page) place next cells tags = omega (arith, eqb-true (number_at 4 0 page) 0x50544d42 cells, tags.good.magic)
 

@@ -1,8 +1,11 @@
 -- What a change of one tag's file changes.
-use Rattle.std.specs.Prelude.{◌≡◌, ◌≤◌, ℕ, List, [], ◌∷◌, Option, Some, IsSomeAnd, false, if◌then◌else◌}
+use Rattle.std.specs.Prelude.{◌≡◌, ◌≤◌, ℕ, Bool, true, false, List, [], ◌∷◌, Option, Some, None, IfSome, IsSome, IsSomeAnd, if◌then◌else◌}
+use Rattle.std.specs.List.{AllByRecursion}
 use Rattle.std.specs.Option.{option_and_then, option_map}
+use Rattle.record_table.specs.Records.{kind_of}
 use Rattle.domain_base.specs.declared.place.Kind.{Kind}
 use Rattle.domain_base.specs.declared.place.Kind.TheVariants.{Directory, File}
+use Rattle.domain_base.specs.declared.place.CellAt.{CellAt}
 use Rattle.domain_base.specs.declared.place.Home.{Home}
 use Rattle.domain_base.specs.declared.place.Tag.{Tag}
 use Rattle.domain_base.specs.Limits.{max_links}
@@ -11,11 +14,15 @@ use Rattle.page_store.specs.Pages.{Pages, same_home}
 use Rattle.record_table.specs.declared.record.Record.{Record}
 use Rattle.record_table.specs.declared.record.Record.TheVariants as written
 use Rattle.bmt_mcells.specs.Cell.{Cell, record_of}
-use Rattle.bmt_mcells.specs.CellPage.{home_of}
-use Rattle.bmt_mcells.specs.Chain.{LeavesOthers, PlacedCell, is_at}
+use Rattle.record_table.specs.declared.record.Leftover.TheVariants.{Remove}
+use Rattle.bmt_mcells.specs.CellPage.{cell_at, home_of}
+use Rattle.bmt_mcells.specs.Chain.{LeavesOthers, PlacedCell, StandsAt, is_at}
+use Rattle.tag_dirs.specs.declared.dir.TagPlace.{TagPlace}
+use Rattle.tag_dirs.specs.Directory.{has_home}
 use Rattle.bitfile_cells.specs.Changes.{with_record}
+use Rattle.bitfile_cells.specs.Files.{IsFile}
 use Rattle.bitfile_core.specs.declared.attributes.Attributes.{Attributes}
-use Rattle.bitfile_core.specs.Files.{Chains, attributes_of, of_live}
+use Rattle.bitfile_core.specs.Files.{AreFiles, Chains, attributes_of, is_first_kind, of_live}
 
 abbrev pub kind_number : Kind → ℕ
 kind_number File = 1
@@ -54,3 +61,44 @@ pub record CanSay (value : Attributes) (tag : Tag) (chains : Chains) : Type 0 wh
       (λ was. was.kind ≡ value.kind)
   pub named : 1 ≤ value.links
   pub most : value.links ≤ max_links
+
+-- the files without the tag's
+abbrev pub without_chain : Tag → Chains → Chains
+without_chain tag chains = λ t. if same_tag t tag then None else chains t
+
+-- a first cell that says that the file is to be removed
+abbrev pub says_removed : Cell → Cell
+says_removed cell = with_record 6 (Some (written.Pending Remove)) cell
+
+-- a first cell of a file stands there
+pub record HasFirstRoom (pages : Pages) (at : CellAt) : Type 0 where
+  pub cell : Cell
+  pub stands : StandsAt pages at cell
+  pub kinds : AllByRecursion (λ r. is_first_kind (kind_of r) ≡ true) cell.records
+
+-- a tag names a file or directory that is not to be removed
+abbrev pub IsLive : Tag → Chains → Type 0
+IsLive tag chains = IsSome (option_and_then (of_live attributes_of) (chains tag))
+
+-- the tag names nothing, and its chain begins at that cell and says that the file is to be removed
+pub record Removes (fileset : ℕ) (places : List TagPlace) (tag : Tag) (at : CellAt) (chains : Chains)
+    (new : Pages) : Type 0 where
+  pub files : AreFiles fileset places new (without_chain tag chains)
+  pub pending : IsSomeAnd (chains tag) (λ cells. IsFile new at (with_first says_removed cells))
+
+-- the place of a chain's first cell, and its page
+abbrev pub is_first : CellAt → List PlacedCell → Bool
+is_first at [] = false
+is_first at (first ∷ rest) = is_at first.at at
+
+abbrev pub is_page_of_first : Home → List PlacedCell → Bool
+is_page_of_first home [] = false
+is_page_of_first home (first ∷ rest) = same_home home (home_of first.at)
+
+-- the first cell of a chain and the pages of a tag directory may have changed, and nothing else
+pub record ChangesBeside (places : List TagPlace) (chain : Option (List PlacedCell)) (old new : Pages)
+    : Type 0 where
+  pub cells : IfSome chain (λ cells. (at : CellAt) → is_first at cells ≡ false
+      → cell_at new at ≡ cell_at old at)
+  pub pages : IfSome chain (λ cells. (home : Home) → has_home places home ≡ false
+      → is_page_of_first home cells ≡ false → new home ≡ old home)

@@ -1,11 +1,14 @@
 //! The files of a fileset, looked at.
-ghost use Rattle.std.specs.Prelude.{◌≡◌, ℕ, IfOk, List, OnErr, OnOk};
+ghost use Rattle.std.specs.Prelude.{◌≡◌, ℕ, IfOk, List, OnErr, OnOk, false};
 ghost use Rattle.std.specs.Option.{option_and_then};
-ghost use Rattle.bmt_mcells.specs.CellPage.{KeepsHeaders, KeepsWellFormed};
-ghost use Rattle.bmt_mcells.specs.Chain.{PlacedCell};
+ghost use Rattle.domain_base.specs.declared.place.Home.{Home as HomeOf};
+ghost use Rattle.page_store.specs.Pages.{same_home};
+ghost use Rattle.bmt_mcells.specs.Cell.{Cell};
+ghost use Rattle.bmt_mcells.specs.CellPage.{KeepsHeaders, KeepsWellFormed, home_of as home_there};
+ghost use Rattle.bmt_mcells.specs.Chain.{LeavesOthers, PlacedCell, StandsAt, is_at};
 ghost use Rattle.extent_maps.specs.Runs.{place_of};
 ghost use Rattle.bitfile_cells.specs.Files.{HasFile, IsFile};
-ghost use Rattle.bitfile_core.specs.Changes.{CanSay, ChangesFirst, says_attributes, with_chain, with_first};
+ghost use Rattle.bitfile_core.specs.Changes.{CanSay, ChangesBeside, ChangesFirst, HasFirstRoom, IsLive, Removes, says_attributes, says_removed, with_chain, with_first};
 ghost use Rattle.bitfile_core.specs.Files.{AreFiles, Chains, HasFiles, IsLiveCell, attributes_of, first_record as first_there, is_removed, keep_of, of_live, place_at};
 
 use crate::attributes::{Attributes, read_attributes, read_keep, says_remove, with_attributes};
@@ -14,7 +17,7 @@ use bmt_mcells::find_record;
 use domain_base::{CellAt, FilesetNo, OutOfMemory, Tag};
 use extent_maps::{ExtentMap, PagePlace};
 use page_store::MetaPages;
-use record_table::Record;
+use record_table::{Leftover, Record};
 use std::alloc::Global;
 use tag_dirs::TagDir;
 
@@ -43,6 +46,23 @@ fn is_pending<M: MetaPages>(pages: &M, at: &CellAt) -> bool
         Some(value) => says_remove(&value),
         None => false,
     }
+}
+
+/// Says in a file's first cell that the file is to be removed.
+fn set_pending<M: MetaPages>(alloc: Global, pages: &mut M, at: &CellAt) -> Result<(), OutOfMemory>
+    requires { HasFirstRoom (M.pages pages.old) at.now }
+    ensures ok { (cell : Cell) → StandsAt (M.pages pages.old) at.now cell
+        → OnOk result (StandsAt (M.pages pages.new) at.now (says_removed cell)) }
+    ensures err { OnErr result (M.pages pages.new ≡ M.pages pages.old) }
+    ensures others { LeavesOthers (is_at at.now) (M.pages pages.old) (M.pages pages.new) }
+    ensures elsewhere { (home : HomeOf) → same_home home (home_there at.now) ≡ false
+        → M.pages pages.new home ≡ M.pages pages.old home }
+    ensures room { M.room pages.new ≡ M.room pages.old }
+{
+    let value = Record::Pending {
+        what: Leftover::Remove,
+    };
+    set_record(alloc, pages, *at, &value)
 }
 
 impl Bitfiles {
@@ -155,5 +175,36 @@ impl Bitfiles {
             return Ok(());
         };
         set_record(alloc, pages, at, &with_attributes(&was, value))
+    }
+    /// Takes a live tag out of use: its file or directory is to be removed, which its first cell says,
+    /// and nothing of it goes yet. It answers that cell. Every other file stays. After an error nothing
+    /// has changed.
+    pub fn remove<M: MetaPages>(
+        &mut self,
+        alloc: Global,
+        pages: &mut M,
+        tag: Tag,
+    ) -> Result<CellAt, OutOfMemory>
+        requires files { HasFiles self.old.fileset self.old.tags (M.pages pages.old) }
+        requires live { (chains : Chains)
+            → AreFiles self.old.fileset self.old.tags (M.pages pages.old) chains
+            → IsLive tag chains }
+        ensures ok { (chains : Chains)
+            → AreFiles self.old.fileset self.old.tags (M.pages pages.old) chains
+            → IfOk result (λ at. Removes self.old.fileset self.old.tags tag at chains
+            (M.pages pages.new)) }
+        ensures err { OnErr result (M.pages pages.new ≡ M.pages pages.old) }
+        ensures beside { (chains : Chains)
+            → AreFiles self.old.fileset self.old.tags (M.pages pages.old) chains
+            → ChangesBeside self.old.tags (chains tag) (M.pages pages.old) (M.pages pages.new) }
+        ensures same { self.new ≡ self.old }
+        ensures room { M.room pages.new ≡ M.room pages.old }
+    {
+        let Some(at) = self.live_cell(pages, tag) else {
+            return Err(OutOfMemory);
+        };
+        set_pending(alloc, pages, &at)?;
+        self.tags.drop_tag(pages, tag);
+        Ok(at)
     }
 }

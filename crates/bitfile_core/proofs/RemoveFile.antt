@@ -1,0 +1,141 @@
+-- A tag's file is said to be removed, and the tag is taken out of use.
+use Rattle.std.proofs.Common.{◌≡◌, ◌∙◌, ℕ, ◌+◌, ◌&&◌, Bool, true, false, cond, nat_le, nat_lt, List, [], ◌∷◌, slice_get, Option, Some, None, IfSome, IsSome, IsSomeAnd, refl, sym, ap, subst, arith, ⊎_elim}
+use Rattle.std.proofs.lemmas.Bool.{cases_Bool, and_left, eqb-true, false_from_ne_true, or_cases, true≢false}
+use Rattle.std.specs.List.{AllByRecursion}
+use Rattle.std.specs.Option.{option_and_then, option_map}
+use Rattle.domain_base.specs.declared.place.CellAt.{CellAt}
+use Rattle.domain_base.specs.declared.place.Home.{Home}
+use Rattle.domain_base.specs.declared.place.Tag.{Tag}
+use Rattle.page_store.specs.Pages.{Pages, same_home}
+use Rattle.record_table.specs.declared.record.Record.TheVariants.{Pending}
+use Rattle.record_table.specs.declared.record.Leftover.TheVariants.{Remove}
+use Rattle.record_table.specs.Fields.{number_at}
+use Rattle.record_table.specs.Records.{kind_of}
+use Rattle.bmt_mcells.specs.CellPage.{cell_at, cell_of as bytes_of, home_of, is_cell_page}
+use Rattle.bmt_mcells.specs.Chain.{LeavesOthers, PlacedCell, StandsAt, is_at}
+use Rattle.bmt_mcells.proofs.Changed.{homes_same}
+use Rattle.tag_dirs.specs.declared.dir.TagPlace.{TagPlace}
+use Rattle.tag_dirs.specs.Directory.{IsDirectory, IsPageOf, SetsTag, cell_of, has_home}
+use Rattle.extent_records.specs.Writing.{most_rows}
+use Rattle.bitfile_cells.specs.Files.{AreFile, IsFile}
+use Rattle.bitfile_cells.proofs.MapRecords.{value_has_rows}
+use Rattle.bitfile_core.specs.Files.{AreFiles, Chains, HasFirstKinds, IsLiveCell, LeadsToFile, attributes_of, is_first_kind}
+use Rattle.bitfile_core.specs.Changes.{ChangesBeside, HasFirstRoom, is_first, is_page_of_first, IsLive, Removes, says_removed, with_chain, with_first}
+use Rattle.bitfile_core.proofs.FirstCell.{file_now, find_other}
+use Rattle.bitfile_core.proofs.FirstRoom.{kinds_replaced}
+use Rattle.bitfile_core.proofs.Live.{live_none, live_some}
+use Rattle.bitfile_core.proofs.OneFile.{files_now}
+use Rattle.bitfile_core.proofs.Removed.{files_without, is_file_kept}
+use Rattle.bitfile_core.proofs.Tags.{all_by_index, cell_stays}
+
+-- ---- what stands on a page of tags is no cell
+
+on_tag_page : (pages : Pages) (home : Home) (ps : List TagPlace) → AllByRecursion (λ (p : TagPlace). (n : Option Home) × IsSomeAnd (pages p.home) (IsPageOf p n)) ps → has_home ps home ≡ true → IsSomeAnd (pages home) (λ page. is_cell_page page ≡ false)
+on_tag_page pages home [] all has = absurd (true≢false (sym has))
+on_tag_page pages home (p ∷ ps) all has = ⊎_elim
+    (λ same. subst (λ (h : Home). IsSomeAnd (pages h) (λ page. is_cell_page page ≡ false)) (sym (homes_same home p.home same)) (no_cells (pages p.home) all.0.1))
+    (λ later. on_tag_page pages home ps all.1 later)
+    (or_cases (same_home home p.home) (has_home ps home) has)
+  where
+    no_cells : (o : Option (List ℕ)) → IsSomeAnd o (IsPageOf p all.0.0) → IsSomeAnd o (λ page. is_cell_page page ≡ false)
+    no_cells None is = is
+    no_cells (Some page) is = false_from_ne_true (is_cell_page page) (λ cells. omega (arith, eqb-true (number_at 4 0 page) 0x50544d42 cells, is.good.magic))
+
+no_cell_there : (pages : Pages) (places : List TagPlace) (at : CellAt) → IsDirectory pages places → has_home places (home_of at) ≡ true → cell_at pages at ≡ None
+no_cell_there pages places at directory has =
+    by_page (pages (home_of at))
+    (on_tag_page pages (home_of at) places (all_by_index (λ (p : TagPlace). (n : Option Home) × IsSomeAnd (pages p.home) (IsPageOf p n)) places (λ k. by_place k (slice_get places k) (directory.run k))) has)
+  where
+    by_place : (k : ℕ) (o : Option TagPlace) → IfSome o (λ p. IsSomeAnd (pages p.home) (IsPageOf p (option_map (λ (p : TagPlace). p.home) (slice_get places (k + 1)))))
+        → IfSome o (λ p. (n : Option Home) × IsSomeAnd (pages p.home) (IsPageOf p n))
+    by_place k None run = tt
+    by_place k (Some p) run = (option_map (λ (p : TagPlace). p.home) (slice_get places (k + 1)), run)
+
+    by_page : (o : Option (List ℕ)) → IsSomeAnd o (λ page. is_cell_page page ≡ false) → option_and_then (λ page. cond (is_cell_page page && nat_lt at.cell 28) (Some (bytes_of page at.cell)) None) o ≡ None
+    by_page None none = refl
+    by_page (Some page) none = ap (λ (b : Bool). cond b (Some (bytes_of page at.cell)) None) (and_left (is_cell_page page) (nat_lt at.cell 28) none)
+
+cells_beside : (mid new : Pages) (places : List TagPlace) → IsDirectory mid places → IsDirectory new places → ((h : Home) → has_home places h ≡ false → new h ≡ mid h) → (at : CellAt) → cell_at new at ≡ cell_at mid at
+cells_beside mid new places before after elsewhere at = ⊎_elim
+    (λ has. no_cell_there new places at after has ∙ sym (no_cell_there mid places at before has))
+    (λ none. ap (λ o. option_and_then (λ page. cond (is_cell_page page && nat_lt at.cell 28) (Some (bytes_of page at.cell)) None) o) (elsewhere (home_of at) none))
+    (cases_Bool (has_home places (home_of at)))
+
+-- ---- the file
+
+pub no_live : (pages : Pages) (tag : Tag) (chains : Chains) → IsLive tag chains → IsLiveCell pages (chains tag) None → ⊥
+no_live pages tag chains is live = true≢false (sym (subst (λ o. IsSome o) (sym (live_none attributes_of pages (chains tag) live)) is))
+
+module _ (pages : Pages) (fileset : ℕ) (places : List TagPlace) (tag : Tag) (chains : Chains) (at : CellAt) (are : AreFiles fileset places pages chains) (live : IsLiveCell pages (chains tag) (Some at)) where
+  pub record First : Type 0 where
+    pub first : PlacedCell
+    pub rest : List PlacedCell
+    pub is : chains tag ≡ Some (first ∷ rest)
+    pub is_at : first.at ≡ at
+    pub file : AreFile pages first rest
+    pub kinds : AllByRecursion (λ r. is_first_kind (kind_of r) ≡ true) first.cell.records
+
+  pub the_first : First
+  the_first = let is = live_some attributes_of pages (chains tag) at live in by_cells is.cells is.is is.is_file (kinds_of (chains tag) is.cells is.is (are.some tag))
+    where
+      kinds_of : (o : Option (List PlacedCell)) (cells : List PlacedCell) → o ≡ Some cells → IfSome o (LeadsToFile fileset places pages tag) → HasFirstKinds cells
+      kinds_of o cells is some = let leads = subst (λ o. IfSome o (LeadsToFile fileset places pages tag)) is some in leads.kinds
+
+      by_cells : (cells : List PlacedCell) → chains tag ≡ Some cells → IsFile pages at cells → HasFirstKinds cells → First
+      by_cells [] is is_file kinds = absurd is_file
+      by_cells (first ∷ rest) is is_file kinds = record { first = first; rest = rest; is = is; is_at = is_file.0; file = is_file.1; kinds = kinds }
+
+  pub room : HasFirstRoom pages at
+  room = record {
+    cell = the_first.first.cell;
+    stands = subst (λ (a : CellAt). StandsAt pages a the_first.first.cell) the_first.is_at the_first.file.links.stands;
+    kinds = the_first.kinds;
+  }
+
+  module _ (mid : Pages) (stands : StandsAt mid at (says_removed the_first.first.cell)) (leaves : LeavesOthers (is_at at) pages mid) (elsewhere : (home : Home) → same_home home (home_of at) ≡ false → mid home ≡ pages home) where
+    now_first : PlacedCell
+    now_first = record { at = the_first.first.at; cell = says_removed the_first.first.cell }
+
+    leaves_first : LeavesOthers (is_at the_first.first.at) pages mid
+    leaves_first = subst (λ (a : CellAt). LeavesOthers (is_at a) pages mid) (sym the_first.is_at) leaves
+
+    file_mid : AreFile mid (record { at = the_first.first.at; cell = says_removed the_first.first.cell }) the_first.rest
+    file_mid =
+        file_now pages mid the_first.first the_first.rest 6 (Some (Pending Remove)) the_first.file leaves_first
+        (subst (λ (a : CellAt). StandsAt mid a (says_removed the_first.first.cell)) (sym the_first.is_at) stands) refl refl
+        (λ kind. true≢false (sym (value_has_rows the_first.file.value the_first.file.map.is_map) ∙ ap (λ k. nat_le 1 (most_rows k)) kind))
+        (subst (λ o. IsSome o) (sym (find_other 6 1 (Some (Pending Remove)) the_first.first.cell.records (λ is. omega (arith, is)) refl)) the_first.file.attributes)
+
+    pub files_mid : AreFiles fileset places mid (with_chain tag (with_first says_removed) chains)
+    files_mid =
+        files_now says_removed tag chains pages mid fileset places are the_first.first the_first.rest the_first.is the_first.file.links.stands.bytes the_first.file.links.stands.there leaves_first
+        (subst (λ (a : CellAt). (home : Home) → same_home home (home_of a) ≡ false → mid home ≡ pages home) (sym the_first.is_at) elsewhere) file_mid refl
+        (kinds_replaced 6 (Some (Pending Remove)) the_first.first.cell.records the_first.kinds refl)
+
+    pub used_mid : IsSome (cell_of mid places tag)
+    used_mid =
+        let led = subst (λ o. IfSome o (LeadsToFile fileset places pages tag)) the_first.is (are.some tag) in
+        subst (λ o. IsSome o)
+        (sym (cell_stays pages mid places the_first.first.at are.directory the_first.file.links.stands.bytes the_first.file.links.stands.there
+        (subst (λ (a : CellAt). (home : Home) → same_home home (home_of a) ≡ false → mid home ≡ pages home) (sym the_first.is_at) elsewhere) tag))
+        (by_cell (cell_of pages places tag) led.leads)
+      where
+        by_cell : (o : Option CellAt) → IsSomeAnd o (λ at. IsFile pages at (the_first.first ∷ the_first.rest)) → IsSome o
+        by_cell None leads = absurd leads
+        by_cell (Some a) leads = refl
+
+    module _ (new : Pages) (sets : SetsTag tag None places mid new) where
+      pub removes : Removes fileset places tag at chains new
+      removes = record {
+        files = files_without mid new fileset places tag chains says_removed files_mid are.apart sets;
+        pending = subst (λ o. IsSomeAnd o (λ cells. IsFile new at (with_first says_removed cells))) (sym the_first.is)
+            (is_file_kept mid new places files_mid.directory sets.elsewhere at (record { at = the_first.first.at; cell = says_removed the_first.first.cell } ∷ the_first.rest) (the_first.is_at, file_mid));
+      }
+
+      pub beside : ChangesBeside places (chains tag) pages new
+      beside = record {
+        cells = subst (λ o. IfSome o (λ cells. (q : CellAt) → is_first q cells ≡ false → cell_at new q ≡ cell_at pages q)) (sym the_first.is)
+            (λ q other. cells_beside mid new places files_mid.directory sets.directory sets.elsewhere q ∙ leaves_first q other);
+        pages = subst (λ o. IfSome o (λ cells. (home : Home) → has_home places home ≡ false → is_page_of_first home cells ≡ false → new home ≡ pages home)) (sym the_first.is)
+            (λ home none other. sets.elsewhere home none ∙ elsewhere home (subst (λ (a : CellAt). same_home home (home_of a) ≡ false) the_first.is_at other));
+      }

@@ -1,0 +1,63 @@
+use Rattle.std.proofs.Common.{subst}
+use Rattle.domain_base.specs.declared.place.CellAt.{CellAt}
+use Rattle.bmt_mcells.specs.Chain.{StandsAt}
+use Rattle.bitfile_core.specs.Files.{IsLiveCell}
+use Rattle.bitfile_core.proofs.RemoveFile.{beside, files_mid, no_live, removes, room, the_first, used_mid}
+use Rattle.bitfile_core.proofs.bitfiles.Bitfiles.remove.Goals as goal
+
+pub returns-in_default-clause-beside : goal.returns-in_default-clause-beside
+returns-in_default-clause-beside g c = λ chains are.
+    let pages = g.M.MetaPages.pages c.args.pages.now in
+    absurd (no_live pages c.args.tag chains (c.requires.live chains are) (subst (IsLiveCell pages (chains c.args.tag)) c.in_default.is (c.live_cell.ensures chains are)))
+
+pub set_pending-requires : goal.set_pending-requires
+set_pending-requires g c =
+    let pages = g.M.MetaPages.pages c.args.pages.now in
+    let chains = c.requires.files.0 in
+    let are = c.requires.files.1 in
+    room pages c.args.self.now.fileset c.args.self.now.tags c.args.tag chains c.in-Some.at are (subst (IsLiveCell pages (chains c.args.tag)) c.in-Some.is (c.live_cell.ensures chains are))
+
+pub drop_tag-requires-clause-directory : goal.drop_tag-requires-clause-directory
+drop_tag-requires-clause-directory g c =
+    let chains = c.requires.files.0 in
+    let are = c.requires.files.1 in
+    let pages = g.M.MetaPages.pages c.args.pages.now in
+    let fileset = c.args.self.now.fileset in
+    let places = c.args.self.now.tags in
+    let live = subst (IsLiveCell pages (chains c.args.tag)) c.in-Some.is (c.live_cell.ensures chains are) in
+    let of = the_first pages fileset places c.args.tag chains c.in-Some.at are live in
+    let stands = c.in_ok-set_pending.ensures.ok of.first.cell (subst (λ (a : CellAt). StandsAt pages a of.first.cell) of.is_at of.file.links.stands) in
+    let now = files_mid pages fileset places c.args.tag chains c.in-Some.at are live (g.M.MetaPages.pages c.set_pending.new.pages) stands c.set_pending.ensures.others c.set_pending.ensures.elsewhere in
+    now.directory
+
+pub drop_tag-requires-clause-used : goal.drop_tag-requires-clause-used
+drop_tag-requires-clause-used g c =
+    let chains = c.requires.files.0 in
+    let are = c.requires.files.1 in
+    let pages = g.M.MetaPages.pages c.args.pages.now in
+    let fileset = c.args.self.now.fileset in
+    let places = c.args.self.now.tags in
+    let live = subst (IsLiveCell pages (chains c.args.tag)) c.in-Some.is (c.live_cell.ensures chains are) in
+    let of = the_first pages fileset places c.args.tag chains c.in-Some.at are live in
+    let stands = c.in_ok-set_pending.ensures.ok of.first.cell (subst (λ (a : CellAt). StandsAt pages a of.first.cell) of.is_at of.file.links.stands) in
+    used_mid pages fileset places c.args.tag chains c.in-Some.at are live (g.M.MetaPages.pages c.set_pending.new.pages) stands c.set_pending.ensures.others c.set_pending.ensures.elsewhere
+
+pub returns-clause-ok : goal.returns-clause-ok
+returns-clause-ok g c = λ chains are.
+    let pages = g.M.MetaPages.pages c.args.pages.now in
+    let fileset = c.args.self.now.fileset in
+    let places = c.args.self.now.tags in
+    let live = subst (IsLiveCell pages (chains c.args.tag)) c.in-Some.is (c.live_cell.ensures chains are) in
+    let of = the_first pages fileset places c.args.tag chains c.in-Some.at are live in
+    let stands = c.in_ok-set_pending.ensures.ok of.first.cell (subst (λ (a : CellAt). StandsAt pages a of.first.cell) of.is_at of.file.links.stands) in
+    removes pages fileset places c.args.tag chains c.in-Some.at are live (g.M.MetaPages.pages c.set_pending.new.pages) stands c.set_pending.ensures.others c.set_pending.ensures.elsewhere (g.M.MetaPages.pages c.drop_tag.new.pages) c.drop_tag.ensures.value
+
+pub returns-clause-beside : goal.returns-clause-beside
+returns-clause-beside g c = λ chains are.
+    let pages = g.M.MetaPages.pages c.args.pages.now in
+    let fileset = c.args.self.now.fileset in
+    let places = c.args.self.now.tags in
+    let live = subst (IsLiveCell pages (chains c.args.tag)) c.in-Some.is (c.live_cell.ensures chains are) in
+    let of = the_first pages fileset places c.args.tag chains c.in-Some.at are live in
+    let stands = c.in_ok-set_pending.ensures.ok of.first.cell (subst (λ (a : CellAt). StandsAt pages a of.first.cell) of.is_at of.file.links.stands) in
+    beside pages fileset places c.args.tag chains c.in-Some.at are live (g.M.MetaPages.pages c.set_pending.new.pages) stands c.set_pending.ensures.others c.set_pending.ensures.elsewhere (g.M.MetaPages.pages c.drop_tag.new.pages) c.drop_tag.ensures.value
