@@ -1,3 +1,4 @@
+pub mod Changing
 pub mod Distinct
 pub mod Joining
 pub mod Leaving

@@ -120,6 +120,14 @@ pub record IsTable (table : Table) : Type 0 where
 abbrev pub with_slot : ℕ → SlotItem → Table → Table
 with_slot number item table = record table { slots = slice_set table.slots number item }
 
+-- the same fileset, whatever else the table has of it: an original or a clone of one original and
+-- name, or one that is being removed
+abbrev pub IsSameFileset : SlotItem → SlotItem → Type 0
+IsSameFileset (Original e) (Original f) = e.name ≡ f.name
+IsSameFileset (Clone o n e) (Clone p m f) = (o ≡ p) × (e.name ≡ f.name)
+IsSameFileset (Removed t q) (Removed u r) = Unit {0}
+IsSameFileset _ _ = ⊥
+
 -- free slots alone, and no clone made
 pub record IsNewTable (table : Table) : Type 0 where
   pub good : IsTable table

@@ -3,7 +3,7 @@ ghost use Rattle.std.specs.Prelude.{◌≡◌, ◌<◌, ℕ, true, false, List, 
 ghost use Rattle.fileset_table.specs.declared.slot.TableFault.TheVariants as table_fault;
 ghost use Rattle.fileset_table.specs.Page.{IsTablePage};
 ghost use Rattle.fileset_table.specs.declared.slot.SlotItem.{SlotItem as SlotItemOf};
-ghost use Rattle.fileset_table.specs.Table.{IsAllowed, IsTable, Table, has_name, is_clone_of, is_fileset, is_original, with_slot};
+ghost use Rattle.fileset_table.specs.Table.{IsAllowed, IsSameFileset, IsTable, Table, has_name, is_clone_of, is_fileset, is_original, with_slot};
 ghost use Rattle.std.specs.List.{list_any};
 ghost use Rattle.std.specs.Option.{option_map_or};
 ghost use Rattle.fileset_table.specs.declared.slot.FilesetEntry.{FilesetEntry as FilesetEntryOf};
@@ -59,4 +59,12 @@ pub fn a_clone_joins()
         → option_map_or is_original (slice_get table.slots original) false ≡ true
         → list_any (is_clone_of original) table.slots ≡ false
         → IsTable (with_slot number (Clone original n entry) table) }
+{}
+
+/// The law that of a fileset all may change but its name and what it is: where its tag directory
+/// begins, its limits, the quota cell, and of a clone its number.
+pub fn a_fileset_changes()
+    ensures { (table : Table) (number : ℕ) (old item : SlotItemOf) → IsTable table
+        → slice_get table.slots number ≡ Some old → IsSameFileset old item → IsAllowed item
+        → IsTable (with_slot number item table) }
 {}
