@@ -337,15 +337,18 @@ fn once(alloc: Global, lines: &str) -> Result<bool, Fail> {
     Ok(are_once(alloc, &records)?)
 }
 
-/// A user and a group of one id are two owners.
+/// Whether owners come once: a user and a group of one id, a user twice, and a user without limits
+/// twice.
+fn each_once(alloc: Global) -> Result<[bool; 3], Fail> {
+    let apart = once(alloc, "user 7 1 1\nuser 8 1 1\ngroup 7 1 1")?;
+    let twice = once(alloc, "user 7 1 1\ngroup 7 1 1\nuser 8 1 1\nuser 7 1 1")?;
+    let without = once(alloc, "user 7 0 0\nuser 7 1 1")?;
+    Ok([apart, twice, without])
+}
+
 #[test]
 fn an_owner_that_comes_twice_is_told(rt: HostRuntime) -> Result<(), Fail> {
-    let alloc = rt.alloc();
-    let seen = [
-        once(alloc, "user 7 1 1\nuser 8 1 1\ngroup 7 1 1")?,
-        once(alloc, "user 7 1 1\ngroup 7 1 1\nuser 8 1 1\nuser 7 1 1")?,
-        once(alloc, "user 7 0 0\nuser 7 1 1")?,
-    ];
+    let seen = each_once(rt.alloc())?;
     assert_eq!(rt; seen, [true, false, false]);
     Ok(())
 }

@@ -3,7 +3,7 @@ ghost use Rattle.std.specs.Prelude.{◌<◌};
 
 use crate::lines::{page_of, put_line, reading, shown_table};
 use domain_base::{FilesetNo, Page};
-use fileset_table::{FilesetTable, SlotItem, written_and_read};
+use fileset_table::{FilesetTable, SlotItem, a_fileset_changes, written_and_read};
 use std::alloc::Global;
 use std::test::Fail;
 
@@ -38,11 +38,15 @@ made 3
 31 removed first - quota 1.2.27
 ";
 
+/// What the page says.
+fn table_read(alloc: Global) -> Result<String, Fail> {
+    let page = page_of(alloc, PAGE)?;
+    reading(alloc, &page)
+}
+
 #[test]
 fn a_table_that_was_written_by_hand(rt: HostRuntime) -> Result<(), Fail> {
-    let alloc = rt.alloc();
-    let page = page_of(alloc, PAGE)?;
-    let table = reading(alloc, &page)?;
+    let table = table_read(rt.alloc())?;
     assert_eq!(rt; table.as_str(), TABLE);
     Ok(())
 }
@@ -129,10 +133,15 @@ fn first_unlike(
 
 #[test]
 fn each_rule_is_broken_once(rt: HostRuntime) -> Result<(), Fail> {
-    let alloc = rt.alloc();
-    let broken = first_unlike(alloc, BROKEN, true)?;
-    let whole = first_unlike(alloc, WHOLE, false)?;
-    assert_eq!(rt; (broken, whole), (None, None));
+    let wrong = first_unlike(rt.alloc(), BROKEN, true)?;
+    assert_eq!(rt; wrong, None);
+    Ok(())
+}
+
+#[test]
+fn what_is_at_its_limit_is_whole(rt: HostRuntime) -> Result<(), Fail> {
+    let wrong = first_unlike(rt.alloc(), WHOLE, false)?;
+    assert_eq!(rt; wrong, None);
     Ok(())
 }
 
@@ -155,12 +164,17 @@ fn is_bad_with(alloc: Global, count: usize) -> Result<bool, Fail>
     Ok(reading(alloc, &page)?.as_str() == "bad")
 }
 
-/// Two filesets stand there, so there are 16 and then 17.
+/// Whether 16 filesets are bad, and 17: two stand there.
+fn are_bad(alloc: Global) -> Result<[bool; 2], Fail> {
+    let sixteen = is_bad_with(alloc, 14)?;
+    let seventeen = is_bad_with(alloc, 15)?;
+    Ok([sixteen, seventeen])
+}
+
 #[test]
 fn filesets_are_counted(rt: HostRuntime) -> Result<(), Fail> {
-    let alloc = rt.alloc();
-    let seen = (is_bad_with(alloc, 14)?, is_bad_with(alloc, 15)?);
-    assert_eq!(rt; seen, (false, true));
+    let seen = are_bad(rt.alloc())?;
+    assert_eq!(rt; seen, [false, true]);
     Ok(())
 }
 
@@ -179,13 +193,22 @@ fn table_there(alloc: Global) -> Result<FilesetTable, Fail> {
     FilesetTable::read(alloc, &page).map_err(|_| Fail::from("a table"))
 }
 
-/// Names are looked up, but not that of a fileset which is being removed.
+/// The slots of some names: two that are there, one of a fileset that is being removed, and others.
+fn all_found(table: &FilesetTable) -> [u32; 6] {
+    [
+        found(table, "home"),
+        found(table, "home.1"),
+        found(table, "old"),
+        found(table, ""),
+        found(table, "hom"),
+        found(table, "home.11"),
+    ]
+}
+
 #[test]
 fn names_are_found(rt: HostRuntime) -> Result<(), Fail> {
     let table = table_there(rt.alloc())?;
-    let names = ["home", "home.1", "old", "", "hom", "home.11"];
-    let seen = names.map(|name| found(&table, name));
-    assert_eq!(rt; seen, [0, 3, 99, 99, 99, 99]);
+    assert_eq!(rt; all_found(&table), [0, 3, 99, 99, 99, 99]);
     Ok(())
 }
 
@@ -226,5 +249,38 @@ made 9223372036854775807
 fn what_was_written_is_read(rt: HostRuntime) -> Result<(), Fail> {
     let again = read_again(rt.alloc())?;
     assert_eq!(rt; again.as_str(), AGAIN);
+    Ok(())
+}
+
+/// Forgets what is to be released of a fileset that is being removed.
+fn forget(table: &mut FilesetTable, number: FilesetNo) {
+    if let SlotItem::Removed { .. } = table.slot(number) {
+        a_fileset_changes();
+        let nothing = SlotItem::Removed {
+            first_tag: None,
+            quota: None,
+        };
+        table.set_slot(number, nothing);
+    }
+}
+
+/// The table of the page after that.
+fn table_after(alloc: Global) -> Result<String, Fail> {
+    let mut table = table_there(alloc)?;
+    forget(&mut table, FilesetNo::new(31).ok_or("a slot")?);
+    Ok(shown_table(alloc, &table)?)
+}
+
+static FORGOTTEN: &str = "
+made 3
+0 original home first 1.133 limits 2 32 quota 2.7.5
+3 clone 3 of 0 home.1 first 2.144 limits 0 0 quota -
+31 removed first - quota -
+";
+
+#[test]
+fn a_slot_is_set(rt: HostRuntime) -> Result<(), Fail> {
+    let after = table_after(rt.alloc())?;
+    assert_eq!(rt; after.as_str(), FORGOTTEN);
     Ok(())
 }
