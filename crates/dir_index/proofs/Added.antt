@@ -9,7 +9,7 @@ use Rattle.page_store.specs.Bitfiles.{Bitfiles, IsDirectory, insert_index, with_
 use Rattle.dir_index.specs.declared.entry.IndexEntry.{IndexEntry}
 use Rattle.dir_index.specs.Entries.{IsPlace, Rise, first_from, is_below}
 use Rattle.dir_index.specs.Index.{FirstPage, IsIndex, IsIndexPage, all_entries, entries_of, index_pages}
-use Rattle.dir_index.specs.Changes.{Adds, AddsEntry, InsertsPage, IsPageFor, OnlyIndex, PutsPage, Spreads, StartsHigh, with_index}
+use Rattle.dir_index.specs.Changes.{Adds, AddsEntry, InsertsPage, IsPageFor, PutsPage, Spreads, StartsHigh, with_index}
 use Rattle.dir_index.proofs.Orders.{all_both, none_from, rise_with}
 use Rattle.dir_index.proofs.Parts.{all-append, from_start, split_entries}
 use Rattle.dir_index.proofs.Removed.{all_drop, all_join, all_take, got_at}
@@ -78,9 +78,6 @@ module _ (dir : Tag) (number : ℕ) (old : Bitfiles) (directory : IsDirectory ol
   unchanged : old ≡ with_change dir (with_index index) old
   unchanged = same_pages dir old at.file at.is index (sym (index_of_file dir old at.file at.is))
 
-  pub only_same : (new : Bitfiles) → new ≡ old → OnlyIndex dir old new
-  only_same new same = only dir old at.file at.is index new (same ∙ unchanged)
-
   pub one_page : (list : List IndexEntry) (new : Bitfiles) → PutsPage dir number list old new → Spreads dir number list old new
   one_page list new puts = record {
     pages = puts.page ∷ [];
@@ -95,9 +92,6 @@ module _ (dir : Tag) (number : ℕ) (old : Bitfiles) (directory : IsDirectory ol
       changed ∙ change_is dir old at.file at.is (insert_index k page)
       ∙ ap (λ ps. with_file dir (with_index (take k ps ++ page ∷ drop k ps) at.file) old) (sym (index_of_file dir old at.file at.is))
       ∙ sym (change_is dir old at.file at.is (with_index (take k index ++ page ∷ drop k index)))
-
-  pub only_inserted : (k : ℕ) (part : List IndexEntry) (mid : Bitfiles) → InsertsPage dir k part old mid → OnlyIndex dir old mid
-  only_inserted k part mid inserts = only dir old at.file at.is (take k index ++ inserts.page ∷ drop k index) mid (insert_is k inserts.page mid inserts.changed)
 
   pub two_pages : (list : List IndexEntry) (half : ℕ) (mid new : Bitfiles) → number < length index → InsertsPage dir (number + 1) (drop half list) old mid → PutsPage dir number (take half list) mid new → Spreads dir number list old new
   two_pages list half mid new within inserts puts = record {
@@ -126,9 +120,6 @@ module _ (dir : Tag) (number : ℕ) (old : Bitfiles) (directory : IsDirectory ol
       all =
           (λ i. front i ++ puts.page ∷ rest i)
           ∙ sym (append_assoc (take number index) (puts.page ∷ inserts.page ∷ []) (drop (number + 1) index))
-
-pub only_put : (dir : Tag) (old mid new : Bitfiles) → IsDirectory old dir → OnlyIndex dir old mid → new ≡ mid → OnlyIndex dir old new
-only_put dir old mid new directory was same = subst (OnlyIndex dir old) (sym same) was
 
 -- ---- the entry among all of them
 

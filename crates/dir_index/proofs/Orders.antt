@@ -70,9 +70,6 @@ first-append key (x ∷ xs) ys = by_test (is_below x key) refl (first-append key
 pub or_none : (a b : Option IndexEntry) → a ≡ None → or_first a b ≡ b
 or_none a b none = ap (λ o. or_first o b) none
 
-pub or_some : (a b : Option IndexEntry) (e : IndexEntry) → a ≡ Some e → or_first a b ≡ Some e
-or_some a b e some = ap (λ o. or_first o b) some
-
 first_below : (key x : IndexEntry) (xs : List IndexEntry) → is_below x key ≡ true → first_from key (x ∷ xs) ≡ first_from key xs
 first_below key x xs below = ap (λ b. cond (not b) (Some x) (first_from key xs)) below
 

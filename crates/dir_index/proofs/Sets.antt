@@ -7,11 +7,10 @@ use Rattle.std.specs.List.{AllByRecursion}
 use Rattle.std.specs.Option.{IsSomeAnd, option_map_or}
 use Rattle.domain_base.specs.declared.place.Kind.TheVariants.{Directory}
 use Rattle.domain_base.specs.declared.place.Tag.{Tag}
-use Rattle.page_store.specs.Bitfiles.{Bitfile, Bitfiles, IsDirectory, count_index, put_index, same_tag, with_change, with_entry, with_file}
+use Rattle.page_store.specs.Bitfiles.{Bitfile, Bitfiles, IsDirectory, put_index, same_tag, with_change, with_entry, with_file}
 use Rattle.dir_index.specs.declared.entry.IndexEntry.{IndexEntry}
-use Rattle.dir_index.specs.Entries.{Rise}
-use Rattle.dir_index.specs.Index.{IsIndex, IsIndexPage, all_entries, entries_of, index_pages}
-use Rattle.dir_index.specs.Changes.{OnlyIndex, PutsPage, SetsEntries, with_index}
+use Rattle.dir_index.specs.Index.{IsIndexPage, all_entries, entries_of, index_pages}
+use Rattle.dir_index.specs.Changes.{OnlyIndex, PutsPage, with_index}
 use Rattle.dir_index.proofs.Parts.{all-append}
 
 same_itself : (tag : Tag) → same_tag tag tag ≡ true
@@ -71,10 +70,6 @@ module _ (dir : Tag) (old : Bitfiles) (file : Bitfile) (is : old dir ≡ Some fi
       put ∙ ap (λ (o : Option Bitfile). option_map_or (λ g. with_file dir (put_index number page g) mid) o mid) at
       ∙ ap (with_file dir (put_index number page f)) mid_is ∙ put_twice f (put_index number page f) ∙ sym (change_is (with_index (with_entry number page index)))
 
-  pub count_now : (index : List (List ℕ)) (mid : Bitfiles) → mid ≡ with_change dir (with_index index) old → count_index mid dir ≡ length index
-  count_now index mid was =
-      ap (λ (fs : Bitfiles). count_index fs dir) (was ∙ change_is (with_index index)) ∙ ap (λ (o : Option Bitfile). option_map_or (λ (f : Bitfile). length f.index) o 0) (there_now (with_index index file))
-
   pub directory_now : (index : List (List ℕ)) (mid : Bitfiles) → mid ≡ with_change dir (with_index index) old → file.kind ≡ Directory → IsDirectory mid dir
   directory_now index mid was kind =
       subst (λ (o : Option Bitfile). IsSomeAnd o (λ f. f.kind ≡ Directory)) (sym (ap (λ (fs : Bitfiles). fs dir) (was ∙ change_is (with_index index)) ∙ there_now (with_index index file))) kind
@@ -103,17 +98,6 @@ the_file dir files directory = by_file (files dir) refl directory
 pub index_of_file : (dir : Tag) (files : Bitfiles) (file : Bitfile) → files dir ≡ Some file → index_pages files dir ≡ file.index
 index_of_file dir files file is = ap (λ (o : Option Bitfile). option_map_or (λ (f : Bitfile). f.index) o []) is
 
-pub not_built : (dir : Tag) (list : List IndexEntry) (files : Bitfiles) → IsDirectory files dir → index_pages files dir ≡ [] → Built dir list 0 files files
-not_built dir list files directory none =
-    let at = the_file dir files directory in
-    record {
-      index = [];
-      changed = same_pages dir files at.file at.is [] (sym (index_of_file dir files at.file at.is) ∙ none);
-      long = refl;
-      good = tt;
-      read = let zero_times : 0 ≡ 1022 * 0 = omega arith in ap (λ n. take n list) zero_times;
-    }
-
 all_page_more : (xs : List (List ℕ)) (x : List ℕ) → AllByRecursion IsIndexPage xs → IsIndexPage x → AllByRecursion IsIndexPage (xs ++ x ∷ [])
 all_page_more [] x all one = (one, tt)
 all_page_more (y ∷ xs) x all one = (all.0, all_page_more xs x all.1 one)
@@ -141,26 +125,6 @@ built_more dir list part number from end old mid new directory was puts starts w
       read = all-append was.index (puts.page ∷ []) ∙ (λ i. was.read i ++ append-nil (entries_of puts.page) i) ∙ (λ i. take (sym starts i) list ++ puts.made.read i)
           ∙ ap (λ (es : List IndexEntry). take from list ++ es) is_part ∙ part_more list from end within is_end ∙ ap (λ n. take n list) next;
     }
-
-pub built_all : (dir : Tag) (list : List IndexEntry) (number : ℕ) (old new : Bitfiles) → IsDirectory old dir → Rise list → Built dir list number old new → 1 ≤ number → length list ≤ 1022 * number → SetsEntries dir list old new
-built_all dir list number old new directory rise built some ends =
-    let at = the_file dir old directory in
-    let now : index_pages new dir ≡ built.index = ap (λ (fs : Bitfiles). index_pages fs dir) built.changed ∙ pages_now dir old at.file at.is built.index in
-    let all : all_entries built.index ≡ list = built.read ∙ take_all (1022 * number) list ends in
-    record {
-      others = only dir old at.file at.is built.index new built.changed;
-      good = subst IsIndex (sym now) (record { some = omega (arith, built.long, some); pages = built.good; rise = subst Rise (sym all) rise });
-      entries = ap all_entries now ∙ all;
-    }
-
-pub built_only : (dir : Tag) (list : List IndexEntry) (number : ℕ) (old new : Bitfiles) → IsDirectory old dir → Built dir list number old new → OnlyIndex dir old new
-built_only dir list number old new directory built = let at = the_file dir old directory in only dir old at.file at.is built.index new built.changed
-
-pub built_count : (dir : Tag) (list : List IndexEntry) (number : ℕ) (old new : Bitfiles) → IsDirectory old dir → Built dir list number old new → count_index new dir ≡ number
-built_count dir list number old new directory built = let at = the_file dir old directory in count_now dir old at.file at.is built.index new built.changed ∙ built.long
-
-pub built_directory : (dir : Tag) (list : List IndexEntry) (number : ℕ) (old new : Bitfiles) → IsDirectory old dir → Built dir list number old new → IsDirectory new dir
-built_directory dir list number old new directory built = let at = the_file dir old directory in directory_now dir old at.file at.is built.index new built.changed at.kind
 
 -- ---- the directory stays one
 

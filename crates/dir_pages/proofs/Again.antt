@@ -39,9 +39,6 @@ len_passes name named =
     let b = list_all is_name_byte name in
     (and_parts a b (and_parts (a && b) (not (is_dots name)) named).0).0
 
-pub name_least : (name : List ℕ) → is_row_name name ≡ true → 1 ≤ length name
-name_least name named = leb-true 1 (length name) (and_parts (nat_le 1 (length name)) (nat_le (length name) 255) (len_passes name named)).0
-
 pub name_most : (name : List ℕ) → is_row_name name ≡ true → length name ≤ 255
 name_most name named = leb-true (length name) 255 (and_parts (nat_le 1 (length name)) (nat_le (length name) 255) (len_passes name named)).1
 
@@ -158,25 +155,6 @@ spelling-append (row ∷ rows) more =
 
 -- ---- the first row, and the others
 
-pub rows_split : (n : ℕ) (bytes : List ℕ) → ¬ n ≡ 0 → first_rows n bytes ≡ first_row bytes ∷ first_rows (n - 1) (other_rows bytes)
-rows_split zero bytes some = absurd (some refl)
-rows_split (suc n) bytes some = let e : suc n - 1 ≡ n = omega arith in ap (λ m. first_row bytes ∷ first_rows m (other_rows bytes)) (sym e)
-
-pub fit_first : (n : ℕ) (bytes : List ℕ) → ¬ n ≡ 0 → fit_rows n bytes ≡ true → 8 + name_len bytes ≤ length bytes
-fit_first zero bytes some fits = absurd (some refl)
-fit_first (suc n) bytes some fits =
-    leb-true (8 + name_len bytes) (length bytes) (and_parts (nat_le (8 + name_len bytes) (length bytes)) (fit_rows n (other_rows bytes)) fits).0
-
-pub fit_others : (n : ℕ) (bytes : List ℕ) → ¬ n ≡ 0 → fit_rows n bytes ≡ true → fit_rows (n - 1) (other_rows bytes) ≡ true
-fit_others zero bytes some fits = absurd (some refl)
-fit_others (suc n) bytes some fits =
-    let e : suc n - 1 ≡ n = omega arith in
-    ap (λ m. fit_rows m (other_rows bytes)) e ∙ (and_parts (nat_le (8 + name_len bytes) (length bytes)) (fit_rows n (other_rows bytes)) fits).1
-
-pub no_rows : (n : ℕ) (bytes : List ℕ) → n ≡ 0 → first_rows n bytes ≡ []
-no_rows zero bytes none = refl
-no_rows (suc n) bytes none = absurd (omega (arith, none))
-
 pub count_is : (n : ℕ) (bytes : List ℕ) → length (first_rows n bytes) ≡ n
 count_is zero bytes = refl
 count_is (suc n) bytes = ap suc (count_is n (other_rows bytes))
@@ -192,9 +170,3 @@ rows_go_on zero bytes some is = absurd (omega (arith, some))
 rows_go_on (suc n) bytes some is =
     let e : n ≡ suc n - 1 = omega arith in
     ap (λ b. b && are_rows n (other_rows bytes)) is ∙ ap (λ m. are_rows m (other_rows bytes)) e
-
-pub row_fits : (bytes : List ℕ) → is_row bytes ≡ true → 8 + name_len bytes ≤ length bytes
-row_fits bytes is =
-    let long = nat_le (8 + name_len bytes) (length bytes) in
-    let known = nat_le 1 (number_at 1 6 bytes) && nat_le (number_at 1 6 bytes) 2 in
-    leb-true (8 + name_len bytes) (length bytes) (and_parts long known (and_parts (long && known) (is_row_name (take (name_len bytes) (drop 8 bytes))) is).0).0
