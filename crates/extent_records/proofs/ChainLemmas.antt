@@ -22,7 +22,7 @@ none_there Absent e = refl
 none_there (At home) e = absurd (omega (arith, e))
 none_there Hole e = absurd (omega (arith, e))
 
-over_absent : (x : PagePlace) → over x Absent ≡ x
+pub over_absent : (x : PagePlace) → over x Absent ≡ x
 over_absent Absent = refl
 over_absent (At home) = refl
 over_absent Hole = refl

@@ -18,7 +18,7 @@ use Rattle.extent_records.proofs.RecordLemmas.{allowed_few}
 abbrev in_front : ℕ → Run → List Run
 in_front from run = cond (ltb run.page from) (front_of (min run.count (from - run.page)) run ∷ []) []
 
-rise_before : (most a b : ℕ) (runs : List Run) → b ≤ a → RisingFrom most a runs → RisingFrom most b runs
+pub rise_before : (most a b : ℕ) (runs : List Run) → b ≤ a → RisingFrom most a runs → RisingFrom most b runs
 rise_before most a b [] le h = tt
 rise_before most a b (r ∷ rs) le h = (omega (arith, le, h.0), h.1, h.2, h.3)
 

@@ -3,8 +3,10 @@ pub mod FewestLemmas
 pub mod WritingLemmas
 pub mod RecordLemmas
 pub mod FrontLemmas
+pub mod BackLemmas
 pub mod RowLemmas
 pub mod ChainLemmas
+pub mod PartingLemmas
 pub mod DenseLemmas
 pub mod ListingLemmas
 pub mod LeastLemmas

@@ -7,7 +7,7 @@ use Rattle.extent_maps.specs.Runs.{place_of, with_place}
 use Rattle.record_table.specs.declared.record.Record.{Record}
 use Rattle.record_table.specs.Records.{kind_of}
 use Rattle.extent_records.specs.Rows.{AreOneMap, IsPlaced, NoPageTwice, runs_in, runs_of}
-use Rattle.extent_records.specs.Writing.{CanSay, IsMapRecord, is_of_holes, most_rows, places_before, places_in}
+use Rattle.extent_records.specs.Writing.{CanSay, IsMapRecord, is_of_holes, most_rows, places_before, places_from, places_in}
 
 -- a record of a chain that does not have the page: if it has rows, they say where pages stand
 pub record CanTake (page : ℕ) (r : Record) : Type 0 where
@@ -84,6 +84,18 @@ pub record FollowsChange (records : List Record) (old new : Record) (after : Lis
 pub record ChangesChain (page : ℕ) (place : PagePlace) (old new : List Record) : Type 0 where
   pub one_map : AreOneMap new
   pub places : (p : ℕ) → place_of (runs_of new) p ≡ with_place page place (place_of (runs_of old)) p
+
+-- a chain whose map is that of another
+pub record KeepsMap (old new : List Record) : Type 0 where
+  pub one_map : AreOneMap new
+  pub same : (p : ℕ) → place_of (runs_of new) p ≡ place_of (runs_of old) p
+
+-- two records of which one has the pages of another in front of one, and the second those from it on
+pub record ArePartsOf (from : ℕ) (whole front tail : Record) : Type 0 where
+  pub front_map : IsMapRecord front
+  pub tail_map : IsMapRecord tail
+  pub front_places : (p : ℕ) → places_in front p ≡ places_before from (places_in whole) p
+  pub tail_places : (p : ℕ) → places_in tail p ≡ places_from from (places_in whole) p
 
 -- a record that has of another the pages in front of one, where the other has them
 pub record IsCutRecord (from : ℕ) (old new : Record) : Type 0 where

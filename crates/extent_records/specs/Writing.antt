@@ -67,6 +67,10 @@ places_in r = place_of (runs_in r)
 abbrev pub places_before : ℕ → Places → Places
 places_before from places page = if nat_lt page from then places page else Absent
 
+-- the places of the pages from one on
+abbrev pub places_from : ℕ → Places → Places
+places_from from places page = if nat_lt page from then Absent else places page
+
 -- a record of that kind, as the format allows it, that has each page at its place
 pub record SaysPlaces (kind : ℕ) (places : Places) (r : Record) : Type 0 where
   pub of_kind : kind_of r ≡ kind

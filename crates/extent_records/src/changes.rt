@@ -4,7 +4,7 @@ ghost use Rattle.extent_maps.specs.declared.run.PagePlace.TheVariants.{Absent, A
 ghost use Rattle.extent_maps.specs.Runs.{SamePlaces, home_at, place_of, with_place};
 ghost use Rattle.record_table.specs.Records.{kind_of};
 ghost use Rattle.extent_records.specs.Rows.{runs_in};
-ghost use Rattle.extent_records.specs.Writing.{IsLeastRecord, IsMapRecord, Rewrites, Suits, is_of_holes, most_rows, places_before, places_in, rows_for};
+ghost use Rattle.extent_records.specs.Writing.{IsLeastRecord, IsMapRecord, Rewrites, Suits, is_of_holes, most_rows, places_before, places_from, places_in, rows_for};
 
 use crate::reading::put_record;
 use crate::writing::with_runs;
@@ -124,5 +124,20 @@ pub fn cut_from(alloc: Global, value: &mut Record, from: u32) -> Result<(), OutO
     let mut map = map_of(alloc, value)?;
     map.split_tail(alloc, from)?;
     write_map(value, &map);
+    Ok(())
+}
+
+/// Takes all pages in front of one off: what is left always has room. So a copy of a record that has
+/// no room for a change takes one of its halves, and `cut_from` leaves it the other. After an error
+/// nothing has changed.
+pub fn cut_to(alloc: Global, value: &mut Record, to: u32) -> Result<(), OutOfMemory>
+    requires { IsMapRecord value.old }
+    ensures ok { OnOk result (IsLeastRecord (kind_of value.old)
+        (places_from to (places_in value.old)) value.new) }
+    ensures err { OnErr result (value.new ≡ value.old) }
+{
+    let mut map = map_of(alloc, value)?;
+    let tail = map.split_tail(alloc, to)?;
+    write_map(value, &tail);
     Ok(())
 }

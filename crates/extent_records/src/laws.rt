@@ -1,12 +1,12 @@
 //! What the change of one record does to the map of its chain.
-ghost use Rattle.std.specs.Prelude.{◌≡◌, ◌<◌, ◌⊎◌, ℕ, List, length, get_or, slice_set};
+ghost use Rattle.std.specs.Prelude.{◌≡◌, ◌<◌, ◌⊎◌, ◌++◌, ◌∷◌, [], ℕ, List, length, get_or, slice_set};
 ghost use Rattle.extent_maps.specs.declared.run.PagePlace.{PagePlace};
 ghost use Rattle.extent_maps.specs.declared.run.PagePlace.TheVariants.{Absent};
 ghost use Rattle.extent_maps.specs.Runs.{place_of, with_place};
 ghost use Rattle.record_table.specs.declared.record.Record.{Record};
 ghost use Rattle.extent_records.specs.Rows.{AreOneMap, runs_of};
 ghost use Rattle.extent_records.specs.Writing.{IsMapRecord, places_in};
-ghost use Rattle.extent_records.specs.Chains.{AreCutRecords, ChangesAlone, ChangesChain, CutsChain, FollowsChange};
+ghost use Rattle.extent_records.specs.Chains.{ArePartsOf, AreCutRecords, ChangesAlone, ChangesChain, CutsChain, FollowsChange, KeepsMap};
 
 /// One record of a chain is changed, and no other has a page that has another place then. The
 /// records say one map again, which is changed at these pages alone.
@@ -38,4 +38,13 @@ pub fn a_chain_shows_its_records()
 pub fn cut_records_cut_the_map()
     ensures { (from : ℕ) (old new : List Record) → AreOneMap old → AreCutRecords from old new
         → CutsChain from old new }
+{}
+
+/// A record of a chain is parted at a page: one with the pages in front of it stands in its place,
+/// and one with the others behind all records. The chain's map stays.
+pub fn parts_of_a_record_keep_the_map()
+    ensures { (records : List Record) (i : ℕ) (whole front tail : Record) (from : ℕ)
+        → i < length records → get_or records i whole ≡ whole → AreOneMap records
+        → ArePartsOf from whole front tail
+        → KeepsMap records (slice_set records i front ++ tail ∷ []) }
 {}

@@ -10,11 +10,12 @@ mod reading;
 mod rows;
 mod writing;
 
-pub use changes::{cut_from, cut_page, keep_hole, put_page, switch_page};
+pub use changes::{cut_from, cut_page, cut_to, keep_hole, put_page, switch_page};
 pub use choosing::{record_for, record_for_hole};
 pub use dense::as_dense;
 pub use laws::{
     a_chain_shows_its_records, cut_records_cut_the_map, one_page_changes, one_record_changes,
+    parts_of_a_record_keep_the_map,
 };
 pub use listing::map_records;
 pub use reading::read_map;
