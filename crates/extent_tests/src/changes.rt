@@ -8,8 +8,8 @@ use domain_base::limits::FILE_PAGES;
 use domain_base::{Home, OutOfMemory, Version};
 use extent_maps::PagePlace;
 use extent_records::{
-    cut_from, cut_page, empty_extents, empty_holes, empty_short, keep_hole, place_in, put_page,
-    switch_page, used_rows,
+    cut_from, cut_page, cut_to, empty_extents, empty_holes, empty_short, keep_hole, place_in,
+    put_page, switch_page, used_rows,
 };
 use record_table::Record;
 use std::alloc::Global;
@@ -150,6 +150,22 @@ fn cut_rest(
     Ok(true)
 }
 
+/// Takes the pages in front of one off.
+fn cut_front(
+    alloc: Global,
+    value: &mut Record,
+    list: &mut Vec<Entry>,
+    to: u32,
+) -> Result<bool, Fail>
+    requires { IsMapRecord value.old }
+    ensures is_map { OnOk result (IsMapRecord value.new) }
+    ensures kind { OnOk result (kind_of value.new ≡ kind_of value.old) }
+{
+    cut_to(alloc, value, to)?;
+    list.retain(|entry| to <= entry.page);
+    Ok(true)
+}
+
 /// One call on a record of extents and on the list, and whether they agree.
 fn step_extents(
     alloc: Global,
@@ -168,8 +184,9 @@ fn step_extents(
     match random.next() % 32 {
         0..=15 => put(alloc, value, list, rows, page, &home),
         16..=23 => cut(alloc, value, list, rows, page),
-        24..=30 => switch(alloc, value, list, rows, page, &home),
-        _ => cut_rest(alloc, value, list, page),
+        24..=29 => switch(alloc, value, list, rows, page, &home),
+        30 => cut_rest(alloc, value, list, page),
+        _ => cut_front(alloc, value, list, page),
     }
 }
 
@@ -189,8 +206,9 @@ fn step_holes(
     let page = some_page(random);
     match random.next() % 32 {
         0..=19 => keep(alloc, value, list, rows, page),
-        20..=30 => cut(alloc, value, list, rows, page),
-        _ => cut_rest(alloc, value, list, page),
+        20..=29 => cut(alloc, value, list, rows, page),
+        30 => cut_rest(alloc, value, list, page),
+        _ => cut_front(alloc, value, list, page),
     }
 }
 

@@ -8,8 +8,8 @@ use domain_base::limits::FILE_PAGES;
 use domain_base::{Home, Version, VolIx};
 use extent_maps::{ExtentMap, PagePlace, Run, RunPlace};
 use extent_records::{
-    cut_page, empty_extents, empty_holes, empty_short, map_records, place_in, put_page, read_map,
-    record_for, record_for_hole, used_rows,
+    cut_from, cut_page, cut_to, empty_extents, empty_holes, empty_short, map_records, place_in,
+    put_page, read_map, record_for, record_for_hole, used_rows,
 };
 use record_table::{ExtentField, Record};
 use std::alloc::Global;
@@ -114,6 +114,27 @@ fn a_full_record_is_not_split(rt: HostRuntime) -> Result<(), Fail> {
     assert_eq!(rt;
         (no, full.as_slice(), yes, more.as_slice()),
         (false, want.as_slice(), true, want_more.as_slice())
+    );
+    Ok(())
+}
+
+/// The rows of a full record's two parts, parted in the middle of its first row.
+fn parts(alloc: Global) -> Result<(Vec<[u32; 4]>, Vec<[u32; 4]>), Fail> {
+    let mut front = filled(alloc, &empty_short(Version::Three), &FOUR_ROWS)?;
+    let mut tail = front;
+    cut_from(alloc, &mut front, 2)?;
+    cut_to(alloc, &mut tail, 2)?;
+    Ok((listed(alloc, &front)?, listed(alloc, &tail)?))
+}
+
+/// A full record is parted in two, of which each is one of its kind.
+#[test]
+fn a_full_record_is_parted(rt: HostRuntime) -> Result<(), Fail> {
+    let (front, tail) = parts(rt.alloc())?;
+    let want_tail = [[2, 1, 1, 12], [10, 1, 2, 5], [20, 1, 2, 7], [30, 1, 2, 9]];
+    assert_eq!(rt;
+        (front.as_slice(), tail.as_slice()),
+        ([[0, 2, 1, 10]].as_slice(), want_tail.as_slice())
     );
     Ok(())
 }
