@@ -7,6 +7,7 @@ use Rattle.domain_base.specs.declared.place.CellAt.{CellAt}
 use Rattle.domain_base.specs.declared.place.Home.{Home}
 use Rattle.domain_base.specs.declared.place.Tag.{Tag}
 use Rattle.page_store.specs.Pages.{Pages, same_home}
+use Rattle.record_table.specs.declared.record.Record.{Record}
 use Rattle.record_table.specs.declared.record.Record.TheVariants.{Pending}
 use Rattle.record_table.specs.declared.record.Leftover.TheVariants.{Remove}
 use Rattle.record_table.specs.Fields.{number_at}
@@ -17,10 +18,11 @@ use Rattle.bmt_mcells.proofs.Changed.{homes_same}
 use Rattle.tag_dirs.specs.declared.dir.TagPlace.{TagPlace}
 use Rattle.tag_dirs.specs.Directory.{IsDirectory, IsPageOf, SetsTag, cell_of, has_home}
 use Rattle.extent_records.specs.Writing.{most_rows}
-use Rattle.bitfile_cells.specs.Files.{AreFile, IsFile}
+use Rattle.bitfile_cells.specs.Changes.{with_record}
+use Rattle.bitfile_cells.specs.Files.{AreFile, IsFile, has_rows}
 use Rattle.bitfile_cells.proofs.MapRecords.{value_has_rows}
 use Rattle.bitfile_core.specs.Files.{AreFiles, Chains, HasFirstKinds, IsLiveCell, LeadsToFile, attributes_of, is_first_kind}
-use Rattle.bitfile_core.specs.Changes.{ChangesBeside, HasFirstRoom, is_first, is_page_of_first, IsLive, Removes, says_removed, with_chain, with_first}
+use Rattle.bitfile_core.specs.Changes.{ChangesBeside, ChangesFirst, HasFirstRoom, is_first, is_page_of_first, IsLive, Removes, says_removed, with_chain, with_first}
 use Rattle.bitfile_core.proofs.FirstCell.{file_now, find_other}
 use Rattle.bitfile_core.proofs.FirstRoom.{kinds_replaced}
 use Rattle.bitfile_core.proofs.Live.{live_none, live_some}
@@ -92,27 +94,32 @@ module _ (pages : Pages) (fileset : ℕ) (places : List TagPlace) (tag : Tag) (c
     kinds = the_first.kinds;
   }
 
-  module _ (mid : Pages) (stands : StandsAt mid at (says_removed the_first.first.cell)) (leaves : LeavesOthers (is_at at) pages mid) (elsewhere : (home : Home) → same_home home (home_of at) ≡ false → mid home ≡ pages home) where
+  pub first_beside : (mid : Pages) → LeavesOthers (is_at at) pages mid → ((home : Home) → same_home home (home_of at) ≡ false → mid home ≡ pages home) → ChangesFirst (chains tag) pages mid
+  first_beside mid leaves elsewhere =
+      subst (λ o. ChangesFirst o pages mid) (sym the_first.is)
+      (subst (λ (a : CellAt). LeavesOthers (is_at a) pages mid × ((home : Home) → same_home home (home_of a) ≡ false → mid home ≡ pages home)) (sym the_first.is_at) (leaves, elsewhere))
+
+  module _ (value : Record) (first_kind : is_first_kind (kind_of value) ≡ true) (no_rows : has_rows value ≡ false) (other : ¬ 1 ≡ kind_of value) (mid : Pages) (stands : StandsAt mid at (with_record (kind_of value) (Some value) the_first.first.cell)) (leaves : LeavesOthers (is_at at) pages mid) (elsewhere : (home : Home) → same_home home (home_of at) ≡ false → mid home ≡ pages home) where
     now_first : PlacedCell
-    now_first = record { at = the_first.first.at; cell = says_removed the_first.first.cell }
+    now_first = record { at = the_first.first.at; cell = with_record (kind_of value) (Some value) the_first.first.cell }
 
     leaves_first : LeavesOthers (is_at the_first.first.at) pages mid
     leaves_first = subst (λ (a : CellAt). LeavesOthers (is_at a) pages mid) (sym the_first.is_at) leaves
 
-    file_mid : AreFile mid (record { at = the_first.first.at; cell = says_removed the_first.first.cell }) the_first.rest
+    file_mid : AreFile mid (record { at = the_first.first.at; cell = with_record (kind_of value) (Some value) the_first.first.cell }) the_first.rest
     file_mid =
-        file_now pages mid the_first.first the_first.rest 6 (Some (Pending Remove)) the_first.file leaves_first
-        (subst (λ (a : CellAt). StandsAt mid a (says_removed the_first.first.cell)) (sym the_first.is_at) stands) refl refl
-        (λ kind. true≢false (sym (value_has_rows the_first.file.value the_first.file.map.is_map) ∙ ap (λ k. nat_le 1 (most_rows k)) kind))
-        (subst (λ o. IsSome o) (sym (find_other 6 1 (Some (Pending Remove)) the_first.first.cell.records (λ is. omega (arith, is)) refl)) the_first.file.attributes)
+        file_now pages mid the_first.first the_first.rest (kind_of value) (Some value) the_first.file leaves_first
+        (subst (λ (a : CellAt). StandsAt mid a (with_record (kind_of value) (Some value) the_first.first.cell)) (sym the_first.is_at) stands) refl no_rows
+        (λ kind. true≢false (sym (value_has_rows the_first.file.value the_first.file.map.is_map) ∙ ap (λ k. nat_le 1 (most_rows k)) kind ∙ no_rows))
+        (subst (λ o. IsSome o) (sym (find_other (kind_of value) 1 (Some value) the_first.first.cell.records other refl)) the_first.file.attributes)
 
-    pub files_mid : AreFiles fileset places mid (with_chain tag (with_first says_removed) chains)
+    pub files_mid : AreFiles fileset places mid (with_chain tag (with_first (with_record (kind_of value) (Some value))) chains)
     files_mid =
-        files_now says_removed tag chains pages mid fileset places are the_first.first the_first.rest the_first.is the_first.file.links.stands.bytes the_first.file.links.stands.there leaves_first
+        files_now (with_record (kind_of value) (Some value)) tag chains pages mid fileset places are the_first.first the_first.rest the_first.is the_first.file.links.stands.bytes the_first.file.links.stands.there leaves_first
         (subst (λ (a : CellAt). (home : Home) → same_home home (home_of a) ≡ false → mid home ≡ pages home) (sym the_first.is_at) elsewhere) file_mid refl
-        (kinds_replaced 6 (Some (Pending Remove)) the_first.first.cell.records the_first.kinds refl)
+        (kinds_replaced (kind_of value) (Some value) the_first.first.cell.records the_first.kinds first_kind)
 
-    pub used_mid : IsSome (cell_of mid places tag)
+    used_mid : IsSome (cell_of mid places tag)
     used_mid =
         let led = subst (λ o. IfSome o (LeadsToFile fileset places pages tag)) the_first.is (are.some tag) in
         subst (λ o. IsSome o)
@@ -124,18 +131,32 @@ module _ (pages : Pages) (fileset : ℕ) (places : List TagPlace) (tag : Tag) (c
         by_cell None leads = absurd leads
         by_cell (Some a) leads = refl
 
+  -- the record says that the file is to be removed
+  module _ (mid : Pages) (stands : StandsAt mid at (says_removed the_first.first.cell)) (leaves : LeavesOthers (is_at at) pages mid) (elsewhere : (home : Home) → same_home home (home_of at) ≡ false → mid home ≡ pages home) where
+    not_first : ¬ 1 ≡ kind_of (Pending Remove)
+    not_first is = omega (arith, is)
+
+    removed_file : AreFile mid (record { at = the_first.first.at; cell = says_removed the_first.first.cell }) the_first.rest
+    removed_file = file_mid (Pending Remove) refl refl not_first mid stands leaves elsewhere
+
+    pub removed_files : AreFiles fileset places mid (with_chain tag (with_first says_removed) chains)
+    removed_files = files_mid (Pending Remove) refl refl not_first mid stands leaves elsewhere
+
+    pub removed_used : IsSome (cell_of mid places tag)
+    removed_used = used_mid (Pending Remove) refl refl not_first mid stands leaves elsewhere
+
     module _ (new : Pages) (sets : SetsTag tag None places mid new) where
       pub removes : Removes fileset places tag at chains new
       removes = record {
-        files = files_without mid new fileset places tag chains says_removed files_mid are.apart sets;
+        files = files_without mid new fileset places tag chains says_removed removed_files are.apart sets;
         pending = subst (λ o. IsSomeAnd o (λ cells. IsFile new at (with_first says_removed cells))) (sym the_first.is)
-            (is_file_kept mid new places files_mid.directory sets.elsewhere at (record { at = the_first.first.at; cell = says_removed the_first.first.cell } ∷ the_first.rest) (the_first.is_at, file_mid));
+            (is_file_kept mid new places removed_files.directory sets.elsewhere at (record { at = the_first.first.at; cell = says_removed the_first.first.cell } ∷ the_first.rest) (the_first.is_at, removed_file));
       }
 
       pub beside : ChangesBeside places (chains tag) pages new
       beside = record {
         cells = subst (λ o. IfSome o (λ cells. (q : CellAt) → is_first q cells ≡ false → cell_at new q ≡ cell_at pages q)) (sym the_first.is)
-            (λ q other. cells_beside mid new places files_mid.directory sets.directory sets.elsewhere q ∙ leaves_first q other);
+            (λ q other. cells_beside mid new places removed_files.directory sets.directory sets.elsewhere q ∙ leaves_first (Pending Remove) refl refl not_first mid stands leaves elsewhere q other);
         pages = subst (λ o. IfSome o (λ cells. (home : Home) → has_home places home ≡ false → is_page_of_first home cells ≡ false → new home ≡ pages home)) (sym the_first.is)
             (λ home none other. sets.elsewhere home none ∙ elsewhere home (subst (λ (a : CellAt). same_home home (home_of a) ≡ false) the_first.is_at other));
       }

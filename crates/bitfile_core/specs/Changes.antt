@@ -66,6 +66,10 @@ pub record CanSay (value : Attributes) (tag : Tag) (chains : Chains) : Type 0 wh
 abbrev pub without_chain : Tag → Chains → Chains
 without_chain tag chains = λ t. if same_tag t tag then None else chains t
 
+-- a first cell that says in which directory the one that it is of stands
+abbrev pub says_parent : Tag → Cell → Cell
+says_parent parent cell = with_record 10 (Some (written.Parent parent.slot parent.seq)) cell
+
 -- a first cell that says that the file is to be removed
 abbrev pub says_removed : Cell → Cell
 says_removed cell = with_record 6 (Some (written.Pending Remove)) cell

@@ -1,5 +1,5 @@
 //! The files of a fileset, looked at.
-ghost use Rattle.std.specs.Prelude.{◌≡◌, ℕ, IfOk, List, OnErr, OnOk, false};
+ghost use Rattle.std.specs.Prelude.{◌≡◌, ℕ, IfOk, List, OnErr, OnOk, Some, true, false};
 ghost use Rattle.std.specs.Option.{option_and_then};
 ghost use Rattle.domain_base.specs.declared.place.Home.{Home as HomeOf};
 ghost use Rattle.page_store.specs.Pages.{same_home};
@@ -8,8 +8,10 @@ ghost use Rattle.bmt_mcells.specs.CellPage.{KeepsHeaders, KeepsWellFormed, home_
 ghost use Rattle.bmt_mcells.specs.Chain.{LeavesOthers, PlacedCell, StandsAt, is_at};
 ghost use Rattle.extent_maps.specs.Runs.{place_of};
 ghost use Rattle.bitfile_cells.specs.Files.{HasFile, IsFile};
-ghost use Rattle.bitfile_core.specs.Changes.{CanSay, ChangesBeside, ChangesFirst, HasFirstRoom, IsLive, Removes, says_attributes, says_removed, with_chain, with_first};
-ghost use Rattle.bitfile_core.specs.Files.{AreFiles, Chains, HasFiles, IsLiveCell, attributes_of, first_record as first_there, is_removed, keep_of, of_live, place_at};
+ghost use Rattle.record_table.specs.Records.{Allowed, kind_of};
+ghost use Rattle.bitfile_cells.specs.Changes.{with_record};
+ghost use Rattle.bitfile_core.specs.Changes.{CanSay, ChangesBeside, ChangesFirst, HasFirstRoom, IsLive, Removes, says_attributes, says_parent, says_removed, with_chain, with_first};
+ghost use Rattle.bitfile_core.specs.Files.{AreFiles, Chains, HasFiles, IsLiveCell, attributes_of, first_record as first_there, is_first_kind, is_removed, keep_of, of_live, place_at};
 
 use crate::attributes::{Attributes, read_attributes, read_keep, says_remove, with_attributes};
 use bitfile_cells::{find_place, read_file_map, set_record};
@@ -48,6 +50,30 @@ fn is_pending<M: MetaPages>(pages: &M, at: &CellAt) -> bool
     }
 }
 
+/// Puts a record in the first cell of a file, in place of the one of its kind if that has one.
+fn set_first<M: MetaPages>(
+    alloc: Global,
+    pages: &mut M,
+    at: &CellAt,
+    value: &Record,
+) -> Result<(), OutOfMemory>
+    requires room { HasFirstRoom (M.pages pages.old) at.now }
+    requires kind { is_first_kind (kind_of value.now) ≡ true }
+    requires allowed { Allowed value.now }
+    ensures ok { (cell : Cell) → StandsAt (M.pages pages.old) at.now cell
+        → OnOk result (StandsAt (M.pages pages.new) at.now
+        (with_record (kind_of value.now) (Some value.now) cell)) }
+    ensures err { OnErr result (M.pages pages.new ≡ M.pages pages.old) }
+    ensures others { LeavesOthers (is_at at.now) (M.pages pages.old) (M.pages pages.new) }
+    ensures well_formed { KeepsWellFormed (M.pages pages.old) (M.pages pages.new) }
+    ensures headers { KeepsHeaders (M.pages pages.old) (M.pages pages.new) }
+    ensures elsewhere { (home : HomeOf) → same_home home (home_there at.now) ≡ false
+        → M.pages pages.new home ≡ M.pages pages.old home }
+    ensures room { M.room pages.new ≡ M.room pages.old }
+{
+    set_record(alloc, pages, *at, value)
+}
+
 /// Says in a file's first cell that the file is to be removed.
 fn set_pending<M: MetaPages>(alloc: Global, pages: &mut M, at: &CellAt) -> Result<(), OutOfMemory>
     requires { HasFirstRoom (M.pages pages.old) at.now }
@@ -62,7 +88,34 @@ fn set_pending<M: MetaPages>(alloc: Global, pages: &mut M, at: &CellAt) -> Resul
     let value = Record::Pending {
         what: Leftover::Remove,
     };
-    set_record(alloc, pages, *at, &value)
+    set_first(alloc, pages, at, &value)
+}
+
+/// Says in a directory's first cell in which directory it stands.
+fn put_parent<M: MetaPages>(
+    alloc: Global,
+    pages: &mut M,
+    at: &CellAt,
+    parent: &Tag,
+) -> Result<(), OutOfMemory>
+    requires { HasFirstRoom (M.pages pages.old) at.now }
+    ensures ok { (cell : Cell) → StandsAt (M.pages pages.old) at.now cell
+        → OnOk result (StandsAt (M.pages pages.new) at.now (says_parent parent.now cell)) }
+    ensures err { OnErr result (M.pages pages.new ≡ M.pages pages.old) }
+    ensures others { LeavesOthers (is_at at.now) (M.pages pages.old) (M.pages pages.new) }
+    ensures well_formed { KeepsWellFormed (M.pages pages.old) (M.pages pages.new) }
+    ensures headers { KeepsHeaders (M.pages pages.old) (M.pages pages.new) }
+    ensures elsewhere { (home : HomeOf) → same_home home (home_there at.now) ≡ false
+        → M.pages pages.new home ≡ M.pages pages.old home }
+    ensures room { M.room pages.new ≡ M.room pages.old }
+{
+    prove!(parent.slot <= u32::MAX);
+    prove!(parent.seq <= u16::MAX);
+    let value = Record::Parent {
+        slot: parent.slot,
+        seq: parent.seq,
+    };
+    set_first(alloc, pages, at, &value)
 }
 
 impl Bitfiles {
@@ -176,6 +229,37 @@ impl Bitfiles {
         };
         set_record(alloc, pages, at, &with_attributes(&was, value))
     }
+    /// Says of the directory that a live tag names in which directory it stands. Every other file
+    /// stays, and all else of this one. After an error nothing has changed.
+    pub fn set_parent<M: MetaPages>(
+        &self,
+        alloc: Global,
+        pages: &mut M,
+        tag: Tag,
+        parent: Tag,
+    ) -> Result<(), OutOfMemory>
+        requires files { HasFiles self.now.fileset self.now.tags (M.pages pages.old) }
+        requires live { (chains : Chains)
+            → AreFiles self.now.fileset self.now.tags (M.pages pages.old) chains
+            → IsLive tag chains }
+        ensures ok { (chains : Chains)
+            → AreFiles self.now.fileset self.now.tags (M.pages pages.old) chains
+            → OnOk result (AreFiles self.now.fileset self.now.tags (M.pages pages.new)
+            (with_chain tag (with_first (says_parent parent)) chains)) }
+        ensures err { OnErr result (M.pages pages.new ≡ M.pages pages.old) }
+        ensures beside { (chains : Chains)
+            → AreFiles self.now.fileset self.now.tags (M.pages pages.old) chains
+            → ChangesFirst (chains tag) (M.pages pages.old) (M.pages pages.new) }
+        ensures well_formed { KeepsWellFormed (M.pages pages.old) (M.pages pages.new) }
+        ensures headers { KeepsHeaders (M.pages pages.old) (M.pages pages.new) }
+        ensures room { M.room pages.new ≡ M.room pages.old }
+    {
+        match self.live_cell(pages, tag) {
+            Some(at) => put_parent(alloc, pages, &at, &parent),
+            None => Ok(()),
+        }
+    }
+
     /// Takes a live tag out of use: its file or directory is to be removed, which its first cell says,
     /// and nothing of it goes yet. It answers that cell. Every other file stays. After an error nothing
     /// has changed.

@@ -2,7 +2,7 @@ use Rattle.std.proofs.Common.{subst}
 use Rattle.domain_base.specs.declared.place.CellAt.{CellAt}
 use Rattle.bmt_mcells.specs.Chain.{StandsAt}
 use Rattle.bitfile_core.specs.Files.{IsLiveCell}
-use Rattle.bitfile_core.proofs.RemoveFile.{beside, files_mid, no_live, removes, room, the_first, used_mid}
+use Rattle.bitfile_core.proofs.RemoveFile.{beside, removed_files, no_live, removes, room, the_first, removed_used}
 use Rattle.bitfile_core.proofs.bitfiles.Bitfiles.remove.Goals as goal
 
 pub returns-in_default-clause-beside : goal.returns-in_default-clause-beside
@@ -27,7 +27,7 @@ drop_tag-requires-clause-directory g c =
     let live = subst (IsLiveCell pages (chains c.args.tag)) c.in-Some.is (c.live_cell.ensures chains are) in
     let of = the_first pages fileset places c.args.tag chains c.in-Some.at are live in
     let stands = c.in_ok-set_pending.ensures.ok of.first.cell (subst (λ (a : CellAt). StandsAt pages a of.first.cell) of.is_at of.file.links.stands) in
-    let now = files_mid pages fileset places c.args.tag chains c.in-Some.at are live (g.M.MetaPages.pages c.set_pending.new.pages) stands c.set_pending.ensures.others c.set_pending.ensures.elsewhere in
+    let now = removed_files pages fileset places c.args.tag chains c.in-Some.at are live (g.M.MetaPages.pages c.set_pending.new.pages) stands c.set_pending.ensures.others c.set_pending.ensures.elsewhere in
     now.directory
 
 pub drop_tag-requires-clause-used : goal.drop_tag-requires-clause-used
@@ -40,7 +40,7 @@ drop_tag-requires-clause-used g c =
     let live = subst (IsLiveCell pages (chains c.args.tag)) c.in-Some.is (c.live_cell.ensures chains are) in
     let of = the_first pages fileset places c.args.tag chains c.in-Some.at are live in
     let stands = c.in_ok-set_pending.ensures.ok of.first.cell (subst (λ (a : CellAt). StandsAt pages a of.first.cell) of.is_at of.file.links.stands) in
-    used_mid pages fileset places c.args.tag chains c.in-Some.at are live (g.M.MetaPages.pages c.set_pending.new.pages) stands c.set_pending.ensures.others c.set_pending.ensures.elsewhere
+    removed_used pages fileset places c.args.tag chains c.in-Some.at are live (g.M.MetaPages.pages c.set_pending.new.pages) stands c.set_pending.ensures.others c.set_pending.ensures.elsewhere
 
 pub returns-clause-ok : goal.returns-clause-ok
 returns-clause-ok g c = λ chains are.
