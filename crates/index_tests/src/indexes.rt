@@ -92,8 +92,8 @@ fn entries_stand_in_their_order(rt: HostRuntime) -> Result<(), Fail> {
     Ok(())
 }
 
-/// How many of 1,200 entries are found after all were added, how many index pages there are, and how
-/// many are removed and then found after every second was removed.
+/// How many of 1,200 entries are found after all were added, which index pages there are, and how
+/// many are removed and are then found after every second was removed.
 fn spread(alloc: Global) -> Result<([u32; 3], [bool; 3]), Fail> {
     let mut set = indexed(alloc, &[])?;
     add_all(&mut set, alloc, ROOT, 1_200)?;
