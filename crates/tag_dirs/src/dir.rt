@@ -129,7 +129,8 @@ impl TagDir {
         }) self.old (M.pages pages.old) (M.pages pages.new)) }
         ensures err { OnErr result ((self.new ≡ self.old)
             × (M.pages pages.new ≡ M.pages pages.old)) }
-        ensures room { M.room pages.old ≤ M.room pages.new + 1 }
+        ensures room { OnOk result (M.room pages.old ≤ M.room pages.new + 1) }
+        ensures kept { OnErr result (M.room pages.old ≤ M.room pages.new) }
     {
         let page = new_page(alloc, index)?;
         pages.reserve(alloc, 1)?;
