@@ -18,7 +18,7 @@ use Rattle.bitfile_cells.specs.Allocated.{AreAllocated}
 use Rattle.bitfile_cells.proofs.Spaces.{can_before, held_still, not_held}
 
 -- what stands within a list is the same whatever stands for one past its end
-there_is : {X : Type 0} (xs : List X) (k : ℕ) (a b : X) → k < length xs → get_or xs k a ≡ get_or xs k b
+pub there_is : {X : Type 0} (xs : List X) (k : ℕ) (a b : X) → k < length xs → get_or xs k a ≡ get_or xs k b
 there_is [] k a b within = absurd (omega (arith, within))
 there_is (x ∷ xs) zero a b within = refl
 there_is (x ∷ xs) (suc k) a b within = there_is xs k a b (omega (arith, within))

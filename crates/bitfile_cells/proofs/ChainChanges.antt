@@ -22,7 +22,7 @@ use Rattle.extent_records.proofs.ChainLemmas.{one_page_follows}
 use Rattle.bitfile_cells.specs.Changes.{with_record}
 use Rattle.bitfile_cells.specs.FileChanges.{ChangesPage, SameFirst, other_records}
 use Rattle.bitfile_cells.specs.Files.{HasMap, IsFile, IsMapCell, map_records, places_of}
-use Rattle.bitfile_cells.specs.MapChanges.{ChangesMap, LeavesApart}
+use Rattle.bitfile_cells.specs.MapChanges.{ChangesInPlace, ChangesMap, LeavesApart}
 use Rattle.bitfile_cells.proofs.Gathers.{map_append, mapped_all, one_map_file, values, values_are}
 use Rattle.bitfile_cells.proofs.MapRecords.{one_map_back, rows_kind, runs_by_map, value_has_rows}
 use Rattle.bitfile_cells.proofs.OneRecord.{has_after, map_cell_after, others_same, still_found}
@@ -58,7 +58,7 @@ set_cell i cell [] = []
 set_cell zero cell (c ∷ cs) = record { at = c.at; cell = cell } ∷ cs
 set_cell (suc i) cell (c ∷ cs) = c ∷ set_cell i cell cs
 
-places_set : (i : ℕ) (cell : Cell) (cs : List PlacedCell) → places (set_cell i cell cs) ≡ places cs
+pub places_set : (i : ℕ) (cell : Cell) (cs : List PlacedCell) → places (set_cell i cell cs) ≡ places cs
 places_set i cell [] = refl
 places_set zero cell (c ∷ cs) = refl
 places_set (suc i) cell (c ∷ cs) = ap (λ (ps : List CellAt). c.at ∷ ps) (places_set i cell cs)
@@ -90,7 +90,7 @@ pub record Picks (pages : Pages) (i : ℕ) (at : CellAt) (value : Record) (cs : 
   pub there : get_or (map_records (records_of cs)) i value ≡ value
   pub others : (after : Cell) (v : Record) → HasMap after v → map_records (records_of (set_cell i after cs)) ≡ set (map_records (records_of cs)) i v
 
-one_front : (c : PlacedCell) (value : Record) (cs : List PlacedCell) → HasMap c.cell value → map_records (records_of (c ∷ cs)) ≡ value ∷ map_records (records_of cs)
+pub one_front : (c : PlacedCell) (value : Record) (cs : List PlacedCell) → HasMap c.cell value → map_records (records_of (c ∷ cs)) ≡ value ∷ map_records (records_of cs)
 one_front c value cs map = map_append c.cell.records (records_of cs) ∙ ap (λ (rs : List Record). rs ++ map_records (records_of cs)) map.only
 
 stand_all : (pages : Pages) (head : CellHead) (cs : List PlacedCell) → Follow pages head cs → AllByRecursion (λ (c : PlacedCell). StandsAt pages c.at c.cell) cs
@@ -265,6 +265,10 @@ module _ (old new : Pages) (at : CellAt) (value : Record) (page : ℕ) (place : 
         first = s.first;
         at = at_now start chain is i p there;
       }
+
+  pub in_place : (start : CellAt) (chain : List PlacedCell) (is : IsFile old start chain) (i : ℕ) (p : Picks old i at value chain) → places_of chain page ≡ places_in value page → ChangesInPlace start page place chain new
+  unfolding page_changes
+  in_place start chain is i p there = record { changes = page_changes start chain is i p there; same_cells = places_set i (cell_after p.cell) chain }
 
   -- where the cell is one of the chain, all but the chain stays
   pub apart_stays : (chain : List PlacedCell) → Contains (places chain) at → LeavesApart chain old new

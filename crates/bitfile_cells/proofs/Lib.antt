@@ -7,3 +7,6 @@ pub mod Gathers
 pub mod OneRecord
 pub mod ChainChanges
 pub mod Chosen
+pub mod OnePage
+pub mod Added
+pub mod Still

@@ -1,5 +1,5 @@
 -- The change of the one record of a cell that says where pages stand.
-use Rattle.std.specs.Prelude.{◌≡◌, ℕ, false, List, Some, Contains}
+use Rattle.std.specs.Prelude.{◌≡◌, ◌⊎◌, ℕ, false, List, Some, Contains}
 use Rattle.std.specs.List.{AllByRecursion}
 use Rattle.domain_base.specs.declared.place.CellAt.{CellAt}
 use Rattle.domain_base.specs.declared.place.Home.{Home}
@@ -11,9 +11,13 @@ use Rattle.bmt_mcells.specs.CellPage.{cell_at, home_of}
 use Rattle.bmt_mcells.specs.Chain.{PlacedCell, StandsAt, places, records_of}
 use Rattle.extent_maps.specs.declared.run.PagePlace.{PagePlace}
 use Rattle.extent_maps.specs.Runs.{with_place}
-use Rattle.extent_records.specs.Chains.{IsNone, Takes}
+use Rattle.extent_records.specs.Chains.{IsNone, Takes as TakesPage}
 use Rattle.extent_records.specs.Writing.{IsMapRecord, places_in}
+use Rattle.free_cells.specs.Cells.{Cells, table_of}
+use Rattle.free_space.specs.Spaces.{Spaces}
+use Rattle.bitfile_cells.specs.Allocated.{Takes}
 use Rattle.bitfile_cells.specs.Changes.{with_record}
+use Rattle.bitfile_cells.specs.FileChanges.{AreOnTables, ChangesPage}
 use Rattle.bitfile_cells.specs.Files.{HasMap, map_records}
 
 -- a cell in use stands there whose record that says where pages stand is this one
@@ -23,8 +27,8 @@ pub record HasMapIs (pages : Pages) (at : CellAt) (value : Record) : Type 0 wher
   pub map : HasMap cell value
 
 -- that record has one page at another place, and the cell is the same but for it
-pub record ChangesMap (at : CellAt) (value : Record) (page : ℕ) (place : PagePlace) (old new : Pages)
-    : Type 0 where
+pub record ChangesMap (at : CellAt) (value : Record) (page : ℕ) (place : PagePlace)
+    (old new : Pages) : Type 0 where
   pub after : Record
   pub is_map : IsMapRecord after
   pub same_kind : kind_of after ≡ kind_of value
@@ -34,7 +38,7 @@ pub record ChangesMap (at : CellAt) (value : Record) (page : ℕ) (place : PageP
 
 -- no record of the chain can have the page at that place
 abbrev pub NoneTakes : ℕ → PagePlace → List PlacedCell → Type 0
-NoneTakes page place chain = IsNone (Takes page place) (map_records (records_of chain))
+NoneTakes page place chain = IsNone (TakesPage page place) (map_records (records_of chain))
 
 -- each cell but those of the chain has its bytes
 abbrev pub LeavesApart : List PlacedCell → Pages → Pages → Type 0
@@ -46,3 +50,34 @@ abbrev pub LeavesPages : List PlacedCell → Pages → Pages → Type 0
 LeavesPages chain old new =
     (home : Home) → AllByRecursion (λ (c : PlacedCell). same_home home (home_of c.at) ≡ false) chain
     → new home ≡ old home
+
+-- the file has one page at another place, and all else as it was, in the same cells
+pub record ChangesInPlace (start : CellAt) (page : ℕ) (place : PagePlace) (chain : List PlacedCell)
+    (new : Pages) : Type 0 where
+  pub changes : ChangesPage start page place chain new
+  pub same_cells : places changes.after ≡ places chain
+
+-- the same, and each of its cells stands on a page of its volume's table
+pub record ChangesOnTables (start : CellAt) (page : ℕ) (place : PagePlace)
+    (chain : List PlacedCell) (cells : Cells) (new : Pages) : Type 0 where
+  pub changes : ChangesPage start page place chain new
+  pub on_tables : AreOnTables cells changes.after
+
+-- a cell is handed out
+pub record TakesOne (prefer : ℕ) (space space_now : Spaces) (cells cells_now : Cells) (old : Pages)
+    : Type 0 where
+  pub at : CellAt
+  pub between : Pages
+  pub takes : Takes prefer at space space_now cells cells_now old between
+
+-- no cell is handed out, or one is since no record of the chain can have the page there
+abbrev pub TakesIfFull : ℕ → PagePlace → List PlacedCell → ℕ → Spaces → Spaces → Cells → Cells
+    → Pages → Type 0
+TakesIfFull page place chain prefer space space_now cells cells_now old =
+    ((space_now ≡ space) × (cells_now ≡ cells))
+    ⊎ (NoneTakes page place chain × TakesOne prefer space space_now cells cells_now old)
+
+-- each page that stands on no volume's table stays
+abbrev pub LeavesOffTables : Cells → Pages → Pages → Type 0
+LeavesOffTables cells old new =
+    (home : Home) → ¬ Contains (table_of cells home.vol) home.page → new home ≡ old home

@@ -1,13 +1,16 @@
 //! The chain of cells of a file or directory: its records, and where its pages stand.
 #![tactic(auto)]
 
+mod adding;
 mod changing;
+mod giving;
 mod maps;
 mod putting;
 mod taking;
 mod walking;
 
 pub use changing::{clear_record, set_record};
+pub use giving::put_page;
 pub use maps::read_file_map;
 pub use putting::put_in_records;
 pub use taking::take_cell;

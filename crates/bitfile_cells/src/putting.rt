@@ -7,9 +7,8 @@ ghost use Rattle.bmt_mcells.specs.Chain.{LeavesOthers, PlacedCell, is_at};
 ghost use Rattle.extent_maps.specs.declared.run.PagePlace.TheVariants.{Absent, At};
 ghost use Rattle.extent_records.specs.Chains.{Takes};
 ghost use Rattle.extent_records.specs.Writing.{places_in};
-ghost use Rattle.bitfile_cells.specs.FileChanges.{ChangesPage};
 ghost use Rattle.bitfile_cells.specs.Files.{HasFile, IsFile, places_of};
-ghost use Rattle.bitfile_cells.specs.MapChanges.{ChangesMap, HasMapIs, LeavesApart, LeavesPages, NoneTakes};
+ghost use Rattle.bitfile_cells.specs.MapChanges.{ChangesInPlace, ChangesMap, HasMapIs, LeavesApart, LeavesPages, NoneTakes};
 
 use crate::changing::set_record;
 use crate::maps::read_maps;
@@ -65,7 +64,7 @@ pub fn put_in_records<M: MetaPages>(
     requires small { page < FILE_PAGES }
     ensures put { (chain : List PlacedCell) → IsFile (M.pages pages.old) start chain
         → IfOk result (λ put. put ≡ true
-        → ChangesPage start page (At home) chain (M.pages pages.new)) }
+        → ChangesInPlace start page (At home) chain (M.pages pages.new)) }
     ensures full { (chain : List PlacedCell) → IsFile (M.pages pages.old) start chain
         → IfOk result (λ put. put ≡ false → NoneTakes page (At home) chain) }
     ensures kept { IfOk result (λ put. put ≡ false → M.pages pages.new ≡ M.pages pages.old) }

@@ -6,7 +6,7 @@ use Rattle.record_table.specs.declared.record.Record.{Record}
 use Rattle.bmt_mcells.specs.CellPage.{home_of}
 use Rattle.extent_maps.specs.declared.run.PagePlace.TheVariants.{At}
 use Rattle.extent_records.specs.Chains.{CanTake, IsChoice}
-use Rattle.bitfile_cells.proofs.ChainChanges.{apart_stays, can_take_all, page_changes}
+use Rattle.bitfile_cells.proofs.ChainChanges.{apart_stays, can_take_all, in_place}
 use Rattle.bitfile_cells.proofs.Chosen.{absent_value, all_at, choice_within, lists_long, picked}
 use Rattle.bitfile_cells.proofs.putting.put_in_records.Goals as goal
 
@@ -61,7 +61,7 @@ returns-clause-put g c = λ chain is _.
     (choice_within c.args.page c.in-Some.i (At c.args.home) c.as_slice.result.now (subst (IsChoice c.args.page (At c.args.home) c.as_slice.result.now) c.in-Some.is c.in_ok-i.ensures)))
     (sym c.index.ensures) (sym c.index-2.ensures) in
     let none = absent_value (g.M.MetaPages.pages c.args.pages.now) c.args.start chain is c.in-Some.i c.index.result.now c.index-2.result.now c.args.page p (c.requires.absent chain is) in
-    page_changes (g.M.MetaPages.pages c.args.pages.now) (g.M.MetaPages.pages c.put_at.new.pages) c.index.result.now c.index-2.result.now c.args.page (At c.args.home) c.in_ok-put_at.ensures.ok c.in_ok-put_at.ensures.others
+    in_place (g.M.MetaPages.pages c.args.pages.now) (g.M.MetaPages.pages c.put_at.new.pages) c.index.result.now c.index-2.result.now c.args.page (At c.args.home) c.in_ok-put_at.ensures.ok c.in_ok-put_at.ensures.others
     c.args.start chain is c.in-Some.i p (c.requires.absent chain is ∙ sym none)
 
 pub returns-clause-others : goal.returns-clause-others

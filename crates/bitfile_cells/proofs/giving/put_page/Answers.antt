@@ -1,0 +1,31 @@
+use Rattle.std.proofs.Common.{subst, sym}
+use Rattle.page_store.specs.Pages.{Pages}
+use Rattle.bitfile_cells.specs.FileChanges.{LeavesOtherCells}
+use Rattle.bitfile_cells.specs.Files.{IsFile}
+use Rattle.bitfile_cells.proofs.Added.{off_tables}
+use Rattle.bitfile_cells.proofs.Still.{allocated_apart, on_by_places, others_stay}
+use Rattle.bitfile_cells.proofs.giving.put_page.Goals as goal
+
+pub returns-then-branch-clause-ok : goal.returns-then-branch-clause-ok
+returns-then-branch-clause-ok g c = λ chain is.
+    let put = c.in_ok-put_in_records.ensures.put chain is c.if-branch.true in
+    record { changes = put.changes; on_tables = on_by_places c.args.cells.now put.changes.after chain put.same_cells (c.requires.tables chain is) }
+
+pub returns-then-branch-clause-others : goal.returns-then-branch-clause-others
+returns-then-branch-clause-others g c = λ chain is.
+    others_stay c.args.cells.now chain (g.M.MetaPages.pages c.args.pages.now) (g.M.MetaPages.pages c.put_in_records.new.pages) (c.in_ok-put_in_records.ensures.others chain is)
+
+pub returns-then-branch-clause-elsewhere : goal.returns-then-branch-clause-elsewhere
+returns-then-branch-clause-elsewhere g c = λ h out.
+    c.in_ok-put_in_records.ensures.elsewhere c.requires.file.0 c.requires.file.1 h (off_tables c.args.cells.now c.requires.file.0 h (c.requires.tables c.requires.file.0 c.requires.file.1) out)
+
+pub returns-then-branch-clause-allocated : goal.returns-then-branch-clause-allocated
+returns-then-branch-clause-allocated g c =
+    allocated_apart c.args.space.now c.args.cells.now (g.M.MetaPages.pages c.args.pages.now) (g.M.MetaPages.pages c.put_in_records.new.pages) c.requires.allocated c.in_ok-put_in_records.ensures.well_formed c.in_ok-put_in_records.ensures.headers
+    c.args.start c.requires.file.0 c.requires.file.1 (c.in_ok-put_in_records.ensures.others c.requires.file.0 c.requires.file.1)
+
+pub returns-clause-others : goal.returns-clause-others
+returns-clause-others g c = λ chain is.
+    let kept = c.in_ok-put_in_records.ensures.kept c.if-branch.false in
+    subst (λ (pages : Pages). LeavesOtherCells c.args.cells.now chain pages (g.M.MetaPages.pages c.put_in_new_cell.new.pages)) kept
+    (c.put_in_new_cell.ensures.others chain (subst (λ (pages : Pages). IsFile pages c.args.start chain) (sym kept) is))

@@ -1,0 +1,139 @@
+//! A cell more for a file, behind its first one.
+ghost use Rattle.std.specs.Prelude.{◌≡◌, ◌∷◌, ◌+◌, ◌<◌, ◌≤◌, ◌||◌, ℕ, [], IfErr, IfOk, List, OnErr, OnOk, Some, false, length};
+ghost use Rattle.domain_base.specs.declared.place.Home.{Home as HomeOf};
+ghost use Rattle.page_store.specs.Pages.{same_home};
+ghost use Rattle.record_table.specs.Records.{kind_of};
+ghost use Rattle.bmt_mcells.specs.declared.head.CellKind.TheVariants.{Chain};
+ghost use Rattle.bmt_mcells.specs.Cell.{AreRecords, spellings};
+ghost use Rattle.bmt_mcells.specs.CellPage.{HasPlace, KeepsHeaders, KeepsWellFormed, home_of as home_there};
+ghost use Rattle.bmt_mcells.specs.Chain.{LeavesOthers, PlacedCell, StandsAt, is_at};
+ghost use Rattle.extent_maps.specs.declared.run.PagePlace.TheVariants.{Absent, At};
+ghost use Rattle.extent_maps.specs.Runs.{with_place};
+ghost use Rattle.extent_records.specs.Writing.{IsMapRecord, chain_kind, places_in};
+ghost use Rattle.bitfile_cells.specs.Allocated.{AreAllocated, FindsNone};
+ghost use Rattle.bitfile_cells.specs.FileChanges.{AreOnTables, LeavesOtherCells};
+ghost use Rattle.bitfile_cells.specs.Files.{HasFile, IsFile, places_of};
+ghost use Rattle.bitfile_cells.specs.MapChanges.{ChangesOnTables, LeavesOffTables, TakesOne};
+
+use crate::taking::take_cell;
+use bmt_mcells::{CellHead, CellKind, RecordList, UsedCell, read_used, write_cell};
+use domain_base::limits::{FILE_PAGES, MAX_VOLUMES};
+use domain_base::{CellAt, Home, OutOfMemory, Version, VolIx};
+use extent_records::{empty_extents, put_page};
+use free_cells::FreeCells;
+use free_space::FreeSpace;
+use page_store::{MetaPages, StoreFault};
+use record_table::Record;
+use std::alloc::Global;
+
+/// A record of a chain's cell that says one page, as that version writes it.
+fn one_page(alloc: Global, version: Version, page: u32, home: &Home) -> Result<Record, OutOfMemory>
+    requires { page < FILE_PAGES }
+    ensures is_map { IfOk result IsMapRecord }
+    ensures kind { IfOk result (λ r. kind_of r ≡ chain_kind version) }
+    ensures places { IfOk result (λ r. (p : ℕ) → places_in r p
+        ≡ with_place page (At home.now) (λ _. Absent) p) }
+{
+    prove!(home.vol.number() <= MAX_VOLUMES);
+    prove!(home.page <= u32::MAX);
+    let mut value = empty_extents(version);
+    put_page(alloc, &mut value, page, *home)?;
+    Ok(value)
+}
+
+/// That record alone.
+fn one_record(alloc: Global, value: &Record) -> Result<RecordList, OutOfMemory>
+    ensures { IfOk result (λ records. records ≡ value.now ∷ []) }
+{
+    let mut records = Vec::new(alloc);
+    records.push(*value)?;
+    Ok(RecordList::from_vec(records))
+}
+
+/// Writes a chain cell with these records right behind the first cell of a file.
+fn link_behind<M: MetaPages>(
+    pages: &mut M,
+    start: &CellAt,
+    first: &UsedCell,
+    at: &CellAt,
+    records: &RecordList,
+)
+    requires first { StandsAt (M.pages pages.old) start.now (record {
+      head = first.now.head;
+      records = first.now.records;
+    }) }
+    requires place { HasPlace (M.pages pages.old) at.now }
+    requires apart { is_at at.now start.now ≡ false }
+    requires good { AreRecords records.now }
+    requires fits { length (spellings records.now) ≤ 272 }
+    ensures first { StandsAt (M.pages pages.new) start.now (record {
+      head = record first.now.head { next = Some at.now };
+      records = first.now.records;
+    }) }
+    ensures behind { StandsAt (M.pages pages.new) at.now (record {
+      head = record first.now.head { kind = Chain };
+      records = records.now;
+    }) }
+    ensures others { LeavesOthers (λ q. is_at at.now q || is_at start.now q)
+        (M.pages pages.old) (M.pages pages.new) }
+    ensures well_formed { KeepsWellFormed (M.pages pages.old) (M.pages pages.new) }
+    ensures headers { KeepsHeaders (M.pages pages.old) (M.pages pages.new) }
+    ensures elsewhere { (h : HomeOf) → same_home h (home_there at.now) ≡ false
+        → same_home h (home_there start.now) ≡ false → M.pages pages.new h ≡ M.pages pages.old h }
+    ensures room { M.room pages.new ≡ M.room pages.old }
+{
+    let behind = CellHead {
+        kind: CellKind::Chain,
+        ..first.head
+    };
+    let front = CellHead {
+        next: Some(*at),
+        ..first.head
+    };
+    write_cell(pages, *at, &behind, records);
+    write_cell(pages, *start, &front, &first.records);
+}
+
+/// Puts a page that a file does not have at a home, in a chain cell that is handed out for it and
+/// linked right behind the file's first cell. Memory is taken before the cell is.
+pub(crate) fn put_in_new_cell<M: MetaPages>(
+    alloc: Global,
+    pages: &mut M,
+    space: &mut FreeSpace,
+    cells: &mut FreeCells,
+    start: &CellAt,
+    page: u32,
+    home: &Home,
+    version: Version,
+    prefer: VolIx,
+) -> Result<(), StoreFault>
+    requires allocated { AreAllocated space.old cells.old (M.pages pages.old) }
+    requires file { HasFile (M.pages pages.old) start.now }
+    requires tables { (chain : List PlacedCell) → IsFile (M.pages pages.old) start.now chain
+        → AreOnTables cells.old chain }
+    requires absent { (chain : List PlacedCell) → IsFile (M.pages pages.old) start.now chain
+        → places_of chain page ≡ Absent }
+    requires small { page < FILE_PAGES }
+    ensures ok { (chain : List PlacedCell) → IsFile (M.pages pages.old) start.now chain
+        → OnOk result (ChangesOnTables start.now page (At home.now) chain cells.new
+        (M.pages pages.new)) }
+    ensures taken { OnOk result (TakesOne prefer space.old space.new cells.old cells.new
+        (M.pages pages.old)) }
+    ensures err { IfErr result (FindsNone space.old space.new cells.old) }
+    ensures cells { OnErr result (cells.new ≡ cells.old) }
+    ensures pages { OnErr result (M.pages pages.new ≡ M.pages pages.old) }
+    ensures others { (chain : List PlacedCell) → IsFile (M.pages pages.old) start.now chain
+        → LeavesOtherCells cells.old chain (M.pages pages.old) (M.pages pages.new) }
+    ensures elsewhere { LeavesOffTables cells.new (M.pages pages.old) (M.pages pages.new) }
+    ensures allocated { AreAllocated space.new cells.new (M.pages pages.new) }
+    ensures room { M.room pages.old ≤ M.room pages.new + 1 }
+{
+    let Some(first) = read_used(alloc, pages, *start)? else {
+        return Ok(());
+    };
+    let value = one_page(alloc, version, page, home)?;
+    let records = one_record(alloc, &value)?;
+    let at = take_cell(alloc, pages, space, cells, prefer)?;
+    link_behind(pages, start, &first, &at, &records);
+    Ok(())
+}

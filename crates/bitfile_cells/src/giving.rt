@@ -1,0 +1,65 @@
+//! A file gets a page at a home.
+ghost use Rattle.std.specs.Prelude.{◌≡◌, ◌+◌, ◌<◌, ◌≤◌, IfErr, List, OnErr, OnOk};
+ghost use Rattle.bmt_mcells.specs.Chain.{PlacedCell};
+ghost use Rattle.extent_maps.specs.declared.run.PagePlace.TheVariants.{Absent, At};
+ghost use Rattle.bitfile_cells.specs.Allocated.{AreAllocated, FindsNone};
+ghost use Rattle.bitfile_cells.specs.FileChanges.{AreOnTables, LeavesOtherCells};
+ghost use Rattle.bitfile_cells.specs.Files.{HasFile, IsFile, places_of};
+ghost use Rattle.bitfile_cells.specs.MapChanges.{ChangesOnTables, LeavesOffTables, TakesIfFull};
+
+use crate::adding::put_in_new_cell;
+use crate::putting::put_in_records;
+use domain_base::limits::FILE_PAGES;
+use domain_base::{CellAt, Home, Version, VolIx};
+use free_cells::FreeCells;
+use free_space::FreeSpace;
+use page_store::{MetaPages, StoreFault};
+use std::alloc::Global;
+
+/// Puts a page that a file does not have at a home: in the record of it that takes the page, the
+/// first in which it joins a row, else the first that has room; where none has, in a chain cell that
+/// is handed out, of the preferred volume if that has one, and linked right behind the file's first
+/// cell, with a record as that version writes it. The file is the one whose chain begins at that
+/// cell; every cell in use but those of its chain stays, and every page that stands on no volume's
+/// table. NoPage comes only where no record has room, no cell is free, and no page that would hold
+/// more, which is a miss. At an Err nothing but room and the count of misses has changed.
+pub fn put_page<M: MetaPages>(
+    alloc: Global,
+    pages: &mut M,
+    space: &mut FreeSpace,
+    cells: &mut FreeCells,
+    start: CellAt,
+    page: u32,
+    home: Home,
+    version: Version,
+    prefer: VolIx,
+) -> Result<(), StoreFault>
+    requires allocated { AreAllocated space.old cells.old (M.pages pages.old) }
+    requires file { HasFile (M.pages pages.old) start }
+    requires tables { (chain : List PlacedCell) → IsFile (M.pages pages.old) start chain
+        → AreOnTables cells.old chain }
+    requires absent { (chain : List PlacedCell) → IsFile (M.pages pages.old) start chain
+        → places_of chain page ≡ Absent }
+    requires small { page < FILE_PAGES }
+    ensures ok { (chain : List PlacedCell) → IsFile (M.pages pages.old) start chain
+        → OnOk result (ChangesOnTables start page (At home) chain cells.new
+        (M.pages pages.new)) }
+    ensures taken { (chain : List PlacedCell) → IsFile (M.pages pages.old) start chain
+        → OnOk result (TakesIfFull page (At home) chain prefer space.old space.new cells.old
+        cells.new (M.pages pages.old)) }
+    ensures err { IfErr result (FindsNone space.old space.new cells.old) }
+    ensures cells { OnErr result (cells.new ≡ cells.old) }
+    ensures pages { OnErr result (M.pages pages.new ≡ M.pages pages.old) }
+    ensures others { (chain : List PlacedCell) → IsFile (M.pages pages.old) start chain
+        → LeavesOtherCells cells.old chain (M.pages pages.old) (M.pages pages.new) }
+    ensures elsewhere { LeavesOffTables cells.new (M.pages pages.old) (M.pages pages.new) }
+    ensures allocated { AreAllocated space.new cells.new (M.pages pages.new) }
+    ensures room { M.room pages.old ≤ M.room pages.new + 1 }
+{
+    if put_in_records(alloc, pages, start, page, home)? {
+        return Ok(());
+    }
+    put_in_new_cell(
+        alloc, pages, space, cells, &start, page, &home, version, prefer,
+    )
+}
