@@ -19,7 +19,7 @@ use Rattle.fileset_model.specs.declared.command.Owner.{Owner}
 use Rattle.fileset_model.specs.declared.fileset.Limits.{Limits}
 use Rattle.fileset_model.proofs.OwnerLemmas.{owner_cmp-IsAntisymmetric}
 use Rattle.quota_book.specs.Owners.{same_owner}
-use Rattle.quota_book.specs.Book.{Book, empty_book, limits_in}
+use Rattle.quota_book.specs.Book.{Book, HasBindingLimits, empty_book, limits_in}
 use Rattle.quota_book.specs.QuotaCells.{AreOnce, HasLimits, Said, TakesLimits, all_said, first_where, has_room, is_said, limits_at, limits_said, or_else, said_by, touched, with_quota}
 
 abbrev pub no_limits : Limits
@@ -146,7 +146,7 @@ unlimited_is limits is =
     λ i. record { files = eqb-true limits.files 0 parts.0 i; blocks = eqb-true limits.blocks 0 parts.1 i }
 
 set_taken : (book : Book) (who : Owner) (limits : Limits) → TakesLimits (Some (who, limits)) book (record book { limits = with_limits book.limits who limits })
-set_taken book who limits = record { totals = refl; limits = λ q. by_test q (is_unlimited limits) refl }
+set_taken book who limits = record { totals = refl; limits = λ q. by_test q (is_unlimited limits) refl; binding = λ old q l at. binds old q l (is_unlimited limits) refl at }
   where
     after_removal : (q : Owner) (b : Bool) → is_unlimited limits ≡ true → unwrap_or (cond b None (map.get book.limits q)) no_limits ≡ cond b limits (limits_in book q)
     after_removal q true none = sym (unlimited_is limits none)
@@ -161,13 +161,29 @@ set_taken book who limits = record { totals = refl; limits = λ q. by_test q (is
     by_test q true none = ap (λ o. unwrap_or o no_limits) (map.get-remove owner_cmp-total book.limits who q) ∙ after_removal q (same_owner q who) none
     by_test q false some = ap (λ o. unwrap_or o no_limits) (map.get-insert owner_cmp-total book.limits who limits q) ∙ after_insert q (same_owner q who)
 
+    binds : HasBindingLimits book → (q : Owner) (l : Limits) (b : Bool) → is_unlimited limits ≡ b
+        → map.get (if b then map.remove book.limits who else map.insert book.limits who limits) q ≡ Some l → is_unlimited l ≡ false
+    binds old q l true none at = of_rest (same_owner q who) (sym (map.get-remove owner_cmp-total book.limits who q) ∙ at)
+      where
+        of_rest : (s : Bool) → cond s None (map.get book.limits q) ≡ Some l → is_unlimited l ≡ false
+        of_rest true at = absurd (cc)
+        of_rest false at = old q l at
+    binds old q l false some at = of_rest (same_owner q who) (sym (map.get-insert owner_cmp-total book.limits who limits q) ∙ at)
+      where
+        of_rest : (s : Bool) → cond s (Some limits) (map.get book.limits q) ≡ Some l → is_unlimited l ≡ false
+        of_rest true at = let e : limits ≡ l = cc in subst (λ x. is_unlimited x ≡ false) e some
+        of_rest false at = old q l at
+
 pub takes_set : {E : Type 0} (old new : Book) (who : Owner) (limits : Limits) (r : Result (Unit {0}) E) → OnOk r (new ≡ record old { limits = with_limits old.limits who limits })
     → OnOk r (TakesLimits (Some (who, limits)) old new)
 takes_set old new who limits (Ok x) is = subst (TakesLimits (Some (who, limits)) old) (sym is) (set_taken old who limits)
 takes_set old new who limits (Err e) is = tt
 
 pub none_taken : (book : Book) → book ≡ empty_book → HasLimits [] book
-none_taken book is = subst (HasLimits []) (sym is) (record { unused = refl; limits = λ who. ap (λ o. unwrap_or o no_limits) (map.get-empty owner_cmp who) })
+none_taken book is = subst (HasLimits []) (sym is) (record { unused = refl; limits = λ who. ap (λ o. unwrap_or o no_limits) (map.get-empty owner_cmp who); binding = λ who l at. no_entry who l (sym (map.get-empty owner_cmp who) ∙ at) })
+  where
+    no_entry : (who : Owner) (l : Limits) → None ≡ Some l → is_unlimited l ≡ false
+    no_entry who l is = absurd (cc)
 
 apart_at : (x : Owner × Limits) (xs : Said) (e : Owner × Limits) (ys : Said) → AllByRecursion (λ (y : Owner × Limits). same_owner x.0 y.0 ≡ false) (xs ++ e ∷ ys) → same_owner x.0 e.0 ≡ false
 apart_at x [] e ys all = all.0
@@ -183,8 +199,8 @@ limits-append : (xs : Said) (who : Owner) → limits_at (xs ++ []) who ≡ limit
 limits-append xs who = ap (λ (s : Said). limits_at s who) (append-nil xs)
 
 taken_on : (xs ys : Said) (o : Option (Owner × Limits)) (old new : Book) → AreOnce (xs ++ cons_option o ys) → HasLimits xs old → TakesLimits o old new → HasLimits (xs ++ cons_option o []) new
-taken_on xs ys None old new once has takes = record { unused = takes.totals ∙ has.unused; limits = λ who. takes.limits who ∙ has.limits who ∙ sym (limits-append xs who) }
-taken_on xs ys (Some e) old new once has takes = record { unused = takes.totals ∙ has.unused; limits = λ who. takes.limits who ∙ by_test who (same_owner who e.0) refl }
+taken_on xs ys None old new once has takes = record { unused = takes.totals ∙ has.unused; limits = λ who. takes.limits who ∙ has.limits who ∙ sym (limits-append xs who); binding = takes.binding has.binding }
+taken_on xs ys (Some e) old new once has takes = record { unused = takes.totals ∙ has.unused; limits = λ who. takes.limits who ∙ by_test who (same_owner who e.0) refl; binding = takes.binding has.binding }
   where
     or_none : (o : Option Limits) → o ≡ or o None
     or_none None = refl

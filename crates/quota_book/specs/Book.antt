@@ -1,10 +1,10 @@
 -- What the owners of a fileset use, and their limits.
-use Rattle.std.specs.Prelude.{◌≡◌, ◌+◌, ◌-◌, ◌^◌, ◌<◌, ◌≤◌, ◌==◌, ◌&&◌, ℕ, Bool, List, [], ◌∷◌, Option, Some, unwrap_or, refl, if◌then◌else◌}
+use Rattle.std.specs.Prelude.{◌≡◌, ◌+◌, ◌-◌, ◌^◌, ◌<◌, ◌≤◌, ◌==◌, ◌&&◌, ℕ, Bool, false, List, [], ◌∷◌, Option, Some, unwrap_or, refl, if◌then◌else◌}
 use Rattle.std.specs.Coded.{Coded, code_by, coded×}
 use Rattle.std.specs.FinMap as map
 use Rattle.fileset_model.specs.Orders.{owner_cmp}
 use Rattle.fileset_model.specs.Paths.{first_refusal, refuse_if}
-use Rattle.fileset_model.specs.Usage.{is_owned, passes}
+use Rattle.fileset_model.specs.Usage.{is_owned, is_unlimited, passes}
 use Rattle.fileset_model.specs.declared.command.Owner.{Owner}
 use Rattle.fileset_model.specs.declared.command.Owner.TheVariants.{User, Group, Fileset}
 use Rattle.fileset_model.specs.declared.fileset.Limits.{Limits}
@@ -43,6 +43,11 @@ limits_in book who = unwrap_or (map.get book.limits who) (record { files = 0; bl
 -- no owner who uses nothing has an entry
 abbrev pub HasNoTrace : Book → Type 0
 HasNoTrace book = (who : Owner) → ¬ map.get book.totals who ≡ Some nothing
+
+-- no owner whose limits bind nothing has an entry
+abbrev pub HasBindingLimits : Book → Type 0
+HasBindingLimits book = (who : Owner) (limits : Limits) → map.get book.limits who ≡ Some limits
+    → is_unlimited limits ≡ false
 
 abbrev pub is_nothing : Usage → Bool
 is_nothing usage = usage.files == 0 && usage.blocks == 0

@@ -12,7 +12,7 @@ use Rattle.fileset_model.specs.declared.command.Owner.{Owner}
 use Rattle.fileset_model.specs.declared.command.Owner.TheVariants.{User, Group}
 use Rattle.fileset_model.specs.declared.fileset.Limits.{Limits}
 use Rattle.quota_book.specs.Owners.{same_owner}
-use Rattle.quota_book.specs.Book.{Book, limits_in}
+use Rattle.quota_book.specs.Book.{Book, HasBindingLimits, limits_in}
 
 -- owners with their limits
 abbrev pub Said : Type 0
@@ -55,10 +55,12 @@ abbrev pub NotesSaid : Option (Owner × Limits) → Seen → Seen → Bool → T
 NotesSaid None old new noted = (noted ≡ true) × (new ≡ old)
 NotesSaid (Some said) old new noted = Notes said.0 old new noted
 
--- a book with no totals, and the limits that are said
+-- a book with no totals, and the limits that are said, of which those that bind nothing have no
+-- entry
 pub record HasLimits (said : Said) (book : Book) : Type 0 where
   pub unused : book.totals ≡ map.empty
   pub limits : (who : Owner) → limits_in book who ≡ limits_at said who
+  pub binding : HasBindingLimits book
 
 -- a book in which the owner of a record has the limits that it says, if it says any
 abbrev pub limits_after : Option (Owner × Limits) → Owner → Limits → Limits
@@ -68,6 +70,7 @@ limits_after said who before =
 pub record TakesLimits (said : Option (Owner × Limits)) (old new : Book) : Type 0 where
   pub totals : new.totals ≡ old.totals
   pub limits : (who : Owner) → limits_in new who ≡ limits_after said who (limits_in old who)
+  pub binding : HasBindingLimits old → HasBindingLimits new
 
 -- ** Which cell a change touches
 
