@@ -5,3 +5,4 @@ pub mod Once
 pub mod OneNode
 pub mod Removal
 pub mod Sums
+pub mod Unchanged

@@ -11,11 +11,11 @@ use Rattle.fileset_model.specs.declared.node.Node.{Node}
 use Rattle.fileset_model.specs.declared.node.Node.TheVariants.{File, Directory}
 use Rattle.quota_book.specs.Sums.{ChangesNode, CountsMore, IsNotRoot, gid_of, uid_of}
 
-root_kept : (paths : map.FinMap path_cmp ℕ) (path : Path) (number : ℕ) → ¬ path ≡ [] → map.get (map.insert paths path number) [] ≡ map.get paths []
+pub root_kept : (paths : map.FinMap path_cmp ℕ) (path : Path) (number : ℕ) → ¬ path ≡ [] → map.get (map.insert paths path number) [] ≡ map.get paths []
 root_kept paths [] number other = absurd (other refl)
 root_kept paths (name ∷ names) number other = map.get-insert path_cmp-total paths (name ∷ names) number []
 
-root_left : (paths : map.FinMap path_cmp ℕ) (path : Path) → ¬ path ≡ [] → map.get (map.remove paths path) [] ≡ map.get paths []
+pub root_left : (paths : map.FinMap path_cmp ℕ) (path : Path) → ¬ path ≡ [] → map.get (map.remove paths path) [] ≡ map.get paths []
 root_left paths [] other = absurd (other refl)
 root_left paths (name ∷ names) other = map.get-remove path_cmp-total paths (name ∷ names) []
 

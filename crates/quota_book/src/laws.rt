@@ -1,11 +1,11 @@
 //! Laws of a book whose totals are the sums over a fileset's files and directories.
-ghost use Rattle.std.specs.Prelude.{◌≡◌, ◌+◌, ◌∷◌, ℕ, false, [], List, Option, Some, None, if◌then◌else◌};
+ghost use Rattle.std.specs.Prelude.{◌≡◌, ◌+◌, ◌∷◌, ℕ, true, false, [], List, Option, Some, None, if◌then◌else◌};
 ghost use Rattle.std.specs.FinMap as map;
-ghost use Rattle.fileset_model.specs.Apply.{empty_fileset, is_named_elsewhere, with_change, with_node, without};
+ghost use Rattle.fileset_model.specs.Apply.{empty_fileset, is_named_elsewhere, linked as with_path, moved as with_move, with_change, with_node, without};
 ghost use Rattle.fileset_model.specs.Fileset.{Fileset};
 ghost use Rattle.fileset_model.specs.Orders.{Path};
 ghost use Rattle.fileset_model.specs.Paths.{first_refusal};
-ghost use Rattle.fileset_model.specs.Usage.{blocks_of, quota_refusal};
+ghost use Rattle.fileset_model.specs.Usage.{blocks_of, quota_refusal, with_limits};
 ghost use Rattle.fileset_model.specs.declared.command.Owner.{Owner};
 ghost use Rattle.fileset_model.specs.declared.fileset.Limits.{Limits};
 ghost use Rattle.fileset_model.specs.declared.command.Owner.TheVariants.{User, Group, Fileset as WholeFileset};
@@ -61,6 +61,22 @@ pub fn filesets_change_one_by_one()
         → map.get tree.paths path ≡ Some number → is_named_elsewhere tree path number ≡ false
         → IsNotRoot tree number → map.get tree.nodes number ≡ Some node
         → ChangesNode number (Some node) None tree (without path tree) }
+{}
+
+/// The law that the other changes keep the sums without a charge: a second path of a file, one of
+/// its paths taken away where it has another, all below a path moved, and limits set.
+pub fn sums_stay_without_a_charge()
+    ensures linked { (tree : Fileset) (path to : Path) (book : Book) → ¬ to ≡ []
+        → IsBookOf book tree → IsBookOf book (with_path path to tree) }
+    ensures unlinked { (tree : Fileset) (path : Path) (number : ℕ) (book : Book) → ¬ path ≡ []
+        → map.get tree.paths path ≡ Some number → is_named_elsewhere tree path number ≡ true
+        → IsBookOf book tree → IsBookOf book (without path tree) }
+    ensures moved { (tree : Fileset) (from to : Path) (book : Book) → ¬ from ≡ [] → ¬ to ≡ []
+        → IsBookOf book tree → IsBookOf book (with_move from to tree) }
+    ensures limited { (tree : Fileset) (who : Owner) (limits : Limits) (book : Book)
+        → IsBookOf book tree
+        → IsBookOf (record book { limits = with_limits book.limits who limits })
+        (record tree { limits = with_limits tree.limits who limits }) }
 {}
 
 /// The law that a file or directory counts one file and its blocks, for its ids, and that one with

@@ -11,5 +11,6 @@ pub use book::QuotaBook;
 pub use laws::{
     books_answer_as_filesets, charges_keep_the_sums, filesets_change_one_by_one,
     nodes_count_for_their_ids, one_cell_is_touched, refunds_keep_the_sums,
+    sums_stay_without_a_charge,
 };
 pub use quota_cells::{are_once, read_limits};
