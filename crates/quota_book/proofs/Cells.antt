@@ -138,6 +138,33 @@ one_touched cells who other limits k is =
     by_test true = refl
     by_test false = refl
 
+added_at : (cells : List Said) (who other : Owner) (limits : Limits) → NoneSaid who cells
+    → find owner_cmp other (all_said (cells ++ ((who, limits) ∷ []) ∷ [])) ≡ cond (same_owner other who) (Some limits) (find owner_cmp other (all_said cells))
+added_at [] who other limits none = refl
+added_at (c ∷ cs) who other limits none =
+    find-append other c (all_said (cs ++ ((who, limits) ∷ []) ∷ [])) ∙ ap (or (find owner_cmp other c)) (added_at cs who other limits none.1)
+    ∙ by_test (same_owner other who) refl ∙ ap (λ o. cond (same_owner other who) (Some limits) o) (sym (find-append other c (all_said cs)))
+  where
+    by_test : (b : Bool) → same_owner other who ≡ b → or (find owner_cmp other c) (cond b (Some limits) (find owner_cmp other (all_said cs))) ≡ cond b (Some limits) (or (find owner_cmp other c) (find owner_cmp other (all_said cs)))
+    by_test true same = ap (λ o. or o (Some limits)) (ap (λ q. find owner_cmp q c) (same_is other who same) ∙ none.0)
+    by_test false apart = refl
+
+untouched : (cells : List Said) (who : Owner) → touched cells who ≡ None → NoneSaid who cells
+untouched cells who is = by_case (first_where (is_said who) cells) refl is
+  where
+    by_case : (o : Option ℕ) → first_where (is_said who) cells ≡ o → or_else o (first_where has_room cells) ≡ None → NoneSaid who cells
+    by_case None none is = none_said cells who none
+    by_case (Some j) at is = absurd (cc)
+
+pub one_added : (cells : List Said) (who other : Owner) (limits : Limits) → touched cells who ≡ None
+    → limits_at (all_said (cells ++ ((who, limits) ∷ []) ∷ [])) other ≡ cond (same_owner other who) limits (limits_at (all_said cells) other)
+one_added cells who other limits is =
+    ap (λ o. unwrap_or o no_limits) (added_at cells who other limits (untouched cells who is)) ∙ by_test (same_owner other who)
+  where
+    by_test : (b : Bool) → unwrap_or (cond b (Some limits) (find owner_cmp other (all_said cells))) no_limits ≡ cond b limits (limits_at (all_said cells) other)
+    by_test true = refl
+    by_test false = refl
+
 -- ---- limits that records say, taken one after the other
 
 unlimited_is : (limits : Limits) → is_unlimited limits ≡ true → limits ≡ no_limits

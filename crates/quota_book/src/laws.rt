@@ -1,5 +1,5 @@
 //! Laws of a book whose totals are the sums over a fileset's files and directories.
-ghost use Rattle.std.specs.Prelude.{◌≡◌, ◌+◌, ◌∷◌, ℕ, true, false, [], List, Option, Some, None, if◌then◌else◌};
+ghost use Rattle.std.specs.Prelude.{◌≡◌, ◌+◌, ◌∷◌, ◌++◌, ℕ, true, false, [], List, Option, Some, None, if◌then◌else◌};
 ghost use Rattle.std.specs.FinMap as map;
 ghost use Rattle.fileset_model.specs.Apply.{empty_fileset, is_named_elsewhere, linked as with_path, moved as with_move, with_change, with_node, without};
 ghost use Rattle.fileset_model.specs.Fileset.{Fileset};
@@ -89,11 +89,15 @@ pub fn nodes_count_for_their_ids()
         → CountsMore (uid_of node) (gid_of node) 0 blocks (Some node) (Some grown) }
 {}
 
-/// The law that a change of an owner's limits is a change of the one cell that it touches: all
-/// other owners keep their limits.
+/// The law that a change of an owner's limits is a change of the one cell that it touches, or of a
+/// cell that is added where it touches none: all other owners keep their limits.
 pub fn one_cell_is_touched()
-    ensures { (cells : List Said) (who other : Owner) (limits : Limits) (k : ℕ)
+    ensures touched { (cells : List Said) (who other : Owner) (limits : Limits) (k : ℕ)
         → touched cells who ≡ Some k
         → limits_at (all_said (with_quota k who limits cells)) other
+        ≡ (if same_owner other who then limits else limits_at (all_said cells) other) }
+    ensures added { (cells : List Said) (who other : Owner) (limits : Limits)
+        → touched cells who ≡ None
+        → limits_at (all_said (cells ++ ((who, limits) ∷ []) ∷ [])) other
         ≡ (if same_owner other who then limits else limits_at (all_said cells) other) }
 {}
