@@ -90,7 +90,7 @@ pub record KeepsMap (old new : List Record) : Type 0 where
   pub one_map : AreOneMap new
   pub same : (p : ℕ) → place_of (runs_of new) p ≡ place_of (runs_of old) p
 
--- two records of which one has the pages of another in front of one, and the second those from it on
+-- two records, one with the pages of a third in front of one, and one with those from it on
 pub record ArePartsOf (from : ℕ) (whole front tail : Record) : Type 0 where
   pub front_map : IsMapRecord front
   pub tail_map : IsMapRecord tail

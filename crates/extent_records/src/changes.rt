@@ -127,9 +127,9 @@ pub fn cut_from(alloc: Global, value: &mut Record, from: u32) -> Result<(), OutO
     Ok(())
 }
 
-/// Takes all pages in front of one off: what is left always has room. So a copy of a record that has
-/// no room for a change takes one of its halves, and `cut_from` leaves it the other. After an error
-/// nothing has changed.
+/// Takes all pages in front of one off: what is left always has room. So a copy of a record that
+/// has no room for a change takes one of its halves, and `cut_from` leaves it the other. After an
+/// error nothing has changed.
 pub fn cut_to(alloc: Global, value: &mut Record, to: u32) -> Result<(), OutOfMemory>
     requires { IsMapRecord value.old }
     ensures ok { OnOk result (IsLeastRecord (kind_of value.old)

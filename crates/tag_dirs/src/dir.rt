@@ -68,8 +68,8 @@ impl TagDir {
         }
     }
 
-    /// The directory whose first page stands there, read along its chain. It counts which entries of
-    /// its pages may be taken.
+    /// The directory whose first page stands there, read along its chain. It counts which entries
+    /// of its pages may be taken.
     pub fn read<M: MetaPages>(alloc: Global, pages: &M, first: Home) -> Result<Self, OutOfMemory>
         requires { HasDirectory (M.pages pages.now) first }
         ensures { IfOk result (IsDirectoryAt (M.pages pages.now) first) }
