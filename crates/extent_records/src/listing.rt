@@ -157,8 +157,9 @@ fn push_kept(records: &mut Vec<Record>, holes: &[Run]) -> Result<(), OutOfMemory
 }
 
 /// The records of a map, as that version writes them: the one of the file's primary cell, which may
-/// say no page, those of extents of chain cells, and those of holes. No records that say the map are
-/// fewer: of the last two sorts each but the last is full, and no row is shorter than it can be.
+/// say no page, those of extents of chain cells, and those of holes. No records that say the map
+/// are fewer: of the last two sorts each but the last is full, and no row is shorter than it can
+/// be.
 pub fn map_records(
     alloc: Global,
     map: &ExtentMap,
