@@ -284,3 +284,47 @@ fn a_slot_is_set(rt: HostRuntime) -> Result<(), Fail> {
     assert_eq!(rt; after.as_str(), FORGOTTEN);
     Ok(())
 }
+
+/// The bytes of the table that the page says: what says nothing is zeros.
+static WRITTEN: &str = "
+0 46535442 00000000 0300000000000000
+16 01 04 686f6d65
+72 01000000 85000000 0200000000000000 2000000000000000
+96 0000 02 05 07000000
+400 02 06 686f6d652e31
+440 01000000
+448 0300000000000000 02000000 90000000
+3984 03
+4064 0000 01 1b 02000000
+";
+
+/// The first place at which two pages differ.
+fn first_other(one: &Page, other: &Page) -> Option<usize> {
+    for (at, byte) in one.bytes().iter().enumerate() {
+        if other.bytes().get(at) != Some(byte) {
+            return Some(at);
+        }
+    }
+    None
+}
+
+/// The first place that is not as it should be, where the table is written over bytes of 255 that
+/// reach 88 bytes behind the last slot.
+fn first_wrong_byte(alloc: Global) -> Result<Option<usize>, Fail> {
+    let table = table_there(alloc)?;
+    let mut page = Page::zeros(alloc)?;
+    page.set(0, &[255; 4200]);
+    table.write(&mut page);
+    let mut wanted = page_of(alloc, WRITTEN)?;
+    wanted.set(4112, &[255; 88]);
+    Ok(first_other(&page, &wanted))
+}
+
+/// A free slot and the bytes that say nothing are written as zeros, and what stands behind the last
+/// slot stays.
+#[test]
+fn each_byte_is_written(rt: HostRuntime) -> Result<(), Fail> {
+    let wrong = first_wrong_byte(rt.alloc())?;
+    assert_eq!(rt; wrong, None);
+    Ok(())
+}
