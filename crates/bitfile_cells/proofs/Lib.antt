@@ -10,3 +10,4 @@ pub mod Chosen
 pub mod OnePage
 pub mod Added
 pub mod Still
+pub mod Switched

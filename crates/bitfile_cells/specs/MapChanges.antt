@@ -10,9 +10,10 @@ use Rattle.bmt_mcells.specs.Cell.{Cell}
 use Rattle.bmt_mcells.specs.CellPage.{cell_at, home_of}
 use Rattle.bmt_mcells.specs.Chain.{PlacedCell, StandsAt, places, records_of}
 use Rattle.extent_maps.specs.declared.run.PagePlace.{PagePlace}
+use Rattle.extent_maps.specs.declared.run.PagePlace.TheVariants.{Absent}
 use Rattle.extent_maps.specs.Runs.{with_place}
 use Rattle.extent_records.specs.Chains.{IsNone, Takes as TakesPage}
-use Rattle.extent_records.specs.Writing.{IsMapRecord, places_in}
+use Rattle.extent_records.specs.Writing.{CanSay, IsMapRecord, places_in}
 use Rattle.free_cells.specs.Cells.{Cells, table_of}
 use Rattle.free_space.specs.Spaces.{Spaces}
 use Rattle.bitfile_cells.specs.Allocated.{Takes}
@@ -81,3 +82,12 @@ TakesIfFull page place chain prefer space space_now cells cells_now old =
 abbrev pub LeavesOffTables : Cells → Pages → Pages → Type 0
 LeavesOffTables cells old new =
     (home : Home) → ¬ Contains (table_of cells home.vol) home.page → new home ≡ old home
+
+-- the record has the page
+abbrev pub HasPage : ℕ → Record → Type 0
+HasPage page r = ¬ places_in r page ≡ Absent
+
+-- the record of the chain that has the page cannot have it at that place
+abbrev pub HolderIsFull : ℕ → PagePlace → List PlacedCell → Type 0
+HolderIsFull page place chain = (r : Record) × Contains (map_records (records_of chain)) r
+    × HasPage page r × (CanSay (kind_of r) (with_place page place (places_in r)) → ⊥)

@@ -6,6 +6,7 @@ mod changing;
 mod giving;
 mod maps;
 mod putting;
+mod switching;
 mod taking;
 mod walking;
 
@@ -13,5 +14,6 @@ pub use changing::{clear_record, set_record};
 pub use giving::put_page;
 pub use maps::read_file_map;
 pub use putting::put_in_records;
+pub use switching::switch_in_records;
 pub use taking::take_cell;
 pub use walking::find_place;
