@@ -17,12 +17,13 @@ use page_store::{MetaPages, StoreFault};
 use std::alloc::Global;
 
 /// Puts a page that a file does not have at a home: in the record of it that takes the page, the
-/// first in which it joins a row, else the first that has room; where none has, in a chain cell that
-/// is handed out, of the preferred volume if that has one, and linked right behind the file's first
-/// cell, with a record as that version writes it. The file is the one whose chain begins at that
-/// cell; every cell in use but those of its chain stays, and every page that stands on no volume's
-/// table. NoPage comes only where no record has room, no cell is free, and no page that would hold
-/// more, which is a miss. At an Err nothing but room and the count of misses has changed.
+/// first in which it joins a row, else the first that has room; where none has, in a chain cell
+/// that is handed out, of the preferred volume if that has one, and linked right behind the file's
+/// first cell, with a record as that version writes it. The file is the one whose chain begins at
+/// that cell; every cell in use but those of its chain stays, and every page that stands on no
+/// volume's table. NoPage comes only where no record has room, no cell is free, and no page that
+/// would hold more, which is a miss. At an Err nothing but room and the count of misses has
+/// changed.
 pub fn put_page<M: MetaPages>(
     alloc: Global,
     pages: &mut M,

@@ -69,10 +69,10 @@ fn switch_at<M: MetaPages>(
     Ok(true)
 }
 
-/// Puts a page of a file that has a home at another one, in the record that has it. It answers false
-/// exactly where that record has no room for the map so changed, since a page in the middle of a row
-/// leaves more rows; then, and after an error, nothing has changed. The file is the one whose chain
-/// begins at that cell, and all cells but those of the chain stay.
+/// Puts a page of a file that has a home at another one, in the record that has it. It answers
+/// false exactly where that record has no room for the map so changed, since a page in the middle
+/// of a row leaves more rows; then, and after an error, nothing has changed. The file is the one
+/// whose chain begins at that cell, and all cells but those of the chain stay.
 pub fn switch_in_records<M: MetaPages>(
     alloc: Global,
     pages: &mut M,
