@@ -1,5 +1,5 @@
 -- Free cells, free space and pages that belong together do so after a change of cells in use.
-use Rattle.std.proofs.Common.{◌≡◌, ◌∙◌, ℕ, ◌||◌, not, Bool, true, false, Option, Some, None, IsSomeAnd, List, [], ◌∷◌, get_or, drop, length, Contains, refl, sym, ap, subst, arith}
+use Rattle.std.proofs.Common.{◌≡◌, ◌∙◌, ℕ, ◌||◌, not, Bool, true, false, Option, Some, None, IsSomeAnd, Result, Ok, Err, IfErr, List, [], ◌∷◌, get_or, drop, length, Contains, refl, sym, ap, subst, arith}
 use Rattle.std.proofs.lemmas.Bool.{and_parts, not-true}
 use Rattle.std.specs.List.{AllByRecursion}
 use Rattle.std.specs.Option.{option_map}
@@ -83,3 +83,7 @@ on_by_places cells (x ∷ xs) (y ∷ ys) same on = (
 -- cells off a chain stay in use
 pub others_stay : (cells : Cells) (chain : List PlacedCell) (old new : Pages) → LeavesApart chain old new → LeavesOtherCells cells chain old new
 others_stay cells chain old new leaves q cell stands on apart = record { bytes = stands.bytes; there = leaves q apart ∙ stands.there; is = stands.is }
+
+pub if_err : {A E : Type 0} {Q : E → Type 0} (r : Result A E) → ((x : E) → Q x) → IfErr r Q
+if_err (Ok x) all = tt
+if_err (Err e) all = all e

@@ -1,11 +1,12 @@
 //! A file gets a page at a home.
 ghost use Rattle.std.specs.Prelude.{◌≡◌, ◌+◌, ◌<◌, ◌≤◌, IfErr, List, OnErr, OnOk};
+ghost use Rattle.page_store.specs.declared.fault.StoreFault.TheVariants.{NoPage};
 ghost use Rattle.bmt_mcells.specs.Chain.{PlacedCell};
 ghost use Rattle.extent_maps.specs.declared.run.PagePlace.TheVariants.{Absent, At};
 ghost use Rattle.bitfile_cells.specs.Allocated.{AreAllocated, FindsNone};
 ghost use Rattle.bitfile_cells.specs.FileChanges.{AreOnTables, LeavesOtherCells};
 ghost use Rattle.bitfile_cells.specs.Files.{HasFile, IsFile, places_of};
-ghost use Rattle.bitfile_cells.specs.MapChanges.{ChangesOnTables, LeavesOffTables, TakesIfFull};
+ghost use Rattle.bitfile_cells.specs.MapChanges.{ChangesOnTables, LeavesOffTables, NoneTakes, TakesIfFull};
 
 use crate::adding::put_in_new_cell;
 use crate::putting::put_in_records;
@@ -49,6 +50,8 @@ pub fn put_page<M: MetaPages>(
         → OnOk result (TakesIfFull page (At home) chain prefer space.old space.new cells.old
         cells.new (M.pages pages.old)) }
     ensures err { IfErr result (FindsNone space.old space.new cells.old) }
+    ensures full { (chain : List PlacedCell) → IsFile (M.pages pages.old) start chain
+        → IfErr result (λ fault. fault ≡ NoPage → NoneTakes page (At home) chain) }
     ensures cells { OnErr result (cells.new ≡ cells.old) }
     ensures pages { OnErr result (M.pages pages.new ≡ M.pages pages.old) }
     ensures others { (chain : List PlacedCell) → IsFile (M.pages pages.old) start chain

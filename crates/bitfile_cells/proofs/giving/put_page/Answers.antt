@@ -3,7 +3,7 @@ use Rattle.page_store.specs.Pages.{Pages}
 use Rattle.bitfile_cells.specs.FileChanges.{LeavesOtherCells}
 use Rattle.bitfile_cells.specs.Files.{IsFile}
 use Rattle.bitfile_cells.proofs.Added.{off_tables}
-use Rattle.bitfile_cells.proofs.Still.{allocated_apart, on_by_places, others_stay}
+use Rattle.bitfile_cells.proofs.Still.{allocated_apart, if_err, on_by_places, others_stay}
 use Rattle.bitfile_cells.proofs.giving.put_page.Goals as goal
 
 pub returns-then-branch-clause-ok : goal.returns-then-branch-clause-ok
@@ -29,3 +29,6 @@ returns-clause-others g c = λ chain is.
     let kept = c.in_ok-put_in_records.ensures.kept c.if-branch.false in
     subst (λ (pages : Pages). LeavesOtherCells c.args.cells.now chain pages (g.M.MetaPages.pages c.put_in_new_cell.new.pages)) kept
     (c.put_in_new_cell.ensures.others chain (subst (λ (pages : Pages). IsFile pages c.args.start chain) (sym kept) is))
+
+pub returns-clause-full : goal.returns-clause-full
+returns-clause-full g c = λ chain is. if_err c.put_in_new_cell.result (λ fault _. c.in_ok-put_in_records.ensures.full chain is c.if-branch.false)
