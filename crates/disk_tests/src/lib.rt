@@ -11,6 +11,8 @@ mod anchors;
 #[cfg(test)]
 mod calls;
 #[cfg(test)]
+mod errors;
+#[cfg(test)]
 mod images;
 #[cfg(test)]
 mod labels;
