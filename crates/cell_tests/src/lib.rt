@@ -7,6 +7,8 @@ mod bitfiles;
 #[cfg(test)]
 mod chains;
 #[cfg(test)]
+mod errors;
+#[cfg(test)]
 mod free;
 #[cfg(test)]
 mod lines;
