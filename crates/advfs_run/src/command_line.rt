@@ -17,6 +17,7 @@ use crate::transfer::{write_all, zeros};
 use crate::words::pages_asked;
 use domain_base::OutOfMemory;
 use memory_disk::MemoryRack;
+use script_text::ScriptFault;
 use std::alloc::Global;
 use std::env::FillError;
 use std::process::ExitCode;
@@ -101,7 +102,7 @@ fn tell(rt: &impl Eprint, status: Status) -> io::Result<()> {
         Status::Ok => Ok(()),
         Status::BadScript { line, kind } => {
             eprintln!(rt; "advfs: {status}")?;
-            eprintln!(rt; "line {line}: {kind}")
+            eprintln!(rt; "{}", ScriptFault::Bad { line, kind })
         }
         _ => eprintln!(rt; "advfs: {status}"),
     }
