@@ -30,7 +30,7 @@ use Rattle.free_cells.specs.Cells.{Cells, is_free, is_closed, is_on, table_of}
 use Rattle.free_cells.specs.Belong.{last_home}
 use Rattle.free_space.specs.Spaces.{Spaces}
 use Rattle.bitfile_cells.specs.Allocated.{AreAllocated, Takes}
-use Rattle.bitfile_cells.specs.FileChanges.{AreOnTables, LeavesOtherCells, other_records}
+use Rattle.bitfile_cells.specs.FileChanges.{AreOnTables, LeavesOtherCells, map_kinds, other_records}
 use Rattle.bitfile_cells.specs.MapChanges.{ChangesOnTables, LeavesOffTables}
 use Rattle.bitfile_cells.specs.Files.{HasMap, IsFile, map_records, places_of}
 use Rattle.bitfile_cells.proofs.Allocated.{not_in_table, there_is}
@@ -260,7 +260,7 @@ module _ (prefer : ℕ) (at : CellAt) (space space_now : Spaces) (cells cells_no
                 one_map = one_after c0 rest file.value file.map same one absent;
               },
             );
-            first = (sym is.0, ap (λ (c : Cell). record c.head { next = Some at }) (sym same), ap (λ (c : Cell). other_records c.records) (sym same));
+            first = (sym is.0, ap (λ (c : Cell). record c.head { next = Some at }) (sym same), ap (λ (c : Cell). other_records c.records) (sym same), ap (λ (c : Cell). map_kinds c.records) (sym same));
             at = places_after c0 rest file.value file.map same one absent;
           };
           on_tables = (table_kept start.vol start.page on_start, (at_on, tables_kept rest on.1));

@@ -1,5 +1,5 @@
 -- A chain of which one cell has another record that says where pages stand.
-use Rattle.std.proofs.Common.{◌≡◌, ◌∙◌, ℕ, zero, suc, ◌<◌, ◌&&◌, true, false, cond, nat_eq, List, [], ◌∷◌, ◌++◌, get_or, set, length, Some, IsSome, Contains, refl, sym, ap, subst, arith, ⊎_elim}
+use Rattle.std.proofs.Common.{◌≡◌, ◌∙◌, ℕ, zero, suc, ◌<◌, ◌&&◌, true, false, cond, nat_eq, List, [], ◌∷◌, ◌++◌, get_or, set, map, length, Some, IsSome, Contains, refl, sym, ap, subst, arith, ⊎_elim}
 use Rattle.std.proofs.lemmas.Bool.{and_parts, cases_Bool, eqb-true}
 use Rattle.std.specs.List.{AllByRecursion}
 use Rattle.domain_base.specs.declared.place.CellAt.{CellAt}
@@ -20,12 +20,12 @@ use Rattle.extent_records.specs.Chains.{CanTake, ChangesChain}
 use Rattle.extent_records.specs.Writing.{places_in}
 use Rattle.extent_records.proofs.ChainLemmas.{one_page_follows}
 use Rattle.bitfile_cells.specs.Changes.{with_record}
-use Rattle.bitfile_cells.specs.FileChanges.{ChangesPage, SameFirst, other_records}
+use Rattle.bitfile_cells.specs.FileChanges.{ChangesPage, SameFirst, map_kinds, other_records}
 use Rattle.bitfile_cells.specs.Files.{HasMap, IsFile, IsMapCell, map_records, places_of}
 use Rattle.bitfile_cells.specs.MapChanges.{ChangesInPlace, ChangesMap, LeavesApart}
 use Rattle.bitfile_cells.proofs.Gathers.{map_append, mapped_all, one_map_file, values, values_are}
 use Rattle.bitfile_cells.proofs.MapRecords.{one_map_back, rows_kind, runs_by_map, value_has_rows}
-use Rattle.bitfile_cells.proofs.OneRecord.{has_after, map_cell_after, others_same, still_found}
+use Rattle.bitfile_cells.proofs.OneRecord.{has_after, map_cell_after, only_after, others_same, still_found}
 use Rattle.bitfile_cells.proofs.Walks.{Mapped, cell_places, first_places}
 
 -- ---- addresses
@@ -231,6 +231,8 @@ module _ (old new : Pages) (at : CellAt) (value : Record) (page : ℕ) (place : 
           refl,
           subst (λ (c : Cell). c.head ≡ record first.cell.head { next = c.head.next }) of refl,
           others_same value changes.after changes.is_map changes.same_kind p.cell.records p.stands.is.well_formed ∙ ap (λ (c : Cell). other_records c.records) (sym of),
+          ap (map kind_of) (only_after value changes.after changes.is_map changes.same_kind p.cell.records p.map.only) ∙ ap (λ (k : ℕ). k ∷ []) changes.same_kind ∙ sym (ap (map kind_of) p.map.only)
+          ∙ ap (λ (c : Cell). map_kinds c.records) (sym of),
         );
       }
   stays start (first ∷ rest) is (suc i) p one =
@@ -253,7 +255,7 @@ module _ (old new : Pages) (at : CellAt) (value : Record) (page : ℕ) (place : 
             one_map = one;
           },
         );
-        first = (refl, refl, refl);
+        first = (refl, refl, refl, refl);
       }
 
   pub page_changes : (start : CellAt) (chain : List PlacedCell) (is : IsFile old start chain) (i : ℕ) (p : Picks old i at value chain) → places_of chain page ≡ places_in value page → ChangesPage start page place chain new

@@ -1,26 +1,32 @@
 -- What a change of one page of a file changes, and what it leaves.
-use Rattle.std.specs.Prelude.{◌≡◌, ℕ, not, List, ◌∷◌, filter, Contains}
+use Rattle.std.specs.Prelude.{◌≡◌, ℕ, not, List, ◌∷◌, filter, map, Contains}
 use Rattle.std.specs.List.{AllByRecursion}
 use Rattle.domain_base.specs.declared.place.CellAt.{CellAt}
 use Rattle.page_store.specs.Pages.{Pages}
 use Rattle.record_table.specs.declared.record.Record.{Record}
+use Rattle.record_table.specs.Records.{kind_of}
 use Rattle.bmt_mcells.specs.Cell.{Cell}
 use Rattle.bmt_mcells.specs.Chain.{PlacedCell, StandsAt, places}
 use Rattle.free_cells.specs.Cells.{Cells, table_of}
 use Rattle.extent_maps.specs.declared.run.PagePlace.{PagePlace}
 use Rattle.extent_maps.specs.Runs.{with_place}
-use Rattle.bitfile_cells.specs.Files.{IsFile, has_rows, places_of}
+use Rattle.bitfile_cells.specs.Files.{IsFile, has_rows, map_records, places_of}
 
 -- the records of a cell but for the one that says where pages stand
 abbrev pub other_records : List Record → List Record
 other_records records = filter (λ r. not (has_rows r)) records
 
+-- the kinds of a cell's records that say where pages stand
+abbrev pub map_kinds : List Record → List ℕ
+map_kinds records = map kind_of (map_records records)
+
 -- the first cell of a chain has what it had, but for the cell that it leads to and for where pages
--- stand
+-- stand, which a record of the same kind says
 abbrev pub SameFirst : List PlacedCell → List PlacedCell → Type 0
 SameFirst (a ∷ chain) (b ∷ after) =
     (b.at ≡ a.at) × (b.cell.head ≡ record a.cell.head { next = b.cell.head.next })
     × (other_records b.cell.records ≡ other_records a.cell.records)
+    × (map_kinds b.cell.records ≡ map_kinds a.cell.records)
 SameFirst _ _ = ⊥
 
 -- the file whose chain begins there has one page at another place, and all else as it was
