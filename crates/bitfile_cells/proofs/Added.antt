@@ -1,14 +1,16 @@
 -- A file with a cell more, right behind its first one.
-use Rattle.std.proofs.Common.{◌≡◌, ◌∙◌, ℕ, zero, suc, ◌-◌, ◌≤◌, ◌||◌, not, Bool, true, false, cond, nat_eq, nat_lt, List, [], ◌∷◌, ◌++◌, length, Some, IsSome, IsSomeAnd, Contains, refl, sym, ap, subst, arith, ⊎_elim}
+use Rattle.std.proofs.Common.{◌≡◌, ◌∙◌, ℕ, zero, suc, ◌-◌, ◌≤◌, ◌||◌, not, Bool, true, false, cond, nat_eq, nat_lt, List, [], ◌∷◌, ◌++◌, map, length, Some, IsSome, IsSomeAnd, Contains, refl, sym, ap, subst, arith, ⊎_elim}
 use Rattle.std.proofs.lemmas.Bool.{and_parts, cases_Bool, eq-eqb}
 use Rattle.std.specs.List.{AllByRecursion}
 use Rattle.domain_base.specs.Page.{zero_bytes}
 use Rattle.domain_base.specs.declared.place.CellAt.{CellAt}
 use Rattle.domain_base.specs.declared.place.Home.{Home}
+use Rattle.domain_base.specs.declared.version.Version.{Version}
 use Rattle.page_store.specs.Pages.{Pages, same_home}
 use Rattle.record_table.specs.declared.record.Record.{Record}
 use Rattle.record_table.specs.declared.record.Record.TheVariants.{Parent}
 use Rattle.record_table.specs.Fields.{number_at}
+use Rattle.record_table.specs.Records.{kind_of}
 use Rattle.bmt_mcells.specs.declared.head.CellHead.{CellHead}
 use Rattle.bmt_mcells.specs.declared.head.CellKind.{CellKind}
 use Rattle.bmt_mcells.specs.declared.head.CellKind.TheVariants.{Primary, Chain, Quota, Volume}
@@ -24,20 +26,20 @@ use Rattle.extent_maps.specs.declared.run.PagePlace.TheVariants.{Absent}
 use Rattle.extent_maps.specs.Runs.{place_of, with_place}
 use Rattle.extent_records.specs.Rows.{AreOneMap, runs_of}
 use Rattle.extent_records.specs.Chains.{ChangesChain}
-use Rattle.extent_records.specs.Writing.{IsMapRecord, places_in}
+use Rattle.extent_records.specs.Writing.{IsMapRecord, chain_kind, places_in}
 use Rattle.extent_records.proofs.ChainLemmas.{one_page_follows}
 use Rattle.free_cells.specs.Cells.{Cells, is_free, is_closed, is_on, table_of}
 use Rattle.free_cells.specs.Belong.{last_home}
 use Rattle.free_space.specs.Spaces.{Spaces}
 use Rattle.bitfile_cells.specs.Allocated.{AreAllocated, Takes}
 use Rattle.bitfile_cells.specs.FileChanges.{AreOnTables, LeavesOtherCells, map_kinds, other_records}
-use Rattle.bitfile_cells.specs.MapChanges.{ChangesOnTables, LeavesOffTables}
+use Rattle.bitfile_cells.specs.MapChanges.{ChangesOnTables, Joins, LeavesOffTables}
 use Rattle.bitfile_cells.specs.Files.{HasMap, IsFile, map_records, places_of}
 use Rattle.bitfile_cells.proofs.Allocated.{not_in_table, there_is}
-use Rattle.bitfile_cells.proofs.ChainChanges.{at_apart, in_first, in_later, one_front}
+use Rattle.bitfile_cells.proofs.ChainChanges.{at_apart, in_first, in_later, inside_places, one_front}
 use Rattle.bitfile_cells.proofs.Chosen.{all_at}
 use Rattle.bitfile_cells.proofs.Gathers.{one_map_file}
-use Rattle.bitfile_cells.proofs.MapRecords.{one_map_back, one_map_record, runs_by_map}
+use Rattle.bitfile_cells.proofs.MapRecords.{one_map_back, one_map_record, rows_true, runs_by_map, value_has_rows}
 
 -- ---- a cell in use is no free one
 
@@ -140,7 +142,7 @@ module _ (prefer : ℕ) (at : CellAt) (space space_now : Spaces) (cells cells_no
   -- ---- the chain with it
 
   module _ (zeros : cell_at between at ≡ Some (zero_bytes 292)) (new : Pages) (start : CellAt) (cell : Cell) (value : Record) (page : ℕ) (place : PagePlace) (is_map : IsMapRecord value)
-      (at_page : (p : ℕ) → places_in value p ≡ with_place page place (λ _. Absent) p)
+      (at_page : (p : ℕ) → places_in value p ≡ with_place page place (λ _. Absent) p) (version : Version) (kind : kind_of value ≡ chain_kind version)
       (front_stands : StandsAt new start (record cell { head = record cell.head { next = Some at } }))
       (back_stands : StandsAt new at (record { head = record cell.head { kind = Chain }; records = value ∷ [] }))
       (others : LeavesOthers (λ q. is_at at q || is_at start q) between new) where
@@ -223,7 +225,7 @@ module _ (prefer : ℕ) (at : CellAt) (space space_now : Spaces) (cells cells_no
           ap (λ rs. place_of rs p) (runs_by_map (records_of after)) ∙ ap (λ (rs : List Record). place_of (runs_of rs) p) after_list ∙ follows.places p
           ∙ ap (λ x. cond (nat_eq p page) place x) (sym (chain_same p))
 
-    pub added : (chain : List PlacedCell) → IsFile old start chain → AreOnTables cells chain → StandsAt old start cell → places_of chain page ≡ Absent → ChangesOnTables start page place chain cells_now new
+    pub added : (chain : List PlacedCell) → IsFile old start chain → AreOnTables cells chain → StandsAt old start cell → places_of chain page ≡ Absent → ChangesOnTables start page place chain version cells cells_now old new
     added [] is on stands absent = absurd is
     added (c0 ∷ rest) is on stands absent =
         let file = is.1 in
@@ -264,8 +266,17 @@ module _ (prefer : ℕ) (at : CellAt) (space space_now : Spaces) (cells cells_no
             at = places_after c0 rest file.value file.map same one absent;
           };
           on_tables = (table_kept start.vol start.page on_start, (at_on, tables_kept rest on.1));
+          joined = joined is.0;
         }
       where
+        joined : c0.at ≡ start → (c : PlacedCell) → Contains (front ∷ back ∷ rest) c → ¬ Contains (places (c0 ∷ rest)) c.at → Joins cells old version c
+        joined place c (zero, within, there) apart = absurd (apart (in_first c.at c0 rest (place ∙ ap (λ (c : PlacedCell). c.at) there)))
+        joined place c (suc zero, within, there) apart = subst (Joins cells old version) there (record {
+          was_free = λ cell stands on. not_there at cell on stands refl;
+          kind = ap (map kind_of) (rows_true value [] (value_has_rows value is_map)) ∙ ap (λ (k : ℕ). k ∷ []) kind;
+        })
+        joined place c (suc (suc k), within, there) apart = absurd (apart (in_later c.at c0 rest (inside_places rest c (k, omega (arith, within), there))))
+
         fresh_start : Contains (table_of cells start.vol) start.page → ¬ Contains (places rest) start → ¬ Contains (places (back ∷ rest)) start
         fresh_start on_start outside (zero, within, there) = not_there start cell on_start stands there
         fresh_start on_start outside (suc k, within, there) = outside (k, omega (arith, within), there)

@@ -51,6 +51,12 @@ in_later a c cs (k, within, is) = (suc k, omega (arith, within), is)
 pub in_first : (a : CellAt) (c : PlacedCell) (cs : List PlacedCell) → c.at ≡ a → Contains (places (c ∷ cs)) a
 in_first a c cs is = (0, omega arith, is)
 
+-- a cell of a chain stands at one of its places
+pub inside_places : (cs : List PlacedCell) (c : PlacedCell) → Contains cs c → Contains (places cs) c.at
+inside_places [] c (k, within, is) = absurd (omega (arith, within))
+inside_places (x ∷ xs) c (zero, within, is) = in_first c.at x xs (ap (λ (c : PlacedCell). c.at) is)
+inside_places (x ∷ xs) c (suc k, within, is) = in_later c.at x xs (inside_places xs c (k, omega (arith, within), is))
+
 -- ---- the cell at a place of a chain
 
 abbrev pub set_cell : ℕ → Cell → List PlacedCell → List PlacedCell

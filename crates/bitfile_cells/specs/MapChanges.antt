@@ -1,8 +1,9 @@
 -- The change of the one record of a cell that says where pages stand.
-use Rattle.std.specs.Prelude.{◌≡◌, ◌⊎◌, ℕ, false, List, Some, Contains}
+use Rattle.std.specs.Prelude.{◌≡◌, ◌⊎◌, ℕ, false, List, [], ◌∷◌, Some, Contains}
 use Rattle.std.specs.List.{AllByRecursion}
 use Rattle.domain_base.specs.declared.place.CellAt.{CellAt}
 use Rattle.domain_base.specs.declared.place.Home.{Home}
+use Rattle.domain_base.specs.declared.version.Version.{Version}
 use Rattle.page_store.specs.Pages.{Pages, same_home}
 use Rattle.record_table.specs.declared.record.Record.{Record}
 use Rattle.record_table.specs.Records.{kind_of}
@@ -13,12 +14,12 @@ use Rattle.extent_maps.specs.declared.run.PagePlace.{PagePlace}
 use Rattle.extent_maps.specs.declared.run.PagePlace.TheVariants.{Absent}
 use Rattle.extent_maps.specs.Runs.{with_place}
 use Rattle.extent_records.specs.Chains.{IsNone, Takes as TakesPage}
-use Rattle.extent_records.specs.Writing.{CanSay, IsMapRecord, places_in}
+use Rattle.extent_records.specs.Writing.{CanSay, IsMapRecord, chain_kind, places_in}
 use Rattle.free_cells.specs.Cells.{Cells, table_of}
 use Rattle.free_space.specs.Spaces.{Spaces}
 use Rattle.bitfile_cells.specs.Allocated.{Takes}
 use Rattle.bitfile_cells.specs.Changes.{with_record}
-use Rattle.bitfile_cells.specs.FileChanges.{AreOnTables, ChangesPage}
+use Rattle.bitfile_cells.specs.FileChanges.{AreOnTables, ChangesPage, map_kinds}
 use Rattle.bitfile_cells.specs.Files.{HasMap, map_records}
 
 -- a cell in use stands there whose record that says where pages stand is this one
@@ -58,11 +59,22 @@ pub record ChangesInPlace (start : CellAt) (page : ℕ) (place : PagePlace) (cha
   pub changes : ChangesPage start page place chain new
   pub same_cells : places changes.after ≡ places chain
 
--- the same, and each of its cells stands on a page of its volume's table
+-- none in use of the tables stood at that cell, and what it says of pages is a record of that
+-- version's chains
+pub record Joins (cells : Cells) (old : Pages) (version : Version) (c : PlacedCell) : Type 0 where
+  pub was_free : (cell : Cell) → StandsAt old c.at cell
+      → ¬ Contains (table_of cells c.at.vol) c.at.page
+  pub kind : map_kinds c.cell.records ≡ chain_kind version ∷ []
+
+-- the file has one page at another place, and all else as it was; each of its cells stands on a
+-- page of its volume's table, and joined it if it was none of it
 pub record ChangesOnTables (start : CellAt) (page : ℕ) (place : PagePlace)
-    (chain : List PlacedCell) (cells : Cells) (new : Pages) : Type 0 where
+    (chain : List PlacedCell) (version : Version) (cells cells_now : Cells) (old new : Pages)
+    : Type 0 where
   pub changes : ChangesPage start page place chain new
-  pub on_tables : AreOnTables cells changes.after
+  pub on_tables : AreOnTables cells_now changes.after
+  pub joined : (c : PlacedCell) → Contains changes.after c → ¬ Contains (places chain) c.at
+      → Joins cells old version c
 
 -- a cell is handed out
 pub record TakesOne (prefer : ℕ) (space space_now : Spaces) (cells cells_now : Cells) (old : Pages)

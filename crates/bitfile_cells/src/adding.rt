@@ -115,8 +115,8 @@ pub(crate) fn put_in_new_cell<M: MetaPages>(
         → places_of chain page ≡ Absent }
     requires small { page < FILE_PAGES }
     ensures ok { (chain : List PlacedCell) → IsFile (M.pages pages.old) start.now chain
-        → OnOk result (ChangesOnTables start.now page (At home.now) chain cells.new
-        (M.pages pages.new)) }
+        → OnOk result (ChangesOnTables start.now page (At home.now) chain version
+        cells.old cells.new (M.pages pages.old) (M.pages pages.new)) }
     ensures taken { OnOk result (TakesOne prefer space.old space.new cells.old cells.new
         (M.pages pages.old)) }
     ensures err { IfErr result (FindsNone space.old space.new cells.old) }

@@ -44,8 +44,8 @@ pub fn put_page<M: MetaPages>(
         → places_of chain page ≡ Absent }
     requires small { page < FILE_PAGES }
     ensures ok { (chain : List PlacedCell) → IsFile (M.pages pages.old) start chain
-        → OnOk result (ChangesOnTables start page (At home) chain cells.new
-        (M.pages pages.new)) }
+        → OnOk result (ChangesOnTables start page (At home) chain version cells.old
+        cells.new (M.pages pages.old) (M.pages pages.new)) }
     ensures taken { (chain : List PlacedCell) → IsFile (M.pages pages.old) start chain
         → OnOk result (TakesIfFull page (At home) chain prefer space.old space.new cells.old
         cells.new (M.pages pages.old)) }

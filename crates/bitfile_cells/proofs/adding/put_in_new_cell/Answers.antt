@@ -65,7 +65,7 @@ returns-clause-ok g c = λ chain is.
     let value = c.in_ok-value.value in
     let back = subst (λ (rs : List Record). StandsAt new at (record { head = record cell.head { kind = Chain }; records = rs })) c.in_ok-records.ensures c.link_behind.ensures.behind in
     added c.args.prefer at c.args.space.now c.take_cell.new.space c.args.cells.now c.take_cell.new.cells old between low c.requires.allocated c.in_ok-at.ensures.ok
-    c.in_ok-at.ensures.zeros new start cell value c.args.page (At c.args.home.now) c.in_ok-value.ensures.is_map c.in_ok-value.ensures.places c.link_behind.ensures.first back c.link_behind.ensures.others
+    c.in_ok-at.ensures.zeros new start cell value c.args.page (At c.args.home.now) c.in_ok-value.ensures.is_map c.in_ok-value.ensures.places c.args.version c.in_ok-value.ensures.kind c.link_behind.ensures.first back c.link_behind.ensures.others
     chain is (c.requires.tables chain is) stands (c.requires.absent chain is)
 
 pub returns-clause-others : goal.returns-clause-others
@@ -82,7 +82,7 @@ returns-clause-others g c = λ chain is.
     let value = c.in_ok-value.value in
     let back = subst (λ (rs : List Record). StandsAt new at (record { head = record cell.head { kind = Chain }; records = rs })) c.in_ok-records.ensures c.link_behind.ensures.behind in
     other_stay c.args.prefer at c.args.space.now c.take_cell.new.space c.args.cells.now c.take_cell.new.cells old between low c.requires.allocated c.in_ok-at.ensures.ok
-    c.in_ok-at.ensures.zeros new start cell value c.args.page (At c.args.home.now) c.in_ok-value.ensures.is_map c.in_ok-value.ensures.places c.link_behind.ensures.first back c.link_behind.ensures.others
+    c.in_ok-at.ensures.zeros new start cell value c.args.page (At c.args.home.now) c.in_ok-value.ensures.is_map c.in_ok-value.ensures.places c.args.version c.in_ok-value.ensures.kind c.link_behind.ensures.first back c.link_behind.ensures.others
     chain is
 
 pub returns-clause-allocated : goal.returns-clause-allocated

@@ -1,15 +1,21 @@
-use Rattle.std.proofs.Common.{subst, sym}
+use Rattle.std.proofs.Common.{Contains, List, subst, sym}
+use Rattle.domain_base.specs.declared.place.CellAt.{CellAt}
 use Rattle.page_store.specs.Pages.{Pages}
 use Rattle.bitfile_cells.specs.FileChanges.{LeavesOtherCells}
 use Rattle.bitfile_cells.specs.Files.{IsFile}
 use Rattle.bitfile_cells.proofs.Added.{off_tables}
+use Rattle.bitfile_cells.proofs.ChainChanges.{inside_places}
 use Rattle.bitfile_cells.proofs.Still.{allocated_apart, if_err, on_by_places, others_stay}
 use Rattle.bitfile_cells.proofs.giving.put_page.Goals as goal
 
 pub returns-then-branch-clause-ok : goal.returns-then-branch-clause-ok
 returns-then-branch-clause-ok g c = λ chain is.
     let put = c.in_ok-put_in_records.ensures.put chain is c.if-branch.true in
-    record { changes = put.changes; on_tables = on_by_places c.args.cells.now put.changes.after chain put.same_cells (c.requires.tables chain is) }
+    record {
+      changes = put.changes;
+      on_tables = on_by_places c.args.cells.now put.changes.after chain put.same_cells (c.requires.tables chain is);
+      joined = λ d inside apart. absurd (apart (subst (λ (ps : List CellAt). Contains ps d.at) put.same_cells (inside_places put.changes.after d inside)));
+    }
 
 pub returns-then-branch-clause-others : goal.returns-then-branch-clause-others
 returns-then-branch-clause-others g c = λ chain is.
