@@ -238,7 +238,7 @@ module _ (old new : Pages) (at : CellAt) (value : Record) (page : ℕ) (place : 
           subst (λ (c : Cell). c.head ≡ record first.cell.head { next = c.head.next }) of refl,
           others_same value changes.after changes.is_map changes.same_kind p.cell.records p.stands.is.well_formed ∙ ap (λ (c : Cell). other_records c.records) (sym of),
           ap (map kind_of) (only_after value changes.after changes.is_map changes.same_kind p.cell.records p.map.only) ∙ ap (λ (k : ℕ). k ∷ []) changes.same_kind ∙ sym (ap (map kind_of) p.map.only)
-          ∙ ap (λ (c : Cell). map_kinds c.records) (sym of),
+              ∙ ap (λ (c : Cell). map_kinds c.records) (sym of),
         );
       }
   stays start (first ∷ rest) is (suc i) p one =
