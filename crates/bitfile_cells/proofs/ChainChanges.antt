@@ -139,21 +139,22 @@ picks pages (suc i) at value (c ∷ cs) stand all within place there =
 
 -- ---- the chain then
 
+-- cells apart from the one that is changed
+apart_stands : (old new : Pages) (at : CellAt) → LeavesOthers (is_at at) old new → (c : PlacedCell) → ¬ at ≡ c.at → StandsAt old c.at c.cell → StandsAt new c.at c.cell
+apart_stands old new at leaves c other stands = stands_stays old new (is_at at) leaves c.at c.cell (at_apart at c.at other) stands
+
+pub follow_apart : (old new : Pages) (at : CellAt) → LeavesOthers (is_at at) old new → (head : CellHead) (cs : List PlacedCell) → ¬ Contains (places cs) at → Follow old head cs → Follow new head cs
+follow_apart old new at leaves head [] apart follow = follow
+follow_apart old new at leaves head (c ∷ cs) apart follow = (
+  follow.0,
+  follow.1,
+  apart_stands old new at leaves c (λ same. apart (in_first at c cs (sym same))) follow.2,
+  follow_apart old new at leaves c.cell.head cs (λ there. apart (in_later at c cs there)) follow.3,
+)
+
 module _ (old new : Pages) (at : CellAt) (value : Record) (page : ℕ) (place : PagePlace) (changes : ChangesMap at value page place old new) (leaves : LeavesOthers (is_at at) old new) where
   abbrev pub cell_after : Cell → Cell
   cell_after cell = with_record (kind_of value) (Some changes.after) cell
-
-  apart_stands : (c : PlacedCell) → ¬ at ≡ c.at → StandsAt old c.at c.cell → StandsAt new c.at c.cell
-  apart_stands c other stands = stands_stays old new (is_at at) leaves c.at c.cell (at_apart at c.at other) stands
-
-  follow_apart : (head : CellHead) (cs : List PlacedCell) → ¬ Contains (places cs) at → Follow old head cs → Follow new head cs
-  follow_apart head [] apart follow = follow
-  follow_apart head (c ∷ cs) apart follow = (
-    follow.0,
-    follow.1,
-    apart_stands c (λ same. apart (in_first at c cs (sym same))) follow.2,
-    follow_apart c.cell.head cs (λ there. apart (in_later at c cs there)) follow.3,
-  )
 
   -- behind a cell that is not changed
   follow_set : (i : ℕ) (cell : Cell) (head : CellHead) (cs : List PlacedCell) → AreDistinct cs → IsThere i cs at cell → StandsAt old at cell → Follow old head cs → Follow new head (set_cell i (cell_after cell) cs)
@@ -164,13 +165,13 @@ module _ (old new : Pages) (at : CellAt) (value : Record) (page : ℕ) (place : 
         follow.0,
         subst (λ (c : Cell). may_follow head.kind c.head.kind ≡ true) of follow.1,
         subst (λ (a : CellAt). StandsAt new a (cell_after cell)) (sym place) (changes.cell cell stands),
-        follow_apart cell.head cs (λ inside. distinct.0 (subst (Contains (places cs)) (sym place) inside)) (subst (λ (c : Cell). Follow old c.head cs) of follow.3),
+        follow_apart old new at leaves cell.head cs (λ inside. distinct.0 (subst (Contains (places cs)) (sym place) inside)) (subst (λ (c : Cell). Follow old c.head cs) of follow.3),
       )
   follow_set (suc i) cell head (x ∷ cs) distinct there stands follow =
       let inside = is_inside i cs at cell (omega (arith, there.0), there.1) in (
         follow.0,
         follow.1,
-        apart_stands x (λ same. distinct.0 (subst (Contains (places cs)) same inside)) follow.2,
+        apart_stands old new at leaves x (λ same. distinct.0 (subst (Contains (places cs)) same inside)) follow.2,
         follow_set i cell x.cell.head cs distinct.1 (omega (arith, there.0), there.1) stands follow.3,
       )
 
@@ -221,7 +222,7 @@ module _ (old new : Pages) (at : CellAt) (value : Record) (page : ℕ) (place : 
           record {
             links = record {
               stands = subst (λ (a : CellAt). StandsAt new a (cell_after p.cell)) (sym place) (changes.cell p.cell p.stands);
-              follow = follow_apart p.cell.head rest (λ inside. is.1.links.distinct.0 (subst (Contains (places rest)) (sym place) inside)) (subst (λ (c : Cell). Follow old c.head rest) of is.1.links.follow);
+              follow = follow_apart old new at leaves p.cell.head rest (λ inside. is.1.links.distinct.0 (subst (Contains (places rest)) (sym place) inside)) (subst (λ (c : Cell). Follow old c.head rest) of is.1.links.follow);
               distinct = is.1.links.distinct;
             };
             primary = subst (λ (c : Cell). c.head.kind ≡ Primary) of is.1.primary;
@@ -249,7 +250,7 @@ module _ (old new : Pages) (at : CellAt) (value : Record) (page : ℕ) (place : 
           is.0,
           record {
             links = record {
-              stands = apart_stands first apart is.1.links.stands;
+              stands = apart_stands old new at leaves first apart is.1.links.stands;
               follow = follow_set i p.cell first.cell.head rest is.1.links.distinct.1 there p.stands is.1.links.follow;
               distinct = distinct_set (suc i) (cell_after p.cell) (first ∷ rest) is.1.links.distinct;
             };

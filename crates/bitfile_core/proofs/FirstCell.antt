@@ -1,53 +1,24 @@
 -- A record of a file's first cell that says nothing of pages is changed: the file stays one.
-use Rattle.std.proofs.Common.{◌≡◌, ◌≢◌, ◌∙◌, ℕ, suc, ◌<◌, ◌≤◌, ◌&&◌, Bool, true, false, cond, nat_eq, nat_lt, List, [], ◌∷◌, ◌++◌, filter, Option, Some, None, IfSome, IsSome, Contains, refl, sym, ap, subst, arith, ⊎_elim}
-use Rattle.std.proofs.lemmas.Bool.{and_parts, both_ways, cases_Bool, cases_lt, eqb-true, eq-eqb, false_from_ne_true, lt-ltb, ltb-true}
+use Rattle.std.proofs.Common.{◌≡◌, ◌≢◌, ◌∙◌, ℕ, ◌<◌, ◌≤◌, Bool, true, false, cond, nat_eq, nat_lt, List, [], ◌∷◌, ◌++◌, filter, Option, Some, None, IfSome, IsSome, refl, sym, ap, subst, arith, ⊎_elim}
+use Rattle.std.proofs.lemmas.Bool.{both_ways, cases_Bool, cases_lt, eqb-true, eq-eqb, false_from_ne_true, lt-ltb, ltb-true}
 use Rattle.std.proofs.lemmas.Grind.{flat_map-append}
+use Rattle.std.proofs.lemmas.List.Elements.{filter-append}
 use Rattle.std.specs.List.{AllByRecursion}
 use Rattle.std.specs.Option.{option_to_list}
-use Rattle.domain_base.specs.declared.place.CellAt.{CellAt}
 use Rattle.page_store.specs.Pages.{Pages}
 use Rattle.record_table.specs.declared.record.Record.{Record}
 use Rattle.record_table.specs.Records.{kind_of}
-use Rattle.bmt_mcells.specs.declared.head.CellHead.{CellHead}
 use Rattle.bmt_mcells.specs.Cell.{record_of}
-use Rattle.bmt_mcells.specs.Chain.{Follow, LeavesOthers, PlacedCell, StandsAt, is_at, places, records_of}
-use Rattle.bmt_mcells.proofs.Frames.{stands_stays}
+use Rattle.bmt_mcells.specs.Chain.{LeavesOthers, PlacedCell, StandsAt, is_at, records_of}
 use Rattle.extent_maps.specs.declared.run.Run.{Run}
 use Rattle.extent_records.specs.Rows.{IsPlaced, NoPageTwice, runs_in, runs_of}
 use Rattle.bitfile_cells.specs.Changes.{above, below, with_kind, with_record}
 use Rattle.bitfile_cells.specs.Files.{AreFile, has_rows, map_records}
+use Rattle.bitfile_cells.proofs.ChainChanges.{follow_apart}
 use Rattle.bitfile_cells.proofs.MapRecords.{runs_by_map}
-
--- ---- other cells
-
-at_parts : (a b : CellAt) → is_at a b ≡ true → a ≡ b
-at_parts a b same =
-    let outer = and_parts (nat_eq a.vol b.vol) (nat_eq a.page b.page && nat_eq a.cell b.cell) same in
-    let inner = and_parts (nat_eq a.page b.page) (nat_eq a.cell b.cell) outer.1 in
-    let vol = eqb-true a.vol b.vol outer.0 in
-    let page = eqb-true a.page b.page inner.0 in
-    let cell = eqb-true a.cell b.cell inner.1 in
-    (λ i. record { vol = vol i; page = page i; cell = cell i })
-
-pub not_at : (a b : CellAt) → ¬ a ≡ b → is_at a b ≡ false
-not_at a b other = false_from_ne_true (is_at a b) (λ same. other (at_parts a b same))
-
-pub follow_apart : (old new : Pages) (at : CellAt) → LeavesOthers (is_at at) old new → (head : CellHead) (cs : List PlacedCell) → ¬ Contains (places cs) at → Follow old head cs → Follow new head cs
-follow_apart old new at leaves head [] apart follow = follow
-follow_apart old new at leaves head (c ∷ cs) apart follow = (
-  follow.0,
-  follow.1,
-  stands_stays old new (is_at at) leaves c.at c.cell (not_at at c.at (λ same. apart (0, omega arith, sym same))) follow.2,
-  follow_apart old new at leaves c.cell.head cs (λ inside. apart (suc inside.0, omega (arith, inside.1), inside.2)) follow.3,
-)
+use Rattle.bitfile_cells.proofs.Replaced.{filter_false, filter_true}
 
 -- ---- a filter of a filter
-
-filter_true : (p : Record → Bool) (r : Record) (rs : List Record) → p r ≡ true → filter p (r ∷ rs) ≡ r ∷ filter p rs
-filter_true p r rs is = ap (λ (b : Bool). cond b (r ∷ filter p rs) (filter p rs)) is
-
-filter_false : (p : Record → Bool) (r : Record) (rs : List Record) → p r ≡ false → filter p (r ∷ rs) ≡ filter p rs
-filter_false p r rs is = ap (λ (b : Bool). cond b (r ∷ filter p rs) (filter p rs)) is
 
 filters_swap : (p q : Record → Bool) (rs : List Record) → filter p (filter q rs) ≡ filter q (filter p rs)
 filters_swap p q [] = refl
@@ -62,13 +33,6 @@ filters_swap p q (r ∷ rs) = ⊎_elim
     (λ no_p. ap (filter p) (filter_false q r rs no_q) ∙ filters_swap p q rs ∙ sym (ap (filter q) (filter_false p r rs no_p)))
     (cases_Bool (p r)))
     (cases_Bool (q r))
-
-filter-append : (p : Record → Bool) (xs ys : List Record) → filter p (xs ++ ys) ≡ filter p xs ++ filter p ys
-filter-append p [] ys = refl
-filter-append p (x ∷ xs) ys = ⊎_elim
-    (λ is. filter_true p x (xs ++ ys) is ∙ ap (λ (zs : List Record). x ∷ zs) (filter-append p xs ys) ∙ sym (ap (λ (zs : List Record). zs ++ filter p ys) (filter_true p x xs is)))
-    (λ is. filter_false p x (xs ++ ys) is ∙ filter-append p xs ys ∙ sym (ap (λ (zs : List Record). zs ++ filter p ys) (filter_false p x xs is)))
-    (cases_Bool (p x))
 
 -- ---- the record with rows stays
 

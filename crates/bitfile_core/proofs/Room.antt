@@ -14,17 +14,11 @@ use Rattle.bmt_mcells.specs.Chain.{StandsAt}
 use Rattle.bmt_mcells.proofs.Spellings.{spellings-append}
 use Rattle.bitfile_cells.specs.Changes.{HasRoom, above, below}
 use Rattle.bitfile_cells.proofs.MapRecords.{kind_found, some_is}
-use Rattle.bitfile_cells.proofs.Replaced.{parted}
+use Rattle.bitfile_cells.proofs.Replaced.{filter_false, filter_true, parted}
 use Rattle.bitfile_core.specs.declared.attributes.Attributes.{Attributes}
 use Rattle.domain_base.specs.declared.place.Kind.{Kind}
 use Rattle.domain_base.specs.declared.place.Kind.TheVariants.{Directory, File}
 use Rattle.bitfile_core.specs.Changes.{kind_number, with_attributes}
-
-filter_true : (p : Record → Bool) (r : Record) (rs : List Record) → p r ≡ true → filter p (r ∷ rs) ≡ r ∷ filter p rs
-filter_true p r rs is = ap (λ (b : Bool). cond b (r ∷ filter p rs) (filter p rs)) is
-
-filter_false : (p : Record → Bool) (r : Record) (rs : List Record) → p r ≡ false → filter p (r ∷ rs) ≡ filter p rs
-filter_false p r rs is = ap (λ (b : Bool). cond b (r ∷ filter p rs) (filter p rs)) is
 
 none_is_some : (x : Record) → None ≡ Some x → ⊥
 none_is_some x e = cc

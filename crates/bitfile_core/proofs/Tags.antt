@@ -16,7 +16,7 @@ use Rattle.tag_dirs.specs.declared.dir.TagPlace.{TagPlace}
 use Rattle.tag_dirs.specs.TagPage.{entry_of}
 use Rattle.tag_dirs.specs.Directory.{IsDirectory, IsPageOf, cell_for, cell_of, home_with}
 use Rattle.bitfile_cells.specs.Files.{AreFile}
-use Rattle.bitfile_core.proofs.FirstCell.{follow_apart, not_at}
+use Rattle.bitfile_cells.proofs.ChainChanges.{at_apart, follow_apart}
 
 -- ---- pages of tags are none of cells
 
@@ -82,7 +82,7 @@ module _ (old new : Pages) (places : List TagPlace) (at : CellAt) (directory : I
 pub file_stays : (old new : Pages) (at : CellAt) → LeavesOthers (is_at at) old new → (first : PlacedCell) (rest : List PlacedCell) → ¬ Contains (places_of_cells (first ∷ rest)) at → AreFile old first rest → AreFile new first rest
 file_stays old new at leaves first rest apart are = record {
   links = record {
-    stands = stands_stays old new (is_at at) leaves first.at first.cell (not_at at first.at (λ same. apart (0, omega arith, sym same))) are.links.stands;
+    stands = stands_stays old new (is_at at) leaves first.at first.cell (at_apart at first.at (λ same. apart (0, omega arith, sym same))) are.links.stands;
     follow = follow_apart old new at leaves first.cell.head rest (λ inside. apart (suc inside.0, omega (arith, inside.1), inside.2)) are.links.follow;
     distinct = are.links.distinct;
   };
