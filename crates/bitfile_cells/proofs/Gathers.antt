@@ -11,7 +11,7 @@ use Rattle.bmt_mcells.specs.Chain.{AreDistinct, Follow, PlacedCell, StandsAt, pl
 use Rattle.bitfile_cells.specs.Files.{IsFile, IsNumbered, has_rows, map_records}
 use Rattle.extent_records.specs.Rows.{AreOneMap}
 use Rattle.bitfile_cells.proofs.MapRecords.{one_map_of}
-use Rattle.bitfile_cells.proofs.Walks.{Mapped, RestAt, all_push, distinct_file, map_cells, rest_of, walk_short}
+use Rattle.bitfile_cells.proofs.Walks.{Mapped, RestAt, There, all_push, distinct_file, map_cells, rest_of, there_at, walk_short}
 
 -- the records that say where pages stand, of cells that have one each
 abbrev pub values : (cs : List PlacedCell) → AllByRecursion Mapped cs → List Record
@@ -61,31 +61,8 @@ gathered passed c =
     ∙ ap (λ (rs : List Record). map_records (records_of passed) ++ map_records rs) (append-nil c.cell.records)
 
 module _ (pages : Pages) (i : ℕ) (at : CellAt) (cells : List PlacedCell) (seen : List CellAt) (records : List Record) (way : Gathers pages i (Some at) cells seen records) where
-  pub record There : Type 0 where
-    pub c : PlacedCell
-    pub cs : List PlacedCell
-    pub all : way.rest ≡ c ∷ cs
-    pub is_at : c.at ≡ at
-    pub stands : StandsAt pages at c.cell
-    pub mapped : Mapped c
-    pub follow : Follow pages c.cell.head cs
-    pub maps : AllByRecursion Mapped cs
-
-  pub there : There
-  there = by_rest way.rest refl way.here way.maps
-    where
-      by_rest : (rest : List PlacedCell) → way.rest ≡ rest → RestAt pages (Some at) rest → AllByRecursion Mapped rest → There
-      by_rest [] is here maps = absurd here
-      by_rest (c ∷ cs) is here maps = record {
-        c = c;
-        cs = cs;
-        all = is;
-        is_at = here.0;
-        stands = subst (λ (a : CellAt). StandsAt pages a c.cell) here.0 here.1;
-        mapped = maps.0;
-        follow = here.2;
-        maps = maps.1;
-      }
+  pub there : There pages at way.rest
+  there = there_at pages at way.rest way.here way.maps
 
   pub gather_on : IsNumbered at → Gathers pages (i + 1) there.c.cell.head.next cells (seen ++ at ∷ []) (records ++ there.mapped.value ∷ [])
   gather_on numbered = record {

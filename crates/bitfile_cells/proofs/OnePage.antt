@@ -26,8 +26,8 @@ abbrev one_row : ℕ → Home → Run
 one_row page home = record { page = page; count = 1; first = place.At home }
 
 module _ (page : ℕ) (home : Home) (small : page < 65536) (low : 1 ≤ home.vol) (high : home.vol ≤ 8) (within : home.page < 2 ^ 32) where
-  row : (kind : ℕ) → is_of_holes kind ≡ false → 1 ≤ most_pages kind → IsRow kind 0 (one_row page home)
-  row kind extents pages = record {
+  is_row : (kind : ℕ) → is_of_holes kind ≡ false → 1 ≤ most_pages kind → IsRow kind 0 (one_row page home)
+  is_row kind extents pages = record {
     is_run = record { some = omega arith; ends = omega (arith, small); homes = omega (arith, within) };
     begins = omega arith;
     short = pages;
@@ -55,10 +55,10 @@ module _ (page : ℕ) (home : Home) (small : page < 65536) (low : 1 ≤ home.vol
       (cases_Bool (nat_eq p page))
 
   three : HasRows 3 (one_row page home ∷ []) (Extents (filled extent_of no_extent 16 (one_row page home ∷ [])))
-  three = extents_are (one_row page home ∷ []) (row 3 refl (omega arith), tt) (omega arith)
+  three = extents_are (one_row page home ∷ []) (is_row 3 refl (omega arith), tt) (omega arith)
 
   four : HasRows 13 (one_row page home ∷ []) (DenseExtents (filled extent_of no_extent 22 (one_row page home ∷ [])))
-  four = dense_extents_are (one_row page home ∷ []) (row 13 refl (omega arith), tt) (omega arith)
+  four = dense_extents_are (one_row page home ∷ []) (is_row 13 refl (omega arith), tt) (omega arith)
 
   -- a record of a chain's cell can say one page
   pub can_say_one : (version : Version) (places : Places) → ((p : ℕ) → places p ≡ Absent) → CanSay (chain_kind version) (with_place page (At home) places)

@@ -78,32 +78,33 @@ cell_places cell value page has = ap (λ rs. place_of rs page) (runs_by_map cell
 pub first_places : (c : PlacedCell) (cs : List PlacedCell) (page : ℕ) → places_of (c ∷ cs) page ≡ over (place_of (runs_of c.cell.records) page) (places_of cs page)
 first_places c cs page = ap (λ rs. place_of rs page) (flat_map-append runs_in c.cell.records (records_of cs)) ∙ place_append (runs_of c.cell.records) (runs_of (records_of cs)) page
 
-module _ (pages : Pages) (page i : ℕ) (at : CellAt) (cells : List PlacedCell) (way : IsOnWay pages page i (Some at) cells) where
-  pub record There : Type 0 where
-    pub c : PlacedCell
-    pub cs : List PlacedCell
-    pub all : way.rest ≡ c ∷ cs
-    pub is_at : c.at ≡ at
-    pub stands : StandsAt pages at c.cell
-    pub mapped : Mapped c
-    pub follow : Follow pages c.cell.head cs
-    pub maps : AllByRecursion Mapped cs
+-- the cell that a walk is at, and those behind it
+pub record There (pages : Pages) (at : CellAt) (rest : List PlacedCell) : Type 0 where
+  pub c : PlacedCell
+  pub cs : List PlacedCell
+  pub all : rest ≡ c ∷ cs
+  pub is_at : c.at ≡ at
+  pub stands : StandsAt pages at c.cell
+  pub mapped : Mapped c
+  pub follow : Follow pages c.cell.head cs
+  pub maps : AllByRecursion Mapped cs
 
-  pub there : There
-  there = by_rest way.rest refl way.here way.maps
-    where
-      by_rest : (rest : List PlacedCell) → way.rest ≡ rest → RestAt pages (Some at) rest → AllByRecursion Mapped rest → There
-      by_rest [] is here maps = absurd here
-      by_rest (c ∷ cs) is here maps = record {
-        c = c;
-        cs = cs;
-        all = is;
-        is_at = here.0;
-        stands = subst (λ (a : CellAt). StandsAt pages a c.cell) here.0 here.1;
-        mapped = maps.0;
-        follow = here.2;
-        maps = maps.1;
-      }
+pub there_at : (pages : Pages) (at : CellAt) (rest : List PlacedCell) → RestAt pages (Some at) rest → AllByRecursion Mapped rest → There pages at rest
+there_at pages at [] here maps = absurd here
+there_at pages at (c ∷ cs) here maps = record {
+  c = c;
+  cs = cs;
+  all = refl;
+  is_at = here.0;
+  stands = subst (λ (a : CellAt). StandsAt pages a c.cell) here.0 here.1;
+  mapped = maps.0;
+  follow = here.2;
+  maps = maps.1;
+}
+
+module _ (pages : Pages) (page i : ℕ) (at : CellAt) (cells : List PlacedCell) (way : IsOnWay pages page i (Some at) cells) where
+  pub there : There pages at way.rest
+  there = there_at pages at way.rest way.here way.maps
 
   -- the file has the page where this cell has it
   pub way_found : places_in there.mapped.value page ≢ Absent → places_of cells page ≡ places_in there.mapped.value page
