@@ -13,8 +13,8 @@ use Rattle.fileset_model.specs.Orders.{Path, name_cmp, path_cmp, path_cmp-total,
 use Rattle.fileset_model.specs.Fileset.{Fileset}
 use Rattle.fileset_model.specs.Paths.{same_path}
 use Rattle.fileset_model.specs.Apply.{is_named_elsewhere}
-use Rattle.fileset_model.proofs.ChangeLemmas.{is_sorted_where, named_elsewhere, remove-from_sorted}
-use Rattle.fileset_model.proofs.EntryLemmas.{entries-from_sorted}
+use Rattle.fileset_model.proofs.ChangeLemmas.{named_elsewhere, remove-from_sorted}
+use Rattle.sorted_entries.proofs.EntryLemmas.{entries-from_sorted, is_sorted_where}
 use Rattle.fileset_model.proofs.MoveLemmas.{entries-empty, from_sorted-entries, sorted_entries}
 use Rattle.fileset_laws.proofs.ValidLemmas.{some_inj}
 

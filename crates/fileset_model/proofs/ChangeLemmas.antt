@@ -8,7 +8,7 @@ use Rattle.std.specs.Option.{option_map_or}
 use Rattle.std.specs.Ordering.{eq_by_cmp, is_eq, nat_cmp}
 use Rattle.std.specs.Cmp.{IsTotalOrder, alike_right, eq_by_cmp_equiv, nat_cmp_total}
 use Rattle.std.specs.FinMap as map
-use Rattle.std.specs.FinMap.Entries.{find, put, is_sorted, is_sorted-where_key, where_key, find-where_key}
+use Rattle.std.specs.FinMap.Entries.{find, put, is_sorted, where_key, find-where_key}
 use Rattle.domain_base.specs.Page.{overwritten, zero_bytes}
 use Rattle.fileset_model.specs.Orders.{Path, path_cmp, path_cmp-total, path_cmp-IsAntisymmetric}
 use Rattle.fileset_model.specs.Fileset.{Fileset}
@@ -18,15 +18,12 @@ use Rattle.fileset_model.specs.Apply.{is_named_elsewhere, linked, without}
 use Rattle.fileset_model.specs.declared.command.Owner.{Owner}
 use Rattle.fileset_model.specs.declared.fileset.Limits.{Limits}
 use Rattle.fileset_model.specs.declared.node.Node.{Node}
-use Rattle.fileset_model.proofs.EntryLemmas.{from_T, to_T, entries-from_sorted, get-from_sorted, insert-from_sorted}
+use Rattle.sorted_entries.proofs.EntryLemmas.{entries-from_sorted, get-from_sorted, insert-from_sorted, is_sorted_where}
 use Rattle.fileset_model.proofs.TreeLemmas.{tree_of}
 
 turned : {A : Type 0} (b : Bool) (x y : A) → cond (not b) x y ≡ cond b y x
 turned true x y = refl
 turned false x y = refl
-
-pub is_sorted_where : {K X : Type 0} (R : K → K → Ordering) (p : K → Bool) (es : List (K × X)) → IsTrue (is_sorted R es) → IsTrue (is_sorted R (where_key R p es))
-is_sorted_where R p es h = from_T _ (is_sorted-where_key R p es (to_T _ h))
 
 module _ {K X : Type 0} {R : K → K → Ordering} (o : IsTotalOrder R) (same : map.IsAntisymmetric R) where
   pub retain-from_sorted : (p : K → Bool) (es : List (K × X)) → ((q x : K) → R q x ≡ Equal → p x ≡ p q) → IsTrue (is_sorted R es)

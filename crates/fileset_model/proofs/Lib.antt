@@ -1,11 +1,9 @@
 pub mod ChangeLemmas
-pub mod EntryLemmas
 pub mod MapLemmas
 pub mod MoveLemmas
 pub mod OwnerLemmas
 pub mod PageLemmas
 pub mod RowsLemmas
-pub mod SearchLemmas
 pub mod SlotLemmas
 pub mod TreeLemmas
 pub mod WholeLemmas

@@ -13,8 +13,8 @@ use Rattle.fileset_model.specs.Orders.{Path, name_cmp, path_cmp, path_cmp-total,
 use Rattle.fileset_model.specs.Paths.{same_path}
 use Rattle.fileset_model.specs.Fileset.{Fileset}
 use Rattle.fileset_model.specs.Apply.{is_named_elsewhere, moved, moved_path, without}
-use Rattle.fileset_model.proofs.ChangeLemmas.{is_sorted_where, left_without, remove-from_sorted}
-use Rattle.fileset_model.proofs.EntryLemmas.{entries-from_sorted, from_T, from_sorted-empty}
+use Rattle.fileset_model.proofs.ChangeLemmas.{left_without, remove-from_sorted}
+use Rattle.sorted_entries.proofs.EntryLemmas.{entries-from_sorted, from_T, from_sorted-empty, is_sorted_where}
 
 -- the entries without a key
 abbrev pub without_key : {K X : Type 0} (R : K → K → Ordering) → K → List (K × X) → List (K × X)

@@ -11,9 +11,9 @@ use Rattle.std.specs.Ordering.{nat_cmp}
 use Rattle.std.specs.Cmp.{nat_cmp_total}
 use Rattle.std.specs.FinMap.{from_sorted}
 use Rattle.std.specs.FinMap.Entries.{is_sorted, put}
-use Rattle.fileset_model.specs.Entries.{put_each}
+use Rattle.sorted_entries.specs.Entries.{put_each}
 use Rattle.fileset_model.specs.Pages.{Pages, byte_at, with_pages}
-use Rattle.fileset_model.proofs.EntryLemmas.{insert-from_sorted, is_sorted_put}
+use Rattle.sorted_entries.proofs.EntryLemmas.{insert-from_sorted, is_sorted_put}
 
 pub put_each-with_pages : (changed es : List (ℕ × List ℕ)) → IsTrue (is_sorted nat_cmp es) → from_sorted {R = nat_cmp} (put_each nat_cmp changed es) ≡ with_pages changed (from_sorted es)
 put_each-with_pages [] es h = refl

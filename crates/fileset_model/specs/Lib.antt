@@ -1,5 +1,4 @@
 pub mod Apply
-pub mod Entries
 pub mod Fileset
 pub mod Filesets
 pub mod LooksLike

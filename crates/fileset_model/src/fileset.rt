@@ -13,12 +13,12 @@ ghost use Rattle.fileset_model.specs.declared.fileset.Role.TheVariants.{CloneOf 
 ghost use Rattle.std.specs.FinMap as map;
 
 use crate::command::Owner;
-use crate::entries::{find, place_of, put, remove_key};
 use crate::names::{FilesetName, Name, Path};
 use crate::node::Node;
 use crate::reply::NameItem;
 use domain_base::OutOfMemory;
 use domain_base::limits::BLOCKS_PER_PAGE;
+use sorted_entries::{find, place_of, put, take_away};
 use std::alloc::Global;
 use std::marker::Model;
 
@@ -235,9 +235,9 @@ impl FilesetTree {
             return;
         };
         let stays = is_named_elsewhere(&self.paths, path, number);
-        remove_key(&mut self.paths, path);
+        take_away(&mut self.paths, path);
         if !stays {
-            remove_key(&mut self.nodes, &number);
+            take_away(&mut self.nodes, &number);
         }
     }
 
@@ -323,7 +323,7 @@ impl FilesetTree {
         ensures err { OnErr result (self.new ≡ self.old) }
     {
         if limits.is_unlimited() {
-            remove_key(&mut self.limits, &who);
+            take_away(&mut self.limits, &who);
             return Ok(());
         }
         put(&mut self.limits, who, limits)?;

@@ -7,12 +7,12 @@ ghost use Rattle.fileset_model.specs.declared.fileset.Role.TheVariants.{Original
 ghost use Rattle.std.specs.FinMap as map;
 
 use crate::command::{Owner, Place};
-use crate::entries::{find, place_of, put, remove_key};
 use crate::fileset::{FilesetSlot, FilesetTree, Limits, Role};
 use crate::names::{FilesetName, Path};
 use crate::node::Node;
 use crate::reply::FilesetItem;
 use domain_base::OutOfMemory;
+use sorted_entries::{find, place_of, put, take_away};
 use std::alloc::Global;
 use std::marker::Model;
 
@@ -228,7 +228,7 @@ impl Filesets {
     pub fn remove_fileset(&mut self, name: &FilesetName)
         ensures { self.new ≡ map.remove self.old name.now }
     {
-        remove_key(&mut self.slots, name);
+        take_away(&mut self.slots, name);
     }
 
     /// Adds a frozen copy of a fileset under a new name; where there is no such fileset, nothing

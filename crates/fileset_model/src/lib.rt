@@ -2,7 +2,6 @@
 #![tactic(auto)]
 
 mod command;
-mod entries;
 mod entry;
 mod fileset;
 mod filesets;

@@ -5,13 +5,13 @@ ghost use Rattle.std.specs.Ordering.{nat_cmp};
 ghost use Rattle.std.specs.FinMap.Entries.{find as found_at, is_sorted, put as put_at, where_key};
 ghost use Rattle.domain_base.specs.Page.{overwritten, zero_bytes};
 ghost use Rattle.domain_base.specs.declared.limits.TheConstants.{FILE_BYTES};
-ghost use Rattle.fileset_model.specs.Entries.{put_each};
+ghost use Rattle.sorted_entries.specs.Entries.{put_each};
 ghost use Rattle.fileset_model.specs.Pages.{absent_pages, byte_at as byte_of, page_after as bytes_after, pages_of, truncated, written};
 ghost use Rattle.std.specs.FinMap as map;
 
-use crate::entries::{find, place_of, put};
 use domain_base::limits::{FILE_BYTES, PAGE_BYTES};
 use domain_base::{OutOfMemory, Page};
+use sorted_entries::{find, place_of, put};
 use std::alloc::Global;
 use std::marker::Model;
 

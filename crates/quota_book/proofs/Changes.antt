@@ -16,7 +16,7 @@ use Rattle.fileset_model.specs.declared.fileset.Usage.{Usage}
 use Rattle.quota_book.specs.Owners.{AreTotals, SetsTotal, nothing, same_owner, used_in}
 use Rattle.quota_book.specs.Book.{FitsAll, HasAll, IsBelow, IsWithin, is_nothing}
 use Rattle.std.specs.FinMap as map
-use Rattle.fileset_model.proofs.EntryLemmas.{get-from_sorted}
+use Rattle.sorted_entries.proofs.EntryLemmas.{get-from_sorted}
 
 abbrev pub Totals : Type 0
 Totals = List (Owner × Usage)

@@ -3,6 +3,5 @@ pub mod Changes
 pub mod ModelChanges
 pub mod Once
 pub mod OneNode
-pub mod Removal
 pub mod Sums
 pub mod Unchanged

@@ -14,8 +14,8 @@ use Rattle.fileset_model.specs.declared.command.Owner.{Owner}
 use Rattle.fileset_model.specs.declared.command.Owner.TheVariants.{User, Group, Fileset as WholeFileset}
 use Rattle.fileset_model.specs.declared.fileset.Usage.{Usage}
 use Rattle.fileset_model.specs.declared.node.Node.{Node}
-use Rattle.fileset_model.proofs.ChangeLemmas.{is_sorted_where, remove-from_sorted}
-use Rattle.fileset_model.proofs.EntryLemmas.{entries-from_sorted}
+use Rattle.fileset_model.proofs.ChangeLemmas.{remove-from_sorted}
+use Rattle.sorted_entries.proofs.EntryLemmas.{entries-from_sorted, is_sorted_where}
 use Rattle.fileset_model.proofs.MoveLemmas.{entries-empty, from_sorted-entries, sorted_entries}
 use Rattle.std.proofs.lemmas.Bool.{eq-eqb}
 use Rattle.fileset_model.specs.Apply.{empty_fileset}
@@ -30,7 +30,7 @@ use Rattle.quota_book.specs.Owners.{nothing}
 use Rattle.quota_book.specs.Book.{Book, Charges, HasAll, Refunds, empty_book, limits_in, lowered, raised, refusal_in, used}
 use Rattle.quota_book.specs.Sums.{ChangesNode, CountsMore, IsBookOf, blocks_for, files_for, with_entry}
 use Rattle.quota_book.proofs.OneNode.{total-others, total-put}
-use Rattle.quota_book.proofs.Removal.{others}
+use Rattle.sorted_entries.proofs.Removal.{others}
 
 abbrev Nodes : Type 0
 Nodes = map.FinMap nat_cmp Node

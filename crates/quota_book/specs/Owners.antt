@@ -1,17 +1,10 @@
 -- Totals by owner, as a list in the order of owners.
-use Rattle.std.specs.Prelude.{◌≡◌, ℕ, Bool, List, Some, unwrap_or, slice_index_or, IsTrue, if◌then◌else◌}
-use Rattle.std.specs.declared.cmp.Ordering.{Ordering}
-use Rattle.std.specs.declared.cmp.Ordering.TheVariants.{Equal}
+use Rattle.std.specs.Prelude.{◌≡◌, Bool, List, Some, unwrap_or, IsTrue, if◌then◌else◌}
 use Rattle.std.specs.Ordering.{eq_by_cmp}
 use Rattle.std.specs.FinMap.Entries.{find, is_sorted}
 use Rattle.fileset_model.specs.Orders.{owner_cmp}
 use Rattle.fileset_model.specs.declared.command.Owner.{Owner}
 use Rattle.fileset_model.specs.declared.fileset.Usage.{Usage}
-
--- the entry at this place has the key
-abbrev pub IsEqualAt : {K X : Type 0} (R : K → K → Ordering) → List (K × X) → K → ℕ → Type 0
-IsEqualAt {K = K} {X = X} R es key place =
-    (d : K × X) → R key (slice_index_or es place d).0 ≡ Equal
 
 abbrev pub nothing : Usage
 nothing = record { files = 0; blocks = 0 }

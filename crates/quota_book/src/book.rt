@@ -3,10 +3,10 @@ ghost use Rattle.std.specs.Prelude.{◌≡◌, OnErr, OnOk};
 ghost use Rattle.fileset_model.specs.Usage.{is_unlimited as binds_nothing, passes as passes_limit, with_limits};
 ghost use Rattle.quota_book.specs.Book.{Charges, FitsAll, HasAll, HasNoTrace, Refunds, empty_book, limits_in, refusal_in, used};
 
-use crate::entries::{find, put, take_away};
 use crate::totals::{charge_all, refund_all, total_of};
 use domain_base::OutOfMemory;
 use fileset_model::{Limits, Owner, Refusal, Usage};
+use sorted_entries::{find, put, take_away};
 use std::alloc::Global;
 use std::marker::Model;
 

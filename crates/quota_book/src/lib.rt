@@ -2,7 +2,6 @@
 #![tactic(auto)]
 
 mod book;
-mod entries;
 mod laws;
 mod quota_cells;
 mod totals;

@@ -5,10 +5,10 @@ ghost use Rattle.fileset_model.specs.Orders.{owner_cmp};
 ghost use Rattle.quota_book.specs.QuotaCells.{AreOnce, HasLimits, Notes, NotesSaid, TakesLimits, limits_said, said_by};
 
 use crate::book::QuotaBook;
-use crate::entries::{find, put};
 use domain_base::OutOfMemory;
 use fileset_model::{Limits, Owner};
 use record_table::Record;
+use sorted_entries::{find, put};
 use std::alloc::Global;
 
 /// Sets the limits that a record says, if it says any. After an error the book is as before.

@@ -3,9 +3,9 @@ ghost use Rattle.std.specs.Prelude.{◌≡◌, ◌+◌, ◌≤◌, IsOk, IsTrue,
 ghost use Rattle.quota_book.specs.Owners.{AreTotals, SetsTotal, used_in};
 ghost use Rattle.quota_book.specs.Book.{AddsTo, ChargesAll, FitsAll, HasAll, IsBelow, IsWithin, RefundsAll, TakesFrom, is_nothing as uses_nothing};
 
-use crate::entries::{find, put, replace, take_away};
 use domain_base::OutOfMemory;
 use fileset_model::{Owner, Usage};
+use sorted_entries::{find, put, replace, take_away};
 
 /// Whether it is nothing.
 fn is_nothing(usage: &Usage) -> bool

@@ -6,7 +6,7 @@ use Rattle.std.specs.FinMap.Entries.{put}
 use Rattle.fileset_model.specs.Orders.{Path, path_cmp, path_cmp-total}
 use Rattle.fileset_model.specs.Apply.{with_node}
 use Rattle.fileset_model.specs.declared.node.Node.{Node}
-use Rattle.fileset_model.proofs.EntryLemmas.{insert-from_sorted}
+use Rattle.sorted_entries.proofs.EntryLemmas.{insert-from_sorted}
 use Rattle.fileset_model.proofs.TreeLemmas.{tree_of}
 use Rattle.fileset_model.proofs.fileset.FilesetTree.add.Goals as goal
 

@@ -5,7 +5,7 @@ use Rattle.fileset_model.specs.declared.command.Owner.{Owner}
 use Rattle.fileset_model.specs.declared.node.Node.{Node}
 use Rattle.fileset_model.specs.declared.node.Node.TheVariants.{Directory}
 use Rattle.fileset_model.specs.declared.fileset.Limits.{Limits}
-use Rattle.fileset_model.proofs.EntryLemmas.{from_sorted-empty, from_sorted-one}
+use Rattle.sorted_entries.proofs.EntryLemmas.{from_sorted-empty, from_sorted-one}
 use Rattle.fileset_model.proofs.TreeLemmas.{tree_of}
 use Rattle.fileset_model.proofs.fileset.FilesetTree.empty.Goals as goal
 

@@ -7,7 +7,7 @@ use Rattle.fileset_model.specs.declared.command.Owner.{Owner}
 use Rattle.fileset_model.specs.declared.fileset.Limits.{Limits}
 use Rattle.fileset_model.proofs.OwnerLemmas.{owner_cmp-IsAntisymmetric}
 use Rattle.fileset_model.proofs.ChangeLemmas.{remove-from_sorted}
-use Rattle.fileset_model.proofs.EntryLemmas.{insert-from_sorted}
+use Rattle.sorted_entries.proofs.EntryLemmas.{insert-from_sorted}
 use Rattle.fileset_model.proofs.TreeLemmas.{tree_of}
 use Rattle.fileset_model.proofs.fileset.FilesetTree.limit.Goals as goal
 
@@ -21,7 +21,7 @@ returns-then-is_unlimited-clause-ok c =
     let who = c.args.who in
     let limits = c.args.limits in
     let old = c.self.inside in
-    ap (λ (es : List (Owner × Limits)). tree_of old.paths.items old.nodes.items es) c.remove_key.ensures.items
+    ap (λ (es : List (Owner × Limits)). tree_of old.paths.items old.nodes.items es) c.take_away.ensures.items
     ∙ (λ i. record {
       paths = from_sorted old.paths.items;
       nodes = from_sorted old.nodes.items;

@@ -5,7 +5,7 @@ use Rattle.fileset_model.specs.Orders.{owner_cmp}
 use Rattle.fileset_model.specs.Fileset.{Fileset}
 use Rattle.fileset_model.specs.declared.command.Owner.{Owner}
 use Rattle.fileset_model.specs.declared.fileset.Limits.{Limits}
-use Rattle.fileset_model.proofs.EntryLemmas.{get-from_sorted}
+use Rattle.sorted_entries.proofs.EntryLemmas.{get-from_sorted}
 use Rattle.fileset_model.proofs.fileset.FilesetTree.limits.Goals as goal
 
 abbrev none : Limits

@@ -3,7 +3,7 @@ use Rattle.std.specs.FinMap.{get}
 use Rattle.std.specs.FinMap.Entries.{find}
 use Rattle.fileset_model.specs.Orders.{Path, path_cmp}
 use Rattle.fileset_model.specs.Fileset.{Fileset}
-use Rattle.fileset_model.proofs.EntryLemmas.{get-from_sorted}
+use Rattle.sorted_entries.proofs.EntryLemmas.{get-from_sorted}
 use Rattle.fileset_model.proofs.fileset.FilesetTree.number_at.Goals as goal
 
 pub returns : goal.returns

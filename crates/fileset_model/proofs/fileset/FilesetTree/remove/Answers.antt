@@ -21,8 +21,8 @@ returns-then-not-stays c =
     let kept = where_key path_cmp (λ x. not (eq_by_cmp path_cmp path x)) old.paths.items in
     let leads = ap (λ (tree : Fileset). get tree.paths path) c.self.view_is ∙ sym c.in-Some.ensures in
     let goes : named_elsewhere path number old.paths.items ≡ false = ap (named_elsewhere path number) (sym c.deref.ensures.value) ∙ sym c.is_named_elsewhere-stays.ensures ∙ c.if-not-stays.true in
-    ap (λ (es : List (Path × ℕ)). tree_of es c.remove_key-then-not-stays.new.entries.items old.limits.items) c.remove_key.ensures.items
-    ∙ ap (λ (es : List (ℕ × Node)). tree_of kept es old.limits.items) c.remove_key-then-not-stays.ensures.items
+    ap (λ (es : List (Path × ℕ)). tree_of es c.take_away-then-not-stays.new.entries.items old.limits.items) c.take_away.ensures.items
+    ∙ ap (λ (es : List (ℕ × Node)). tree_of kept es old.limits.items) c.take_away-then-not-stays.ensures.items
     ∙ gone-from_sorted old.paths.items old.nodes.items old.limits.items path number c.self.invariant.0 leads c.self.invariant.1 goes
     ∙ ap (without path) c.self.view_is
 
@@ -33,6 +33,6 @@ returns-else-not-stays c =
     let old = c.self.inside in
     let leads = ap (λ (tree : Fileset). get tree.paths path) c.self.view_is ∙ sym c.in-Some.ensures in
     let stays : named_elsewhere path number old.paths.items ≡ true = ap (named_elsewhere path number) (sym c.deref.ensures.value) ∙ sym c.is_named_elsewhere-stays.ensures ∙ c.if-not-stays.false in
-    ap (λ (es : List (Path × ℕ)). tree_of es old.nodes.items old.limits.items) c.remove_key.ensures.items
+    ap (λ (es : List (Path × ℕ)). tree_of es old.nodes.items old.limits.items) c.take_away.ensures.items
     ∙ kept-from_sorted old.paths.items old.nodes.items old.limits.items path number c.self.invariant.0 leads stays
     ∙ ap (without path) c.self.view_is

@@ -6,7 +6,7 @@ use Rattle.fileset_model.specs.Orders.{path_cmp}
 use Rattle.fileset_model.specs.Fileset.{Fileset}
 use Rattle.fileset_model.specs.Paths.{name_below}
 use Rattle.fileset_model.specs.declared.reply.NameItem.{NameItem}
-use Rattle.fileset_model.proofs.EntryLemmas.{entries-from_sorted}
+use Rattle.sorted_entries.proofs.EntryLemmas.{entries-from_sorted}
 use Rattle.fileset_model.proofs.RowsLemmas.{row_of, row-more, no-row-more}
 use Rattle.fileset_model.proofs.fileset.FilesetTree.rows.Goals as goal
 use Rattle.fileset_model.proofs.fileset.FilesetTree.rows.Goals.{in-Some+in_ok-copy+in_ok-push, in_default}

@@ -6,7 +6,7 @@ use Rattle.fileset_model.specs.Orders.{Name, name_cmp}
 use Rattle.fileset_model.specs.Filesets.{FilesetMap}
 use Rattle.fileset_model.specs.declared.fileset.FilesetSlot.{FilesetSlot}
 use Rattle.fileset_model.specs.declared.reply.FilesetItem.{FilesetItem}
-use Rattle.fileset_model.proofs.EntryLemmas.{entries-from_sorted}
+use Rattle.sorted_entries.proofs.EntryLemmas.{entries-from_sorted}
 use Rattle.fileset_model.proofs.filesets.Filesets.items.Goals as goal
 
 abbrev row_of : Name × FilesetSlot → FilesetItem

@@ -7,7 +7,7 @@ use Rattle.fileset_model.specs.Filesets.{FilesetMap}
 use Rattle.fileset_model.specs.Apply.{empty_fileset}
 use Rattle.fileset_model.specs.declared.fileset.FilesetSlot.{FilesetSlot}
 use Rattle.fileset_model.specs.declared.fileset.Role.TheVariants.{Original}
-use Rattle.fileset_model.proofs.EntryLemmas.{insert-from_sorted}
+use Rattle.sorted_entries.proofs.EntryLemmas.{insert-from_sorted}
 use Rattle.fileset_model.proofs.filesets.Filesets.make.Goals as goal
 
 pub returns-clause-ok : goal.returns-clause-ok

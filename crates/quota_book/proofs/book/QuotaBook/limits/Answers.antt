@@ -4,7 +4,7 @@ use Rattle.std.specs.FinMap.Entries.{find}
 use Rattle.fileset_model.specs.Orders.{owner_cmp}
 use Rattle.fileset_model.specs.declared.command.Owner.{Owner}
 use Rattle.fileset_model.specs.declared.fileset.Limits.{Limits}
-use Rattle.fileset_model.proofs.EntryLemmas.{get-from_sorted}
+use Rattle.sorted_entries.proofs.EntryLemmas.{get-from_sorted}
 use Rattle.quota_book.specs.Book.{Book}
 use Rattle.quota_book.proofs.book.QuotaBook.limits.Goals as goal
 

@@ -3,7 +3,7 @@ use Rattle.std.specs.FinMap.{empty, from_sorted}
 use Rattle.fileset_model.specs.Orders.{owner_cmp}
 use Rattle.fileset_model.specs.declared.fileset.Limits.{Limits}
 use Rattle.fileset_model.specs.declared.fileset.Usage.{Usage}
-use Rattle.fileset_model.proofs.EntryLemmas.{from_sorted-empty}
+use Rattle.sorted_entries.proofs.EntryLemmas.{from_sorted-empty}
 use Rattle.quota_book.proofs.book.QuotaBook.new.Goals as goal
 
 pub returns : goal.returns

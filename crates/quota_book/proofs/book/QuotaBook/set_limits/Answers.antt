@@ -6,7 +6,7 @@ use Rattle.fileset_model.specs.declared.command.Owner.{Owner}
 use Rattle.fileset_model.specs.declared.fileset.Limits.{Limits}
 use Rattle.fileset_model.proofs.OwnerLemmas.{owner_cmp-IsAntisymmetric}
 use Rattle.fileset_model.proofs.ChangeLemmas.{remove-from_sorted}
-use Rattle.fileset_model.proofs.EntryLemmas.{insert-from_sorted}
+use Rattle.sorted_entries.proofs.EntryLemmas.{insert-from_sorted}
 use Rattle.quota_book.specs.Book.{Book}
 use Rattle.quota_book.proofs.Changes.{Totals}
 use Rattle.quota_book.proofs.book.QuotaBook.set_limits.Goals as goal

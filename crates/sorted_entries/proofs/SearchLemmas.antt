@@ -1,26 +1,13 @@
 -- A search by halves in a list of entries in the order of their keys.
-use Rattle.std.proofs.Common.{◌≡◌, ℕ, zero, suc, ◌+◌, ◌<◌, ◌≤◌, ◌==◌, Bool, true, false, cond, ◌&&◌, List, [], ◌∷◌, ◌++◌, length, take, drop, get_or, refl, sym, ap, subst, ◌∙◌, T, IsTrue, Some, eqb-true, append_assoc, arith}
+use Rattle.std.proofs.Common.{◌≡◌, ℕ, zero, suc, ◌+◌, ◌<◌, ◌≤◌, ◌==◌, true, false, cond, List, [], ◌∷◌, ◌++◌, length, take, drop, get_or, refl, sym, ap, subst, ◌∙◌, T, IsTrue, Some, eqb-true, append_assoc, arith}
 use Rattle.std.proofs.lemmas.List.{drop_all, drop_more, get_or_default, take_more}
 use Rattle.std.specs.declared.cmp.Ordering.{Ordering}
 use Rattle.std.specs.declared.cmp.Ordering.TheVariants.{Less, Equal, Greater}
-use Rattle.std.specs.Ordering.{is_eq, is_lt, ordering_reverse}
+use Rattle.std.specs.Ordering.{is_eq, ordering_reverse}
 use Rattle.std.specs.Cmp.{IsTotalOrder}
-use Rattle.std.specs.FinMap.Entries.{below_all, by_order, find, is_sorted, put}
-use Rattle.fileset_model.specs.Entries.{IsGapOf, IsPlaceOf}
-use Rattle.fileset_model.proofs.EntryLemmas.{Passed, gap_here, place_here, to_T}
-
-first : (a b : Bool) → T (a && b) → T a
-first true b p = tt
-first false b p = p
-
-second : (a b : Bool) → T (a && b) → T b
-second true b p = p
-second false b p = absurd p
-
-less : (r : Ordering) → T (is_lt r) → r ≡ Less
-less Less p = refl
-less Equal p = absurd p
-less Greater p = absurd p
+use Rattle.std.specs.FinMap.Entries.{by_order, find, is_sorted, put}
+use Rattle.sorted_entries.specs.Entries.{IsGapOf, IsPlaceOf}
+use Rattle.sorted_entries.proofs.EntryLemmas.{Passed, below_each, first, gap_here, place_here, second, to_T}
 
 module _ {K : Type 0} {R : K → K → Ordering} (o : IsTotalOrder R) where
   flipped : (x y : K) → R x y ≡ Less → R y x ≡ Greater
@@ -30,16 +17,11 @@ module _ {K : Type 0} {R : K → K → Ordering} (o : IsTotalOrder R) where
   flipped_back x y h = o.antisymm y x ∙ ap ordering_reverse h
 
 module _ {K X : Type 0} {R : K → K → Ordering} (o : IsTotalOrder R) where
-  below_each : (x : K) (es : List (K × X)) → T (below_all R x es) → (k : ℕ) (d : K × X) → k < length es → R x (get_or es k d).0 ≡ Less
-  below_each x [] h k d within = absurd (omega arith)
-  below_each x (e ∷ es) h zero d within = less _ (first _ _ h)
-  below_each x (e ∷ es) h (suc k) d within = below_each x es (second _ _ h) k d (omega arith)
-
   -- of two entries the later one has the greater key
   rising : (es : List (K × X)) → T (is_sorted R es) → (i j : ℕ) (d : K × X) → i < j → j < length es → R (get_or es i d).0 (get_or es j d).0 ≡ Less
   rising [] h i j d lt within = absurd (omega arith)
   rising (e ∷ es) h i zero d lt within = absurd (omega arith)
-  rising (e ∷ es) h zero (suc j) d lt within = below_each e.0 es (first _ _ h) j d (omega arith)
+  rising (e ∷ es) h zero (suc j) d lt within = below_each R e.0 es (first _ _ h) j d (omega arith)
   rising (e ∷ es) h (suc i) (suc j) d lt within = rising es (second _ _ h) i j d (omega arith) (omega arith)
 
   passed_on : (es : List (K × X)) (key : K) (j : ℕ) (d : K × X) → Passed R es key j → j < length es → R key (get_or es j d).0 ≡ Greater → Passed R es key (j + 1)

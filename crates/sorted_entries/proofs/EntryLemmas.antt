@@ -1,14 +1,14 @@
 -- What holds of lists of entries in the order of their keys, and of the maps that they make.
 use Rattle.std.proofs.lemmas.Bool.Decides.{nat_tests}
-use Rattle.std.proofs.Common.{◌≡◌, ℕ, suc, ◌+◌, ◌<◌, ◌==◌, nat_lt, Bool, true, false, cond, ◌&&◌, List, [], ◌∷◌, ◌++◌, length, take, drop, get_or, set, refl, sym, ap, subst, ◌∙◌, T, IsTrue, Some, None, arith}
+use Rattle.std.proofs.Common.{◌≡◌, ℕ, zero, suc, ◌+◌, ◌<◌, ◌==◌, nat_lt, Bool, true, false, cond, ◌&&◌, List, [], ◌∷◌, ◌++◌, length, take, drop, get_or, set, refl, sym, ap, subst, ◌∙◌, T, IsTrue, Some, None, arith}
 use Rattle.std.proofs.lemmas.List.{take-append-drop, take-set, drop-set, drop_more, get_or_read}
 use Rattle.std.specs.declared.cmp.Ordering.{Ordering}
 use Rattle.std.specs.declared.cmp.Ordering.TheVariants.{Less, Equal, Greater}
 use Rattle.std.specs.Ordering.{eq_by_cmp, is_eq, is_lt, nat_cmp}
 use Rattle.std.specs.Cmp.{IsTotalOrder}
 use Rattle.std.specs.FinMap as map
-use Rattle.std.specs.FinMap.Entries.{below_all, by_order, find, put, is_sorted, is_sorted-put}
-use Rattle.fileset_model.specs.Entries.{IsGapOf, IsPlaceOf, put_each}
+use Rattle.std.specs.FinMap.Entries.{below_all, by_order, find, put, is_sorted, is_sorted-put, is_sorted-where_key, where_key}
+use Rattle.sorted_entries.specs.Entries.{IsGapOf, IsPlaceOf, put_each}
 
 pub from_sorted-empty : {K X : Type 0} (R : K → K → Ordering) → map.from_sorted {K = K} {X = X} {R = R} [] ≡ map.empty
 from_sorted-empty R = map.empty_of_len _ (map.len-entries _ ∙ ap length (map.entries-from_sorted R [] tt))
@@ -20,18 +20,27 @@ pub from_T : (b : Bool) → T b → IsTrue b
 from_T true h = refl
 from_T false h = absurd h
 
-first : (a b : Bool) → T (a && b) → T a
+pub is_sorted_where : {K X : Type 0} (R : K → K → Ordering) (p : K → Bool) (es : List (K × X)) → IsTrue (is_sorted R es) → IsTrue (is_sorted R (where_key R p es))
+is_sorted_where R p es h = from_T _ (is_sorted-where_key R p es (to_T _ h))
+
+pub first : (a b : Bool) → T (a && b) → T a
 first true b p = tt
 first false b p = p
 
-second : (a b : Bool) → T (a && b) → T b
+pub second : (a b : Bool) → T (a && b) → T b
 second true b p = p
 second false b p = absurd p
 
-less : (o : Ordering) → T (is_lt o) → o ≡ Less
+pub less : (o : Ordering) → T (is_lt o) → o ≡ Less
 less Less p = refl
 less Equal p = absurd p
 less Greater p = absurd p
+
+-- each key is greater than one that is below all of them
+pub below_each : {K X : Type 0} (R : K → K → Ordering) (x : K) (es : List (K × X)) → T (below_all R x es) → (k : ℕ) (d : K × X) → k < length es → R x (get_or es k d).0 ≡ Less
+below_each R x [] h k d within = absurd (omega (arith, within))
+below_each R x (e ∷ es) h zero d within = less _ (first _ _ h)
+below_each R x (e ∷ es) h (suc k) d within = below_each R x es (second _ _ h) k d (omega (arith, within))
 
 -- a write of one element, as what stands before it, the element and what stands after it
 pub set-take-drop : {A : Type 0} (l : List A) (i : ℕ) (x : A) → i < length l → set l i x ≡ take i l ++ x ∷ drop (i + 1) l

@@ -1,18 +1,21 @@
 //! Lists of entries in the order of their keys, each list seen as the map from its keys to their
 //! values.
-ghost use Rattle.std.specs.Prelude.{◌+◌, ◌<◌, ◌≡◌, ◌≤◌, IfErr, IfOk, IsOk, IsTrue, OnErr, OnOk, not, option_copied, vec_capacity, vec_len};
+#![tactic(auto)]
+
+ghost use Rattle.std.specs.Prelude.{◌+◌, ◌<◌, ◌≡◌, ◌≤◌, IfErr, IfOk, IsOk, IsTrue, OnErr, OnOk, IsSome, not, option_copied, vec_capacity, vec_len};
 ghost use Rattle.std.specs.Ordering.{eq_by_cmp};
 ghost use Rattle.std.specs.FinMap.Entries.{find as found_at, is_sorted, put as put_at, where_key};
-ghost use Rattle.fileset_model.specs.Entries.{IsGapOf, IsPlaceOf};
+ghost use Rattle.sorted_entries.specs.Entries.{IsEqualAt, IsGapOf, IsPlaceOf};
 
 use domain_base::OutOfMemory;
 use std::cmp::Ordering;
 
 /// The place of the entry with this key, or as an error the place where it would stand, found by
 /// halving.
-pub(crate) fn place_of<K: Ord, V>(entries: &[(K, V)], key: &K) -> Result<usize, usize>
+pub fn place_of<K: Ord, V>(entries: &[(K, V)], key: &K) -> Result<usize, usize>
     requires { IsTrue (is_sorted K.cmp entries.now) }
     ensures place { IfOk result (IsPlaceOf K.cmp entries.now key.now) }
+    ensures equal { IfOk result (IsEqualAt K.cmp entries.now key.now) }
     ensures gap { IfErr result (IsGapOf K.cmp entries.now key.now) }
 {
     let mut low = 0;
@@ -29,7 +32,7 @@ pub(crate) fn place_of<K: Ord, V>(entries: &[(K, V)], key: &K) -> Result<usize, 
 }
 
 /// The value at this key.
-pub(crate) fn find<'a, K: Ord, V>(entries: &'a [(K, V)], key: &K) -> Option<&'a V>
+pub fn find<'a, K: Ord, V>(entries: &'a [(K, V)], key: &K) -> Option<&'a V>
     requires { IsTrue (is_sorted K.cmp entries.now) }
     ensures { option_copied result ≡ found_at K.cmp key.now entries.now }
 {
@@ -39,7 +42,7 @@ pub(crate) fn find<'a, K: Ord, V>(entries: &'a [(K, V)], key: &K) -> Option<&'a 
 
 /// Sets the value at this key. After an error the entries are as before; there is none where the
 /// vector has room for one more.
-pub(crate) fn put<K: Ord + Drop, V: Drop>(
+pub fn put<K: Ord + Drop, V: Drop>(
     entries: &mut Vec<(K, V)>,
     key: K,
     value: V,
@@ -59,12 +62,28 @@ pub(crate) fn put<K: Ord + Drop, V: Drop>(
     Ok(())
 }
 
-/// Takes away the entry with this key, if there is one.
-pub(crate) fn remove_key<K: Ord + Drop, V: Drop>(entries: &mut Vec<(K, V)>, key: &K)
+/// Sets the value at a key that has one. It takes no memory.
+pub fn replace<K: Ord + Drop, V: Drop>(entries: &mut Vec<(K, V)>, key: &K, value: V)
+    requires sorted { IsTrue (is_sorted K.cmp entries.old.items) }
+    requires there { IsSome (found_at K.cmp key.now entries.old.items) }
+    ensures items { entries.new.items ≡ put_at K.cmp key.now value entries.old.items }
+    ensures sorted { IsTrue (is_sorted K.cmp entries.new.items) }
+{
+    if let Ok(place) = place_of(entries, key) {
+        entries[place].1 = value;
+    }
+}
+
+/// Takes away the entry with this key, if there is one. It takes no memory.
+pub fn take_away<K: Ord + Drop, V: Drop>(entries: &mut Vec<(K, V)>, key: &K)
     requires { IsTrue (is_sorted K.cmp entries.old.items) }
     ensures items { entries.new.items
         ≡ where_key K.cmp (λ other. not (eq_by_cmp K.cmp key.now other)) entries.old.items }
     ensures sorted { IsTrue (is_sorted K.cmp entries.new.items) }
+    ensures len { vec_len entries.new ≤ vec_len entries.old }
+    ensures capacity { vec_capacity entries.new ≡ vec_capacity entries.old }
 {
-    entries.retain(|entry| key.cmp(&entry.0).is_ne());
+    if let Ok(place) = place_of(entries, key) {
+        entries.remove(place);
+    }
 }

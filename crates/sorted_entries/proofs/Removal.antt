@@ -1,24 +1,12 @@
 -- An entry that is taken out of a list of entries in the order of their keys.
-use Rattle.std.proofs.Common.{◌≡◌, ◌∙◌, ℕ, zero, suc, ◌<◌, Bool, true, false, not, cond, ◌&&◌, List, [], ◌∷◌, length, get_or, Some, None, refl, sym, ap, T, arith}
+use Rattle.std.proofs.Common.{◌≡◌, ◌∙◌, ℕ, zero, suc, ◌<◌, Bool, true, false, not, cond, List, [], ◌∷◌, length, get_or, Some, None, refl, sym, ap, T, arith}
 use Rattle.std.specs.declared.cmp.Ordering.{Ordering}
 use Rattle.std.specs.declared.cmp.Ordering.TheVariants.{Less, Equal, Greater}
 use Rattle.std.specs.Ordering.{eq_by_cmp, is_eq, is_lt, ordering_reverse}
 use Rattle.std.specs.Cmp.{IsTotalOrder}
 use Rattle.std.specs.List.{remove}
 use Rattle.std.specs.FinMap.Entries.{below_all, find, is_sorted, where_key}
-
-first : (a b : Bool) → T (a && b) → T a
-first true b p = tt
-first false b p = p
-
-second : (a b : Bool) → T (a && b) → T b
-second true b p = p
-second false b p = absurd p
-
-less : (r : Ordering) → T (is_lt r) → r ≡ Less
-less Less p = refl
-less Equal p = absurd p
-less Greater p = absurd p
+use Rattle.sorted_entries.proofs.EntryLemmas.{below_each, first, less, second}
 
 module _ {K X : Type 0} {R : K → K → Ordering} (o : IsTotalOrder R) (key : K) where
   abbrev pub others : List (K × X) → List (K × X)
@@ -45,11 +33,6 @@ module _ {K X : Type 0} {R : K → K → Ordering} (o : IsTotalOrder R) (key : K
       let apart : R key e.0 ≡ Less = o.congr key x e.0 same ∙ less (R x e.0) (first (is_lt (R x e.0)) (below_all R x es) below) in
       ap (λ r. cond (is_eq r) (Some e.1) (find R key es)) apart ∙ none_above x es same (second (is_lt (R x e.0)) (below_all R x es) below)
 
-  below_each : (x : K) (es : List (K × X)) → T (below_all R x es) → (k : ℕ) (d : K × X) → k < length es → R x (get_or es k d).0 ≡ Less
-  below_each x [] below k d within = absurd (omega (arith, within))
-  below_each x (e ∷ es) below zero d within = less (R x e.0) (first (is_lt (R x e.0)) (below_all R x es) below)
-  below_each x (e ∷ es) below (suc k) d within = below_each x es (second (is_lt (R x e.0)) (below_all R x es) below) k d (omega (arith, within))
-
   -- the key's entry is the one that is left out
   pub others-at : (es : List (K × X)) (i : ℕ) (d : K × X) → T (is_sorted R es) → i < length es → R key (get_or es i d).0 ≡ Equal → others es ≡ remove es i
   others-at [] i d sorted within same = absurd (omega (arith, within))
@@ -57,6 +40,6 @@ module _ {K X : Type 0} {R : K → K → Ordering} (o : IsTotalOrder R) (key : K
       left_out e es (ap is_eq same) ∙ others-none es (none_above e.0 es same (first (below_all R e.0 es) (is_sorted R es) sorted))
   others-at (e ∷ es) (suc i) d sorted within same =
       let x = (get_or es i d).0 in
-      let below : R e.0 x ≡ Less = below_each e.0 es (first (below_all R e.0 es) (is_sorted R es) sorted) i d (omega (arith, within)) in
+      let below : R e.0 x ≡ Less = below_each R e.0 es (first (below_all R e.0 es) (is_sorted R es) sorted) i d (omega (arith, within)) in
       let above : R key e.0 ≡ Greater = o.congr key x e.0 same ∙ o.antisymm x e.0 ∙ ap ordering_reverse below in
       kept e es (ap is_eq above) ∙ ap (λ rest. e ∷ rest) (others-at es i d (second (below_all R e.0 es) (is_sorted R es) sorted) (omega (arith, within)) same)

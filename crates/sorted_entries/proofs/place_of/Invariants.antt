@@ -1,6 +1,6 @@
 use Rattle.std.proofs.Common.{◌-◌}
-use Rattle.fileset_model.proofs.SearchLemmas.{Between}
-use Rattle.quota_book.proofs.entries.place_of.Given as goal
+use Rattle.sorted_entries.proofs.SearchLemmas.{Between}
+use Rattle.sorted_entries.proofs.place_of.Given as goal
 
 abbrev pub invariant-loop-low : goal.invariant-loop-low
 invariant-loop-low g l = Between g.K.Ord.cmp l.entries l.key l.low l.high

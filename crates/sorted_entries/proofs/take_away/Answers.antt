@@ -1,11 +1,10 @@
 use Rattle.std.proofs.Common.{◌≡◌, ◌<◌, ◌∙◌, IsTrue, length, subst, sym}
 use Rattle.std.specs.FinMap.Entries.{find, is_sorted}
 use Rattle.std.proofs.Common.{None}
-use Rattle.fileset_model.proofs.EntryLemmas.{to_T}
-use Rattle.fileset_model.proofs.ChangeLemmas.{is_sorted_where}
-use Rattle.quota_book.proofs.Removal.{others-at, others-none}
-use Rattle.quota_book.specs.Owners.{IsEqualAt}
-use Rattle.quota_book.proofs.entries.take_away.Goals as goal
+use Rattle.sorted_entries.proofs.EntryLemmas.{is_sorted_where, to_T}
+use Rattle.sorted_entries.proofs.Removal.{others-at, others-none}
+use Rattle.sorted_entries.specs.Entries.{IsEqualAt}
+use Rattle.sorted_entries.proofs.take_away.Goals as goal
 
 pub returns-in-Ok-clause-items : goal.returns-in-Ok-clause-items
 returns-in-Ok-clause-items g c =

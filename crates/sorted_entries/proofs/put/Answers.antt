@@ -1,8 +1,8 @@
 use Rattle.std.proofs.Common.{◌≡◌, IsTrue, subst, slice_set, arith}
 use Rattle.std.proofs.lemmas.Grind.{common_steps}
 use Rattle.std.specs.FinMap.Entries.{is_sorted, put}
-use Rattle.fileset_model.proofs.EntryLemmas.{is_sorted_put}
-use Rattle.quota_book.proofs.entries.put.Goals as goal
+use Rattle.sorted_entries.proofs.EntryLemmas.{is_sorted_put}
+use Rattle.sorted_entries.proofs.put.Goals as goal
 
 pub returns-in-Ok-clause-sorted : goal.returns-in-Ok-clause-sorted
 returns-in-Ok-clause-sorted g c =

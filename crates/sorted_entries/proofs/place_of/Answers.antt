@@ -1,6 +1,6 @@
 use Rattle.std.proofs.Common.{◌+◌, ◌-◌, ◌/◌, ◌<◌, ◌≤◌, length, sym, arith}
-use Rattle.fileset_model.proofs.SearchLemmas.{between_lower, between_upper, found_between, gap_between}
-use Rattle.quota_book.proofs.entries.place_of.Goals as goal
+use Rattle.sorted_entries.proofs.SearchLemmas.{between_lower, between_upper, found_between, gap_between}
+use Rattle.sorted_entries.proofs.place_of.Goals as goal
 
 pub loop-low-preserved-in-Less : goal.loop-low-preserved-in-Less
 loop-low-preserved-in-Less g c =
