@@ -12,7 +12,7 @@ use Rattle.bmt_mcells.specs.Cell.{Cell, spellings}
 use Rattle.record_table.specs.declared.record.Record.{Record}
 use Rattle.record_table.specs.Records.{Allowed, kind_of, spelling}
 use Rattle.record_table.specs.Layouts.{size_of}
-use Rattle.record_table.proofs.Whole.{length-spelling}
+use Rattle.record_table.proofs.WholeRecord.{length-spelling}
 use Rattle.bmt_mcells.specs.CellPage.{HasPlace, cell_of, home_of, is_cell_page}
 use Rattle.bmt_mcells.specs.Chain.{StandsAt}
 use Rattle.extent_maps.specs.declared.run.PagePlace.TheVariants.{Absent, At}

@@ -6,7 +6,7 @@ use Rattle.std.specs.List.{AllByRecursion}
 use Rattle.record_table.specs.declared.record.Record.{Record}
 use Rattle.record_table.specs.Records.{Allowed, kind_of, spelling}
 use Rattle.record_table.specs.Layouts.{size_of}
-use Rattle.record_table.proofs.Whole.{length-spelling}
+use Rattle.record_table.proofs.WholeRecord.{length-spelling}
 use Rattle.bmt_mcells.specs.Cell.{AreRecords, AreRising, Cell, place_of, record_of, spellings}
 use Rattle.bmt_mcells.proofs.Spellings.{spellings-append}
 use Rattle.extent_records.specs.Writing.{IsMapRecord, most_rows}

@@ -7,7 +7,7 @@ use Rattle.record_table.specs.declared.record.Record.{Record}
 use Rattle.record_table.specs.declared.record.Record.TheVariants.{Attributes, CloneFile, Extents, ShortExtents, Holes, Pending, UserQuota, GroupQuota, DirIndex, Parent, Stripe, Volume, DenseExtents, ShortDense}
 use Rattle.record_table.specs.Records.{Allowed, kind_of, spelling}
 use Rattle.record_table.specs.Layouts.{size_of}
-use Rattle.record_table.proofs.Whole.{length-spelling}
+use Rattle.record_table.proofs.WholeRecord.{length-spelling}
 use Rattle.bmt_mcells.specs.Cell.{AreRecords, AreRising, Cell, id_of, place_of, spellings}
 use Rattle.bmt_mcells.specs.Chain.{StandsAt}
 use Rattle.domain_base.specs.declared.place.CellAt.{CellAt}

@@ -8,7 +8,7 @@ use Rattle.record_table.specs.declared.record.Record.{Record}
 use Rattle.record_table.specs.declared.record.Record.TheVariants as written
 use Rattle.record_table.specs.Records.{Allowed, kind_of, spelling}
 use Rattle.record_table.specs.Layouts.{size_of}
-use Rattle.record_table.proofs.Whole.{length-spelling}
+use Rattle.record_table.proofs.WholeRecord.{length-spelling}
 use Rattle.bmt_mcells.specs.Cell.{Cell, record_of, spellings}
 use Rattle.bmt_mcells.specs.Chain.{StandsAt}
 use Rattle.bmt_mcells.proofs.Spellings.{spellings-append}

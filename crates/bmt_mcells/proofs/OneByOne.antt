@@ -1,6 +1,7 @@
 -- Reading the records of a cell, one after the other.
 use Rattle.std.proofs.Common.{◌≡◌, ℕ, zero, suc, ◌+◌, ◌-◌, ◌<◌, ◌≤◌, true, false, nat_eq, List, [], ◌∷◌, ◌++◌, length, take, drop, refl, sym, ap, subst, ◌∙◌, arith, Result, Ok, append_assoc, length-append, length-drop, length-take}
 use Rattle.std.proofs.lemmas.Bool.{and_parts, eqb-true}
+use Rattle.std.proofs.Math.Seq.{take-add}
 use Rattle.std.proofs.lemmas.List.{append-nil, take_at, take_all, take-append-drop}
 use Rattle.std.specs.List.{AllByRecursion, list_all}
 use Rattle.domain_base.specs.Page.{zero_bytes}
@@ -58,19 +59,6 @@ pub record ReadSo (bytes : List ℕ) (old new : List Record) (at last : ℕ) : T
 pub read_none : (bytes : List ℕ) (old : List Record) → ReadSo bytes old old 0 0
 read_none bytes old = record { records = []; found = sym (append-nil old); inside = omega arith; front = refl; allowed = tt; rising = tt; place = refl }
 
-take-plus : (m n : ℕ) (xs : List ℕ) → m ≤ length xs → take (m + n) xs ≡ take m xs ++ take n (drop m xs)
-take-plus m n xs inside =
-    let whole : take m xs ++ drop m xs ≡ xs = take-append-drop m xs in
-    let front : length (take m xs) ≡ m = omega (arith, length-take m xs) in
-    split (take m xs) (drop m xs) xs m n whole front
-  where
-    nested : (xs ys : List ℕ) (n : ℕ) → take (length xs + n) (xs ++ ys) ≡ xs ++ take n ys
-    nested [] ys n = let e : 0 + n ≡ n = omega arith in rw e refl
-    nested (x ∷ xs) ys n = let e : suc (length xs) + n ≡ suc (length xs + n) = omega arith in rw e (ap (λ (zs : List ℕ). x ∷ zs) (nested xs ys n))
-
-    split : (f r xs : List ℕ) (m n : ℕ) → f ++ r ≡ xs → length f ≡ m → take (m + n) xs ≡ f ++ take n r
-    split f r xs m n whole front = subst (λ ys. take (m + n) ys ≡ f ++ take n r) whole (subst (λ k. take (k + n) (f ++ r) ≡ f ++ take n r) front (nested f r n))
-
 module _ (bytes : List ℕ) (old new : List Record) (at last : ℕ) (so : ReadSo bytes old new at last) where
   -- the bytes are what was read and a rest
   whole : bytes ≡ spellings so.records ++ drop at bytes
@@ -84,7 +72,7 @@ module _ (bytes : List ℕ) (old new : List Record) (at last : ℕ) (so : ReadSo
         records = so.records ++ r ∷ [];
         found = ap (λ (rs : List Record). rs ++ r ∷ []) so.found ∙ append_assoc old so.records (r ∷ []);
         inside = omega (arith, room);
-        front = take-plus at len bytes so.inside ∙ (λ i. so.front i ++ spelled i) ∙ sym (spellings-push so.records r);
+        front = take-add at len bytes ∙ (λ i. so.front i ++ spelled i) ∙ sym (spellings-push so.records r);
         allowed = allowed-push so.records r so.allowed begins.allowed;
         rising = rising-push 0 so.records r so.rising (omega (arith, above, so.place));
         place = sym (last_place-push 0 so.records r);

@@ -4,7 +4,7 @@ use Rattle.std.proofs.lemmas.List.{append-nil}
 use Rattle.std.specs.List.{AllByRecursion}
 use Rattle.record_table.specs.declared.record.Record.{Record}
 use Rattle.record_table.specs.Records.{Allowed, kind_of, spelling}
-use Rattle.record_table.proofs.Whole.{one_spelling, length-spelling, kind-size}
+use Rattle.record_table.proofs.WholeRecord.{one_spelling, length-spelling, kind-size}
 use Rattle.record_table.proofs.EachKind.{is_kind}
 use Rattle.bmt_mcells.specs.Cell.{AreRising, place_of, spellings}
 

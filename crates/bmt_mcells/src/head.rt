@@ -15,8 +15,8 @@ pub enum CellKind {
     Volume,
 }
 
-/// The head of a cell in use: the next cell of its chain, the tag of its file, the fileset, and what
-/// it is for.
+/// The head of a cell in use: the next cell of its chain, the tag of its file, the fileset, and
+/// what it is for.
 #[derive(Clone, Copy, Debug, PartialEq, Eq)]
 pub struct CellHead {
     pub next: Option<CellAt>,

@@ -7,12 +7,12 @@ ghost use Rattle.domain_base.specs.declared.place.Home.{Home};
 ghost use Rattle.page_store.specs.Pages.{same_home};
 ghost use Rattle.bmt_mcells.specs.CellPage.{ChangesPage, IsCellPage, IsEmptyPage, KeepsWellFormed, cell_at, index_of, is_cell_page, is_free_in, next_of, with_next};
 
-use crate::reading::{CELL_BYTES, MAGIC, u32_at};
+use crate::reading::{CELL_BYTES, MAGIC};
 use crate::writing::CELLS;
 use byteorder::{ByteOrder, LittleEndian};
 use domain_base::{Home, OutOfMemory, Page};
 use page_store::MetaPages;
-use record_table::put;
+use record_table::{put, u32_at};
 use std::alloc::Global;
 
 /// What a page of cells begins with: its index in its volume's table, from 0, and the page that is
@@ -23,8 +23,8 @@ pub struct PageHead {
     pub next: u32,
 }
 
-/// The widths of the numbers that a page begins with: `BMTP`, the index, the next page, the count of
-/// free cells, and a zero.
+/// The widths of the numbers that a page begins with: `BMTP`, the index, the next page, the count
+/// of free cells, and a zero.
 const HEADER: [u8; 5] = [4, 4, 4, 2, 2];
 
 /// What the page of cells begins with that stands there. None exactly where none stands there.
@@ -84,8 +84,8 @@ fn change_next<M: MetaPages>(pages: &mut M, home: &Home, next: u32)
     pages.set(*home, 8, &bytes);
 }
 
-/// Makes `next` the next page of the page that stands there, or gives it none where that is 0. Every
-/// cell stays, and every other page. It takes no memory.
+/// Makes `next` the next page of the page that stands there, or gives it none where that is 0.
+/// Every cell stays, and every other page. It takes no memory.
 pub fn set_next<M: MetaPages>(pages: &mut M, home: Home, next: u32)
     requires { IsSomeAnd (M.pages pages.old home) IsCellPage }
     ensures next { IsSomeAnd (M.pages pages.new home) (λ page. next_of page ≡ next) }

@@ -10,39 +10,15 @@ ghost use Rattle.bmt_mcells.specs.CellPage.{cell_at};
 ghost use Rattle.bmt_mcells.specs.Chain.{HasHeadAt};
 
 use crate::head::{CellHead, CellKind};
-use byteorder::{ByteOrder, LittleEndian};
 use domain_base::{CellAt, FilesetNo, Home, VolIx};
 use page_store::MetaPages;
+use record_table::{u8_at, u16_at, u32_at};
 
 /// The bytes of a cell.
 pub(crate) const CELL_BYTES: usize = 292;
 
 /// The first bytes of a page of cells, `BMTP`, as a number.
 pub(crate) const MAGIC: u32 = 0x5054_4d42;
-
-#[tactic(auto, unfolding(record_table::specs::Fields::number_at))]
-fn u8_at(bytes: &[u8], at: usize) -> u8
-    requires { at + 1 ≤ length bytes.now }
-    ensures { result ≡ number_at 1 at bytes.now }
-{
-    bytes[at]
-}
-
-#[tactic(auto, unfolding(record_table::specs::Fields::number_at))]
-fn u16_at(bytes: &[u8], at: usize) -> u16
-    requires { at + 2 ≤ length bytes.now }
-    ensures { result ≡ number_at 2 at bytes.now }
-{
-    LittleEndian::read_u16(&bytes[at..])
-}
-
-#[tactic(auto, unfolding(record_table::specs::Fields::number_at))]
-pub(crate) fn u32_at(bytes: &[u8], at: usize) -> u32
-    requires { at + 4 ≤ length bytes.now }
-    ensures { result ≡ number_at 4 at bytes.now }
-{
-    LittleEndian::read_u32(&bytes[at..])
-}
 
 /// The address in a cell's first eight bytes, if it is one: of a cell, or of none.
 fn next_of(cell: &[u8]) -> Option<Option<CellAt>>

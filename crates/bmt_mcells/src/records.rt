@@ -34,8 +34,8 @@ fn are_zeros(bytes: &[u8]) -> bool
     bytes.iter().all(|byte| *byte == 0)
 }
 
-/// Reads the records that the bytes are, and appends them. Says whether the bytes are records that a
-/// cell may have.
+/// Reads the records that the bytes are, and appends them. Says whether the bytes are records that
+/// a cell may have.
 pub(crate) fn read_records(bytes: &[u8], found: &mut Vec<Record>) -> Result<bool, OutOfMemory>
     ensures { IfOk result (ReadsRecords bytes.now found.old.items found.new.items) }
 {

@@ -217,8 +217,8 @@ pub fn write_cell<M: MetaPages>(pages: &mut M, at: CellAt, head: &CellHead, reco
 }
 
 /// Makes a cell a free one, 292 zeros, whatever stood there, and makes the count of its page's free
-/// cells what it then is. Every other cell stays, and the index and next page of each page. The page
-/// of cells is there. It takes no memory.
+/// cells what it then is. Every other cell stays, and the index and next page of each page. The
+/// page of cells is there. It takes no memory.
 pub fn clear_cell<M: MetaPages>(pages: &mut M, at: CellAt)
     requires { HasPlace (M.pages pages.old) at }
     ensures cleared { cell_at (M.pages pages.new) at ≡ Some (zero_bytes CELL_BYTES) }

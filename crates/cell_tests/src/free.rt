@@ -229,8 +229,8 @@ fn next_volume(cells: &mut FreeCells) -> u32 {
     }
 }
 
-/// The volumes of new cells: while both are open, volume 1 is closed, and it is open again; after it
-/// was dropped; and while volume 2 is closed. Then how many cells are left.
+/// The volumes of new cells: while both are open, volume 1 is closed, and it is open again; after
+/// it was dropped; and while volume 2 is closed. Then how many cells are left.
 fn volumes_seen(alloc: Global) -> Result<([u32; 5], (usize, bool)), OutOfMemory> {
     let pages = two_pages(alloc)?;
     let mut cells = both_read(alloc, &pages)?;

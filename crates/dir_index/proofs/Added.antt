@@ -11,7 +11,7 @@ use Rattle.dir_index.specs.Entries.{IsPlace, Rise, first_from, is_below}
 use Rattle.dir_index.specs.Index.{FirstPage, IsIndex, IsIndexPage, all_entries, entries_of, index_pages}
 use Rattle.dir_index.specs.Changes.{Adds, AddsEntry, InsertsPage, IsPageFor, PutsPage, Spreads, StartsHigh, with_index}
 use Rattle.dir_index.proofs.Orders.{all_both, none_from, rise_with}
-use Rattle.dir_index.proofs.Parts.{all-append, from_start, split_entries}
+use Rattle.dir_index.proofs.IndexParts.{all-append, from_start, split_entries}
 use Rattle.dir_index.proofs.Removed.{all_drop, all_join, all_take, got_at}
 use Rattle.dir_index.proofs.Sets.{DirectoryFile, change_is, index_of_file, only, pages_now, put_on, same_pages, the_file}
 

@@ -1,6 +1,6 @@
 pub mod Added
+pub mod IndexParts
 pub mod Orders
 pub mod Pages
-pub mod Parts
 pub mod Removed
 pub mod Sets

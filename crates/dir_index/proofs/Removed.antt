@@ -11,7 +11,7 @@ use Rattle.dir_index.specs.Entries.{Has, IsPlace, Rise, first_from, is_below}
 use Rattle.dir_index.specs.Index.{FirstPage, IsIndex, IsIndexPage, all_entries, entries_of, index_pages}
 use Rattle.dir_index.specs.Changes.{Cuts, PutsPage, RemovesEntry, with_index}
 use Rattle.dir_index.proofs.Orders.{all_both, first_is, none_from, rise_without}
-use Rattle.dir_index.proofs.Parts.{all-append, from_start, split_entries}
+use Rattle.dir_index.proofs.IndexParts.{all-append, from_start, split_entries}
 use Rattle.dir_index.proofs.Sets.{index_of_file, only, pages_now, put_on, same_pages, the_file}
 
 -- ---- all of a list with one put

@@ -11,7 +11,7 @@ use Rattle.page_store.specs.Bitfiles.{Bitfile, Bitfiles, IsDirectory, put_index,
 use Rattle.dir_index.specs.declared.entry.IndexEntry.{IndexEntry}
 use Rattle.dir_index.specs.Index.{IsIndexPage, all_entries, entries_of, index_pages}
 use Rattle.dir_index.specs.Changes.{OnlyIndex, PutsPage, with_index}
-use Rattle.dir_index.proofs.Parts.{all-append}
+use Rattle.dir_index.proofs.IndexParts.{all-append}
 
 same_itself : (tag : Tag) → same_tag tag tag ≡ true
 same_itself tag = and_from (nat_eq tag.slot tag.slot) (nat_eq tag.seq tag.seq) (eq-eqb tag.slot tag.slot refl) (eq-eqb tag.seq tag.seq refl)

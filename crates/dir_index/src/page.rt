@@ -5,20 +5,12 @@ ghost use Rattle.dir_index.specs.Entries.{EndsBelow, IsPlace, Rise, first_from};
 ghost use Rattle.dir_index.specs.Index.{IsIndexPage, entries_of, entry_at};
 
 use crate::entry::{IndexEntry, is_below};
-use byteorder::{ByteOrder, LittleEndian};
 use domain_base::{OutOfMemory, Page};
+use record_table::u32_at;
 use std::alloc::Global;
 
 /// How many entries a page has at most.
 pub(crate) const ENTRIES: usize = 1_022;
-
-#[tactic(auto, unfolding(record_table::specs::Fields::number_at))]
-fn u32_at(bytes: &[u8], at: usize) -> u32
-    requires { at + 4 ≤ length bytes.now }
-    ensures { result ≡ number_at 4 at bytes.now }
-{
-    LittleEndian::read_u32(&bytes[at..])
-}
 
 /// How many entries an index page has.
 fn count_entries(page: &Page) -> usize

@@ -14,7 +14,7 @@ use Rattle.dir_pages.specs.declared.row.Row.{Row}
 use Rattle.dir_pages.specs.Rows.{IsRow, are_rows, first_row, first_rows, is_row, is_row_name, kind_number, kind_of, name_len, other_rows, row_numbers, row_widths, spelled_row, spelling}
 use Rattle.dir_pages.specs.RowPage.{IsDirPage, IsRowPage, has_header, header, header_numbers, header_widths, size_of}
 use Rattle.dir_pages.proofs.Again.{count_is, head}
-use Rattle.dir_pages.proofs.Parts.{read_alike}
+use Rattle.dir_pages.proofs.PageParts.{read_alike}
 
 -- numbers that were read spell the bytes in which they stood
 pub spelled_back : (ws : List ℕ) (at : ℕ) (bytes : List ℕ) → IsBytes bytes → at + sum ws ≤ length bytes → spelled ws (decoded ws at bytes) ≡ take (sum ws) (drop at bytes)

@@ -1,5 +1,5 @@
 pub mod Again
 pub mod Checked
-pub mod Parts
+pub mod PageParts
 pub mod Places
 pub mod Written

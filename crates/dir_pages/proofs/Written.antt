@@ -9,7 +9,7 @@ use Rattle.dir_pages.specs.declared.row.Row.{Row}
 use Rattle.dir_pages.specs.Rows.{IsRow, spelled_row, spelling}
 use Rattle.dir_pages.specs.RowPage.{HasRows, IsRowPage, closed, header, page_of}
 use Rattle.dir_pages.proofs.Again.{spelling-append}
-use Rattle.dir_pages.proofs.Parts.{header_long, read_alike, rows_are_once, spelled_header}
+use Rattle.dir_pages.proofs.PageParts.{header_long, read_alike, rows_are_once, spelled_header}
 
 -- ---- bytes overwritten
 

@@ -6,9 +6,9 @@ ghost use Rattle.dir_pages.specs.Rows.{are_rows as rows_there, is_dots as dots, 
 ghost use Rattle.dir_pages.specs.declared.row.Row.{Row};
 ghost use Rattle.dir_pages.specs.RowPage.{IsDirPage, IsRowPage, has_header as header_there};
 
-use byteorder::{ByteOrder, LittleEndian};
 use domain_base::Page;
 use domain_base::limits::{MAX_NAME, PAGE_BYTES};
+use record_table::{u8_at, u16_at, u32_at, u64_at};
 
 /// The first bytes of a directory page, `DIRP`, as a number.
 pub(crate) const MAGIC: u32 = 0x5052_4944;
@@ -18,38 +18,6 @@ pub(crate) const ROWS_START: usize = 16;
 
 /// How many bytes of a row stand before its name.
 pub(crate) const ROW_HEAD: usize = 8;
-
-#[tactic(auto, unfolding(record_table::specs::Fields::number_at))]
-pub(crate) fn u8_at(bytes: &[u8], at: usize) -> u8
-    requires { at + 1 ≤ length bytes.now }
-    ensures { result ≡ number_at 1 at bytes.now }
-{
-    bytes[at]
-}
-
-#[tactic(auto, unfolding(record_table::specs::Fields::number_at))]
-pub(crate) fn u16_at(bytes: &[u8], at: usize) -> u16
-    requires { at + 2 ≤ length bytes.now }
-    ensures { result ≡ number_at 2 at bytes.now }
-{
-    LittleEndian::read_u16(&bytes[at..])
-}
-
-#[tactic(auto, unfolding(record_table::specs::Fields::number_at))]
-pub(crate) fn u32_at(bytes: &[u8], at: usize) -> u32
-    requires { at + 4 ≤ length bytes.now }
-    ensures { result ≡ number_at 4 at bytes.now }
-{
-    LittleEndian::read_u32(&bytes[at..])
-}
-
-#[tactic(auto, unfolding(record_table::specs::Fields::number_at))]
-fn u64_at(bytes: &[u8], at: usize) -> u64
-    requires { at + 8 ≤ length bytes.now }
-    ensures { result ≡ number_at 8 at bytes.now }
-{
-    LittleEndian::read_u64(&bytes[at..])
-}
 
 /// Whether a name may have the byte.
 fn is_name_byte(byte: u8) -> bool

@@ -7,14 +7,13 @@ ghost use Rattle.dir_pages.specs.declared.row.RowsFault.TheVariants.{Bad};
 ghost use Rattle.dir_pages.specs.Rows.{found, is_named, is_row_name, kind_number as number_of, spelled_row, without};
 ghost use Rattle.dir_pages.specs.RowPage.{HasRows, IsDirPage, IsPlace, IsRowPage, behind, fits, header_numbers, header_widths, rows_of, size_of};
 
-use crate::form::{MAGIC, ROW_HEAD, ROWS_START, is_row_page, u16_at};
+use crate::form::{MAGIC, ROW_HEAD, ROWS_START, is_row_page};
 use crate::gap::close_gap;
 use crate::row::{Row, RowList, RowName, RowsFault};
 use crate::rows::Rows;
-use byteorder::{ByteOrder, LittleEndian};
 use domain_base::limits::PAGE_BYTES;
 use domain_base::{Kind, OutOfMemory, Page, Tag};
-use record_table::put;
+use record_table::{put, u16_at};
 use std::alloc::Global;
 
 /// The widths of the numbers that a page begins with: `DIRP`, the bytes of the rows, how many rows

@@ -3,7 +3,7 @@ ghost use Rattle.std.specs.Prelude.{◌≡◌, ◌+◌, ◌≤◌, length};
 ghost use Rattle.dir_pages.specs.Rows.{first_row, kind_of, name_len, other_rows};
 ghost use Rattle.dir_pages.specs.RowPage.{IsDirPage, rows_of};
 
-use crate::form::{ROWS_START, u8_at, u16_at, u32_at};
+use crate::form::ROWS_START;
 use domain_base::{Kind, Page, Tag};
 use std::marker::Model;
 

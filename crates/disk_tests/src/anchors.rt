@@ -173,8 +173,8 @@ impl Pair {
     }
 }
 
-/// Writes the new anchor: whether that passes, the stops during it leave the old anchor or the new one,
-/// and the stops after it the new one.
+/// Writes the new anchor: whether that passes, the stops during it leave the old anchor or the new
+/// one, and the stops after it the new one.
 fn written(
     rack: &mut MemoryRack,
     alloc: Global,
@@ -249,8 +249,8 @@ fn number_of(found: &Result<Anchor, AnchorFault>) -> u64 {
     }
 }
 
-/// The number that is found where the gate of slot 1 is open on a body that was cut short, as a stop may
-/// leave it while it is written as zeros.
+/// The number that is found where the gate of slot 1 is open on a body that was cut short, as a
+/// stop may leave it while it is written as zeros.
 fn found_behind_a_torn_gate(alloc: Global, ready: bool) -> Result<u64, OutOfMemory> {
     let mut rack = stopped_within_the_body(alloc)?;
     if ready && !make_ready(&mut rack) {
@@ -272,8 +272,8 @@ fn a_torn_gate_opens_on_what_was_cut_short_unless_the_slot_is_ready(
     Ok(())
 }
 
-/// Whether the second anchor is refused where this call fails, which is the last one made, and the stops
-/// after it leave the old anchor, or, where that may be, the new one.
+/// Whether the second anchor is refused where this call fails, which is the last one made, and the
+/// stops after it leave the old anchor, or, where that may be, the new one.
 fn is_cut_short(alloc: Global, fails: u64, allowed: Found) -> Result<bool, OutOfMemory> {
     let pair = Pair {
         old: anchor(1, 1, 0),
@@ -288,8 +288,8 @@ fn is_cut_short(alloc: Global, fails: u64, allowed: Found) -> Result<bool, OutOf
 
 #[test]
 fn a_call_that_fails_leaves_the_old_anchor_or_the_new_one(rt: HostRuntime) -> Result<(), Fail> {
-    // after the eight calls of the old anchor: three reads, and the six calls of the new one, of which
-    // the fifth opens its gate
+    // after the eight calls of the old anchor: three reads, and the six calls of the new one, of
+    // which the fifth opens its gate
     for fails in 9..16 {
         assert!(rt;
             is_cut_short(rt.alloc(), fails, Found::Old)?,

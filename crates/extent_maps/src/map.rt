@@ -10,7 +10,8 @@ use domain_base::{Home, OutOfMemory};
 use std::alloc::Global;
 use std::marker::Model;
 
-/// The pages of a file that are there or kept as holes, by their numbers, as runs as long as can be.
+/// The pages of a file that are there or kept as holes, by their numbers, as runs as long as can
+/// be.
 #[derive(Drop)]
 pub struct ExtentMap {
     runs: Vec<Run>,
@@ -319,8 +320,8 @@ fn cut_page(runs: &mut Vec<Run>, page: u32) -> Result<Option<Home>, OutOfMemory>
     Ok(place.home())
 }
 
-/// Takes the pages from one on off the last run in front of the place, and puts them in front of the
-/// tail. After an error nothing has changed.
+/// Takes the pages from one on off the last run in front of the place, and puts them in front of
+/// the tail. After an error nothing has changed.
 fn move_rest(
     runs: &mut Vec<Run>,
     at: usize,
@@ -391,8 +392,8 @@ impl ExtentMap {
         put_page(&mut self.runs, page, RunPlace::Holes)
     }
 
-    /// Puts the pages of a run at its places. It answers false exactly where one of them is there or
-    /// kept already, and then nothing has changed. After an error nothing has changed.
+    /// Puts the pages of a run at its places. It answers false exactly where one of them is there
+    /// or kept already, and then nothing has changed. After an error nothing has changed.
     pub fn put_run(&mut self, run: &Run) -> Result<bool, OutOfMemory>
         requires { IsRun run.now }
         ensures free { IfOk result (λ put. IsTrue put ↔ IsFree run.now self.old) }
@@ -404,8 +405,8 @@ impl ExtentMap {
         put_run(&mut self.runs, run)
     }
 
-    /// Takes a page off, and tells the home that it had, if any. A page in the middle of a run leaves
-    /// two. After an error nothing has changed.
+    /// Takes a page off, and tells the home that it had, if any. A page in the middle of a run
+    /// leaves two. After an error nothing has changed.
     pub fn cut(&mut self, page: u32) -> Result<Option<Home>, OutOfMemory>
         ensures ok { OnOk result (ChangesPlace page Absent self.old self.new) }
         ensures home { IfOk result (λ home. home ≡ home_at (place_of self.old page)) }
@@ -414,8 +415,8 @@ impl ExtentMap {
         cut_page(&mut self.runs, page)
     }
 
-    /// Puts a page that has a home at another one, and tells the old one. After an error nothing has
-    /// changed.
+    /// Puts a page that has a home at another one, and tells the old one. After an error nothing
+    /// has changed.
     pub fn switch(&mut self, page: u32, home: Home) -> Result<Home, OutOfMemory>
         requires there { IsSome (home_at (place_of self.old page)) }
         ensures ok { OnOk result (ChangesPlace page (At home) self.old self.new) }

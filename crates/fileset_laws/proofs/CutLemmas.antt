@@ -8,7 +8,7 @@ use Rattle.std.specs.Prelude.{slice_index}
 use Rattle.domain_base.specs.Page.{overwritten, zero_bytes, length-zero_bytes, slice_index-zero_bytes}
 use Rattle.fileset_model.specs.Pages.{Pages, byte_at, truncated}
 use Rattle.fileset_model.proofs.MapLemmas.{get-insert_same, get-insert_other}
-use Rattle.fileset_laws.specs.Whole.{AreWhole}
+use Rattle.fileset_laws.specs.WholePages.{AreWhole}
 use Rattle.fileset_laws.proofs.ByteLemmas.{overwritten-before, overwritten-within}
 
 -- the pages that begin below a size

@@ -1,2 +1,2 @@
 pub mod Valid
-pub mod Whole
+pub mod WholePages

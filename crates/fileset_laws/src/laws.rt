@@ -1,7 +1,7 @@
 //! Laws of the definitions, each the contract of a function without a body.
 ghost use Rattle.std.specs.Prelude.{◌≡◌, ◌⊎◌, ℕ, ◌+◌, ◌-◌, ◌<◌, ◌≤◌, List, length, slice_index, Option, Some};
 ghost use Rattle.fileset_model.specs.Pages.{Pages, byte_at, truncated, written};
-ghost use Rattle.fileset_laws.specs.Whole.{AreWhole};
+ghost use Rattle.fileset_laws.specs.WholePages.{AreWhole};
 ghost use Rattle.std.specs.FinMap.{empty, get};
 ghost use Rattle.fileset_model.specs.Apply.{AnswersIfMemory, with_tree};
 ghost use Rattle.fileset_model.specs.Fileset.{Fileset as Tree};

@@ -2,7 +2,6 @@
 #![tactic(auto)]
 
 mod allowed;
-mod fields;
 mod laws;
 mod reading;
 mod rules;

@@ -10,11 +10,11 @@ ghost use Rattle.fileset_table.specs.Page.{AreSlots, HasHeader, IsTablePage};
 ghost use Rattle.fileset_table.specs.Reading.{Reads, ReadsAs};
 ghost use Rattle.fileset_table.specs.Slot.{HasFirstTag, HasQuota, IsEntry, IsNamed, IsSlot};
 
-use crate::fields::{u8_at, u16_at, u32_at, u64_at};
 use crate::rules::are_slots;
 use crate::slot::{FilesetEntry, SlotItem, TableFault};
 use domain_base::{CellAt, FilesetNo, Home, VolIx};
 use fileset_model::FilesetName;
+use record_table::{u8_at, u16_at, u32_at, u64_at};
 use std::alloc::Global;
 use word_forms::{WordFault, fileset};
 

@@ -51,8 +51,8 @@ impl FreeSpace {
     }
 
     /// Adds a volume with this bitmap of at most 1,048,576 pages, open and with no page that waits.
-    /// It takes the room for each of its pages to wait. Where memory is short the bitmap comes back,
-    /// and nothing changes.
+    /// It takes the room for each of its pages to wait. Where memory is short the bitmap comes
+    /// back, and nothing changes.
     pub fn add_volume(
         &mut self,
         alloc: Global,

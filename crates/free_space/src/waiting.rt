@@ -2,7 +2,8 @@
 ghost use Rattle.std.specs.Prelude.{◌≡◌};
 
 /// What a page was used for, which tells how long it waits after it was freed: a page of file data
-/// until the group that freed it is durable, a page of metadata until the log's start has passed it.
+/// until the group that freed it is durable, a page of metadata until the log's start has passed
+/// it.
 #[derive(Clone, Copy, Debug, PartialEq, Eq)]
 pub enum PageUse {
     Data,

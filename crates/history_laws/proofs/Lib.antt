@@ -1,7 +1,7 @@
-pub mod Calm
 pub mod ImageLemmas
 pub mod MarkedLemmas
 pub mod NewDomainLemmas
+pub mod NoPanic
 pub mod PlaceLemmas
 pub mod PlainLemmas
 pub mod ShownLemmas

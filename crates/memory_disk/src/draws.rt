@@ -1,6 +1,8 @@
 //! What a stop leaves of calls that are not synced, as a pick draws it.
 ghost use Rattle.std.specs.Prelude.{◌≡◌, length};
 
+use domain_base::limits::OPEN_GATE;
+
 /// What is left of one half of a block.
 #[derive(Clone, Copy)]
 enum Part {
@@ -47,7 +49,7 @@ impl Part {
 /// four.
 fn torn_byte(number: u64) -> u8 {
     match number % 4 {
-        0 => 0xa5,
+        0 => OPEN_GATE,
         1 => 0,
         _ => (number / 4 % 256) as u8,
     }

@@ -1,6 +1,7 @@
 -- What a scan of fields says of the bytes.
 use Rattle.std.proofs.Common.{◌≡◌, ℕ, zero, suc, ◌+◌, ◌-◌, ◌^◌, ◌<◌, ◌≤◌, Bool, true, false, cond, ltb, leb, eqb, ◌&&◌, List, [], ◌∷◌, ◌++◌, length, get_or, take, drop, sum, Result, Ok, Err, refl, sym, ap, ◌∙◌, ◌⊎◌, inl, inr, append_assoc, arith, length-append, length-drop, drop-cons}
-use Rattle.std.proofs.lemmas.Bool.{cases_lt, ltb-true, lt-ltb, le-ltb, leb-true, le-leb, eqb-true, eq-eqb, and_parts, and_from, or_cases}
+use Rattle.std.proofs.Math.Seq.{take-add}
+use Rattle.std.proofs.lemmas.Bool.{cases_Bool, cases_lt, ltb-true, lt-ltb, le-ltb, leb-true, le-leb, eqb-true, eq-eqb, and_parts, and_from, or_cases}
 use Rattle.std.proofs.lemmas.List.{take_at, drop_at, take_all, drop_all, drop-drop}
 use Rattle.byteorder.specs.Endian.{little_number, little_bytes}
 use Rattle.byteorder.specs.Numbers.{length-bytes_low_first, little_number-reads_back}
@@ -62,15 +63,11 @@ pub data FieldCase (w : ℕ) (r : Rule) (seen : Seen) (bytes : List ℕ) : Type 
   refused : w ≤ length bytes → allows r seen (little_number w bytes) ≡ false → FieldCase w r seen bytes
   goes_on : w ≤ length bytes → allows r seen (little_number w bytes) ≡ true → FieldCase w r seen bytes
 
-true_or_false : (b : Bool) → (b ≡ true) ⊎ (b ≡ false)
-true_or_false true = inl refl
-true_or_false false = inr refl
-
 pub field_case : (w : ℕ) (r : Rule) (seen : Seen) (bytes : List ℕ) → FieldCase w r seen bytes
 field_case w r seen bytes =
     elim (cases_lt (length bytes) w) [
       | inl lt ↦ short lt
-      | inr le ↦ elim (true_or_false (allows r seen (little_number w bytes))) [ inl holds ↦ goes_on le holds | inr fails ↦ refused le fails ]
+      | inr le ↦ elim (cases_Bool (allows r seen (little_number w bytes))) [ inl holds ↦ goes_on le holds | inr fails ↦ refused le fails ]
     ]
 
 abbrev pub nil : List ℕ
@@ -90,17 +87,6 @@ err_is x y e = cc
 
 pub err_is_not_ok : (x y : ℕ) → stopped x ≡ done y → ⊥
 err_is_not_ok x y e = cc
-
-take_nil : (n : ℕ) → take n nil ≡ nil
-take_nil zero = refl
-take_nil (suc n) = refl
-
-take-plus : (m n : ℕ) (xs : List ℕ) → take (m + n) xs ≡ take m xs ++ take n (drop m xs)
-take-plus zero n xs = let e : 0 + n ≡ n = omega arith in rw e refl
-take-plus (suc m) n [] = take_nil (suc m + n) ∙ sym (take_nil n)
-take-plus (suc m) n (x ∷ xs) =
-    let e : suc m + n ≡ suc (m + n) = omega arith in
-    rw (e, take-plus m n xs) refl
 
 -- ---- what a scan that ends has read
 
@@ -133,7 +119,7 @@ scan_ok (w ∷ ws) (r ∷ rs) seen bytes at end fits le e =
             stops = omega (arith, others.stops, sum-cons w ws);
             inside = others.inside;
             passes = (little_number-lt w rest (IsBytes-drop at bytes fits), holds, others.passes);
-            text = rw (front, tail, sum-cons w ws) (sym (take-plus w (sum ws) rest));
+            text = rw (front, tail, sum-cons w ws) (sym (take-add w (sum ws) rest));
           }
     ]
 
@@ -328,8 +314,8 @@ scan_before (w ∷ ws) (r ∷ rs) seen bytes at end fits sane ready e =
           let len = length-bytes_low_first 0 w n in
           let text = spelled ws others.numbers in
           let same : take (w + others.taken) (little_bytes w n ++ text) ≡ take (w + others.taken) bytes =
-          take-plus w others.taken (little_bytes w n ++ text)
-          ∙ rw (take_at (little_bytes w n) text w len, drop_at (little_bytes w n) text w len, others.same, front) (sym (take-plus w others.taken bytes)) in
+          take-add w others.taken (little_bytes w n ++ text)
+          ∙ rw (take_at (little_bytes w n) text w len, drop_at (little_bytes w n) text w len, others.same, front) (sym (take-add w others.taken bytes)) in
           record {
             numbers = n ∷ others.numbers;
             passes = (little_number-lt w bytes fits, holds, others.passes);

@@ -6,6 +6,7 @@ ghost use Rattle.record_table.specs.Fields.{number_at, extent_at as extent_there
 use crate::record::{ExtentField, HoleField, Leftover};
 use byteorder::{ByteOrder, LittleEndian};
 
+/// The byte at a place.
 #[tactic(auto, unfolding(crate::specs::Fields::number_at))]
 pub fn u8_at(bytes: &[u8], at: usize) -> u8
     requires { at + 1 ≤ length bytes.now }
@@ -14,6 +15,7 @@ pub fn u8_at(bytes: &[u8], at: usize) -> u8
     bytes[at]
 }
 
+/// The number of the two bytes from a place on, the lowest first.
 #[tactic(auto, unfolding(crate::specs::Fields::number_at))]
 pub fn u16_at(bytes: &[u8], at: usize) -> u16
     requires { at + 2 ≤ length bytes.now }
@@ -22,6 +24,7 @@ pub fn u16_at(bytes: &[u8], at: usize) -> u16
     LittleEndian::read_u16(&bytes[at..])
 }
 
+/// The number of the four bytes from a place on, the lowest first.
 #[tactic(auto, unfolding(crate::specs::Fields::number_at))]
 pub fn u32_at(bytes: &[u8], at: usize) -> u32
     requires { at + 4 ≤ length bytes.now }
@@ -30,6 +33,7 @@ pub fn u32_at(bytes: &[u8], at: usize) -> u32
     LittleEndian::read_u32(&bytes[at..])
 }
 
+/// The number of the eight bytes from a place on, the lowest first.
 #[tactic(auto, unfolding(crate::specs::Fields::number_at))]
 pub fn u64_at(bytes: &[u8], at: usize) -> u64
     requires { at + 8 ≤ length bytes.now }

@@ -1,7 +1,7 @@
 //! The records of an mcell and the one spelling of each.
 //!
-//! A record is its kind, a zero byte, its length in bytes and the fields of its kind, all numbers with
-//! the lowest byte first.
+//! A record is its kind, a zero byte, its length in bytes and the fields of its kind, all numbers
+//! with the lowest byte first.
 #![tactic(auto)]
 
 ghost use Rattle.std.specs.Prelude.{◌≡◌, ◌≤◌, ◌++◌, List, ℕ, Ok, length, drop, IfOk, IfErr, slice_index};
@@ -20,6 +20,7 @@ mod table;
 mod writing;
 
 use domain_base::Version;
+pub use fields::{u8_at, u16_at, u32_at, u64_at};
 pub use layout::Layout;
 pub use record::{Bad, ExtentField, HoleField, Leftover, Record};
 use table::{end_of, put_record, record_at};
@@ -45,8 +46,8 @@ fn first_kind(bytes: &[u8]) -> u8
     }
 }
 
-/// Reads the record of this version at the front of the bytes, and answers it with its length. Other
-/// bytes may follow.
+/// Reads the record of this version at the front of the bytes, and answers it with its length.
+/// Other bytes may follow.
 ///
 /// `Bad` comes where no front of the bytes is the spelling of a record of the version, with the
 /// offset of the field that holds the first wrong byte, or the end of bytes that end early.
@@ -72,8 +73,8 @@ pub fn read_record(bytes: &[u8], version: Version) -> Result<(Record, usize), Ba
     }
 }
 
-/// Writes the spelling of a record to the front of `out`, and answers its length. The bytes behind it
-/// stay as they were.
+/// Writes the spelling of a record to the front of `out`, and answers its length. The bytes behind
+/// it stay as they were.
 pub fn write_record(value: &Record, out: &mut [u8]) -> usize
     requires allowed { Allowed value.now }
     requires room { size_of (kind_of value.now) ≤ length out.old }

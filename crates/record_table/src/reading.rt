@@ -6,8 +6,8 @@ ghost use Rattle.record_table.specs.Rules.{are_widths, nothing_seen, scan};
 use crate::rule::{Rule, Seen};
 use byteorder::{ByteOrder, LittleEndian};
 
-/// Where fields of these widths and rules at the front of the bytes end. An `Err` has the start of the
-/// first field that the bytes do not fill as its rule says.
+/// Where fields of these widths and rules at the front of the bytes end. An `Err` has the start of
+/// the first field that the bytes do not fill as its rule says.
 pub fn scan_fields(widths: &[u8], rules: &[Rule], bytes: &[u8]) -> Result<usize, usize>
     requires same { length rules.now ≡ length widths.now }
     requires wide { are_widths widths.now ≡ true }

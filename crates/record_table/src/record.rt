@@ -28,9 +28,9 @@ pub enum Leftover {
 /// One record of an mcell.
 #[derive(Clone, Copy)]
 pub enum Record {
-    /// A file or a directory. The kind is 1 for a file and 2 for a directory, the flags are 1 where it is
-    /// logged and else 0, the size is in bytes, `keep` is a number of pages and `links` of names, and
-    /// `birth` and `unsynced` are numbers of clones, 0 for none.
+    /// A file or a directory. The kind is 1 for a file and 2 for a directory, the flags are 1 where
+    /// it is logged and else 0, the size is in bytes, `keep` is a number of pages and `links` of
+    /// names, and `birth` and `unsynced` are numbers of clones, 0 for none.
     Attributes {
         kind: u32,
         uid: u32,
@@ -101,8 +101,8 @@ pub enum Record {
         pages: u32,
         bitmap_pages: u32,
     },
-    /// Extents of a chain's mcell, spelled in fewer bytes; from version 4 on. An extent of more than
-    /// 65,535 pages has no such spelling.
+    /// Extents of a chain's mcell, spelled in fewer bytes; from version 4 on. An extent of more
+    /// than 65,535 pages has no such spelling.
     DenseExtents {
         rows: [ExtentField; 22],
     },

@@ -17,8 +17,8 @@ use crate::writing::{
     put_parent, put_pending, put_quota, put_stripe, put_volume,
 };
 
-/// Gives a macro the table of kinds. A row has a kind's number, its layout and rules, its variant with
-/// the places that the fields are read from, and the call that writes them.
+/// Gives a macro the table of kinds. A row has a kind's number, its layout and rules, its variant
+/// with the places that the fields are read from, and the call that writes them.
 macro_rules! kinds {
     ($then:ident, $($input:ident),*) => {
         $then! { ($($input),*)
@@ -106,7 +106,8 @@ pub fn record_at(kind: u8, bytes: &[u8]) -> Record
     kinds!(readers, kind, bytes)
 }
 
-/// Writes the numbers of a record's fields to the front of `out`, and answers how many bytes they took.
+/// Writes the numbers of a record's fields to the front of `out`, and answers how many bytes they
+/// took.
 pub fn put_record(value: &Record, out: &mut [u8]) -> usize
     requires allowed { Allowed value.now }
     requires room { size_of (kind_of value.now) ≤ length out.old }

@@ -2,15 +2,16 @@
 use Rattle.std.proofs.Common.{◌≡◌, ℕ, suc, zero, ◌+◌, ◌<◌, Bool, false, ◌==◌, List, [], ◌∷◌, length, take, drop, ◌-◌, eqb, refl, ap, ◌∙◌, arith, inl, inr}
 use Rattle.std.specs.List.{onto_first, slice_split}
 use Rattle.std.proofs.lemmas.Grind.{common_steps}
+use Rattle.std.proofs.lemmas.Bool.{cases_Bool}
 use Rattle.std.proofs.lemmas.Bool.Decides.{nat_tests}
 use Rattle.std.proofs.Math.Seq.{drop-drop}
 use Rattle.std.specs.Str.Lines.{lines, lines_of_parts, strip_carriage_return}
-use Rattle.script_text.proofs.WordLemmas.{true_or_false, before, before-stop, before-more}
+use Rattle.script_text.proofs.WordLemmas.{before, before-stop, before-more}
 
 -- where none passes, the list is the one part
 split-none : (p : ℕ → Bool) (xs : List ℕ) → length (drop (before p xs) xs) ≡ 0 → slice_split p xs ≡ xs ∷ []
 split-none p [] e = refl
-split-none p (x ∷ xs) e = elim (true_or_false (p x)) [
+split-none p (x ∷ xs) e = elim (cases_Bool (p x)) [
   | inl holds ↦ absurd (let h : length (x ∷ xs) ≡ 0 = rw (before-stop p x xs holds) at e in omega (arith, h))
   | inr fails ↦ rw fails (ap (onto_first x) (split-none p xs (rw (before-more p x xs fails) at e)))
 ]
@@ -18,7 +19,7 @@ split-none p (x ∷ xs) e = elim (true_or_false (p x)) [
 -- else the first part ends at the first that passes
 split-some : (p : ℕ → Bool) (xs : List ℕ) → 0 < length (drop (before p xs) xs) → slice_split p xs ≡ take (before p xs) xs ∷ slice_split p (drop 1 (drop (before p xs) xs))
 split-some p [] some = absurd (omega (arith, some))
-split-some p (x ∷ xs) some = elim (true_or_false (p x)) [
+split-some p (x ∷ xs) some = elim (cases_Bool (p x)) [
   | inl holds ↦ rw (before-stop p x xs holds) (rw holds refl)
   | inr fails ↦ rw (before-more p x xs fails) (rw fails (ap (onto_first x) (split-some p xs (rw (before-more p x xs fails) at some))))
 ]
@@ -47,7 +48,7 @@ first_part : (p : ℕ → Bool) (xs : List ℕ) → (part : List ℕ) × (parts 
 first_part p [] = ([], [], refl)
 first_part p (x ∷ xs) =
     let h = first_part p xs in
-    elim (true_or_false (p x)) [
+    elim (cases_Bool (p x)) [
       | inl holds ↦ ([], slice_split p xs, rw holds refl)
       | inr fails ↦ (x ∷ h.0, h.1, rw (fails, h.2) refl)
     ]

@@ -1,14 +1,10 @@
 -- The words of a line, one after another.
 use Rattle.std.proofs.Common.{◌≡◌, ◌≢◌, ℕ, suc, zero, ◌+◌, ◌<◌, ◌≤◌, Bool, true, false, not, ◌&&◌, cond, List, [], ◌∷◌, ◌++◌, length, take, drop, slice_index, refl, ap, ◌∙◌, arith, ◌⊎◌, inl, inr}
 use Rattle.std.specs.List.{list_any, onto_first, prefix_len}
-use Rattle.std.proofs.lemmas.Bool.{false≢true}
+use Rattle.std.proofs.lemmas.Bool.{cases_Bool, false≢true}
 use Rattle.std.proofs.Math.Seq.{take-add, drop-drop}
 use Rattle.std.proofs.lemmas.Bool.Decides.{nat_tests}
 use Rattle.script_text.specs.Words.{Between, Within, Quoted, is_blank, is_quote, words_from, words_of}
-
-pub true_or_false : (b : Bool) → (b ≡ true) ⊎ (b ≡ false)
-true_or_false true = inl refl
-true_or_false false = inr refl
 
 pub one_more : (n : ℕ) → 1 + n ≡ suc n
 one_more n = omega arith
@@ -26,14 +22,14 @@ before-more p b bs e = rw e (one_more (before p bs))
 -- one passes exactly where fewer stand before it than there are
 pub any_within : (p : ℕ → Bool) (bs : List ℕ) → before p bs < length bs → list_any p bs ≡ true
 any_within p [] some = absurd (omega (arith, some))
-any_within p (b ∷ bs) some = elim (true_or_false (p b)) [
+any_within p (b ∷ bs) some = elim (cases_Bool (p b)) [
   | inl holds ↦ rw holds refl
   | inr fails ↦ rw fails (any_within p bs (let h : suc (before p bs) < length (b ∷ bs) = rw (before-more p b bs fails) at some in omega (arith, h)))
 ]
 
 pub none_within : (p : ℕ → Bool) (bs : List ℕ) → length bs ≤ before p bs → list_any p bs ≡ false
 none_within p [] all = refl
-none_within p (b ∷ bs) all = elim (true_or_false (p b)) [
+none_within p (b ∷ bs) all = elim (cases_Bool (p b)) [
   | inl holds ↦ let h : length (b ∷ bs) ≤ zero = rw (before-stop p b bs holds) at all in absurd (omega (arith, h))
   | inr fails ↦ rw fails (none_within p bs (let h : length (b ∷ bs) ≤ suc (before p bs) = rw (before-more p b bs fails) at all in omega (arith, h)))
 ]
@@ -51,7 +47,7 @@ Goes front rest = (front ++ take (before is_blank rest) rest) ∷ words_from Bet
 
 within-goes : (bs : List ℕ) → words_from Within bs ≡ Goes [] bs
 within-goes [] = refl
-within-goes (b ∷ bs) = elim (true_or_false (is_blank b)) [
+within-goes (b ∷ bs) = elim (cases_Bool (is_blank b)) [
   | inl holds ↦ rw (before-stop is_blank b bs holds) (within-blank b bs holds)
   | inr fails ↦ rw (before-more is_blank b bs fails) (within-more b bs fails ∙ ap (onto_first b) (within-goes bs))
 ]
@@ -59,7 +55,7 @@ within-goes (b ∷ bs) = elim (true_or_false (is_blank b)) [
 -- within quotes, the word goes on behind the next quote
 quoted-goes : (bs : List ℕ) → list_any is_quote bs ≡ true → words_from Quoted bs ≡ Goes (take (suc (before is_quote bs)) bs) (drop (suc (before is_quote bs)) bs)
 quoted-goes [] some = absurd (false≢true some)
-quoted-goes (b ∷ bs) some = elim (true_or_false (is_quote b)) [
+quoted-goes (b ∷ bs) some = elim (cases_Bool (is_quote b)) [
   | inl holds ↦ rw (before-stop is_quote b bs holds) (rw holds (ap (onto_first b) (within-goes bs)))
   | inr fails ↦ rw (before-more is_quote b bs fails) (rw fails (ap (onto_first b) (quoted-goes bs (rw (fails) at some))))
 ]
@@ -76,7 +72,7 @@ and_right true b e = e
 and_right false b e = absurd (false≢true e)
 
 first_goes : (b : ℕ) (bs : List ℕ) → is_blank b ≡ false → words_of (b ∷ bs) ≡ Goes (take (begun b bs) (b ∷ bs)) (drop (begun b bs) (b ∷ bs))
-first_goes b bs word = elim (true_or_false (is_quote b && list_any is_quote bs)) [
+first_goes b bs word = elim (cases_Bool (is_quote b && list_any is_quote bs)) [
   | inl holds ↦ rw (word, holds, two_more (before is_quote bs)) (ap (onto_first b) (quoted-goes bs (and_right (is_quote b) (list_any is_quote bs) holds)))
   | inr fails ↦ rw (word, fails) (ap (onto_first b) (within-goes bs))
 ]
@@ -103,14 +99,14 @@ blanks-stop b bs e = rw e refl
 -- blanks before a word do not matter
 pub words_of-blanks : (text : List ℕ) → words_of text ≡ words_of (drop (prefix_len is_blank text) text)
 words_of-blanks [] = refl
-words_of-blanks (b ∷ bs) = elim (true_or_false (is_blank b)) [
+words_of-blanks (b ∷ bs) = elim (cases_Bool (is_blank b)) [
   | inl holds ↦ rw (blanks-more b bs holds, holds) (words_of-blanks bs)
   | inr fails ↦ rw (blanks-stop b bs fails) refl
 ]
 
 pub no_blank : (text : List ℕ) → 0 < length (drop (prefix_len is_blank text) text) → is_blank (slice_index (drop (prefix_len is_blank text) text) 0) ≡ false
 no_blank [] some = absurd (omega (arith, some))
-no_blank (b ∷ bs) some = elim (true_or_false (is_blank b)) [
+no_blank (b ∷ bs) some = elim (cases_Bool (is_blank b)) [
   | inl holds ↦ rw (blanks-more b bs holds) (no_blank bs (rw (blanks-more b bs holds) at some))
   | inr fails ↦ rw (blanks-stop b bs fails) fails
 ]

@@ -127,7 +127,8 @@ fn add(
     statement: Statement,
 ) -> Result<Option<Draft>, LineFault>
     ensures { MatchResult result
-        (λ next. IsAdded (drafted draft) statement (drafted next)) (IsRefused (drafted draft) statement) }
+        (λ next. IsAdded (drafted draft) statement (drafted next))
+        (IsRefused (drafted draft) statement) }
 {
     match (draft, statement) {
         (None, Statement::Opens(number)) => Ok(Some(Draft {
@@ -145,7 +146,8 @@ fn add(
 /// The sections with what one line more says.
 fn take_line(alloc: Global, draft: Option<Draft>, line: &[u8]) -> Result<Option<Draft>, LineFault>
     ensures { MatchResult result
-        (λ next. IsTaken (drafted draft) line.now (drafted next)) (Refuses (drafted draft) line.now) }
+        (λ next. IsTaken (drafted draft) line.now (drafted next))
+        (Refuses (drafted draft) line.now) }
 {
     match read_line(alloc, &draft, line)? {
         None => Ok(draft),

@@ -23,8 +23,8 @@ pub struct Script {
 /// Why a script was not read.
 #[derive(Clone, Copy, Debug, PartialEq, Eq)]
 pub enum ScriptFault {
-    /// The first bad line, counted from 1, and what is wrong with it. A line beyond 4,294,967,295 is
-    /// given as that number.
+    /// The first bad line, counted from 1, and what is wrong with it. A line beyond 4,294,967,295
+    /// is given as that number.
     Bad { line: u32, kind: FaultKind },
     /// No memory could be had.
     OutOfMemory,

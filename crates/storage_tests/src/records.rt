@@ -1,6 +1,6 @@
-//! Records and their spellings, one to a line: the version, bytes in hexadecimal digits, so many zeros
-//! behind them, and what is read: the length and the record, or the kind and the place of the field
-//! that is wrong. What is read is written again, and has to be the same bytes.
+//! Records and their spellings, one to a line: the version, bytes in hexadecimal digits, so many
+//! zeros behind them, and what is read: the length and the record, or the kind and the place of the
+//! field that is wrong. What is read is written again, and has to be the same bytes.
 
 use domain_base::{OutOfMemory, Version};
 use hex::decode;

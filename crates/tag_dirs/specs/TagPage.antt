@@ -89,7 +89,8 @@ pub record IsNewPage (index : ℕ) (page : List ℕ) : Type 0 where
 -- eight bytes which, written in place of an entry, make it this one
 abbrev pub SpellsEntry : TagEntry → List ℕ → Type 0
 SpellsEntry entry bytes =
-    (page : List ℕ) (place : ℕ) → place < 1022 → IsTagPage page → IsAllowed (slot_of page place) entry
+    (page : List ℕ) (place : ℕ) → place < 1022 → IsTagPage page
+    → IsAllowed (slot_of page place) entry
     → ChangesEntry place entry page (overwritten page (16 + 8 * place) bytes)
 
 -- eight bytes which, written in place of the next page's home, make it this one

@@ -5,9 +5,8 @@ ghost use Rattle.record_table.specs.Fields.{number_at};
 ghost use Rattle.bmt_mcells.specs.Cell.{IsAddress};
 ghost use Rattle.tag_dirs.specs.TagPage.{IsNewPage, IsTagPage, SpellsEntry, SpellsNext, entry_of, index_of, is_takeable, next_of};
 
-use byteorder::{ByteOrder, LittleEndian};
 use domain_base::{CellAt, Home, OutOfMemory, Page, VolIx};
-use record_table::put;
+use record_table::{put, u8_at, u16_at, u32_at};
 use std::alloc::Global;
 
 /// How many entries a page has.
@@ -32,30 +31,6 @@ const HOME: [u8; 2] = [4; 2];
 pub struct TagEntry {
     pub seq: u16,
     pub at: Option<CellAt>,
-}
-
-#[tactic(auto, unfolding(record_table::specs::Fields::number_at))]
-fn u8_at(bytes: &[u8], at: usize) -> u8
-    requires { at + 1 ≤ length bytes.now }
-    ensures { result ≡ number_at 1 at bytes.now }
-{
-    bytes[at]
-}
-
-#[tactic(auto, unfolding(record_table::specs::Fields::number_at))]
-fn u16_at(bytes: &[u8], at: usize) -> u16
-    requires { at + 2 ≤ length bytes.now }
-    ensures { result ≡ number_at 2 at bytes.now }
-{
-    LittleEndian::read_u16(&bytes[at..])
-}
-
-#[tactic(auto, unfolding(record_table::specs::Fields::number_at))]
-fn u32_at(bytes: &[u8], at: usize) -> u32
-    requires { at + 4 ≤ length bytes.now }
-    ensures { result ≡ number_at 4 at bytes.now }
-{
-    LittleEndian::read_u32(&bytes[at..])
 }
 
 /// An entry of a tag page.

@@ -1,4 +1,4 @@
-use Rattle.record_table.proofs.Whole.{one_spelling}
+use Rattle.record_table.proofs.WholeRecord.{one_spelling}
 use Rattle.record_table.proofs.one_spelling.Goals as goal
 
 pub returns : goal.returns

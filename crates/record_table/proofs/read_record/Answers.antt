@@ -1,6 +1,6 @@
 use Rattle.std.proofs.Common.{refl, sym, ◌∙◌, arith}
 use Rattle.record_table.proofs.Scan.{ok_is, err_is_not_ok}
-use Rattle.record_table.proofs.Whole.{kind-begins, kind-size, length-spelling, scanned_kind, scan-found, scan-wrong, wrong_kind, reads-begins}
+use Rattle.record_table.proofs.WholeRecord.{kind-begins, kind-size, length-spelling, scanned_kind, scan-found, scan-wrong, wrong_kind, reads-begins}
 use Rattle.record_table.proofs.read_record.Goals as goal
 
 pub returns-then-last_kind_of-kind-clause-only : goal.returns-then-last_kind_of-kind-clause-only

@@ -1,5 +1,5 @@
 use Rattle.std.proofs.Common.{sym, ◌∙◌}
-use Rattle.record_table.proofs.Whole.{spelled_is, length-spelling}
+use Rattle.record_table.proofs.WholeRecord.{spelled_is, length-spelling}
 use Rattle.record_table.proofs.write_record.Goals as goal
 
 pub returns-clause-length : goal.returns-clause-length

@@ -1,5 +1,5 @@
 use Rattle.std.proofs.Common.{subst, length, ◌≤◌}
-use Rattle.record_table.proofs.Whole.{length-spelling}
+use Rattle.record_table.proofs.WholeRecord.{length-spelling}
 use Rattle.bmt_mcells.proofs.writing.put_record.Goals as goal
 
 pub write_record-requires-clause-room : goal.write_record-requires-clause-room

@@ -2,7 +2,7 @@ use Rattle.std.proofs.Common.{◌≡◌, ◌^◌, ◌<◌, ◌≤◌, ◌++◌, 
 use Rattle.record_table.specs.declared.record.Record.{Record}
 use Rattle.record_table.specs.declared.record.Record.TheVariants.{UserQuota, GroupQuota}
 use Rattle.record_table.specs.Records.{Allowed, spelling}
-use Rattle.record_table.proofs.Whole.{length-spelling}
+use Rattle.record_table.proofs.WholeRecord.{length-spelling}
 use Rattle.bmt_mcells.specs.Cell.{AreRecords, spellings}
 use Rattle.cell_tests.proofs.writing.limits.Goals as goal
 

@@ -2,7 +2,7 @@ use Rattle.std.proofs.Common.{◌∙◌, OnOk, sym, subst}
 use Rattle.std.proofs.lemmas.Result.{on_ok_weaker}
 use Rattle.dir_index.specs.Changes.{Spreads}
 use Rattle.dir_index.proofs.Added.{added}
-use Rattle.dir_index.proofs.Parts.{index_is}
+use Rattle.dir_index.proofs.IndexParts.{index_is}
 use Rattle.dir_index.proofs.Sets.{either_directory}
 use Rattle.dir_index.proofs.change.add_entry.Goals as goal
 

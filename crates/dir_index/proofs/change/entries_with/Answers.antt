@@ -3,7 +3,7 @@ use Rattle.record_table.specs.Fields.{number_at}
 use Rattle.dir_index.specs.Entries.{IsPlace}
 use Rattle.dir_index.specs.Index.{entries_of}
 use Rattle.dir_index.proofs.Added.{adds}
-use Rattle.dir_index.proofs.Parts.{entries_long}
+use Rattle.dir_index.proofs.IndexParts.{entries_long}
 use Rattle.dir_index.proofs.change.entries_with.Goals as goal
 
 pub returns-clause-adds : goal.returns-clause-adds

@@ -2,7 +2,7 @@ use Rattle.std.proofs.Common.{◌∙◌, ◌++◌, suc, length, take, drop, ap, 
 use Rattle.record_table.specs.Fields.{number_at}
 use Rattle.dir_index.specs.Entries.{IsPlace}
 use Rattle.dir_index.specs.Index.{entries_of}
-use Rattle.dir_index.proofs.Parts.{entries_long}
+use Rattle.dir_index.proofs.IndexParts.{entries_long}
 use Rattle.dir_index.proofs.Removed.{cuts, place_inside}
 use Rattle.dir_index.proofs.change.entries_without.Goals as goal
 

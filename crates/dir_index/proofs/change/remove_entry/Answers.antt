@@ -4,7 +4,7 @@ use Rattle.dir_index.specs.Entries.{first_from}
 use Rattle.dir_index.specs.Index.{all_entries, index_pages}
 use Rattle.dir_index.specs.Changes.{PutsPage}
 use Rattle.dir_index.proofs.Orders.{is_there}
-use Rattle.dir_index.proofs.Parts.{index_is, page_good, whole_index}
+use Rattle.dir_index.proofs.IndexParts.{index_is, page_good, whole_index}
 use Rattle.dir_index.proofs.Removed.{below_length, count_is, removes}
 use Rattle.dir_index.proofs.Sets.{put_directory}
 use Rattle.dir_index.proofs.change.remove_entry.Goals as goal

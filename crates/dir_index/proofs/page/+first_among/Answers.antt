@@ -3,7 +3,7 @@ use Rattle.std.specs.Option.{unwrap_or}
 use Rattle.dir_index.specs.Entries.{is_below}
 use Rattle.dir_index.specs.Index.{entry_at}
 use Rattle.dir_index.proofs.Orders.{some_or}
-use Rattle.dir_index.proofs.Parts.{entries_halved, entries_skipped}
+use Rattle.dir_index.proofs.IndexParts.{entries_halved, entries_skipped}
 use Rattle.dir_index.proofs.page.+first_among.Goals as goal
 
 pub returns-then-is_below : goal.returns-then-is_below

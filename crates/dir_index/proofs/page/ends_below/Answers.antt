@@ -1,7 +1,7 @@
 use Rattle.std.proofs.Common.{◌∙◌, ◌-◌, ◌<◌, sym, ap, subst}
 use Rattle.dir_index.specs.Entries.{is_below}
 use Rattle.dir_index.specs.Index.{entry_at}
-use Rattle.dir_index.proofs.Parts.{ends}
+use Rattle.dir_index.proofs.IndexParts.{ends}
 use Rattle.dir_index.proofs.page.ends_below.Goals as goal
 
 pub returns-then-count-gt0 : goal.returns-then-count-gt0

@@ -3,7 +3,7 @@ use Rattle.std.proofs.lemmas.List.{take_all}
 use Rattle.record_table.specs.Fields.{number_at}
 use Rattle.dir_index.specs.Entries.{first_from}
 use Rattle.dir_index.specs.Index.{entries_of}
-use Rattle.dir_index.proofs.Parts.{entries_long}
+use Rattle.dir_index.proofs.IndexParts.{entries_long}
 use Rattle.dir_index.proofs.page.first_on.Goals as goal
 
 pub returns : goal.returns

@@ -1,5 +1,5 @@
 use Rattle.std.proofs.Common.{◌∙◌, [], ◌∷◌, ◌++◌, sym}
-use Rattle.dir_index.proofs.Parts.{entries_more}
+use Rattle.dir_index.proofs.IndexParts.{entries_more}
 use Rattle.dir_index.proofs.page.read_entries.Goals as goal
 
 pub loop-entry-preserved : goal.loop-entry-preserved

@@ -1,7 +1,7 @@
 use Rattle.std.proofs.Common.{◌∙◌, ◌+◌, ◌-◌, ◌/◌, sym, ap, arith}
 use Rattle.std.specs.Option.{is_some}
 use Rattle.dir_index.specs.Index.{index_pages}
-use Rattle.dir_index.proofs.Parts.{index_is, none_before, page_behind, page_good, page_skipped, rise_page}
+use Rattle.dir_index.proofs.IndexParts.{index_is, none_before, page_behind, page_good, page_skipped, rise_page}
 use Rattle.dir_index.proofs.search.+page_from.Goals as goal
 
 pub returns-then-ends_below : goal.returns-then-ends_below

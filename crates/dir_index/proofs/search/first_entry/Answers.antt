@@ -1,7 +1,7 @@
 use Rattle.std.proofs.Common.{◌∙◌, sym, ap}
 use Rattle.dir_index.specs.Entries.{first_from}
 use Rattle.dir_index.specs.Index.{all_entries, index_pages}
-use Rattle.dir_index.proofs.Parts.{first_found, index_is, page_good, rise_page, whole_index}
+use Rattle.dir_index.proofs.IndexParts.{first_found, index_is, page_good, rise_page, whole_index}
 use Rattle.dir_index.proofs.search.first_entry.Goals as goal
 
 pub returns-in_err-number : goal.returns-in_err-number

@@ -2,7 +2,7 @@ use Rattle.std.proofs.Common.{◌∙◌, sym, ap}
 use Rattle.dir_index.specs.Entries.{first_from}
 use Rattle.dir_index.specs.Index.{all_entries, index_pages}
 use Rattle.dir_index.proofs.Added.{for_first, for_last}
-use Rattle.dir_index.proofs.Parts.{whole_index}
+use Rattle.dir_index.proofs.IndexParts.{whole_index}
 use Rattle.dir_index.proofs.search.page_for.Goals as goal
 
 pub returns-in-Some : goal.returns-in-Some

@@ -3,7 +3,7 @@ use Rattle.std.proofs.lemmas.Bool.{both_ways}
 use Rattle.dir_pages.specs.Rows.{are_rows as rows_there}
 use Rattle.dir_pages.specs.RowPage.{has_header as header_there, size_of}
 use Rattle.dir_pages.proofs.Checked.{good_page}
-use Rattle.dir_pages.proofs.Parts.{header_is, tested}
+use Rattle.dir_pages.proofs.PageParts.{header_is, tested}
 use Rattle.dir_pages.proofs.form.are_page_bytes.Goals as goal
 
 pub returns-then-not-has_header-clause-bad : goal.returns-then-not-has_header-clause-bad

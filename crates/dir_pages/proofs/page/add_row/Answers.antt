@@ -4,7 +4,7 @@ use Rattle.dir_pages.specs.declared.row.Row.{Row}
 use Rattle.dir_pages.specs.Rows.{spelled_row, spelling}
 use Rattle.dir_pages.specs.RowPage.{HasRows, rows_of, size_of}
 use Rattle.dir_pages.proofs.Again.{row_long, rows_long}
-use Rattle.dir_pages.proofs.Parts.{behind_is, size_is}
+use Rattle.dir_pages.proofs.PageParts.{behind_is, size_is}
 use Rattle.dir_pages.proofs.Written.{added}
 use Rattle.dir_pages.proofs.page.add_row.Goals as goal
 

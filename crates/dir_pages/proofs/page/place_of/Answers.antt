@@ -1,7 +1,7 @@
 use Rattle.std.proofs.Common.{◌∙◌, sym, subst, arith}
 use Rattle.dir_pages.specs.declared.row.Row.{Row}
 use Rattle.dir_pages.specs.RowPage.{rows_of}
-use Rattle.dir_pages.proofs.Parts.{small}
+use Rattle.dir_pages.proofs.PageParts.{small}
 use Rattle.dir_pages.proofs.Places.{Passed, ends_within, no_place, not_looked, passed_more, place}
 use Rattle.dir_pages.proofs.page.place_of.Goals as goal
 

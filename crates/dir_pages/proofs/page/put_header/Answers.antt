@@ -3,7 +3,7 @@ use Rattle.std.proofs.lemmas.List.{append-nil}
 use Rattle.domain_base.specs.Page.{overwritten}
 use Rattle.record_table.specs.Records.{spelled}
 use Rattle.dir_pages.specs.RowPage.{header_widths}
-use Rattle.dir_pages.proofs.Parts.{spelled_header}
+use Rattle.dir_pages.proofs.PageParts.{spelled_header}
 use Rattle.dir_pages.proofs.page.put_header.Goals as goal
 
 pub returns-clause-value : goal.returns-clause-value

@@ -2,7 +2,7 @@ use Rattle.std.proofs.Common.{◌≡◌, ◌∙◌, ◌+◌, ◌-◌, ◌++◌, 
 use Rattle.domain_base.specs.Page.{zero_bytes}
 use Rattle.dir_pages.specs.Rows.{spelling}
 use Rattle.dir_pages.specs.RowPage.{HasRows, behind, rows_of}
-use Rattle.dir_pages.proofs.Parts.{behind_is, few, size_is}
+use Rattle.dir_pages.proofs.PageParts.{behind_is, few, size_is}
 use Rattle.dir_pages.proofs.Places.{place_long, place_named, place_within, some_row, without_place}
 use Rattle.dir_pages.proofs.Written.{removed}
 use Rattle.dir_pages.proofs.page.remove_row.Goals as goal

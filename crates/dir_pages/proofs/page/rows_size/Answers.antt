@@ -1,7 +1,7 @@
 use Rattle.std.proofs.Common.{◌∙◌, ◌≤◌, ap, subst, sym}
 use Rattle.record_table.specs.Fields.{number_at}
 use Rattle.dir_pages.specs.RowPage.{rows_of}
-use Rattle.dir_pages.proofs.Parts.{size_is, small}
+use Rattle.dir_pages.proofs.PageParts.{size_is, small}
 use Rattle.dir_pages.proofs.page.rows_size.Goals as goal
 
 pub returns-clause-small : goal.returns-clause-small

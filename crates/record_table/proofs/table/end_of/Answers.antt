@@ -1,5 +1,5 @@
 use Rattle.std.proofs.Common.{◌<◌, ◌≤◌, sym, arith}
-use Rattle.record_table.proofs.Whole.{scan-unknown}
+use Rattle.record_table.proofs.WholeRecord.{scan-unknown}
 use Rattle.record_table.proofs.table.end_of.Goals as goal
 
 pub returns-in_default : goal.returns-in_default

@@ -3,7 +3,7 @@ use Rattle.record_table.specs.Fields.{number_at}
 use Rattle.std.proofs.lemmas.List.{take_rest}
 use Rattle.dir_pages.specs.Rows.{fit_rows}
 use Rattle.dir_pages.specs.RowPage.{rows_of}
-use Rattle.dir_pages.proofs.Parts.{fits}
+use Rattle.dir_pages.proofs.PageParts.{fits}
 use Rattle.dir_pages.proofs.rows.Rows.new.Goals as goal
 
 pub invariant_of-result : goal.invariant_of-result

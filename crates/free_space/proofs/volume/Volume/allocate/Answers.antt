@@ -2,7 +2,7 @@ use Rattle.std.proofs.Common.{◌≡◌, ℕ, true, vec_capacity, IfNone, sym, s
 use Rattle.storage_bitmap.specs.VolumePages.{VolumePages}
 use Rattle.free_space.specs.VolumeSpace.{VolumeSpace, IsFreePage, AreFreePages}
 use Rattle.free_space.specs.Sound.{IsSound, IsKept}
-use Rattle.free_space.proofs.Keeping.{sound_insert, one_page}
+use Rattle.free_space.proofs.StaysSound.{sound_insert, one_page}
 use Rattle.free_space.proofs.volume.Volume.allocate.Goals as goal
 
 pub returns-in_err-page-clause-none : goal.returns-in_err-page-clause-none

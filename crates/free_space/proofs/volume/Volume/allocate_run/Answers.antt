@@ -2,7 +2,7 @@ use Rattle.std.proofs.Common.{◌≡◌, ℕ, true, vec_capacity, IfNone, sym, s
 use Rattle.storage_bitmap.specs.VolumePages.{VolumePages}
 use Rattle.free_space.specs.VolumeSpace.{VolumeSpace, AreFreePages}
 use Rattle.free_space.specs.Sound.{IsSound, IsKept}
-use Rattle.free_space.proofs.Keeping.{sound_run}
+use Rattle.free_space.proofs.StaysSound.{sound_run}
 use Rattle.free_space.proofs.volume.Volume.allocate_run.Goals as goal
 
 pub returns-in_err-first-clause-none : goal.returns-in_err-first-clause-none

@@ -1,5 +1,5 @@
 use Rattle.std.proofs.Common.{arith}
-use Rattle.free_space.proofs.Keeping.{waiting_used, used_pages}
+use Rattle.free_space.proofs.StaysSound.{waiting_used, used_pages}
 use Rattle.free_space.proofs.volume.Volume.count_waiting.Goals as goal
 
 pub overflow_cast-result : goal.overflow_cast-result

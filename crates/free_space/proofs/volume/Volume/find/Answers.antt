@@ -1,6 +1,6 @@
 use Rattle.std.proofs.Common.{◌≡◌, ℕ, true, IfNone, IfSome, subst}
 use Rattle.free_space.specs.VolumeSpace.{VolumeSpace, AreFreePages}
-use Rattle.free_space.proofs.Keeping.{found_free, none_answered, run_answered, too_few}
+use Rattle.free_space.proofs.StaysSound.{found_free, none_answered, run_answered, too_few}
 use Rattle.free_space.specs.contracts.volume.Volume.{the_view}
 use Rattle.free_space.proofs.volume.Volume.find.Goals as goal
 

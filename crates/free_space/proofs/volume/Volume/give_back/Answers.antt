@@ -2,7 +2,7 @@ use Rattle.std.proofs.Common.{◌≡◌, true, false, refl, sym, subst, arith}
 use Rattle.std.specs.FinSet.{contains}
 use Rattle.free_space.specs.VolumeSpace.{VolumeSpace, is_waiting}
 use Rattle.free_space.specs.Sound.{IsSound}
-use Rattle.free_space.proofs.Keeping.{room_left, sound_waiting}
+use Rattle.free_space.proofs.StaysSound.{room_left, sound_waiting}
 use Rattle.free_space.proofs.volume.Volume.give_back.Goals as goal
 
 pub push_reserved-requires : goal.push_reserved-requires

@@ -1,7 +1,7 @@
 use Rattle.std.proofs.Common.{◌≡◌, ℕ, ◌<◌, true, sym, subst, arith}
 use Rattle.std.specs.FinSet.{contains}
 use Rattle.free_space.specs.Sound.{IsSound}
-use Rattle.free_space.proofs.Keeping.{sound_new}
+use Rattle.free_space.proofs.StaysSound.{sound_new}
 use Rattle.free_space.proofs.volume.Volume.new.Goals as goal
 
 pub invariant_of-result : goal.invariant_of-result

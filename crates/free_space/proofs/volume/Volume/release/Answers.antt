@@ -1,4 +1,4 @@
-use Rattle.free_space.proofs.Keeping.{sound_released}
+use Rattle.free_space.proofs.StaysSound.{sound_released}
 use Rattle.free_space.proofs.volume.Volume.release.Goals as goal
 
 pub release-requires : goal.release-requires

@@ -5,7 +5,7 @@ use Rattle.storage_bitmap.specs.VolumePages.{VolumePages}
 use Rattle.free_space.specs.VolumeSpace.{VolumeSpace, IsFreePage}
 use Rattle.free_space.specs.contracts.volume.Volume.{the_view}
 use Rattle.free_space.specs.Sound.{IsSound, IsKept}
-use Rattle.free_space.proofs.Keeping.{sound_insert, free_page}
+use Rattle.free_space.proofs.StaysSound.{sound_insert, free_page}
 use Rattle.free_space.proofs.volume.Volume.reserve.Goals as goal
 use Rattle.free_space.proofs.volume.Volume.reserve.Goals.{then-page-pages, else-page-pages}
 

@@ -3,7 +3,7 @@ use Rattle.std.specs.FinSet.{contains}
 use Rattle.storage_bitmap.specs.VolumePages.{VolumePages}
 use Rattle.free_space.specs.VolumeSpace.{VolumeSpace, is_waiting}
 use Rattle.free_space.specs.Sound.{IsSound, IsKept}
-use Rattle.free_space.proofs.Keeping.{sound_remove}
+use Rattle.free_space.proofs.StaysSound.{sound_remove}
 use Rattle.free_space.proofs.volume.Volume.unreserve.Goals as goal
 
 pub invariant_of-self : goal.invariant_of-self
