@@ -25,7 +25,8 @@ fn has_fileset_characters(word: &[u8]) -> bool
     word.iter().all(|byte| is_fileset_character(*byte))
 }
 
-fn is_fileset_name(word: &[u8]) -> bool
+/// Whether a word has the form of the name of a fileset: 1 to 31 letters, digits, `_`, `-` and `.`.
+pub fn is_fileset_name(word: &[u8]) -> bool
     ensures { result ≡ is_fileset_name word.now }
 {
     let len = word.len();
