@@ -5,6 +5,7 @@ ghost use Rattle.dir_pages.specs.RowPage.{IsDirPage, rows_of};
 
 use crate::form::ROWS_START;
 use domain_base::{Kind, Page, Tag};
+use record_table::{u8_at, u16_at, u32_at};
 use std::marker::Model;
 
 /// A row of a page: its tag and kind, and its name where it stands.
