@@ -11,6 +11,7 @@ pub use byte_words::{bytes, push_bytes, runs_are_maximal};
 pub use fault::WordFault;
 pub use numbers::{number, number_within, push_number, small_number};
 pub use paths::{
-    fileset, is_fileset_name, name, named_path, named_place, place, push_name, push_path, push_place,
+    fileset, is_fileset_name, name, named_path, named_place, place, push_name, push_path,
+    push_place,
 };
 pub use splitting::{halves, has_byte, parts};
