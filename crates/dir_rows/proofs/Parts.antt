@@ -1,0 +1,81 @@
+-- The pages of a directory and their rows.
+use Rattle.std.proofs.Common.{◌≡◌, ◌∙◌, ℕ, zero, suc, ◌+◌, ◌≤◌, Option, Some, None, List, [], ◌∷◌, ◌++◌, length, take, slice_get, refl, sym, ap, subst, arith, append_assoc, length-append}
+use Rattle.std.proofs.lemmas.List.{append-nil, take_all}
+use Rattle.std.specs.List.{AllByRecursion}
+use Rattle.std.specs.Option.{IfSome, option_and_then, option_map_or}
+use Rattle.domain_base.specs.declared.place.Tag.{Tag}
+use Rattle.page_store.specs.Bitfiles.{Bitfile, Bitfiles, IsBitfile, count_pages, page_at}
+use Rattle.dir_pages.specs.declared.row.Row.{Row}
+use Rattle.dir_pages.specs.RowPage.{IsDirPage, rows_of}
+use Rattle.dir_pages.proofs.Parts.{few}
+use Rattle.dir_rows.specs.Directory.{all_rows, row_pages, rows_at}
+
+pub at_past : {X : Type 0} (xs : List X) (k : ℕ) → length xs ≤ k → slice_get xs k ≡ None
+at_past [] zero past = refl
+at_past [] (suc k) past = refl
+at_past (x ∷ xs) zero past = absurd (omega (arith, past))
+at_past (x ∷ xs) (suc k) past = at_past xs k (omega (arith, past))
+
+abbrev pub no_pages : List (List ℕ)
+no_pages = []
+
+pub page_is : (files : Bitfiles) (tag : Tag) (k : ℕ) → page_at files tag k ≡ slice_get (row_pages files tag) k
+page_is files tag k = by_file (files tag)
+  where
+    by_file : (o : Option Bitfile) → option_and_then (λ (file : Bitfile). slice_get file.pages k) o ≡ slice_get (option_map_or (λ (file : Bitfile). file.pages) o []) k
+    by_file None = sym (at_past no_pages k (omega arith))
+    by_file (Some file) = refl
+
+pub count_is : (files : Bitfiles) (tag : Tag) → count_pages files tag ≡ length (row_pages files tag)
+count_is files tag = by_file (files tag)
+  where
+    by_file : (o : Option Bitfile) → option_map_or (λ (file : Bitfile). length file.pages) o 0 ≡ length (option_map_or (λ (file : Bitfile). file.pages) o [])
+    by_file None = refl
+    by_file (Some file) = refl
+
+pub pages_fit : (files : Bitfiles) (tag : Tag) → IfSome (files tag) IsBitfile → length (row_pages files tag) ≤ 65536
+pages_fit files tag = by_file (files tag)
+  where
+    by_file : (o : Option Bitfile) → IfSome o IsBitfile → length (option_map_or (λ (file : Bitfile). file.pages) o []) ≤ 65536
+    by_file None good = omega arith
+    by_file (Some file) good = good.fits
+
+-- what holds of all holds of the one at a number
+pub all_at : {X : Type 0} (P : X → Type 0) (xs : List X) (k : ℕ) (x : X) → AllByRecursion P xs → slice_get xs k ≡ Some x → P x
+all_at P [] zero x all there = absurd cc
+all_at P [] (suc k) x all there = absurd cc
+all_at P (y ∷ xs) zero x all there = let e : y ≡ x = cc in subst P e all.0
+all_at P (y ∷ xs) (suc k) x all there = all_at P xs k x all.1 there
+
+pub rows_at_page : (pages : List (List ℕ)) (k : ℕ) (page : List ℕ) → slice_get pages k ≡ Some page → rows_at k pages ≡ rows_of page
+rows_at_page pages k page there = ap (λ o. option_map_or rows_of o []) there
+
+pub rows_at_none : (pages : List (List ℕ)) (k : ℕ) → slice_get pages k ≡ None → rows_at k pages ≡ []
+rows_at_none pages k there = ap (λ o. option_map_or rows_of o []) there
+
+pub rows_past : (pages : List (List ℕ)) (k : ℕ) → length pages ≤ k → rows_at k pages ≡ []
+rows_past pages k past = rows_at_none pages k (at_past pages k past)
+
+-- the rows of one page more
+pub rows_more : (pages : List (List ℕ)) (k : ℕ) → all_rows (take (k + 1) pages) ≡ all_rows (take k pages) ++ rows_at k pages
+rows_more [] zero = refl
+rows_more [] (suc k) = let e : suc k + 1 ≡ suc (k + 1) = omega arith in ap (λ n. all_rows (take n no_pages)) e
+rows_more (page ∷ pages) zero = append-nil (rows_of page)
+rows_more (page ∷ pages) (suc k) =
+    let e : suc k + 1 ≡ suc (k + 1) = omega arith in
+    ap (λ n. all_rows (take n (page ∷ pages))) e ∙ ap (λ (rs : List Row). rows_of page ++ rs) (rows_more pages k) ∙ sym (append_assoc (rows_of page) (all_rows (take k pages)) (rows_at k pages))
+
+pub rows_whole : (pages : List (List ℕ)) (k : ℕ) → k ≡ length pages → all_rows (take k pages) ≡ all_rows pages
+rows_whole pages k is = ap all_rows (take_all k pages (omega (arith, is)))
+
+-- a page has at most 8,176 rows
+pub rows_at_few : (pages : List (List ℕ)) (k : ℕ) → AllByRecursion IsDirPage pages → length (rows_at k pages) ≤ 8176
+rows_at_few [] k all = omega (arith, ap length (rows_past no_pages k (omega arith)))
+rows_at_few (page ∷ pages) zero all = few page (rows_of page) all.0
+rows_at_few (page ∷ pages) (suc k) all = rows_at_few pages k all.1
+
+-- the rows of one page are among all
+pub rows_at_within : (pages : List (List ℕ)) (k : ℕ) → length (rows_at k pages) ≤ length (all_rows pages)
+rows_at_within [] k = omega (arith, ap length (rows_past no_pages k (omega arith)))
+rows_at_within (page ∷ pages) zero = omega (arith, length-append (rows_of page) (all_rows pages))
+rows_at_within (page ∷ pages) (suc k) = omega (arith, length-append (rows_of page) (all_rows pages), rows_at_within pages k)

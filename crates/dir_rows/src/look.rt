@@ -1,0 +1,136 @@
+//! Rows looked at where they stand.
+ghost use Rattle.std.specs.Prelude.{◌≡◌, ◌≤◌, ◌↔◌, IsTrue, [], length};
+ghost use Rattle.dir_pages.specs.Rows.{found};
+ghost use Rattle.dir_rows.specs.Directory.{IndexesRows, IsWellFormed, row_pages, rows_at, rows_in};
+ghost use Rattle.dir_rows.specs.Places.{IsSearched, IsSearchedAt};
+ghost use Rattle.dir_index.specs.Index.{index_pages};
+
+use dir_index::{name_hash, next_page};
+use dir_pages::count_rows;
+use domain_base::{Kind, Tag};
+use page_store::BitfileSet;
+
+/// Where a row stands: the number of its page, and its tag and kind.
+#[derive(Clone, Copy)]
+pub(crate) struct Place {
+    pub(crate) page: u32,
+    pub(crate) tag: Tag,
+    pub(crate) kind: Kind,
+}
+
+/// How many rows the page of that number has; 0 where it is not there.
+fn rows_on<S: BitfileSet>(set: &S, dir: Tag, number: u32) -> u32
+    requires { IsWellFormed (S.files set.now) dir }
+    ensures count { result ≡ length (rows_at number (row_pages (S.files set.now) dir)) }
+    ensures few { result ≤ 8176 }
+{
+    match set.dir_page(dir, number) {
+        Some(page) => count_rows(page),
+        None => 0,
+    }
+}
+
+/// How many rows a directory has. They are fewer than 2^32: a page has fewer than 8,177 of them,
+/// and a directory at most 65,536 pages.
+pub fn row_count<S: BitfileSet>(set: &S, dir: Tag) -> u32
+    requires { IsWellFormed (S.files set.now) dir }
+    ensures { result ≡ length (rows_in (S.files set.now) dir) }
+{
+    let mut count = 0;
+    for number in 0..set.dir_pages(dir) {
+        count += rows_on(set, dir, number);
+    }
+    count
+}
+
+/// Whether a directory has no row. It looks at no page behind the first one with a row.
+pub fn is_empty<S: BitfileSet>(set: &S, dir: Tag) -> bool
+    requires { IsWellFormed (S.files set.now) dir }
+    ensures { IsTrue result ↔ (rows_in (S.files set.now) dir ≡ []) }
+{
+    for number in 0..set.dir_pages(dir) {
+        if rows_on(set, dir, number) != 0 {
+            return false;
+        }
+    }
+    true
+}
+
+/// The first row of a name on the page of that number.
+fn place_on<S: BitfileSet>(set: &S, dir: Tag, name: &[u8], number: u32) -> Option<Place>
+    requires { IsWellFormed (S.files set.now) dir }
+    ensures { IsSearchedAt name.now number (row_pages (S.files set.now) dir) result }
+{
+    let page = set.dir_page(dir, number)?;
+    let (tag, kind) = dir_pages::find_row(page, name)?;
+    Some(Place {
+        page: number,
+        tag,
+        kind,
+    })
+}
+
+/// Where the row of a name stands, looked for on the pages that the index has for the name's hash,
+/// one after another.
+fn place_by_index<S: BitfileSet>(set: &S, dir: Tag, name: &[u8]) -> Option<Place>
+    requires good { IsWellFormed (S.files set.now) dir }
+    requires index { IndexesRows (row_pages (S.files set.now) dir) (index_pages (S.files set.now)
+        dir) }
+    ensures { IsSearched name.now (row_pages (S.files set.now) dir) result }
+{
+    let hash = name_hash(name);
+    let mut from = 0;
+    while let Some(number) = next_page(set, dir, hash, from) {
+        let place = place_on(set, dir, name, number);
+        if place.is_some() {
+            return place;
+        }
+        from = number + 1;
+    }
+    None
+}
+
+/// Where the first row of a name stands, looked for on one page after another.
+fn place_by_scan<S: BitfileSet>(set: &S, dir: Tag, name: &[u8]) -> Option<Place>
+    requires { IsWellFormed (S.files set.now) dir }
+    ensures { IsSearched name.now (row_pages (S.files set.now) dir) result }
+{
+    for number in 0..set.dir_pages(dir) {
+        let place = place_on(set, dir, name, number);
+        if place.is_some() {
+            return place;
+        }
+    }
+    None
+}
+
+/// Whether a directory has an index.
+pub(crate) fn has_index<S: BitfileSet>(set: &S, dir: Tag) -> bool
+    ensures { IsTrue result ↔ (1 ≤ length (index_pages (S.files set.now) dir)) }
+{
+    set.index_page(dir, 0).is_some()
+}
+
+/// Where the first row of a name stands. With an index only those pages are looked at that have
+/// names of the same hash.
+pub(crate) fn place_of<S: BitfileSet>(set: &S, dir: Tag, name: &[u8]) -> Option<Place>
+    requires { IsWellFormed (S.files set.now) dir }
+    ensures { IsSearched name.now (row_pages (S.files set.now) dir) result }
+{
+    if has_index(set, dir) {
+        place_by_index(set, dir, name)
+    } else {
+        place_by_scan(set, dir, name)
+    }
+}
+
+/// The tag and kind of the row that has the name. None exactly where no row has it. With an index
+/// only those pages are looked at that have names of the same hash; without one the pages are
+/// looked at up to the one that has the row. It takes no memory.
+pub fn find_row<S: BitfileSet>(set: &S, dir: Tag, name: &[u8]) -> Option<(Tag, Kind)>
+    requires { IsWellFormed (S.files set.now) dir }
+    ensures { result ≡ found name.now (rows_in (S.files set.now) dir) }
+{
+    let place = place_of(set, dir, name)?;
+    Some((place.tag, place.kind))
+}
