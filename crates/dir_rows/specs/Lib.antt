@@ -1,3 +1,4 @@
 pub mod Directory
-pub mod RowChanges
 pub mod Places
+pub mod RowChanges
+pub mod Steps

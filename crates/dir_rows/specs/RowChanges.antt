@@ -1,6 +1,6 @@
 -- Changes of a directory's rows.
-use Rattle.std.specs.Prelude.{◌≡◌, ◌≤◌, ℕ, true, false, Some, List, [], ◌∷◌, ◌++◌, length, take, slice_get}
-use Rattle.std.specs.List.{AllByRecursion}
+use Rattle.std.specs.Prelude.{◌≡◌, ◌<◌, ◌≤◌, ℕ, Bool, true, false, List, [], ◌∷◌, ◌++◌, length, slice_get}
+use Rattle.std.specs.Option.{option_map_or}
 use Rattle.domain_base.specs.declared.place.Tag.{Tag}
 use Rattle.page_store.specs.Bitfiles.{Bitfile, Bitfiles, count_index, count_pages, with_change, with_entry}
 use Rattle.dir_pages.specs.declared.row.Row.{Row}
@@ -17,35 +17,47 @@ abbrev pub OnlyDirectory : Tag → Bitfiles → Bitfiles → Type 0
 OnlyDirectory dir old new =
     new ≡ with_change dir (with_contents (row_pages new dir) (index_pages new dir)) old
 
+-- a row of this name fits on the page of that number; on a page that is not there it does
+abbrev pub fits_at : List ℕ → ℕ → List (List ℕ) → Bool
+fits_at name number pages = option_map_or (fits name) (slice_get pages number) true
+
+-- the number of the first page with room for a row of this name, or of the pages where none has
+pub record IsFirstWithRoom (name : List ℕ) (pages : List (List ℕ)) (number : ℕ) : Type 0 where
+  pub within : number ≤ length pages
+  pub full : (before : ℕ) → before < number → fits_at name before pages ≡ false
+  pub room : fits_at name number pages ≡ true
+
 -- a row went behind those of the first page with room for it, or to a new page behind the last
-pub record PutsRow (row : Row) (old new : List (List ℕ)) : Type 0 where
-  pub number : ℕ
+pub record PutsRow (row : Row) (number : ℕ) (old new : List (List ℕ)) : Type 0 where
   pub page : List ℕ
-  pub within : number ≤ length old
-  pub full : AllByRecursion (λ before. fits row.name before ≡ false) (take number old)
-  pub room : (before : List ℕ) → slice_get old number ≡ Some before → fits row.name before ≡ true
+  pub first : IsFirstWithRoom row.name old number
   pub good : IsDirPage page
   pub rows : rows_of page ≡ rows_at number old ++ row ∷ []
   pub put : new ≡ with_entry number page old
 
+-- a directory that has an index keeps it
+abbrev pub KeepsIndex : Tag → Bitfiles → Bitfiles → Type 0
+KeepsIndex dir old new = 1 ≤ count_index old dir → 1 ≤ count_index new dir
+
 -- a directory of two to four pages has an index
-abbrev pub IsIndexedWhereSmall : Bitfiles → Tag → Type 0
-IsIndexedWhereSmall files dir =
+abbrev pub IsIndexedWhereSmall : Tag → Bitfiles → Type 0
+IsIndexedWhereSmall dir files =
     2 ≤ count_pages files dir → count_pages files dir ≤ 4 → 1 ≤ count_index files dir
 
--- a directory has one row more; an index stays, and a small directory gets one
+-- a directory has one row more
 pub record AddsRow (dir : Tag) (row : Row) (old new : Bitfiles) : Type 0 where
   pub others : OnlyDirectory dir old new
   pub good : IsWellFormed new dir
-  pub placed : PutsRow row (row_pages old dir) (row_pages new dir)
+  pub number : ℕ
+  pub placed : PutsRow row number (row_pages old dir) (row_pages new dir)
   pub front : List Row
   pub back : List Row
   pub were : rows_in old dir ≡ front ++ back
   pub are : rows_in new dir ≡ front ++ row ∷ back
-  pub index : 1 ≤ count_index old dir → 1 ≤ count_index new dir
-  pub indexed : IsIndexedWhereSmall new dir
+  pub kept : KeepsIndex dir old new
+  pub indexed : IsIndexedWhereSmall dir new
 
--- the row of a name left a directory; its pages stay, and an index does
+-- the row of a name left a directory, which keeps its pages
 pub record RemovesRow (dir : Tag) (name : List ℕ) (old new : Bitfiles) : Type 0 where
   pub others : OnlyDirectory dir old new
   pub good : IsWellFormed new dir
@@ -56,4 +68,4 @@ pub record RemovesRow (dir : Tag) (name : List ℕ) (old new : Bitfiles) : Type 
   pub were : rows_in old dir ≡ front ++ row ∷ back
   pub are : rows_in new dir ≡ front ++ back
   pub pages : count_pages new dir ≡ count_pages old dir
-  pub index : 1 ≤ count_index old dir → 1 ≤ count_index new dir
+  pub kept : KeepsIndex dir old new

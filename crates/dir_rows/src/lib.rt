@@ -2,6 +2,12 @@
 //! directory's index or by a scan, added and removed.
 #![tactic(auto)]
 
+mod change;
+mod index;
+mod list;
 mod look;
+mod pages;
 
+pub use change::{add_row, remove_row};
+pub use list::list_rows;
 pub use look::{find_row, is_empty, row_count};

@@ -1,0 +1,119 @@
+//! Pages of a directory with a row more or less.
+ghost use Rattle.std.specs.Prelude.{◌≡◌, [], true, IfErr, IfOk, OnErr, OnOk, ◌≤◌};
+ghost use Rattle.domain_base.specs.Page.{zero_bytes};
+ghost use Rattle.page_store.specs.Bitfiles.{IsCounted};
+ghost use Rattle.dir_pages.specs.RowPage.{HasRows};
+ghost use Rattle.dir_pages.specs.Rows.{is_named, is_row_name};
+ghost use Rattle.dir_rows.specs.Directory.{IsWellFormed, row_pages, rows_at};
+ghost use Rattle.dir_rows.specs.RowChanges.{IsFirstWithRoom, fits_at};
+ghost use Rattle.dir_rows.specs.Steps.{IsCopyOf, PutsRowIn, TakesRow};
+
+use dir_pages::{clear_rows, has_room};
+use domain_base::limits::FILE_PAGES;
+use domain_base::{Kind, OutOfMemory, Page, Tag};
+use page_store::{BitfileSet, StoreFault};
+use std::alloc::Global;
+
+/// Whether a row of this name fits on the page of that number, or on a new one where it is not
+/// there.
+fn has_room_on<S: BitfileSet>(set: &S, dir: Tag, name: &[u8], number: u32) -> bool
+    requires good { IsWellFormed (S.files set.now) dir }
+    requires name { is_row_name name.now ≡ true }
+    ensures { result ≡ fits_at name.now number (row_pages (S.files set.now) dir) }
+{
+    match set.dir_page(dir, number) {
+        Some(page) => has_room(page, name),
+        None => true,
+    }
+}
+
+/// The number of the first page with room for a row of this name, or of the pages where none has.
+fn page_with_room<S: BitfileSet>(set: &S, dir: Tag, name: &[u8]) -> u32
+    requires good { IsWellFormed (S.files set.now) dir }
+    requires name { is_row_name name.now ≡ true }
+    ensures { IsFirstWithRoom name.now (row_pages (S.files set.now) dir) result }
+{
+    let pages = set.dir_pages(dir);
+    for number in 0..pages {
+        if has_room_on(set, dir, name, number) {
+            return number;
+        }
+    }
+    pages
+}
+
+/// A page without rows.
+fn empty_page(alloc: Global) -> Result<Page, OutOfMemory>
+    ensures { IfOk result (HasRows [] (zero_bytes 8176)) }
+{
+    let mut page = Page::zeros(alloc)?;
+    clear_rows(&mut page);
+    Ok(page)
+}
+
+/// A copy of the page of that number, or one without rows where it is not there.
+fn page_copy<S: BitfileSet>(
+    set: &S,
+    alloc: Global,
+    dir: Tag,
+    number: u32,
+) -> Result<Page, OutOfMemory>
+    requires { IsWellFormed (S.files set.now) dir }
+    ensures { IfOk result (IsCopyOf number (row_pages (S.files set.now) dir)) }
+{
+    match set.dir_page(dir, number) {
+        Some(page) => page.copy(alloc),
+        None => empty_page(alloc),
+    }
+}
+
+/// Puts a row behind those of the first page with room for it, or on a new page, and answers the
+/// page's number. OutOfMemory also where each of 65,536 pages is full.
+pub(crate) fn put_row<S: BitfileSet>(
+    set: &mut S,
+    alloc: Global,
+    dir: Tag,
+    tag: Tag,
+    kind: Kind,
+    name: &[u8],
+) -> Result<u32, StoreFault>
+    requires good { IsWellFormed (S.files set.old) dir }
+    requires name { is_row_name name.now ≡ true }
+    ensures ok { IfOk result (λ number. PutsRowIn dir (record {
+      tag = tag;
+      kind = kind;
+      name = name.now;
+    }) number (S.files set.old) (S.files set.new)) }
+    ensures err { OnErr result (S.files set.new ≡ S.files set.old) }
+    ensures no_page { IfErr result (IsCounted (S.missed set.old) (S.missed set.new)) }
+    ensures count { S.missed set.old ≤ S.missed set.new }
+{
+    let number = page_with_room(set, dir, name);
+    if number >= FILE_PAGES {
+        return Err(StoreFault::OutOfMemory);
+    }
+    let mut page = page_copy(set, alloc, dir, number)?;
+    dir_pages::add_row(&mut page, tag, kind, name);
+    set.put_dir_page(alloc, dir, number, page)?;
+    Ok(number)
+}
+
+/// Takes the row of a name off the page of that number, which has it.
+pub(crate) fn take_row<S: BitfileSet>(
+    set: &mut S,
+    alloc: Global,
+    dir: Tag,
+    number: u32,
+    name: &[u8],
+) -> Result<(), StoreFault>
+    requires good { IsWellFormed (S.files set.old) dir }
+    requires there { is_named name.now (rows_at number (row_pages (S.files set.old) dir)) ≡ true }
+    ensures ok { OnOk result (TakesRow dir name.now number (S.files set.old) (S.files set.new)) }
+    ensures err { OnErr result (S.files set.new ≡ S.files set.old) }
+    ensures no_page { IfErr result (IsCounted (S.missed set.old) (S.missed set.new)) }
+    ensures count { S.missed set.old ≤ S.missed set.new }
+{
+    let mut page = page_copy(set, alloc, dir, number)?;
+    dir_pages::remove_row(&mut page, name);
+    set.put_dir_page(alloc, dir, number, page)
+}
