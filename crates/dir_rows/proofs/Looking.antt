@@ -61,7 +61,7 @@ abbrev pub one_if : Bool → ℕ
 one_if b = cond b 1 0
 
 module _ (hash : ℕ) where
-  abbrev has_hash : Row → Bool
+  abbrev pub has_hash : Row → Bool
   has_hash row = nat_eq (hash_of row.name) hash
 
   pub hash_more : (row : Row) (rows : List Row) → count_hash hash (row ∷ rows) ≡ one_if (has_hash row) + count_hash hash rows
@@ -79,7 +79,7 @@ module _ (hash : ℕ) where
       by_test false other later = found_later name row rows other ∙ later (omega (arith, hash_more row rows, none))
 
   module _ (page : ℕ) where
-    abbrev is_entry : IndexEntry → Bool
+    abbrev pub is_entry : IndexEntry → Bool
     is_entry entry = nat_eq entry.hash hash && nat_eq entry.page page
 
     pub entries_more : (entry : IndexEntry) (entries : List IndexEntry) → count_entries hash page (entry ∷ entries) ≡ one_if (is_entry entry) + count_entries hash page entries

@@ -1,5 +1,5 @@
 -- The pages of a directory and their rows.
-use Rattle.std.proofs.Common.{◌≡◌, ◌∙◌, ℕ, zero, suc, ◌+◌, ◌≤◌, Option, Some, None, List, [], ◌∷◌, ◌++◌, length, take, slice_get, refl, sym, ap, subst, arith, append_assoc, length-append}
+use Rattle.std.proofs.Common.{Result, Ok, Err, IfOk, ◌≡◌, ◌∙◌, ℕ, zero, suc, ◌+◌, ◌≤◌, Option, Some, None, List, [], ◌∷◌, ◌++◌, length, take, slice_get, refl, sym, ap, subst, arith, append_assoc, length-append}
 use Rattle.std.proofs.lemmas.List.{append-nil, take_all}
 use Rattle.std.specs.List.{AllByRecursion}
 use Rattle.std.specs.Option.{IfSome, option_and_then, option_map_or}
@@ -79,3 +79,7 @@ pub rows_at_within : (pages : List (List ℕ)) (k : ℕ) → length (rows_at k p
 rows_at_within [] k = omega (arith, ap length (rows_past no_pages k (omega arith)))
 rows_at_within (page ∷ pages) zero = omega (arith, length-append (rows_of page) (all_rows pages))
 rows_at_within (page ∷ pages) (suc k) = omega (arith, length-append (rows_of page) (all_rows pages), rows_at_within pages k)
+
+pub if_ok_weaker : {T E : Type 0} {P Q : T → Type 0} (r : Result T E) → ((x : T) → P x → Q x) → IfOk r P → IfOk r Q
+if_ok_weaker (Ok x) weaker holds = weaker x holds
+if_ok_weaker (Err e) weaker holds = tt

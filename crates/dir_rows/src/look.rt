@@ -1,5 +1,5 @@
 //! Rows looked at where they stand.
-ghost use Rattle.std.specs.Prelude.{◌≡◌, ◌≤◌, ◌↔◌, IsTrue, [], length};
+ghost use Rattle.std.specs.Prelude.{true, false, ◌≡◌, ◌≤◌, ◌↔◌, IsTrue, [], length};
 ghost use Rattle.dir_pages.specs.Rows.{found};
 ghost use Rattle.dir_rows.specs.Directory.{IndexesRows, IsWellFormed, row_pages, rows_at, rows_in};
 ghost use Rattle.dir_rows.specs.Places.{IsSearched, IsSearchedAt};
@@ -106,7 +106,8 @@ fn place_by_scan<S: BitfileSet>(set: &S, dir: Tag, name: &[u8]) -> Option<Place>
 
 /// Whether a directory has an index.
 pub(crate) fn has_index<S: BitfileSet>(set: &S, dir: Tag) -> bool
-    ensures { IsTrue result ↔ (1 ≤ length (index_pages (S.files set.now) dir)) }
+    ensures some { result ≡ true → 1 ≤ length (index_pages (S.files set.now) dir) }
+    ensures none { result ≡ false → index_pages (S.files set.now) dir ≡ [] }
 {
     set.index_page(dir, 0).is_some()
 }

@@ -1,0 +1,6 @@
+use Rattle.dir_rows.specs.Directory.{row_pages}
+use Rattle.dir_rows.proofs.Gathered.{AreEntriesBelow}
+use Rattle.dir_rows.proofs.index.gather_entries.Given as goal
+
+abbrev pub invariant-loop-number : goal.invariant-loop-number
+invariant-loop-number g l = AreEntriesBelow (row_pages (g.S.BitfileSet.files l.set) l.dir) l.number l.entries.items
