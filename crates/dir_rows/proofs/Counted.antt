@@ -1,9 +1,8 @@
 -- Rows and entries counted by their hashes.
-use Rattle.std.proofs.Common.{◌≡◌, ◌∙◌, ◌⊎◌, inl, inr, ℕ, zero, suc, ◌+◌, ◌<◌, ◌≤◌, ◌&&◌, Bool, true, false, cond, nat_eq, List, [], ◌∷◌, ◌++◌, refl, sym, ap, subst, arith}
+use Rattle.std.proofs.Common.{◌≡◌, ◌∙◌, ◌⊎◌, inl, inr, ℕ, ◌+◌, ◌&&◌, Bool, true, false, nat_eq, List, [], ◌∷◌, ◌++◌, refl, sym, ap, subst, arith}
 use Rattle.std.proofs.lemmas.Bool.{and_from, and_right, eq-eqb, eqb-true}
 use Rattle.std.proofs.lemmas.List.Sums.{sum_by-append}
 use Rattle.dir_pages.specs.declared.row.Row.{Row}
-use Rattle.dir_pages.specs.RowPage.{rows_of}
 use Rattle.dir_index.specs.declared.entry.IndexEntry.{IndexEntry}
 use Rattle.dir_index.specs.Entries.{Has, hash_of}
 use Rattle.dir_rows.specs.Directory.{AreEntriesOf, count_entries, count_hash, rows_at}

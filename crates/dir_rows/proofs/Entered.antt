@@ -1,7 +1,6 @@
 -- Pages of which one was put, and their rows.
-use Rattle.std.proofs.Common.{◌≡◌, ◌∙◌, ◌⊎◌, inl, inr, ℕ, zero, suc, ◌+◌, ◌<◌, ◌≤◌, Bool, true, false, cond, ◌||◌, Option, Some, None, List, [], ◌∷◌, ◌++◌, length, take, drop, slice_get, refl, sym, ap, subst, arith, append_assoc, length-append}
+use Rattle.std.proofs.Common.{◌≡◌, ◌∙◌, ℕ, zero, suc, ◌+◌, ◌<◌, ◌≤◌, Bool, true, false, cond, ◌||◌, Some, None, List, [], ◌∷◌, ◌++◌, length, take, drop, slice_get, refl, sym, ap, arith, append_assoc}
 use Rattle.std.proofs.lemmas.Bool.{both_ways, or_from, or_left, or_parts, or_right}
-use Rattle.std.proofs.lemmas.List.{append-nil}
 use Rattle.std.proofs.lemmas.List.Concat.{flat_map-append}
 use Rattle.std.specs.List.{AllByRecursion}
 use Rattle.std.specs.Option.{option_map_or}
@@ -9,7 +8,7 @@ use Rattle.domain_base.specs.declared.place.Kind.{Kind}
 use Rattle.domain_base.specs.declared.place.Tag.{Tag}
 use Rattle.page_store.specs.Bitfiles.{with_entry}
 use Rattle.dir_pages.specs.declared.row.Row.{Row}
-use Rattle.dir_pages.specs.RowPage.{IsDirPage, rows_of}
+use Rattle.dir_pages.specs.RowPage.{rows_of}
 use Rattle.dir_pages.specs.Rows.{found, has_name, is_named, without}
 use Rattle.dir_pages.proofs.Places.{is_named_so, named_is}
 use Rattle.dir_index.proofs.Removed.{all_drop, all_join, all_take}

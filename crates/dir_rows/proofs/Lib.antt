@@ -1,7 +1,9 @@
+pub mod Changed
 pub mod Counted
 pub mod Entered
 pub mod Files
 pub mod Gathered
+pub mod Indexed
 pub mod Looking
 pub mod Parts
 pub mod Room

@@ -1,5 +1,5 @@
 -- Pages with room for a row.
-use Rattle.std.proofs.Common.{◌≡◌, ◌∙◌, ℕ, ◌+◌, ◌≤◌, true, not, ◌&&◌, nat_le, Option, Some, None, List, [], ◌∷◌, ◌++◌, length, slice_get, refl, sym, ap, subst, arith}
+use Rattle.std.proofs.Common.{◌≡◌, ◌∙◌, ℕ, ◌+◌, ◌≤◌, true, not, ◌&&◌, nat_le, Some, None, List, [], ◌∷◌, ◌++◌, length, slice_get, sym, ap, subst, arith}
 use Rattle.std.proofs.lemmas.Bool.{and_parts, le-leb, leb-true}
 use Rattle.std.specs.List.{AllByRecursion, list_all}
 use Rattle.std.specs.Option.{option_map_or}
@@ -10,7 +10,7 @@ use Rattle.dir_pages.specs.declared.row.Row.{Row}
 use Rattle.dir_pages.specs.RowPage.{HasRows, IsDirPage, fits, rows_of, size_of}
 use Rattle.dir_pages.specs.Rows.{is_name_byte, is_dots, is_name_len, is_row_name, spelling, without}
 use Rattle.dir_pages.proofs.Parts.{size_is}
-use Rattle.dir_rows.specs.Directory.{row_pages, rows_at}
+use Rattle.dir_rows.specs.Directory.{row_pages}
 use Rattle.dir_rows.specs.RowChanges.{IsFirstWithRoom, fits_at}
 use Rattle.dir_rows.specs.Steps.{IsCopyOf, PutsRowIn, TakesRow}
 use Rattle.dir_rows.proofs.Files.{only_pages, pages_put}

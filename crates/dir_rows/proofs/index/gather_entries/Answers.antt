@@ -1,4 +1,4 @@
-use Rattle.std.proofs.Common.{sym, arith}
+use Rattle.std.proofs.Common.{arith}
 use Rattle.dir_rows.specs.Directory.{row_pages}
 use Rattle.dir_rows.proofs.Gathered.{entries_all, entries_on}
 use Rattle.dir_rows.proofs.Parts.{count_is}

@@ -5,7 +5,6 @@ use Rattle.std.specs.Cmp.Lexicographic.{slice_cmp}
 use Rattle.std.specs.List.Sorted.{IsPermutation, IsSortedByKey}
 use Rattle.std.specs.Ordering.{is_lt, nat_cmp}
 use Rattle.dir_pages.specs.declared.row.Row.{Row}
-use Rattle.dir_rows.specs.Directory.{rows_in}
 use Rattle.dir_rows.proofs.list.list_rows.Goals as goal
 
 pub returns-clause-same : goal.returns-clause-same

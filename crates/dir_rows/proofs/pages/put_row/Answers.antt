@@ -1,6 +1,5 @@
-use Rattle.std.proofs.Common.{◌∙◌, sym, arith, length, drop, ◌+◌}
+use Rattle.std.proofs.Common.{◌∙◌, arith, length, drop, ◌+◌}
 use Rattle.dir_pages.specs.RowPage.{behind}
-use Rattle.dir_rows.specs.Directory.{row_pages}
 use Rattle.dir_rows.proofs.Parts.{count_is}
 use Rattle.dir_rows.proofs.Room.{puts_row}
 use Rattle.dir_rows.proofs.pages.put_row.Goals as goal

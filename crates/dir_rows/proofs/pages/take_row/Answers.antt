@@ -1,7 +1,5 @@
-use Rattle.std.proofs.Common.{◌∙◌, ◌≡◌, true, sym, ap, arith}
+use Rattle.std.proofs.Common.{◌∙◌, ap, arith}
 use Rattle.std.proofs.lemmas.Result.{on_ok_weaker}
-use Rattle.domain_base.specs.Page.{zero_bytes}
-use Rattle.dir_pages.specs.RowPage.{behind}
 use Rattle.dir_pages.specs.Rows.{is_named}
 use Rattle.dir_rows.specs.Directory.{row_pages}
 use Rattle.dir_rows.proofs.Entered.{named_within}

@@ -1,0 +1,66 @@
+-- The index of a directory after its pages were changed.
+use Rattle.std.proofs.Common.{◌≡◌, ◌⊎◌, inl, inr, ℕ, ◌≤◌, List, [], length, sym, ap, subst, arith}
+use Rattle.domain_base.specs.declared.place.Tag.{Tag}
+use Rattle.page_store.specs.Bitfiles.{Bitfiles, IsDirectory, count_index}
+use Rattle.dir_index.specs.declared.entry.IndexEntry.{IndexEntry}
+use Rattle.dir_index.specs.Changes.{AddsEntry, RemovesEntry, SetsEntries}
+use Rattle.dir_index.specs.Index.{all_entries, index_pages}
+use Rattle.dir_index.proofs.Removed.{count_is as index_long}
+use Rattle.dir_index.proofs.Sets.{index_of_file, same_pages, the_file}
+use Rattle.dir_rows.specs.Directory.{AreEntriesOf, row_pages}
+use Rattle.dir_rows.specs.RowChanges.{IsIndexedWhereSmall}
+use Rattle.dir_rows.specs.Steps.{CompletesIndex, LacksEntry, SetsIndex, SparesEntry}
+use Rattle.dir_rows.proofs.Counted.{exact_with, exact_without}
+
+-- where an index is there, it is the one that lacks or spares an entry
+pub there_is : {P : Type 0} (index : List (List ℕ)) → (index ≡ []) ⊎ P → 1 ≤ length index → P
+there_is index (inl none) some = absurd (omega (arith, ap length none, some))
+there_is index (inr holds) some = holds
+
+module _ (dir : Tag) (old new : Bitfiles) where
+  some_now : 1 ≤ length (index_pages new dir) → 1 ≤ count_index new dir
+  some_now some = omega (arith, some, index_long new dir)
+
+  pub indexes_added : (entry : IndexEntry) → LacksEntry entry (row_pages old dir) (index_pages old dir) → AddsEntry dir entry old new → CompletesIndex dir old new
+  indexes_added entry lacks adds =
+      let some = some_now adds.good.some in
+      record {
+        sets = record {
+          others = adds.others;
+          index = inr (record { some = lacks.some; good = adds.good; exact = exact_with (row_pages old dir) entry (all_entries (index_pages old dir)) (all_entries (index_pages new dir)) adds.front adds.back lacks.exact adds.were adds.are });
+          kept = λ had. some;
+        };
+        indexed = λ least most. some;
+      }
+
+  pub indexes_made : (list : List IndexEntry) → 2 ≤ length (row_pages old dir) → AreEntriesOf (row_pages old dir) list → SetsEntries dir list old new → CompletesIndex dir old new
+  indexes_made list many exact sets =
+      let some = some_now sets.good.some in
+      record {
+        sets = record {
+          others = sets.others;
+          index = inr (record { some = many; good = sets.good; exact = subst (AreEntriesOf (row_pages old dir)) (sym sets.entries) exact });
+          kept = λ had. some;
+        };
+        indexed = λ least most. some;
+      }
+
+  pub forgets : (entry : IndexEntry) → SparesEntry entry (row_pages old dir) (index_pages old dir) → RemovesEntry dir entry old new → SetsIndex dir old new
+  forgets entry spares removes = record {
+    others = removes.others;
+    index = inr (record { some = spares.some; good = removes.good; exact = exact_without (row_pages old dir) entry (all_entries (index_pages old dir)) spares.exact (all_entries (index_pages new dir)) removes.front removes.back removes.were removes.are });
+    kept = λ had. some_now removes.good.some;
+  }
+
+module _ (dir : Tag) (files : Bitfiles) (directory : IsDirectory files dir) (none : index_pages files dir ≡ []) where
+  pub stays_without : SetsIndex dir files files
+  stays_without =
+      let at = the_file dir files directory in
+      record {
+        others = same_pages dir files at.file at.is (index_pages files dir) (sym (index_of_file dir files at.file at.is));
+        index = inl none;
+        kept = λ had. had;
+      }
+
+  pub completes_without : IsIndexedWhereSmall dir files → CompletesIndex dir files files
+  completes_without indexed = record { sets = stays_without; indexed = indexed }
