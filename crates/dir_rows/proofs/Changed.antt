@@ -201,9 +201,3 @@ module _ (dir : Tag) (name : List ℕ) (number : ℕ) (old mid : Bitfiles) (good
         pages = omega (arith, count_is new dir, count_is old dir, ap length same, ap length takes.put, long_replaced number takes.page had inside);
         kept = index_kept dir old mid new good.directory takes.others sets;
       }
-
--- ---- after an error in the index
-
-pub only_err : {T E : Type 0} (r : Result T E) (dir : Tag) (old mid new : Bitfiles) → IsDirectory old dir → OnlyPages dir old mid → OnErr r (OnlyIndex dir mid new) → OnErr r (OnlyDirectory dir old new)
-only_err (Ok x) dir old mid new directory first second = tt
-only_err (Err e) dir old mid new directory first second = only_both dir old mid directory first new second

@@ -14,15 +14,6 @@ use Rattle.dir_rows.specs.Steps.{OnlyPages, with_pages}
 pub pages_of_file : (dir : Tag) (files : Bitfiles) (file : Bitfile) → files dir ≡ Some file → row_pages files dir ≡ file.pages
 pages_of_file dir files file is = ap (λ (o : Option Bitfile). option_map_or (λ (f : Bitfile). f.pages) o []) is
 
--- nothing was changed
-pub only_same : (dir : Tag) (old new : Bitfiles) → IsDirectory old dir → new ≡ old → OnlyDirectory dir old new
-only_same dir old new directory same =
-    let at = the_file dir old directory in
-    let now : new dir ≡ Some at.file = ap (λ (fs : Bitfiles). fs dir) same ∙ at.is in
-    let contents : with_contents (row_pages new dir) (index_pages new dir) at.file ≡ at.file =
-    (λ i. with_contents (pages_of_file dir new at.file now i) (index_of_file dir new at.file now i) at.file) in
-    same ∙ sym (put_back dir old at.file at.is) ∙ ap (λ f. with_file dir f old) (sym contents) ∙ sym (change_is dir old at.file at.is (with_contents (row_pages new dir) (index_pages new dir)))
-
 -- a page was put
 module _ (dir : Tag) (old new : Bitfiles) (directory : IsDirectory old dir) (number : ℕ) (page : List ℕ) (put : new ≡ with_change dir (put_page number page) old) where
   abbrev file : Bitfile

@@ -5,5 +5,6 @@ pub mod Files
 pub mod Gathered
 pub mod Indexed
 pub mod Looking
+pub mod Outside
 pub mod Parts
 pub mod Room

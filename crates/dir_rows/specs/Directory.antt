@@ -57,4 +57,5 @@ pub record IsWellFormed (files : Bitfiles) (dir : Tag) : Type 0 where
   pub directory : IsDirectory files dir
   pub pages : AllByRecursion IsDirPage (row_pages files dir)
   pub names : NamesOnce (rows_in files dir)
-  pub index : (index_pages files dir ≡ []) ⊎ IndexesRows (row_pages files dir) (index_pages files dir)
+  pub index : (index_pages files dir ≡ [])
+      ⊎ IndexesRows (row_pages files dir) (index_pages files dir)

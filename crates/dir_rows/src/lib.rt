@@ -4,10 +4,12 @@
 
 mod change;
 mod index;
+mod laws;
 mod list;
 mod look;
 mod pages;
 
 pub use change::{add_row, remove_row};
+pub use laws::others_stay;
 pub use list::list_rows;
 pub use look::{find_row, is_empty, row_count};
