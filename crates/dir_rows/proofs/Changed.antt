@@ -1,5 +1,5 @@
 -- A directory that has a row more, or a row less.
-use Rattle.std.proofs.Common.{Result, OnErr, Ok, Err, ◌≡◌, ◌∙◌, ◌⊎◌, inl, inr, ℕ, ◌+◌, ◌<◌, ◌≤◌, true, false, List, [], ◌∷◌, ◌++◌, length, take, drop, sym, ap, subst, arith, append_assoc}
+use Rattle.std.proofs.Common.{◌≡◌, ◌∙◌, ◌⊎◌, inl, inr, ℕ, ◌+◌, ◌<◌, ◌≤◌, true, false, List, [], ◌∷◌, ◌++◌, length, take, drop, sym, ap, subst, arith, append_assoc}
 use Rattle.std.proofs.lemmas.List.{append-nil}
 use Rattle.std.specs.List.{AllByRecursion}
 use Rattle.domain_base.specs.declared.place.Tag.{Tag}
@@ -8,7 +8,6 @@ use Rattle.dir_pages.specs.declared.row.Row.{Row}
 use Rattle.dir_pages.specs.RowPage.{IsDirPage}
 use Rattle.dir_pages.specs.Rows.{is_named}
 use Rattle.dir_index.specs.declared.entry.IndexEntry.{IndexEntry}
-use Rattle.dir_index.specs.Changes.{OnlyIndex}
 use Rattle.dir_index.specs.Entries.{hash_of}
 use Rattle.dir_index.specs.Index.{IsIndex, all_entries, index_pages}
 use Rattle.dir_index.proofs.Removed.{count_is as index_long}

@@ -1,11 +1,9 @@
 -- Pages of which one was put, and their rows.
-use Rattle.std.proofs.Common.{◌≡◌, ◌∙◌, ℕ, zero, suc, ◌+◌, ◌<◌, ◌≤◌, Bool, true, false, cond, ◌||◌, Some, None, List, [], ◌∷◌, ◌++◌, length, take, drop, slice_get, refl, sym, ap, arith, append_assoc}
-use Rattle.std.proofs.lemmas.Bool.{both_ways, or_from, or_left, or_parts, or_right}
+use Rattle.std.proofs.Common.{◌≡◌, ◌∙◌, ℕ, zero, suc, ◌+◌, ◌<◌, ◌≤◌, Bool, true, false, cond, ◌||◌, Some, List, [], ◌∷◌, ◌++◌, length, take, drop, slice_get, refl, sym, ap, arith, append_assoc}
+use Rattle.std.proofs.lemmas.Bool.{both_ways, or_from, or_parts}
 use Rattle.std.proofs.lemmas.List.Concat.{flat_map-append}
 use Rattle.std.specs.List.{AllByRecursion}
-use Rattle.std.specs.Option.{option_map_or}
-use Rattle.domain_base.specs.declared.place.Kind.{Kind}
-use Rattle.domain_base.specs.declared.place.Tag.{Tag}
+use Rattle.std.specs.Option.{is_some, option_map_or}
 use Rattle.page_store.specs.Bitfiles.{with_entry}
 use Rattle.dir_pages.specs.declared.row.Row.{Row}
 use Rattle.dir_pages.specs.RowPage.{rows_of}
@@ -13,7 +11,6 @@ use Rattle.dir_pages.specs.Rows.{found, has_name, is_named, without}
 use Rattle.dir_pages.proofs.Places.{is_named_so, named_is}
 use Rattle.dir_index.proofs.Removed.{all_drop, all_join, all_take}
 use Rattle.dir_rows.specs.Directory.{NamesOnce, all_rows, rows_at}
-use Rattle.dir_rows.proofs.Looking.{found_here, found_later}
 use Rattle.dir_rows.proofs.Parts.{no_pages, rows_past}
 
 -- ---- a page in place of another, or behind the last
@@ -136,21 +133,14 @@ the_named name (row ∷ rows) there = by_test (has_name name row) refl (the_name
           left = ap (λ b. cond b rows (row ∷ without name rows)) other ∙ ap (λ (rs : List Row). row ∷ rs) at.left;
         }
 
-pub found_named : (name : List ℕ) (rows : List Row) (what : Tag × Kind) → found name rows ≡ Some what → is_named name rows ≡ true
-found_named name [] what some = absurd cc
-found_named name (row ∷ rows) what some = by_test (has_name name row) refl (found_named name rows what)
+-- a name has a row exactly where one is found
+pub named_found : (name : List ℕ) (rows : List Row) → is_named name rows ≡ is_some (found name rows)
+named_found name [] = refl
+named_found name (row ∷ rows) = by_test (has_name name row) (named_found name rows)
   where
-    by_test : (b : Bool) → has_name name row ≡ b → (found name rows ≡ Some what → is_named name rows ≡ true) → is_named name (row ∷ rows) ≡ true
-    by_test true same later = or_left (has_name name row) (is_named name rows) same
-    by_test false other later = or_right (has_name name row) (is_named name rows) (later (sym (found_later name row rows other) ∙ some))
-
-pub none_named : (name : List ℕ) (rows : List Row) → found name rows ≡ None → is_named name rows ≡ false
-none_named name [] none = refl
-none_named name (row ∷ rows) none = by_test (has_name name row) refl (none_named name rows)
-  where
-    by_test : (b : Bool) → has_name name row ≡ b → (found name rows ≡ None → is_named name rows ≡ false) → is_named name (row ∷ rows) ≡ false
-    by_test true same later = absurd (let e : Some (row.tag, row.kind) ≡ None = sym (found_here name row rows same) ∙ none in cc)
-    by_test false other later = or_from (has_name name row) (is_named name rows) other (later (sym (found_later name row rows other) ∙ none))
+    by_test : (b : Bool) → is_named name rows ≡ is_some (found name rows) → (b || is_named name rows) ≡ is_some (cond b (Some (row.tag, row.kind)) (found name rows))
+    by_test true later = refl
+    by_test false later = later
 
 -- a row of a name is on a page
 pub named_within : (name : List ℕ) (pages : List (List ℕ)) (number : ℕ) → is_named name (rows_at number pages) ≡ true → number < length pages

@@ -6,7 +6,7 @@ use Rattle.domain_base.specs.declared.place.Tag.{Tag}
 use Rattle.page_store.specs.Bitfiles.{Bitfile, Bitfiles, IsDirectory, put_page, with_change, with_entry, with_file}
 use Rattle.dir_index.specs.Changes.{OnlyIndex, with_index}
 use Rattle.dir_index.specs.Index.{index_pages}
-use Rattle.dir_index.proofs.Sets.{change_is, index_of_file, put_back, put_twice, the_file, there_now}
+use Rattle.dir_index.proofs.Sets.{change_is, index_of_file, put_twice, the_file, there_now}
 use Rattle.dir_rows.specs.Directory.{row_pages}
 use Rattle.dir_rows.specs.RowChanges.{OnlyDirectory, with_contents}
 use Rattle.dir_rows.specs.Steps.{OnlyPages, with_pages}

@@ -1,13 +1,13 @@
 -- What a change of one directory leaves.
-use Rattle.std.proofs.Common.{◌≡◌, ◌∙◌, Bool, true, false, cond, Option, Some, None, refl, sym, ap}
+use Rattle.std.proofs.Common.{◌≡◌, ◌∙◌, false, cond, Option, Some, None, refl, ap}
 use Rattle.std.specs.Option.{option_map_or}
 use Rattle.domain_base.specs.declared.place.Tag.{Tag}
 use Rattle.page_store.specs.Bitfiles.{Bitfile, Bitfiles, same_tag, with_change, with_file}
 use Rattle.dir_index.specs.Index.{index_pages}
 use Rattle.dir_index.proofs.Sets.{change_is, there_now}
 use Rattle.dir_rows.specs.Directory.{row_pages}
-use Rattle.dir_rows.specs.Laws.{LeavesOthers, OthersStay}
-use Rattle.dir_rows.specs.RowChanges.{OnlyDirectory, with_contents}
+use Rattle.dir_rows.specs.Laws.{OthersStay}
+use Rattle.dir_rows.specs.RowChanges.{with_contents}
 
 other_file : (dir tag : Tag) (change : Bitfile → Bitfile) (old : Bitfiles) → same_tag tag dir ≡ false → with_change dir change old tag ≡ old tag
 other_file dir tag change old other = by_file (old dir)

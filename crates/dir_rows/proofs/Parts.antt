@@ -1,6 +1,6 @@
 -- The pages of a directory and their rows.
 use Rattle.std.proofs.Common.{Result, Ok, Err, IfOk, ◌≡◌, ◌∙◌, ℕ, zero, suc, ◌+◌, ◌≤◌, Option, Some, None, List, [], ◌∷◌, ◌++◌, length, take, slice_get, refl, sym, ap, subst, arith, append_assoc, length-append}
-use Rattle.std.proofs.lemmas.List.{append-nil, take_all}
+use Rattle.std.proofs.lemmas.List.{append-nil, nil_from_length, take_all}
 use Rattle.std.specs.List.{AllByRecursion}
 use Rattle.std.specs.Option.{IfSome, option_and_then, option_map_or}
 use Rattle.domain_base.specs.declared.place.Tag.{Tag}
@@ -64,6 +64,14 @@ rows_more (page ∷ pages) zero = append-nil (rows_of page)
 rows_more (page ∷ pages) (suc k) =
     let e : suc k + 1 ≡ suc (k + 1) = omega arith in
     ap (λ n. all_rows (take n (page ∷ pages))) e ∙ ap (λ (rs : List Row). rows_of page ++ rs) (rows_more pages k) ∙ sym (append_assoc (rows_of page) (all_rows (take k pages)) (rows_at k pages))
+
+-- rows that were copied, and those of one page more
+pub copied_more : (pages : List (List ℕ)) (k : ℕ) (old new : List Row) → old ≡ all_rows (take k pages) → new ≡ old ++ rows_at k pages → new ≡ all_rows (take (k + 1) pages)
+copied_more pages k old new were are = are ∙ ap (λ (rs : List Row). rs ++ rows_at k pages) were ∙ sym (rows_more pages k)
+
+-- no rows so far, and none on one page more
+pub none_more : (pages : List (List ℕ)) (k : ℕ) → all_rows (take k pages) ≡ [] → length (rows_at k pages) ≡ 0 → all_rows (take (k + 1) pages) ≡ []
+none_more pages k none here = rows_more pages k ∙ ap (λ (rs : List Row). rs ++ rows_at k pages) none ∙ nil_from_length (rows_at k pages) here
 
 pub rows_whole : (pages : List (List ℕ)) (k : ℕ) → k ≡ length pages → all_rows (take k pages) ≡ all_rows pages
 rows_whole pages k is = ap all_rows (take_all k pages (omega (arith, is)))

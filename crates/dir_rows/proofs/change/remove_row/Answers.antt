@@ -1,4 +1,5 @@
-use Rattle.std.proofs.Common.{◌≡◌, ℕ, true, List}
+use Rattle.std.proofs.Common.{◌≡◌, ◌∙◌, ℕ, true, List, ap}
+use Rattle.std.specs.Option.{is_some}
 use Rattle.std.proofs.lemmas.Bool.{both_ways}
 use Rattle.std.proofs.lemmas.Result.{on_ok_weaker}
 use Rattle.dir_pages.specs.Rows.{is_named}
@@ -6,18 +7,18 @@ use Rattle.dir_rows.specs.declared.look.Place.{Place}
 use Rattle.dir_rows.specs.Directory.{row_pages, rows_at, rows_in}
 use Rattle.dir_rows.specs.Places.{IsPlaceOf}
 use Rattle.dir_rows.proofs.Changed.{removes_row, take_index}
-use Rattle.dir_rows.proofs.Entered.{found_named, none_named}
+use Rattle.dir_rows.proofs.Entered.{named_found}
 use Rattle.dir_rows.proofs.Looking.{none_all}
 use Rattle.dir_rows.proofs.change.remove_row.Goals as goal
 
 on_page : (name : List ℕ) (pages : List (List ℕ)) (place : Place) → IsPlaceOf name pages place → is_named name (rows_at place.page pages) ≡ true
-on_page name pages place at = found_named name (rows_at place.page pages) (place.tag, place.kind) at.here
+on_page name pages place at = named_found name (rows_at place.page pages) ∙ ap is_some at.here
 
 pub returns-in_default-clause-ok : goal.returns-in_default-clause-ok
 returns-in_default-clause-ok g c =
     let old = g.S.BitfileSet.files c.args.set.now in
     let name = c.args.name.now in
-    absurd (both_ways (is_named name (rows_in old c.args.dir)) (none_named name (rows_in old c.args.dir) (none_all name (row_pages old c.args.dir) c.in_default.ensures)) c.requires.there)
+    absurd (both_ways (is_named name (rows_in old c.args.dir)) (named_found name (rows_in old c.args.dir) ∙ ap is_some (none_all name (row_pages old c.args.dir) c.in_default.ensures)) c.requires.there)
 
 pub take_row-requires-clause-there : goal.take_row-requires-clause-there
 take_row-requires-clause-there g c =

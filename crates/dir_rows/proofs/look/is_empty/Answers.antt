@@ -1,7 +1,6 @@
-use Rattle.std.proofs.Common.{◌∙◌, ◌++◌, length, ap, arith}
-use Rattle.dir_rows.specs.Directory.{row_pages, rows_at}
-use Rattle.dir_rows.proofs.Parts.{rows_at_within, rows_more}
-use Rattle.std.proofs.lemmas.List.{nil_from_length}
+use Rattle.std.proofs.Common.{length, ap, arith}
+use Rattle.dir_rows.specs.Directory.{row_pages}
+use Rattle.dir_rows.proofs.Parts.{none_more, rows_at_within}
 use Rattle.dir_rows.proofs.look.is_empty.Goals as goal
 
 pub returns-then-rows_on-ne0 : goal.returns-then-rows_on-ne0
@@ -12,6 +11,4 @@ returns-then-rows_on-ne0 g c =
 
 pub loop-number-preserved : goal.loop-number-preserved
 loop-number-preserved g c =
-    let pages = row_pages (g.S.BitfileSet.files c.args.set.now) c.args.dir in
-    let k = c.loop-number.number in
-    rows_more pages k ∙ ap (λ rows. rows ++ rows_at k pages) c.loop-number.invariant ∙ nil_from_length (rows_at k pages) (omega (arith, c.rows_on.ensures.count, c.if-rows_on-ne0.false))
+    none_more (row_pages (g.S.BitfileSet.files c.args.set.now) c.args.dir) c.loop-number.number c.loop-number.invariant (omega (arith, c.rows_on.ensures.count, c.if-rows_on-ne0.false))

@@ -1,0 +1,182 @@
+//! Directories of one page and of several, filled, looked through and emptied.
+ghost use Rattle.std.specs.Prelude.{OnOk};
+ghost use Rattle.dir_rows.specs.Directory.{IsWellFormed};
+
+use crate::steps::{
+    ROOT, add, add_mixed, add_wide, count_long, count_wide, empty_root, first_four,
+    listed_in_place, remove, remove_odd, slot_of,
+};
+use dir_rows::{is_empty, row_count};
+use page_store::{BitfileSet, StoreFault};
+use std::alloc::Global;
+use std::test::Fail;
+
+/// Adds four names and then one of them again, and tells which were new.
+fn add_few<S: BitfileSet>(set: &mut S, alloc: Global) -> Result<[bool; 5], StoreFault>
+    requires { IsWellFormed (S.files set.old) ROOT }
+    ensures { OnOk result (IsWellFormed (S.files set.new) ROOT) }
+{
+    Ok([
+        add(set, alloc, ROOT, 1, b"a")?,
+        add(set, alloc, ROOT, 2, b"B")?,
+        add(set, alloc, ROOT, 3, b"aa")?,
+        add(set, alloc, ROOT, 4, &[255; 255])?,
+        add(set, alloc, ROOT, 5, b"a")?,
+    ])
+}
+
+/// Names of 1, 2 and 255 bytes: whether the directory was and is empty, which were new, how many
+/// rows there are, what is found, and the slots of the list.
+fn few_rows(alloc: Global) -> Result<([bool; 2], [bool; 5], [u32; 4], [u32; 4]), Fail> {
+    let mut set = empty_root(alloc, Vec::new(alloc))?;
+    let before = is_empty(&set, ROOT);
+    let added = add_few(&mut set, alloc)?;
+    let numbers = [
+        row_count(&set, ROOT),
+        slot_of(&set, ROOT, b"aa"),
+        slot_of(&set, ROOT, &[255; 255]),
+        slot_of(&set, ROOT, b"ab"),
+    ];
+    let listed = first_four(&set, alloc, ROOT)?;
+    Ok(([before, is_empty(&set, ROOT)], added, numbers, listed))
+}
+
+#[test]
+fn rows_are_counted_found_and_listed(rt: HostRuntime) -> Result<(), Fail> {
+    let seen = few_rows(rt.alloc())?;
+    let want = (
+        [true, false],
+        [true, true, true, true, false],
+        [4, 3, 4, 0],
+        [2, 1, 3, 4],
+    );
+    assert_eq!(rt; seen, want);
+    Ok(())
+}
+
+/// How many pages a directory has, and whether it has an index.
+fn shape<S: BitfileSet>(set: &S) -> (u32, bool) {
+    (set.dir_pages(ROOT), set.index_page(ROOT, 0).is_some())
+}
+
+/// Rows of 8,176 bytes, and one more; the slots of the last two.
+fn filled(alloc: Global) -> Result<((u32, bool), (u32, bool), [u32; 2]), Fail> {
+    let mut set = empty_root(alloc, Vec::new(alloc))?;
+    add_wide(&mut set, alloc, ROOT, 31)?;
+    add(&mut set, alloc, ROOT, 40, b"fifteen letters")?;
+    let full = shape(&set);
+    add(&mut set, alloc, ROOT, 41, b"q")?;
+    let last = [
+        slot_of(&set, ROOT, b"fifteen letters"),
+        slot_of(&set, ROOT, b"q"),
+    ];
+    Ok((full, shape(&set), last))
+}
+
+/// A row of 255 bytes takes 263, and 31 of them with one of 15 bytes take all 8,176 of a page.
+#[test]
+fn a_page_is_filled_to_its_last_byte(rt: HostRuntime) -> Result<(), Fail> {
+    let seen = filled(rt.alloc())?;
+    assert_eq!(rt; seen, ((1, false), (2, true), [40, 41]));
+    Ok(())
+}
+
+/// 200 names of 60 bytes: the shape, how many are in their place in the list, how many of the odd
+/// ones were removed, and how many even and odd ones are found then.
+fn halved(alloc: Global) -> Result<((u32, bool), [u32; 5]), Fail> {
+    let mut set = empty_root(alloc, Vec::new(alloc))?;
+    add_mixed(&mut set, alloc, ROOT, 200)?;
+    let listed = listed_in_place(&set, alloc, ROOT)?;
+    let removed = remove_odd(&mut set, alloc, ROOT, 200)?;
+    let numbers = [
+        listed,
+        removed,
+        count_long(&set, ROOT, 200, false),
+        count_long(&set, ROOT, 200, true),
+        row_count(&set, ROOT),
+    ];
+    Ok((shape(&set), numbers))
+}
+
+#[test]
+fn every_second_of_many_names_is_removed(rt: HostRuntime) -> Result<(), Fail> {
+    let seen = halved(rt.alloc())?;
+    assert_eq!(rt; seen, ((2, true), [200, 100, 100, 0, 100]));
+    Ok(())
+}
+
+/// Two names of one hash on two pages, one of which is then removed: the slots of both.
+fn one_hash(alloc: Global, gone: &[u8]) -> Result<[u32; 4], Fail> {
+    let mut set = empty_root(alloc, Vec::new(alloc))?;
+    add_wide(&mut set, alloc, ROOT, 31)?;
+    add(&mut set, alloc, ROOT, 51, b"Aa")?;
+    add(&mut set, alloc, ROOT, 52, b"fives")?;
+    add(&mut set, alloc, ROOT, 53, b"BB")?;
+    let first = slot_of(&set, ROOT, b"Aa");
+    let second = slot_of(&set, ROOT, b"BB");
+    remove(&mut set, alloc, ROOT, gone)?;
+    Ok([
+        first,
+        second,
+        slot_of(&set, ROOT, b"Aa"),
+        slot_of(&set, ROOT, b"BB"),
+    ])
+}
+
+#[test]
+fn names_of_one_hash_are_told_apart(rt: HostRuntime) -> Result<(), Fail> {
+    let seen = [
+        one_hash(rt.alloc(), b"Aa")?,
+        one_hash(rt.alloc(), b"BB")?,
+    ];
+    assert_eq!(rt; seen, [[51, 53, 0, 53], [51, 53, 51, 0]]);
+    Ok(())
+}
+
+/// What the addition of a row to a new page answers where one changing call finds no page: whether
+/// it is NoPage, how many misses there were, and the shape. The rows before take 32 calls.
+fn missed(alloc: Global, call: u64) -> Result<(bool, u64, (u32, bool)), Fail> {
+    let misses = vec![in alloc; call]?;
+    let mut set = empty_root(alloc, misses)?;
+    add_wide(&mut set, alloc, ROOT, 31)?;
+    add(&mut set, alloc, ROOT, 40, b"fifteen letters")?;
+    let answer = add(&mut set, alloc, ROOT, 41, b"q");
+    let missed = matches!(answer, Err(StoreFault::NoPage));
+    Ok((missed, set.misses(), shape(&set)))
+}
+
+/// The 33rd call puts the new page, and the 34th makes the index.
+#[test]
+fn no_page_comes_in_the_middle_of_an_addition(rt: HostRuntime) -> Result<(), Fail> {
+    let seen = [
+        missed(rt.alloc(), 32)?,
+        missed(rt.alloc(), 33)?,
+        missed(rt.alloc(), 34)?,
+    ];
+    let want = [
+        (true, 1, (1, false)),
+        (true, 1, (2, false)),
+        (false, 0, (2, true)),
+    ];
+    assert_eq!(rt; seen, want);
+    Ok(())
+}
+
+/// The shape of a directory of so many wide names, and how many of them are found.
+fn grown(alloc: Global, count: u32) -> Result<((u32, bool), u32), Fail> {
+    let mut set = empty_root(alloc, Vec::new(alloc))?;
+    add_wide(&mut set, alloc, ROOT, count)?;
+    Ok((shape(&set), count_wide(&set, ROOT, count)))
+}
+
+#[test]
+fn an_index_comes_with_the_second_page_and_stays(rt: HostRuntime) -> Result<(), Fail> {
+    let seen = [
+        grown(rt.alloc(), 31)?,
+        grown(rt.alloc(), 32)?,
+        grown(rt.alloc(), 125)?,
+    ];
+    let want = [((1, false), 31), ((2, true), 32), ((5, true), 125)];
+    assert_eq!(rt; seen, want);
+    Ok(())
+}
