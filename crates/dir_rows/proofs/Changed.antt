@@ -84,7 +84,7 @@ module _ (dir : Tag) (row : Row) (number : ℕ) (old mid : Bitfiles) (good : IsW
         some = omega (arith, indexes.some, ap length put, long_put number page pages within);
         good = subst IsIndex (sym stays) indexes.good;
         exact = subst (λ h. AreEntriesOf (row_pages mid dir) (entry_by number h ∷ all_entries (index_pages mid dir))) (sym is)
-          (subst (λ ps. AreEntriesOf (row_pages mid dir) (entry_by number (hash_of row.name) ∷ all_entries ps)) (sym stays) (lacks_one number row pages (row_pages mid dir) one_more (all_entries (index_pages old dir)) indexes.exact));
+            (subst (λ ps. AreEntriesOf (row_pages mid dir) (entry_by number (hash_of row.name) ∷ all_entries ps)) (sym stays) (lacks_one number row pages (row_pages mid dir) one_more (all_entries (index_pages old dir)) indexes.exact));
       })
 
   abbrev front : List Row

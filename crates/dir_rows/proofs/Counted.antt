@@ -57,8 +57,8 @@ module _ (number : ℕ) (row : Row) (pages more : List (List ℕ)) (one : OneMor
   pub count_more : (hash page : ℕ) → count_hash hash (rows_at page more) ≡ one_if (is_entry hash page entry) + count_hash hash (rows_at page pages)
   count_more hash page = elim (same_or_not page number) [
     | inl same ↦
-      subst (λ p. count_hash hash (rows_at p more) ≡ one_if (is_entry hash p entry) + count_hash hash (rows_at p pages)) (sym same)
-      (omega (arith, ap (count_hash hash) one.has, ap (count_hash hash) one.had, hash_middle hash one.front row one.back, ap one_if (here hash)))
+        subst (λ p. count_hash hash (rows_at p more) ≡ one_if (is_entry hash p entry) + count_hash hash (rows_at p pages)) (sym same)
+        (omega (arith, ap (count_hash hash) one.has, ap (count_hash hash) one.had, hash_middle hash one.front row one.back, ap one_if (here hash)))
     | inr other ↦ omega (arith, ap (count_hash hash) (one.others page other), ap one_if (elsewhere hash page other))
   ]
 
@@ -84,7 +84,7 @@ module _ (pages : List (List ℕ)) (entry : IndexEntry) (old : List IndexEntry) 
   pub spare_there : Has old entry.hash entry.page
   spare_there = elim (has_or_none entry.hash entry.page old) [
     | inl none ↦
-      let itself : is_entry entry.hash entry.page entry ≡ true = and_from (nat_eq entry.hash entry.hash) (nat_eq entry.page entry.page) (eq-eqb entry.hash entry.hash refl) (eq-eqb entry.page entry.page refl) in
-      absurd (omega (arith, none, exact entry.hash entry.page, entries_more entry.hash entry.page entry [], ap one_if itself))
+        let itself : is_entry entry.hash entry.page entry ≡ true = and_from (nat_eq entry.hash entry.hash) (nat_eq entry.page entry.page) (eq-eqb entry.hash entry.hash refl) (eq-eqb entry.page entry.page refl) in
+        absurd (omega (arith, none, exact entry.hash entry.page, entries_more entry.hash entry.page entry [], ap one_if itself))
     | inr has ↦ has
   ]

@@ -53,8 +53,8 @@ entries_on pages number old new were are = record {
   below = λ hash page less. elim (cases_lt page number) [
     | inl before ↦ omega (arith, joined hash page, were.below hash page before, count_elsewhere hash page number (rows_at number pages) (λ same. omega (arith, same, before)))
     | inr least ↦
-      let same : number ≡ page = omega (arith, less, least) in
-      omega (arith, joined hash page, were.none hash page least, count_here hash page number (rows_at number pages) same, ap (λ n. count_hash hash (rows_at n pages)) same)
+        let same : number ≡ page = omega (arith, less, least) in
+        omega (arith, joined hash page, were.none hash page least, count_here hash page number (rows_at number pages) same, ap (λ n. count_hash hash (rows_at n pages)) same)
   ];
   none = λ hash page least. omega (arith, joined hash page, were.none hash page (omega (arith, least)), count_elsewhere hash page number (rows_at number pages) (λ same. omega (arith, same, least)));
 }

@@ -22,5 +22,5 @@ others_stay_lem dir old new only =
     record {
       others = λ tag other. ap (λ (fs : Bitfiles). fs tag) only ∙ other_file dir tag change old other;
       itself = λ file is.
-        (change file, ap (λ (fs : Bitfiles). fs dir) (only ∙ change_is dir old file is change) ∙ there_now dir old file is (change file), record { kind = refl; uid = refl; gid = refl; links = refl });
+          (change file, ap (λ (fs : Bitfiles). fs dir) (only ∙ change_is dir old file is change) ∙ there_now dir old file is (change file), record { kind = refl; uid = refl; gid = refl; links = refl });
     }

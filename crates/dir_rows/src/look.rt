@@ -95,7 +95,8 @@ fn place_by_scan<S: BitfileSet>(set: &S, dir: Tag, name: &[u8]) -> Option<Place>
     requires { IsWellFormed (S.files set.now) dir }
     ensures { IsSearched name.now (row_pages (S.files set.now) dir) result }
 {
-    for number in 0..set.dir_pages(dir) {
+    let pages = set.dir_pages(dir);
+    for number in 0..pages {
         let place = place_on(set, dir, name, number);
         if place.is_some() {
             return place;
