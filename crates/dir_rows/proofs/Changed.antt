@@ -16,7 +16,7 @@ use Rattle.dir_rows.specs.RowChanges.{AddsRow, KeepsIndex, OnlyDirectory, PutsRo
 use Rattle.dir_rows.specs.Steps.{CompletesIndex, LacksEntry, OnlyPages, PutsRowIn, SetsIndex, SparesEntry, TakesRow}
 use Rattle.dir_rows.proofs.Counted.{OneMore, lacks_one, spares_one}
 use Rattle.dir_rows.proofs.Entered.{Named, all_put, long_put, long_replaced, named_within, once_with, once_without, parts_put, rows_at_other, rows_at_put, the_named, three_parts}
-use Rattle.dir_rows.proofs.Files.{directory_after, directory_mid, index_mid, only_both, pages_after}
+use Rattle.dir_rows.proofs.Files.{directory_after, index_mid, only_both, pages_after}
 use Rattle.dir_rows.proofs.Parts.{count_is}
 
 -- the entry of a name's row on a page, by the name's hash
@@ -56,9 +56,6 @@ module _ (dir : Tag) (row : Row) (number : ℕ) (old mid : Bitfiles) (good : IsW
 
   abbrev within : number ≤ length pages
   within = puts.placed.first.within
-
-  pub put_directory : IsDirectory mid dir
-  put_directory = directory_mid dir old mid good.directory puts.others
 
   pub put_pages : AllByRecursion IsDirPage (row_pages mid dir)
   put_pages = subst (AllByRecursion IsDirPage) (sym put) (all_put IsDirPage number page pages good.pages puts.placed.good)
@@ -133,9 +130,6 @@ module _ (dir : Tag) (name : List ℕ) (number : ℕ) (old mid : Bitfiles) (good
 
   upto : number ≤ length had
   upto = omega (arith, inside)
-
-  pub take_directory : IsDirectory mid dir
-  take_directory = directory_mid dir old mid good.directory takes.others
 
   take_pages : AllByRecursion IsDirPage (row_pages mid dir)
   take_pages = subst (AllByRecursion IsDirPage) (sym takes.put) (all_put IsDirPage number takes.page had good.pages takes.good)

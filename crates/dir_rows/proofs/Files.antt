@@ -31,9 +31,6 @@ module _ (dir : Tag) (old new : Bitfiles) (directory : IsDirectory old dir) (num
   pub pages_put : row_pages new dir ≡ with_entry number page (row_pages old dir)
   pages_put = pages_of_file dir new (put_page number page file) now ∙ ap (with_entry number page) (sym (pages_of_file dir old file is))
 
-  pub index_stays : index_pages new dir ≡ index_pages old dir
-  index_stays = index_of_file dir new (put_page number page file) now ∙ sym (index_of_file dir old file is)
-
   pub only_pages : OnlyPages dir old new
   only_pages =
       let pages = pages_of_file dir new (put_page number page file) now in
@@ -55,9 +52,6 @@ module _ (dir : Tag) (old mid : Bitfiles) (directory : IsDirectory old dir) (fir
 
   mid_now : mid dir ≡ Some between
   mid_now = ap (λ (fs : Bitfiles). fs dir) mid_is ∙ there_now dir old was was_is between
-
-  pub directory_mid : IsDirectory mid dir
-  directory_mid = subst (λ (o : Option Bitfile). IsSomeAnd o (λ f. f.kind ≡ Directory)) (sym mid_now) (the_file dir old directory).kind
 
   pub index_mid : index_pages mid dir ≡ index_pages old dir
   index_mid = index_of_file dir mid between mid_now ∙ sym (index_of_file dir old was was_is)

@@ -42,12 +42,6 @@ module _ (hash page : ℕ) where
       none true is = absurd (other (eqb-true number page is))
       none false is = and_right (has_hash hash row) (nat_eq number page) is
 
-pub no_entries : (pages : List (List ℕ)) (entries : List IndexEntry) → entries ≡ [] → AreEntriesBelow pages 0 entries
-no_entries pages entries is = record {
-  below = λ hash page less. absurd (omega (arith, less));
-  none = λ hash page least. ap (count_entries hash page) is;
-}
-
 pub entries_on : (pages : List (List ℕ)) (number : ℕ) (old new : List IndexEntry) → AreEntriesBelow pages number old → new ≡ old ++ entries_for number (rows_at number pages) → AreEntriesBelow pages (number + 1) new
 entries_on pages number old new were are = record {
   below = λ hash page less. elim (cases_lt page number) [

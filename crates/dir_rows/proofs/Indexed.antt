@@ -1,14 +1,12 @@
 -- The index of a directory after its pages were changed.
 use Rattle.std.proofs.Common.{◌≡◌, ◌⊎◌, inl, inr, ℕ, ◌≤◌, List, [], length, sym, ap, subst, arith}
 use Rattle.domain_base.specs.declared.place.Tag.{Tag}
-use Rattle.page_store.specs.Bitfiles.{Bitfiles, IsDirectory, count_index}
+use Rattle.page_store.specs.Bitfiles.{Bitfiles, count_index}
 use Rattle.dir_index.specs.declared.entry.IndexEntry.{IndexEntry}
 use Rattle.dir_index.specs.Changes.{AddsEntry, RemovesEntry, SetsEntries}
 use Rattle.dir_index.specs.Index.{all_entries, index_pages}
 use Rattle.dir_index.proofs.Removed.{count_is as index_long}
-use Rattle.dir_index.proofs.Sets.{index_of_file, same_pages, the_file}
 use Rattle.dir_rows.specs.Directory.{AreEntriesOf, row_pages}
-use Rattle.dir_rows.specs.RowChanges.{IsIndexedWhereSmall}
 use Rattle.dir_rows.specs.Steps.{CompletesIndex, LacksEntry, SetsIndex, SparesEntry}
 use Rattle.dir_rows.proofs.Counted.{exact_with, exact_without}
 
@@ -51,16 +49,3 @@ module _ (dir : Tag) (old new : Bitfiles) where
     index = inr (record { some = spares.some; good = removes.good; exact = exact_without (row_pages old dir) entry (all_entries (index_pages old dir)) spares.exact (all_entries (index_pages new dir)) removes.front removes.back removes.were removes.are });
     kept = λ had. some_now removes.good.some;
   }
-
-module _ (dir : Tag) (files : Bitfiles) (directory : IsDirectory files dir) (none : index_pages files dir ≡ []) where
-  pub stays_without : SetsIndex dir files files
-  stays_without =
-      let at = the_file dir files directory in
-      record {
-        others = same_pages dir files at.file at.is (index_pages files dir) (sym (index_of_file dir files at.file at.is));
-        index = inl none;
-        kept = λ had. had;
-      }
-
-  pub completes_without : IsIndexedWhereSmall dir files → CompletesIndex dir files files
-  completes_without indexed = record { sets = stays_without; indexed = indexed }

@@ -140,20 +140,6 @@ module _ (pages : List (List ℕ)) (entries : List IndexEntry) (exact : AreEntri
     | inr least ↦ none_without number (λ has. none (number, least, has))
   ]
 
--- ---- one page more
-
-pub none_more : (name : List ℕ) (pages : List (List ℕ)) (number : ℕ) → NoneBelow name pages number → found_at name number pages ≡ None → NoneBelow name pages (number + 1)
-none_more name pages number before here k below = elim (cases_lt k number) [
-  | inl less ↦ before k less
-  | inr same ↦ let e : k ≡ number = omega (arith, same, below) in ap (λ n. found_at name n pages) e ∙ here
-]
-
-pub none_past : (name : List ℕ) (pages : List (List ℕ)) (number : ℕ) → number ≡ length pages → NoneBelow name pages number → (k : ℕ) → found_at name k pages ≡ None
-none_past name pages number is before k = elim (cases_lt k number) [
-  | inl less ↦ before k less
-  | inr past ↦ ap (found name) (rows_past pages k (omega (arith, is, past)))
-]
-
 -- ---- what a look at one page answers
 
 pub some_answer : (name : List ℕ) (pages : List (List ℕ)) (number : ℕ) (place : Option Place) → is_some place ≡ true → IsSearchedAt name number pages place → NoneBelow name pages number → IsSearched name pages place

@@ -1,6 +1,6 @@
 -- The pages of a directory and their rows.
-use Rattle.std.proofs.Common.{Result, Ok, Err, IfOk, ◌≡◌, ◌∙◌, ℕ, zero, suc, ◌+◌, ◌≤◌, Option, Some, None, List, [], ◌∷◌, ◌++◌, length, take, slice_get, refl, sym, ap, subst, arith, append_assoc, length-append}
-use Rattle.std.proofs.lemmas.List.{append-nil, nil_from_length, take_all}
+use Rattle.std.proofs.Common.{Result, Ok, Err, IfOk, ◌≡◌, ◌∙◌, ℕ, zero, suc, ◌+◌, ◌≤◌, Option, Some, None, List, [], ◌∷◌, ◌++◌, length, take, slice_get, refl, sym, ap, arith, append_assoc, length-append}
+use Rattle.std.proofs.lemmas.List.{append-nil, nil_from_length}
 use Rattle.std.specs.List.{AllByRecursion}
 use Rattle.std.specs.Option.{IfSome, option_and_then, option_map_or}
 use Rattle.domain_base.specs.declared.place.Tag.{Tag}
@@ -40,13 +40,6 @@ pages_fit files tag = by_file (files tag)
     by_file None good = omega arith
     by_file (Some file) good = good.fits
 
--- what holds of all holds of the one at a number
-pub all_at : {X : Type 0} (P : X → Type 0) (xs : List X) (k : ℕ) (x : X) → AllByRecursion P xs → slice_get xs k ≡ Some x → P x
-all_at P [] zero x all there = absurd cc
-all_at P [] (suc k) x all there = absurd cc
-all_at P (y ∷ xs) zero x all there = let e : y ≡ x = cc in subst P e all.0
-all_at P (y ∷ xs) (suc k) x all there = all_at P xs k x all.1 there
-
 pub rows_at_page : (pages : List (List ℕ)) (k : ℕ) (page : List ℕ) → slice_get pages k ≡ Some page → rows_at k pages ≡ rows_of page
 rows_at_page pages k page there = ap (λ o. option_map_or rows_of o []) there
 
@@ -72,9 +65,6 @@ copied_more pages k old new were are = are ∙ ap (λ (rs : List Row). rs ++ row
 -- no rows so far, and none on one page more
 pub none_more : (pages : List (List ℕ)) (k : ℕ) → all_rows (take k pages) ≡ [] → length (rows_at k pages) ≡ 0 → all_rows (take (k + 1) pages) ≡ []
 none_more pages k none here = rows_more pages k ∙ ap (λ (rs : List Row). rs ++ rows_at k pages) none ∙ nil_from_length (rows_at k pages) here
-
-pub rows_whole : (pages : List (List ℕ)) (k : ℕ) → k ≡ length pages → all_rows (take k pages) ≡ all_rows pages
-rows_whole pages k is = ap all_rows (take_all k pages (omega (arith, is)))
 
 -- a page has at most 8,176 rows
 pub rows_at_few : (pages : List (List ℕ)) (k : ℕ) → AllByRecursion IsDirPage pages → length (rows_at k pages) ≤ 8176

@@ -1,34 +1,25 @@
 -- Pages with room for a row.
-use Rattle.std.proofs.Common.{◌≡◌, ◌∙◌, ℕ, ◌+◌, ◌≤◌, true, not, ◌&&◌, nat_le, Some, None, List, [], ◌∷◌, ◌++◌, length, slice_get, sym, ap, subst, arith}
+use Rattle.std.proofs.Common.{◌≡◌, ◌∙◌, ℕ, ◌+◌, ◌≤◌, true, not, ◌&&◌, nat_le, None, List, [], ◌∷◌, ◌++◌, length, slice_get, sym, ap, arith}
 use Rattle.std.proofs.lemmas.Bool.{and_parts, le-leb, leb-true}
-use Rattle.std.specs.List.{AllByRecursion, list_all}
-use Rattle.std.specs.Option.{option_map_or}
+use Rattle.std.specs.List.{list_all}
 use Rattle.domain_base.specs.Page.{zero_bytes}
 use Rattle.domain_base.specs.declared.place.Tag.{Tag}
 use Rattle.page_store.specs.Bitfiles.{Bitfiles, IsDirectory, put_page, with_change}
 use Rattle.dir_pages.specs.declared.row.Row.{Row}
-use Rattle.dir_pages.specs.RowPage.{HasRows, IsDirPage, fits, rows_of, size_of}
+use Rattle.dir_pages.specs.RowPage.{HasRows, rows_of, size_of}
 use Rattle.dir_pages.specs.Rows.{is_name_byte, is_dots, is_name_len, is_row_name, spelling, without}
 use Rattle.dir_pages.proofs.Parts.{size_is}
 use Rattle.dir_rows.specs.Directory.{row_pages}
-use Rattle.dir_rows.specs.RowChanges.{IsFirstWithRoom, fits_at}
+use Rattle.dir_rows.specs.RowChanges.{IsFirstWithRoom}
 use Rattle.dir_rows.specs.Steps.{IsCopyOf, PutsRowIn, TakesRow}
 use Rattle.dir_rows.proofs.Files.{only_pages, pages_put}
-use Rattle.dir_rows.proofs.Parts.{at_past, rows_at_none, rows_at_page}
+use Rattle.dir_rows.proofs.Parts.{rows_at_none}
 
 short_name : (name : List ℕ) → is_row_name name ≡ true → length name ≤ 255
 short_name name good =
     let first = and_parts (is_name_len (length name) && list_all is_name_byte name) (not (is_dots name)) good in
     let len = and_parts (is_name_len (length name)) (list_all is_name_byte name) first.0 in
     leb-true (length name) 255 (and_parts (nat_le 1 (length name)) (nat_le (length name) 255) len.0).1
-
--- a copy of a page that is there
-pub copy_there : (number : ℕ) (pages : List (List ℕ)) (page copy : List ℕ) → AllByRecursion IsDirPage pages → IsDirPage page → slice_get pages number ≡ Some page → copy ≡ page → IsCopyOf number pages copy
-copy_there number pages page copy all good there same = record {
-  good = subst IsDirPage (sym same) good;
-  rows = ap rows_of same ∙ sym (rows_at_page pages number page there);
-  room = λ name named room. ap (fits name) same ∙ sym (ap (λ o. option_map_or (fits name) o true) there) ∙ room;
-}
 
 -- a new page in place of one that is not there
 pub copy_none : (number : ℕ) (pages : List (List ℕ)) (page : List ℕ) → slice_get pages number ≡ None → HasRows [] (zero_bytes 8176) page → IsCopyOf number pages page
@@ -40,9 +31,6 @@ copy_none number pages page missing has = record {
   where
     nothing : size_of page ≡ 0
     nothing = size_is page (rows_of page) has.good ∙ ap (λ rows. length (spelling rows)) has.read
-
-pub first_past : (name : List ℕ) (pages : List (List ℕ)) (number : ℕ) → number ≡ length pages → fits_at name number pages ≡ true
-first_past name pages number is = ap (λ o. option_map_or (fits name) o true) (at_past pages number (omega (arith, is)))
 
 module _ (dir : Tag) (number : ℕ) (old : Bitfiles) (directory : IsDirectory old dir) where
   pub puts_row : (row : Row) (copy page behind : List ℕ) (new : Bitfiles) → IsFirstWithRoom row.name (row_pages old dir) number → IsCopyOf number (row_pages old dir) copy → HasRows (rows_of copy ++ row ∷ []) behind page → new ≡ with_change dir (put_page number page) old → PutsRowIn dir row number old new

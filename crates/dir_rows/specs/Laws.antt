@@ -1,7 +1,9 @@
--- Laws of what stands here.
-use Rattle.std.specs.Prelude.{◌≡◌, false, Some}
+-- Laws of directories and of their changes.
+use Rattle.std.specs.Prelude.{◌≡◌, false, Some, []}
+use Rattle.domain_base.specs.declared.place.Kind.TheVariants.{Directory}
 use Rattle.domain_base.specs.declared.place.Tag.{Tag}
 use Rattle.page_store.specs.Bitfiles.{Bitfile, Bitfiles, same_tag}
+use Rattle.dir_rows.specs.Directory.{IsWellFormed}
 use Rattle.dir_rows.specs.RowChanges.{OnlyDirectory}
 
 -- a file or directory has the kind, the owner and the links of another
@@ -21,3 +23,19 @@ pub record LeavesOthers (dir : Tag) (old new : Bitfiles) : Type 0 where
 -- a change of a directory alone leaves all else
 abbrev pub OthersStay : Type 0
 OthersStay = (dir : Tag) (old new : Bitfiles) → OnlyDirectory dir old new → LeavesOthers dir old new
+
+-- a file or directory has the kind, the pages and the index pages of another
+pub record HasSameRows (file other : Bitfile) : Type 0 where
+  pub kind : file.kind ≡ other.kind
+  pub pages : file.pages ≡ other.pages
+  pub index : file.index ≡ other.index
+
+-- a directory is well formed by its pages and index pages alone, wherever it stands
+abbrev pub RowsDecide : Type 0
+RowsDecide = (old new : Bitfiles) (was is : Tag) (file now : Bitfile) → old was ≡ Some file
+    → new is ≡ Some now → HasSameRows now file → IsWellFormed old was → IsWellFormed new is
+
+-- a directory without pages is well formed
+abbrev pub EmptyIsWellFormed : Type 0
+EmptyIsWellFormed = (files : Bitfiles) (dir : Tag) (file : Bitfile) → files dir ≡ Some file
+    → file.kind ≡ Directory → file.pages ≡ [] → file.index ≡ [] → IsWellFormed files dir

@@ -10,6 +10,6 @@ mod look;
 mod pages;
 
 pub use change::{add_row, remove_row};
-pub use laws::others_stay;
+pub use laws::{empty_is_well_formed, others_stay, rows_decide};
 pub use list::list_rows;
 pub use look::{find_row, is_empty, row_count};

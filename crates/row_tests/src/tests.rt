@@ -125,10 +125,7 @@ fn one_hash(alloc: Global, gone: &[u8]) -> Result<[u32; 4], Fail> {
 
 #[test]
 fn names_of_one_hash_are_told_apart(rt: HostRuntime) -> Result<(), Fail> {
-    let seen = [
-        one_hash(rt.alloc(), b"Aa")?,
-        one_hash(rt.alloc(), b"BB")?,
-    ];
+    let seen = [one_hash(rt.alloc(), b"Aa")?, one_hash(rt.alloc(), b"BB")?];
     assert_eq!(rt; seen, [[51, 53, 0, 53], [51, 53, 51, 0]]);
     Ok(())
 }
