@@ -1,0 +1,57 @@
+-- The page that begins a group of the log. It is a gate of 512 bytes, and behind it are the number
+-- of the group, how many images it has, four zeros, and their homes.
+use Rattle.std.specs.List.{flat_map}
+use Rattle.std.specs.Prelude.{◌≡◌, ◌+◌, ◌-◌, ◌*◌, ◌^◌, ◌<◌, ◌≤◌, ℕ, List, [], ◌∷◌, ◌++◌, length}
+use Rattle.byteorder.specs.Endian.{little_bytes}
+use Rattle.domain_base.specs.Gate.{IsOpen}
+use Rattle.domain_base.specs.Limits.{group_images, max_volumes}
+use Rattle.domain_base.specs.Page.{zero_bytes}
+use Rattle.domain_base.specs.declared.place.Home.{Home}
+use Rattle.record_table.specs.Fields.{number_at}
+use Rattle.page_change.specs.Images.{AreDistinct}
+use Rattle.page_change.specs.declared.header.Header.{Header}
+use Rattle.page_change.specs.declared.header.HeaderRead.{HeaderRead}
+use Rattle.page_change.specs.declared.header.HeaderRead.TheVariants.{Closed, Group, Bad}
+
+-- a home stands at this byte: a volume from 1 to 8, and a page
+pub record IsHomeAt (bytes : List ℕ) (at : ℕ) (home : Home) : Type 0 where
+  pub volume : number_at 4 at bytes ≡ home.vol
+  pub first : 1 ≤ home.vol
+  pub last : home.vol ≤ max_volumes
+  pub page : number_at 4 (at + 4) bytes ≡ home.page
+
+-- these homes stand one after the other from this byte on
+abbrev pub AreHomesAt : List ℕ → ℕ → List Home → Type 0
+AreHomesAt page at [] = Unit {0}
+AreHomesAt page at (home ∷ homes) = IsHomeAt page at home × AreHomesAt page (at + 8) homes
+
+-- what a group's header may say: a number below 2^63, and 1 to 60 homes, no two the same
+pub record IsSayable (header : Header) : Type 0 where
+  pub number : header.number < 2 ^ 63
+  pub some : 1 ≤ length header.homes
+  pub most : length header.homes ≤ group_images
+  pub distinct : AreDistinct header.homes
+
+-- a page has this header, whether its gate is open or not
+pub record IsHeader (page : List ℕ) (header : Header) : Type 0 where
+  pub number : number_at 8 512 page ≡ header.number
+  pub count : number_at 4 520 page ≡ length header.homes
+  pub homes : AreHomesAt page 528 header.homes
+  pub sayable : IsSayable header
+
+-- what is read of a page: nothing behind a closed gate, and behind an open one its header, or that
+-- it has none
+abbrev pub IsRead : List ℕ → HeaderRead → Type 0
+IsRead page Closed = ¬ IsOpen page
+IsRead page (Group header) = IsOpen page × IsHeader page header
+IsRead page Bad = IsOpen page × ((header : Header) → ¬ IsHeader page header)
+
+-- the eight bytes of a home
+abbrev pub home_bytes : Home → List ℕ
+home_bytes home = little_bytes 4 home.vol ++ little_bytes 4 home.page
+
+-- all that stands behind the gate of a page with this header, as it is written
+unfoldable pub header_bytes : Header → List ℕ
+header_bytes header =
+    little_bytes 8 header.number ++ little_bytes 4 (length header.homes) ++ zero_bytes 4
+    ++ flat_map home_bytes header.homes ++ zero_bytes (7664 - 8 * length header.homes)
