@@ -1,17 +1,18 @@
 -- The page that begins a group of the log. It is a gate of 512 bytes, and behind it are the number
 -- of the group, how many images it has, four zeros, and their homes.
 use Rattle.std.specs.List.{flat_map}
-use Rattle.std.specs.Prelude.{◌≡◌, ◌+◌, ◌-◌, ◌*◌, ◌^◌, ◌<◌, ◌≤◌, ℕ, List, [], ◌∷◌, ◌++◌, length}
+use Rattle.std.specs.Prelude.{◌≡◌, ◌+◌, ◌-◌, ◌*◌, ◌^◌, ◌<◌, ◌≤◌, ℕ, List, [], ◌∷◌, ◌++◌, length, slice_index_or, take}
 use Rattle.byteorder.specs.Endian.{little_bytes}
 use Rattle.domain_base.specs.Gate.{IsOpen}
-use Rattle.domain_base.specs.Limits.{group_images, max_volumes}
+use Rattle.domain_base.specs.Limits.{block_bytes, group_images, max_volumes}
 use Rattle.domain_base.specs.Page.{zero_bytes}
 use Rattle.domain_base.specs.declared.place.Home.{Home}
 use Rattle.record_table.specs.Fields.{number_at}
-use Rattle.page_change.specs.Images.{AreDistinct}
+use Rattle.page_change.specs.Images.{AreDistinct, homes_of}
 use Rattle.page_change.specs.declared.header.Header.{Header}
 use Rattle.page_change.specs.declared.header.HeaderRead.{HeaderRead}
 use Rattle.page_change.specs.declared.header.HeaderRead.TheVariants.{Closed, Group, Bad}
+use Rattle.page_change.specs.declared.image.PageImage.{PageImage}
 
 -- a home stands at this byte: a volume from 1 to 8, and a page
 pub record IsHomeAt (bytes : List ℕ) (at : ℕ) (home : Home) : Type 0 where
@@ -46,6 +47,33 @@ IsRead page Closed = ¬ IsOpen page
 IsRead page (Group header) = IsOpen page × IsHeader page header
 IsRead page Bad = IsOpen page × ((header : Header) → ¬ IsHeader page header)
 
+-- the header of a group of this number and these images
+abbrev pub header_for : ℕ → List PageImage → Header
+header_for number images = record { number = number; homes = homes_of images }
+
+-- What the calls that read and write it say.
+
+-- so many homes are read from byte 528 on
+abbrev pub AreHomesOf : List ℕ → ℕ → List Home → Type 0
+AreHomesOf page count homes = (length homes ≡ count) × AreHomesAt page 528 homes
+
+-- the header of this number and these homes, and none where two of them are the same
+abbrev pub IsHeaderOf : ℕ → List Home → HeaderRead → Type 0
+IsHeaderOf number homes Closed = ⊥
+IsHeaderOf number homes (Group header) =
+    (header.number ≡ number) × (header.homes ≡ homes) × AreDistinct homes
+IsHeaderOf number homes Bad = ¬ AreDistinct homes
+
+-- a home as there may be one: on a volume from 1 to 8, and its page has four bytes
+pub record IsPlace (home : Home) : Type 0 where
+  pub first : 1 ≤ home.vol
+  pub last : home.vol ≤ max_volumes
+  pub page : home.page < 2 ^ 32
+
+-- so are the first n of these
+abbrev pub ArePlaces : List Home → ℕ → Type 0
+ArePlaces homes n = (i : ℕ) (default : Home) → i < n → IsPlace (slice_index_or homes i default)
+
 -- the eight bytes of a home
 abbrev pub home_bytes : Home → List ℕ
 home_bytes home = little_bytes 4 home.vol ++ little_bytes 4 home.page
@@ -55,3 +83,9 @@ unfoldable pub header_bytes : Header → List ℕ
 header_bytes header =
     little_bytes 8 header.number ++ little_bytes 4 (length header.homes) ++ zero_bytes 4
     ++ flat_map home_bytes header.homes ++ zero_bytes (7664 - 8 * length header.homes)
+
+-- a page with a number and a count behind its gate, and zeros behind them
+unfoldable pub begun : List ℕ → ℕ → ℕ → List ℕ
+begun page number count =
+    take block_bytes page
+    ++ (little_bytes 8 number ++ little_bytes 4 count ++ zero_bytes 4 ++ zero_bytes 7664)

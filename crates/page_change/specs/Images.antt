@@ -1,6 +1,6 @@
 -- Images of pages, as a change and a group of the log have them, and what they make of pages over
 -- which they are laid in their order.
-use Rattle.std.specs.Prelude.{◌≡◌, ◌≤◌, ℕ, false, List, [], ◌∷◌, Option, Some, None, length, map, if◌then◌else◌}
+use Rattle.std.specs.Prelude.{◌≡◌, ◌<◌, ◌≤◌, ℕ, false, List, [], ◌∷◌, Option, Some, None, length, map, slice_index_or, if◌then◌else◌}
 use Rattle.std.specs.List.{list_any}
 use Rattle.std.specs.Option.{option_or}
 use Rattle.domain_base.specs.Limits.{transaction_pages}
@@ -43,6 +43,13 @@ with_image home page (image ∷ images) =
 abbrev pub joined : List PageImage → List PageImage → List PageImage
 joined [] pending = pending
 joined (image ∷ change) pending = joined change (with_image image.home image.page pending)
+
+-- the last image of the home is at this place
+pub record IsPlaceOf (images : List PageImage) (home : Home) (place : ℕ) : Type 0 where
+  pub within : place < length images
+  pub is : (default : PageImage) → (slice_index_or images place default).home ≡ home
+  pub last : (later : ℕ) (default : PageImage) → place < later → later < length images
+      → same_home home (slice_index_or images later default).home ≡ false
 
 -- what a change may be: no more homes than one transaction changes, no two the same
 pub record IsChange (images : List PageImage) : Type 0 where

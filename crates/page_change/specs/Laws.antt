@@ -4,7 +4,7 @@ use Rattle.std.specs.Option.{option_or}
 use Rattle.domain_base.specs.Limits.{block_bytes}
 use Rattle.domain_base.specs.declared.place.Home.{Home}
 use Rattle.page_store.specs.Pages.{Pages}
-use Rattle.page_change.specs.Header.{IsHeader, IsSayable, header_bytes}
+use Rattle.page_change.specs.Header.{IsHeader}
 use Rattle.page_change.specs.Images.{AreDistinctHomes, image_at, joined, overlaid}
 use Rattle.page_change.specs.declared.header.Header.{Header}
 use Rattle.page_change.specs.declared.image.PageImage.{PageImage}
@@ -21,7 +21,8 @@ OverlayInTurn first second pages =
 abbrev pub JoinsAt : List PageImage → List PageImage → Home → Type 0
 JoinsAt change pending home =
     AreDistinctHomes pending
-    → image_at home (joined change pending) ≡ option_or (image_at home change) (image_at home pending)
+    → image_at home (joined change pending)
+    ≡ option_or (image_at home change) (image_at home pending)
 
 -- and it is no longer than both, and has each home once where what was pending had
 pub record JoinsWell (change pending : List PageImage) : Type 0 where
@@ -39,8 +40,3 @@ HasOneHeader page one other = IsHeader page one → IsHeader page other → one 
 abbrev pub DependsBehindGate : List ℕ → List ℕ → Header → Type 0
 DependsBehindGate one other header =
     drop block_bytes one ≡ drop block_bytes other → IsHeader one header → IsHeader other header
-
--- what is written behind a gate is read
-abbrev pub ReadsBack : List ℕ → Header → Type 0
-ReadsBack gate header =
-    length gate ≡ block_bytes → IsSayable header → IsHeader (gate ++ header_bytes header) header

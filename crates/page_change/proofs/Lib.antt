@@ -1,0 +1,4 @@
+pub mod HeaderPages
+pub mod Overlays
+pub mod Places
+pub mod SameHomes

@@ -1,0 +1,9 @@
+use Rattle.std.proofs.Common.{◌≡◌, ◌+◌, ◌≤◌, length}
+use Rattle.page_change.specs.Images.{overlaid}
+use Rattle.page_change.proofs.change.Change.install.Given as goal
+
+abbrev pub invariant-loop-image : goal.invariant-loop-image
+invariant-loop-image g l = record {
+  value : g.M.MetaPages.pages l.pages ≡ overlaid l.yielded (g.M.MetaPages.pages l.initial.pages);
+  left : g.M.MetaPages.room l.initial.pages ≤ g.M.MetaPages.room l.pages + length l.yielded;
+}

@@ -1,0 +1,25 @@
+//! What holds of images and headers, for those who call this crate.
+ghost use Rattle.std.specs.Prelude.{ℕ, List};
+ghost use Rattle.domain_base.specs.declared.place.Home.{Home};
+ghost use Rattle.page_store.specs.Pages.{Pages};
+ghost use Rattle.page_change.specs.Laws.{DependsBehindGate, HasOneHeader, JoinsAt, JoinsWell, OverlayInTurn};
+ghost use Rattle.page_change.specs.declared.header.Header.{Header};
+ghost use Rattle.page_change.specs.declared.image.PageImage.{PageImage};
+
+/// Laws of images. Those that are laid over pages one list after the other are laid over them as
+/// one list (`in_turn`). A change that is joined to what is pending has its own pages and else those
+/// that were pending (`at`), and joins it as few homes as it may (`well`).
+pub fn image_laws()
+    ensures in_turn { (first second : List PageImage) (pages : Pages)
+        → OverlayInTurn first second pages }
+    ensures at { (change pending : List PageImage) (home : Home) → JoinsAt change pending home }
+    ensures well { (change pending : List PageImage) → JoinsWell change pending }
+{}
+
+/// Laws of headers. A page has one at most (`one`), and which it has depends on what stands behind
+/// the gate alone (`behind_gate`).
+pub fn header_laws()
+    ensures one { (page : List ℕ) (one other : Header) → HasOneHeader page one other }
+    ensures behind_gate { (one other : List ℕ) (header : Header)
+        → DependsBehindGate one other header }
+{}
