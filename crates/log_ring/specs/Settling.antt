@@ -1,0 +1,76 @@
+-- The images of a log brought home, and its start moved behind them.
+use Rattle.std.specs.Prelude.{◌≡◌, ◌≢◌, ◌⊎◌, ◌*◌, ◌<◌, ◌≤◌, ℕ, List, [], Any, Option, Some}
+use Rattle.domain_base.specs.Limits.{page_bytes}
+use Rattle.domain_base.specs.declared.place.Home.{Home}
+use Rattle.volume_disk.specs.Disk.{Disk, MayLeave, Tells}
+use Rattle.volume_disk.specs.Image.{Image, IsIn, Places}
+use Rattle.volume_disk.specs.Run.{LeavesOnly, OnlyWrites}
+use Rattle.disk_label.specs.Anchor.{IsNext}
+use Rattle.disk_label.specs.FirstPages.{anchors_page}
+use Rattle.disk_label.specs.Slot.{IsReady, IsReadyFor, IsSlot, StandsIn}
+use Rattle.disk_label.specs.declared.anchor.Anchor.{Anchor}
+use Rattle.page_change.specs.declared.image.PageImage.{PageImage}
+use Rattle.log_ring.specs.Groups.{Group, HasLog, LogStands, images_of, redone}
+use Rattle.log_ring.specs.Ring.{IsGateOpen}
+
+-- the bytes of the pages at the homes of images
+abbrev pub IsAtHomes : List PageImage → Places
+IsAtHomes images v k =
+    Any (λ (image : PageImage).
+    IsIn image.home.vol (page_bytes * image.home.page) page_bytes v k) images
+
+-- these bytes, and the slot that an anchor names
+abbrev pub IsAtHomesOrSlot : List PageImage → Anchor → Places
+IsAtHomesOrSlot images anchor v k =
+    IsAtHomes images v k ⊎ IsSlot anchor.log_vol anchor.slot v k
+
+-- the log stands with these images, and may start with the next anchor: its slot is ready, and each
+-- image has the gate closed at which it starts
+pub record MayMove (disk : Disk) (anchor : Anchor) (groups : List Group)
+    (images : List PageImage) (next : Anchor) : Type 0 where
+  pub behind : anchors_page < anchor.log_page
+  pub stands : LogStands disk anchor groups
+  pub has : images_of groups ≡ images
+  pub ready : IsReadyFor disk (Some anchor) next
+  pub closed : (image : Image) → MayLeave disk.now image → ¬ IsGateOpen image next next.start
+
+-- once some groups are redone on an image, each of its pages, those of anchors aside, is what it
+-- was on an image of before once the groups of then were redone
+abbrev pub IsRedoneAs : List Group → Image → List Group → Image → Type 0
+IsRedoneAs past before groups image =
+    (home : Home) → home.page ≢ anchors_page
+    → redone groups image home ≡ redone past before home
+
+-- an image has the log as it was, or none of it behind the next anchor, and its pages once redone
+-- are those of an image that might have been left at the start
+pub record MeansTheSame (old : Disk) (anchor : Anchor) (groups : List Group) (next : Anchor)
+    (image : Image) : Type 0 where
+  pub before : Image
+  pub left : MayLeave old.now before
+  pub same : (HasLog old.sizes anchor groups image × IsRedoneAs groups before groups image)
+      ⊎ (HasLog old.sizes next [] image × IsRedoneAs groups before [] image)
+
+-- images were brought home and an anchor was written, or that was cut short
+pub record BringsHome (old new : Disk) (images : List PageImage) (next : Anchor) : Type 0 where
+  pub writes : OnlyWrites old new (IsAtHomesOrSlot images next)
+  pub any_moment : Tells old → (anchor : Anchor) (groups : List Group)
+      → MayMove old anchor groups images next
+      → LeavesOnly old new (MeansTheSame old anchor groups next)
+
+-- it is done
+pub record HasBroughtHome (old new : Disk) (images : List PageImage) (next : Anchor)
+    : Type 0 where
+  -- each image has the next anchor, no group behind it, and the pages that it stood for
+  pub stands : Tells old → (anchor : Anchor) (groups : List Group)
+      → MayMove old anchor groups images next → LogStands new next []
+  pub same : Tells old → (anchor : Anchor) (groups : List Group)
+      → MayMove old anchor groups images next → (image : Image) → MayLeave new.now image
+      → (before : Image) × MayLeave old.now before × IsRedoneAs groups before [] image
+  -- the anchor after it finds its slot ready, on the same volume
+  pub next_ready : Tells old → (anchor later : Anchor) → IsReadyFor old (Some anchor) next
+      → anchor.log_vol ≡ next.log_vol → IsNext (Some next) later → later.log_vol ≡ next.log_vol
+      → IsReadyFor new (Some next) later
+  -- and each other slot that was ready stays so
+  pub others : Tells old → (anchor : Option Anchor) (vol slot : ℕ)
+      → IsReadyFor old anchor next → IsReady old anchor vol slot
+      → ¬ StandsIn (Some next) vol slot → IsReady new (Some next) vol slot

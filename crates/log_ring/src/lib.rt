@@ -1,0 +1,8 @@
+//! The log of a domain as it stands on a rack: a ring of groups behind gates, what is left of them
+//! by a stop, and the pages of an image once they are redone. And how the images of a log are
+//! brought home.
+#![tactic(auto)]
+
+mod laws;
+
+pub use laws::{log_laws, redo_laws};
