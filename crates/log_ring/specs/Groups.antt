@@ -1,6 +1,6 @@
 -- The groups of a log, what stands of them on an image, and an image's pages once they are redone.
 use Rattle.std.specs.List.{flat_map}
-use Rattle.std.specs.Prelude.{◌≡◌, ◌+◌, ◌≤◌, ℕ, List, [], ◌∷◌, Option, Some, length, sum_by}
+use Rattle.std.specs.Prelude.{◌≡◌, ◌+◌, ◌≤◌, ℕ, List, [], ◌∷◌, Option, Some, length}
 use Rattle.domain_base.specs.Limits.{log_pages}
 use Rattle.domain_base.specs.declared.place.Home.{Home}
 use Rattle.page_store.specs.Pages.{Pages}
@@ -26,7 +26,8 @@ header_of group = record { number = group.number; homes = homes_of group.images 
 
 -- the places of groups: one for each header, and one for each image
 abbrev pub span : List Group → ℕ
-span groups = sum_by (λ (group : Group). 1 + length group.images) groups
+span [] = 0
+span (group ∷ more) = 1 + length group.images + span more
 
 -- the images of groups, in their order
 abbrev pub images_of : List Group → List PageImage

@@ -37,6 +37,7 @@ AreLoggable anchor images = All (λ (image : PageImage). IsLoggable anchor image
 pub record IsHomeOf (sizes : List ℕ) (home : Home) : Type 0 where
   pub first_volume : 1 ≤ home.vol
   pub last_volume : home.vol ≤ length sizes
+  pub few_volumes : home.vol ≤ max_volumes
   pub behind : anchors_page < home.page
   pub within : home.page < volume_pages sizes home.vol
   pub limit : home.page < max_volume_pages_4

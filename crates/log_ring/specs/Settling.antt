@@ -1,23 +1,36 @@
 -- The images of a log brought home, and its start moved behind them.
-use Rattle.std.specs.Prelude.{◌≡◌, ◌≢◌, ◌⊎◌, ◌*◌, ◌<◌, ◌≤◌, ℕ, List, [], Any, Option, Some}
+use Rattle.std.specs.Prelude.{◌≡◌, ◌≢◌, ◌⊎◌, ◌*◌, ◌<◌, ◌≤◌, ℕ, false, List, [], Option, Some, IsSome}
 use Rattle.domain_base.specs.Limits.{page_bytes}
 use Rattle.domain_base.specs.declared.place.Home.{Home}
-use Rattle.volume_disk.specs.Disk.{Disk, MayLeave, Tells}
+use Rattle.volume_disk.specs.Disk.{Disk, MayLeave, Moment, Tells}
 use Rattle.volume_disk.specs.Image.{Image, IsIn, Places}
 use Rattle.volume_disk.specs.Run.{LeavesOnly, OnlyWrites}
 use Rattle.disk_label.specs.Anchor.{IsNext}
 use Rattle.disk_label.specs.FirstPages.{anchors_page}
 use Rattle.disk_label.specs.Slot.{IsReady, IsReadyFor, IsSlot, StandsIn}
 use Rattle.disk_label.specs.declared.anchor.Anchor.{Anchor}
+use Rattle.page_change.specs.Images.{image_at}
 use Rattle.page_change.specs.declared.image.PageImage.{PageImage}
 use Rattle.log_ring.specs.Groups.{Group, HasLog, LogStands, images_of, redone}
 use Rattle.log_ring.specs.Ring.{IsGateOpen}
 
+-- some image has this home
+abbrev pub HasHome : List PageImage → Home → Type 0
+HasHome images home = IsSome (image_at home images)
+
+-- the bytes of a page
+abbrev pub IsOnPage : Home → Places
+IsOnPage home = IsIn home.vol (page_bytes * home.page) page_bytes
+
 -- the bytes of the pages at the homes of images
 abbrev pub IsAtHomes : List PageImage → Places
-IsAtHomes images v k =
-    Any (λ (image : PageImage).
-    IsIn image.home.vol (page_bytes * image.home.page) page_bytes v k) images
+IsAtHomes images v k = (home : Home) × HasHome images home × IsOnPage home v k
+
+-- nothing is pending on the volumes below this one that have the home of an image
+abbrev pub AreSyncedBelow : ℕ → List PageImage → Moment → Type 0
+AreSyncedBelow vol images moment =
+    (home : Home) → HasHome images home → home.vol < vol
+    → (k : ℕ) → moment.unsynced home.vol k ≡ false
 
 -- these bytes, and the slot that an anchor names
 abbrev pub IsAtHomesOrSlot : List PageImage → Anchor → Places

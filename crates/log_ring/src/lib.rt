@@ -4,5 +4,9 @@
 #![tactic(auto)]
 
 mod laws;
+mod settling;
+mod writing;
 
 pub use laws::{log_laws, redo_laws};
+pub use settling::bring_home;
+pub use writing::{sync_volume, write_blocks};

@@ -1,0 +1,13 @@
+use Rattle.std.proofs.Common.{◌≡◌}
+use Rattle.volume_disk.specs.Disk.{Tells}
+use Rattle.volume_disk.specs.Image.{NoPlace}
+use Rattle.volume_disk.specs.Run.{OnlyWrites}
+use Rattle.log_ring.specs.Settling.{AreSyncedBelow}
+use Rattle.log_ring.proofs.settling.sync_homes.Given as goal
+
+abbrev pub invariant-loop-number : goal.invariant-loop-number
+invariant-loop-number g l = record {
+  writes : OnlyWrites (g.R.Rack.disk l.initial.rack) (g.R.Rack.disk l.rack) NoPlace;
+  passed : (g.R.Rack.disk l.rack).write_faults ≡ (g.R.Rack.disk l.initial.rack).write_faults;
+  synced : Tells (g.R.Rack.disk l.initial.rack) → AreSyncedBelow l.number l.images (g.R.Rack.disk l.rack).now;
+}
