@@ -30,7 +30,8 @@ impl Model for Change {
 
     ghost view = { λ c. c.images.items };
 
-    ghost invariant = { λ c. IsChange c.images.items × (transaction_pages ≤ vec_capacity c.images) };
+    ghost invariant = { λ c. IsChange c.images.items
+        × (transaction_pages ≤ vec_capacity c.images) };
 }
 
 impl Change {

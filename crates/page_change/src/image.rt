@@ -17,7 +17,7 @@ pub struct PageImage {
 }
 
 /// The place of the last image of a home, if one has that home.
-pub(crate) fn place_of(images: &[PageImage], home: &Home) -> Option<usize>
+pub fn place_of(images: &[PageImage], home: &Home) -> Option<usize>
     ensures place { IfSome result (IsPlaceOf images.now home.now) }
     ensures none { IfNone result (list_any (same_home home.now) (homes_of images.now) ≡ false) }
 {

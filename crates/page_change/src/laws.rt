@@ -7,8 +7,9 @@ ghost use Rattle.page_change.specs.declared.header.Header.{Header};
 ghost use Rattle.page_change.specs.declared.image.PageImage.{PageImage};
 
 /// Laws of images. Those that are laid over pages one list after the other are laid over them as
-/// one list (`in_turn`). A change that is joined to what is pending has its own pages and else those
-/// that were pending (`at`), and joins it as few homes as it may (`well`).
+/// one list (`in_turn`). A change that is joined to what is pending has its own pages, and else
+/// those that were pending (`at`); each home is there once, and there are no more than in both
+/// (`well`).
 pub fn image_laws()
     ensures in_turn { (first second : List PageImage) (pages : Pages)
         → OverlayInTurn first second pages }

@@ -182,8 +182,8 @@ pub fn write_header(header: &Header, page: &mut Page)
     }
 }
 
-/// Writes the header of a group of that number and these images, as `write_header` does. It takes no
-/// memory.
+/// Writes the header of a group of that number and these images, as `write_header` does. It takes
+/// no memory.
 pub fn write_header_of(number: u64, images: &[PageImage], page: &mut Page)
     requires { IsSayable (header_for number images.now) }
     ensures bytes { page.new ≡
