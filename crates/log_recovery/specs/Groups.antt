@@ -1,0 +1,65 @@
+-- Groups of the log that are read one after the other, and the first of them that is none.
+use Rattle.std.specs.Prelude.{◌≡◌, ◌+◌, ◌≤◌, ◌++◌, ℕ, List, [], ◌∷◌, Bool, true, false, All, length}
+use Rattle.domain_base.specs.Limits.{log_pages}
+use Rattle.domain_base.specs.declared.place.Home.{Home}
+use Rattle.volume_disk.specs.Disk.{Disk, Tells}
+use Rattle.volume_disk.specs.Image.{Image}
+use Rattle.disk_label.specs.declared.anchor.Anchor.{Anchor}
+use Rattle.page_change.specs.Images.{homes_of}
+use Rattle.page_change.specs.declared.image.PageImage.{PageImage}
+use Rattle.log_ring.specs.Groups.{AreImagesAt, FitsRing, Group, HasGroup, images_of, span}
+use Rattle.log_ring.specs.Homes.{IsLoggable}
+use Rattle.log_ring.specs.Ring.{IsGateOpen}
+use Rattle.log_recovery.specs.declared.scan.Scan.{Scan}
+
+-- these groups stand one after the other from this place on, with numbers that go up by one from
+-- this one, whatever stands behind them
+abbrev pub AreInTurn : Anchor → ℕ → ℕ → List Group → Image → Type 0
+AreInTurn anchor place number [] image = Unit {0}
+AreInTurn anchor place number (group ∷ more) image =
+    (group.number ≡ number)
+    × HasGroup image anchor place group
+    × AreInTurn anchor (place + 1 + length group.images) (number + 1) more image
+
+-- the next group may stand behind so many places from the start on: it has this number, it is what
+-- stands there, and the header behind it is not a place that is in use
+pub record IsNextGroup (image : Image) (anchor : Anchor) (used number : ℕ) (group : Group)
+    : Type 0 where
+  pub numbered : group.number ≡ number
+  pub stands : HasGroup image anchor (anchor.start + used) group
+  pub fits : used + (1 + length group.images) + 1 ≤ log_pages
+
+-- a gate is open there, and behind it stands no group that may be the next
+pub record IsNoGroup (image : Image) (anchor : Anchor) (used number : ℕ) : Type 0 where
+  pub is_open : IsGateOpen image anchor (anchor.start + used)
+  pub none : (group : Group) → ¬ IsNextGroup image anchor used number group
+
+-- What was read of the log.
+
+-- these groups from the start on
+pub record HasScanned (image : Image) (anchor : Anchor) (groups : List Group) (scan : Scan)
+    : Type 0 where
+  pub stand : AreInTurn anchor anchor.start anchor.group groups image
+  pub fits : FitsRing groups
+  pub images : images_of groups ≡ scan.images.items
+  pub used : span groups ≡ scan.used
+  pub next : anchor.group + length groups ≡ scan.next
+
+-- one group more was read, or none since the gate is closed
+abbrev pub IsOneMore : Image → Anchor → List Group → Scan → Scan → Bool → Type 0
+IsOneMore image anchor groups old new true =
+    (group : Group) × HasScanned image anchor (groups ++ group ∷ []) new
+IsOneMore image anchor groups old new false =
+    HasScanned image anchor groups new × (¬ IsGateOpen image anchor (anchor.start + new.used))
+
+-- images at these homes were read from this place on
+pub record AddsImages (disk : Disk) (anchor : Anchor) (place : ℕ) (homes : List Home)
+    (old new : List PageImage) : Type 0 where
+  pub added : List PageImage
+  pub is : new ≡ old ++ added
+  pub at : homes_of added ≡ homes
+  pub there : Tells disk → AreImagesAt disk.now.contents anchor place added
+
+-- each of these homes may be logged
+abbrev pub AreAllLoggable : Anchor → List Home → Type 0
+AreAllLoggable anchor homes = All (IsLoggable anchor) homes

@@ -1,0 +1,57 @@
+-- The labels of the members of an anchor.
+use Rattle.std.specs.Prelude.{◌≡◌, ◌==◌, ◌-◌, ◌<◌, ◌≤◌, ℕ, List, if◌then◌else◌, slice_index_or}
+use Rattle.domain_base.specs.Limits.{max_volumes}
+use Rattle.domain_base.specs.declared.version.Version.{Version}
+use Rattle.domain_base.specs.declared.version.Version.TheVariants.{Three, Four}
+use Rattle.volume_disk.specs.Disk.{volume_pages}
+use Rattle.volume_disk.specs.Image.{Image}
+use Rattle.disk_label.specs.Body.{word_at}
+use Rattle.disk_label.specs.Label.{IsLabel, label_block}
+use Rattle.disk_label.specs.declared.anchor.Anchor.{Anchor}
+use Rattle.disk_label.specs.declared.label.Label.{Label}
+use Rattle.log_ring.specs.Homes.{member_of}
+
+-- a volume is a member of an anchor, open or closed
+pub record IsMember (anchor : Anchor) (vol : ℕ) : Type 0 where
+  pub first : 1 ≤ vol
+  pub last : vol ≤ max_volumes
+  pub some : 1 ≤ (member_of anchor vol).state
+  pub known : (member_of anchor vol).state ≤ 2
+
+-- the version that the label of a volume names, where it is a label
+abbrev pub label_version : Image → ℕ → Version
+label_version image vol = if word_at (label_block image vol) 2 == 3 then Three else Four
+
+-- the label that a member has to have: it says the pages that the anchor says
+abbrev pub label_wanted : Image → Anchor → ℕ → Label
+label_wanted image anchor vol =
+    record { pages = (member_of anchor vol).pages; version = label_version image vol }
+
+-- a volume is in the rack, and has the label of a member. Under an anchor of version 3 every label
+-- has version 3.
+pub record IsLabelled (sizes : List ℕ) (image : Image) (anchor : Anchor) (vol : ℕ) : Type 0 where
+  pub there : 1 ≤ volume_pages sizes vol
+  pub label : IsLabel (volume_pages sizes vol) vol (label_wanted image anchor vol)
+      (label_block image vol)
+  pub version : anchor.version ≡ 3 → label_version image vol ≡ Three
+
+-- the members below this volume have their labels
+abbrev pub AreLabelledBelow : ℕ → List ℕ → Image → Anchor → Type 0
+AreLabelledBelow n sizes image anchor =
+    (vol : ℕ) → vol < n → IsMember anchor vol → IsLabelled sizes image anchor vol
+
+-- and so do all
+abbrev pub AreLabelled : List ℕ → Image → Anchor → Type 0
+AreLabelled sizes image anchor =
+    (vol : ℕ) → IsMember anchor vol → IsLabelled sizes image anchor vol
+
+-- What is kept of the labels that were read.
+
+-- the version of a volume in a table with an entry for each
+abbrev pub version_in : List Version → ℕ → Version
+version_in versions vol = slice_index_or versions (vol - 1) Three
+
+-- a table has the versions of the labels of the members below this volume
+abbrev pub AreVersionsBelow : ℕ → Image → Anchor → List Version → Type 0
+AreVersionsBelow n image anchor versions =
+    (vol : ℕ) → vol < n → IsMember anchor vol → version_in versions vol ≡ label_version image vol

@@ -1,0 +1,50 @@
+-- Which anchors are in range.
+use Rattle.std.specs.Prelude.{◌≡◌, ◌+◌, ◌^◌, ◌<◌, ◌≤◌, ℕ, IsSomeAnd}
+use Rattle.domain_base.specs.Limits.{log_pages, max_volumes, min_volume_pages}
+use Rattle.domain_base.specs.Version.{bitmap_pages, most_pages}
+use Rattle.domain_base.specs.declared.version.Version.{Version}
+use Rattle.disk_label.specs.Anchor.{IsWhole}
+use Rattle.disk_label.specs.declared.anchor.Anchor.{Anchor}
+use Rattle.log_ring.specs.Homes.{member_of}
+use Rattle.log_recovery.specs.Members.{IsMember}
+
+-- its number, the number of the group at its start, and that start
+pub record HasNumbers (anchor : Anchor) : Type 0 where
+  pub first : 1 ≤ anchor.number
+  pub number : anchor.number < 2 ^ 63
+  pub group : anchor.group < 2 ^ 63
+  pub start : anchor.start < log_pages
+  pub pages : anchor.log_pages ≡ log_pages
+
+-- a volume has a known state, and as a member no fewer pages than a volume has to have, and no more
+-- than the version of its label allows
+pub record IsSized (version : Version) (anchor : Anchor) (vol : ℕ) : Type 0 where
+  pub state : (member_of anchor vol).state ≤ 2
+  pub least : IsMember anchor vol → min_volume_pages ≤ (member_of anchor vol).pages
+  pub most : IsMember anchor vol → (member_of anchor vol).pages ≤ most_pages version
+
+-- the same for each volume below this one
+abbrev pub AreSizedBelow : ℕ → (ℕ → Version) → Anchor → Type 0
+AreSizedBelow n versions anchor =
+    (vol : ℕ) → 1 ≤ vol → vol < n → IsSized (versions vol) anchor vol
+
+-- the log lies within its volume, behind the label, the anchors and the bitmap
+pub record IsLogInside (version : Version) (anchor : Anchor) : Type 0 where
+  pub within : anchor.log_page + log_pages ≤ (member_of anchor anchor.log_vol).pages
+  pub behind : 2 + bitmap_pages version (member_of anchor anchor.log_vol).pages ≤ anchor.log_page
+
+-- the table of filesets is a page of a member
+abbrev pub IsTableInside : Anchor → Type 0
+IsTableInside anchor =
+    IsSomeAnd anchor.table
+    (λ home. IsMember anchor home.vol × (home.page < (member_of anchor home.vol).pages))
+
+-- an anchor is in range, where its members have labels of these versions: it may be written, its
+-- numbers are in their ranges, so are its members, and the log and the table lie within their
+-- volumes
+pub record IsInRange (versions : ℕ → Version) (anchor : Anchor) : Type 0 where
+  pub whole : IsWhole anchor
+  pub numbers : HasNumbers anchor
+  pub sized : AreSizedBelow 9 versions anchor
+  pub log : IsLogInside (versions anchor.log_vol) anchor
+  pub table : IsTableInside anchor

@@ -1,0 +1,32 @@
+-- What settles a log.
+use Rattle.std.specs.Prelude.{◌≡◌, ◌+◌, ◌-◌, ◌%◌, ◌≤◌, ℕ, List, Some}
+use Rattle.domain_base.specs.Limits.{log_pages}
+use Rattle.volume_disk.specs.Disk.{Disk}
+use Rattle.disk_label.specs.Slot.{IsReadyFor}
+use Rattle.disk_label.specs.declared.anchor.Anchor.{Anchor}
+use Rattle.log_ring.specs.Groups.{Group, LogStands, images_of, span}
+use Rattle.log_ring.specs.Settling.{MayMove}
+use Rattle.log_recovery.specs.declared.redone.Redone.{Redone}
+
+-- the anchor that is written: the log starts behind the groups that were redone
+abbrev pub settled_anchor : Redone → Anchor
+settled_anchor redone = record redone.anchor {
+  number = redone.anchor.number + 1;
+  start = redone.next_place;
+  group = redone.next_group;
+  slot = 1 - redone.anchor.slot;
+}
+
+-- the log stands with the groups that were redone, and the slot of the next anchor is ready
+pub record MaySettle (disk : Disk) (groups : List Group) (redone : Redone) : Type 0 where
+  pub behind : 2 ≤ redone.anchor.log_page
+  pub stands : LogStands disk redone.anchor groups
+  pub images : images_of groups ≡ redone.images
+  pub place : redone.next_place ≡ (redone.anchor.start + span groups) % log_pages
+  pub ready : IsReadyFor disk (Some redone.anchor) (settled_anchor redone)
+
+-- so the images may be brought home
+abbrev pub SettlesAsMoves : Disk → List Group → Redone → Type 0
+SettlesAsMoves disk groups redone =
+    MaySettle disk groups redone
+    → MayMove disk redone.anchor groups redone.images (settled_anchor redone)

@@ -1,0 +1,49 @@
+//! Why a log is not recovered.
+ghost use Rattle.std.specs.Prelude.{◌≡◌};
+ghost use Rattle.log_recovery.specs.declared.fault.RecoverFault.TheVariants.{OutOfMemory};
+
+use domain_base::{OutOfMemory as NoMemory, VolIx};
+use std::alloc::AllocFailed;
+use std::error::Error;
+use std::fmt;
+
+/// Why a log is not recovered.
+#[derive(Clone, Copy, Debug, PartialEq, Eq)]
+pub enum RecoverFault {
+    /// A read of this volume failed.
+    Fault { vol: VolIx },
+    /// There is no domain: this page of this volume is the first that is none of one.
+    NotADomain { vol: u32, at: u32 },
+    /// No memory could be had.
+    OutOfMemory,
+}
+
+impl fmt::Display for RecoverFault {
+    fn fmt<W: fmt::Write>(&self, f: &mut fmt::Formatter<W>) -> fmt::Result {
+        match self {
+            RecoverFault::Fault { vol } => write!(f, "a read of volume {} failed", vol.number()),
+            RecoverFault::NotADomain { vol, at } => {
+                write!(f, "page {at} of volume {vol} is none of a domain")
+            }
+            RecoverFault::OutOfMemory => f.write_str("out of memory"),
+        }
+    }
+}
+
+impl Error for RecoverFault {}
+
+impl From<NoMemory> for RecoverFault {
+    ghost from_gives = { λ _ e. e ≡ OutOfMemory };
+
+    fn from(_: NoMemory) -> RecoverFault {
+        RecoverFault::OutOfMemory
+    }
+}
+
+impl<T: Drop> From<AllocFailed<T>> for RecoverFault {
+    ghost from_gives = { λ _ e. e ≡ OutOfMemory };
+
+    fn from(_failed: AllocFailed<T>) -> RecoverFault {
+        RecoverFault::OutOfMemory
+    }
+}

@@ -1,0 +1,10 @@
+//! Recovery of a log: which groups stand on a rack, whether its labels, its anchor and these groups
+//! are those of a domain, and how the images of the groups are brought home.
+#![tactic(auto)]
+
+mod fault;
+mod redone;
+mod scan;
+
+pub use fault::RecoverFault;
+pub use redone::{ImageList, Redone};

@@ -1,0 +1,57 @@
+//! What is recovered of a log.
+ghost use Rattle.std.specs.Prelude.{◌≡◌};
+
+use disk_label::Anchor;
+use page_change::PageImage;
+use std::marker::Model;
+
+/// Images of pages in their order, which contracts see as their list.
+#[derive(Drop)]
+pub struct ImageList {
+    images: Vec<PageImage>,
+}
+
+impl Model for ImageList {
+    ghost use Rattle.std.specs.Prelude.{List};
+    ghost use Rattle.page_change.specs.declared.image.PageImage.{PageImage};
+
+    ghost Value = { List PageImage };
+
+    ghost view = { λ l. l.images.items };
+}
+
+impl ImageList {
+    /// These images.
+    pub fn new(images: Vec<PageImage>) -> ImageList
+        ensures { result ≡ images.items }
+    {
+        ImageList { images }
+    }
+
+    /// Its images.
+    pub fn as_slice(&self) -> &[PageImage]
+        ensures { result.now ≡ self.now }
+    {
+        self.images.as_slice()
+    }
+
+    /// Its images, given back.
+    pub fn into_vec(self) -> Vec<PageImage>
+        ensures { result.items ≡ self }
+    {
+        self.images
+    }
+}
+
+/// What is recovered of a log.
+#[derive(Drop)]
+pub struct Redone {
+    /// The anchor that counts.
+    pub anchor: Anchor,
+    /// The images of the groups of the log, in their order.
+    pub images: ImageList,
+    /// The number that the next group has.
+    pub next_group: u64,
+    /// The place of the log, from 0 to 127, at which the next group begins.
+    pub next_place: u32,
+}
