@@ -1,11 +1,12 @@
 -- The labels of the members of an anchor.
-use Rattle.std.specs.Prelude.{◌≡◌, ◌==◌, ◌-◌, ◌<◌, ◌≤◌, ℕ, List, if◌then◌else◌, slice_index_or}
+use Rattle.std.specs.Prelude.{◌≡◌, ◌==◌, ◌-◌, ◌<◌, ◌≤◌, ℕ, List, Option, Some, None, if◌then◌else◌, length, slice_index_or}
 use Rattle.domain_base.specs.Limits.{max_volumes}
 use Rattle.domain_base.specs.declared.version.Version.{Version}
 use Rattle.domain_base.specs.declared.version.Version.TheVariants.{Three, Four}
 use Rattle.volume_disk.specs.Disk.{volume_pages}
 use Rattle.volume_disk.specs.Image.{Image}
 use Rattle.disk_label.specs.Body.{word_at}
+use Rattle.disk_label.specs.FirstPages.{label_page}
 use Rattle.disk_label.specs.Label.{IsLabel, label_block}
 use Rattle.disk_label.specs.declared.anchor.Anchor.{Anchor}
 use Rattle.disk_label.specs.declared.label.Label.{Label}
@@ -45,7 +46,36 @@ abbrev pub AreLabelled : List ℕ → Image → Anchor → Type 0
 AreLabelled sizes image anchor =
     (vol : ℕ) → IsMember anchor vol → IsLabelled sizes image anchor vol
 
+-- this is the first member that has no label, at its page
+pub record IsFirstUnlabelled (sizes : List ℕ) (image : Image) (anchor : Anchor) (vol at : ℕ)
+    : Type 0 where
+  pub before : AreLabelledBelow vol sizes image anchor
+  pub member : IsMember anchor vol
+  pub wrong : ¬ IsLabelled sizes image anchor vol
+  pub page : at ≡ label_page
+
+-- a volume of the rack has the pages that an anchor says
+pub record IsThere (sizes : List ℕ) (anchor : Anchor) (vol : ℕ) : Type 0 where
+  pub volume : vol ≤ length sizes
+  pub pages : (member_of anchor vol).pages ≤ volume_pages sizes vol
+
+-- so have the members below this volume
+abbrev pub AreThereBelow : ℕ → List ℕ → Anchor → Type 0
+AreThereBelow n sizes anchor =
+    (vol : ℕ) → vol < n → IsMember anchor vol → IsThere sizes anchor vol
+
+-- and so have all
+abbrev pub AreThere : List ℕ → Anchor → Type 0
+AreThere sizes anchor = (vol : ℕ) → IsMember anchor vol → IsThere sizes anchor vol
+
 -- What is kept of the labels that were read.
+
+-- of a label that says so many pages, its version where an anchor of this version allows it
+abbrev pub HasLabel : ℕ → ℕ → Label → Option Version → Type 0
+HasLabel version pages label None =
+    ¬ ((label.pages ≡ pages) × (version ≡ 3 → label.version ≡ Three))
+HasLabel version pages label (Some found) =
+    (label.pages ≡ pages) × (version ≡ 3 → label.version ≡ Three) × (label.version ≡ found)
 
 -- the version of a volume in a table with an entry for each
 abbrev pub version_in : List Version → ℕ → Version

@@ -4,13 +4,13 @@ use Rattle.std.specs.Prelude.{◌≡◌, ◌⊎◌, ◌+◌, ◌%◌, ◌<◌, �
 use Rattle.domain_base.specs.Limits.{log_pages}
 use Rattle.volume_disk.specs.Image.{Image}
 use Rattle.disk_label.specs.Anchor.{IsAnchor, IsWhole}
-use Rattle.disk_label.specs.FirstPages.{anchors_page, label_page}
+use Rattle.disk_label.specs.FirstPages.{anchors_page}
 use Rattle.disk_label.specs.declared.anchor.Anchor.{Anchor}
 use Rattle.log_ring.specs.Groups.{AreGroups, FitsRing, Group, HasLog, images_of, span}
 use Rattle.log_ring.specs.Homes.{AreLoggable, HasMembers}
 use Rattle.log_ring.specs.Ring.{IsRing, ring_page}
 use Rattle.log_recovery.specs.Groups.{AreInTurn, IsNoGroup}
-use Rattle.log_recovery.specs.Members.{AreLabelled, AreLabelledBelow, IsLabelled, IsMember, label_version}
+use Rattle.log_recovery.specs.Members.{AreLabelled, IsFirstUnlabelled, label_version}
 use Rattle.log_recovery.specs.Range.{HasNumbers, IsInRange}
 use Rattle.log_recovery.specs.declared.redone.Redone.{Redone}
 
@@ -26,10 +26,7 @@ pub record HasGoodAnchor (sizes : List ℕ) (image : Image) (anchor : Anchor) : 
 pub record IsLabelFault (sizes : List ℕ) (image : Image) (vol at : ℕ) : Type 0 where
   pub anchor : Anchor
   pub anchor_is : IsAnchor sizes image (Some anchor)
-  pub before : AreLabelledBelow vol sizes image anchor
-  pub member : IsMember anchor vol
-  pub wrong : ¬ IsLabelled sizes image anchor vol
-  pub page : at ≡ label_page
+  pub first : IsFirstUnlabelled sizes image anchor vol at
 
 -- all members have one, and the anchor is out of range
 pub record IsOutOfRange (sizes : List ℕ) (image : Image) : Type 0 where

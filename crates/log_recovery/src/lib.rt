@@ -3,6 +3,8 @@
 #![tactic(auto)]
 
 mod fault;
+mod members;
+mod range;
 mod redone;
 mod scan;
 
