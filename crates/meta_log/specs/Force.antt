@@ -1,0 +1,72 @@
+-- How what is pending becomes a durable group.
+use Rattle.std.specs.Prelude.{◌≡◌, ◌⊎◌, ◌+◌, ◌++◌, ℕ, false, List, [], length, drop}
+use Rattle.domain_base.specs.Limits.{block_bytes}
+use Rattle.volume_disk.specs.Disk.{Disk, Moment, Tells}
+use Rattle.volume_disk.specs.Image.{Image, IsIn, Places}
+use Rattle.volume_disk.specs.Run.{LeavesOnly, OnlyWrites}
+use Rattle.disk_label.specs.declared.anchor.Anchor.{Anchor}
+use Rattle.page_change.specs.declared.image.PageImage.{PageImage}
+use Rattle.log_ring.specs.Groups.{AreImagesAt, Group, HasLog, span}
+use Rattle.log_ring.specs.Ring.{IsGateOpen, IsOnPlaces, place_at, ring_byte}
+use Rattle.meta_log.specs.Log.{Log, Stands, pending_groups, used}
+
+-- Places.
+
+-- what is written of the header's page: all behind its gate
+abbrev pub IsHeaderBody : Anchor → ℕ → Places
+IsHeaderBody anchor place = IsIn anchor.log_vol (ring_byte anchor place + block_bytes) 7680
+
+-- the gate at a place
+abbrev pub IsGateAt : Anchor → ℕ → Places
+IsGateAt anchor place = IsIn anchor.log_vol (ring_byte anchor place) block_bytes
+
+-- a group of n images, all but its own gate, and the next gate
+abbrev pub IsGroupBody : Anchor → ℕ → ℕ → Places
+IsGroupBody anchor place n v k =
+    IsHeaderBody anchor place v k
+    ⊎ IsOnPlaces anchor (place + 1) n v k
+    ⊎ IsGateAt anchor (place + 1 + n) v k
+
+-- Calls.
+
+-- what stands behind the gate at a place is what a page has there
+abbrev pub IsWrittenBody : Image → Anchor → ℕ → List ℕ → Type 0
+IsWrittenBody image anchor place header =
+    drop block_bytes (place_at image anchor place) ≡ drop block_bytes header
+
+-- behind the gate at a place stands a group, but for the gate itself, and the next gate is closed;
+-- nothing of it is pending
+pub record IsReadyToOpen (moment : Moment) (anchor : Anchor) (place : ℕ) (header : List ℕ)
+    (images : List PageImage) : Type 0 where
+  pub behind : IsWrittenBody moment.contents anchor place header
+  pub pages : AreImagesAt moment.contents anchor (place + 1) images
+  pub next : ¬ IsGateOpen moment.contents anchor (place + 1 + length images)
+  pub synced : (k : ℕ) → moment.unsynced anchor.log_vol k ≡ false
+
+-- an image has the groups that were durable, or those and what was pending
+abbrev pub HasOldOrForced : Disk → Log → List Group → Image → Type 0
+HasOldOrForced old log groups image =
+    HasLog old.sizes log.anchor groups image
+    ⊎ HasLog old.sizes log.anchor (groups ++ pending_groups log) image
+
+-- what was pending was made durable, or that was cut short: nothing is touched but the ring behind
+-- the durable groups
+pub record Forces (old new : Disk) (log : Log) : Type 0 where
+  pub writes : let place = log.anchor.start + used log in
+      OnlyWrites old new (IsOnPlaces log.anchor place (span (pending_groups log) + 1))
+  pub any_moment : Tells old → (groups : List Group) → Stands old log groups
+      → LeavesOnly old new (HasOldOrForced old log groups)
+
+-- the log once what was pending is durable
+abbrev pub forced : Log → Log
+forced log = record log {
+  groups = log.groups + length (pending_groups log);
+  logged = log.logged ++ log.pending;
+  pending = [];
+}
+
+-- it is done
+abbrev pub HasForced : Disk → Disk → Log → Type 0
+HasForced old new log =
+    Tells old → (groups : List Group) → Stands old log groups
+    → Stands new (forced log) (groups ++ pending_groups log)

@@ -1,0 +1,4 @@
+pub mod Checkpoint
+pub mod Force
+pub mod Inside
+pub mod Log

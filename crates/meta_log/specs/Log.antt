@@ -1,0 +1,78 @@
+-- The log as it is held in memory: what has been made durable since its start, and what was appended
+-- after that.
+use Rattle.std.specs.Prelude.{◌≡◌, ◌⊎◌, ◌==◌, ◌&&◌, ◌+◌, ◌-◌, ◌%◌, ◌^◌, ◌<◌, ◌≤◌, ℕ, Bool, IsTrue, List, [], ◌∷◌, length, min, if◌then◌else◌}
+use Rattle.domain_base.specs.Limits.{group_images, log_pages}
+use Rattle.volume_disk.specs.Disk.{Disk}
+use Rattle.disk_label.specs.FirstPages.{anchors_page}
+use Rattle.disk_label.specs.declared.anchor.Anchor.{Anchor}
+use Rattle.page_change.specs.Images.{AreDistinctHomes, joined}
+use Rattle.page_change.specs.declared.image.PageImage.{PageImage}
+use Rattle.log_ring.specs.Groups.{Group, LogStands, images_of, span}
+use Rattle.log_ring.specs.Homes.{AreLoggable}
+
+-- its anchor, how many groups are durable behind that, their images in order, and the images that
+-- the next force makes durable
+pub record Log : Type 0 where
+  pub anchor : Anchor
+  pub groups : ℕ
+  pub logged : List PageImage
+  pub pending : List PageImage
+
+-- one with no group
+abbrev pub new_log : Anchor → Log
+new_log anchor = record { anchor = anchor; groups = 0; logged = []; pending = [] }
+
+-- the places of the ring that the durable groups take
+abbrev pub used : Log → ℕ
+used log = log.groups + length log.logged
+
+-- the number of the group behind them
+abbrev pub next_number : Log → ℕ
+next_number log = log.anchor.group + log.groups
+
+-- images as a group of that number: none where there is no image
+abbrev pub groups_of : ℕ → List PageImage → List Group
+groups_of number [] = []
+groups_of number (image ∷ images) = record { number = number; images = image ∷ images } ∷ []
+
+-- what the next force makes durable
+abbrev pub pending_groups : Log → List Group
+pending_groups log = groups_of (next_number log) log.pending
+
+-- what holds of every log: what is pending fits behind the durable groups, and all images may be
+-- logged
+pub record IsLog (log : Log) : Type 0 where
+  pub slot : log.anchor.slot ≤ 1
+  pub start : log.anchor.start < log_pages
+  pub behind : anchors_page < log.anchor.log_page
+  pub fits : used log + span (pending_groups log) + 1 ≤ log_pages
+  pub number : next_number log + length (pending_groups log) < 2 ^ 63
+  pub most : length log.pending ≤ group_images
+  pub distinct : AreDistinctHomes log.pending
+  pub pending : AreLoggable log.anchor log.pending
+  pub logged : AreLoggable log.anchor log.logged
+
+-- on each image that a stop might leave now, these groups are the durable ones
+pub record Stands (disk : Disk) (log : Log) (groups : List Group) : Type 0 where
+  pub stands : LogStands disk log.anchor groups
+  pub images : images_of groups ≡ log.logged
+  pub count : length groups ≡ log.groups
+
+-- What may be appended.
+
+-- the log with a change joined to what is pending
+abbrev pub appended : Log → List PageImage → Log
+appended log change = record log { pending = joined change log.pending }
+
+-- so many images fit one group, and it the ring behind the durable groups, with the next header
+pub record HasPlaceFor (log : Log) (n : ℕ) : Type 0 where
+  pub group : n ≤ group_images
+  pub ring : used log + n + 2 ≤ log_pages
+
+-- they do not
+abbrev pub IsFullFor : Log → ℕ → Type 0
+IsFullFor log n = (group_images < n) ⊎ (log_pages < used log + n + 2)
+
+-- of how many images each change has a place
+abbrev pub room_of : Log → ℕ
+room_of log = min (group_images - length log.pending) (log_pages - 2 - used log - length log.pending)

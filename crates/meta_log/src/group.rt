@@ -1,0 +1,154 @@
+//! A group written into the ring.
+ghost use Rattle.std.specs.Prelude.{◌≡◌, ◌*◌, ◌+◌, ◌%◌, ◌^◌, ◌<◌, ◌≤◌, OnOk, length};
+ghost use Rattle.domain_base.specs.Limits.{log_pages, page_bytes};
+ghost use Rattle.domain_base.specs.Gate.{opened};
+ghost use Rattle.volume_disk.specs.Disk.{Tells};
+ghost use Rattle.volume_disk.specs.Image.{IsIn};
+ghost use Rattle.volume_disk.specs.Run.{NamesWriteFault, OnlyWrites, Settles};
+ghost use Rattle.log_ring.specs.Groups.{AreImagesAt};
+ghost use Rattle.log_ring.specs.Ring.{IsGateOpen, IsOnPlaces, IsRing, place_at, ring_byte};
+ghost use Rattle.meta_log.specs.Force.{
+  IsGateAt,
+  IsGroupBody,
+  IsHeaderBody,
+  IsReadyToOpen,
+  IsWrittenBody,
+};
+
+use disk_label::Anchor;
+use domain_base::gate::closed_block;
+use domain_base::limits::{BLOCK_BYTES, BLOCKS_PER_PAGE, LOG_PAGES};
+use domain_base::{Page, VolIx};
+use log_ring::{sync_volume, write_blocks};
+use page_change::PageImage;
+use volume_disk::{Rack, open_gate};
+
+/// The first block of a place of the ring.
+fn ring_block(anchor: &Anchor, place: u32) -> u32
+    requires { anchor.now.log_page + 128 ≤ 1048576 }
+    ensures block { 512 * result ≡ ring_byte anchor.now place }
+    ensures range { result + 16 ≤ 16 * (anchor.now.log_page + 128) }
+{
+    BLOCKS_PER_PAGE * (anchor.log_page + place % LOG_PAGES)
+}
+
+/// Writes what stands behind the gate of a header.
+fn write_header_body<R: Rack>(
+    rack: &mut R,
+    vol: VolIx,
+    anchor: &Anchor,
+    place: u32,
+    header: &Page,
+) -> Result<(), VolIx>
+    requires ring { IsRing (R.disk rack.old).sizes anchor.now }
+    requires vol { vol ≡ anchor.now.log_vol }
+    ensures writes { OnlyWrites (R.disk rack.old) (R.disk rack.new) (IsHeaderBody anchor.now place) }
+    ensures written { let new = R.disk rack.new in OnOk result (Tells (R.disk rack.old)
+        → IsWrittenBody new.now.contents anchor.now place header.now) }
+    ensures fault { NamesWriteFault (R.disk rack.old) (R.disk rack.new) result }
+{
+    write_blocks(rack, vol, ring_block(anchor, place) + 1, &header.bytes()[BLOCK_BYTES..])
+}
+
+/// Writes the page of an image to a place.
+fn write_image<R: Rack>(
+    rack: &mut R,
+    vol: VolIx,
+    anchor: &Anchor,
+    place: u32,
+    image: &PageImage,
+) -> Result<(), VolIx>
+    requires ring { IsRing (R.disk rack.old).sizes anchor.now }
+    requires vol { vol ≡ anchor.now.log_vol }
+    ensures writes { let places = IsIn anchor.now.log_vol (ring_byte anchor.now place) page_bytes in
+        OnlyWrites (R.disk rack.old) (R.disk rack.new) places }
+    ensures written { let new = R.disk rack.new in OnOk result (Tells (R.disk rack.old)
+        → place_at new.now.contents anchor.now place ≡ image.now.page) }
+    ensures fault { NamesWriteFault (R.disk rack.old) (R.disk rack.new) result }
+{
+    write_blocks(rack, vol, ring_block(anchor, place), image.page.bytes())
+}
+
+/// Writes images to the places from one on.
+fn write_images<R: Rack>(
+    rack: &mut R,
+    vol: VolIx,
+    anchor: &Anchor,
+    place: u32,
+    images: &[PageImage],
+) -> Result<(), VolIx>
+    requires ring { IsRing (R.disk rack.old).sizes anchor.now }
+    requires vol { vol ≡ anchor.now.log_vol }
+    requires place { place < 1024 }
+    requires few { length images.now ≤ 128 }
+    ensures writes { let places = IsOnPlaces anchor.now place (length images.now) in
+        OnlyWrites (R.disk rack.old) (R.disk rack.new) places }
+    ensures written { let new = R.disk rack.new in OnOk result (Tells (R.disk rack.old)
+        → AreImagesAt new.now.contents anchor.now place images.now) }
+    ensures fault { NamesWriteFault (R.disk rack.old) (R.disk rack.new) result }
+{
+    for (i, image) in images.iter().enumerate() {
+        write_image(rack, vol, anchor, place + i as u32, image)?;
+    }
+    Ok(())
+}
+
+/// Writes the gate at a place closed.
+fn close_gate<R: Rack>(
+    rack: &mut R,
+    vol: VolIx,
+    anchor: &Anchor,
+    place: u32,
+) -> Result<(), VolIx>
+    requires ring { IsRing (R.disk rack.old).sizes anchor.now }
+    requires vol { vol ≡ anchor.now.log_vol }
+    ensures writes { OnlyWrites (R.disk rack.old) (R.disk rack.new) (IsGateAt anchor.now place) }
+    ensures closed { let new = R.disk rack.new in OnOk result (Tells (R.disk rack.old)
+        → ¬ IsGateOpen new.now.contents anchor.now place) }
+    ensures fault { NamesWriteFault (R.disk rack.old) (R.disk rack.new) result }
+{
+    write_blocks(rack, vol, ring_block(anchor, place), &closed_block())
+}
+
+/// Writes a group behind its gate, and the next gate closed, and syncs.
+fn write_body<R: Rack>(
+    rack: &mut R,
+    vol: VolIx,
+    anchor: &Anchor,
+    place: u32,
+    header: &Page,
+    images: &[PageImage],
+) -> Result<(), VolIx>
+    requires ring { IsRing (R.disk rack.old).sizes anchor.now }
+    requires vol { vol ≡ anchor.now.log_vol }
+    requires place { place < 512 }
+    requires few { length images.now + 2 ≤ 128 }
+    ensures writes { let places = IsGroupBody anchor.now place (length images.now) in
+        OnlyWrites (R.disk rack.old) (R.disk rack.new) places }
+    ensures ready { let new = R.disk rack.new in OnOk result (Tells (R.disk rack.old)
+        → IsReadyToOpen new.now anchor.now place header.now images.now) }
+    ensures fault { NamesWriteFault (R.disk rack.old) (R.disk rack.new) result }
+{
+    write_header_body(rack, vol, anchor, place, header)?;
+    write_images(rack, vol, anchor, place + 1, images)?;
+    close_gate(rack, vol, anchor, place + 1 + images.len() as u32)?;
+    sync_volume(rack, vol)
+}
+
+/// Opens the gate at a place, and syncs.
+fn open_group<R: Rack>(
+    rack: &mut R,
+    vol: VolIx,
+    anchor: &Anchor,
+    place: u32,
+) -> Result<(), VolIx>
+    requires ring { IsRing (R.disk rack.old).sizes anchor.now }
+    requires vol { vol ≡ anchor.now.log_vol }
+    ensures writes { OnlyWrites (R.disk rack.old) (R.disk rack.new) (IsGateAt anchor.now place) }
+    ensures settled { let old = R.disk rack.old in let new = R.disk rack.new in
+        OnOk result (Tells old
+        → Settles anchor.now.log_vol (ring_byte anchor.now place) opened old.now new.now) }
+    ensures fault { NamesWriteFault (R.disk rack.old) (R.disk rack.new) result }
+{
+    open_gate(rack, vol, ring_block(anchor, place))
+}

@@ -1,0 +1,154 @@
+//! Images in slots that were made beforehand, so that none takes memory.
+ghost use Rattle.std.specs.Prelude.{
+  ◌≡◌,
+  ◌+◌,
+  ◌-◌,
+  ◌^◌,
+  ◌<◌,
+  ◌≤◌,
+  IfNone,
+  IfOk,
+  IfSome,
+  drop,
+  false,
+  length,
+  take,
+  vec_len,
+};
+ghost use Rattle.std.specs.List.{list_any};
+ghost use Rattle.page_store.specs.Pages.{same_home};
+ghost use Rattle.page_change.specs.Images.{
+  AreDistinctHomes,
+  IsPlaceOf,
+  homes_of,
+  joined,
+  with_image,
+};
+
+use domain_base::{Home, OutOfMemory, Page, VolIx};
+use page_change::{PageImage, place_of};
+use std::alloc::Global;
+
+/// An image that is none yet.
+fn no_image(alloc: Global) -> Result<PageImage, OutOfMemory> {
+    let Some(vol) = VolIx::new(1) else {
+        unreachable!()
+    };
+    let page = Page::zeros(alloc)?;
+    Ok(PageImage {
+        home: Home { vol, page: 0 },
+        page,
+    })
+}
+
+/// So many slots.
+pub fn new_slots(alloc: Global, count: usize) -> Result<Vec<PageImage>, OutOfMemory>
+    ensures { IfOk result (λ slots. vec_len slots ≡ count) }
+{
+    let mut slots = Vec::with_capacity(alloc, count)?;
+    for made in 0..count {
+        slots.push_reserved(no_image(alloc)?);
+    }
+    Ok(slots)
+}
+
+/// Makes an image another one.
+fn fill(slot: &mut PageImage, image: &PageImage)
+    ensures { slot.new ≡ image.now }
+{
+    slot.home = image.home;
+    slot.page.set(0, image.page.bytes());
+}
+
+/// The slot with the image of a home, of those from `first` to `end`.
+fn slot_of(slots: &[PageImage], first: usize, end: usize, home: &Home) -> Option<usize>
+    requires order { first ≤ end }
+    requires within { end ≤ length slots.now }
+    ensures place { IfSome result (λ at. (first ≤ at)
+        × IsPlaceOf (drop first (take end slots.now)) home.now (at - first)) }
+    ensures none { IfNone result
+        (list_any (same_home home.now) (homes_of (drop first (take end slots.now))) ≡ false) }
+{
+    match place_of(&slots[first..end], home) {
+        Some(place) => Some(first + place),
+        None => None,
+    }
+}
+
+/// Puts an image among those of the slots from `first` to `end`: in place of the one of its home, or
+/// behind them. The answer is where they end then.
+fn put(slots: &mut [PageImage], first: usize, end: usize, image: &PageImage) -> usize
+    requires order { first ≤ end }
+    requires room { end < length slots.old }
+    requires distinct { AreDistinctHomes (drop first (take end slots.old)) }
+    ensures front { take first slots.new ≡ take first slots.old }
+    ensures put { drop first (take result slots.new)
+        ≡ with_image image.now.home image.now.page (drop first (take end slots.old)) }
+    ensures end { end ≤ result }
+    ensures most { result ≤ end + 1 }
+{
+    match slot_of(slots, first, end, &image.home) {
+        Some(at) => {
+            let slot = &mut slots[at];
+            fill(slot, image);
+            end
+        }
+        None => {
+            let slot = &mut slots[end];
+            fill(slot, image);
+            end + 1
+        }
+    }
+}
+
+/// Joins a change to the images of the slots from `first` to `end`. The answer is where they end
+/// then.
+pub fn join(
+    slots: &mut [PageImage],
+    first: usize,
+    end: usize,
+    change: &[PageImage],
+) -> usize
+    requires order { first ≤ end }
+    requires within { end ≤ length slots.old }
+    requires room { first + length (joined change.now (drop first (take end slots.old)))
+        < length slots.old }
+    requires distinct { AreDistinctHomes (drop first (take end slots.old)) }
+    ensures front { take first slots.new ≡ take first slots.old }
+    ensures joined { drop first (take result slots.new)
+        ≡ joined change.now (drop first (take end slots.old)) }
+    ensures end { end ≤ result }
+    ensures within { result ≤ length slots.old }
+{
+    let mut last = end;
+    for image in change {
+        last = put(slots, first, last, image);
+    }
+    last
+}
+
+/// Whether one of these images has the home of another.
+fn has_home_of(images: &[PageImage], other: &PageImage) -> bool
+    ensures { result ≡ list_any (same_home other.now.home) (homes_of images.now) }
+{
+    match place_of(images, &other.home) {
+        Some(_) => true,
+        None => false,
+    }
+}
+
+/// How many images there are once a change is joined to those that are pending.
+pub fn count_joined(pending: &[PageImage], change: &[PageImage]) -> usize
+    requires pending { AreDistinctHomes pending.now }
+    requires change { AreDistinctHomes change.now }
+    requires few { length pending.now + length change.now < 2 ^ 64 }
+    ensures { result ≡ length (joined change.now pending.now) }
+{
+    let mut count = pending.len();
+    for image in change {
+        if !has_home_of(pending, image) {
+            count += 1;
+        }
+    }
+    count
+}
