@@ -23,6 +23,7 @@ use Rattle.log_ring.specs.Settling.{AreSyncedBelow, BringsHome, HasBroughtHome, 
 use Rattle.log_ring.proofs.HomePages.{each_home, one_page, page-same}
 use Rattle.log_ring.proofs.OnImages.{groups-same, read_on_log}
 use Rattle.log_ring.proofs.Redoing.{redoes_alike, redoes_nothing}
+use Rattle.log_ring.proofs.RingPlaces.{log_beside_anchors}
 use Rattle.log_ring.proofs.Staying.{log-same}
 
 -- Which places lie apart.
@@ -45,9 +46,6 @@ homes_beside_log anchor images outside v k at on =
 
 slot_on_anchors : (vol slot : ℕ) → slot ≤ 1 → (v k : ℕ) → IsSlot vol slot v k → IsOnAnchors v k
 slot_on_anchors vol slot le v k is = let low = is.1 in let high = is.2 in (omega arith, omega arith)
-
-log_beside_anchors : (anchor : Anchor) → 1 < anchor.log_page → (v k : ℕ) → IsOnLog anchor v k → ¬ IsOnAnchors v k
-log_beside_anchors anchor behind v k is on = let low = is.1 in let high = on.1 in omega arith
 
 page_beside_anchors : (home : Home) → home.page ≢ 1 → (v k : ℕ) → IsOnPage home v k → ¬ IsOnAnchors v k
 page_beside_anchors home other v k is on =

@@ -71,7 +71,8 @@ next_closed anchor image [] place number are = subst (λ (p : ℕ). ¬ IsGateOpe
 next_closed anchor image (group ∷ groups) place number are =
     subst (λ (p : ℕ). ¬ IsGateOpen image anchor p) (omega arith) (next_closed anchor image groups (place + 1 + length group.images) (number + 1) are.2)
 
-append-nil : (groups : List Group) → groups ++ [] ≡ groups
+-- no group behind them
+pub append-nil : (groups : List Group) → groups ++ [] ≡ groups
 append-nil [] = refl
 append-nil (group ∷ groups) = λ i. group ∷ append-nil groups i
 

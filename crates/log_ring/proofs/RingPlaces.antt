@@ -2,6 +2,7 @@
 use Rattle.std.proofs.Common.{◌≡◌, ℕ, ◌+◌, ◌-◌, ◌*◌, ◌/◌, ◌%◌, ◌<◌, ◌≤◌, refl, sym, ◌∙◌, ap, subst, arith}
 use Rattle.volume_disk.specs.Image.{Image, IsIn, SameIn, page_at}
 use Rattle.volume_disk.proofs.Bytes.{bytes_from-same}
+use Rattle.disk_label.specs.Slot.{IsOnAnchors}
 use Rattle.disk_label.specs.declared.anchor.Anchor.{Anchor}
 use Rattle.log_ring.specs.Ring.{IsOnLog, IsOnPlaces, place_at, ring_byte, ring_page}
 
@@ -49,3 +50,7 @@ first_place anchor place n some =
 pub place-same : (anchor : Anchor) (place : ℕ) (old new : Image) → SameIn (IsIn anchor.log_vol (ring_byte anchor place) 8192) old new → place_at new anchor place ≡ place_at old anchor place
 place-same anchor place old new same =
     bytes_from-same (new anchor.log_vol) (old anchor.log_vol) (ring_byte anchor place) 8192 (λ k le lt. same anchor.log_vol k (refl, le, lt))
+
+-- the ring lies behind the pages of anchors
+pub log_beside_anchors : (anchor : Anchor) → 1 < anchor.log_page → (v k : ℕ) → IsOnLog anchor v k → ¬ IsOnAnchors v k
+log_beside_anchors anchor behind v k is on = let low = is.1 in let high = on.1 in omega arith

@@ -1,3 +1,7 @@
+pub mod Appending
+pub mod Forcing
 pub mod Bodies
+pub mod Checkpointing
 pub mod Joining
+pub mod Pending
 pub mod SlotLists

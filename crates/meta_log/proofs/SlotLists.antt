@@ -21,3 +21,17 @@ pub set_behind : {X : Type 0} (xs : List X) (first end : ℕ) (x : X) → first 
 set_behind xs first end x le lt =
     let size = length-take-le end xs (omega arith) in
     ap (drop first) (take_more_set xs end x lt) ∙ drop_before first (take end xs) (x ∷ []) (omega (arith, size))
+
+-- the two parts of the front are the front
+pub parts_joined : {X : Type 0} (xs : List X) (first end : ℕ) → first ≤ end → take first xs ++ drop first (take end xs) ≡ take end xs
+parts_joined xs zero end le = refl
+parts_joined [] (suc first) zero le = absurd (omega (arith, le))
+parts_joined [] (suc first) (suc end) le = refl
+parts_joined (x ∷ xs) (suc first) zero le = absurd (omega (arith, le))
+parts_joined (x ∷ xs) (suc first) (suc end) le = λ i. x ∷ parts_joined xs first end (omega (arith, le)) i
+
+-- and behind the front nothing of it is left
+pub none_left : {X : Type 0} (xs : List X) (end : ℕ) → end ≤ length xs → drop end (take end xs) ≡ []
+none_left xs zero le = refl
+none_left [] (suc end) le = absurd (omega (arith, le))
+none_left (x ∷ xs) (suc end) le = none_left xs end (omega (arith, le))

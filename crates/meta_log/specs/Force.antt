@@ -1,12 +1,13 @@
 -- How what is pending becomes a durable group.
-use Rattle.std.specs.Prelude.{◌≡◌, ◌⊎◌, ◌+◌, ◌++◌, ℕ, false, List, [], length, drop}
+use Rattle.std.specs.Prelude.{◌≡◌, ◌⊎◌, ◌+◌, ◌++◌, ℕ, false, List, [], ◌∷◌, length, drop}
 use Rattle.domain_base.specs.Limits.{block_bytes}
 use Rattle.volume_disk.specs.Disk.{Disk, Moment, Tells}
 use Rattle.volume_disk.specs.Image.{Image, IsIn, Places}
 use Rattle.volume_disk.specs.Run.{LeavesOnly, OnlyWrites}
 use Rattle.disk_label.specs.declared.anchor.Anchor.{Anchor}
 use Rattle.page_change.specs.declared.image.PageImage.{PageImage}
-use Rattle.log_ring.specs.Groups.{AreImagesAt, Group, HasLog, span}
+use Rattle.log_ring.specs.Groups.{AreImagesAt, FitsRing, Group, HasLog, LogStands, span}
+use Rattle.log_ring.specs.Homes.{AreLoggable}
 use Rattle.log_ring.specs.Ring.{IsGateOpen, IsOnPlaces, place_at, ring_byte}
 use Rattle.meta_log.specs.Log.{Log, Stands, pending_groups, used}
 
@@ -43,21 +44,47 @@ pub record IsReadyToOpen (moment : Moment) (anchor : Anchor) (place : ℕ) (head
   pub next : ¬ IsGateOpen moment.contents anchor (place + 1 + length images)
   pub synced : (k : ℕ) → moment.unsynced anchor.log_vol k ≡ false
 
--- an image has the groups that were durable, or those and what was pending
-abbrev pub HasOldOrForced : Disk → Log → List Group → Image → Type 0
-HasOldOrForced old log groups image =
-    HasLog old.sizes log.anchor groups image
-    ⊎ HasLog old.sizes log.anchor (groups ++ pending_groups log) image
+-- a group may follow these: they stand, and it is the next by its place and number and fits the
+-- ring behind them
+pub record MayFollow (disk : Disk) (anchor : Anchor) (groups : List Group) (place : ℕ)
+    (group : Group) : Type 0 where
+  pub stands : LogStands disk anchor groups
+  pub place_is : place ≡ anchor.start + span groups
+  pub number_is : group.number ≡ anchor.group + length groups
+  pub loggable : AreLoggable anchor group.images
+  pub fits : FitsRing (groups ++ group ∷ [])
 
--- what was pending was made durable, or that was cut short: nothing is touched but the ring behind
--- the durable groups
+-- an image has these groups, or those
+abbrev pub HasEither : List ℕ → Anchor → List Group → List Group → Image → Type 0
+HasEither sizes anchor groups others image =
+    HasLog sizes anchor groups image ⊎ HasLog sizes anchor others image
+
+-- a group was written at a place, or that was cut short: nothing is touched but its places and the
+-- next one, and each image since has it whole or not at all
+pub record WritesGroup (old new : Disk) (anchor : Anchor) (place : ℕ) (group : Group)
+    : Type 0 where
+  pub writes : OnlyWrites old new (IsOnPlaces anchor place (length group.images + 2))
+  pub any_moment : Tells old → (groups : List Group) → MayFollow old anchor groups place group
+      → LeavesOnly old new (HasEither old.sizes anchor groups (groups ++ group ∷ []))
+
+-- it is done
+abbrev pub HasWrittenGroup : Disk → Disk → Anchor → ℕ → Group → Type 0
+HasWrittenGroup old new anchor place group =
+    Tells old → (groups : List Group) → MayFollow old anchor groups place group
+    → LogStands new anchor (groups ++ group ∷ [])
+
+-- What is pending.
+
+-- it was made durable, or that was cut short: nothing is touched but the ring behind the durable
+-- groups, and each image since has it whole or not at all
 pub record Forces (old new : Disk) (log : Log) : Type 0 where
   pub writes : let place = log.anchor.start + used log in
       OnlyWrites old new (IsOnPlaces log.anchor place (span (pending_groups log) + 1))
   pub any_moment : Tells old → (groups : List Group) → Stands old log groups
-      → LeavesOnly old new (HasOldOrForced old log groups)
+      → LeavesOnly old new
+      (HasEither old.sizes log.anchor groups (groups ++ pending_groups log))
 
--- the log once what was pending is durable
+-- the log once that is durable
 abbrev pub forced : Log → Log
 forced log = record log {
   groups = log.groups + length (pending_groups log);

@@ -30,10 +30,14 @@ used log = log.groups + length log.logged
 abbrev pub next_number : Log → ℕ
 next_number log = log.anchor.group + log.groups
 
--- images as a group of that number: none where there is no image
+-- the group of that number and these images
+abbrev pub group_of : ℕ → List PageImage → Group
+group_of number images = record { number = number; images = images }
+
+-- and none where there is no image
 abbrev pub groups_of : ℕ → List PageImage → List Group
 groups_of number [] = []
-groups_of number (image ∷ images) = record { number = number; images = image ∷ images } ∷ []
+groups_of number (image ∷ images) = group_of number (image ∷ images) ∷ []
 
 -- what the next force makes durable
 abbrev pub pending_groups : Log → List Group

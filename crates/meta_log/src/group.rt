@@ -7,20 +7,24 @@ ghost use Rattle.volume_disk.specs.Image.{IsIn};
 ghost use Rattle.volume_disk.specs.Run.{NamesWriteFault, OnlyWrites, Settles};
 ghost use Rattle.log_ring.specs.Groups.{AreImagesAt};
 ghost use Rattle.log_ring.specs.Ring.{IsGateOpen, IsOnPlaces, IsRing, place_at, ring_byte};
+ghost use Rattle.page_change.specs.Header.{IsSayable, header_for};
 ghost use Rattle.meta_log.specs.Force.{
+  HasWrittenGroup,
   IsGateAt,
   IsGroupBody,
   IsHeaderBody,
   IsReadyToOpen,
   IsWrittenBody,
+  WritesGroup,
 };
+ghost use Rattle.meta_log.specs.Log.{group_of};
 
 use disk_label::Anchor;
 use domain_base::gate::closed_block;
 use domain_base::limits::{BLOCK_BYTES, BLOCKS_PER_PAGE, LOG_PAGES};
 use domain_base::{Page, VolIx};
 use log_ring::{sync_volume, write_blocks};
-use page_change::PageImage;
+use page_change::{PageImage, write_header_of};
 use volume_disk::{Rack, open_gate};
 
 /// The first block of a place of the ring.
@@ -47,7 +51,12 @@ fn write_header_body<R: Rack>(
         → IsWrittenBody new.now.contents anchor.now place header.now) }
     ensures fault { NamesWriteFault (R.disk rack.old) (R.disk rack.new) result }
 {
-    write_blocks(rack, vol, ring_block(anchor, place) + 1, &header.bytes()[BLOCK_BYTES..])
+    write_blocks(
+        rack,
+        vol,
+        ring_block(anchor, place) + 1,
+        &header.bytes()[BLOCK_BYTES..],
+    )
 }
 
 /// Writes the page of an image to a place.
@@ -94,12 +103,7 @@ fn write_images<R: Rack>(
 }
 
 /// Writes the gate at a place closed.
-fn close_gate<R: Rack>(
-    rack: &mut R,
-    vol: VolIx,
-    anchor: &Anchor,
-    place: u32,
-) -> Result<(), VolIx>
+fn close_gate<R: Rack>(rack: &mut R, vol: VolIx, anchor: &Anchor, place: u32) -> Result<(), VolIx>
     requires ring { IsRing (R.disk rack.old).sizes anchor.now }
     requires vol { vol ≡ anchor.now.log_vol }
     ensures writes { OnlyWrites (R.disk rack.old) (R.disk rack.new) (IsGateAt anchor.now place) }
@@ -136,12 +140,7 @@ fn write_body<R: Rack>(
 }
 
 /// Opens the gate at a place, and syncs.
-fn open_group<R: Rack>(
-    rack: &mut R,
-    vol: VolIx,
-    anchor: &Anchor,
-    place: u32,
-) -> Result<(), VolIx>
+fn open_group<R: Rack>(rack: &mut R, vol: VolIx, anchor: &Anchor, place: u32) -> Result<(), VolIx>
     requires ring { IsRing (R.disk rack.old).sizes anchor.now }
     requires vol { vol ≡ anchor.now.log_vol }
     ensures writes { OnlyWrites (R.disk rack.old) (R.disk rack.new) (IsGateAt anchor.now place) }
@@ -151,4 +150,33 @@ fn open_group<R: Rack>(
     ensures fault { NamesWriteFault (R.disk rack.old) (R.disk rack.new) result }
 {
     open_gate(rack, vol, ring_block(anchor, place))
+}
+
+/// Writes a group of that number and these images at a place of the ring: all but its gate, with the
+/// next gate closed, and its gate once that is synced. Its own gate has to be closed and synced
+/// before (`MayFollow`). The header is made in a page that is given for it. The error is the volume,
+/// of which a write or a sync failed.
+pub fn write_group<R: Rack>(
+    rack: &mut R,
+    anchor: &Anchor,
+    place: u32,
+    number: u64,
+    header: &mut Page,
+    images: &[PageImage],
+) -> Result<(), VolIx>
+    requires ring { IsRing (R.disk rack.old).sizes anchor.now }
+    requires place { place < 512 }
+    requires sayable { IsSayable (header_for number images.now) }
+    ensures writes { let group = group_of number images.now in
+        WritesGroup (R.disk rack.old) (R.disk rack.new) anchor.now place group }
+    ensures done { let group = group_of number images.now in OnOk result
+        (HasWrittenGroup (R.disk rack.old) (R.disk rack.new) anchor.now place group) }
+    ensures fault { NamesWriteFault (R.disk rack.old) (R.disk rack.new) result }
+{
+    let Some(vol) = VolIx::new(anchor.log_vol) else {
+        unreachable!()
+    };
+    write_header_of(number, images, header);
+    write_body(rack, vol, anchor, place, header, images)?;
+    open_group(rack, vol, anchor, place)
 }

@@ -7,6 +7,7 @@ ghost use Rattle.std.specs.Prelude.{
   ◌<◌,
   ◌≤◌,
   ◌↔◌,
+  ◌⊎◌,
   ℕ,
   IfOk,
   IsTrue,
@@ -39,6 +40,7 @@ ghost use Rattle.meta_log.specs.Log.{
 };
 
 use crate::LogFull;
+use crate::group::write_group;
 use crate::slots::{count_joined, join, new_slots};
 use disk_label::Anchor;
 use domain_base::limits::{GROUP_IMAGES, LOG_PAGES};
@@ -97,10 +99,212 @@ impl MetaLog {
         })
     }
 
+    /// The anchor with which it starts.
+    pub fn anchor(&self) -> &Anchor
+        ensures { result.now ≡ self.now.anchor }
+    {
+        &self.anchor
+    }
+
+    /// Whether something was appended that is not durable yet.
+    pub fn is_pending(&self) -> bool
+        ensures { IsTrue result ↔ (0 < length self.now.pending) }
+    {
+        self.logged < self.end
+    }
+
+    /// The number of the last durable group: one less than that of the next one.
+    pub fn last_durable(&self) -> u64
+        ensures { result ≡ next_number self.now - 1 }
+    {
+        self.next_number().saturating_sub(1)
+    }
+
+    /// Of how many homes each change has a place now, whichever homes it has.
+    pub fn room(&self) -> u32
+        ensures room { result ≡ room_of self.now }
+        ensures sound { IsLog self.now }
+    {
+        let pending = (self.end - self.logged) as u32;
+        let group = GROUP_IMAGES as u32 - pending;
+        group.min(
+            (LOG_PAGES - 2)
+                .saturating_sub(self.used())
+                .saturating_sub(pending),
+        )
+    }
+
+    /// The number of the next group.
+    fn next_number(&self) -> u64
+        ensures value { result ≡ next_number self.now }
+        ensures range { result < 2 ^ 63 }
+    {
+        self.anchor.group + self.groups
+    }
+
     /// The places of the ring that the durable groups take.
     fn used(&self) -> u32
-        ensures { result ≡ used self.now }
+        ensures value { result ≡ used self.now }
+        ensures range { result < log_pages }
     {
         (self.groups as usize + self.logged) as u32
+    }
+
+    /// How many images are pending once a change is joined to them.
+    fn count_with(&self, change: &[PageImage]) -> usize
+        requires { IsChange change.now }
+        ensures { result ≡ length (joined change.now self.now.pending) }
+    {
+        count_joined(&self.slots[self.logged..self.end], change)
+    }
+
+    /// Whether so many images fit one group, and it the ring.
+    fn has_place_for(&self, count: usize) -> bool
+        ensures yes { IsTrue result → HasPlaceFor self.now count }
+        ensures no { IsTrue result ⊎ IsFullFor self.now count }
+    {
+        count <= GROUP_IMAGES && self.used() as usize + count + 2 <= LOG_PAGES as usize
+    }
+
+    /// Appends a change to what is pending, which becomes durable as one group: at each home of the
+    /// change its page takes the place of one that was pending there. The answer is the number of
+    /// that group. `LogFull` comes exactly where the group would have more than 60 images, or would
+    /// not fit the ring with the header behind it. The change has to have a home, and its homes have
+    /// to be such as may be logged under the log's anchor.
+    pub fn append(&mut self, change: &Change) -> Result<u64, LogFull>
+        requires some { 0 < length change.now }
+        requires loggable { AreLoggable self.old.anchor change.now }
+        requires number { next_number self.old + 1 < 2 ^ 63 }
+        ensures ok { OnOk result (self.new ≡ appended self.old change.now) }
+        ensures err { OnErr result (self.new ≡ self.old) }
+        ensures number { IfOk result (λ number. number ≡ next_number self.old) }
+        ensures place { let count = length (joined change.now self.old.pending) in
+            OnOk result (HasPlaceFor self.old count) }
+        ensures full { let count = length (joined change.now self.old.pending) in
+            OnErr result (IsFullFor self.old count) }
+    {
+        let count = self.count_with(change.images());
+        if !self.has_place_for(count) {
+            return Err(LogFull);
+        }
+        let number = self.next_number();
+        self.end = join(
+            self.slots.as_mut_slice(),
+            self.logged,
+            self.end,
+            change.images(),
+        );
+        Ok(number)
+    }
+
+    /// Writes what is pending, of which there is some, as a group, and counts it as durable.
+    fn write_pending<R: Rack>(&mut self, rack: &mut R) -> Result<(), VolIx>
+        requires ring { IsRing (R.disk rack.old).sizes self.old.anchor }
+        requires some { 0 < length self.old.pending }
+        ensures forces { Forces (R.disk rack.old) (R.disk rack.new) self.old }
+        ensures ok { OnOk result (self.new ≡ forced self.old) }
+        ensures done { OnOk result (HasForced (R.disk rack.old) (R.disk rack.new) self.old) }
+        ensures fault { NamesWriteFault (R.disk rack.old) (R.disk rack.new) result }
+    {
+        let place = self.anchor.start + self.used();
+        let number = self.next_number();
+        let images = &self.slots[self.logged..self.end];
+        write_group(rack, &self.anchor, place, number, &mut self.header, images)?;
+        self.groups += 1;
+        self.logged = self.end;
+        Ok(())
+    }
+
+    /// Makes what is pending durable: as one group behind a gate, which is opened once the group is
+    /// synced. With nothing pending it makes no call. The answer is the number of the last durable
+    /// group. The ring has to lie in the rack. The error is the volume, of which a write or a sync
+    /// failed; the log is not used again then.
+    pub fn force<R: Rack>(&mut self, rack: &mut R) -> Result<u64, VolIx>
+        requires { IsRing (R.disk rack.old).sizes self.old.anchor }
+        ensures forces { Forces (R.disk rack.old) (R.disk rack.new) self.old }
+        ensures ok { OnOk result (self.new ≡ forced self.old) }
+        ensures number { IfOk result (λ number. number ≡ next_number self.new - 1) }
+        ensures done { OnOk result (HasForced (R.disk rack.old) (R.disk rack.new) self.old) }
+        ensures fault { NamesWriteFault (R.disk rack.old) (R.disk rack.new) result }
+    {
+        if !self.is_pending() {
+            return Ok(self.last_durable());
+        }
+        self.write_pending(rack)?;
+        Ok(self.last_durable())
+    }
+
+    /// The next anchor: one that is given, with the next number and slot, and the log's start behind
+    /// the durable groups, or at the first page of another ring.
+    fn next_anchor(&self, given: &Anchor) -> Anchor
+        requires { self.now.anchor.number + 1 < 2 ^ 63 }
+        ensures { result ≡ next_anchor self.now given.now }
+    {
+        let slot = if given.log_vol == self.anchor.log_vol {
+            1 - self.anchor.slot
+        } else {
+            0
+        };
+        let stays = self.anchor.log_vol == given.log_vol && self.anchor.log_page == given.log_page;
+        let start = if stays {
+            (self.anchor.start + self.used()) % LOG_PAGES
+        } else {
+            0
+        };
+        Anchor {
+            number: self.anchor.number + 1,
+            slot,
+            start,
+            group: self.next_number(),
+            ..*given
+        }
+    }
+
+    /// Goes on behind an anchor, with no group.
+    fn restart(&mut self, anchor: Anchor)
+        requires slot { anchor.slot ≤ 1 }
+        requires start { anchor.start < log_pages }
+        requires behind { anchors_page < anchor.log_page }
+        requires number { anchor.group < 2 ^ 63 }
+        ensures { self.new ≡ new_log anchor }
+    {
+        self.anchor = anchor;
+        self.groups = 0;
+        self.logged = 0;
+        self.end = 0;
+    }
+
+    /// Brings the images of the durable groups home and moves the log's start behind them, by an
+    /// anchor that is given but for its number, slot, start and group. Each home is written once, and
+    /// each volume synced once before the anchor. The answer is the anchor's number.
+    ///
+    /// Nothing may be pending. The members of the old anchor and the ring of the new one have to lie
+    /// in the rack, no durable image may have a page of the new ring as its home, and the anchor of
+    /// the rack's contents has to be the log's. What a stop may leave is said where the log stands,
+    /// the next anchor's slot is ready, and on another ring the first gate is closed
+    /// (`MayCheckpoint`). The error is the volume, of which a write or a sync failed; the log is not
+    /// used again then.
+    pub fn checkpoint<R: Rack>(&mut self, rack: &mut R, anchor: &Anchor) -> Result<u64, VolIx>
+        requires forced { self.old.pending ≡ [] }
+        requires members { HasMembers (R.disk rack.old).sizes self.old.anchor }
+        requires outside { AreOutside anchor.now self.old.logged }
+        requires ring { IsRing (R.disk rack.old).sizes anchor.now }
+        requires whole { IsWhole anchor.now }
+        requires number { self.old.anchor.number + 1 < 2 ^ 63 }
+        requires is { let old = R.disk rack.old in
+            Tells old → IsAnchor old.sizes old.now.contents (Some self.old.anchor) }
+        ensures checkpoints { let next = next_anchor self.old anchor.now in
+            Checkpoints (R.disk rack.old) (R.disk rack.new) self.old next }
+        ensures ok { OnOk result (self.new ≡ new_log (next_anchor self.old anchor.now)) }
+        ensures number { IfOk result (λ number. number ≡ self.old.anchor.number + 1) }
+        ensures done { let next = next_anchor self.old anchor.now in OnOk result
+            (HasCheckpointed (R.disk rack.old) (R.disk rack.new) self.old next) }
+        ensures fault { NamesWriteFault (R.disk rack.old) (R.disk rack.new) result }
+    {
+        let next = self.next_anchor(anchor);
+        let number = next.number;
+        bring_home(rack, &self.slots[..self.logged], &next)?;
+        self.restart(next);
+        Ok(number)
     }
 }

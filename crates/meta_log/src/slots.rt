@@ -103,12 +103,7 @@ fn put(slots: &mut [PageImage], first: usize, end: usize, image: &PageImage) -> 
 
 /// Joins a change to the images of the slots from `first` to `end`. The answer is where they end
 /// then.
-pub fn join(
-    slots: &mut [PageImage],
-    first: usize,
-    end: usize,
-    change: &[PageImage],
-) -> usize
+pub fn join(slots: &mut [PageImage], first: usize, end: usize, change: &[PageImage]) -> usize
     requires order { first ≤ end }
     requires within { end ≤ length slots.old }
     requires room { first + length (joined change.now (drop first (take end slots.old)))

@@ -1,0 +1,40 @@
+use Rattle.std.proofs.Common.{◌≡◌, ℕ, ◌+◌, ◌^◌, ◌<◌, ◌≤◌, List, take, drop, length, vec_len, sym, ◌∙◌, ap, subst, arith}
+use Rattle.std.specs.Vec.{with_items}
+use Rattle.std.proofs.lemmas.List.{with_items_is}
+use Rattle.disk_label.specs.declared.anchor.Anchor.{Anchor}
+use Rattle.page_change.specs.Images.{joined}
+use Rattle.page_change.specs.declared.image.PageImage.{PageImage}
+use Rattle.log_ring.specs.Homes.{AreLoggable}
+use Rattle.meta_log.specs.Inside.{log_of}
+use Rattle.meta_log.specs.Log.{HasPlaceFor, IsLog, Log, appended, next_number}
+use Rattle.meta_log.proofs.Appending.{appended_is}
+use Rattle.meta_log.proofs.log.MetaLog.append.Goals as goal
+
+pub invariant_of-self : goal.invariant_of-self
+invariant_of-self c =
+    let log : Log = log_of c.self.inside in
+    let change : List PageImage = c.args.change.now in
+    let logged = c.self.inside.logged in
+    let end = c.self.inside.end in
+    let joined_slots : List PageImage = c.join-self-inside.new.slots in
+    let size : length joined_slots ≡ vec_len c.self.inside.slots = c.join-self-inside.auto.slots ∙ c.as_mut_slice.ensures.len in
+    let put_back : (with_items c.self.inside.slots joined_slots).items ≡ joined_slots = with_items_is c.self.inside.slots joined_slots size in
+    let slots : List PageImage = (with_items c.self.inside.slots joined_slots).items in
+    let value = c.as_mut_slice.ensures.value in
+    let front : take logged slots ≡ log.logged = ap (take logged) put_back ∙ c.join-self-inside.ensures.front ∙ ap (λ (l : List PageImage). take logged l) value in
+    let behind : drop logged (take c.join-self-inside.result slots) ≡ joined change log.pending =
+    ap (λ (l : List PageImage). drop logged (take c.join-self-inside.result l)) put_back ∙ c.join-self-inside.ensures.joined ∙ (λ i. joined (c.images-2.ensures.images i) (drop logged (take end (value i)))) in
+    let is : appended log change ≡ record { anchor = log.anchor; groups = log.groups; logged = take logged slots; pending = drop logged (take c.join-self-inside.result slots) } =
+    λ i. record { anchor = log.anchor; groups = log.groups; logged = sym front i; pending = sym behind i } in
+    let now : c.args.self.now ≡ log = sym c.self.view_is in
+    let count : c.count_with-count.result ≡ length (joined change log.pending) = c.count_with-count.ensures ∙ (λ i. length (joined (c.images.ensures.images i) (now i).pending)) in
+    let has = c.has_place_for.ensures.yes c.if-not-has_place_for.false in
+    let has_place : HasPlaceFor log (length (joined change log.pending)) = subst (λ (n : ℕ). HasPlaceFor log n) count (subst (λ (l : Log). HasPlaceFor l c.count_with-count.result) now has) in
+    let loggable : AreLoggable log.anchor change = subst (λ (l : Log). AreLoggable l.anchor change) now c.requires.loggable in
+    let number : next_number log + 1 < 2 ^ 63 = subst (λ (l : Log). next_number l + 1 < 2 ^ 63) now c.requires.number in
+    record {
+      is = subst IsLog is (appended_is log change c.self.invariant.is c.requires.some loggable number has_place);
+      order = omega (arith, c.self.invariant.order, c.join-self-inside.ensures.end);
+      within = omega (arith, c.join-self-inside.ensures.within, size);
+      slots = c.self.invariant.slots;
+    }
