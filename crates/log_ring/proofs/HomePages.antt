@@ -39,17 +39,6 @@ bytes_there vol at n bytes image size has =
 
 -- Homes of images.
 
--- whether an image has a home is whether one is found there
-pub found : (home : Home) (images : List PageImage) → list_any (λ (image : PageImage). same_home home image.home) images ≡ is_some (image_at home images)
-found home [] = refl
-found home (image ∷ images) = ap (λ (b : Bool). same_home home image.home || b) (found home images) ∙ go (same_home home image.home) (image_at home images)
-  where
-    go : (b : Bool) (o : Option (List ℕ)) → (b || is_some o) ≡ is_some (option_or o (cond b (Some image.page) None))
-    go true None = refl
-    go true (Some page) = refl
-    go false None = refl
-    go false (Some page) = refl
-
 -- what holds of the home of each image holds of each home that an image has
 pub each_home : (P : Home → Type 0) (images : List PageImage) (home : Home) → All (λ (image : PageImage). P image.home) images → HasHome images home → P home
 each_home P [] home all has = cc

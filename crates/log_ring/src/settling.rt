@@ -17,6 +17,7 @@ ghost use Rattle.volume_disk.specs.Image.{NoPlace, page_at};
 ghost use Rattle.volume_disk.specs.Run.{NamesWriteFault, OnlyWrites};
 ghost use Rattle.disk_label.specs.Anchor.{IsAnchor, IsNext, IsWhole};
 ghost use Rattle.page_store.specs.Pages.{same_home};
+ghost use Rattle.page_change.specs.Images.{homes_of};
 ghost use Rattle.page_change.specs.declared.image.PageImage.{PageImage};
 ghost use Rattle.log_ring.specs.Homes.{AreOutside, HaveHomes, IsHomeOf};
 ghost use Rattle.log_ring.specs.Laws.{AreHome};
@@ -33,7 +34,7 @@ use crate::{sync_volume, write_blocks};
 use disk_label::{Anchor, write_anchor};
 use domain_base::VolIx;
 use domain_base::limits::{BLOCKS_PER_PAGE, MAX_VOLUMES};
-use page_change::PageImage;
+use page_change::{PageImage, place_of};
 use volume_disk::Rack;
 
 /// Writes an image to its home.
@@ -50,12 +51,13 @@ fn write_image<R: Rack>(rack: &mut R, image: &PageImage) -> Result<(), VolIx>
 }
 
 /// Whether one of these images has the home of another.
-fn has_home_of(images: &[PageImage], other: &PageImage) -> bool
-    ensures { result ≡
-        list_any (λ (image : PageImage). same_home other.now.home image.home) images.now }
+pub fn has_home_of(images: &[PageImage], other: &PageImage) -> bool
+    ensures { result ≡ list_any (same_home other.now.home) (homes_of images.now) }
 {
-    let home = other.home;
-    images.iter().any(|image| home.vol == image.home.vol && home.page == image.home.page)
+    match place_of(images, &other.home) {
+        Some(_) => true,
+        None => false,
+    }
 }
 
 /// Writes the image at an index to its home, unless a later one has the same home.

@@ -26,6 +26,7 @@ ghost use Rattle.page_change.specs.Images.{
 };
 
 use domain_base::{Home, OutOfMemory, Page, VolIx};
+use log_ring::has_home_of;
 use page_change::{PageImage, place_of};
 use std::alloc::Global;
 
@@ -120,16 +121,6 @@ pub fn join(slots: &mut [PageImage], first: usize, end: usize, change: &[PageIma
         last = put(slots, first, last, image);
     }
     last
-}
-
-/// Whether one of these images has the home of another.
-fn has_home_of(images: &[PageImage], other: &PageImage) -> bool
-    ensures { result ≡ list_any (same_home other.now.home) (homes_of images.now) }
-{
-    match place_of(images, &other.home) {
-        Some(_) => true,
-        None => false,
-    }
 }
 
 /// How many images there are once a change is joined to those that are pending.

@@ -5,11 +5,12 @@ use Rattle.page_store.specs.Pages.{same_home}
 use Rattle.std.proofs.lemmas.Result.{on_ok_weaker}
 use Rattle.volume_disk.proofs.Laws.{only_writes-wider}
 use Rattle.domain_base.specs.declared.place.Home.{Home}
-use Rattle.page_change.specs.Images.{image_at}
+use Rattle.page_change.specs.Images.{homes_of, image_at}
+use Rattle.page_change.proofs.Overlays.{is_some-image_at}
 use Rattle.page_change.specs.declared.image.PageImage.{PageImage}
 use Rattle.log_ring.specs.Laws.{AreHome}
 use Rattle.log_ring.specs.Settling.{HasHome, IsAtHomes, IsOnPage}
-use Rattle.log_ring.proofs.HomePages.{drop_is, found, has_at, home-shadowed, home-written, none_found}
+use Rattle.log_ring.proofs.HomePages.{drop_is, has_at, home-shadowed, home-written, none_found}
 use Rattle.log_ring.proofs.settling.write_last.Goals as goal
 
 pub returns-then-has_home_of-clause-home : goal.returns-then-has_home_of-clause-home
@@ -19,8 +20,8 @@ returns-then-has_home_of-clause-home g c = λ told are.
     let image : PageImage = c.index-images-at.result in
     let held = (g.R.Rack.disk c.args.rack.now).now.contents in
     let rest = drop (at + 1) images in
-    let has : list_any (λ (x : PageImage). same_home image.home x.home) rest ≡ true = ap (λ (l : List PageImage). list_any (λ (x : PageImage). same_home image.home x.home) l) (sym (between_to_end images (at + 1) (length images) (omega arith))) ∙ sym c.has_home_of.ensures ∙ c.if-has_home_of.true in
-    let later : HasHome rest image.home = sym (found image.home rest) ∙ has in
+    let has : list_any (same_home image.home) (homes_of rest) ≡ true = ap (λ (l : List PageImage). list_any (same_home image.home) (homes_of l)) (sym (between_to_end images (at + 1) (length images) (omega arith))) ∙ sym c.has_home_of.ensures ∙ c.if-has_home_of.true in
+    let later : HasHome rest image.home = is_some-image_at image.home rest ∙ has in
     subst (λ (l : List PageImage). AreHome l held) (sym (drop_is images at image c.requires.there c.index-images-at.is)) (home-shadowed image rest held later are)
 
 pub returns-else-has_home_of-clause-writes : goal.returns-else-has_home_of-clause-writes
@@ -38,8 +39,8 @@ returns-else-has_home_of-clause-home g c =
     let old = g.R.Rack.disk c.args.rack.now in
     let new = g.R.Rack.disk c.write_image.new.rack in
     let rest = drop (at + 1) images in
-    let none : list_any (λ (x : PageImage). same_home image.home x.home) rest ≡ false = ap (λ (l : List PageImage). list_any (λ (x : PageImage). same_home image.home x.home) l) (sym (between_to_end images (at + 1) (length images) (omega arith))) ∙ sym c.has_home_of.ensures ∙ c.if-has_home_of.false in
+    let none : list_any (same_home image.home) (homes_of rest) ≡ false = ap (λ (l : List PageImage). list_any (same_home image.home) (homes_of l)) (sym (between_to_end images (at + 1) (length images) (omega arith))) ∙ sym c.has_home_of.ensures ∙ c.if-has_home_of.false in
     on_ok_weaker c.write_image.result (λ written told are.
     subst (λ (l : List PageImage). AreHome l new.now.contents) (sym (drop_is images at image c.requires.there c.index-images-at.is))
-    (home-written image rest old.now.contents new.now.contents (none_found (image_at image.home rest) (sym (found image.home rest) ∙ none))
+    (home-written image rest old.now.contents new.now.contents (none_found (image_at image.home rest) (is_some-image_at image.home rest ∙ none))
     (c.write_image.ensures.writes.touches.contents told) (written told) are)) c.write_image.ensures.written

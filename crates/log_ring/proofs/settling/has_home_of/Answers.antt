@@ -1,6 +1,6 @@
 use Rattle.page_change.proofs.Places.{has-place}
 use Rattle.std.proofs.Common.{sym}
-use Rattle.meta_log.proofs.slots.has_home_of.Goals as goal
+use Rattle.log_ring.proofs.settling.has_home_of.Goals as goal
 
 pub returns-in-Some : goal.returns-in-Some
 returns-in-Some c = sym (has-place c.args.other.now.home c.args.images.now c.in-Some.field-0 c.in-Some.ensures.place)
