@@ -1,8 +1,15 @@
 -- What runs of reads leave as it was.
-use Rattle.std.proofs.Common.{ℕ, List, sym, ◌∙◌, subst}
+use Rattle.std.proofs.Common.{◌≡◌, ℕ, ◌+◌, ◌*◌, ◌%◌, ◌++◌, List, length, take, drop, sym, ap, ◌∙◌, subst, arith}
+use Rattle.std.proofs.lemmas.List.{take_at}
 use Rattle.volume_disk.specs.Disk.{Disk, Moment, Tells}
-use Rattle.volume_disk.specs.Image.{Image}
+use Rattle.volume_disk.specs.Image.{Image, bytes_at, bytes_from}
 use Rattle.volume_disk.specs.Run.{OnlyReads}
+use Rattle.volume_disk.proofs.Bytes.{length-bytes_from}
+use Rattle.disk_label.specs.declared.anchor.Anchor.{Anchor}
+use Rattle.log_ring.specs.Ring.{place_at}
+use Rattle.log_recovery.specs.Fault.{IfNotADomain}
+use Rattle.log_recovery.specs.declared.fault.RecoverFault.{RecoverFault}
+use Rattle.log_recovery.specs.declared.fault.RecoverFault.TheVariants.{Fault, NotADomain, OutOfMemory}
 
 -- a rack tells what it holds still
 pub told_on : (old mid : Disk) → OnlyReads old mid → Tells old → Tells mid
@@ -17,3 +24,18 @@ held_before P old mid reads told now =
 pub held_now : (P : List ℕ → Image → Type 0) (old mid : Disk) → OnlyReads old mid → Tells old → P old.sizes old.now.contents → P mid.sizes mid.now.contents
 held_now P old mid reads told before =
     subst (λ (sizes : List ℕ). P sizes mid.now.contents) (sym reads.touches.sizes) (subst (λ (m : Moment). P old.sizes m.contents) (sym (reads.now told)) before)
+
+-- What is read of a place of the log.
+
+module _ (image : Image) (anchor : Anchor) (place vol len n : ℕ) (out items got page : List ℕ) where
+  pub place_read : page ≡ got → got ≡ take len (out ++ drop (length out) items) → out ≡ bytes_at image vol (512 * (16 * (anchor.log_page + place % 128))) n → n ≡ 8192 → len ≡ 8192 → vol ≡ anchor.log_vol → page ≡ place_at image anchor place
+  place_read is_got is_out read whole whole_vec volume =
+      let at : 512 * (16 * (anchor.log_page + place % 128)) ≡ 8192 * (anchor.log_page + place % 128) = omega arith in
+      let size : length out ≡ len = ap (length {A = ℕ}) read ∙ length-bytes_from (image vol) (512 * (16 * (anchor.log_page + place % 128))) n ∙ whole ∙ sym whole_vec in
+      is_got ∙ is_out ∙ take_at out (drop (length out) items) len size ∙ read ∙ (λ i. bytes_from (image (volume i)) (at i) (whole i))
+
+-- what follows at the place at which there is no domain
+pub not_a_domain : (fault : RecoverFault) (P Q : ℕ → ℕ → Type 0) → ((vol at : ℕ) → P vol at → Q vol at) → IfNotADomain fault P → IfNotADomain fault Q
+not_a_domain (Fault vol) P Q weak holds = tt
+not_a_domain (NotADomain vol at) P Q weak holds = weak vol at holds
+not_a_domain OutOfMemory P Q weak holds = tt

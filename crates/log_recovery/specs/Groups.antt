@@ -5,11 +5,15 @@ use Rattle.domain_base.specs.declared.place.Home.{Home}
 use Rattle.volume_disk.specs.Disk.{Disk, Tells}
 use Rattle.volume_disk.specs.Image.{Image}
 use Rattle.disk_label.specs.declared.anchor.Anchor.{Anchor}
+use Rattle.page_change.specs.Header.{IsSayable}
 use Rattle.page_change.specs.Images.{homes_of}
+use Rattle.page_change.specs.declared.header.Header.{Header}
+use Rattle.page_change.specs.declared.header.HeaderRead.{HeaderRead}
+use Rattle.page_change.specs.declared.header.HeaderRead.TheVariants.{Closed, Group as AGroup, Bad}
 use Rattle.page_change.specs.declared.image.PageImage.{PageImage}
 use Rattle.log_ring.specs.Groups.{AreImagesAt, FitsRing, Group, HasGroup, images_of, span}
 use Rattle.log_ring.specs.Homes.{IsLoggable}
-use Rattle.log_ring.specs.Ring.{IsGateOpen}
+use Rattle.log_ring.specs.Ring.{IsGateOpen, ring_page}
 use Rattle.log_recovery.specs.declared.scan.Scan.{Scan}
 
 -- these groups stand one after the other from this place on, with numbers that go up by one from
@@ -45,12 +49,21 @@ pub record HasScanned (image : Image) (anchor : Anchor) (groups : List Group) (s
   pub used : span groups ≡ scan.used
   pub next : anchor.group + length groups ≡ scan.next
 
--- one group more was read, or none since the gate is closed
-abbrev pub IsOneMore : Image → Anchor → List Group → Scan → Scan → Bool → Type 0
-IsOneMore image anchor groups old new true =
-    (group : Group) × HasScanned image anchor (groups ++ group ∷ []) new
-IsOneMore image anchor groups old new false =
-    HasScanned image anchor groups new × (¬ IsGateOpen image anchor (anchor.start + new.used))
+-- what is read of a header may be said
+abbrev pub IsSaid : HeaderRead → Type 0
+IsSaid (AGroup header) = IsSayable header
+IsSaid Closed = Unit {0}
+IsSaid Bad = Unit {0}
+
+-- each of these homes may be logged
+abbrev pub AreAllLoggable : Anchor → List Home → Type 0
+AreAllLoggable anchor homes = All (IsLoggable anchor) homes
+
+-- a header may be that of the next group
+pub record MayBeNext (anchor : Anchor) (used number : ℕ) (header : Header) : Type 0 where
+  pub numbered : header.number ≡ number
+  pub fits : used + (1 + length header.homes) + 1 ≤ log_pages
+  pub loggable : AreAllLoggable anchor header.homes
 
 -- images at these homes were read from this place on
 pub record AddsImages (disk : Disk) (anchor : Anchor) (place : ℕ) (homes : List Home)
@@ -60,6 +73,32 @@ pub record AddsImages (disk : Disk) (anchor : Anchor) (place : ℕ) (homes : Lis
   pub at : homes_of added ≡ homes
   pub there : Tells disk → AreImagesAt disk.now.contents anchor place added
 
--- each of these homes may be logged
-abbrev pub AreAllLoggable : Anchor → List Home → Type 0
-AreAllLoggable anchor homes = All (IsLoggable anchor) homes
+-- the images of the group with this header were read
+pub record TakesGroup (disk : Disk) (anchor : Anchor) (header : Header) (old new : Scan)
+    : Type 0 where
+  pub images : AddsImages disk anchor (anchor.start + old.used + 1) header.homes
+      old.images.items new.images.items
+  pub used : new.used ≡ old.used + (1 + length header.homes)
+  pub next : new.next ≡ old.next + 1
+
+-- one group more was read, or none since the gate is closed
+abbrev pub IsOneMore : Image → Anchor → List Group → Scan → Scan → Bool → Type 0
+IsOneMore image anchor groups old new true =
+    (group : Group) × HasScanned image anchor (groups ++ group ∷ []) new
+IsOneMore image anchor groups old new false =
+    HasScanned image anchor groups new × (¬ IsGateOpen image anchor (anchor.start + new.used))
+
+-- all groups up to the first closed gate were read
+pub record HasScannedAll (image : Image) (anchor : Anchor) (scan : Scan) : Type 0 where
+  pub groups : List Group
+  pub scanned : HasScanned image anchor groups scan
+  pub closed : ¬ IsGateOpen image anchor (anchor.start + scan.used)
+
+-- behind some groups from the start on stands one that is none, on this page
+pub record IsFirstNoGroup (image : Image) (anchor : Anchor) (vol at : ℕ) : Type 0 where
+  pub groups : List Group
+  pub stand : AreInTurn anchor anchor.start anchor.group groups image
+  pub fits : FitsRing groups
+  pub wrong : IsNoGroup image anchor (span groups) (anchor.group + length groups)
+  pub volume : vol ≡ anchor.log_vol
+  pub page : at ≡ ring_page anchor (anchor.start + span groups)

@@ -6,10 +6,10 @@ use Rattle.volume_disk.specs.Image.{Image}
 use Rattle.disk_label.specs.Anchor.{IsAnchor, IsWhole}
 use Rattle.disk_label.specs.FirstPages.{anchors_page}
 use Rattle.disk_label.specs.declared.anchor.Anchor.{Anchor}
-use Rattle.log_ring.specs.Groups.{AreGroups, FitsRing, Group, HasLog, images_of, span}
+use Rattle.log_ring.specs.Groups.{Group, HasLog, images_of, span}
 use Rattle.log_ring.specs.Homes.{AreLoggable, HasMembers}
-use Rattle.log_ring.specs.Ring.{IsRing, ring_page}
-use Rattle.log_recovery.specs.Groups.{AreInTurn, IsNoGroup}
+use Rattle.log_ring.specs.Ring.{IsRing}
+use Rattle.log_recovery.specs.Groups.{IsFirstNoGroup}
 use Rattle.log_recovery.specs.Members.{AreLabelled, IsFirstUnlabelled, label_version}
 use Rattle.log_recovery.specs.Range.{HasNumbers, IsInRange}
 use Rattle.log_recovery.specs.declared.redone.Redone.{Redone}
@@ -45,12 +45,7 @@ pub record IsAnchorFault (sizes : List ℕ) (image : Image) (vol at : ℕ) : Typ
 pub record IsGroupFault (sizes : List ℕ) (image : Image) (vol at : ℕ) : Type 0 where
   pub anchor : Anchor
   pub good : HasGoodAnchor sizes image anchor
-  pub groups : List Group
-  pub stand : AreInTurn anchor anchor.start anchor.group groups image
-  pub fits : FitsRing groups
-  pub wrong : IsNoGroup image anchor (span groups) (anchor.group + length groups)
-  pub volume : vol ≡ anchor.log_vol
-  pub page : at ≡ ring_page anchor (anchor.start + span groups)
+  pub first : IsFirstNoGroup image anchor vol at
 
 abbrev pub IsFirstFault : List ℕ → Image → ℕ → ℕ → Type 0
 IsFirstFault sizes image vol at =
