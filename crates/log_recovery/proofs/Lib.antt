@@ -1,3 +1,4 @@
 pub mod Labels
+pub mod Outcomes
 pub mod Reading
 pub mod Scanning

@@ -1,6 +1,9 @@
 -- Which call has failed, and what is said where there is no domain.
 use Rattle.std.specs.Prelude.{◌≡◌, ℕ}
 use Rattle.volume_disk.specs.Disk.{Disk, raised_at}
+use Rattle.disk_label.specs.FirstPages.{anchors_page}
+use Rattle.disk_label.specs.declared.fault.AnchorFault.{AnchorFault}
+use Rattle.disk_label.specs.declared.fault.AnchorFault.TheVariants.{NoAnchor, Fault as ReadFault}
 use Rattle.log_recovery.specs.declared.fault.RecoverFault.{RecoverFault}
 use Rattle.log_recovery.specs.declared.fault.RecoverFault.TheVariants.{Fault, NotADomain, OutOfMemory}
 
@@ -15,3 +18,8 @@ abbrev pub IfNotADomain : RecoverFault → (ℕ → ℕ → Type 0) → Type 0
 IfNotADomain (Fault vol) P = Unit {0}
 IfNotADomain (NotADomain vol at) P = P vol at
 IfNotADomain OutOfMemory P = Unit {0}
+
+-- the fault of an anchor as recovery has it: where no anchor counts, there is no domain
+abbrev pub IsFaultOf : AnchorFault → RecoverFault → Type 0
+IsFaultOf NoAnchor fault = fault ≡ NotADomain 1 anchors_page
+IsFaultOf (ReadFault vol) fault = fault ≡ Fault vol

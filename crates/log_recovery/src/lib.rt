@@ -5,8 +5,10 @@
 mod fault;
 mod members;
 mod range;
+mod recovery;
 mod redone;
 mod scan;
 
 pub use fault::RecoverFault;
+pub use recovery::recover;
 pub use redone::{ImageList, Redone};
