@@ -1,5 +1,5 @@
 -- Labels of members, one volume after the other.
-use Rattle.std.proofs.Common.{◌≡◌, ◌⊎◌, ℕ, zero, suc, ◌+◌, ◌-◌, ◌<◌, ◌≤◌, List, Option, Some, None, IfSome, length, get_or, get_or-set_other, get_or-set_same, set, refl, sym, ◌∙◌, ap, subst, inl, inr, arith}
+use Rattle.std.proofs.Common.{◌≡◌, ℕ, zero, suc, ◌+◌, ◌-◌, ◌<◌, ◌≤◌, List, Option, Some, None, IfSome, length, get_or, get_or-set_other, get_or-set_same, set, sym, ◌∙◌, ap, subst, inl, inr, arith}
 use Rattle.std.proofs.Math.ListN.{get_or-eq_default}
 use Rattle.std.proofs.lemmas.Bool.{cases_eq, cases_lt}
 use Rattle.domain_base.specs.declared.version.Version.{Version}
@@ -7,7 +7,7 @@ use Rattle.domain_base.specs.declared.version.Version.TheVariants.{Three}
 use Rattle.volume_disk.specs.Disk.{volume_pages}
 use Rattle.volume_disk.specs.Image.{Image}
 use Rattle.disk_label.specs.declared.anchor.Anchor.{Anchor}
-use Rattle.log_recovery.specs.Members.{AreLabelledBelow, AreThereBelow, AreVersionsBelow, IsLabelled, IsMember, IsThere, label_version, version_in}
+use Rattle.log_recovery.specs.Members.{AreLabelledBelow, AreThereBelow, AreVersionsBelow, IsLabelled, IsMember, IsThere, label_version}
 
 -- a volume that has a page is one of the rack
 pub volume_there : (sizes : List ℕ) (vol : ℕ) → 1 ≤ volume_pages sizes vol → vol ≤ length sizes

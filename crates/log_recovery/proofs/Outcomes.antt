@@ -1,11 +1,11 @@
 -- What recovery finds, put together.
-use Rattle.std.proofs.Common.{◌≡◌, ◌⊎◌, ℕ, ◌+◌, ◌-◌, ◌%◌, ◌<◌, ◌≤◌, List, Some, None, length, inl, inr, refl, sym, ◌∙◌, ap, subst, arith}
+use Rattle.std.proofs.Common.{◌≡◌, ◌⊎◌, ℕ, ◌+◌, ◌%◌, List, Some, length, inl, inr, refl, sym, ◌∙◌, ap, subst, arith}
 use Rattle.std.proofs.lemmas.Bool.{cases_lt}
 use Rattle.domain_base.specs.declared.version.Version.{Version}
 use Rattle.volume_disk.specs.Image.{Image}
 use Rattle.disk_label.specs.Anchor.{IsAnchor}
 use Rattle.disk_label.specs.declared.anchor.Anchor.{Anchor}
-use Rattle.log_ring.specs.Groups.{Group, HasLog, images_of, span}
+use Rattle.log_ring.specs.Groups.{Group, HasLog, span}
 use Rattle.log_ring.specs.Homes.{member_of}
 use Rattle.log_ring.specs.Ring.{IsGateOpen}
 use Rattle.log_recovery.specs.Groups.{HasScannedAll, IsFirstNoGroup}

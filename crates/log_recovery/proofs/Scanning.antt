@@ -1,5 +1,5 @@
 -- Groups that are read one after the other.
-use Rattle.std.proofs.Common.{◌≡◌, ℕ, zero, suc, ◌+◌, ◌*◌, ◌%◌, ◌<◌, ◌≤◌, ◌++◌, List, [], ◌∷◌, length, get_or, take, refl, sym, ap, ◌∙◌, subst, append_assoc, length-append, length-take, arith}
+use Rattle.std.proofs.Common.{◌≡◌, ℕ, zero, suc, ◌+◌, ◌<◌, ◌≤◌, ◌++◌, List, [], ◌∷◌, length, get_or, take, refl, sym, ap, ◌∙◌, subst, append_assoc, length-append, length-take, arith}
 use Rattle.std.proofs.lemmas.List.{append-nil, get_or-map, length-map, take_all, take_more}
 use Rattle.std.proofs.lemmas.List.Elements.{All-append}
 use Rattle.domain_base.specs.Gate.{IsOpen}
@@ -11,15 +11,14 @@ use Rattle.disk_label.specs.declared.anchor.Anchor.{Anchor}
 use Rattle.page_change.specs.Header.{IsHeader, IsRead}
 use Rattle.page_change.specs.Images.{homes_of}
 use Rattle.page_change.specs.declared.header.Header.{Header}
-use Rattle.page_change.specs.declared.header.HeaderRead.{HeaderRead}
-use Rattle.page_change.specs.declared.header.HeaderRead.TheVariants.{Closed, Group as AGroup, Bad}
+use Rattle.page_change.specs.declared.header.HeaderRead.TheVariants.{Group as AGroup, Bad}
 use Rattle.page_change.specs.declared.image.PageImage.{PageImage}
 use Rattle.page_change.proofs.HeaderPages.{one_header}
-use Rattle.log_ring.specs.Groups.{AreGroups, AreImagesAt, FitsRing, Group, HasGroup, header_of, images_of, span}
+use Rattle.log_ring.specs.Groups.{AreGroups, AreImagesAt, Group, HasGroup, header_of, span}
 use Rattle.log_ring.specs.Homes.{AreLoggable, IsLoggable}
-use Rattle.log_ring.specs.Ring.{IsGateOpen, place_at, ring_byte, ring_page}
+use Rattle.log_ring.specs.Ring.{IsGateOpen, place_at, ring_byte}
 use Rattle.log_ring.proofs.Redoing.{images_of-one_more}
-use Rattle.log_recovery.specs.Groups.{AddsImages, AreAllLoggable, AreInTurn, HasScanned, IsNextGroup, IsNoGroup, MayBeNext, TakesGroup}
+use Rattle.log_recovery.specs.Groups.{AddsImages, AreAllLoggable, AreInTurn, HasScanned, IsNoGroup, MayBeNext, TakesGroup}
 use Rattle.log_recovery.specs.declared.scan.Scan.{Scan}
 
 -- The images of a group.
@@ -123,13 +122,16 @@ span_push (group ∷ groups) one = let rest = span_push groups one in omega (ari
 
 pub one_group : (disk : Disk) (anchor : Anchor) (groups : List Group) (header : Header) (old new : Scan) → Tells disk → IsRead (place_at disk.now.contents anchor (anchor.start + old.used)) (AGroup header) → MayBeNext anchor old.used old.next header
     → TakesGroup disk anchor header old new → HasScanned disk.now.contents anchor groups old → (group : Group) × HasScanned disk.now.contents anchor (groups ++ group ∷ []) new
-one_group disk anchor groups header old new told read next takes scanned = (group, record {
-  stand = turn_push anchor image groups group anchor.start anchor.group scanned.stand (next.numbered ∙ sym scanned.next) (subst (λ (k : ℕ). HasGroup image anchor (anchor.start + k) group) (sym scanned.used) stands);
-  fits = omega (arith, span_push groups group, scanned.used, next.fits, count);
-  images = images_of-one_more groups group ∙ ap (λ (l : List PageImage). l ++ added) scanned.images ∙ sym takes.images.is;
-  used = omega (arith, span_push groups group, scanned.used, takes.used, count);
-  next = omega (arith, length-append groups (group ∷ []), scanned.next, takes.next);
-})
+one_group disk anchor groups header old new told read next takes scanned = (
+  group,
+  record {
+    stand = turn_push anchor image groups group anchor.start anchor.group scanned.stand (next.numbered ∙ sym scanned.next) (subst (λ (k : ℕ). HasGroup image anchor (anchor.start + k) group) (sym scanned.used) stands);
+    fits = omega (arith, span_push groups group, scanned.used, next.fits, count);
+    images = images_of-one_more groups group ∙ ap (λ (l : List PageImage). l ++ added) scanned.images ∙ sym takes.images.is;
+    used = omega (arith, span_push groups group, scanned.used, takes.used, count);
+    next = omega (arith, length-append groups (group ∷ []), scanned.next, takes.next);
+  },
+)
   where
     image : Image
     image = disk.now.contents

@@ -1,6 +1,6 @@
 -- What recovery finds on an image: a log and its images, or the first place at which there is no
 -- domain.
-use Rattle.std.specs.Prelude.{◌≡◌, ◌⊎◌, ◌+◌, ◌%◌, ◌<◌, ◌≤◌, ℕ, List, Some, None, length}
+use Rattle.std.specs.Prelude.{◌≡◌, ◌⊎◌, ◌+◌, ◌%◌, ◌<◌, ℕ, List, Some, None, length}
 use Rattle.domain_base.specs.Limits.{log_pages}
 use Rattle.volume_disk.specs.Image.{Image}
 use Rattle.disk_label.specs.Anchor.{IsAnchor, IsWhole}

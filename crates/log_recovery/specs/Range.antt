@@ -1,6 +1,6 @@
 -- Which anchors are in range.
 use Rattle.std.specs.Prelude.{◌≡◌, ◌+◌, ◌^◌, ◌<◌, ◌≤◌, ℕ, IsSomeAnd}
-use Rattle.domain_base.specs.Limits.{log_pages, max_volumes, min_volume_pages}
+use Rattle.domain_base.specs.Limits.{log_pages, min_volume_pages}
 use Rattle.domain_base.specs.Version.{bitmap_pages, most_pages}
 use Rattle.domain_base.specs.declared.version.Version.{Version}
 use Rattle.disk_label.specs.Anchor.{IsWhole}

@@ -1,5 +1,5 @@
 -- What settles a log.
-use Rattle.std.specs.Prelude.{◌≡◌, ◌+◌, ◌-◌, ◌%◌, ◌≤◌, ℕ, List, Some}
+use Rattle.std.specs.Prelude.{◌≡◌, ◌+◌, ◌-◌, ◌%◌, ◌≤◌, List, Some}
 use Rattle.domain_base.specs.Limits.{log_pages}
 use Rattle.volume_disk.specs.Disk.{Disk}
 use Rattle.disk_label.specs.Slot.{IsReadyFor}

@@ -3,12 +3,16 @@
 #![tactic(auto)]
 
 mod fault;
+mod laws;
 mod members;
 mod range;
 mod recovery;
 mod redone;
 mod scan;
+mod settling;
 
 pub use fault::RecoverFault;
+pub use laws::recovery_laws;
 pub use recovery::recover;
 pub use redone::{ImageList, Redone};
+pub use settling::settle;

@@ -90,11 +90,7 @@ fn label_of<R: Rack>(rack: &mut R, anchor: &Anchor, vol: VolIx) -> Result<Option
 }
 
 /// The version of the label of a volume, if it is a member.
-fn check_member<R: Rack>(
-    rack: &mut R,
-    anchor: &Anchor,
-    vol: VolIx,
-) -> Result<Version, RecoverFault>
+fn check_member<R: Rack>(rack: &mut R, anchor: &Anchor, vol: VolIx) -> Result<Version, RecoverFault>
     ensures reads { OnlyReads (R.disk rack.old) (R.disk rack.new) }
     ensures label { let old = R.disk rack.old in IfOk result (λ version. Tells old
         → IsMember anchor.now vol → IsLabelled old.sizes old.now.contents anchor.now vol

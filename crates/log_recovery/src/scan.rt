@@ -36,7 +36,6 @@ ghost use Rattle.log_recovery.specs.Groups.{
   MayBeNext,
   TakesGroup,
 };
-
 ghost use Rattle.log_recovery.specs.declared.fault.RecoverFault.TheVariants.{NotADomain};
 
 use crate::RecoverFault;

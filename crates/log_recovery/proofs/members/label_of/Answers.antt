@@ -1,4 +1,4 @@
-use Rattle.std.proofs.Common.{◌≡◌, ◌≤◌, length, ap, subst, arith}
+use Rattle.std.proofs.Common.{◌≤◌, ap, subst, arith}
 use Rattle.volume_disk.specs.Disk.{volume_pages}
 use Rattle.log_ring.specs.Homes.{member_of}
 use Rattle.disk_label.specs.declared.anchor.Member.{Member}

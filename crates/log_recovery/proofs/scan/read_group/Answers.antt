@@ -3,9 +3,7 @@ use Rattle.volume_disk.specs.Disk.{Tells}
 use Rattle.volume_disk.specs.Image.{Image}
 use Rattle.volume_disk.proofs.Laws.{only_reads-then}
 use Rattle.page_change.specs.Header.{IsRead}
-use Rattle.page_change.specs.declared.header.HeaderRead.{HeaderRead}
-use Rattle.page_change.specs.declared.header.HeaderRead.TheVariants.{Closed, Group as AGroup, Bad}
-use Rattle.log_ring.specs.Groups.{Group}
+use Rattle.page_change.specs.declared.header.HeaderRead.TheVariants.{Group as AGroup}
 use Rattle.log_ring.specs.Ring.{place_at, ring_page}
 use Rattle.log_recovery.specs.Fault.{IfNotADomain}
 use Rattle.log_recovery.specs.Groups.{HasScanned, IsNoGroup, MayBeNext}

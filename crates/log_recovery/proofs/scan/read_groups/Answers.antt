@@ -1,10 +1,8 @@
-use Rattle.std.proofs.Common.{◌≡◌, ◌+◌, ◌++◌, ◌∷◌, [], ℕ, List, Bool, true, false, length, sym, subst, ap, ◌∙◌, arith}
-use Rattle.volume_disk.specs.Disk.{Tells}
+use Rattle.std.proofs.Common.{◌++◌, ◌∷◌, [], ℕ, List, subst, ◌∙◌}
 use Rattle.volume_disk.specs.Image.{Image}
 use Rattle.volume_disk.proofs.Laws.{only_reads-then}
-use Rattle.log_ring.specs.Groups.{Group}
 use Rattle.log_recovery.specs.Groups.{HasScanned, IsOneMore}
-use Rattle.log_recovery.proofs.Reading.{held_before, held_now, not_a_domain, told_on}
+use Rattle.log_recovery.proofs.Reading.{held_before, held_now, told_on}
 use Rattle.log_recovery.proofs.scan.read_groups.Goals as goal
 
 pub returns-in-Ok-false-clause-reads : goal.returns-in-Ok-false-clause-reads

@@ -1,4 +1,4 @@
-use Rattle.std.proofs.Common.{◌≡◌, ◌<◌, ◌-◌, ℕ, List}
+use Rattle.std.proofs.Common.{◌≡◌, ◌<◌, ◌-◌, List}
 use Rattle.volume_disk.specs.Disk.{Tells}
 use Rattle.volume_disk.specs.Run.{OnlyReads}
 use Rattle.log_ring.specs.Groups.{Group}

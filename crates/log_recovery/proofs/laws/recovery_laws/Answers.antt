@@ -1,0 +1,5 @@
+use Rattle.log_recovery.proofs.SettledAnchors.{settles_as_moves}
+use Rattle.log_recovery.proofs.laws.recovery_laws.Goals as goal
+
+pub returns : goal.returns
+returns c = record { settles = settles_as_moves }
