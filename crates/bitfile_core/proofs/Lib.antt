@@ -7,3 +7,7 @@ pub mod SetFirst
 pub mod FirstRoom
 pub mod Removed
 pub mod RemoveFile
+pub mod Grown
+pub mod OneChain
+pub mod Again
+pub mod Given

@@ -19,7 +19,7 @@ use Rattle.bitfile_core.specs.Files.{AreApart, AreFiles, Chains, IsOf, LeadsToFi
 use Rattle.bitfile_core.specs.Changes.{with_chain, with_first}
 use Rattle.bitfile_core.proofs.Tags.{cell_stays, directory_stays, file_stays}
 
-tags_same : (a b : Tag) → same_tag a b ≡ true → a ≡ b
+pub tags_same : (a b : Tag) → same_tag a b ≡ true → a ≡ b
 tags_same a b same =
     let both = and_parts (nat_eq a.slot b.slot) (nat_eq a.seq b.seq) same in
     let slot = eqb-true a.slot b.slot both.0 in

@@ -1,6 +1,6 @@
 -- The files of a fileset after a change of one file's first cell.
-use Rattle.std.proofs.Common.{◌≡◌, ◌∙◌, ℕ, suc, ◌+◌, ◌/◌, ◌%◌, ◌&&◌, Bool, true, false, cond, nat_eq, nat_lt, List, [], ◌∷◌, slice_get, Option, Some, None, IfSome, IsSomeAnd, Contains, refl, sym, ap, subst, arith, ⊎_elim}
-use Rattle.std.proofs.lemmas.Bool.{and_parts, cases_Bool, eqb-true, false_from_ne_true}
+use Rattle.std.proofs.Common.{◌≡◌, ◌∙◌, ℕ, zero, suc, ◌+◌, ◌/◌, ◌%◌, ◌&&◌, Bool, true, false, cond, nat_eq, nat_lt, List, [], ◌∷◌, slice_get, Option, Some, None, IfSome, IsSomeAnd, Contains, refl, sym, ap, subst, arith, ⊎_elim}
+use Rattle.std.proofs.lemmas.Bool.{and_parts, cases_Bool, eqb-true, false_from_ne_true, or_left, or_right}
 use Rattle.std.specs.List.{AllByRecursion}
 use Rattle.std.specs.Option.{option_and_then, option_map}
 use Rattle.domain_base.specs.declared.place.CellAt.{CellAt}
@@ -10,11 +10,11 @@ use Rattle.page_store.specs.Pages.{Pages, same_home}
 use Rattle.record_table.specs.Fields.{number_at}
 use Rattle.bmt_mcells.specs.CellPage.{cell_at, cell_of as bytes_of, home_of, is_cell_page}
 use Rattle.bmt_mcells.specs.Chain.{LeavesOthers, PlacedCell, is_at, places as places_of_cells}
-use Rattle.bmt_mcells.proofs.Changed.{homes_same}
+use Rattle.bmt_mcells.proofs.Changed.{homes_same, same_itself}
 use Rattle.bmt_mcells.proofs.Frames.{stands_stays}
 use Rattle.tag_dirs.specs.declared.dir.TagPlace.{TagPlace}
 use Rattle.tag_dirs.specs.TagPage.{entry_of}
-use Rattle.tag_dirs.specs.Directory.{IsDirectory, IsPageOf, cell_for, cell_of, home_with}
+use Rattle.tag_dirs.specs.Directory.{IsDirectory, IsPageOf, cell_for, cell_of, has_home, home_with}
 use Rattle.bitfile_cells.specs.Files.{AreFile}
 use Rattle.bitfile_cells.proofs.ChainChanges.{at_apart, follow_apart}
 
@@ -41,19 +41,10 @@ pub not_both_kinds : (o : Option (List ℕ)) (place : TagPlace) (next : Option H
 not_both_kinds None place next cells tags = cells
 not_both_kinds (Some page) place next cells tags = omega (arith, eqb-true (number_at 4 0 page) 0x50544d42 cells, tags.good.magic)
 
-module _ (old new : Pages) (places : List TagPlace) (at : CellAt) (directory : IsDirectory old places) (bytes : List ℕ) (there : cell_at old at ≡ Some bytes)
-    (elsewhere : (home : Home) → same_home home (home_of at) ≡ false → new home ≡ old home) where
-  page_same : (k : ℕ) → IfSome (slice_get places k) (λ place. new place.home ≡ old place.home)
-  page_same k = by_place (slice_get places k) (directory.run k)
-    where
-      by_place : (o : Option TagPlace) → IfSome o (λ place. IsSomeAnd (old place.home) (IsPageOf place (option_map (λ (p : TagPlace). p.home) (slice_get places (k + 1))))) → IfSome o (λ place. new place.home ≡ old place.home)
-      by_place None run = tt
-      by_place (Some place) run = elsewhere place.home (false_from_ne_true (same_home place.home (home_of at))
-          (λ same. not_both_kinds (old (home_of at)) place (option_map (λ (p : TagPlace). p.home) (slice_get places (k + 1))) (page_stands old at bytes there)
-          (subst (λ (h : Home). IsSomeAnd (old h) (IsPageOf place (option_map (λ (p : TagPlace). p.home) (slice_get places (k + 1))))) (homes_same place.home (home_of at) same) run)))
-
-  pub directory_stays : IsDirectory new places
-  directory_stays = record {
+-- the pages of tags are as they were
+module _ (old new : Pages) (places : List TagPlace) (directory : IsDirectory old places) (page_same : (k : ℕ) → IfSome (slice_get places k) (λ place. new place.home ≡ old place.home)) where
+  pub directory_same : IsDirectory new places
+  directory_same = record {
     run = λ k. by_place k (slice_get places k) (page_same k) (directory.run k);
     apart = directory.apart;
     first = directory.first;
@@ -72,10 +63,44 @@ module _ (old new : Pages) (places : List TagPlace) (at : CellAt) (directory : I
       ∙ sym (ap (λ (b : Bool). option_and_then old (cond b (Some p.home) (home_with ps index))) other))
       (cases_Bool (nat_eq p.index index))
 
-  pub cell_stays : (tag : Tag) → cell_of new places tag ≡ cell_of old places tag
-  cell_stays tag =
+  pub cell_same : (tag : Tag) → cell_of new places tag ≡ cell_of old places tag
+  cell_same tag =
       ap (λ o. option_and_then (cell_for tag.seq) (option_map (λ page. entry_of page (tag.slot % 1022)) o))
       (pages_with places (tag.slot / 1022) (all_by_index (λ (p : TagPlace). new p.home ≡ old p.home) places page_same))
+
+module _ (old new : Pages) (places : List TagPlace) (at : CellAt) (directory : IsDirectory old places) (bytes : List ℕ) (there : cell_at old at ≡ Some bytes)
+    (elsewhere : (home : Home) → same_home home (home_of at) ≡ false → new home ≡ old home) where
+  page_same : (k : ℕ) → IfSome (slice_get places k) (λ place. new place.home ≡ old place.home)
+  page_same k = by_place (slice_get places k) (directory.run k)
+    where
+      by_place : (o : Option TagPlace) → IfSome o (λ place. IsSomeAnd (old place.home) (IsPageOf place (option_map (λ (p : TagPlace). p.home) (slice_get places (k + 1))))) → IfSome o (λ place. new place.home ≡ old place.home)
+      by_place None run = tt
+      by_place (Some place) run = elsewhere place.home (false_from_ne_true (same_home place.home (home_of at))
+          (λ same. not_both_kinds (old (home_of at)) place (option_map (λ (p : TagPlace). p.home) (slice_get places (k + 1))) (page_stands old at bytes there)
+          (subst (λ (h : Home). IsSomeAnd (old h) (IsPageOf place (option_map (λ (p : TagPlace). p.home) (slice_get places (k + 1))))) (homes_same place.home (home_of at) same) run)))
+
+  pub directory_stays : IsDirectory new places
+  directory_stays = directory_same old new places directory page_same
+
+  pub cell_stays : (tag : Tag) → cell_of new places tag ≡ cell_of old places tag
+  cell_stays = cell_same old new places directory page_same
+
+-- a page of the directory stands at each place
+pub home_there : (places : List TagPlace) (k : ℕ) → IfSome (slice_get places k) (λ place. has_home places place.home ≡ true)
+home_there [] k = tt
+home_there (p ∷ ps) zero = or_left (same_home p.home p.home) (has_home ps p.home) (same_itself p.home)
+home_there (p ∷ ps) (suc k) = later (slice_get ps k) (home_there ps k)
+  where
+    later : (o : Option TagPlace) → IfSome o (λ place. has_home ps place.home ≡ true) → IfSome o (λ place. has_home (p ∷ ps) place.home ≡ true)
+    later None has = tt
+    later (Some place) has = or_right (same_home place.home p.home) (has_home ps place.home) has
+
+pub pages_same : (old new : Pages) (places : List TagPlace) → ((home : Home) → has_home places home ≡ true → new home ≡ old home) → (k : ℕ) → IfSome (slice_get places k) (λ place. new place.home ≡ old place.home)
+pages_same old new places same k = by_place (slice_get places k) (home_there places k)
+  where
+    by_place : (o : Option TagPlace) → IfSome o (λ place. has_home places place.home ≡ true) → IfSome o (λ place. new place.home ≡ old place.home)
+    by_place None has = tt
+    by_place (Some place) has = same place.home has
 
 -- ---- files of other tags
 

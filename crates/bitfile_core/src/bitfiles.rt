@@ -128,7 +128,7 @@ impl Bitfiles {
     }
 
     /// The first cell of the file that a tag names, if it is not to be removed.
-    fn live_cell<M: MetaPages>(&self, pages: &M, tag: Tag) -> Option<CellAt>
+    pub(crate) fn live_cell<M: MetaPages>(&self, pages: &M, tag: Tag) -> Option<CellAt>
         requires { HasFiles self.now.fileset self.now.tags (M.pages pages.now) }
         ensures { (chains : Chains)
             → AreFiles self.now.fileset self.now.tags (M.pages pages.now) chains

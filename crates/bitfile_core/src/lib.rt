@@ -3,6 +3,7 @@
 
 mod attributes;
 mod bitfiles;
+mod giving;
 
 pub use attributes::Attributes;
 pub use bitfiles::Bitfiles;
