@@ -1,5 +1,5 @@
 -- One record of a cell is changed, and one cell of a chain.
-use Rattle.std.specs.Prelude.{◌≤◌, ◌++◌, ℕ, List, [], ◌∷◌, filter, length, nat_lt, Option, if◌then◌else◌}
+use Rattle.std.specs.Prelude.{◌≤◌, ◌++◌, ℕ, List, [], ◌∷◌, filter, length, nat_lt, Option, Some, if◌then◌else◌}
 use Rattle.std.specs.Option.{option_to_list}
 use Rattle.domain_base.specs.declared.place.CellAt.{CellAt}
 use Rattle.page_store.specs.Pages.{Pages}
@@ -32,6 +32,17 @@ pub record HasRoom (pages : Pages) (at : CellAt) (kind : ℕ) (value : Option Re
   pub cell : Cell
   pub stands : StandsAt pages at cell
   pub fits : length (spellings (with_kind kind value cell.records)) ≤ 272
+
+-- the cell with two records in place of those of their kinds
+abbrev pub with_two : Record → Record → Cell → Cell
+with_two one other cell =
+    with_record (kind_of other) (Some other) (with_record (kind_of one) (Some one) cell)
+
+-- a cell in use stands there that has room for both
+pub record HasRoomForTwo (pages : Pages) (at : CellAt) (one other : Record) : Type 0 where
+  pub cell : Cell
+  pub stands : StandsAt pages at cell
+  pub fits : length (spellings (with_two one other cell).records) ≤ 272
 
 -- the cells of which the one at a place is another
 abbrev pub with_cell : CellAt → Cell → List PlacedCell → List PlacedCell

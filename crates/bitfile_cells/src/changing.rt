@@ -6,7 +6,7 @@ ghost use Rattle.record_table.specs.Records.{Allowed, kind_of};
 ghost use Rattle.bmt_mcells.specs.Cell.{AreRecords, Cell, spellings};
 ghost use Rattle.bmt_mcells.specs.CellPage.{KeepsHeaders, KeepsWellFormed, home_of as home_there};
 ghost use Rattle.bmt_mcells.specs.Chain.{LeavesOthers, StandsAt, is_at};
-ghost use Rattle.bitfile_cells.specs.Changes.{HasRoom, IsInUse, above, below, with_kind, with_record};
+ghost use Rattle.bitfile_cells.specs.Changes.{HasRoom, HasRoomForTwo, IsInUse, above, below, with_kind, with_record, with_two};
 
 use bmt_mcells::{RecordList, read_used, write_cell};
 use domain_base::{CellAt, OutOfMemory};
@@ -110,6 +110,76 @@ pub fn set_record<M: MetaPages>(
     ensures room { M.room pages.new ≡ M.room pages.old }
 {
     change_record(alloc, pages, &at, value.kind(), &Some(*value))
+}
+
+/// The records with two others in place of those of their kinds.
+fn replaced_two(
+    alloc: Global,
+    records: &[Record],
+    one: &Record,
+    other: &Record,
+) -> Result<RecordList, OutOfMemory>
+    ensures { IfOk result (λ found. found ≡ with_kind (kind_of other.now) (Some other.now)
+        (with_kind (kind_of one.now) (Some one.now) records.now)) }
+{
+    let first = replaced(alloc, records, one.kind(), &Some(*one))?;
+    replaced(alloc, first.as_slice(), other.kind(), &Some(*other))
+}
+
+/// Puts two records in place of those of their kinds in the cell in use that stands there. After an
+/// error nothing has changed.
+fn change_two<M: MetaPages>(
+    alloc: Global,
+    pages: &mut M,
+    at: &CellAt,
+    one: &Record,
+    other: &Record,
+) -> Result<(), OutOfMemory>
+    requires room { HasRoomForTwo (M.pages pages.old) at.now one.now other.now }
+    requires one { Allowed one.now }
+    requires other { Allowed other.now }
+    ensures ok { (cell : Cell) → StandsAt (M.pages pages.old) at.now cell
+        → OnOk result (StandsAt (M.pages pages.new) at.now (with_two one.now other.now cell)) }
+    ensures err { OnErr result (M.pages pages.new ≡ M.pages pages.old) }
+    ensures others { LeavesOthers (is_at at.now) (M.pages pages.old) (M.pages pages.new) }
+    ensures well_formed { KeepsWellFormed (M.pages pages.old) (M.pages pages.new) }
+    ensures headers { KeepsHeaders (M.pages pages.old) (M.pages pages.new) }
+    ensures elsewhere { (home : HomeOf) → same_home home (home_there at.now) ≡ false
+        → M.pages pages.new home ≡ M.pages pages.old home }
+    ensures room { M.room pages.new ≡ M.room pages.old }
+{
+    let Some(used) = read_used(alloc, pages, *at)? else {
+        return Ok(());
+    };
+    let records = replaced_two(alloc, used.records.as_slice(), one, other)?;
+    write_cell(pages, *at, &used.head, &records);
+    Ok(())
+}
+
+/// Puts two records in place of those of their kinds in the cell in use that stands there, which has
+/// room for them, in one write. Every other cell stays, and the index and next page of each page.
+/// After an error nothing has changed.
+pub fn set_two_records<M: MetaPages>(
+    alloc: Global,
+    pages: &mut M,
+    at: CellAt,
+    one: &Record,
+    other: &Record,
+) -> Result<(), OutOfMemory>
+    requires room { HasRoomForTwo (M.pages pages.old) at one.now other.now }
+    requires one { Allowed one.now }
+    requires other { Allowed other.now }
+    ensures ok { (cell : Cell) → StandsAt (M.pages pages.old) at cell
+        → OnOk result (StandsAt (M.pages pages.new) at (with_two one.now other.now cell)) }
+    ensures err { OnErr result (M.pages pages.new ≡ M.pages pages.old) }
+    ensures others { LeavesOthers (is_at at) (M.pages pages.old) (M.pages pages.new) }
+    ensures well_formed { KeepsWellFormed (M.pages pages.old) (M.pages pages.new) }
+    ensures headers { KeepsHeaders (M.pages pages.old) (M.pages pages.new) }
+    ensures elsewhere { (home : HomeOf) → same_home home (home_there at) ≡ false
+        → M.pages pages.new home ≡ M.pages pages.old home }
+    ensures room { M.room pages.new ≡ M.room pages.old }
+{
+    change_two(alloc, pages, &at, one, other)
 }
 
 /// Takes the records of a kind off the cell in use that stands there. Every other cell stays, and the

@@ -8,8 +8,9 @@ use Rattle.std.specs.Option.{option_to_list}
 use Rattle.page_store.specs.Pages.{Pages}
 use Rattle.record_table.specs.declared.record.Record.{Record}
 use Rattle.record_table.specs.Records.{kind_of}
-use Rattle.bmt_mcells.specs.Cell.{record_of}
-use Rattle.bmt_mcells.specs.Chain.{LeavesOthers, PlacedCell, StandsAt, is_at, records_of}
+use Rattle.bmt_mcells.specs.declared.head.CellHead.{CellHead}
+use Rattle.bmt_mcells.specs.Cell.{Cell, record_of}
+use Rattle.bmt_mcells.specs.Chain.{Follow, LeavesOthers, PlacedCell, StandsAt, is_at, records_of}
 use Rattle.extent_maps.specs.declared.run.Run.{Run}
 use Rattle.extent_records.specs.Rows.{IsPlaced, NoPageTwice, runs_in, runs_of}
 use Rattle.bitfile_cells.specs.Changes.{above, below, with_kind, with_record}
@@ -135,37 +136,36 @@ find_other kind j value rs other of_kind = ⊎_elim
 
 -- ---- the file
 
-module _ (old new : Pages) (first : PlacedCell) (rest : List PlacedCell) (kind : ℕ) (value : Option Record) (are : AreFile old first rest) (leaves : LeavesOthers (is_at first.at) old new)
-    (stands : StandsAt new first.at (with_record kind value first.cell)) (of_kind : IfSome value (λ r. kind_of r ≡ kind)) (nothing : IfSome value (λ r. has_rows r ≡ false))
-    (other : kind_of are.value ≢ kind) (attributes : IsSome (record_of 1 (with_kind kind value first.cell.records))) where
-  abbrev now : PlacedCell
-  now = record { at = first.at; cell = with_record kind value first.cell }
+module _ (old new : Pages) (first : PlacedCell) (rest : List PlacedCell) (after : Cell) (are : AreFile old first rest) (leaves : LeavesOthers (is_at first.at) old new) (stands : StandsAt new first.at after) (head : after.head ≡ first.cell.head)
+    (maps : map_records after.records ≡ are.value ∷ []) (attributes : IsSome (record_of 1 after.records)) where
+  runs_now : runs_of after.records ≡ runs_of first.cell.records
+  runs_now = runs_by_map after.records ∙ ap runs_of (maps ∙ sym are.map.only) ∙ sym (runs_by_map first.cell.records)
 
-  map_now : map_records now.cell.records ≡ are.value ∷ []
-  map_now = map_stays kind value first.cell.records are.value are.map.only other nothing
-
-  runs_now : runs_of now.cell.records ≡ runs_of first.cell.records
-  runs_now = runs_by_map now.cell.records ∙ ap runs_of (map_now ∙ sym are.map.only) ∙ sym (runs_by_map first.cell.records)
-
-  pub runs_same : runs_of (records_of (now ∷ rest)) ≡ runs_of (records_of (first ∷ rest))
+  pub runs_same : runs_of (records_of (record { at = first.at; cell = after } ∷ rest)) ≡ runs_of (records_of (first ∷ rest))
   runs_same =
-      flat_map-append runs_in now.cell.records (records_of rest) ∙ ap (λ (xs : List Run). xs ++ runs_of (records_of rest)) runs_now
+      flat_map-append runs_in after.records (records_of rest) ∙ ap (λ (xs : List Run). xs ++ runs_of (records_of rest)) runs_now
       ∙ sym (flat_map-append runs_in first.cell.records (records_of rest))
 
-  pub file_now : AreFile new now rest
-  file_now = record {
+  pub file_changed : AreFile new (record { at = first.at; cell = after }) rest
+  file_changed = record {
     links = record {
       stands = stands;
-      follow = follow_apart old new first.at leaves first.cell.head rest are.links.distinct.0 are.links.follow;
+      follow = follow_apart old new first.at leaves after.head rest are.links.distinct.0 (subst (λ (h : CellHead). Follow old h rest) (sym head) are.links.follow);
       distinct = are.links.distinct;
     };
-    primary = are.primary;
+    primary = ap (λ (h : CellHead). h.kind) head ∙ are.primary;
     attributes = attributes;
     value = are.value;
-    map = record { only = map_now; is_map = are.map.is_map };
+    map = record { only = maps; is_map = are.map.is_map };
     others = are.others;
     one_map = record {
       placed = subst (AllByRecursion IsPlaced) (sym runs_same) are.one_map.placed;
       once = subst NoPageTwice (sym runs_same) are.one_map.once;
     };
   }
+
+module _ (old new : Pages) (first : PlacedCell) (rest : List PlacedCell) (kind : ℕ) (value : Option Record) (are : AreFile old first rest) (leaves : LeavesOthers (is_at first.at) old new)
+    (stands : StandsAt new first.at (with_record kind value first.cell)) (of_kind : IfSome value (λ r. kind_of r ≡ kind)) (nothing : IfSome value (λ r. has_rows r ≡ false))
+    (other : kind_of are.value ≢ kind) (attributes : IsSome (record_of 1 (with_kind kind value first.cell.records))) where
+  pub file_now : AreFile new (record { at = first.at; cell = with_record kind value first.cell }) rest
+  file_now = file_changed old new first rest (with_record kind value first.cell) are leaves stands refl (map_stays kind value first.cell.records are.value are.map.only other nothing) attributes

@@ -11,3 +11,4 @@ pub mod Grown
 pub mod OneChain
 pub mod Again
 pub mod Given
+pub mod Truncated

@@ -2,3 +2,4 @@ pub mod Changes
 pub mod Files
 pub mod Pages
 pub mod Together
+pub mod Truncation

@@ -1,6 +1,7 @@
 //! What a file or directory is.
 ghost use Rattle.std.specs.Prelude.{◌≡◌};
 ghost use Rattle.bitfile_core.specs.Changes.{with_attributes as changed};
+ghost use Rattle.bitfile_core.specs.Truncation.{resized};
 ghost use Rattle.bitfile_core.specs.Files.{attributes_in, keep_in, says_remove as removes};
 
 use domain_base::Kind;
@@ -91,6 +92,37 @@ pub(crate) fn with_attributes(was: &Record, value: &Attributes) -> Record
             size: value.size,
             keep: *keep,
             links: value.links,
+            birth: *birth,
+            unsynced: *unsynced,
+        },
+        _ => *was,
+    }
+}
+
+/// The record of attributes that says this size and, where there is a number, that it keeps so many
+/// pages, with what else the old one says.
+pub(crate) fn with_size(was: &Record, size: u64, lowered: &Option<u32>) -> Record
+    ensures { result ≡ resized size lowered.now was.now }
+{
+    match was {
+        Record::Attributes {
+            kind,
+            uid,
+            gid,
+            flags,
+            keep,
+            links,
+            birth,
+            unsynced,
+            ..
+        } => Record::Attributes {
+            kind: *kind,
+            uid: *uid,
+            gid: *gid,
+            flags: *flags,
+            size,
+            keep: lowered.unwrap_or(*keep),
+            links: *links,
             birth: *birth,
             unsynced: *unsynced,
         },

@@ -6,7 +6,7 @@ ghost use Rattle.page_store.specs.Pages.{same_home};
 ghost use Rattle.bmt_mcells.specs.Cell.{Cell};
 ghost use Rattle.bmt_mcells.specs.CellPage.{KeepsHeaders, KeepsWellFormed, home_of as home_there};
 ghost use Rattle.bmt_mcells.specs.Chain.{LeavesOthers, PlacedCell, StandsAt, is_at};
-ghost use Rattle.extent_maps.specs.Runs.{place_of};
+ghost use Rattle.extent_maps.specs.Runs.{AreRuns, place_of};
 ghost use Rattle.bitfile_cells.specs.Files.{HasFile, IsFile};
 ghost use Rattle.record_table.specs.Records.{Allowed, kind_of};
 ghost use Rattle.bitfile_cells.specs.Changes.{with_record};
@@ -17,7 +17,7 @@ use crate::attributes::{Attributes, read_attributes, read_keep, says_remove, wit
 use bitfile_cells::{find_place, read_file_map, set_record};
 use bmt_mcells::find_record;
 use domain_base::{CellAt, FilesetNo, OutOfMemory, Tag};
-use extent_maps::{ExtentMap, PagePlace};
+use extent_maps::{ExtentMap, PagePlace, Run};
 use page_store::MetaPages;
 use record_table::{Leftover, Record};
 use std::alloc::Global;
@@ -32,7 +32,7 @@ pub struct Bitfiles {
 }
 
 /// The record of a kind in the first cell of a file.
-fn first_record<M: MetaPages>(pages: &M, at: &CellAt, kind: u8) -> Option<Record>
+pub(crate) fn first_record<M: MetaPages>(pages: &M, at: &CellAt, kind: u8) -> Option<Record>
     ensures { (cells : List PlacedCell) → IsFile (M.pages pages.now) at.now cells
         → result ≡ first_there kind cells }
 {
@@ -51,7 +51,7 @@ fn is_pending<M: MetaPages>(pages: &M, at: &CellAt) -> bool
 }
 
 /// Puts a record in the first cell of a file, in place of the one of its kind if that has one.
-fn set_first<M: MetaPages>(
+pub(crate) fn set_first<M: MetaPages>(
     alloc: Global,
     pages: &mut M,
     at: &CellAt,
@@ -177,6 +177,7 @@ impl Bitfiles {
             None => PagePlace::Absent,
         }
     }
+
     /// Where all pages of the file stand that a tag names, whatever it keeps: no page if it names none.
     pub fn read_map<M: MetaPages>(
         &self,
@@ -193,6 +194,26 @@ impl Bitfiles {
             Some(at) => read_file_map(alloc, pages, at),
             None => Ok(ExtentMap::new(alloc)),
         }
+    }
+
+    /// Where all pages of the file stand that a tag names, as runs in the order of its pages, each as
+    /// long as it can be: all that the file's cells say, also behind what it keeps, and the holes
+    /// that are kept for a clone. No run if the tag names none.
+    pub fn runs<M: MetaPages>(
+        &self,
+        alloc: Global,
+        pages: &M,
+        tag: Tag,
+    ) -> Result<Vec<Run>, OutOfMemory>
+        requires { HasFiles self.now.fileset self.now.tags (M.pages pages.now) }
+        ensures longest { IfOk result (λ runs. AreRuns runs.items) }
+        ensures places { (chains : Chains)
+            → AreFiles self.now.fileset self.now.tags (M.pages pages.now) chains
+            → IfOk result (λ runs. (page : ℕ) → place_of runs.items page
+            ≡ place_at chains tag page) }
+    {
+        let map = self.read_map(alloc, pages, tag)?;
+        Ok(Vec::from_slice(alloc, map.runs())?)
     }
 
     /// Sets what the file or directory is that a live tag names: its kind stays, and it has from 1 to

@@ -4,6 +4,7 @@
 mod attributes;
 mod bitfiles;
 mod giving;
+mod truncating;
 
 pub use attributes::Attributes;
 pub use bitfiles::Bitfiles;

@@ -1,0 +1,230 @@
+//! Files made shorter or longer.
+ghost use Rattle.std.specs.Prelude.{◌≡◌, ◌∷◌, ◌<◌, ◌||◌, IfNone, IfOk, IfSome, List, None, OnErr, OnOk, Some, false, if◌then◌else◌, is_some, true};
+ghost use Rattle.std.specs.List.{list_any};
+ghost use Rattle.domain_base.specs.declared.place.Home.{Home as HomeOf};
+ghost use Rattle.page_store.specs.Pages.{same_home};
+ghost use Rattle.record_table.specs.declared.record.Record.TheVariants.{Pending};
+ghost use Rattle.record_table.specs.declared.record.Leftover.TheVariants.{Trim};
+ghost use Rattle.record_table.specs.Records.{Allowed, kind_of};
+ghost use Rattle.bmt_mcells.specs.Cell.{Cell, record_of};
+ghost use Rattle.bmt_mcells.specs.CellPage.{KeepsHeaders, KeepsWellFormed, home_of as home_there};
+ghost use Rattle.bmt_mcells.specs.Chain.{LeavesOthers, PlacedCell, StandsAt, is_at};
+ghost use Rattle.extent_maps.specs.Runs.{AreRuns, place_of};
+ghost use Rattle.bitfile_cells.specs.Changes.{with_two};
+ghost use Rattle.bitfile_cells.specs.Files.{HasFile, IsFile};
+ghost use Rattle.bitfile_core.specs.Changes.{ChangesFirst, HasFirstRoom, IsLive};
+ghost use Rattle.bitfile_core.specs.Files.{AreFiles, Chains, HasFiles, first_record as first_there};
+ghost use Rattle.bitfile_core.specs.Truncation.{HasPageWithin, IsLowered, Truncates, TruncatesChain, meets as meets_there, pages_in, says_truncated};
+
+use crate::attributes::{read_keep, with_size};
+use crate::bitfiles::{Bitfiles, first_record, set_first};
+use bitfile_cells::{read_file_map, set_two_records};
+use domain_base::{CellAt, OutOfMemory, Tag};
+use extent_maps::{ExtentMap, Run};
+use page_store::MetaPages;
+use record_table::{Leftover, Record};
+use std::alloc::Global;
+
+/// The bytes of a page.
+const PAGE: u64 = 8192;
+
+/// Whether a run has a page from one on and in front of another.
+fn meets(run: &Run, from: u32, to: u32) -> bool
+    ensures { result ≡ meets_there from to run.now }
+{
+    run.page < to && u64::from(from) < u64::from(run.page) + u64::from(run.count)
+}
+
+/// Whether a run of a map has a page from one on and in front of another.
+fn any_meets(map: &ExtentMap, from: u32, to: u32) -> bool
+    ensures value { result ≡ list_any (meets_there from to) map.now }
+    ensures runs { AreRuns map.now }
+{
+    map.runs().iter().any(|run| meets(run, from, to))
+}
+
+/// Whether a map has a page from one on and in front of another.
+fn has_page_within(map: &ExtentMap, from: u32, to: u32) -> bool
+    requires { from < to }
+    ensures some { result ≡ true → HasPageWithin from to (place_of map.now) }
+    ensures none { result ≡ false → ¬ HasPageWithin from to (place_of map.now) }
+{
+    any_meets(map, from, to)
+}
+
+/// From which page on the pages of a file with that map are stale once it has that size: None where
+/// it has none there of those that it keeps.
+fn stale_from(map: &ExtentMap, keep: u32, size: u64) -> Option<u32>
+    ensures some { IfSome result (λ from. from ≡ pages_in size) }
+    ensures there { IfSome result (λ from. HasPageWithin from keep (place_of map.now)) }
+    ensures none { IfNone result (¬ HasPageWithin (pages_in size) keep (place_of map.now)) }
+{
+    let from = size.div_ceil(PAGE);
+    if from < u64::from(keep) && has_page_within(map, from as u32, keep) {
+        return Some(from as u32);
+    }
+    None
+}
+
+/// Puts a record of attributes in the first cell of a file, and one that says that stale pages are to
+/// be let go.
+fn set_trim<M: MetaPages>(
+    alloc: Global,
+    pages: &mut M,
+    at: &CellAt,
+    value: &Record,
+) -> Result<(), OutOfMemory>
+    requires room { HasFirstRoom (M.pages pages.old) at.now }
+    requires kind { kind_of value.now ≡ 1 }
+    requires allowed { Allowed value.now }
+    ensures ok { (cell : Cell) → StandsAt (M.pages pages.old) at.now cell
+        → OnOk result (StandsAt (M.pages pages.new) at.now
+        (with_two value.now (Pending Trim) cell)) }
+    ensures err { OnErr result (M.pages pages.new ≡ M.pages pages.old) }
+    ensures others { LeavesOthers (is_at at.now) (M.pages pages.old) (M.pages pages.new) }
+    ensures well_formed { KeepsWellFormed (M.pages pages.old) (M.pages pages.new) }
+    ensures headers { KeepsHeaders (M.pages pages.old) (M.pages pages.new) }
+    ensures elsewhere { (home : HomeOf) → same_home home (home_there at.now) ≡ false
+        → M.pages pages.new home ≡ M.pages pages.old home }
+    ensures room { M.room pages.new ≡ M.room pages.old }
+{
+    let trim = Record::Pending {
+        what: Leftover::Trim,
+    };
+    set_two_records(alloc, pages, *at, value, &trim)
+}
+
+/// Says in a file's first cell that it has that size and, where there is a number, that it keeps so
+/// many pages and that stale ones are to be let go.
+fn set_size<M: MetaPages>(
+    alloc: Global,
+    pages: &mut M,
+    at: &CellAt,
+    was: &Record,
+    size: u64,
+    lowered: &Option<u32>,
+) -> Result<(), OutOfMemory>
+    requires room { HasFirstRoom (M.pages pages.old) at.now }
+    requires was { (cell : Cell) → StandsAt (M.pages pages.old) at.now cell
+        → record_of 1 cell.records ≡ Some was.now }
+    ensures ok { (cell : Cell) → StandsAt (M.pages pages.old) at.now cell
+        → OnOk result (StandsAt (M.pages pages.new) at.now
+        (says_truncated size lowered.now cell)) }
+    ensures err { OnErr result (M.pages pages.new ≡ M.pages pages.old) }
+    ensures others { LeavesOthers (is_at at.now) (M.pages pages.old) (M.pages pages.new) }
+    ensures well_formed { KeepsWellFormed (M.pages pages.old) (M.pages pages.new) }
+    ensures headers { KeepsHeaders (M.pages pages.old) (M.pages pages.new) }
+    ensures elsewhere { (home : HomeOf) → same_home home (home_there at.now) ≡ false
+        → M.pages pages.new home ≡ M.pages pages.old home }
+    ensures room { M.room pages.new ≡ M.room pages.old }
+{
+    let value = with_size(was, size, lowered);
+    match lowered {
+        Some(keep) => {
+            prove!(*keep <= u32::MAX);
+            set_trim(alloc, pages, at, &value)
+        }
+        None => set_first(alloc, pages, at, &value),
+    }
+}
+
+/// From which page on the pages of the file are stale whose chain begins there, once it has that
+/// size: None where it has none there of those that it keeps.
+fn stale_in<M: MetaPages>(
+    alloc: Global,
+    pages: &M,
+    at: &CellAt,
+    was: &Record,
+    size: u64,
+) -> Result<Option<u32>, OutOfMemory>
+    requires file { HasFile (M.pages pages.now) at.now }
+    requires was { (chain : List PlacedCell) → IsFile (M.pages pages.now) at.now chain
+        → first_there 1 chain ≡ Some was.now }
+    ensures { (chain : List PlacedCell) → IsFile (M.pages pages.now) at.now chain
+        → IfOk result (IsLowered size chain) }
+{
+    let Some(keep) = read_keep(was) else {
+        return Ok(None);
+    };
+    let map = read_file_map(alloc, pages, *at)?;
+    Ok(stale_from(&map, keep, size))
+}
+
+/// A cell, if its file has something left to be done.
+fn left_at(at: &CellAt, pending: bool, lowered: &Option<u32>) -> Option<CellAt>
+    ensures { result ≡ (if pending || is_some lowered.now then Some at.now else None) }
+{
+    if pending || lowered.is_some() {
+        return Some(*at);
+    }
+    None
+}
+
+/// Sets the size of the file whose chain begins there.
+fn truncate_at<M: MetaPages>(
+    alloc: Global,
+    pages: &mut M,
+    at: &CellAt,
+    was: &Record,
+    size: u64,
+) -> Result<Option<CellAt>, OutOfMemory>
+    requires file { HasFile (M.pages pages.old) at.now }
+    requires room { HasFirstRoom (M.pages pages.old) at.now }
+    requires was { (chain : List PlacedCell) → IsFile (M.pages pages.old) at.now chain
+        → first_there 1 chain ≡ Some was.now }
+    ensures ok { (first : PlacedCell) (rest : List PlacedCell)
+        → IsFile (M.pages pages.old) at.now (first ∷ rest)
+        → IfOk result (TruncatesChain size at.now first rest (M.pages pages.new)) }
+    ensures err { OnErr result (M.pages pages.new ≡ M.pages pages.old) }
+    ensures others { LeavesOthers (is_at at.now) (M.pages pages.old) (M.pages pages.new) }
+    ensures well_formed { KeepsWellFormed (M.pages pages.old) (M.pages pages.new) }
+    ensures headers { KeepsHeaders (M.pages pages.old) (M.pages pages.new) }
+    ensures elsewhere { (home : HomeOf) → same_home home (home_there at.now) ≡ false
+        → M.pages pages.new home ≡ M.pages pages.old home }
+    ensures room { M.room pages.new ≡ M.room pages.old }
+{
+    let pending = first_record(pages, at, 6).is_some();
+    let lowered = stale_in(alloc, pages, at, was, size)?;
+    set_size(alloc, pages, at, was, size, &lowered)?;
+    Ok(left_at(at, pending, &lowered))
+}
+
+impl Bitfiles {
+    /// Sets the size in bytes of the file that a live tag names. Pages behind it, from the first on in
+    /// which no byte of it lies, are stale: where the file has one of those that it keeps, it keeps
+    /// fewer from now on, and its first cell says that stale pages are to be let go. No page goes yet.
+    /// It answers the first cell where that then says that something is left to be done, and None
+    /// exactly where it does not. Every other file stays, and where pages stand. After an error
+    /// nothing has changed.
+    pub fn truncate<M: MetaPages>(
+        &self,
+        alloc: Global,
+        pages: &mut M,
+        tag: Tag,
+        size: u64,
+    ) -> Result<Option<CellAt>, OutOfMemory>
+        requires files { HasFiles self.now.fileset self.now.tags (M.pages pages.old) }
+        requires live { (chains : Chains)
+            → AreFiles self.now.fileset self.now.tags (M.pages pages.old) chains
+            → IsLive tag chains }
+        ensures ok { (chains : Chains)
+            → AreFiles self.now.fileset self.now.tags (M.pages pages.old) chains
+            → IfOk result (λ at. Truncates self.now.fileset self.now.tags tag size at chains
+            (M.pages pages.new)) }
+        ensures err { OnErr result (M.pages pages.new ≡ M.pages pages.old) }
+        ensures beside { (chains : Chains)
+            → AreFiles self.now.fileset self.now.tags (M.pages pages.old) chains
+            → ChangesFirst (chains tag) (M.pages pages.old) (M.pages pages.new) }
+        ensures well_formed { KeepsWellFormed (M.pages pages.old) (M.pages pages.new) }
+        ensures headers { KeepsHeaders (M.pages pages.old) (M.pages pages.new) }
+        ensures room { M.room pages.new ≡ M.room pages.old }
+    {
+        let Some(at) = self.live_cell(pages, tag) else {
+            return Err(OutOfMemory);
+        };
+        let Some(was) = first_record(pages, &at, 1) else {
+            return Err(OutOfMemory);
+        };
+        truncate_at(alloc, pages, &at, &was, size)
+    }
+}
