@@ -1,6 +1,6 @@
 -- The places of a directory by their indexes, and with one more place behind them.
-use Rattle.std.proofs.Common.{◌≡◌, ◌∙◌, ℕ, zero, suc, ◌+◌, Bool, true, false, cond, nat_eq, Option, Some, None, List, [], ◌∷◌, ◌++◌, length, slice_get, get_or, ◌<◌, refl, sym, ap, subst, arith}
-use Rattle.std.proofs.lemmas.Bool.{eqb-true, eq-eqb, both_ways}
+use Rattle.std.proofs.Common.{◌≡◌, ◌∙◌, ℕ, zero, suc, ◌+◌, Bool, true, false, cond, nat_eq, Option, Some, None, is_some, List, [], ◌∷◌, ◌++◌, length, slice_get, get_or, ◌<◌, refl, sym, ap, subst, arith}
+use Rattle.std.proofs.lemmas.Bool.{eqb-true, eq-eqb, both_ways, true≢false}
 use Rattle.std.proofs.lemmas.Option.{slice_get_read, slice_get_within}
 use Rattle.std.specs.Option.{option_map}
 use Rattle.domain_base.specs.declared.place.Home.{Home}
@@ -129,3 +129,30 @@ place_read places i k p at is =
     let n = numbered places i k at in
     let there = slice_get_read places (length places) k p refl (number_within places i k at) is in
     n.stands ∙ ap (λ (q : TagPlace). Some q.home) (same_some n.p p (sym n.there ∙ there))
+
+-- ---- the last place forgotten, and indexes
+
+pub index_there : (places : List TagPlace) (i : ℕ) → is_some (number_with places i) ≡ true → home_with places i ≡ None → ⊥
+index_there places i some none = by_number (number_with places i) refl some
+  where
+    by_number : (o : Option ℕ) → number_with places i ≡ o → is_some o ≡ true → ⊥
+    by_number None is some = true≢false (sym some)
+    by_number (Some k) is some = let n = numbered places i k is in some_is_none n.p.home (sym n.stands ∙ none)
+
+pub index_absent : (places : List TagPlace) (i : ℕ) → is_some (number_with places i) ≡ false → home_with places i ≡ None
+index_absent places i none = by_number (number_with places i) refl none
+  where
+    by_number : (o : Option ℕ) → number_with places i ≡ o → is_some o ≡ false → home_with places i ≡ None
+    by_number None is none = unnumbered places i is
+    by_number (Some k) is none = absurd (true≢false none)
+
+pub number_forgotten : (places : List TagPlace) (p : TagPlace) (i : ℕ) → home_with places p.index ≡ None → cond (nat_eq p.index i) None (number_with (places ++ p ∷ []) i) ≡ number_with places i
+number_forgotten places p i unused = ap (λ (o : Option ℕ). cond (nat_eq p.index i) None o) (number_pushed places p i unused) ∙ by_index (nat_eq p.index i) refl
+  where
+    none_there : (o : Option ℕ) → number_with places i ≡ o → home_with places i ≡ None → None ≡ o
+    none_there None is none = refl
+    none_there (Some k) is none = let n = numbered places i k is in absurd (some_is_none n.p.home (sym n.stands ∙ none))
+
+    by_index : (b : Bool) → nat_eq p.index i ≡ b → cond b None (cond b (Some (length places)) (number_with places i)) ≡ number_with places i
+    by_index true same = none_there (number_with places i) refl (subst (λ (n : ℕ). home_with places n ≡ None) (eqb-true p.index i same) unused)
+    by_index false other = refl

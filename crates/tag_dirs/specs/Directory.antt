@@ -1,5 +1,5 @@
 -- Tag directories: the pages of one, and what their entries say.
-use Rattle.std.specs.Prelude.{◌≡◌, ◌==◌, ◌+◌, ◌/◌, ◌%◌, ℕ, Bool, true, false, List, [], ◌∷◌, ◌++◌, ◌⊎◌, length, Option, Some, None, IfSome, IsSomeAnd, slice_get, if◌then◌else◌}
+use Rattle.std.specs.Prelude.{◌≡◌, ◌==◌, ◌+◌, ◌/◌, ◌%◌, ◌<◌, ℕ, Bool, true, false, List, [], ◌∷◌, ◌++◌, ◌⊎◌, length, Option, Some, None, IfSome, IsSomeAnd, slice_get, if◌then◌else◌}
 use Rattle.std.specs.List.{list_any}
 use Rattle.std.specs.Option.{option_and_then, option_map}
 use Rattle.domain_base.specs.declared.place.CellAt.{CellAt}
@@ -7,9 +7,10 @@ use Rattle.domain_base.specs.declared.place.Home.{Home}
 use Rattle.domain_base.specs.declared.place.Tag.{Tag}
 use Rattle.page_store.specs.Pages.{Pages, same_home}
 use Rattle.page_store.specs.Bitfiles.{same_tag}
+use Rattle.tag_dirs.specs.declared.dir.ReadyPage.{ReadyPage}
 use Rattle.tag_dirs.specs.declared.dir.TagPlace.{TagPlace}
 use Rattle.tag_dirs.specs.declared.page.TagEntry.{TagEntry}
-use Rattle.tag_dirs.specs.TagPage.{ChangesEntry, IsAllowed, IsTagPage, LinksPage, entry_of, index_of, is_takeable, next_of, slot_of}
+use Rattle.tag_dirs.specs.TagPage.{ChangesEntry, IsAllowed, IsNewPage, IsTagPage, LinksPage, entry_of, index_of, is_takeable, next_of, slot_of}
 
 -- the home of the page that comes behind the one at a place
 abbrev pub home_behind : List TagPlace → ℕ → Option Home
@@ -191,3 +192,17 @@ pub record JoinsPage (home : Home) (page : List ℕ) (old new : List TagPlace) (
     : Type 0 where
   pub joined : new ≡ old ++ (record { index = index_of page; home = home }) ∷ []
   pub linked : next ≡ next_of page
+
+-- a page whose entries were never used, with this index, is ready to stand at the home behind those
+-- at the places
+pub record IsReady (index : ℕ) (home : Home) (places : List TagPlace) (ready : ReadyPage)
+    : Type 0 where
+  pub fresh : IsNewPage index ready.page
+  pub last : IsLast places ready.last
+  pub stands : ready.home ≡ home
+
+-- the least index that no page at the places has
+pub record IsNextIndex (index : ℕ) (places : List TagPlace) : Type 0 where
+  pub small : index < 4202512
+  pub unused : home_with places index ≡ None
+  pub least : (other : ℕ) → other < index → ¬ home_with places other ≡ None

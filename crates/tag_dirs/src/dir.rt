@@ -1,8 +1,11 @@
 //! The tag directory of a fileset.
-ghost use Rattle.std.specs.Prelude.{◌+◌, ◌∷◌, ◌++◌, OnOk, OnErr, ◌≡◌, ◌<◌, ◌≤◌, ◌≢◌, ◌/◌, ◌%◌, ℕ, false, true, [], length, IfOk, IfSome, IfNone, IsSome, None, Some, IsSomeAnd};
+ghost use Rattle.std.specs.Prelude.{◌+◌, ◌∷◌, ◌++◌, OnOk, OnErr, ◌≡◌, ◌<◌, ◌≤◌, ◌≢◌, ◌/◌, ◌%◌, ℕ, false, true, [], List, length, IfOk, IfSome, IfNone, IsSome, None, Some, IsSomeAnd};
 ghost use Rattle.page_store.specs.Pages.{Pages};
 ghost use Rattle.tag_dirs.specs.declared.page.TagEntry.{TagEntry as Entry};
-ghost use Rattle.tag_dirs.specs.TagPage.{IsAllowed};
+ghost use Rattle.domain_base.specs.declared.place.Home.{Home as HomeOf};
+ghost use Rattle.tag_dirs.specs.TagPage.{IsAllowed, IsTagPage};
+ghost use Rattle.tag_dirs.specs.Directory.{IsNextIndex, IsReady};
+ghost use Rattle.tag_dirs.specs.declared.dir.TagPlace.{TagPlace as PlaceOf};
 ghost use Rattle.domain_base.specs.declared.place.Tag.{Tag};
 ghost use Rattle.tag_dirs.specs.Directory.{AddsPage, IsLast, has_home, ChangesSlot, IsDirectory, SetsTag, cell_of, entry_at as entry_there, home_with, number_with, sequence_of, CanJoin, CanTake, HasDirectory, IsDirectoryAt, JoinsPage};
 
@@ -10,11 +13,14 @@ use crate::entries::{change_entry, lead_on};
 use crate::finding::{find_in, guess_in};
 use crate::guess::Guess;
 use crate::page::{ENTRIES, TagEntry, can_take, new_page, read_entry, read_index, read_next};
-use domain_base::{CellAt, Home, OutOfMemory, Tag};
+use domain_base::{CellAt, Home, OutOfMemory, Page, Tag};
 use page_store::MetaPages;
 use std::alloc::Global;
 use std::collections::HashMap;
 use std::marker::Model;
+
+/// More pages than a directory has.
+const PAGES: u32 = 4_202_512;
 
 /// A page of a directory: its index, which says the slots of its entries, and where it stands.
 #[derive(Clone, Copy, Debug, PartialEq, Eq)]
@@ -31,6 +37,15 @@ pub struct TagDir {
     places: Vec<TagPlace>,
     guesses: Vec<Guess>,
     numbers: HashMap<u32, usize>,
+}
+
+/// A page of tags that is ready to stand behind the last one of a directory. It wants room for one
+/// page more among the pages of metadata, and else no memory.
+#[derive(Drop)]
+pub struct ReadyPage {
+    page: Page,
+    last: Option<Home>,
+    home: Home,
 }
 
 impl Model for TagDir {
@@ -54,6 +69,23 @@ fn last_home(places: &[TagPlace]) -> Option<Home>
         return None;
     }
     Some(places[places.len() - 1].home)
+}
+
+/// Puts a page that is ready at its home, behind the last page of its directory, which then leads to
+/// it. All other entries stay. It takes no memory.
+pub fn put_ready<M: MetaPages>(pages: &mut M, ready: ReadyPage)
+    requires last { IfSome ready.last (λ home. IsSomeAnd (M.pages pages.old home) IsTagPage) }
+    requires room { 0 < M.room pages.old }
+    ensures added { (places : List PlaceOf) (index : ℕ) (home : HomeOf)
+        → IsDirectory (M.pages pages.old) places → IsReady index home places ready
+        → (places ≡ [] → index ≡ 0) → home_with places index ≡ None → has_home places home ≡ false
+        → AddsPage (record { index = index; home = home }) places (M.pages pages.old)
+        (M.pages pages.new) }
+    ensures room { M.room pages.old ≤ M.room pages.new + 1 }
+{
+    let ReadyPage { page, last, home } = ready;
+    lead_on(pages, &last, &home);
+    pages.put(home, page);
 }
 
 impl TagDir {
@@ -141,6 +173,77 @@ impl TagDir {
         Ok(())
     }
 
+    /// Makes a page ready whose entries were never used, with this index, and puts its place behind the
+    /// others: the page is to be put there by `put_ready`, or its place to be forgotten. At an Err
+    /// nothing has changed.
+    pub fn prepare_page(
+        &mut self,
+        alloc: Global,
+        index: u32,
+        home: Home,
+    ) -> Result<ReadyPage, OutOfMemory>
+        requires index { index < 4202512 }
+        requires unused { home_with self.old index ≡ None }
+        ensures ok { OnOk result (self.new ≡ self.old ++ record {
+          index = index;
+          home = home;
+        } ∷ []) }
+        ensures ready { IfOk result (IsReady index home self.old) }
+        ensures err { OnErr result (self.new ≡ self.old) }
+    {
+        let page = new_page(alloc, index)?;
+        let last = last_home(self.places.as_slice());
+        let again = home;
+        self.push(TagPlace { index, home }, Guess::of_new(index))?;
+        Ok(ReadyPage {
+            page,
+            last,
+            home: again,
+        })
+    }
+
+    /// Forgets the last place, which no other has the index of. It takes no memory.
+    pub fn forget_last(&mut self)
+        requires { (places : List PlaceOf) (place : PlaceOf) → self.old ≡ places ++ place ∷ []
+            → home_with places place.index ≡ None }
+        ensures { (places : List PlaceOf) (place : PlaceOf) → self.old ≡ places ++ place ∷ []
+            → self.new ≡ places }
+    {
+        if let Some(place) = self.places.pop() {
+            self.guesses.pop();
+            self.numbers.remove(&place.index);
+        }
+    }
+
+    /// The least index that no page of the directory has: None where they have all.
+    pub fn next_index(&self) -> Option<u32>
+        ensures some { IfSome result (λ index. IsNextIndex index self.now) }
+        ensures none { IfNone result ((index : ℕ) → index < 4202512
+            → ¬ home_with self.now index ≡ None) }
+    {
+        for index in 0..PAGES {
+            if !self.has_index(index) {
+                return Some(index);
+            }
+        }
+        None
+    }
+
+    /// Whether a page of the directory has this index.
+    fn has_index(&self, index: u32) -> bool
+        ensures there { result ≡ true → ¬ home_with self.now index ≡ None }
+        ensures absent { result ≡ false → home_with self.now index ≡ None }
+    {
+        self.number_at(index).is_some()
+    }
+
+    /// The number of the page that has the index, counted along the chain.
+    fn number_at(&self, index: u32) -> Option<usize>
+        ensures { result ≡ number_with self.now index }
+    {
+        self.numbers.get(&index).copied()
+    }
+
     /// Puts a place behind the others, with the guess of its page. At an Err nothing has changed.
     fn push(&mut self, place: TagPlace, guess: Guess) -> Result<(), OutOfMemory>
         requires { home_with self.old place.index ≡ None }
@@ -179,7 +282,7 @@ impl TagDir {
         ensures same { self.new ≡ self.old }
         ensures room { M.room pages.new ≡ M.room pages.old }
     {
-        let tag = self.find(pages)?;
+        let tag = self.free_tag(pages)?;
         self.enter_as(pages, tag, at);
         Some(tag)
     }
@@ -243,8 +346,9 @@ impl TagDir {
         self.change(pages, tag.slot, &TagEntry { seq, at: None });
     }
 
-    /// A tag that may be taken: first where the guesses say, and then on all pages.
-    fn find<M: MetaPages>(&mut self, pages: &M) -> Option<Tag>
+    /// A tag that may be taken: looked for first where the guesses say, and then on all pages. None
+    /// exactly where no page has one.
+    pub fn free_tag<M: MetaPages>(&mut self, pages: &M) -> Option<Tag>
         requires { IsDirectory (M.pages pages.now) self.old }
         ensures some { IfSome result (CanTake (M.pages pages.now) self.old) }
         ensures none { IfNone result ((tag : Tag) → ¬ CanTake (M.pages pages.now) self.old tag) }
@@ -261,8 +365,7 @@ impl TagDir {
     fn number_of(&self, slot: u32) -> Option<usize>
         ensures { result ≡ number_with self.now (slot / 1022) }
     {
-        let index = slot / ENTRIES as u32;
-        self.numbers.get(&index).copied()
+        self.number_at(slot / ENTRIES as u32)
     }
 
     /// The home of the page that has the slot.

@@ -8,5 +8,5 @@ mod guess;
 mod laws;
 mod page;
 
-pub use dir::{TagDir, TagPlace};
+pub use dir::{ReadyPage, TagDir, TagPlace, put_ready};
 pub use laws::one_directory;
