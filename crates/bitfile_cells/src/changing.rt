@@ -56,6 +56,18 @@ fn replaced(
     Ok(RecordList::from_vec(found))
 }
 
+/// The records with this one in place of those of its kind, or among them in its order.
+pub fn put_among(
+    alloc: Global,
+    records: &[Record],
+    value: &Record,
+) -> Result<RecordList, OutOfMemory>
+    ensures { IfOk result (λ found. found ≡ with_kind (kind_of value.now) (Some value.now)
+        records.now) }
+{
+    replaced(alloc, records, value.kind(), &Some(*value))
+}
+
 /// Puts a record, or none, in place of those of a kind in the cell in use that stands there. After an
 /// error nothing has changed.
 fn change_record<M: MetaPages>(
@@ -122,8 +134,8 @@ fn replaced_two(
     ensures { IfOk result (λ found. found ≡ with_kind (kind_of other.now) (Some other.now)
         (with_kind (kind_of one.now) (Some one.now) records.now)) }
 {
-    let first = replaced(alloc, records, one.kind(), &Some(*one))?;
-    replaced(alloc, first.as_slice(), other.kind(), &Some(*other))
+    let first = put_among(alloc, records, one)?;
+    put_among(alloc, first.as_slice(), other)
 }
 
 /// Puts two records in place of those of their kinds in the cell in use that stands there. After an

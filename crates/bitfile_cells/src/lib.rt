@@ -10,7 +10,7 @@ mod switching;
 mod taking;
 mod walking;
 
-pub use changing::{clear_record, set_record, set_two_records};
+pub use changing::{clear_record, put_among, set_record, set_two_records};
 pub use giving::put_page;
 pub use maps::read_file_map;
 pub use putting::put_in_records;

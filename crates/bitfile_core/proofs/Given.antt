@@ -98,6 +98,10 @@ pub map_three_err : {A E : Type 0} {P Q R S : E → Type 0} (r : Result A E) →
 map_three_err (Ok x) f p q r = tt
 map_three_err (Err e) f p q r = f e p q r
 
+pub map_four_err : {A E : Type 0} {P Q R S T : E → Type 0} (r : Result A E) → ((e : E) → P e → Q e → R e → S e → T e) → IfErr r P → IfErr r Q → IfErr r R → IfErr r S → IfErr r T
+map_four_err (Ok x) f p q r s = tt
+map_four_err (Err e) f p q r s = f e p q r s
+
 -- ---- the page is given back
 
 pub not_given : (fault : StoreFault) (page : ℕ) (chain : List PlacedCell) (home : Home) (space taken space_now : Spaces) (cells : Cells) → CanTake space home.vol home.page → taken ≡ change_volume (with_page home.page) space home.vol

@@ -76,13 +76,13 @@ module _ (space space_now : Spaces) (cells between : Cells) (old new : Pages) (h
           (front_or_last (table_of cells h.vol) home.page h.page on)
 
 module _ (prefer : ℕ) (space space_now : Spaces) (cells cells_now : Cells) (old : Pages) (one : TakesOne prefer space space_now cells cells_now old) where
-  one_tables : (vol p : ℕ) → Contains (table_of cells vol) p → Contains (table_of cells_now vol) p
+  pub one_tables : (vol p : ℕ) → Contains (table_of cells vol) p → Contains (table_of cells_now vol) p
   one_tables vol p on = subst (λ (t : List ℕ). Contains t p) (sym (one.takes.taken.tables vol)) (⊎_elim
       (λ had. subst (λ (c : Cells). Contains (table_of c vol) p) (sym had.same_cells) on)
       (λ none. table_more space space_now cells one.takes.between old one.between none.home none.adds vol p on)
       one.takes.before)
 
-  one_apart : (h : Home) → IsHeldApart space cells h → IsHeldApart space_now cells_now h
+  pub one_apart : (h : Home) → IsHeldApart space cells h → IsHeldApart space_now cells_now h
   one_apart h is =
       let mid : IsHeldApart space_now one.takes.between h = ⊎_elim
       (λ had. subst (λ (s : Spaces). IsHeldApart s one.takes.between h) (sym had.same_space) (subst (λ (c : Cells). IsHeldApart space c h) (sym had.same_cells) is))

@@ -12,3 +12,5 @@ pub mod OneChain
 pub mod Again
 pub mod Given
 pub mod Truncated
+pub mod NewRecords
+pub mod Created

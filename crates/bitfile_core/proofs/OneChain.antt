@@ -102,7 +102,7 @@ some_stand pages (c ∷ cs) stand = ((c.cell, stand.0), some_stand pages cs stan
 
 -- ---- the chain of a tag
 
-same_tag_itself : (t : Tag) → same_tag t t ≡ true
+pub same_tag_itself : (t : Tag) → same_tag t t ≡ true
 same_tag_itself t = and_from (nat_eq t.slot t.slot) (nat_eq t.seq t.seq) (eq-eqb t.slot t.slot refl) (eq-eqb t.seq t.seq refl)
 
 module _ (tag : Tag) (change : List PlacedCell → List PlacedCell) (chains : Chains) where

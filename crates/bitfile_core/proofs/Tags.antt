@@ -14,7 +14,7 @@ use Rattle.bmt_mcells.proofs.Changed.{homes_same, same_itself}
 use Rattle.bmt_mcells.proofs.Frames.{stands_stays}
 use Rattle.tag_dirs.specs.declared.dir.TagPlace.{TagPlace}
 use Rattle.tag_dirs.specs.TagPage.{entry_of}
-use Rattle.tag_dirs.specs.Directory.{IsDirectory, IsPageOf, cell_for, cell_of, has_home, home_with}
+use Rattle.tag_dirs.specs.Directory.{IsDirectory, IsPageOf, cell_for, cell_of, entry_at, has_home, home_with}
 use Rattle.bitfile_cells.specs.Files.{AreFile}
 use Rattle.bitfile_cells.proofs.ChainChanges.{at_apart, follow_apart}
 
@@ -63,10 +63,12 @@ module _ (old new : Pages) (places : List TagPlace) (directory : IsDirectory old
       ∙ sym (ap (λ (b : Bool). option_and_then old (cond b (Some p.home) (home_with ps index))) other))
       (cases_Bool (nat_eq p.index index))
 
+  pub entry_same : (slot : ℕ) → entry_at new places slot ≡ entry_at old places slot
+  entry_same slot =
+      ap (option_map (λ page. entry_of page (slot % 1022))) (pages_with places (slot / 1022) (all_by_index (λ (p : TagPlace). new p.home ≡ old p.home) places page_same))
+
   pub cell_same : (tag : Tag) → cell_of new places tag ≡ cell_of old places tag
-  cell_same tag =
-      ap (λ o. option_and_then (cell_for tag.seq) (option_map (λ page. entry_of page (tag.slot % 1022)) o))
-      (pages_with places (tag.slot / 1022) (all_by_index (λ (p : TagPlace). new p.home ≡ old p.home) places page_same))
+  cell_same tag = ap (option_and_then (cell_for tag.seq)) (entry_same tag.slot)
 
 module _ (old new : Pages) (places : List TagPlace) (at : CellAt) (directory : IsDirectory old places) (bytes : List ℕ) (there : cell_at old at ≡ Some bytes)
     (elsewhere : (home : Home) → same_home home (home_of at) ≡ false → new home ≡ old home) where

@@ -1,4 +1,5 @@
 pub mod Changes
+pub mod Creation
 pub mod Files
 pub mod Pages
 pub mod Together

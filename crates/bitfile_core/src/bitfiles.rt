@@ -27,8 +27,8 @@ use tag_dirs::TagDir;
 /// and tags stand among the pages of metadata that each call is given.
 #[derive(Drop)]
 pub struct Bitfiles {
-    fileset: FilesetNo,
-    tags: TagDir,
+    pub(crate) fileset: FilesetNo,
+    pub(crate) tags: TagDir,
 }
 
 /// The record of a kind in the first cell of a file.

@@ -3,8 +3,10 @@
 
 mod attributes;
 mod bitfiles;
+mod creating;
 mod giving;
 mod truncating;
 
 pub use attributes::Attributes;
 pub use bitfiles::Bitfiles;
+pub use creating::NewFile;

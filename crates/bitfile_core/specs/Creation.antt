@@ -1,0 +1,175 @@
+-- A new file or directory.
+use Rattle.std.specs.Prelude.{◌≡◌, ◌⊎◌, ◌++◌, ℕ, true, false, List, [], ◌∷◌, Option, Some, None, Contains, if◌then◌else◌}
+use Rattle.std.specs.List.{AllByRecursion}
+use Rattle.domain_base.specs.declared.place.CellAt.{CellAt}
+use Rattle.domain_base.specs.declared.place.Home.{Home}
+use Rattle.domain_base.specs.declared.place.Kind.{Kind}
+use Rattle.domain_base.specs.declared.place.Kind.TheVariants.{Directory, File}
+use Rattle.domain_base.specs.declared.place.Tag.{Tag}
+use Rattle.domain_base.specs.declared.version.Version.{Version}
+use Rattle.page_store.specs.Pages.{Pages, same_home}
+use Rattle.page_store.specs.Bitfiles.{same_tag}
+use Rattle.page_store.specs.declared.fault.StoreFault.{StoreFault}
+use Rattle.page_store.specs.declared.fault.StoreFault.TheVariants.{NoPage, OutOfMemory}
+use Rattle.record_table.specs.declared.record.Record.{Record}
+use Rattle.record_table.specs.declared.record.Record.TheVariants as written
+use Rattle.record_table.specs.Records.{kind_of}
+use Rattle.bmt_mcells.specs.Cell.{AreRecords, Cell, record_of}
+use Rattle.bmt_mcells.specs.declared.head.CellHead.{CellHead}
+use Rattle.bmt_mcells.specs.declared.head.CellKind.TheVariants.{Primary}
+use Rattle.bmt_mcells.specs.CellPage.{KeepsHeaders, KeepsWellFormed, home_of}
+use Rattle.bmt_mcells.specs.Chain.{LeavesOthers, PlacedCell, StandsAt, is_at}
+use Rattle.tag_dirs.specs.declared.dir.TagPlace.{TagPlace}
+use Rattle.tag_dirs.specs.Directory.{CanTake as CanTakeTag, IsNextIndex, SetsTag, has_home}
+use Rattle.extent_maps.specs.declared.run.PagePlace.TheVariants.{Absent}
+use Rattle.extent_records.specs.Rows.{runs_in}
+use Rattle.extent_records.specs.Writing.{IsMapRecord, short_kind}
+use Rattle.free_cells.specs.Cells.{Cells, can_take, table_of}
+use Rattle.free_space.specs.VolumeSpace.{with_page}
+use Rattle.free_space.specs.Spaces.{CanTake, Spaces, change_volume, missed}
+use Rattle.bitfile_cells.specs.Changes.{with_kind}
+use Rattle.bitfile_cells.specs.FileChanges.{map_kinds}
+use Rattle.bitfile_cells.specs.Files.{map_records, places_of}
+use Rattle.bitfile_cells.specs.MapChanges.{TakesOne}
+use Rattle.bitfile_core.specs.declared.creating.NewFile.{NewFile}
+use Rattle.bitfile_core.specs.Changes.{kind_number}
+use Rattle.bitfile_core.specs.Files.{Chains, is_first_kind}
+use Rattle.bitfile_core.specs.Together.{AreTogether}
+
+abbrev pub new_file : Kind → ℕ → ℕ → ℕ → NewFile
+new_file kind uid gid birth = record { kind = kind; uid = uid; gid = gid; birth = birth }
+
+-- the attributes of a new file: no byte, one link, and all pages kept
+abbrev pub new_attributes : NewFile → Record
+new_attributes what =
+    written.Attributes (kind_number what.kind) what.uid what.gid 0 0 65536 1 what.birth 0
+
+-- a new directory stands in itself, until another is said
+abbrev pub new_parent : Kind → Tag → Option Record
+new_parent File tag = None
+new_parent Directory tag = Some (written.Parent tag.slot tag.seq)
+
+-- the records of a new file's first cell: these, one of extents as the version writes it, and no
+-- other
+pub record SaysNew (version : Version) (what : NewFile) (tag : Tag) (records : List Record)
+    : Type 0 where
+  pub attributes : record_of 1 records ≡ Some (new_attributes what)
+  pub parent : record_of 10 records ≡ new_parent what.kind tag
+  pub map : map_kinds records ≡ short_kind version ∷ []
+  pub others : (kind : ℕ) → ¬ kind ≡ 1 → ¬ kind ≡ 10 → ¬ kind ≡ short_kind version
+      → record_of kind records ≡ None
+
+-- the files with a new one at the tag
+abbrev pub with_new : Tag → List PlacedCell → Chains → Chains
+with_new tag chain chains = λ t. if same_tag t tag then Some chain else chains t
+
+-- the tag, which named nothing, names a new file of one cell, which was in no use; every other file
+-- is as it was, and all belongs together again
+pub record Creates (fileset : ℕ) (places : List TagPlace) (tag : Tag) (version : Version)
+    (what : NewFile) (chains : Chains) (space : Spaces) (cells cells_now : Cells)
+    (old new : Pages) : Type 0 where
+  pub fresh : chains tag ≡ None
+  pub first : PlacedCell
+  pub says : SaysNew version what tag first.cell.records
+  pub no_page : (page : ℕ) → places_of (first ∷ []) page ≡ Absent
+  pub was_free : (cell : Cell) → StandsAt old first.at cell
+      → ¬ Contains (table_of cells first.at.vol) first.at.page
+  pub together : AreTogether fileset places space cells_now new
+      (with_new tag (first ∷ []) chains)
+
+-- a cell is handed out, and the directory's pages stay
+pub record TakesCellOnly (prefer : ℕ) (places places_now : List TagPlace) (space space_now : Spaces)
+    (cells cells_now : Cells) (old : Pages) : Type 0 where
+  pub same : places_now ≡ places
+  pub cell : TakesOne prefer space space_now cells cells_now old
+
+-- no tag could be taken: a free page is taken for more, of the preferred volume if that has one, and
+-- then a cell is handed out
+pub record TakesTagPage (prefer : ℕ) (places places_now : List TagPlace)
+    (space space_now : Spaces) (cells cells_now : Cells) (old : Pages) : Type 0 where
+  pub none : (tag : Tag) → ¬ CanTakeTag old places tag
+  pub index : ℕ
+  pub home : Home
+  pub next : IsNextIndex index places
+  pub joins : places_now ≡ places ++ record { index = index; home = home } ∷ []
+  pub free : CanTake space home.vol home.page
+  pub preferred : (p : ℕ) → CanTake space prefer p → home.vol ≡ prefer
+  pub cell : TakesOne prefer (change_volume (with_page home.page) space home.vol) space_now cells
+      cells_now old
+
+abbrev pub TakesForFile : ℕ → List TagPlace → List TagPlace → Spaces → Spaces → Cells → Cells
+    → Pages → Type 0
+TakesForFile prefer places places_now space space_now cells cells_now old =
+    TakesCellOnly prefer places places_now space space_now cells cells_now old
+    ⊎ TakesTagPage prefer places places_now space space_now cells cells_now old
+
+-- no page is free, and no cell or no tag can be taken
+pub record LacksPage (places : List TagPlace) (space : Spaces) (cells : Cells) (old : Pages)
+    : Type 0 where
+  pub no_page : (vol p : ℕ) → ¬ CanTake space vol p
+  pub wanted : ((at : CellAt) → can_take cells at ≡ false) ⊎ ((tag : Tag) → ¬ CanTakeTag old places tag)
+
+-- no tag and no cell can be taken, and beside the one for more tags no page is free
+pub record LacksTwo (places : List TagPlace) (space : Spaces) (cells : Cells) (old : Pages)
+    : Type 0 where
+  pub no_tag : (tag : Tag) → ¬ CanTakeTag old places tag
+  pub no_cell : (at : CellAt) → can_take cells at ≡ false
+  pub home : Home
+  pub free : CanTake space home.vol home.page
+  pub no_other : (vol p : ℕ)
+      → ¬ CanTake (change_volume (with_page home.page) space home.vol) vol p
+
+-- no file is made for want of a page, which is a miss; or memory was short
+abbrev pub CreatesNone : List TagPlace → Spaces → Spaces → Cells → Pages → StoreFault → Type 0
+CreatesNone places space space_now cells old NoPage =
+    (LacksPage places space cells old ⊎ LacksTwo places space cells old)
+    × (space_now ≡ missed space)
+CreatesNone places space space_now cells old OutOfMemory = space_now ≡ space
+
+-- each page stays that stands on no volume's table and is none of the tag directory
+abbrev pub LeavesBeside : Cells → List TagPlace → Pages → Pages → Type 0
+LeavesBeside cells places old new = (home : Home) → ¬ Contains (table_of cells home.vol) home.page
+    → has_home places home ≡ false → new home ≡ old home
+
+-- ** What the functions within the crate answer
+
+-- the head of a file's only cell
+abbrev pub new_head : ℕ → Tag → CellHead
+new_head fileset tag = record {
+  next = None;
+  slot = tag.slot;
+  seq = tag.seq;
+  fileset = Some fileset;
+  kind = Primary;
+}
+
+-- records of attributes and of extents that say no page
+pub record AreNewFile (version : Version) (what : NewFile) (records : List Record) : Type 0 where
+  pub value : Record
+  pub of_kind : kind_of value ≡ short_kind version
+  pub is_map : IsMapRecord value
+  pub empty : runs_in value ≡ []
+  pub all : records ≡ with_kind (short_kind version) (Some value)
+      (with_kind 1 (Some (new_attributes what)) [])
+
+-- records of a new file's first cell
+pub record AreNew (version : Version) (what : NewFile) (tag : Tag) (records : List Record)
+    : Type 0 where
+  pub says : SaysNew version what tag records
+  pub good : AreRecords records
+  pub kinds : AllByRecursion (λ r. is_first_kind (kind_of r) ≡ true) records
+  pub value : Record
+  pub only : map_records records ≡ value ∷ []
+  pub is_map : IsMapRecord value
+  pub empty : runs_in value ≡ []
+
+-- a tag leads to a cell, which then is the first one of its file, with these records
+pub record Enters (fileset : ℕ) (places : List TagPlace) (tag : Tag) (at : CellAt)
+    (records : List Record) (old new : Pages) : Type 0 where
+  pub between : Pages
+  pub sets : SetsTag tag (Some at) places old between
+  pub stands : StandsAt new at (record { head = new_head fileset tag; records = records })
+  pub others : LeavesOthers (is_at at) between new
+  pub elsewhere : (home : Home) → same_home home (home_of at) ≡ false → new home ≡ between home
+  pub well_formed : KeepsWellFormed between new
+  pub headers : KeepsHeaders between new

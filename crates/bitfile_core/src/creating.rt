@@ -1,0 +1,455 @@
+//! Files and directories made.
+ghost use Rattle.std.specs.Prelude.{◌≡◌, ◌∷◌, ◌++◌, ◌+◌, ◌*◌, ◌<◌, ◌≤◌, ℕ, [], IfErr, IfOk, IfSome, IsSomeAnd, List, OnErr, OnOk, Contains, Some, None, false, if◌then◌else◌, ◌==◌, length};
+ghost use Rattle.domain_base.specs.declared.place.Home.{Home as HomeOf};
+ghost use Rattle.domain_base.specs.Page.{zero_bytes};
+ghost use Rattle.page_store.specs.Pages.{Pages, same_home};
+ghost use Rattle.bmt_mcells.specs.declared.head.CellKind.TheVariants.{Primary};
+ghost use Rattle.bmt_mcells.specs.Cell.{AreRecords, spellings};
+ghost use Rattle.bmt_mcells.specs.CellPage.{HasPlace, KeepsHeaders, KeepsWellFormed, cell_at, home_of as home_there};
+ghost use Rattle.bmt_mcells.specs.Chain.{LeavesOthers, StandsAt, is_at};
+ghost use Rattle.tag_dirs.specs.declared.dir.TagPlace.{TagPlace};
+ghost use Rattle.tag_dirs.specs.Directory.{CanTake as CanTakeTag, IsDirectory, IsNextIndex, IsReady, SetsTag, has_home, home_with};
+ghost use Rattle.free_space.specs.VolumeSpace.{without_page};
+ghost use Rattle.free_space.specs.Spaces.{IsHeld, change_volume};
+ghost use Rattle.bitfile_cells.specs.Allocated.{AreAllocated, FindsNone, Takes};
+ghost use Rattle.bitfile_cells.specs.FileChanges.{LeavesOtherCells};
+ghost use Rattle.bitfile_cells.specs.MapChanges.{TakesOne};
+ghost use Rattle.bitfile_core.specs.Creation.{AreNew, AreNewFile, Creates, CreatesNone, Enters, LeavesBeside, TakesForFile, TakesTagPage, new_attributes, new_file};
+ghost use Rattle.domain_base.specs.declared.place.Tag.{Tag as TagOf};
+ghost use Rattle.extent_maps.specs.declared.run.PagePlace.TheVariants.{At};
+ghost use Rattle.bitfile_core.specs.Files.{Chains, place_at};
+ghost use Rattle.bitfile_core.specs.Together.{AreTogether, HasTogether, IsHeldApart};
+
+use crate::bitfiles::Bitfiles;
+use bitfile_cells::{put_among, take_cell};
+use bmt_mcells::{CellHead, CellKind, RecordList, write_cell};
+use domain_base::{CellAt, FilesetNo, Home, Kind, OutOfMemory, Tag, Version, VolIx};
+use extent_records::empty_short;
+use free_cells::FreeCells;
+use free_space::FreeSpace;
+use page_store::{MetaPages, StoreFault};
+use record_table::Record;
+use std::alloc::Global;
+use tag_dirs::{ReadyPage, TagDir, put_ready};
+
+/// What a new file or directory is: whose it is, and of which clone's time.
+#[derive(Clone, Copy, Debug, PartialEq, Eq)]
+pub struct NewFile {
+    pub kind: Kind,
+    pub uid: u32,
+    pub gid: u32,
+    pub birth: u64,
+}
+
+/// The record of attributes of a new file.
+fn attributes_of(what: &NewFile) -> Record
+    ensures { result ≡ new_attributes what.now }
+{
+    Record::Attributes {
+        kind: match what.kind {
+            Kind::File => 1,
+            Kind::Directory => 2,
+        },
+        uid: what.uid,
+        gid: what.gid,
+        flags: 0,
+        size: 0,
+        keep: 65_536,
+        links: 1,
+        birth: what.birth,
+        unsynced: 0,
+    }
+}
+
+/// The records of attributes and of extents of a new file's first cell.
+fn file_records(alloc: Global, version: Version, what: &NewFile) -> Result<RecordList, OutOfMemory>
+    ensures { IfOk result (AreNewFile version what.now) }
+{
+    let none = RecordList::from_vec(Vec::new(alloc));
+    let one = put_among(alloc, none.as_slice(), &attributes_of(what))?;
+    put_among(alloc, one.as_slice(), &empty_short(version))
+}
+
+/// The records of a new file's first cell.
+fn first_records(
+    alloc: Global,
+    version: Version,
+    what: &NewFile,
+    tag: &Tag,
+) -> Result<RecordList, OutOfMemory>
+    ensures { IfOk result (AreNew version what.now tag.now) }
+{
+    prove!(what.uid <= u32::MAX);
+    prove!(what.gid <= u32::MAX);
+    prove!(what.birth <= u64::MAX);
+    prove!(tag.slot <= u32::MAX);
+    prove!(tag.seq <= u16::MAX);
+    let records = file_records(alloc, version, what)?;
+    match what.kind {
+        Kind::File => Ok(records),
+        Kind::Directory => put_among(
+            alloc,
+            records.as_slice(),
+            &Record::Parent {
+                slot: tag.slot,
+                seq: tag.seq,
+            },
+        ),
+    }
+}
+
+/// Makes a tag that can be taken lead to a cell, and that cell the first one of its file.
+fn enter_file<M: MetaPages>(
+    tags: &mut TagDir,
+    fileset: FilesetNo,
+    pages: &mut M,
+    tag: &Tag,
+    at: &CellAt,
+    records: &RecordList,
+)
+    requires directory { IsDirectory (M.pages pages.old) tags.old }
+    requires tag { CanTakeTag (M.pages pages.old) tags.old tag.now }
+    requires place { HasPlace (M.pages pages.old) at.now }
+    requires apart { has_home tags.old (home_there at.now) ≡ false }
+    requires good { AreRecords records.now }
+    requires fits { length (spellings records.now) ≤ 272 }
+    ensures entered { Enters fileset tags.old tag.now at.now records.now (M.pages pages.old)
+        (M.pages pages.new) }
+    ensures same { tags.new ≡ tags.old }
+    ensures room { M.room pages.new ≡ M.room pages.old }
+{
+    tags.enter_as(pages, *tag, *at);
+    let head = CellHead {
+        next: None,
+        slot: tag.slot,
+        seq: tag.seq,
+        fileset: Some(fileset),
+        kind: CellKind::Primary,
+    };
+    write_cell(pages, *at, &head, records);
+}
+
+/// Takes a cell, and room for one page of metadata.
+fn take_with_room<M: MetaPages>(
+    alloc: Global,
+    pages: &mut M,
+    space: &mut FreeSpace,
+    cells: &mut FreeCells,
+    prefer: VolIx,
+) -> Result<CellAt, StoreFault>
+    requires { AreAllocated space.old cells.old (M.pages pages.old) }
+    ensures ok { IfOk result (λ at. Takes prefer at space.old space.new cells.old cells.new
+        (M.pages pages.old) (M.pages pages.new)) }
+    ensures place { IfOk result (HasPlace (M.pages pages.new)) }
+    ensures zeros { IfOk result (λ at. cell_at (M.pages pages.new) at ≡ Some (zero_bytes 292)) }
+    ensures err { IfErr result (FindsNone space.old space.new cells.old) }
+    ensures cells { OnErr result (cells.new ≡ cells.old) }
+    ensures pages { OnErr result (M.pages pages.new ≡ M.pages pages.old) }
+    ensures allocated { AreAllocated space.new cells.new (M.pages pages.new) }
+    ensures spare { OnOk result (0 < M.room pages.new) }
+    ensures room { M.room pages.old ≤ M.room pages.new + 1 }
+{
+    pages.reserve(alloc, 2)?;
+    take_cell(alloc, pages, space, cells, prefer)
+}
+
+/// A cell that was taken, and a page of tags that is ready to be put.
+#[derive(Drop)]
+struct Taken {
+    at: CellAt,
+    ready: ReadyPage,
+}
+
+/// Makes a page of tags ready and takes a cell. At an Err nothing but room and the count of misses
+/// has changed.
+fn take_for_page<M: MetaPages>(
+    tags: &mut TagDir,
+    alloc: Global,
+    pages: &mut M,
+    space: &mut FreeSpace,
+    cells: &mut FreeCells,
+    index: u32,
+    home: &Home,
+    prefer: VolIx,
+) -> Result<Taken, StoreFault>
+    requires allocated { AreAllocated space.old cells.old (M.pages pages.old) }
+    requires index { index < 4202512 }
+    requires unused { home_with tags.old index ≡ None }
+    ensures places { OnOk result (tags.new ≡ tags.old ++ record {
+      index = index;
+      home = home.now;
+    } ∷ []) }
+    ensures ready { IfOk result (λ taken. IsReady index home.now tags.old taken.ready) }
+    ensures ok { IfOk result (λ taken. Takes prefer taken.at space.old space.new cells.old cells.new
+        (M.pages pages.old) (M.pages pages.new)) }
+    ensures place { IfOk result (λ taken. HasPlace (M.pages pages.new) taken.at) }
+    ensures zeros { IfOk result (λ taken. cell_at (M.pages pages.new) taken.at
+        ≡ Some (zero_bytes 292)) }
+    ensures err { IfErr result (FindsNone space.old space.new cells.old) }
+    ensures same { OnErr result (tags.new ≡ tags.old) }
+    ensures cells { OnErr result (cells.new ≡ cells.old) }
+    ensures pages { OnErr result (M.pages pages.new ≡ M.pages pages.old) }
+    ensures allocated { AreAllocated space.new cells.new (M.pages pages.new) }
+    ensures spare { OnOk result (0 < M.room pages.new) }
+    ensures room { M.room pages.old ≤ M.room pages.new + 1 }
+{
+    let ready = tags.prepare_page(alloc, index, *home)?;
+    match take_with_room(alloc, pages, space, cells, prefer) {
+        Ok(at) => Ok(Taken { at, ready }),
+        Err(fault) => {
+            tags.forget_last();
+            Err(fault)
+        }
+    }
+}
+
+/// Makes a file at a tag that can be taken.
+fn create_as<M: MetaPages>(
+    tags: &mut TagDir,
+    fileset: FilesetNo,
+    alloc: Global,
+    pages: &mut M,
+    space: &mut FreeSpace,
+    cells: &mut FreeCells,
+    tag: &Tag,
+    what: &NewFile,
+    version: Version,
+    prefer: VolIx,
+) -> Result<(), StoreFault>
+    requires together { HasTogether fileset tags.old space.old cells.old (M.pages pages.old) }
+    requires tag { CanTakeTag (M.pages pages.old) tags.old tag.now }
+    ensures ok { (chains : Chains)
+        → AreTogether fileset tags.old space.old cells.old (M.pages pages.old) chains
+        → OnOk result (Creates fileset tags.new tag.now version what.now chains space.new cells.old
+        cells.new (M.pages pages.old) (M.pages pages.new)) }
+    ensures taken { OnOk result (TakesOne prefer space.old space.new cells.old cells.new
+        (M.pages pages.old)) }
+    ensures err { IfErr result (FindsNone space.old space.new cells.old) }
+    ensures same { tags.new ≡ tags.old }
+    ensures cells { OnErr result (cells.new ≡ cells.old) }
+    ensures pages { OnErr result (M.pages pages.new ≡ M.pages pages.old) }
+    ensures others { LeavesOtherCells cells.old [] (M.pages pages.old) (M.pages pages.new) }
+    ensures elsewhere { LeavesBeside cells.new tags.new (M.pages pages.old) (M.pages pages.new) }
+    ensures room { M.room pages.old ≤ M.room pages.new + 1 }
+{
+    let records = first_records(alloc, version, what, tag)?;
+    let at = take_cell(alloc, pages, space, cells, prefer)?;
+    enter_file(tags, fileset, pages, tag, &at, &records);
+    Ok(())
+}
+
+/// The first tag of a page that was never used.
+fn first_tag(index: u32) -> Tag
+    requires { index < 4202512 }
+    ensures slot { result.slot ≡ 1022 * index + (if index == 0 then 1 else 0) }
+    ensures seq { result.seq ≡ 1 }
+{
+    Tag {
+        slot: 1022 * index + u32::from(index == 0),
+        seq: 1,
+    }
+}
+
+/// Makes a file at the first tag of a page of tags that is added at a home.
+fn create_at<M: MetaPages>(
+    tags: &mut TagDir,
+    fileset: FilesetNo,
+    alloc: Global,
+    pages: &mut M,
+    space: &mut FreeSpace,
+    cells: &mut FreeCells,
+    index: u32,
+    home: &Home,
+    what: &NewFile,
+    version: Version,
+    prefer: VolIx,
+) -> Result<Tag, StoreFault>
+    requires together { HasTogether fileset tags.old space.old cells.old (M.pages pages.old) }
+    requires next { IsNextIndex index tags.old }
+    requires apart { IsHeldApart space.old cells.old home.now }
+    requires no_tags { has_home tags.old home.now ≡ false }
+    requires nowhere { (chains : Chains)
+        → AreTogether fileset tags.old space.old cells.old (M.pages pages.old) chains
+        → (t : TagOf) (p : ℕ) → ¬ place_at chains t p ≡ At home.now }
+    ensures ok { (chains : Chains)
+        → AreTogether fileset tags.old space.old cells.old (M.pages pages.old) chains
+        → IfOk result (λ tag. Creates fileset tags.new tag version what.now chains space.new
+        cells.old cells.new (M.pages pages.old) (M.pages pages.new)) }
+    ensures taken { OnOk result (TakesOne prefer space.old space.new cells.old cells.new
+        (M.pages pages.old)) }
+    ensures joins { OnOk result (tags.new ≡ tags.old ++ record {
+      index = index;
+      home = home.now;
+    } ∷ []) }
+    ensures err { IfErr result (FindsNone space.old space.new cells.old) }
+    ensures same { OnErr result (tags.new ≡ tags.old) }
+    ensures cells { OnErr result (cells.new ≡ cells.old) }
+    ensures pages { OnErr result (M.pages pages.new ≡ M.pages pages.old) }
+    ensures others { LeavesOtherCells cells.old [] (M.pages pages.old) (M.pages pages.new) }
+    ensures elsewhere { LeavesBeside cells.new tags.new (M.pages pages.old) (M.pages pages.new) }
+    ensures room { M.room pages.old ≤ M.room pages.new + 2 }
+{
+    let tag = first_tag(index);
+    let records = first_records(alloc, version, what, &tag)?;
+    match take_for_page(tags, alloc, pages, space, cells, index, home, prefer) {
+        Ok(Taken { at, ready }) => {
+            put_ready(pages, ready);
+            enter_file(tags, fileset, pages, &tag, &at, &records);
+            Ok(tag)
+        }
+        Err(fault) => Err(fault),
+    }
+}
+
+/// Makes a file at the first tag of a page of tags that is added on a page that is taken for it, and
+/// gives that back where this fails.
+fn create_on_new_page<M: MetaPages>(
+    tags: &mut TagDir,
+    fileset: FilesetNo,
+    alloc: Global,
+    pages: &mut M,
+    space: &mut FreeSpace,
+    cells: &mut FreeCells,
+    what: &NewFile,
+    version: Version,
+    prefer: VolIx,
+) -> Result<Tag, StoreFault>
+    requires together { HasTogether fileset tags.old space.old cells.old (M.pages pages.old) }
+    requires none { (tag : TagOf) → ¬ CanTakeTag (M.pages pages.old) tags.old tag }
+    ensures ok { (chains : Chains)
+        → AreTogether fileset tags.old space.old cells.old (M.pages pages.old) chains
+        → IfOk result (λ tag. Creates fileset tags.new tag version what.now chains space.new
+        cells.old cells.new (M.pages pages.old) (M.pages pages.new)) }
+    ensures taken { OnOk result (TakesTagPage prefer tags.old tags.new space.old space.new cells.old
+        cells.new (M.pages pages.old)) }
+    ensures err { IfErr result (CreatesNone tags.old space.old space.new cells.old
+        (M.pages pages.old)) }
+    ensures same { OnErr result (tags.new ≡ tags.old) }
+    ensures cells { OnErr result (cells.new ≡ cells.old) }
+    ensures pages { OnErr result (M.pages pages.new ≡ M.pages pages.old) }
+    ensures others { LeavesOtherCells cells.old [] (M.pages pages.old) (M.pages pages.new) }
+    ensures elsewhere { LeavesBeside cells.new tags.new (M.pages pages.old) (M.pages pages.new) }
+    ensures room { M.room pages.old ≤ M.room pages.new + 2 }
+{
+    let Some(index) = tags.next_index() else {
+        return Err(StoreFault::OutOfMemory);
+    };
+    let Some(home) = space.allocate(prefer) else {
+        return Err(StoreFault::NoPage);
+    };
+    match create_at(
+        tags, fileset, alloc, pages, space, cells, index, &home, what, version, prefer,
+    ) {
+        Ok(tag) => Ok(tag),
+        Err(fault) => {
+            space.unreserve(home);
+            Err(fault)
+        }
+    }
+}
+
+/// Makes a file: at a tag that can be taken, or where none can, at one of a page that is added.
+fn create_file<M: MetaPages>(
+    tags: &mut TagDir,
+    fileset: FilesetNo,
+    alloc: Global,
+    pages: &mut M,
+    space: &mut FreeSpace,
+    cells: &mut FreeCells,
+    what: &NewFile,
+    version: Version,
+    prefer: VolIx,
+) -> Result<Tag, StoreFault>
+    requires { HasTogether fileset tags.old space.old cells.old (M.pages pages.old) }
+    ensures ok { (chains : Chains)
+        → AreTogether fileset tags.old space.old cells.old (M.pages pages.old) chains
+        → IfOk result (λ tag. Creates fileset tags.new tag version what.now chains space.new
+        cells.old cells.new (M.pages pages.old) (M.pages pages.new)) }
+    ensures taken { OnOk result (TakesForFile prefer tags.old tags.new space.old space.new cells.old
+        cells.new (M.pages pages.old)) }
+    ensures err { IfErr result (CreatesNone tags.old space.old space.new cells.old
+        (M.pages pages.old)) }
+    ensures same { OnErr result (tags.new ≡ tags.old) }
+    ensures cells { OnErr result (cells.new ≡ cells.old) }
+    ensures pages { OnErr result (M.pages pages.new ≡ M.pages pages.old) }
+    ensures others { LeavesOtherCells cells.old [] (M.pages pages.old) (M.pages pages.new) }
+    ensures elsewhere { LeavesBeside cells.new tags.new (M.pages pages.old) (M.pages pages.new) }
+    ensures room { M.room pages.old ≤ M.room pages.new + 2 }
+{
+    let Some(tag) = tags.free_tag(pages) else {
+        return create_on_new_page(
+            tags, fileset, alloc, pages, space, cells, what, version, prefer,
+        );
+    };
+    match create_as(
+        tags, fileset, alloc, pages, space, cells, &tag, what, version, prefer,
+    ) {
+        Ok(()) => Ok(tag),
+        Err(fault) => Err(fault),
+    }
+}
+
+impl Bitfiles {
+    /// Makes a file or a directory of that owner, and answers its tag, which named nothing before. It
+    /// has no byte, one link and no page, keeps all of its first 65,536 pages, and was born at that
+    /// clone's number; a directory stands in itself until another is said. Its cell is taken of the
+    /// preferred volume if that has one. Where no page of the tag directory has a tag to be taken, a
+    /// page is added, with the least index that none has. NoPage comes only where no page is free and
+    /// one is wanted, for cells or for tags, or only one and both want one; that is a miss.
+    /// OutOfMemory comes also where the tag directory has all pages that it may have. At an Err
+    /// nothing but room and the count of misses has changed.
+    pub fn create<M: MetaPages>(
+        &mut self,
+        alloc: Global,
+        pages: &mut M,
+        space: &mut FreeSpace,
+        cells: &mut FreeCells,
+        kind: Kind,
+        uid: u32,
+        gid: u32,
+        birth: u64,
+        version: Version,
+        prefer: VolIx,
+    ) -> Result<Tag, StoreFault>
+        requires { HasTogether self.old.fileset self.old.tags space.old cells.old
+            (M.pages pages.old) }
+        ensures ok { (chains : Chains) → AreTogether self.old.fileset self.old.tags space.old
+            cells.old (M.pages pages.old) chains → IfOk result (λ tag. Creates self.old.fileset
+            self.new.tags tag version (new_file kind uid gid birth) chains space.new cells.old
+            cells.new (M.pages pages.old) (M.pages pages.new)) }
+        ensures taken { OnOk result (TakesForFile prefer self.old.tags self.new.tags space.old
+            space.new cells.old cells.new (M.pages pages.old)) }
+        ensures err { IfErr result (CreatesNone self.old.tags space.old space.new cells.old
+            (M.pages pages.old)) }
+        ensures kept { (chains : Chains) → AreTogether self.old.fileset self.old.tags space.old
+            cells.old (M.pages pages.old) chains → OnErr result (AreTogether self.new.fileset
+            self.new.tags space.new cells.new (M.pages pages.new) chains) }
+        ensures fileset { self.new.fileset ≡ self.old.fileset }
+        ensures same { OnErr result (self.new ≡ self.old) }
+        ensures cells { OnErr result (cells.new ≡ cells.old) }
+        ensures pages { OnErr result (M.pages pages.new ≡ M.pages pages.old) }
+        ensures others { LeavesOtherCells cells.old [] (M.pages pages.old) (M.pages pages.new) }
+        ensures elsewhere { LeavesBeside cells.new self.new.tags (M.pages pages.old)
+            (M.pages pages.new) }
+        ensures room { M.room pages.old ≤ M.room pages.new + 2 }
+    {
+        let what = NewFile {
+            kind,
+            uid,
+            gid,
+            birth,
+        };
+        let fileset = self.fileset;
+        create_file(
+            &mut self.tags,
+            fileset,
+            alloc,
+            pages,
+            space,
+            cells,
+            &what,
+            version,
+            prefer,
+        )
+    }
+}
