@@ -7,7 +7,7 @@ use Rattle.domain_base.specs.declared.place.Tag.{Tag}
 use Rattle.page_store.specs.Bitfiles.{Bitfile, Bitfiles, IsBitfile, count_pages, page_at}
 use Rattle.dir_pages.specs.declared.row.Row.{Row}
 use Rattle.dir_pages.specs.RowPage.{IsDirPage, rows_of}
-use Rattle.dir_pages.proofs.Parts.{few}
+use Rattle.dir_pages.proofs.PageParts.{few}
 use Rattle.dir_rows.specs.Directory.{all_rows, row_pages, rows_at}
 
 pub at_past : {X : Type 0} (xs : List X) (k : ℕ) → length xs ≤ k → slice_get xs k ≡ None

@@ -8,7 +8,7 @@ use Rattle.page_store.specs.Bitfiles.{Bitfiles, IsDirectory, put_page, with_chan
 use Rattle.dir_pages.specs.declared.row.Row.{Row}
 use Rattle.dir_pages.specs.RowPage.{HasRows, rows_of, size_of}
 use Rattle.dir_pages.specs.Rows.{is_name_byte, is_dots, is_name_len, is_row_name, spelling, without}
-use Rattle.dir_pages.proofs.Parts.{size_is}
+use Rattle.dir_pages.proofs.PageParts.{size_is}
 use Rattle.dir_rows.specs.Directory.{row_pages}
 use Rattle.dir_rows.specs.RowChanges.{IsFirstWithRoom}
 use Rattle.dir_rows.specs.Steps.{IsCopyOf, PutsRowIn, TakesRow}
