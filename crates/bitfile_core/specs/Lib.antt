@@ -2,5 +2,6 @@ pub mod Changes
 pub mod Creation
 pub mod Files
 pub mod Pages
+pub mod Shown
 pub mod Together
 pub mod Truncation

@@ -5,8 +5,10 @@ mod attributes;
 mod bitfiles;
 mod creating;
 mod giving;
+mod laws;
 mod truncating;
 
 pub use attributes::Attributes;
 pub use bitfiles::Bitfiles;
 pub use creating::NewFile;
+pub use laws::files_show_once;
