@@ -1,0 +1,4 @@
+pub mod Leads
+pub mod Ways
+pub mod Walked
+pub mod Targets
