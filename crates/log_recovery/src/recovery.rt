@@ -147,8 +147,8 @@ fn redone_of(anchor: Anchor, scan: Scan) -> Redone
 ///
 /// `NotADomain` comes where a rule of a domain is broken, with the first place of these: the label
 /// page of each member, in the order of volumes; the page of anchors of volume 1, where no anchor
-/// counts or the one that does is out of range; the header's page of each group. `Fault` comes where
-/// a read of that volume failed.
+/// counts or the one that does is out of range; the header's page of each group. `Fault` comes
+/// where a read of that volume failed.
 pub fn recover<R: Rack>(alloc: Global, rack: &mut R) -> Result<Redone, RecoverFault>
     ensures reads { OnlyReads (R.disk rack.old) (R.disk rack.new) }
     ensures recovered { let old = R.disk rack.old in IfOk result (λ redone. Tells old

@@ -29,11 +29,11 @@ fn next_anchor(redone: &Redone) -> Anchor
     }
 }
 
-/// Settles a log as it was recovered: brings its images home, and writes the next anchor, with which
-/// the log starts behind them. It reads nothing. Each home is written once, with the last image of
-/// it, and each volume that was written is synced once, before the anchor. The anchor that was
-/// recovered has still to be the one that counts. The error is the volume, of which a write or a
-/// sync failed.
+/// Settles a log as it was recovered: brings its images home, and writes the next anchor, with
+/// which the log starts behind them. It reads nothing. Each home is written once, with the last
+/// image of it, and each volume that was written is synced once, before the anchor. The anchor that
+/// was recovered has still to be the one that counts. The error is the volume, of which a write or
+/// a sync failed.
 ///
 /// What a stop may leave is said where the log stands as it was recovered on each image that a stop
 /// might leave at the start, and the slot of the next anchor is ready (`MaySettle`, of which
