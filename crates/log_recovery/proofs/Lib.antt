@@ -1,4 +1,5 @@
 pub mod Labels
+pub mod OneOutcome
 pub mod Outcomes
 pub mod Reading
 pub mod Scanning

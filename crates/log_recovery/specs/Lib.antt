@@ -1,5 +1,6 @@
 pub mod Fault
 pub mod Groups
+pub mod Laws
 pub mod Members
 pub mod Outcome
 pub mod Range

@@ -93,7 +93,7 @@ tail_of : {X : Type 0} → List X → List X
 tail_of [] = []
 tail_of (x ∷ xs) = xs
 
-images-once : (image : Image) (anchor : Anchor) (xs ys : List PageImage) (place : ℕ) → homes_of xs ≡ homes_of ys → AreImagesAt image anchor place xs → AreImagesAt image anchor place ys → xs ≡ ys
+pub images-once : (image : Image) (anchor : Anchor) (xs ys : List PageImage) (place : ℕ) → homes_of xs ≡ homes_of ys → AreImagesAt image anchor place xs → AreImagesAt image anchor place ys → xs ≡ ys
 images-once image anchor [] [] place homes here there = refl
 images-once image anchor [] (y ∷ ys) place homes here there = cc
 images-once image anchor (x ∷ xs) [] place homes here there = cc
