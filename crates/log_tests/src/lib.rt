@@ -1,0 +1,10 @@
+//! Logs on racks in memory: what forces, checkpoints and recovery leave, whatever calls fail and
+//! wherever a stop comes.
+#![tactic(auto)]
+
+#[cfg(test)]
+mod counting;
+#[cfg(test)]
+mod forces;
+#[cfg(test)]
+mod logs;

@@ -1,0 +1,366 @@
+//! Logs by plain numbers, on racks in memory, whose calls are made where their conditions hold.
+ghost use Rattle.std.specs.Prelude.{◌≡◌, IsTrue};
+ghost use Rattle.volume_disk.specs.Disk.{Tells};
+ghost use Rattle.disk_label.specs.Anchor.{IsWhole};
+ghost use Rattle.log_ring.specs.Homes.{AreLoggable, HasMembers, IsLoggable};
+ghost use Rattle.log_ring.specs.Ring.{IsRing};
+ghost use Rattle.log_tests.specs.Calls.{HasMember, MayAppend, MayBringHome};
+
+use crate::counting::{CountRack, NO_CALLS};
+use disk_label::{ANCHORS_PAGE, Anchor, Member, write_anchor, write_label};
+use domain_base::limits::{
+    BLOCKS_PER_PAGE,
+    LOG_PAGES,
+    MAX_VOLUME_PAGES,
+    MAX_VOLUME_PAGES_4,
+    MAX_VOLUMES,
+    PAGE_BYTES,
+};
+use domain_base::{Home, OutOfMemory, Page, Version, VolIx};
+use log_recovery::recover;
+use memory_disk::MemoryRack;
+use meta_log::{LogFull, MetaLog};
+use page_change::{Change, PageImage, image_of};
+use std::alloc::Global;
+use volume_disk::{Rack, read_blocks};
+
+/// The pages of volumes 1 and 2.
+pub const SIZES: [u32; 2] = [160, 80];
+
+const NONE: Member = Member { pages: 0, state: 0 };
+
+/// The first anchor: its log begins at page 6 of volume 1, with a group of number 9 at this place.
+fn first_anchor(start: u32) -> Anchor
+    ensures start { result.start ≡ start }
+    ensures slot { result.slot ≡ 0 }
+    ensures page { result.log_page ≡ 6 }
+    ensures group { result.group ≡ 9 }
+{
+    let open = |pages| Member { pages, state: 1 };
+    Anchor {
+        number: 1,
+        version: 3,
+        log_vol: 1,
+        log_page: 6,
+        log_pages: LOG_PAGES,
+        start,
+        group: 9,
+        table: VolIx::new(1).map(|vol| Home { vol, page: 150 }),
+        members: [
+            open(160),
+            open(80),
+            NONE,
+            NONE,
+            NONE,
+            NONE,
+            NONE,
+            NONE,
+        ],
+        slot: 0,
+    }
+}
+
+// What the calls ask for.
+
+fn is_loggable(anchor: &Anchor, image: &PageImage) -> bool
+    ensures { IsTrue result → IsLoggable anchor.now image.now.home }
+{
+    let vol = image.home.vol;
+    let page = image.home.page;
+    let member = anchor.members[vol.index()];
+    let on_log = vol.number() == anchor.log_vol
+        && anchor.log_page <= page
+        && page - anchor.log_page < LOG_PAGES;
+    let inside = ANCHORS_PAGE < page && page < member.pages;
+    1 <= member.state && member.state <= 2 && inside && !on_log
+}
+
+fn are_loggable(anchor: &Anchor, images: &[PageImage]) -> bool
+    ensures { IsTrue result → AreLoggable anchor.now images.now }
+{
+    for image in images {
+        if !is_loggable(anchor, image) {
+            return false;
+        }
+    }
+    true
+}
+
+fn may_append(log: &MetaLog, change: &Change) -> bool
+    ensures { IsTrue result → MayAppend log.now change.now }
+{
+    log.last_durable() < 1 << 60
+        && !change.is_empty()
+        && are_loggable(log.anchor(), change.images())
+}
+
+fn has_ring<R: Rack>(rack: &R, anchor: &Anchor) -> bool
+    ensures { IsTrue result → IsRing (R.disk rack.now).sizes anchor.now }
+{
+    let Some(vol) = VolIx::new(anchor.log_vol) else {
+        return false;
+    };
+    let end = u64::from(anchor.log_page) + u64::from(LOG_PAGES);
+    vol.number() <= rack.volumes()
+        && 2 <= anchor.log_page
+        && end <= u64::from(rack.pages(vol))
+        && end <= u64::from(MAX_VOLUME_PAGES_4)
+}
+
+fn has_member<R: Rack>(rack: &R, anchor: &Anchor, vol: VolIx) -> bool
+    ensures { IsTrue result → HasMember (R.disk rack.now).sizes anchor.now vol }
+{
+    let member = anchor.members[vol.index()];
+    let is_none = member.state < 1 || member.state > 2;
+    let fits = member.pages <= rack.pages(vol) && member.pages <= MAX_VOLUME_PAGES_4;
+    is_none || (vol.number() <= rack.volumes() && fits)
+}
+
+fn has_members<R: Rack>(rack: &R, anchor: &Anchor) -> bool
+    ensures { IsTrue result → HasMembers (R.disk rack.now).sizes anchor.now }
+{
+    for number in 1..MAX_VOLUMES + 1 {
+        let Some(vol) = VolIx::new(number) else {
+            return false;
+        };
+        if !has_member(rack, anchor, vol) {
+            return false;
+        }
+    }
+    true
+}
+
+fn is_whole(anchor: &Anchor) -> bool
+    ensures { IsTrue result → IsWhole anchor.now }
+{
+    if anchor.log_vol < 1 || anchor.log_vol > 8 {
+        return false;
+    }
+    let is_version = anchor.version == 3 || anchor.version == 4;
+    is_version && anchor.table.is_some() && anchor.slot <= 1 && anchor.has_log_member()
+}
+
+fn may_bring_home<R: Rack>(log: &MetaLog, rack: &R) -> bool
+    ensures { IsTrue result → MayBringHome (R.disk rack.now) log.now log.now.anchor }
+{
+    let _room = log.room();
+    let anchor = log.anchor();
+    !log.is_pending()
+        && anchor.number < 1 << 60
+        && is_whole(anchor)
+        && has_ring(rack, anchor)
+        && has_members(rack, anchor)
+}
+
+// Calls.
+
+/// What an append answers: the number of a group, that the log is full, or nothing, since the change
+/// may not be appended.
+#[derive(Clone, Copy, Debug, PartialEq, Eq)]
+pub enum Appended {
+    Group(u64),
+    Full,
+    Unfit,
+}
+
+/// A change that puts pages full of a byte at pages of volume 2.
+fn change_of(alloc: Global, pages: &[(u32, u8)]) -> Result<Change, OutOfMemory> {
+    let mut change = Change::new(alloc)?;
+    let Some(vol) = VolIx::new(2) else {
+        return Ok(change);
+    };
+    for (page, byte) in pages {
+        let mut content = Page::zeros(alloc)?;
+        content.set(0, &[*byte; PAGE_BYTES]);
+        if change.len() < 32 {
+            change.put(Home { vol, page: *page }, content);
+        }
+    }
+    Ok(change)
+}
+
+/// Appends pages of volume 2 that are full of a byte.
+pub fn append(
+    log: &mut MetaLog,
+    alloc: Global,
+    pages: &[(u32, u8)],
+) -> Result<Appended, OutOfMemory> {
+    let change = change_of(alloc, pages)?;
+    if !may_append(log, &change) {
+        return Ok(Appended::Unfit);
+    }
+    Ok(match log.append(&change) {
+        Ok(number) => Appended::Group(number),
+        Err(LogFull) => Appended::Full,
+    })
+}
+
+/// Forces a log: the number of the last durable group, or the volume of which a call failed. 0 where
+/// the log has no ring.
+pub fn force(log: &mut MetaLog, rack: &mut CountRack) -> Result<u64, u32> {
+    if !has_ring(rack, log.anchor()) {
+        return Ok(0);
+    }
+    log.force(rack).map_err(|vol| vol.number())
+}
+
+/// Brings a log home on its ring: the number of the anchor, or the volume of which a call failed. 0
+/// where that may not be called.
+pub fn bring_home(log: &mut MetaLog, rack: &mut CountRack) -> Result<u64, u32> {
+    if !may_bring_home(log, rack) {
+        return Ok(0);
+    }
+    let anchor = *log.anchor();
+    log.checkpoint(rack, &anchor).map_err(|vol| vol.number())
+}
+
+/// Appends so many pages of volume 2 from one on, full of a byte.
+pub fn append_run(
+    log: &mut MetaLog,
+    alloc: Global,
+    first: u32,
+    count: u32,
+    byte: u8,
+) -> Result<Appended, OutOfMemory> {
+    let mut pages = Vec::new(alloc);
+    for i in 0..count {
+        pages.push((first.saturating_add(i), byte))?;
+    }
+    append(log, alloc, &pages)
+}
+
+// Racks.
+
+fn write_first<R: Rack>(rack: &mut R, anchor: &Anchor) -> bool
+    requires { ¬ Tells (R.disk rack.old) }
+{
+    let Some(vol) = VolIx::new(anchor.log_vol) else {
+        return false;
+    };
+    vol.number() <= rack.volumes()
+        && rack.pages(vol) >= 2
+        && is_whole(anchor)
+        && write_anchor(rack, anchor).is_ok()
+}
+
+fn write_labels<R: Rack>(rack: &mut R) {
+    for number in 1..3 {
+        let Some(vol) = VolIx::new(number) else {
+            return;
+        };
+        let pages = rack.pages(vol);
+        if vol.number() <= rack.volumes() && 1 <= pages && pages <= MAX_VOLUME_PAGES {
+            let _ = write_label(rack, vol, pages, Version::Three);
+        }
+    }
+}
+
+/// A rack with labels and the first anchor, on which these calls fail, and its log.
+pub fn started(
+    alloc: Global,
+    start: u32,
+    fails: &[u64],
+) -> Result<(CountRack, MetaLog), OutOfMemory> {
+    let rack = MemoryRack::new(alloc, &SIZES, fails, true)?;
+    let mut rack = CountRack {
+        rack,
+        counts: NO_CALLS,
+    };
+    let anchor = first_anchor(start % LOG_PAGES);
+    write_labels(&mut rack);
+    let _ = write_first(&mut rack, &anchor);
+    rack.counts = NO_CALLS;
+    let log = MetaLog::new(alloc, &anchor)?;
+    Ok((rack, log))
+}
+
+// What a rack holds.
+
+/// What recovery finds: how many groups, and the bytes that pages 10 to 12 of volume 2 are full of
+/// once they are redone, 255 for one that is not full of a byte.
+#[derive(Clone, Copy, Debug, PartialEq, Eq)]
+pub struct Seen {
+    pub groups: u64,
+    pub bytes: [u8; 3],
+}
+
+/// What is seen where nothing can be recovered.
+const NOTHING: Seen = Seen {
+    groups: u64::MAX,
+    bytes: [255; 3],
+};
+
+fn full_of(page: &[u8]) -> u8 {
+    match page.first() {
+        Some(byte) => {
+            if page.iter().all(|other| *other == *byte) {
+                *byte
+            } else {
+                255
+            }
+        }
+        None => 255,
+    }
+}
+
+fn byte_on<R: Rack>(rack: &mut R, vol: VolIx, page: u32) -> u8 {
+    let mut bytes = [0; PAGE_BYTES];
+    if vol.number() > rack.volumes() || page >= rack.pages(vol) || page > 1_000 {
+        return 255;
+    }
+    match read_blocks(rack, vol, BLOCKS_PER_PAGE * page, &mut bytes) {
+        Ok(()) => full_of(&bytes),
+        Err(_) => 255,
+    }
+}
+
+fn byte_redone<R: Rack>(rack: &mut R, images: &[PageImage], page: u32) -> u8 {
+    let Some(vol) = VolIx::new(2) else {
+        return 255;
+    };
+    match image_of(images, Home { vol, page }) {
+        Some(found) => full_of(found.bytes()),
+        None => byte_on(rack, vol, page),
+    }
+}
+
+/// What is seen on a rack.
+pub fn look_at(rack: &mut MemoryRack, alloc: Global) -> Seen {
+    match recover(alloc, rack) {
+        Ok(redone) => {
+            let images = redone.images.as_slice();
+            Seen {
+                groups: redone.next_group.saturating_sub(redone.anchor.group),
+                bytes: [10, 11, 12].map(|page| byte_redone(rack, images, page)),
+            }
+        }
+        Err(_) => NOTHING,
+    }
+}
+
+/// What is seen after a stop right after a call.
+pub fn left(rack: &CountRack, alloc: Global, call: u64, pick: u64) -> Result<Seen, OutOfMemory> {
+    if !rack.rack.keeps_calls() || call > rack.rack.calls() {
+        return Ok(NOTHING);
+    }
+    let mut image = rack.rack.image(alloc, call, pick)?;
+    Ok(look_at(&mut image, alloc))
+}
+
+/// Whether stops right after each of these calls, by picks 0 to 7, leave one of two.
+pub fn leaves(
+    rack: &CountRack,
+    alloc: Global,
+    calls: (u64, u64),
+    allowed: (Seen, Seen),
+) -> Result<bool, OutOfMemory> {
+    for call in calls.0..calls.1 {
+        for pick in 0..8 {
+            let found = left(rack, alloc, call, pick)?;
+            if found != allowed.0 && found != allowed.1 {
+                return Ok(false);
+            }
+        }
+    }
+    Ok(true)
+}
