@@ -1,0 +1,30 @@
+-- The pages of one volume with a page of cells and a page of tags, and no file.
+use Rattle.std.specs.Prelude.{◌≡◌, ℕ, false, List, [], ◌∷◌, length, Some, None}
+use Rattle.std.specs.FinSet.{empty, insert}
+use Rattle.std.specs.Ordering.{nat_cmp}
+use Rattle.domain_base.specs.declared.place.Home.{Home}
+use Rattle.page_store.specs.Pages.{Pages}
+use Rattle.storage_bitmap.specs.VolumePages.{VolumePages}
+use Rattle.free_cells.specs.Belong.{Belong, LeadsTo}
+use Rattle.free_cells.specs.Cells.{Cells, is_closed, table_of}
+use Rattle.free_space.specs.VolumeSpace.{added}
+use Rattle.free_space.specs.Spaces.{Spaces, no_spaces, with_volume}
+
+abbrev pub home_at : ℕ → Home
+home_at page = record { vol = 1; page = page }
+
+-- so many pages, of which the first three are used
+abbrev pub first_map : ℕ → VolumePages
+first_map count = record { pages = count; used = insert (insert (insert empty 0) 1) 2 }
+
+-- a volume of these pages
+abbrev pub first_space : ℕ → Spaces
+first_space count = with_volume (Some (added (first_map count))) no_spaces 1
+
+-- the volume has page 1 for its table, and no other has one
+pub record AreFirst (cells : Cells) (pages : Pages) : Type 0 where
+  pub belong : Belong cells pages
+  pub one : table_of cells 1 ≡ 1 ∷ []
+  pub others : (vol : ℕ) → ¬ vol ≡ 1 → table_of cells vol ≡ []
+  pub opened : (vol : ℕ) → is_closed cells vol ≡ false
+  pub ends : LeadsTo cells 1 pages 0

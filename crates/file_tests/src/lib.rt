@@ -1,0 +1,7 @@
+//! Tests of files and directories over pages of metadata in memory.
+#![tactic(auto)]
+
+#[cfg(test)]
+mod files;
+#[cfg(test)]
+mod world;
