@@ -15,3 +15,4 @@ pub mod Tags
 pub mod Truncated
 pub mod NewRecords
 pub mod Created
+pub mod FirstTogether

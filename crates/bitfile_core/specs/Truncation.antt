@@ -13,10 +13,13 @@ use Rattle.tag_dirs.specs.declared.dir.TagPlace.{TagPlace}
 use Rattle.extent_maps.specs.declared.run.PagePlace.TheVariants.{Absent}
 use Rattle.extent_maps.specs.declared.run.Run.{Run}
 use Rattle.extent_maps.specs.Runs.{Places, end_of}
+use Rattle.free_cells.specs.Cells.{Cells}
+use Rattle.free_space.specs.Spaces.{Spaces}
 use Rattle.bitfile_cells.specs.Changes.{with_record}
 use Rattle.bitfile_cells.specs.Files.{places_of}
 use Rattle.bitfile_core.specs.Changes.{with_chain, with_first}
 use Rattle.bitfile_core.specs.Files.{AreFiles, Chains, keep_of}
+use Rattle.bitfile_core.specs.Together.{AreTogether}
 
 -- how many pages so many bytes lie in
 abbrev pub pages_in : ℕ → ℕ
@@ -72,6 +75,14 @@ pub record Truncates (fileset : ℕ) (places : List TagPlace) (tag : Tag) (size 
       (with_chain tag (with_first (says_truncated size lowered)) chains)
   pub pending : IsSomeAnd (chains tag)
       (λ chain. at ≡ pending_cell (with_first (says_truncated size lowered) chain))
+
+-- the same, and all belongs together again
+pub record TruncatesTogether (fileset : ℕ) (places : List TagPlace) (tag : Tag) (size : ℕ)
+    (space : Spaces) (cells : Cells) (chains : Chains) (new : Pages) : Type 0 where
+  pub lowered : Option ℕ
+  pub stale : IsSomeAnd (chains tag) (λ chain. IsLowered size chain lowered)
+  pub together : AreTogether fileset places space cells new
+      (with_chain tag (with_first (says_truncated size lowered)) chains)
 
 -- the same of the chain that begins there
 pub record TruncatesChain (size : ℕ) (start : CellAt) (first : PlacedCell) (rest : List PlacedCell)

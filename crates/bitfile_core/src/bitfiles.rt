@@ -7,6 +7,9 @@ ghost use Rattle.bmt_mcells.specs.Cell.{Cell};
 ghost use Rattle.bmt_mcells.specs.CellPage.{KeepsHeaders, KeepsWellFormed, home_of as home_there};
 ghost use Rattle.bmt_mcells.specs.Chain.{LeavesOthers, PlacedCell, StandsAt, is_at};
 ghost use Rattle.extent_maps.specs.Runs.{AreRuns, place_of};
+ghost use Rattle.free_cells.specs.Cells.{Cells};
+ghost use Rattle.free_space.specs.Spaces.{Spaces};
+ghost use Rattle.bitfile_core.specs.Together.{AreTogether};
 ghost use Rattle.bitfile_cells.specs.Files.{HasFile, IsFile};
 ghost use Rattle.record_table.specs.Records.{Allowed, kind_of};
 ghost use Rattle.bitfile_cells.specs.Changes.{with_record};
@@ -234,6 +237,10 @@ impl Bitfiles {
             → AreFiles self.now.fileset self.now.tags (M.pages pages.old) chains
             → OnOk result (AreFiles self.now.fileset self.now.tags (M.pages pages.new)
             (with_chain tag (with_first (says_attributes value.now)) chains)) }
+        ensures together { (space : Spaces) (cells : Cells) (chains : Chains)
+            → AreTogether self.now.fileset self.now.tags space cells (M.pages pages.old) chains
+            → OnOk result (AreTogether self.now.fileset self.now.tags space cells
+            (M.pages pages.new) (with_chain tag (with_first (says_attributes value.now)) chains)) }
         ensures err { OnErr result (M.pages pages.new ≡ M.pages pages.old) }
         ensures beside { (chains : Chains)
             → AreFiles self.now.fileset self.now.tags (M.pages pages.old) chains
@@ -267,6 +274,10 @@ impl Bitfiles {
             → AreFiles self.now.fileset self.now.tags (M.pages pages.old) chains
             → OnOk result (AreFiles self.now.fileset self.now.tags (M.pages pages.new)
             (with_chain tag (with_first (says_parent parent)) chains)) }
+        ensures together { (space : Spaces) (cells : Cells) (chains : Chains)
+            → AreTogether self.now.fileset self.now.tags space cells (M.pages pages.old) chains
+            → OnOk result (AreTogether self.now.fileset self.now.tags space cells
+            (M.pages pages.new) (with_chain tag (with_first (says_parent parent)) chains)) }
         ensures err { OnErr result (M.pages pages.new ≡ M.pages pages.old) }
         ensures beside { (chains : Chains)
             → AreFiles self.now.fileset self.now.tags (M.pages pages.old) chains

@@ -10,11 +10,14 @@ ghost use Rattle.bmt_mcells.specs.Cell.{Cell, record_of};
 ghost use Rattle.bmt_mcells.specs.CellPage.{KeepsHeaders, KeepsWellFormed, home_of as home_there};
 ghost use Rattle.bmt_mcells.specs.Chain.{LeavesOthers, PlacedCell, StandsAt, is_at};
 ghost use Rattle.extent_maps.specs.Runs.{AreRuns, place_of};
+ghost use Rattle.free_cells.specs.Cells.{Cells};
+ghost use Rattle.free_space.specs.Spaces.{Spaces};
+ghost use Rattle.bitfile_core.specs.Together.{AreTogether};
 ghost use Rattle.bitfile_cells.specs.Changes.{with_two};
 ghost use Rattle.bitfile_cells.specs.Files.{HasFile, IsFile};
 ghost use Rattle.bitfile_core.specs.Changes.{ChangesFirst, HasFirstRoom, IsLive};
 ghost use Rattle.bitfile_core.specs.Files.{AreFiles, Chains, HasFiles, first_record as first_there};
-ghost use Rattle.bitfile_core.specs.Truncation.{HasPageWithin, IsLowered, Truncates, TruncatesChain, meets as meets_there, pages_in, says_truncated};
+ghost use Rattle.bitfile_core.specs.Truncation.{HasPageWithin, IsLowered, Truncates, TruncatesChain, TruncatesTogether, meets as meets_there, pages_in, says_truncated};
 
 use crate::attributes::{read_keep, with_size};
 use crate::bitfiles::{Bitfiles, first_record, set_first};
@@ -211,6 +214,10 @@ impl Bitfiles {
             → AreFiles self.now.fileset self.now.tags (M.pages pages.old) chains
             → IfOk result (λ at. Truncates self.now.fileset self.now.tags tag size at chains
             (M.pages pages.new)) }
+        ensures together { (space : Spaces) (cells : Cells) (chains : Chains)
+            → AreTogether self.now.fileset self.now.tags space cells (M.pages pages.old) chains
+            → OnOk result (TruncatesTogether self.now.fileset self.now.tags tag size space cells
+            chains (M.pages pages.new)) }
         ensures err { OnErr result (M.pages pages.new ≡ M.pages pages.old) }
         ensures beside { (chains : Chains)
             → AreFiles self.now.fileset self.now.tags (M.pages pages.old) chains

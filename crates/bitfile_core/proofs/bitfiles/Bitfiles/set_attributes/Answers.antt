@@ -2,6 +2,11 @@ use Rattle.std.proofs.Common.{◌∙◌, rules, sym, subst}
 use Rattle.bitfile_core.specs.Files.{IsLiveCell}
 use Rattle.bitfile_core.proofs.Room.{AreFit}
 use Rattle.bitfile_core.proofs.SetFirst.{allowed_now, changes_first, files_set, map_ok, no_cell, no_record, room_now, stands_first, the_first}
+use Rattle.domain_base.specs.declared.place.CellAt.{CellAt}
+use Rattle.bmt_mcells.specs.Chain.{LeavesOthers, is_at}
+use Rattle.bitfile_core.specs.Changes.{says_attributes}
+use Rattle.bitfile_core.proofs.FirstTogether.{attributes_keep, runs_kept, together_first}
+use Rattle.bitfile_core.proofs.RemoveFile.{the_first as any_first}
 use Rattle.bitfile_core.proofs.bitfiles.Bitfiles.set_attributes.Goals as goal
 
 pub returns-in_default-clause-ok : goal.returns-in_default-clause-ok
@@ -58,3 +63,26 @@ returns-clause-beside g c = λ chains are.
     changes_first pages c.args.value.now c.args.tag chains c.in-Some.at live c.in-Some-first_record.was c.with_attributes.result
     (λ cells is_file. sym c.in-Some-first_record.is ∙ c.first_record.ensures cells is_file) c.with_attributes.ensures
     (g.M.MetaPages.pages c.set_record.new.pages) c.set_record.ensures.others c.set_record.ensures.elsewhere
+
+pub returns-in_default-clause-together : goal.returns-in_default-clause-together
+returns-in_default-clause-together g c = λ space cells chains are.
+    let pages = g.M.MetaPages.pages c.args.pages.now in
+    absurd (no_cell pages c.args.value.now c.args.tag chains (c.requires.live chains are.files) (subst (IsLiveCell pages (chains c.args.tag)) c.in_default.is (c.live_cell.ensures chains are.files)))
+
+pub returns-in_default-first_record-clause-together : goal.returns-in_default-first_record-clause-together
+returns-in_default-first_record-clause-together g c = λ space cells chains are.
+    let pages = g.M.MetaPages.pages c.args.pages.now in
+    absurd (no_record pages c.args.value.now c.args.tag chains c.in-Some.at (c.requires.live chains are.files) (subst (IsLiveCell pages (chains c.args.tag)) c.in-Some.is (c.live_cell.ensures chains are.files))
+    (λ cells is_file. sym c.in_default-first_record.is ∙ c.first_record.ensures cells is_file))
+
+pub returns-clause-together : goal.returns-clause-together
+returns-clause-together g c = λ space cells chains are.
+    let pages = g.M.MetaPages.pages c.args.pages.now in
+    let new = g.M.MetaPages.pages c.set_record.new.pages in
+    let live = subst (IsLiveCell pages (chains c.args.tag)) c.in-Some.is (c.live_cell.ensures chains are.files) in
+    let of = any_first pages c.args.self.now.fileset c.args.self.now.tags c.args.tag chains c.in-Some.at are.files live in
+    map_ok
+    (λ files. together_first pages new c.args.self.now.fileset c.args.self.now.tags c.args.tag chains space cells (says_attributes c.args.value.now) are files of.first of.rest of.is of.file.links.stands
+    (subst (λ (a : CellAt). LeavesOthers (is_at a) pages new) (sym of.is_at) c.set_record.ensures.others) c.set_record.ensures.well_formed c.set_record.ensures.headers
+    (runs_kept (says_attributes c.args.value.now) of.first of.rest (attributes_keep pages of.first of.rest of.file c.args.value.now)))
+    c.set_record.result (returns-clause-ok g c chains are.files)

@@ -1,10 +1,12 @@
-use Rattle.std.proofs.Common.{refl, subst, arith}
+use Rattle.std.proofs.Common.{refl, subst, sym, arith}
 use Rattle.domain_base.specs.declared.place.CellAt.{CellAt}
 use Rattle.record_table.specs.declared.record.Record.TheVariants.{Parent}
-use Rattle.bmt_mcells.specs.Chain.{StandsAt}
+use Rattle.bmt_mcells.specs.Chain.{LeavesOthers, StandsAt, is_at}
 use Rattle.bitfile_core.specs.Files.{IsLiveCell}
 use Rattle.bitfile_core.proofs.RemoveFile.{files_mid, first_beside, no_live, room, the_first}
 use Rattle.bitfile_core.proofs.SetFirst.{map_ok}
+use Rattle.bitfile_core.specs.Changes.{says_parent}
+use Rattle.bitfile_core.proofs.FirstTogether.{parent_keeps, runs_kept, together_first}
 use Rattle.bitfile_core.proofs.bitfiles.Bitfiles.set_parent.Goals as goal
 
 pub put_parent-requires : goal.put_parent-requires
@@ -36,3 +38,20 @@ pub returns-in-None-clause-ok : goal.returns-in-None-clause-ok
 returns-in-None-clause-ok g c = λ chains are.
     let pages = g.M.MetaPages.pages c.args.pages.now in
     absurd (no_live pages c.args.tag chains (c.requires.live chains are) (subst (IsLiveCell pages (chains c.args.tag)) c.in-None.is (c.live_cell.ensures chains are)))
+
+pub returns-in-Some-clause-together : goal.returns-in-Some-clause-together
+returns-in-Some-clause-together g c = λ space cells chains are.
+    let pages = g.M.MetaPages.pages c.args.pages.now in
+    let new = g.M.MetaPages.pages c.put_parent.new.pages in
+    let live = subst (IsLiveCell pages (chains c.args.tag)) c.in-Some.is (c.live_cell.ensures chains are.files) in
+    let of = the_first pages c.args.self.now.fileset c.args.self.now.tags c.args.tag chains c.in-Some.at are.files live in
+    map_ok
+    (λ files. together_first pages new c.args.self.now.fileset c.args.self.now.tags c.args.tag chains space cells (says_parent c.args.parent) are files of.first of.rest of.is of.file.links.stands
+    (subst (λ (a : CellAt). LeavesOthers (is_at a) pages new) (sym of.is_at) c.put_parent.ensures.others) c.put_parent.ensures.well_formed c.put_parent.ensures.headers
+    (runs_kept (says_parent c.args.parent) of.first of.rest (parent_keeps pages of.first of.rest of.file c.args.parent)))
+    c.put_parent.result (returns-in-Some-clause-ok g c chains are.files)
+
+pub returns-in-None-clause-together : goal.returns-in-None-clause-together
+returns-in-None-clause-together g c = λ space cells chains are.
+    let pages = g.M.MetaPages.pages c.args.pages.now in
+    absurd (no_live pages c.args.tag chains (c.requires.live chains are.files) (subst (IsLiveCell pages (chains c.args.tag)) c.in-None.is (c.live_cell.ensures chains are.files)))

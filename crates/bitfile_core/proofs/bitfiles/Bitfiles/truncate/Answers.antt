@@ -3,6 +3,10 @@ use Rattle.bitfile_cells.proofs.Switched.{map_if}
 use Rattle.bitfile_core.specs.Files.{IsLiveCell}
 use Rattle.bitfile_core.proofs.RemoveFile.{first_beside, room, the_first}
 use Rattle.bitfile_core.proofs.Truncated.{truncates}
+use Rattle.domain_base.specs.declared.place.CellAt.{CellAt}
+use Rattle.bmt_mcells.specs.Chain.{LeavesOthers, is_at}
+use Rattle.bitfile_core.specs.Truncation.{says_truncated}
+use Rattle.bitfile_core.proofs.FirstTogether.{runs_kept, together_first, truncated_keeps}
 use Rattle.bitfile_core.proofs.bitfiles.Bitfiles.truncate.Goals as goal
 
 pub truncate_at-requires-clause-file : goal.truncate_at-requires-clause-file
@@ -36,3 +40,19 @@ returns-clause-beside g c = λ chains are.
     let pages = g.M.MetaPages.pages c.args.pages.now in
     let live = subst (IsLiveCell pages (chains c.args.tag)) c.in-Some.is (c.live_cell.ensures chains are) in
     first_beside pages c.args.self.now.fileset c.args.self.now.tags c.args.tag chains c.in-Some.at are live (g.M.MetaPages.pages c.truncate_at.new.pages) c.truncate_at.ensures.others c.truncate_at.ensures.elsewhere
+
+pub returns-clause-together : goal.returns-clause-together
+returns-clause-together g c = λ space cells chains are.
+    let pages = g.M.MetaPages.pages c.args.pages.now in
+    let new = g.M.MetaPages.pages c.truncate_at.new.pages in
+    let live = subst (IsLiveCell pages (chains c.args.tag)) c.in-Some.is (c.live_cell.ensures chains are.files) in
+    let of = the_first pages c.args.self.now.fileset c.args.self.now.tags c.args.tag chains c.in-Some.at are.files live in
+    map_if c.truncate_at.result
+    (λ at done. record {
+      lowered = done.lowered;
+      stale = done.stale;
+      together = together_first pages new c.args.self.now.fileset c.args.self.now.tags c.args.tag chains space cells (says_truncated c.args.size done.lowered) are done.files of.first of.rest of.is of.file.links.stands
+          (subst (λ (a : CellAt). LeavesOthers (is_at a) pages new) (sym of.is_at) c.truncate_at.ensures.others) c.truncate_at.ensures.well_formed c.truncate_at.ensures.headers
+          (runs_kept (says_truncated c.args.size done.lowered) of.first of.rest (truncated_keeps pages of.first of.rest of.file c.args.size done.lowered));
+    })
+    (returns-clause-ok g c chains are.files)

@@ -1,0 +1,108 @@
+-- All belongs together where one file's first cell says something else, but not of pages.
+use Rattle.std.proofs.Common.{◌≡◌, ◌∙◌, ℕ, ◌∷◌, ◌++◌, [], Bool, true, false, cond, nat_le, List, Option, Some, None, IfSome, IsSome, refl, sym, ap, subst, ⊎_elim}
+use Rattle.std.proofs.lemmas.Bool.{both_ways, cases_Bool, false_from_ne_true, true≢false}
+use Rattle.std.specs.List.{AllByRecursion}
+use Rattle.std.specs.Option.{option_map, option_map_or}
+use Rattle.domain_base.specs.declared.place.CellAt.{CellAt}
+use Rattle.domain_base.specs.declared.place.Home.{Home}
+use Rattle.domain_base.specs.declared.place.Tag.{Tag}
+use Rattle.page_store.specs.Pages.{Pages}
+use Rattle.page_store.specs.Bitfiles.{same_tag}
+use Rattle.record_table.specs.declared.record.Record.{Record}
+use Rattle.record_table.specs.declared.record.Record.TheVariants as written
+use Rattle.record_table.specs.Records.{kind_of}
+use Rattle.bmt_mcells.specs.Cell.{Cell, record_of}
+use Rattle.bmt_mcells.specs.CellPage.{KeepsHeaders, KeepsWellFormed}
+use Rattle.bmt_mcells.specs.Chain.{LeavesOthers, PlacedCell, StandsAt, is_at, records_of}
+use Rattle.tag_dirs.specs.declared.dir.TagPlace.{TagPlace}
+use Rattle.tag_dirs.specs.Directory.{cell_of}
+use Rattle.extent_maps.specs.declared.run.PagePlace.TheVariants.{Absent, At}
+use Rattle.extent_maps.specs.Runs.{place_of}
+use Rattle.extent_records.specs.Rows.{runs_in, runs_of}
+use Rattle.extent_records.specs.Writing.{most_rows}
+use Rattle.free_cells.specs.Cells.{Cells, is_free}
+use Rattle.free_space.specs.Spaces.{Spaces}
+use Rattle.bitfile_cells.specs.FileChanges.{AreOnTables}
+use Rattle.bitfile_cells.specs.Files.{AreFile, IsFile, has_rows, map_records, places_of}
+use Rattle.bitfile_cells.proofs.Added.{not_zeros}
+use Rattle.bitfile_cells.proofs.ChainChanges.{at_apart}
+use Rattle.bitfile_cells.proofs.MapRecords.{kind_found, runs_by_map, value_has_rows}
+use Rattle.bitfile_cells.proofs.Still.{allocated_still}
+use Rattle.bitfile_core.specs.declared.attributes.Attributes.{Attributes}
+use Rattle.bitfile_core.specs.Changes.{says_attributes, says_parent, with_attributes, with_chain, with_first}
+use Rattle.bitfile_core.specs.Files.{AreFiles, Chains, LeadsToFile, place_at}
+use Rattle.bitfile_core.specs.Together.{AreTogether}
+use Rattle.std.proofs.lemmas.Grind.{flat_map-append}
+use Rattle.bitfile_core.proofs.FirstCell.{map_stays}
+use Rattle.bitfile_core.proofs.OneChain.{chain_other, chain_same}
+use Rattle.bitfile_core.proofs.OneFile.{tags_same}
+use Rattle.bitfile_core.specs.Truncation.{says_truncated}
+use Rattle.bitfile_core.proofs.Room.{attributes_kind}
+use Rattle.bitfile_core.proofs.Truncated.{maps_truncated}
+
+module _ (old new : Pages) (fileset : ℕ) (places : List TagPlace) (tag : Tag) (chains : Chains) (space : Spaces) (cells : Cells) (change : Cell → Cell) (are : AreTogether fileset places space cells old chains)
+    (files : AreFiles fileset places new (with_chain tag (with_first change) chains)) (first : PlacedCell) (rest : List PlacedCell) (is : chains tag ≡ Some (first ∷ rest)) (stands : StandsAt old first.at first.cell) (leaves : LeavesOthers (is_at first.at) old new)
+    (good : KeepsWellFormed old new) (headers : KeepsHeaders old new) (maps : runs_of (records_of (with_first change (first ∷ rest))) ≡ runs_of (records_of (first ∷ rest))) where
+  abbrev now : Chains
+  now = with_chain tag (with_first change) chains
+
+  now_tag : (t : Tag) → same_tag t tag ≡ true → now t ≡ Some (with_first change (first ∷ rest))
+  now_tag t same = chain_same tag (with_first change) chains t same ∙ ap (λ (u : Tag). option_map (with_first change) (chains u)) (tags_same t tag same) ∙ ap (option_map (with_first change)) is
+
+  place_same : (t : Tag) (p : ℕ) → place_at now t p ≡ place_at chains t p
+  place_same t p = ⊎_elim
+      (λ same.
+      ap (λ o. option_map_or (λ cs. places_of cs p) o Absent) (now_tag t same) ∙ ap (λ rs. place_of rs p) maps
+      ∙ sym (ap (λ o. option_map_or (λ cs. places_of cs p) o Absent) is) ∙ sym (ap (λ (u : Tag). place_at chains u p) (tags_same t tag same)))
+      (λ other. ap (λ o. option_map_or (λ cs. places_of cs p) o Absent) (chain_other tag (with_first change) chains t other))
+      (cases_Bool (same_tag t tag))
+
+  on_now : (t : Tag) → IfSome (now t) (AreOnTables cells)
+  on_now t = ⊎_elim
+      (λ same. subst (λ o. IfSome o (AreOnTables cells)) (sym (now_tag t same)) (subst (λ o. IfSome o (AreOnTables cells)) is (are.on_tables tag)))
+      (λ other. subst (λ o. IfSome o (AreOnTables cells)) (sym (chain_other tag (with_first change) chains t other)) (are.on_tables t))
+      (cases_Bool (same_tag t tag))
+
+  pub together_first : AreTogether fileset places space cells new (with_chain tag (with_first change) chains)
+  together_first = record {
+    files = files;
+    allocated = allocated_still space cells old new are.allocated good headers (is_at first.at) leaves (λ q free. at_apart first.at q (λ same. not_zeros old q first.at first.cell (are.allocated.belong.zeros q free) stands (sym same)));
+    on_tables = on_now;
+    tag_pages = are.tag_pages;
+    file_pages = λ t p h there. are.file_pages t p h (sym (place_same t p) ∙ there);
+    once = λ s t p q h a b. are.once s t p q h (sym (place_same s p) ∙ a) (sym (place_same t q) ∙ b);
+  }
+
+-- a first cell whose record that says where pages stand is the same
+pub runs_kept : (change : Cell → Cell) (first : PlacedCell) (rest : List PlacedCell) → map_records (change first.cell).records ≡ map_records first.cell.records → runs_of (records_of (with_first change (first ∷ rest))) ≡ runs_of (records_of (first ∷ rest))
+runs_kept change first rest same =
+    flat_map-append runs_in (change first.cell).records (records_of rest)
+    ∙ ap (λ xs. xs ++ runs_of (records_of rest)) (runs_by_map (change first.cell).records ∙ ap runs_of same ∙ sym (runs_by_map first.cell.records))
+    ∙ sym (flat_map-append runs_in first.cell.records (records_of rest))
+
+-- ---- which changes leave that record
+
+not_of : (map : Record) (k : ℕ) → has_rows map ≡ true → nat_le 1 (most_rows k) ≡ false → ¬ kind_of map ≡ k
+not_of map k rows none is = true≢false (sym rows ∙ ap (λ k. nat_le 1 (most_rows k)) is ∙ none)
+
+module _ (pages : Pages) (first : PlacedCell) (rest : List PlacedCell) (file : AreFile pages first rest) where
+  rows : has_rows file.value ≡ true
+  rows = value_has_rows file.value file.map.is_map
+
+  pub attributes_keep : (value : Attributes) → map_records (says_attributes value first.cell).records ≡ map_records first.cell.records
+  attributes_keep value =
+      map_stays 1 (option_map (with_attributes value) (record_of 1 first.cell.records)) first.cell.records file.value file.map.only (not_of file.value 1 rows refl) (none_there (record_of 1 first.cell.records) refl) ∙ sym file.map.only
+    where
+      none_there : (o : Option Record) → record_of 1 first.cell.records ≡ o → IfSome (option_map (with_attributes value) o) (λ r. has_rows r ≡ false)
+      none_there None is = tt
+      none_there (Some r) is = ap (λ k. nat_le 1 (most_rows k)) (attributes_kind value r ∙ kind_found 1 first.cell.records r is)
+
+  pub parent_keeps : (parent : Tag) → map_records (says_parent parent first.cell).records ≡ map_records first.cell.records
+  parent_keeps parent = map_stays 10 (Some (written.Parent parent.slot parent.seq)) first.cell.records file.value file.map.only (not_of file.value 10 rows refl) refl ∙ sym file.map.only
+
+  pub truncated_keeps : (size : ℕ) (lowered : Option ℕ) → map_records (says_truncated size lowered first.cell).records ≡ map_records first.cell.records
+  truncated_keeps size lowered = by_attributes (record_of 1 first.cell.records) refl file.attributes
+    where
+      by_attributes : (o : Option Record) → record_of 1 first.cell.records ≡ o → IsSome o → map_records (says_truncated size lowered first.cell).records ≡ map_records first.cell.records
+      by_attributes None is some = absurd (true≢false (sym some))
+      by_attributes (Some was) is some = maps_truncated size first.cell was is file.value file.map.only rows lowered ∙ sym file.map.only
