@@ -82,11 +82,11 @@ runs_kept change first rest same =
 
 -- ---- which changes leave that record
 
-not_of : (map : Record) (k : ℕ) → has_rows map ≡ true → nat_le 1 (most_rows k) ≡ false → ¬ kind_of map ≡ k
+pub not_of : (map : Record) (k : ℕ) → has_rows map ≡ true → nat_le 1 (most_rows k) ≡ false → ¬ kind_of map ≡ k
 not_of map k rows none is = true≢false (sym rows ∙ ap (λ k. nat_le 1 (most_rows k)) is ∙ none)
 
 module _ (pages : Pages) (first : PlacedCell) (rest : List PlacedCell) (file : AreFile pages first rest) where
-  rows : has_rows file.value ≡ true
+  pub rows : has_rows file.value ≡ true
   rows = value_has_rows file.value file.map.is_map
 
   pub attributes_keep : (value : Attributes) → map_records (says_attributes value first.cell).records ≡ map_records first.cell.records

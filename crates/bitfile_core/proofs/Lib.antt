@@ -16,3 +16,4 @@ pub mod Truncated
 pub mod NewRecords
 pub mod Created
 pub mod FirstTogether
+pub mod RemovedTogether

@@ -13,7 +13,7 @@ ghost use Rattle.bitfile_core.specs.Together.{AreTogether};
 ghost use Rattle.bitfile_cells.specs.Files.{HasFile, IsFile};
 ghost use Rattle.record_table.specs.Records.{Allowed, kind_of};
 ghost use Rattle.bitfile_cells.specs.Changes.{with_record};
-ghost use Rattle.bitfile_core.specs.Changes.{CanSay, ChangesBeside, ChangesFirst, HasFirstRoom, IsLive, Removes, says_attributes, says_parent, says_removed, with_chain, with_first};
+ghost use Rattle.bitfile_core.specs.Changes.{CanSay, ChangesBeside, ChangesFirst, HasFirstRoom, IsLive, Removes, says_attributes, says_parent, says_removed, with_chain, with_first, without_chain};
 ghost use Rattle.bitfile_core.specs.Files.{AreFiles, Chains, HasFiles, IsLiveCell, attributes_of, first_record as first_there, is_first_kind, is_removed, keep_of, of_live, place_at};
 
 use crate::attributes::{Attributes, read_attributes, read_keep, says_remove, with_attributes};
@@ -84,6 +84,8 @@ fn set_pending<M: MetaPages>(alloc: Global, pages: &mut M, at: &CellAt) -> Resul
         → OnOk result (StandsAt (M.pages pages.new) at.now (says_removed cell)) }
     ensures err { OnErr result (M.pages pages.new ≡ M.pages pages.old) }
     ensures others { LeavesOthers (is_at at.now) (M.pages pages.old) (M.pages pages.new) }
+    ensures well_formed { KeepsWellFormed (M.pages pages.old) (M.pages pages.new) }
+    ensures headers { KeepsHeaders (M.pages pages.old) (M.pages pages.new) }
     ensures elsewhere { (home : HomeOf) → same_home home (home_there at.now) ≡ false
         → M.pages pages.new home ≡ M.pages pages.old home }
     ensures room { M.room pages.new ≡ M.room pages.old }
@@ -309,6 +311,10 @@ impl Bitfiles {
             → AreFiles self.old.fileset self.old.tags (M.pages pages.old) chains
             → IfOk result (λ at. Removes self.old.fileset self.old.tags tag at chains
             (M.pages pages.new)) }
+        ensures together { (space : Spaces) (cells : Cells) (chains : Chains)
+            → AreTogether self.old.fileset self.old.tags space cells (M.pages pages.old) chains
+            → OnOk result (AreTogether self.new.fileset self.new.tags space cells
+            (M.pages pages.new) (without_chain tag chains)) }
         ensures err { OnErr result (M.pages pages.new ≡ M.pages pages.old) }
         ensures beside { (chains : Chains)
             → AreFiles self.old.fileset self.old.tags (M.pages pages.old) chains

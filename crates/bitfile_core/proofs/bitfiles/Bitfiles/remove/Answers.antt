@@ -1,8 +1,11 @@
-use Rattle.std.proofs.Common.{subst}
+use Rattle.std.proofs.Common.{subst, sym}
 use Rattle.domain_base.specs.declared.place.CellAt.{CellAt}
-use Rattle.bmt_mcells.specs.Chain.{StandsAt}
+use Rattle.bmt_mcells.specs.Chain.{LeavesOthers, StandsAt, is_at}
 use Rattle.bitfile_core.specs.Files.{IsLiveCell}
 use Rattle.bitfile_core.proofs.RemoveFile.{beside, removed_files, no_live, removes, room, the_first, removed_used}
+use Rattle.bitfile_core.specs.Changes.{says_removed}
+use Rattle.bitfile_core.proofs.FirstTogether.{runs_kept, together_first}
+use Rattle.bitfile_core.proofs.RemovedTogether.{removed_keeps, together_without}
 use Rattle.bitfile_core.proofs.bitfiles.Bitfiles.remove.Goals as goal
 
 pub returns-in_default-clause-beside : goal.returns-in_default-clause-beside
@@ -61,3 +64,20 @@ returns-clause-beside g c = λ chains are.
     let of = the_first pages fileset places c.args.tag chains c.in-Some.at are live in
     let stands = c.in_ok-set_pending.ensures.ok of.first.cell (subst (λ (a : CellAt). StandsAt pages a of.first.cell) of.is_at of.file.links.stands) in
     beside pages fileset places c.args.tag chains c.in-Some.at are live (g.M.MetaPages.pages c.set_pending.new.pages) stands c.set_pending.ensures.others c.set_pending.ensures.elsewhere (g.M.MetaPages.pages c.drop_tag.new.pages) c.drop_tag.ensures.value
+
+pub returns-clause-together : goal.returns-clause-together
+returns-clause-together g c = λ space cells chains are.
+    let pages = g.M.MetaPages.pages c.args.pages.now in
+    let mid = g.M.MetaPages.pages c.set_pending.new.pages in
+    let new = g.M.MetaPages.pages c.drop_tag.new.pages in
+    let fileset = c.args.self.now.fileset in
+    let places = c.args.self.now.tags in
+    let live = subst (IsLiveCell pages (chains c.args.tag)) c.in-Some.is (c.live_cell.ensures chains are.files) in
+    let of = the_first pages fileset places c.args.tag chains c.in-Some.at are.files live in
+    let stands = c.in_ok-set_pending.ensures.ok of.first.cell (subst (λ (a : CellAt). StandsAt pages a of.first.cell) of.is_at of.file.links.stands) in
+    let files = removed_files pages fileset places c.args.tag chains c.in-Some.at are.files live mid stands c.set_pending.ensures.others c.set_pending.ensures.elsewhere in
+    let between = together_first pages mid fileset places c.args.tag chains space cells says_removed are files of.first of.rest of.is of.file.links.stands
+    (subst (λ (a : CellAt). LeavesOthers (is_at a) pages mid) (sym of.is_at) c.set_pending.ensures.others) c.set_pending.ensures.well_formed c.set_pending.ensures.headers
+    (runs_kept says_removed of.first of.rest (removed_keeps pages of.first of.rest of.file)) in
+    let removed = removes pages fileset places c.args.tag chains c.in-Some.at are.files live mid stands c.set_pending.ensures.others c.set_pending.ensures.elsewhere new c.drop_tag.ensures.value in
+    together_without pages mid new fileset places c.args.tag chains space cells are between.allocated removed.files c.drop_tag.ensures.value.elsewhere
