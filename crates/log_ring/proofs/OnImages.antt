@@ -1,5 +1,6 @@
 -- Groups on images: what they depend on, and that there is one list of them.
 use Rattle.std.proofs.Common.{◌≡◌, ℕ, ◌+◌, ◌*◌, ◌%◌, ◌<◌, ◌≤◌, List, [], ◌∷◌, ◌++◌, length, map, refl, sym, ◌∙◌, ap, subst, inl, inr, arith}
+use Rattle.std.proofs.lemmas.List.{append-nil}
 use Rattle.domain_base.specs.declared.place.Home.{Home}
 use Rattle.volume_disk.specs.Image.{Image, SameIn}
 use Rattle.disk_label.specs.declared.anchor.Anchor.{Anchor}
@@ -71,11 +72,6 @@ next_closed anchor image [] place number are = subst (λ (p : ℕ). ¬ IsGateOpe
 next_closed anchor image (group ∷ groups) place number are =
     subst (λ (p : ℕ). ¬ IsGateOpen image anchor p) (omega arith) (next_closed anchor image groups (place + 1 + length group.images) (number + 1) are.2)
 
--- no group behind them
-pub append-nil : (groups : List Group) → groups ++ [] ≡ groups
-append-nil [] = refl
-append-nil (group ∷ groups) = λ i. group ∷ append-nil groups i
-
 pub groups-same : (anchor : Anchor) (place number : ℕ) (groups : List Group) (old new : Image) → DependsOnRead anchor place number groups old new
 groups-same anchor place number groups old new same are =
     subst (λ (gs : List Group). AreGroups anchor place number gs new) (append-nil groups)
@@ -88,10 +84,6 @@ read_on_log anchor place groups v k (inl is) = on_log anchor (place + is.0) v k 
 read_on_log anchor place groups v k (inr is) = (is.0, omega (arith, is.1), omega (arith, is.1))
 
 -- One list of groups.
-
-tail_of : {X : Type 0} → List X → List X
-tail_of [] = []
-tail_of (x ∷ xs) = xs
 
 pub images-once : (image : Image) (anchor : Anchor) (xs ys : List PageImage) (place : ℕ) → homes_of xs ≡ homes_of ys → AreImagesAt image anchor place xs → AreImagesAt image anchor place ys → xs ≡ ys
 images-once image anchor [] [] place homes here there = refl

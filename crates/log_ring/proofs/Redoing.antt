@@ -2,6 +2,7 @@
 use Rattle.std.proofs.Common.{◌≡◌, ◌⊎◌, ℕ, List, [], ◌∷◌, ◌++◌, Option, Some, None, IsSome, IfSome, refl, sym, ◌∙◌, ap, inl, inr}
 use Rattle.std.specs.Option.{option_or}
 use Rattle.std.proofs.lemmas.Grind.{flat_map-append}
+use Rattle.std.proofs.lemmas.List.{append-nil}
 use Rattle.domain_base.specs.declared.place.Home.{Home}
 use Rattle.volume_disk.specs.Image.{Image, page_at}
 use Rattle.page_change.specs.Images.{image_at, overlaid}
@@ -11,10 +12,6 @@ use Rattle.log_ring.specs.Laws.{AreHome, IsLogged, RedoesAlike, RedoesNothing, R
 
 pub images_of-one_more : (groups : List Group) (group : Group) → images_of (groups ++ group ∷ []) ≡ images_of groups ++ group.images
 images_of-one_more groups group = flat_map-append (λ (g : Group). g.images) groups (group ∷ []) ∙ ap (λ (l : List PageImage). images_of groups ++ l) (append-nil group.images)
-  where
-    append-nil : (images : List PageImage) → images ++ [] ≡ images
-    append-nil [] = refl
-    append-nil (image ∷ images) = λ i. image ∷ append-nil images i
 
 pub redoes_alike : (groups : List Group) (old new : Image) → RedoesAlike groups old new
 redoes_alike groups old new home (inl logged) = go (image_at home (images_of groups)) logged

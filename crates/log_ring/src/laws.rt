@@ -15,9 +15,9 @@ ghost use Rattle.log_ring.specs.Laws.{
 };
 
 /// Laws of a log on images. Calls that touch neither the pages of anchors nor the ring leave what
-/// stands of the log (`stays`). From a place on an image has one list of groups at most (`one_way`),
-/// which depends on the pages of these groups and on the next gate alone (`depends`), and these lie
-/// on the ring (`on_ring`).
+/// stands of the log (`stays`). From a place on an image has one list of groups at most
+/// (`one_way`), which depends on the pages of these groups and on the next gate alone (`depends`),
+/// and these lie on the ring (`on_ring`).
 pub fn log_laws()
     ensures stays { (old new : Disk) (anchor : Anchor) (groups : List Group)
         → KeepsLog old new anchor groups }
@@ -31,8 +31,8 @@ pub fn log_laws()
 
 /// Laws of redone pages. One more group is one more overlay (`one_more`). Two images on which the
 /// same groups are redone have the same page at each home that a group has, and at each on which
-/// they agree (`alike`): so groups may be redone again. And where each home has the last image of it,
-/// redoing changes nothing (`home`).
+/// they agree (`alike`): so groups may be redone again. And where each home has the last image of
+/// it, redoing changes nothing (`home`).
 pub fn redo_laws()
     ensures one_more { (groups : List Group) (group : Group) (image : Image)
         → RedoesOneMore groups group image }

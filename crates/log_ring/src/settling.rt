@@ -133,8 +133,8 @@ fn sync_homes<R: Rack>(rack: &mut R, images: &[PageImage]) -> Result<(), VolIx>
 }
 
 /// Brings the images of a log home, and writes the anchor with which it starts behind them. Each
-/// home is written once, with the last image of it, and each volume that was written is synced once,
-/// before the anchor.
+/// home is written once, with the last image of it, and each volume that was written is synced
+/// once, before the anchor.
 pub fn bring_home<R: Rack>(rack: &mut R, images: &[PageImage], next: &Anchor) -> Result<(), VolIx>
     requires homes { HaveHomes (R.disk rack.old).sizes images.now }
     requires outside { AreOutside next.now images.now }

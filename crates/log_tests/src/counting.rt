@@ -4,8 +4,8 @@ use domain_base::{Failed, VolIx};
 use memory_disk::MemoryRack;
 use volume_disk::Rack;
 
-/// How often a rack was called: writes of more than a block, writes of a block, and syncs of volumes
-/// 1 and 2.
+/// How often a rack was called: writes of more than a block, writes of a block, and syncs of
+/// volumes 1 and 2.
 #[derive(Clone, Copy, Debug, PartialEq, Eq)]
 pub struct Counts {
     pub pages: u32,

@@ -154,8 +154,8 @@ fn may_bring_home<R: Rack>(log: &MetaLog, rack: &R) -> bool
 
 // Calls.
 
-/// What an append answers: the number of a group, that the log is full, or nothing, since the change
-/// may not be appended.
+/// What an append answers: the number of a group, that the log is full, or nothing, since the
+/// change may not be appended.
 #[derive(Clone, Copy, Debug, PartialEq, Eq)]
 pub enum Appended {
     Group(u64),
@@ -195,8 +195,8 @@ pub fn append(
     })
 }
 
-/// Forces a log: the number of the last durable group, or the volume of which a call failed. 0 where
-/// the log has no ring.
+/// Forces a log: the number of the last durable group, or the volume of which a call failed. 0
+/// where the log has no ring.
 pub fn force(log: &mut MetaLog, rack: &mut CountRack) -> Result<u64, u32> {
     if !has_ring(rack, log.anchor()) {
         return Ok(0);

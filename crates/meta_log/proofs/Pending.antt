@@ -1,6 +1,7 @@
 -- What is pending, as a group behind the durable ones.
 use Rattle.std.proofs.Common.{◌≡◌, ℕ, suc, ◌+◌, ◌-◌, ◌<◌, ◌≤◌, List, [], ◌∷◌, ◌++◌, length, length-append, take, drop, refl, sym, ◌∙◌, ap, subst, inl, inr, arith}
 use Rattle.std.proofs.lemmas.Grind.{flat_map-append}
+use Rattle.std.proofs.lemmas.List.{append-nil, length-map}
 use Rattle.std.proofs.lemmas.List.Elements.{All-append, All-nil}
 use Rattle.std.proofs.lemmas.Slice.{between_is}
 use Rattle.domain_base.specs.declared.place.Home.{Home}
@@ -14,7 +15,6 @@ use Rattle.page_change.specs.declared.image.PageImage.{PageImage}
 use Rattle.log_ring.specs.Groups.{FitsRing, Group, HasLog, LogStands, images_of, span}
 use Rattle.log_ring.specs.Homes.{AreLoggable, IsLoggable}
 use Rattle.log_ring.specs.Ring.{IsOnPlaces}
-use Rattle.log_ring.proofs.OnImages.{append-nil}
 use Rattle.meta_log.specs.Force.{Forces, HasEither, HasForced, HasWrittenGroup, MayFollow, WritesGroup, forced}
 use Rattle.meta_log.proofs.SlotLists.{none_left, parts_joined}
 use Rattle.meta_log.specs.Log.{IsLog, Log, Stands, group_of, groups_of, next_number, pending_groups, used}
@@ -43,15 +43,10 @@ one_group number (image ∷ images) some = refl
 
 images_of-groups_of : (number : ℕ) (images : List PageImage) → images_of (groups_of number images) ≡ images
 images_of-groups_of number [] = refl
-images_of-groups_of number (image ∷ images) = nothing_behind (image ∷ images)
-  where
-    nothing_behind : (l : List PageImage) → l ++ [] ≡ l
-    nothing_behind [] = refl
-    nothing_behind (x ∷ xs) = λ i. x ∷ nothing_behind xs i
+images_of-groups_of number (image ∷ images) = append-nil (image ∷ images)
 
 length-homes_of : (images : List PageImage) → length (homes_of images) ≡ length images
-length-homes_of [] = refl
-length-homes_of (image ∷ images) = ap suc (length-homes_of images)
+length-homes_of images = length-map images (λ (image : PageImage). image.home)
 
 module _ (log : Log) (is : IsLog log) where
   -- the durable groups of an image take the places that are counted

@@ -16,8 +16,8 @@ use Rattle.meta_log.specs.Log.{Log, Stands, new_log, next_number, used}
 abbrev pub same_ring : Anchor → Anchor → Bool
 same_ring one other = (one.log_vol == other.log_vol) && (one.log_page == other.log_page)
 
--- the next anchor: one that was given, with the next number and slot, and a start behind the durable
--- groups, or at the first page of another ring
+-- the next anchor: one that was given, with the next number and slot, and a start behind the
+-- durable groups, or at the first page of another ring
 abbrev pub next_anchor : Log → Anchor → Anchor
 next_anchor log given = record given {
   number = log.anchor.number + 1;
@@ -26,8 +26,8 @@ next_anchor log given = record given {
   group = next_number log;
 }
 
--- the log stands with these groups, the next anchor's slot is ready, and on another ring the gate at
--- its start is closed
+-- the log stands with these groups, the next anchor's slot is ready, and on another ring the gate
+-- at its start is closed
 pub record MayCheckpoint (disk : Disk) (log : Log) (groups : List Group) (next : Anchor)
     : Type 0 where
   pub stands : Stands disk log groups

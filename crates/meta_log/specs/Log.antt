@@ -1,5 +1,5 @@
--- The log as it is held in memory: what has been made durable since its start, and what was appended
--- after that.
+-- The log as it is held in memory: what has been made durable since its start, and what was
+-- appended after that.
 use Rattle.std.specs.Prelude.{◌≡◌, ◌⊎◌, ◌==◌, ◌&&◌, ◌+◌, ◌-◌, ◌%◌, ◌^◌, ◌<◌, ◌≤◌, ℕ, Bool, IsTrue, List, [], ◌∷◌, length, min, if◌then◌else◌}
 use Rattle.domain_base.specs.Limits.{group_images, log_pages}
 use Rattle.volume_disk.specs.Disk.{Disk}

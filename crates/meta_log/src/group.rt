@@ -152,10 +152,10 @@ fn open_group<R: Rack>(rack: &mut R, vol: VolIx, anchor: &Anchor, place: u32) ->
     open_gate(rack, vol, ring_block(anchor, place))
 }
 
-/// Writes a group of that number and these images at a place of the ring: all but its gate, with the
-/// next gate closed, and its gate once that is synced. Its own gate has to be closed and synced
-/// before (`MayFollow`). The header is made in a page that is given for it. The error is the volume,
-/// of which a write or a sync failed.
+/// Writes a group of that number and these images at a place of the ring: all but its gate, with
+/// the next gate closed, and its gate once that is synced. Its own gate has to be closed and synced
+/// before (`MayFollow`). The header is made in a page that is given for it. The error is the
+/// volume, of which a write or a sync failed.
 pub fn write_group<R: Rack>(
     rack: &mut R,
     anchor: &Anchor,

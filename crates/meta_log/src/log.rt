@@ -24,6 +24,7 @@ ghost use Rattle.volume_disk.specs.Run.{NamesWriteFault};
 ghost use Rattle.disk_label.specs.Anchor.{IsAnchor, IsWhole};
 ghost use Rattle.disk_label.specs.FirstPages.{anchors_page};
 ghost use Rattle.page_change.specs.Images.{IsChange, joined};
+ghost use Rattle.page_change.specs.declared.image.PageImage.{PageImage};
 ghost use Rattle.log_ring.specs.Homes.{AreLoggable, AreOutside, HasMembers};
 ghost use Rattle.log_ring.specs.Ring.{IsRing};
 ghost use Rattle.meta_log.specs.Checkpoint.{Checkpoints, HasCheckpointed, next_anchor};
@@ -78,8 +79,8 @@ impl Model for MetaLog {
 }
 
 impl MetaLog {
-    /// The log of an anchor, with no group. The anchor's slot, start, first page and group have to be
-    /// in their ranges.
+    /// The log of an anchor, with no group. The anchor's slot, start, first page and group have to
+    /// be in their ranges.
     pub fn new(alloc: Global, anchor: &Anchor) -> Result<MetaLog, OutOfMemory>
         requires slot { anchor.now.slot ≤ 1 }
         requires start { anchor.now.start < log_pages }
@@ -123,6 +124,8 @@ impl MetaLog {
     /// Of how many homes each change has a place now, whichever homes it has.
     pub fn room(&self) -> u32
         ensures room { result ≡ room_of self.now }
+        ensures place { (change : List PageImage) → 0 < length change → length change ≤ result
+            → HasPlaceFor self.now (length (joined change self.now.pending)) }
         ensures sound { IsLog self.now }
     {
         let pending = (self.end - self.logged) as u32;
@@ -169,8 +172,8 @@ impl MetaLog {
     /// Appends a change to what is pending, which becomes durable as one group: at each home of the
     /// change its page takes the place of one that was pending there. The answer is the number of
     /// that group. `LogFull` comes exactly where the group would have more than 60 images, or would
-    /// not fit the ring with the header behind it. The change has to have a home, and its homes have
-    /// to be such as may be logged under the log's anchor.
+    /// not fit the ring with the header behind it. The change has to have a home, and its homes
+    /// have to be such as may be logged under the log's anchor.
     pub fn append(&mut self, change: &Change) -> Result<u64, LogFull>
         requires some { 0 < length change.now }
         requires loggable { AreLoggable self.old.anchor change.now }
@@ -234,8 +237,8 @@ impl MetaLog {
         Ok(self.last_durable())
     }
 
-    /// The next anchor: one that is given, with the next number and slot, and the log's start behind
-    /// the durable groups, or at the first page of another ring.
+    /// The next anchor: one that is given, with the next number and slot, and the log's start
+    /// behind the durable groups, or at the first page of another ring.
     fn next_anchor(&self, given: &Anchor) -> Anchor
         requires { self.now.anchor.number + 1 < 2 ^ 63 }
         ensures { result ≡ next_anchor self.now given.now }
@@ -275,15 +278,15 @@ impl MetaLog {
     }
 
     /// Brings the images of the durable groups home and moves the log's start behind them, by an
-    /// anchor that is given but for its number, slot, start and group. Each home is written once, and
-    /// each volume synced once before the anchor. The answer is the anchor's number.
+    /// anchor that is given but for its number, slot, start and group. Each home is written once,
+    /// and each volume synced once before the anchor. The answer is the anchor's number.
     ///
-    /// Nothing may be pending. The members of the old anchor and the ring of the new one have to lie
-    /// in the rack, no durable image may have a page of the new ring as its home, and the anchor of
-    /// the rack's contents has to be the log's. What a stop may leave is said where the log stands,
-    /// the next anchor's slot is ready, and on another ring the first gate is closed
-    /// (`MayCheckpoint`). The error is the volume, of which a write or a sync failed; the log is not
-    /// used again then.
+    /// Nothing may be pending. The members of the old anchor and the ring of the new one have to
+    /// lie in the rack, no durable image may have a page of the new ring as its home, and the
+    /// anchor of the rack's contents has to be the log's. What a stop may leave is said where the
+    /// log stands, the next anchor's slot is ready, and on another ring the first gate is closed
+    /// (`MayCheckpoint`). The error is the volume, of which a write or a sync failed; the log is
+    /// not used again then.
     pub fn checkpoint<R: Rack>(&mut self, rack: &mut R, anchor: &Anchor) -> Result<u64, VolIx>
         requires forced { self.old.pending ≡ [] }
         requires members { HasMembers (R.disk rack.old).sizes self.old.anchor }

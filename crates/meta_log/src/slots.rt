@@ -76,8 +76,8 @@ fn slot_of(slots: &[PageImage], first: usize, end: usize, home: &Home) -> Option
     }
 }
 
-/// Puts an image among those of the slots from `first` to `end`: in place of the one of its home, or
-/// behind them. The answer is where they end then.
+/// Puts an image among those of the slots from `first` to `end`: in place of the one of its home,
+/// or behind them. The answer is where they end then.
 fn put(slots: &mut [PageImage], first: usize, end: usize, image: &PageImage) -> usize
     requires order { first ≤ end }
     requires room { end < length slots.old }
