@@ -1,9 +1,11 @@
-use Rattle.std.proofs.Common.{subst, sym}
+use Rattle.std.proofs.Common.{List, subst, sym}
 use Rattle.domain_base.specs.declared.place.CellAt.{CellAt}
 use Rattle.bmt_mcells.specs.Chain.{LeavesOthers, StandsAt, is_at}
 use Rattle.bitfile_core.specs.Files.{IsLiveCell}
 use Rattle.bitfile_core.proofs.RemoveFile.{beside, removed_files, no_live, removes, room, the_first, removed_used}
-use Rattle.bitfile_core.specs.Changes.{says_removed}
+use Rattle.tag_dirs.specs.declared.dir.TagPlace.{TagPlace}
+use Rattle.bitfile_core.specs.Changes.{says_removed, without_chain}
+use Rattle.bitfile_core.specs.Together.{AreTogether}
 use Rattle.bitfile_core.proofs.FirstTogether.{runs_kept, together_first}
 use Rattle.bitfile_core.proofs.RemovedTogether.{removed_keeps, together_without}
 use Rattle.bitfile_core.proofs.bitfiles.Bitfiles.remove.Goals as goal
@@ -80,4 +82,5 @@ returns-clause-together g c = λ space cells chains are.
     (subst (λ (a : CellAt). LeavesOthers (is_at a) pages mid) (sym of.is_at) c.set_pending.ensures.others) c.set_pending.ensures.well_formed c.set_pending.ensures.headers
     (runs_kept says_removed of.first of.rest (removed_keeps pages of.first of.rest of.file)) in
     let removed = removes pages fileset places c.args.tag chains c.in-Some.at are.files live mid stands c.set_pending.ensures.others c.set_pending.ensures.elsewhere new c.drop_tag.ensures.value in
-    together_without pages mid new fileset places c.args.tag chains space cells are between.allocated removed.files c.drop_tag.ensures.value.elsewhere
+    subst (λ (ps : List TagPlace). AreTogether fileset ps space cells new (without_chain c.args.tag chains)) (sym c.drop_tag.ensures.same)
+    (together_without pages mid new fileset places c.args.tag chains space cells are between.allocated removed.files c.drop_tag.ensures.value.elsewhere)
