@@ -68,8 +68,8 @@ pub fn put_among(
     replaced(alloc, records, value.kind(), &Some(*value))
 }
 
-/// Puts a record, or none, in place of those of a kind in the cell in use that stands there. After an
-/// error nothing has changed.
+/// Puts a record, or none, in place of those of a kind in the cell in use that stands there. After
+/// an error nothing has changed.
 fn change_record<M: MetaPages>(
     alloc: Global,
     pages: &mut M,
@@ -100,8 +100,8 @@ fn change_record<M: MetaPages>(
 }
 
 /// Puts a record in place of those of its kind in the cell in use that stands there, or among its
-/// records where it has none of that kind: the cell has room for it. Every other cell stays, and the
-/// index and next page of each page. After an error nothing has changed.
+/// records where it has none of that kind: the cell has room for it. Every other cell stays, and
+/// the index and next page of each page. After an error nothing has changed.
 pub fn set_record<M: MetaPages>(
     alloc: Global,
     pages: &mut M,
@@ -168,9 +168,9 @@ fn change_two<M: MetaPages>(
     Ok(())
 }
 
-/// Puts two records in place of those of their kinds in the cell in use that stands there, which has
-/// room for them, in one write. Every other cell stays, and the index and next page of each page.
-/// After an error nothing has changed.
+/// Puts two records in place of those of their kinds in the cell in use that stands there, which
+/// has room for them, in one write. Every other cell stays, and the index and next page of each
+/// page. After an error nothing has changed.
 pub fn set_two_records<M: MetaPages>(
     alloc: Global,
     pages: &mut M,
@@ -194,8 +194,8 @@ pub fn set_two_records<M: MetaPages>(
     change_two(alloc, pages, &at, one, other)
 }
 
-/// Takes the records of a kind off the cell in use that stands there. Every other cell stays, and the
-/// index and next page of each page. After an error nothing has changed.
+/// Takes the records of a kind off the cell in use that stands there. Every other cell stays, and
+/// the index and next page of each page. After an error nothing has changed.
 pub fn clear_record<M: MetaPages>(
     alloc: Global,
     pages: &mut M,

@@ -43,7 +43,7 @@ use Rattle.bitfile_cells.proofs.Chosen.{all_at}
 use Rattle.bitfile_cells.proofs.MapRecords.{runs_by_map}
 use Rattle.bitfile_cells.proofs.Spaces.{given_back, not_held}
 use Rattle.bitfile_cells.proofs.Still.{allocated_still}
-use Rattle.bitfile_core.specs.declared.creating.NewFile.{NewFile}
+use Rattle.bitfile_core.specs.declared.new_cells.NewFile.{NewFile}
 use Rattle.bitfile_core.specs.Creation.{AreNew, Creates, CreatesNone, Enters, LeavesBeside, new_head, with_new}
 use Rattle.bitfile_core.specs.Files.{AreApart, AreFiles, Chains, LeadsToFile, place_at}
 use Rattle.bitfile_core.specs.Together.{AreTagPages, AreTogether, IsFilePage, IsHeldApart}

@@ -19,7 +19,7 @@ use Rattle.bitfile_cells.proofs.MapRecords.{one_map_record, value_has_rows}
 use Rattle.bitfile_cells.proofs.Replaced.{records_replaced}
 use Rattle.bitfile_core.specs.Changes.{kind_number}
 use Rattle.bitfile_core.specs.Creation.{AreNew, AreNewFile, new_attributes, new_parent}
-use Rattle.bitfile_core.specs.declared.creating.NewFile.{NewFile}
+use Rattle.bitfile_core.specs.declared.new_cells.NewFile.{NewFile}
 use Rattle.bitfile_core.specs.Files.{is_first_kind}
 use Rattle.bitfile_core.proofs.FirstCell.{find_other, find_put, map_stays}
 use Rattle.bitfile_core.proofs.FirstRoom.{kinds_replaced}

@@ -31,7 +31,7 @@ use Rattle.bitfile_cells.specs.Changes.{with_kind}
 use Rattle.bitfile_cells.specs.FileChanges.{map_kinds}
 use Rattle.bitfile_cells.specs.Files.{map_records, places_of}
 use Rattle.bitfile_cells.specs.MapChanges.{TakesOne}
-use Rattle.bitfile_core.specs.declared.creating.NewFile.{NewFile}
+use Rattle.bitfile_core.specs.declared.new_cells.NewFile.{NewFile}
 use Rattle.bitfile_core.specs.Changes.{kind_number}
 use Rattle.bitfile_core.specs.Files.{Chains, is_first_kind}
 use Rattle.bitfile_core.specs.Together.{AreTogether}
@@ -83,8 +83,8 @@ pub record TakesCellOnly (prefer : ℕ) (places places_now : List TagPlace) (spa
   pub same : places_now ≡ places
   pub cell : TakesOne prefer space space_now cells cells_now old
 
--- no tag could be taken: a free page is taken for more, of the preferred volume if that has one, and
--- then a cell is handed out
+-- no tag could be taken: a free page is taken for more, of the preferred volume if that has one,
+-- and then a cell is handed out
 pub record TakesTagPage (prefer : ℕ) (places places_now : List TagPlace)
     (space space_now : Spaces) (cells cells_now : Cells) (old : Pages) : Type 0 where
   pub none : (tag : Tag) → ¬ CanTakeTag old places tag
@@ -107,7 +107,8 @@ TakesForFile prefer places places_now space space_now cells cells_now old =
 pub record LacksPage (places : List TagPlace) (space : Spaces) (cells : Cells) (old : Pages)
     : Type 0 where
   pub no_page : (vol p : ℕ) → ¬ CanTake space vol p
-  pub wanted : ((at : CellAt) → can_take cells at ≡ false) ⊎ ((tag : Tag) → ¬ CanTakeTag old places tag)
+  pub wanted : ((at : CellAt) → can_take cells at ≡ false)
+      ⊎ ((tag : Tag) → ¬ CanTakeTag old places tag)
 
 -- no tag and no cell can be taken, and beside the one for more tags no page is free
 pub record LacksTwo (places : List TagPlace) (space : Spaces) (cells : Cells) (old : Pages)

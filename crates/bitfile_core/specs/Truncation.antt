@@ -65,8 +65,8 @@ abbrev pub pending_cell : List PlacedCell → Option CellAt
 pending_cell [] = None
 pending_cell (first ∷ rest) = option_map (λ _. first.at) (record_of 6 first.cell.records)
 
--- the tag's file has that size, and says so which of its pages are stale; it answers where its first
--- cell says that something is left to be done
+-- the tag's file has that size, and says so which of its pages are stale; it answers where its
+-- first cell says that something is left to be done
 pub record Truncates (fileset : ℕ) (places : List TagPlace) (tag : Tag) (size : ℕ)
     (at : Option CellAt) (chains : Chains) (new : Pages) : Type 0 where
   pub lowered : Option ℕ

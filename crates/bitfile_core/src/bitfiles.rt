@@ -146,8 +146,8 @@ impl Bitfiles {
         Some(at)
     }
 
-    /// What the file or directory is that a tag names. None exactly where it names none, or one that
-    /// is to be removed.
+    /// What the file or directory is that a tag names. None exactly where it names none, or one
+    /// that is to be removed.
     pub fn attributes<M: MetaPages>(&self, pages: &M, tag: Tag) -> Option<Attributes>
         requires { HasFiles self.now.fileset self.now.tags (M.pages pages.now) }
         ensures { (chains : Chains)
@@ -158,8 +158,8 @@ impl Bitfiles {
         read_attributes(&first_record(pages, &at, 1)?)
     }
 
-    /// How many of its first pages the file keeps that a tag names: what is behind them is to be let
-    /// go. None exactly where the tag names none, or one that is to be removed.
+    /// How many of its first pages the file keeps that a tag names: what is behind them is to be
+    /// let go. None exactly where the tag names none, or one that is to be removed.
     pub fn keep<M: MetaPages>(&self, pages: &M, tag: Tag) -> Option<u32>
         requires { HasFiles self.now.fileset self.now.tags (M.pages pages.now) }
         ensures { (chains : Chains)
@@ -183,7 +183,8 @@ impl Bitfiles {
         }
     }
 
-    /// Where all pages of the file stand that a tag names, whatever it keeps: no page if it names none.
+    /// Where all pages of the file stand that a tag names, whatever it keeps: no page if it names
+    /// none.
     pub fn read_map<M: MetaPages>(
         &self,
         alloc: Global,
@@ -201,9 +202,9 @@ impl Bitfiles {
         }
     }
 
-    /// Where all pages of the file stand that a tag names, as runs in the order of its pages, each as
-    /// long as it can be: all that the file's cells say, also behind what it keeps, and the holes
-    /// that are kept for a clone. No run if the tag names none.
+    /// Where all pages of the file stand that a tag names, as runs in the order of its pages, each
+    /// as long as it can be: all that the file's cells say, also behind what it keeps, and the
+    /// holes that are kept for a clone. No run if the tag names none.
     pub fn runs<M: MetaPages>(
         &self,
         alloc: Global,
@@ -221,9 +222,9 @@ impl Bitfiles {
         Ok(Vec::from_slice(alloc, map.runs())?)
     }
 
-    /// Sets what the file or directory is that a live tag names: its kind stays, and it has from 1 to
-    /// 1,000 links. Where its pages stand, how many it keeps and every other file stay. After an error
-    /// nothing has changed.
+    /// Sets what the file or directory is that a live tag names: its kind stays, and it has from 1
+    /// to 1,000 links. Where its pages stand, how many it keeps and every other file stay. After an
+    /// error nothing has changed.
     pub fn set_attributes<M: MetaPages>(
         &self,
         alloc: Global,
@@ -294,9 +295,9 @@ impl Bitfiles {
         }
     }
 
-    /// Takes a live tag out of use: its file or directory is to be removed, which its first cell says,
-    /// and nothing of it goes yet. It answers that cell. Every other file stays. After an error nothing
-    /// has changed.
+    /// Takes a live tag out of use: its file or directory is to be removed, which its first cell
+    /// says, and nothing of it goes yet. It answers that cell. Every other file stays. After an
+    /// error nothing has changed.
     pub fn remove<M: MetaPages>(
         &mut self,
         alloc: Global,

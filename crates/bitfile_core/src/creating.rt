@@ -14,89 +14,22 @@ ghost use Rattle.free_space.specs.Spaces.{IsHeld, change_volume};
 ghost use Rattle.bitfile_cells.specs.Allocated.{AreAllocated, FindsNone, Takes};
 ghost use Rattle.bitfile_cells.specs.FileChanges.{LeavesOtherCells};
 ghost use Rattle.bitfile_cells.specs.MapChanges.{TakesOne};
-ghost use Rattle.bitfile_core.specs.Creation.{AreNew, AreNewFile, Creates, CreatesNone, Enters, LeavesBeside, TakesForFile, TakesTagPage, new_attributes, new_file};
+ghost use Rattle.bitfile_core.specs.Creation.{Creates, CreatesNone, Enters, LeavesBeside, TakesForFile, TakesTagPage, new_file};
 ghost use Rattle.domain_base.specs.declared.place.Tag.{Tag as TagOf};
 ghost use Rattle.extent_maps.specs.declared.run.PagePlace.TheVariants.{At};
 ghost use Rattle.bitfile_core.specs.Files.{Chains, place_at};
 ghost use Rattle.bitfile_core.specs.Together.{AreTogether, HasTogether, IsHeldApart};
 
 use crate::bitfiles::Bitfiles;
-use bitfile_cells::{put_among, take_cell};
+use crate::new_cells::{NewFile, first_records};
+use bitfile_cells::take_cell;
 use bmt_mcells::{CellHead, CellKind, RecordList, write_cell};
-use domain_base::{CellAt, FilesetNo, Home, Kind, OutOfMemory, Tag, Version, VolIx};
-use extent_records::empty_short;
+use domain_base::{CellAt, FilesetNo, Home, Kind, Tag, Version, VolIx};
 use free_cells::FreeCells;
 use free_space::FreeSpace;
 use page_store::{MetaPages, StoreFault};
-use record_table::Record;
 use std::alloc::Global;
 use tag_dirs::{ReadyPage, TagDir, put_ready};
-
-/// What a new file or directory is: whose it is, and of which clone's time.
-#[derive(Clone, Copy, Debug, PartialEq, Eq)]
-pub struct NewFile {
-    pub kind: Kind,
-    pub uid: u32,
-    pub gid: u32,
-    pub birth: u64,
-}
-
-/// The record of attributes of a new file.
-fn attributes_of(what: &NewFile) -> Record
-    ensures { result ≡ new_attributes what.now }
-{
-    Record::Attributes {
-        kind: match what.kind {
-            Kind::File => 1,
-            Kind::Directory => 2,
-        },
-        uid: what.uid,
-        gid: what.gid,
-        flags: 0,
-        size: 0,
-        keep: 65_536,
-        links: 1,
-        birth: what.birth,
-        unsynced: 0,
-    }
-}
-
-/// The records of attributes and of extents of a new file's first cell.
-fn file_records(alloc: Global, version: Version, what: &NewFile) -> Result<RecordList, OutOfMemory>
-    ensures { IfOk result (AreNewFile version what.now) }
-{
-    let none = RecordList::from_vec(Vec::new(alloc));
-    let one = put_among(alloc, none.as_slice(), &attributes_of(what))?;
-    put_among(alloc, one.as_slice(), &empty_short(version))
-}
-
-/// The records of a new file's first cell.
-fn first_records(
-    alloc: Global,
-    version: Version,
-    what: &NewFile,
-    tag: &Tag,
-) -> Result<RecordList, OutOfMemory>
-    ensures { IfOk result (AreNew version what.now tag.now) }
-{
-    prove!(what.uid <= u32::MAX);
-    prove!(what.gid <= u32::MAX);
-    prove!(what.birth <= u64::MAX);
-    prove!(tag.slot <= u32::MAX);
-    prove!(tag.seq <= u16::MAX);
-    let records = file_records(alloc, version, what)?;
-    match what.kind {
-        Kind::File => Ok(records),
-        Kind::Directory => put_among(
-            alloc,
-            records.as_slice(),
-            &Record::Parent {
-                slot: tag.slot,
-                seq: tag.seq,
-            },
-        ),
-    }
-}
 
 /// Makes a tag that can be taken lead to a cell, and that cell the first one of its file.
 fn enter_file<M: MetaPages>(
@@ -301,8 +234,8 @@ fn create_at<M: MetaPages>(
     }
 }
 
-/// Makes a file at the first tag of a page of tags that is added on a page that is taken for it, and
-/// gives that back where this fails.
+/// Makes a file at the first tag of a page of tags that is added on a page that is taken for it,
+/// and gives that back where this fails.
 fn create_on_new_page<M: MetaPages>(
     tags: &mut TagDir,
     fileset: FilesetNo,
@@ -390,14 +323,14 @@ fn create_file<M: MetaPages>(
 }
 
 impl Bitfiles {
-    /// Makes a file or a directory of that owner, and answers its tag, which named nothing before. It
-    /// has no byte, one link and no page, keeps all of its first 65,536 pages, and was born at that
-    /// clone's number; a directory stands in itself until another is said. Its cell is taken of the
-    /// preferred volume if that has one. Where no page of the tag directory has a tag to be taken, a
-    /// page is added, with the least index that none has. NoPage comes only where no page is free and
-    /// one is wanted, for cells or for tags, or only one and both want one; that is a miss.
-    /// OutOfMemory comes also where the tag directory has all pages that it may have. At an Err
-    /// nothing but room and the count of misses has changed.
+    /// Makes a file or a directory of that owner, and answers its tag, which named nothing before.
+    /// It has no byte, one link and no page, keeps all of its first 65,536 pages, and was born at
+    /// that clone's number; a directory stands in itself until another is said. Its cell is taken
+    /// of the preferred volume if that has one. Where no page of the tag directory has a tag to be
+    /// taken, a page is added, with the least index that none has. NoPage comes only where no page
+    /// is free and one is wanted, for cells or for tags, or only one and both want one; that is a
+    /// miss. OutOfMemory comes also where the tag directory has all pages that it may have. At an
+    /// Err nothing but room and the count of misses has changed.
     pub fn create<M: MetaPages>(
         &mut self,
         alloc: Global,

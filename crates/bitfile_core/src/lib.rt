@@ -6,9 +6,10 @@ mod bitfiles;
 mod creating;
 mod giving;
 mod laws;
+mod new_cells;
 mod truncating;
 
 pub use attributes::Attributes;
 pub use bitfiles::Bitfiles;
-pub use creating::NewFile;
 pub use laws::files_show_once;
+pub use new_cells::NewFile;

@@ -69,8 +69,8 @@ fn stale_from(map: &ExtentMap, keep: u32, size: u64) -> Option<u32>
     None
 }
 
-/// Puts a record of attributes in the first cell of a file, and one that says that stale pages are to
-/// be let go.
+/// Puts a record of attributes in the first cell of a file, and one that says that stale pages are
+/// to be let go.
 fn set_trim<M: MetaPages>(
     alloc: Global,
     pages: &mut M,
@@ -193,12 +193,12 @@ fn truncate_at<M: MetaPages>(
 }
 
 impl Bitfiles {
-    /// Sets the size in bytes of the file that a live tag names. Pages behind it, from the first on in
-    /// which no byte of it lies, are stale: where the file has one of those that it keeps, it keeps
-    /// fewer from now on, and its first cell says that stale pages are to be let go. No page goes yet.
-    /// It answers the first cell where that then says that something is left to be done, and None
-    /// exactly where it does not. Every other file stays, and where pages stand. After an error
-    /// nothing has changed.
+    /// Sets the size in bytes of the file that a live tag names. Pages behind it, from the first on
+    /// in which no byte of it lies, are stale: where the file has one of those that it keeps, it
+    /// keeps fewer from now on, and its first cell says that stale pages are to be let go. No page
+    /// goes yet. It answers the first cell where that then says that something is left to be done,
+    /// and None exactly where it does not. Every other file stays, and where pages stand. After an
+    /// error nothing has changed.
     pub fn truncate<M: MetaPages>(
         &self,
         alloc: Global,

@@ -11,7 +11,7 @@ use Rattle.extent_maps.specs.declared.run.PagePlace.{PagePlace}
 use Rattle.extent_maps.specs.declared.run.PagePlace.TheVariants.{At}
 use Rattle.free_cells.specs.Cells.{Cells}
 use Rattle.free_space.specs.Spaces.{Spaces}
-use Rattle.bitfile_core.specs.declared.creating.NewFile.{NewFile}
+use Rattle.bitfile_core.specs.declared.new_cells.NewFile.{NewFile}
 use Rattle.bitfile_core.specs.Creation.{Creates}
 use Rattle.bitfile_core.specs.Files.{Chains}
 use Rattle.bitfile_core.specs.Pages.{ChangesFile}

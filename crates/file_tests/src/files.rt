@@ -17,18 +17,20 @@ fn make(alloc: Global, world: &mut World, kind: Kind) -> Result<Tag, Fail>
     requires { IsWorld world.old }
     ensures { IfOk result (λ _. IsWorld world.new) }
 {
-    Ok(world.files.create(
-        alloc,
-        &mut world.pages,
-        &mut world.space,
-        &mut world.cells,
-        kind,
-        11,
-        12,
-        7,
-        Version::Four,
-        volume(),
-    )?)
+    Ok(
+        world.files.create(
+            alloc,
+            &mut world.pages,
+            &mut world.space,
+            &mut world.cells,
+            kind,
+            11,
+            12,
+            7,
+            Version::Four,
+            volume(),
+        )?,
+    )
 }
 
 /// Gives a page to a file that keeps it and does not have it, of the last version.
@@ -49,16 +51,18 @@ fn give(
         PagePlace::Absent => {}
         _ => return Err(Fail::from("an absent page")),
     }
-    Ok(world.files.give_page(
-        alloc,
-        &mut world.pages,
-        &mut world.space,
-        &mut world.cells,
-        tag,
-        page,
-        volume(),
-        Version::Four,
-    ))
+    Ok(
+        world.files.give_page(
+            alloc,
+            &mut world.pages,
+            &mut world.space,
+            &mut world.cells,
+            tag,
+            page,
+            volume(),
+            Version::Four,
+        ),
+    )
 }
 
 /// Gives every second page, so many of them: how many were given.
@@ -93,9 +97,7 @@ fn cut(alloc: Global, world: &mut World, tag: Tag, size: u64) -> Result<bool, Fa
     if world.files.attributes(&world.pages, tag).is_none() {
         return Err(Fail::from("a live tag"));
     }
-    let left = world
-        .files
-        .truncate(alloc, &mut world.pages, tag, size)?;
+    let left = world.files.truncate(alloc, &mut world.pages, tag, size)?;
     Ok(left.is_some())
 }
 
@@ -133,8 +135,8 @@ fn count_there(world: &World, tag: Tag, count: u32) -> Result<u32, Fail>
     Ok(there)
 }
 
-/// A file of 70 extents: how many pages were given, how many are found, its runs, and the free pages
-/// that are left of 125.
+/// A file of 70 extents: how many pages were given, how many are found, its runs, and the free
+/// pages that are left of 125.
 fn many_extents(alloc: Global) -> Result<[usize; 4], Fail> {
     let mut world = new_world(alloc, 128)?;
     let tag = make(alloc, &mut world, Kind::File)?;
@@ -171,8 +173,8 @@ fn no_page_is_given_where_none_is_free(rt: HostRuntime) -> Result<(), Fail> {
     Ok(())
 }
 
-/// Whether something is left to be done once a file with pages 0, 2 and 4 was cut to these bytes, and
-/// how many pages it then keeps.
+/// Whether something is left to be done once a file with pages 0, 2 and 4 was cut to these bytes,
+/// and how many pages it then keeps.
 fn cut_to(alloc: Global, size: u64) -> Result<(bool, u32), Fail> {
     let mut world = new_world(alloc, 64)?;
     let tag = make(alloc, &mut world, Kind::File)?;
@@ -186,6 +188,9 @@ fn a_cut_file_keeps_fewer_pages(rt: HostRuntime) -> Result<(), Fail> {
     let short = cut_to(rt.alloc(), 24_577)?;
     let exact = cut_to(rt.alloc(), 32_768)?;
     let long = cut_to(rt.alloc(), 32_769)?;
-    assert_eq!(rt; [short, exact, long], [(true, 4), (true, 4), (false, 65_536)]);
+    assert_eq!(rt;
+        [short, exact, long],
+        [(true, 4), (true, 4), (false, 65_536)]
+    );
     Ok(())
 }

@@ -154,8 +154,10 @@ fn a_stop_within_a_checkpoint_changes_no_redone_page(rt: HostRuntime) -> Result<
 #[test]
 fn a_group_has_60_images_at_most(rt: HostRuntime) -> Result<(), Fail> {
     let (mut rack, mut log) = started(rt.alloc(), 0, &[])?;
-    let appended = [(10, 30), (40, 30), (70, 1), (10, 32), (30, 32), (9, 31)]
-        .map(|(first, count)| append_run(&mut log, rt.alloc(), first, count, 7).ok());
+    let appended = [(10, 30), (40, 30), (70, 1), (10, 32), (30, 32), (9, 31)].map(|(
+        first,
+        count,
+    )| append_run(&mut log, rt.alloc(), first, count, 7).ok());
     let taken = Some(Appended::Group(9));
     let full = Some(Appended::Full);
     assert_eq!(rt; appended, [taken, taken, full, taken, taken, full]);
@@ -181,8 +183,7 @@ fn a_ring_takes_what_leaves_a_place_for_the_next_header(rt: HostRuntime) -> Resu
         assert_eq!(rt; (first, second, forced), (taken, taken, Ok(number)));
     }
     // a header, 4 images and the next header take the other 6
-    let appended = [5, 4, 5]
-        .map(|count| append_run(&mut log, rt.alloc(), 10, count, 8).ok());
+    let appended = [5, 4, 5].map(|count| append_run(&mut log, rt.alloc(), 10, count, 8).ok());
     let taken = Some(Appended::Group(11));
     let full = Some(Appended::Full);
     assert_eq!(rt; appended, [full, taken, full]);
@@ -190,7 +191,10 @@ fn a_ring_takes_what_leaves_a_place_for_the_next_header(rt: HostRuntime) -> Resu
     assert_eq!(rt; append_run(&mut log, rt.alloc(), 10, 1, 9)?, Appended::Full);
     // a checkpoint makes place
     assert_eq!(rt; bring_home(&mut log, &mut rack), Ok(2));
-    assert_eq!(rt; append_run(&mut log, rt.alloc(), 10, 32, 9)?, Appended::Group(12));
+    assert_eq!(rt;
+        append_run(&mut log, rt.alloc(), 10, 32, 9)?,
+        Appended::Group(12)
+    );
     Ok(())
 }
 
@@ -265,7 +269,10 @@ fn fails_well(alloc: Global, call: u64) -> Result<bool, OutOfMemory> {
 fn each_call_fails_in_turn(rt: HostRuntime) -> Result<(), Fail> {
     let (mut rack, mut log) = started(rt.alloc(), 126, &[])?;
     let start = rack.calls();
-    assert_eq!(rt; run_until_fault(&mut rack, &mut log, rt.alloc())?, (3, true, 0));
+    assert_eq!(rt;
+        run_until_fault(&mut rack, &mut log, rt.alloc())?,
+        (3, true, 0)
+    );
     let end = rack.calls();
     // three forces of 2, 2 and 1 images, three homes and a sync, and an anchor
     assert_eq!(rt; end.saturating_sub(start), 7 + 7 + 6 + 4 + 6);

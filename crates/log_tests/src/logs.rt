@@ -9,12 +9,7 @@ ghost use Rattle.log_tests.specs.Calls.{HasMember, MayAppend, MayBringHome};
 use crate::counting::{CountRack, NO_CALLS};
 use disk_label::{ANCHORS_PAGE, Anchor, Member, write_anchor, write_label};
 use domain_base::limits::{
-    BLOCKS_PER_PAGE,
-    LOG_PAGES,
-    MAX_VOLUME_PAGES,
-    MAX_VOLUME_PAGES_4,
-    MAX_VOLUMES,
-    PAGE_BYTES,
+    BLOCKS_PER_PAGE, LOG_PAGES, MAX_VOLUME_PAGES, MAX_VOLUME_PAGES_4, MAX_VOLUMES, PAGE_BYTES,
 };
 use domain_base::{Home, OutOfMemory, Page, Version, VolIx};
 use log_recovery::recover;
@@ -46,16 +41,7 @@ fn first_anchor(start: u32) -> Anchor
         start,
         group: 9,
         table: VolIx::new(1).map(|vol| Home { vol, page: 150 }),
-        members: [
-            open(160),
-            open(80),
-            NONE,
-            NONE,
-            NONE,
-            NONE,
-            NONE,
-            NONE,
-        ],
+        members: [open(160), open(80), NONE, NONE, NONE, NONE, NONE, NONE],
         slot: 0,
     }
 }

@@ -71,8 +71,8 @@ fn last_home(places: &[TagPlace]) -> Option<Home>
     Some(places[places.len() - 1].home)
 }
 
-/// Puts a page that is ready at its home, behind the last page of its directory, which then leads to
-/// it. All other entries stay. It takes no memory.
+/// Puts a page that is ready at its home, behind the last page of its directory, which then leads
+/// to it. All other entries stay. It takes no memory.
 pub fn put_ready<M: MetaPages>(pages: &mut M, ready: ReadyPage)
     requires last { IfSome ready.last (λ home. IsSomeAnd (M.pages pages.old home) IsTagPage) }
     requires room { 0 < M.room pages.old }
@@ -173,9 +173,9 @@ impl TagDir {
         Ok(())
     }
 
-    /// Makes a page ready whose entries were never used, with this index, and puts its place behind the
-    /// others: the page is to be put there by `put_ready`, or its place to be forgotten. At an Err
-    /// nothing has changed.
+    /// Makes a page ready whose entries were never used, with this index, and puts its place behind
+    /// the others: the page is to be put there by `put_ready`, or its place to be forgotten. At an
+    /// Err nothing has changed.
     pub fn prepare_page(
         &mut self,
         alloc: Global,

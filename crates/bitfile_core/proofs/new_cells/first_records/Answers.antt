@@ -7,7 +7,7 @@ use Rattle.bitfile_core.specs.Creation.{AreNew}
 use Rattle.record_table.specs.declared.record.Record.{Record}
 use Rattle.std.proofs.Common.{List, ◌≡◌}
 use Rattle.bitfile_core.proofs.NewRecords.{AreFitting, new_directory, new_file}
-use Rattle.bitfile_core.proofs.creating.first_records.Goals as goal
+use Rattle.bitfile_core.proofs.new_cells.first_records.Goals as goal
 
 pub returns-in-File : goal.returns-in-File
 returns-in-File c =
