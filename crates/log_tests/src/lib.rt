@@ -8,3 +8,5 @@ mod counting;
 mod forces;
 #[cfg(test)]
 mod logs;
+#[cfg(test)]
+mod recoveries;

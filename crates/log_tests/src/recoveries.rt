@@ -1,0 +1,387 @@
+//! What recovery finds of groups that were written by hand, and what settling leaves.
+
+use crate::counting::{CountRack, NO_CALLS};
+use crate::logs::{Seen, leaves, look_at, started};
+use disk_label::ready_slot;
+use domain_base::gate::open_block;
+use domain_base::limits::{BLOCKS_PER_PAGE, LOG_PAGES, PAGE_BYTES};
+use domain_base::{OutOfMemory, Page, VolIx};
+use log_recovery::{RecoverFault, recover, settle};
+use std::alloc::Global;
+use std::test::Fail;
+use volume_disk::{Rack, read_blocks};
+
+/// A group as it is written by hand: its number, the volume and page of each image, and the byte
+/// that the first image is full of; each further one is full of the next byte.
+#[derive(Clone, Copy)]
+struct ByHand {
+    number: u64,
+    homes: &'static [(u32, u32)],
+    byte: u8,
+}
+
+/// Three groups, the first of which begins at place 126, so that the log wraps.
+static GROUPS: [ByHand; 3] = [
+    ByHand {
+        number: 9,
+        homes: &[(2, 10)],
+        byte: 1,
+    },
+    ByHand {
+        number: 10,
+        homes: &[(2, 11), (2, 10)],
+        byte: 2,
+    },
+    ByHand {
+        number: 11,
+        homes: &[(1, 140), (2, 12)],
+        byte: 4,
+    },
+];
+
+/// What is seen of them, and the same once they are home.
+const REDONE: Seen = Seen {
+    groups: 3,
+    bytes: [3, 2, 5],
+};
+
+const HOME: Seen = Seen {
+    groups: 0,
+    bytes: [3, 2, 5],
+};
+
+/// What recovery answers: the number and the place of the next group and how many images there are;
+/// the volume and page at which there is no domain; or the volume of which a read failed.
+#[derive(Clone, Copy, Debug, PartialEq, Eq)]
+enum Answer {
+    Log(u64, u32, usize),
+    NoDomain(u32, u32),
+    Unread(u32),
+    NoMemory,
+}
+
+fn found<R: Rack>(rack: &mut R, alloc: Global) -> Answer {
+    match recover(alloc, rack) {
+        Ok(redone) => Answer::Log(
+            redone.next_group,
+            redone.next_place,
+            redone.images.as_slice().len(),
+        ),
+        Err(fault) => answer_of(&fault),
+    }
+}
+
+fn answer_of(fault: &RecoverFault) -> Answer {
+    match fault {
+        RecoverFault::NotADomain { vol, at } => Answer::NoDomain(*vol, *at),
+        RecoverFault::Fault { vol } => Answer::Unread(vol.number()),
+        RecoverFault::OutOfMemory => Answer::NoMemory,
+    }
+}
+
+// Writing by hand.
+
+/// Writes a page of a volume and syncs it, if the rack has it.
+fn put_page(rack: &mut CountRack, vol: u32, page: u32, bytes: &[u8]) {
+    let Some(vol) = VolIx::new(vol) else {
+        return;
+    };
+    let there = vol.number() <= rack.volumes() && page < rack.pages(vol) && page < 1_000;
+    if there && bytes.len() == PAGE_BYTES {
+        let _ = rack.write(vol, BLOCKS_PER_PAGE * page, bytes);
+        let _ = rack.sync(vol);
+    }
+}
+
+/// Writes a page of the log, which is on volume 1 from page 6 on, by its place.
+fn put_place(rack: &mut CountRack, place: u32, bytes: &[u8]) {
+    put_page(rack, 1, 6 + place % LOG_PAGES, bytes);
+}
+
+/// The header of a group with an open gate, byte by byte.
+fn header_of(alloc: Global, number: u64, homes: &[(u32, u32)]) -> Result<Page, OutOfMemory> {
+    let mut page = Page::zeros(alloc)?;
+    page.set(0, &open_block());
+    page.set(512, &number.to_le_bytes());
+    page.set(520, &[homes.len().min(255) as u8]);
+    for (i, home) in homes.iter().enumerate() {
+        if i < 60 {
+            page.set(528 + 8 * i, &home.0.to_le_bytes());
+            page.set(532 + 8 * i, &home.1.to_le_bytes());
+        }
+    }
+    Ok(page)
+}
+
+/// Writes a group from a place on, and answers the place behind it.
+fn put_group(
+    rack: &mut CountRack,
+    alloc: Global,
+    place: u32,
+    group: &ByHand,
+) -> Result<u32, OutOfMemory> {
+    let header = header_of(alloc, group.number, group.homes)?;
+    put_place(rack, place, header.bytes());
+    let mut next = place.saturating_add(1);
+    let mut byte = group.byte;
+    for _ in group.homes.iter() {
+        put_place(rack, next, &[byte; PAGE_BYTES]);
+        next = next.saturating_add(1);
+        byte = byte.saturating_add(1);
+    }
+    Ok(next)
+}
+
+/// A rack with the three groups, on which these calls fail.
+fn by_hand(alloc: Global, fails: &[u64]) -> Result<CountRack, OutOfMemory> {
+    let (mut rack, _log) = started(alloc, 126, fails)?;
+    let mut place = 126;
+    for group in GROUPS.iter() {
+        place = put_group(&mut rack, alloc, place, group)?;
+    }
+    Ok(rack)
+}
+
+#[test]
+fn groups_written_by_hand_are_recovered(rt: HostRuntime) -> Result<(), Fail> {
+    let alloc = rt.alloc();
+    let mut rack = by_hand(alloc, &[])?;
+    // two, three and three places behind place 126
+    assert_eq!(rt; found(&mut rack, alloc), Answer::Log(12, 6, 5));
+    assert_eq!(rt; look_at(&mut rack.rack, alloc), REDONE);
+    // the second gate is closed: only the first group counts
+    put_place(&mut rack, 128, &[0; PAGE_BYTES]);
+    assert_eq!(rt; found(&mut rack, alloc), Answer::Log(10, 0, 1));
+    Ok(())
+}
+
+/// Groups that may not follow the first, by number and homes.
+static WRONG: [(u64, &[(u32, u32)]); 9] = [
+    // two homes are the same
+    (10, &[(2, 11), (2, 12), (2, 11)]),
+    // the number is out of turn
+    (9, &[(2, 11)]),
+    (11, &[(2, 11)]),
+    // a home on the first and on the last page of the log
+    (10, &[(1, 6)]),
+    (10, &[(2, 11), (1, 133)]),
+    // on a page of anchors, past the last page, on no member, and no home at all
+    (10, &[(2, 1)]),
+    (10, &[(2, 80)]),
+    (10, &[(3, 10)]),
+    (10, &[]),
+];
+
+/// One that may: its homes are right behind the log, on the last page of a volume and behind the
+/// anchors.
+static RIGHT: (u64, &[(u32, u32)]) = (10, &[(1, 134), (2, 79), (2, 2)]);
+
+/// What is found of a group behind the first.
+fn found_behind(
+    alloc: Global,
+    group: &(u64, &'static [(u32, u32)]),
+) -> Result<Answer, OutOfMemory> {
+    let (mut rack, _log) = started(alloc, 126, &[])?;
+    let place = put_group(&mut rack, alloc, 126, &GROUPS[0])?;
+    let group = ByHand {
+        number: group.0,
+        homes: group.1,
+        byte: 7,
+    };
+    let _ = put_group(&mut rack, alloc, place, &group)?;
+    Ok(found(&mut rack, alloc))
+}
+
+#[test]
+fn a_group_that_is_none_is_no_domain(rt: HostRuntime) -> Result<(), Fail> {
+    // the header stands at place 0
+    for group in WRONG.iter() {
+        assert_eq!(rt; found_behind(rt.alloc(), group)?, Answer::NoDomain(1, 6));
+    }
+    assert_eq!(rt; found_behind(rt.alloc(), &RIGHT)?, Answer::Log(11, 4, 4));
+    Ok(())
+}
+
+/// So many homes.
+fn run_of(alloc: Global, count: u32) -> Result<Vec<(u32, u32)>, OutOfMemory> {
+    let mut homes = Vec::new(alloc);
+    for i in 0..count {
+        homes.push((2, 10 + i % 64))?;
+    }
+    Ok(homes)
+}
+
+/// What is found of two groups of 60 images and a last one of so many.
+fn found_last(alloc: Global, count: u32) -> Result<Answer, OutOfMemory> {
+    let (mut rack, _log) = started(alloc, 100, &[])?;
+    let most = run_of(alloc, 60)?;
+    put_place(&mut rack, 100, header_of(alloc, 9, &most)?.bytes());
+    put_place(&mut rack, 161, header_of(alloc, 10, &most)?.bytes());
+    let last = run_of(alloc, count)?;
+    put_place(&mut rack, 222, header_of(alloc, 11, &last)?.bytes());
+    Ok(found(&mut rack, alloc))
+}
+
+#[test]
+fn a_group_that_passes_the_ring_is_no_domain(rt: HostRuntime) -> Result<(), Fail> {
+    // 122 places, a header, the images and the next header
+    assert_eq!(rt; found_last(rt.alloc(), 4)?, Answer::Log(12, 99, 124));
+    assert_eq!(rt; found_last(rt.alloc(), 5)?, Answer::NoDomain(1, 6 + 94));
+    Ok(())
+}
+
+/// Puts a byte into a page of a volume.
+fn put_byte(
+    rack: &mut CountRack,
+    alloc: Global,
+    vol: u32,
+    page: u32,
+    at: usize,
+    byte: u8,
+) -> Result<(), OutOfMemory> {
+    let mut bytes = [0; PAGE_BYTES];
+    if let Some(vol) = VolIx::new(vol) {
+        let there = vol.number() <= rack.volumes() && page < rack.pages(vol) && page < 1_000;
+        if there {
+            let _ = read_blocks(rack, vol, BLOCKS_PER_PAGE * page, &mut bytes);
+        }
+    }
+    let mut changed = Page::zeros(alloc)?;
+    changed.set(0, &bytes);
+    if at < PAGE_BYTES {
+        changed.set(at, &[byte]);
+    }
+    put_page(rack, vol, page, changed.bytes());
+    Ok(())
+}
+
+/// Bytes of labels and anchors that make a domain none: the volume, the page, the byte's place, the
+/// byte, and where there is said to be none.
+static BYTES: [(u32, u32, usize, u8, Answer); 13] = [
+    // the labels: their first byte, another version, volume, number of pages and of bitmap pages
+    (1, 0, 0, 0, Answer::NoDomain(1, 0)),
+    (2, 0, 8, 4, Answer::NoDomain(2, 0)),
+    (2, 0, 12, 1, Answer::NoDomain(2, 0)),
+    (2, 0, 16, 79, Answer::NoDomain(2, 0)),
+    (2, 0, 20, 2, Answer::NoDomain(2, 0)),
+    // the anchor: its gate, version, first page, pages, start, group, table, a state, a number
+    (1, 1, 0, 0, Answer::NoDomain(1, 1)),
+    (1, 1, 528, 2, Answer::NoDomain(1, 1)),
+    (1, 1, 528, 33, Answer::NoDomain(1, 1)),
+    (1, 1, 532, 127, Answer::NoDomain(1, 1)),
+    (1, 1, 536, 128, Answer::NoDomain(1, 1)),
+    (1, 1, 551, 128, Answer::NoDomain(1, 1)),
+    (1, 1, 552, 3, Answer::NoDomain(1, 1)),
+    (1, 1, 580, 3, Answer::NoDomain(1, 1)),
+];
+
+#[test]
+fn labels_and_anchors_out_of_order_are_no_domain(rt: HostRuntime) -> Result<(), Fail> {
+    for case in BYTES.iter() {
+        let (mut rack, _log) = started(rt.alloc(), 0, &[])?;
+        put_byte(&mut rack, rt.alloc(), case.0, case.1, case.2, case.3)?;
+        assert_eq!(rt; found(&mut rack, rt.alloc()), case.4);
+    }
+    Ok(())
+}
+
+/// Whether a read that fails in recovery is named by its volume.
+fn fails_well(alloc: Global, call: u64) -> Result<bool, OutOfMemory> {
+    let mut rack = by_hand(alloc, &[call])?;
+    let Answer::Unread(number) = found(&mut rack, alloc) else {
+        return Ok(false);
+    };
+    let Some(vol) = VolIx::new(number) else {
+        return Ok(false);
+    };
+    Ok(rack.read_faults(vol) == 1)
+}
+
+#[test]
+fn each_read_that_fails_is_named(rt: HostRuntime) -> Result<(), Fail> {
+    let mut rack = by_hand(rt.alloc(), &[])?;
+    let start = rack.calls();
+    let _ = found(&mut rack, rt.alloc());
+    for call in start..rack.calls() {
+        let failing = call.saturating_add(1);
+        assert!(rt; fails_well(rt.alloc(), failing)?);
+    }
+    Ok(())
+}
+
+// Settling.
+
+/// Makes both slots of volume 1 ready: whether that passes.
+fn make_ready(rack: &mut CountRack) -> bool {
+    let Some(vol) = VolIx::new(1) else {
+        return false;
+    };
+    if rack.volumes() < 1 || rack.pages(vol) < 2 {
+        return false;
+    }
+    if ready_slot(rack, vol, 0).is_err() {
+        return false;
+    }
+    rack.volumes() >= 1 && rack.pages(vol) >= 2 && ready_slot(rack, vol, 1).is_ok()
+}
+
+/// Recovers a log and settles it: whether that passes.
+fn settle_log(rack: &mut CountRack, alloc: Global) -> bool {
+    match recover(alloc, rack) {
+        Ok(redone) => settle(rack, &redone).is_ok(),
+        Err(_) => false,
+    }
+}
+
+/// A rack that starts again on what a stop right after a call leaves.
+fn again(rack: &CountRack, alloc: Global, call: u64, pick: u64) -> Result<CountRack, OutOfMemory> {
+    if !rack.rack.keeps_calls() || call > rack.rack.calls() {
+        return Ok(started(alloc, 0, &[])?.0);
+    }
+    Ok(CountRack {
+        rack: rack.rack.image(alloc, call, pick)?,
+        counts: NO_CALLS,
+    })
+}
+
+#[test]
+fn a_stop_within_settling_changes_no_redone_page(rt: HostRuntime) -> Result<(), Fail> {
+    let alloc = rt.alloc();
+    let mut rack = by_hand(alloc, &[])?;
+    let ready = make_ready(&mut rack);
+    let start = rack.calls();
+    let settled = settle_log(&mut rack, alloc);
+    let end = rack.calls();
+    let during = leaves(&rack, alloc, (start, end), (REDONE, HOME))?;
+    let last = (end, end.saturating_add(1));
+    let after = leaves(&rack, alloc, last, (HOME, HOME))?;
+    assert_eq!(rt; [ready, settled, during, after], [true; 4]);
+    Ok(())
+}
+
+/// Whether a log that is settled again after a stop is home then, and so is what a stop leaves.
+fn settles_again(rack: &CountRack, alloc: Global, call: u64) -> Result<bool, OutOfMemory> {
+    for pick in 1..4 {
+        let mut second = again(rack, alloc, call, pick)?;
+        let done = make_ready(&mut second) && settle_log(&mut second, alloc);
+        let end = second.calls();
+        let last = (end, end.saturating_add(1));
+        if !done || !leaves(&second, alloc, last, (HOME, HOME))? {
+            return Ok(false);
+        }
+    }
+    Ok(true)
+}
+
+#[test]
+fn a_second_stop_changes_no_redone_page(rt: HostRuntime) -> Result<(), Fail> {
+    let alloc = rt.alloc();
+    let mut rack = by_hand(alloc, &[])?;
+    let _ = make_ready(&mut rack);
+    let start = rack.calls();
+    let _ = settle_log(&mut rack, alloc);
+    for call in start..rack.calls() {
+        assert!(rt; settles_again(&rack, alloc, call)?);
+    }
+    Ok(())
+}
