@@ -3,5 +3,4 @@
 
 #[cfg(test)]
 mod files;
-#[cfg(test)]
 mod world;

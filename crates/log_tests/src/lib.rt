@@ -2,7 +2,6 @@
 //! wherever a stop comes.
 #![tactic(auto)]
 
-#[cfg(test)]
 mod counting;
 #[cfg(test)]
 mod forces;
