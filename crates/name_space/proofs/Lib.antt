@@ -4,3 +4,8 @@ pub mod Walked
 pub mod Targets
 pub mod Keyed
 pub mod Listed
+pub mod PathCounts
+pub mod Originals
+pub mod RowChanged
+pub mod Leaves
+pub mod Created

@@ -1,5 +1,5 @@
 -- What stands at a path whose way is clear.
-use Rattle.std.proofs.Common.{◌≡◌, ◌∙◌, ℕ, ◌+◌, ◌-◌, not, is_some, [], ◌∷◌, Option, Some, None, length, take, take_all, get_or, sym, ap, subst, arith}
+use Rattle.std.proofs.Common.{◌≡◌, ◌∙◌, ℕ, ◌+◌, ◌-◌, Bool, true, false, not, is_some, [], ◌∷◌, Option, Some, None, length, take, take_all, get_or, refl, sym, ap, subst, arith}
 use Rattle.std.specs.Option.{option_and_then, option_map}
 use Rattle.std.specs.FinMap.{contains_key}
 use Rattle.domain_base.specs.declared.place.Kind.{Kind}
@@ -7,12 +7,14 @@ use Rattle.domain_base.specs.declared.place.Tag.{Tag}
 use Rattle.page_store.specs.Bitfiles.{Bitfiles}
 use Rattle.dir_pages.specs.Rows.{found}
 use Rattle.dir_rows.specs.Directory.{rows_in}
+use Rattle.fileset_model.specs.Apply.{path_taken}
 use Rattle.fileset_model.specs.LooksLike.{IsShown}
 use Rattle.fileset_model.specs.Orders.{Name, Path}
 use Rattle.fileset_model.specs.Paths.{first_refusal, refuse_if, target_refusal, walk_refusal}
 use Rattle.fileset_model.specs.declared.fileset.FilesetSlot.{FilesetSlot}
 use Rattle.fileset_model.specs.declared.reply.Refusal.{Refusal}
-use Rattle.fileset_model.specs.declared.reply.Refusal.TheVariants.{NoPath}
+use Rattle.fileset_model.specs.declared.reply.Refusal.TheVariants.{Exists, NoPath}
+use Rattle.name_space.specs.Changes.{free_checks}
 use Rattle.name_space.specs.Names.{Names, led_to, number_of}
 use Rattle.name_space.specs.Walks.{IsWayTo}
 use Rattle.name_space.proofs.Leads.{led-more}
@@ -36,6 +38,25 @@ module _ (files : Bitfiles) (slot : FilesetSlot) (names : Names files slot) (pat
       ∙ led-more files path last name (omega (arith, is_last))
       ∙ ap (option_and_then (λ (led : Tag × Kind). found (get_or path last name) (rows_in files led.0))) way.led
       ∙ ap (λ n. found n (rows_in files dir)) (sym is)
+
+  -- the path is taken where its row is there
+  pub last_taken : path_taken slot path ≡ refuse_if (is_some (found name (rows_in files dir))) Exists
+  last_taken =
+      ap (λ (o : Option ℕ). refuse_if (is_some o) Exists) (names.paths path shown ∙ ap (option_map (λ (led : Tag × Kind). number_of led.0)) led)
+      ∙ ap (λ b. refuse_if b Exists) (mapped (found name (rows_in files dir)))
+    where
+      mapped : (o : Option (Tag × Kind)) → is_some (option_map (λ (led : Tag × Kind). number_of led.0) o) ≡ is_some o
+      mapped None = refl
+      mapped (Some row) = refl
+
+  pub free_checked : (o : Option (Tag × Kind)) → found name (rows_in files dir) ≡ o → first_refusal (free_checks path slot) ≡ refuse_if (is_some o) Exists
+  free_checked o row =
+      ap (λ (r : Option Refusal). first_refusal (r ∷ path_taken slot path ∷ [])) clear
+      ∙ ap (λ (r : Option Refusal). first_refusal (r ∷ [])) (last_taken ∙ ap (λ o. refuse_if (is_some o) Exists) row) ∙ one (is_some o)
+    where
+      one : (b : Bool) → first_refusal (refuse_if b Exists ∷ []) ≡ refuse_if b Exists
+      one true = refl
+      one false = refl
 
   -- the refusal of a target whose way is clear, by what its path has
   by_path : target_refusal slot path ≡ first_refusal (None ∷ refuse_if (not (is_some (option_map (λ (led : Tag × Kind). number_of led.0) (found name (rows_in files dir))))) NoPath ∷ [])
