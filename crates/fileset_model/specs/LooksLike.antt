@@ -2,6 +2,7 @@
 use Rattle.std.specs.Prelude.{◌≡◌, ℕ, ◌<◌, false, length, take, Option, Some, None, IsSomeAnd}
 use Rattle.std.specs.Option.{option_map}
 use Rattle.std.specs.FinMap as map
+use Rattle.fileset_model.specs.Apply.{original_of}
 use Rattle.fileset_model.specs.Orders.{Name, Path}
 use Rattle.fileset_model.specs.Paths.{paths_to, is_directory, is_out_of_sync_at, is_out_of_sync, node_at}
 use Rattle.fileset_model.specs.Filesets.{FilesetMap}
@@ -19,14 +20,17 @@ pub record Shows (slot : FilesetSlot) (path : Path) (number : ℕ) : Type 0 wher
   pub leads : map.get slot.tree.paths path ≡ Some number
   pub in_sync : is_out_of_sync slot.role number ≡ false
 
--- an original is the same; a clone shows the same paths, each with the same kind of node, and of
--- what is in sync the same node under as many paths
+-- an original is the same; a clone is one of the same original and shows the same paths, each with
+-- the same kind of node and in sync where the other's is, and of what is in sync the same node under
+-- as many paths. Whether what no path shows is out of sync is not looked at.
 pub record LooksLikeSlot (slot other : FilesetSlot) : Type 0 where
-  pub role : other.role ≡ slot.role
+  pub of : original_of other.role ≡ original_of slot.role
   pub original : slot.role ≡ Original → other ≡ slot
   pub limits : other.tree.limits ≡ slot.tree.limits
   pub paths : (path : Path) → IsShown slot path
       → map.get other.tree.paths path ≡ map.get slot.tree.paths path
+  pub out : (path : Path) → IsShown slot path
+      → is_out_of_sync_at other path ≡ is_out_of_sync_at slot path
   pub kinds : (path : Path) → IsShown slot path
       → option_map is_directory (node_at other.tree path)
       ≡ option_map is_directory (node_at slot.tree path)

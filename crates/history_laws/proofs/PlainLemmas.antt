@@ -49,10 +49,11 @@ slot_stays Allowed (Some slot) = (refl, role_stays Allowed slot slot.role)
 
 slot_itself : (slot : FilesetSlot) → LooksLikeSlot slot slot
 slot_itself slot = record {
-  role = refl;
+  of = refl;
   original = λ original. refl;
   limits = refl;
   paths = λ path shown. refl;
+  out = λ path shown. refl;
   kinds = λ path shown. refl;
   nodes = λ path number shows. refl;
   links = λ path number shows. refl;

@@ -11,7 +11,7 @@ use Rattle.domain_base.specs.Limits.{file_bytes}
 use Rattle.fileset_model.specs.LooksLike.{IsShown, LooksLike, LooksLikeSlot, LooksLikeThere}
 use Rattle.fileset_model.specs.Fileset.{Fileset}
 use Rattle.fileset_model.specs.Orders.{Name, Path, name_cmp, name_cmp-total, name_cmp-IsAntisymmetric, path_cmp, path_cmp-total, path_cmp-IsAntisymmetric}
-use Rattle.fileset_model.specs.Paths.{begins_with, names_one, directory_here, directory_refusal, file_here, first_refusal, is_directory, is_out_of_sync_at, is_out_of_sync, name_below, node_at, paths_to, refuse_if, rows_of, target_refusal, walk_refusal}
+use Rattle.fileset_model.specs.Paths.{begins_with, directory_here, directory_refusal, file_here, first_refusal, is_directory, is_out_of_sync, is_out_of_sync_at, name_below, names_one, node_at, paths_to, refuse_if, rows_of, same_name, target_refusal, walk_refusal}
 use Rattle.fileset_model.specs.Filesets.{FilesetMap}
 use Rattle.fileset_model.specs.declared.command.Command.{Command}
 use Rattle.fileset_model.specs.declared.command.Command.TheVariants as command
@@ -73,9 +73,15 @@ module _ (slot : FilesetSlot) (path : Path) where
 module _ (slot other : FilesetSlot) (alike : LooksLikeSlot slot other) where
   -- at a path that is shown
   pub same_mark : (path : Path) → IsShown slot path → is_out_of_sync_at other path ≡ is_out_of_sync_at slot path
-  same_mark path shown =
-      ap (λ r. option_map_or (is_out_of_sync r) (map.get other.tree.paths path) false) alike.role
-      ∙ ap (λ o. option_map_or (is_out_of_sync slot.role) o false) (alike.paths path shown)
+  same_mark path shown = alike.out path shown
+
+  -- both are clones, or none is
+  pub same_clone : is_clone other.role ≡ is_clone slot.role
+  same_clone = clone_of other.role ∙ ap is_some alike.of ∙ sym (clone_of slot.role)
+    where
+      clone_of : (role : Role) → is_clone role ≡ is_some (original_of role)
+      clone_of Original = refl
+      clone_of (CloneOf original out) = refl
 
   same_kind : {B : Type 0} (f : Bool → B) (d : B) (path : Path) → IsShown slot path
       → option_map_or (λ node. f (is_directory node)) (node_at other.tree path) d ≡ option_map_or (λ node. f (is_directory node)) (node_at slot.tree path) d
@@ -238,7 +244,7 @@ module _ (slot other : FilesetSlot) (alike : LooksLikeSlot slot other) where
     | Original ↦ λ is. ap (λ s. first_refusal (read_only s ∷ checks s)) (alike.original is)
     | CloneOf original out ↦ λ is.
         let here : read_only slot ≡ Some ReadOnly = ap (λ r. refuse_if (is_clone r) ReadOnly) is in
-        let there : read_only other ≡ Some ReadOnly = ap (λ r. refuse_if (is_clone r) ReadOnly) (alike.role ∙ is) in
+        let there : read_only other ≡ Some ReadOnly = ap (λ b. refuse_if b ReadOnly) (same_clone slot other alike ∙ ap is_clone is) in
         ap (λ o. first_refusal (o ∷ checks other)) there ∙ sym (ap (λ o. first_refusal (o ∷ checks slot)) here)
   ] refl
 
@@ -255,42 +261,42 @@ module _ (all other : FilesetMap) (alike : LooksLike all other) where
       at (Some slot) None there = absurd there
       at (Some slot) (Some slot') there = same slot slot' there
 
-  pub same_role : (name : Name) → option_map (λ (s : FilesetSlot). s.role) (map.get all name) ≡ option_map (λ (s : FilesetSlot). s.role) (map.get other name)
+  pub same_role : (name : Name) → option_map (λ (s : FilesetSlot). original_of s.role) (map.get all name) ≡ option_map (λ (s : FilesetSlot). original_of s.role) (map.get other name)
   same_role name = at (map.get all name) (map.get other name) (alike name)
     where
-      at : (o o' : Option FilesetSlot) → LooksLikeThere o o' → option_map (λ (s : FilesetSlot). s.role) o ≡ option_map (λ (s : FilesetSlot). s.role) o'
-      at None o' none = sym (ap (option_map (λ (s : FilesetSlot). s.role)) none)
+      at : (o o' : Option FilesetSlot) → LooksLikeThere o o' → option_map (λ (s : FilesetSlot). original_of s.role) o ≡ option_map (λ (s : FilesetSlot). original_of s.role) o'
+      at None o' none = sym (ap (option_map (λ (s : FilesetSlot). original_of s.role)) none)
       at (Some slot) None there = absurd there
-      at (Some slot) (Some slot') there = ap Some (sym there.role)
+      at (Some slot) (Some slot') there = ap Some (sym there.of)
 
-  -- both have the same names with the same roles
-  same_roles : images name_cmp (λ (s : FilesetSlot). s.role) (map.entries all) ≡ images name_cmp (λ (s : FilesetSlot). s.role) (map.entries other)
+  -- both have the same names, and the clones among them are of the same originals
+  same_roles : images name_cmp (λ (s : FilesetSlot). original_of s.role) (map.entries all) ≡ images name_cmp (λ (s : FilesetSlot). original_of s.role) (map.entries other)
   same_roles =
-      sym (ap (images name_cmp (λ (s : FilesetSlot). s.role)) (where_all name_cmp (map.entries all)))
-      ∙ same_images name_cmp name_cmp-total name_cmp-IsAntisymmetric (λ (s : FilesetSlot). s.role) (λ (s : FilesetSlot). s.role) (λ _. true) all other (λ name _. same_role name)
-      ∙ ap (images name_cmp (λ (s : FilesetSlot). s.role)) (where_all name_cmp (map.entries other))
+      sym (ap (images name_cmp (λ (s : FilesetSlot). original_of s.role)) (where_all name_cmp (map.entries all)))
+      ∙ same_images name_cmp name_cmp-total name_cmp-IsAntisymmetric (λ (s : FilesetSlot). original_of s.role) (λ (s : FilesetSlot). original_of s.role) (λ _. true) all other (λ name _. same_role name)
+      ∙ ap (images name_cmp (λ (s : FilesetSlot). original_of s.role)) (where_all name_cmp (map.entries other))
 
   pub same_len : map.len other ≡ map.len all
-  same_len = map.len-entries other ∙ sym (length-map (map.entries other) (λ (e : Name × FilesetSlot). (e.0, e.1.role))) ∙ sym (ap length same_roles)
-      ∙ length-map (map.entries all) (λ (e : Name × FilesetSlot). (e.0, e.1.role)) ∙ sym (map.len-entries all)
+  same_len = map.len-entries other ∙ sym (length-map (map.entries other) (λ (e : Name × FilesetSlot). (e.0, original_of e.1.role))) ∙ sym (ap length same_roles)
+      ∙ length-map (map.entries all) (λ (e : Name × FilesetSlot). (e.0, original_of e.1.role)) ∙ sym (map.len-entries all)
 
   same_name_taken : (name : Name) → name_taken other name ≡ name_taken all name
   same_name_taken name = ap (λ b. refuse_if b FilesetExists) (sym (has other name) ∙ sym (ap is_some (same_role name)) ∙ has all name)
     where
-      has : (m : FilesetMap) (name : Name) → is_some (option_map (λ (s : FilesetSlot). s.role) (map.get m name)) ≡ map.contains_key m name
-      has m name = elim (map.get m name) as (λ o. is_some (option_map (λ (s : FilesetSlot). s.role) o) ≡ is_some o) [ None ↦ refl | Some slot ↦ refl ]
+      has : (m : FilesetMap) (name : Name) → is_some (option_map (λ (s : FilesetSlot). original_of s.role) (map.get m name)) ≡ map.contains_key m name
+      has m name = elim (map.get m name) as (λ o. is_some (option_map (λ (s : FilesetSlot). original_of s.role) o) ≡ is_some o) [ None ↦ refl | Some slot ↦ refl ]
 
   same_full : filesets_full other ≡ filesets_full all
   same_full = ap (λ n. refuse_if (nat_le 16 n) FilesetsFull) same_len
 
   clone_among : (name : Name) (es : List (Name × FilesetSlot)) → list_any (λ (s : FilesetSlot). is_clone_of name s.role) (map_each (λ e. e.1) es)
-      ≡ list_any (λ (e : Name × Role). is_clone_of name e.1) (images name_cmp (λ (s : FilesetSlot). s.role) es)
+      ≡ list_any (λ (e : Name × Option Name). option_map_or (same_name name) e.1 false) (images name_cmp (λ (s : FilesetSlot). original_of s.role) es)
   clone_among name [] = refl
   clone_among name (e ∷ es) = ap (λ rest. is_clone_of name e.1.role || rest) (clone_among name es)
 
   same_has_clone : (name : Name) → has_clone other name ≡ has_clone all name
   same_has_clone name =
-      clone_among name (map.entries other) ∙ sym (ap (list_any (λ (e : Name × Role). is_clone_of name e.1)) same_roles) ∙ sym (clone_among name (map.entries all))
+      clone_among name (map.entries other) ∙ sym (ap (list_any (λ (e : Name × Option Name). option_map_or (same_name name) e.1 false)) same_roles) ∙ sym (clone_among name (map.entries all))
 
   -- a command that changes a fileset
   same_change : (name : Name) (checks : FilesetSlot → List (Option Refusal))
@@ -304,7 +310,7 @@ module _ (all other : FilesetMap) (alike : LooksLike all other) where
   same_refusal (command.Clonefset fileset new_name) =
       same_in fileset (λ slot. refuse_if (is_clone slot.role) CloneOfClone ∷ refuse_if (has_clone all fileset) HasClone ∷ name_taken all new_name ∷ filesets_full all ∷ [])
       (λ slot. refuse_if (is_clone slot.role) CloneOfClone ∷ refuse_if (has_clone other fileset) HasClone ∷ name_taken other new_name ∷ filesets_full other ∷ [])
-      (λ slot slot' like. rw (like.role, same_has_clone fileset, same_name_taken new_name, same_full) refl)
+      (λ slot slot' like. rw (same_clone slot slot' like, same_has_clone fileset, same_name_taken new_name, same_full) refl)
   same_refusal (command.Setquota fileset who files blocks) = same_change fileset (λ s. [])
   same_refusal (command.Showquota fileset who) = same_change fileset (λ s. [])
   same_refusal (command.Create place uid gid) = same_change place.fileset (λ s. walk_refusal s place.path ∷ path_taken s place.path ∷ quota_refusal s.tree uid gid 1 0 ∷ [])
@@ -377,17 +383,17 @@ is_original : (role : Role) → is_clone role ≡ false → role ≡ Original
 is_original Original none = refl
 is_original (CloneOf original out) none = absurd (cc)
 
-images_then : {Y : Type 0} (f : Name × Role → Y) (es : List (Name × FilesetSlot))
-    → map_each (λ e. f (e.0, e.1.role)) es ≡ map_each f (images name_cmp (λ (s : FilesetSlot). s.role) es)
+images_then : {Y : Type 0} (f : Name × Option Name → Y) (es : List (Name × FilesetSlot))
+    → map_each (λ e. f (e.0, original_of e.1.role)) es ≡ map_each f (images name_cmp (λ (s : FilesetSlot). original_of s.role) es)
 images_then f [] = refl
-images_then f (e ∷ es) = ap (λ rest. f (e.0, e.1.role) ∷ rest) (images_then f es)
+images_then f (e ∷ es) = ap (λ rest. f (e.0, original_of e.1.role) ∷ rest) (images_then f es)
 
 module _ (all other : FilesetMap) (alike : LooksLike all other) where
   pub same_answer : (c : Command) → refusal_of all c ≡ None → answer_of other c ≡ answer_of all c
   same_answer command.Showfsets none =
-      ap Filesets (images_then (λ (e : Name × Role). record { fileset = e.0; original = original_of e.1 }) (map.entries other)
-      ∙ ap (map_each (λ (e : Name × Role). record { fileset = e.0; original = original_of e.1 })) (sym (same_roles all other alike))
-      ∙ sym (images_then (λ (e : Name × Role). record { fileset = e.0; original = original_of e.1 }) (map.entries all)))
+      ap Filesets (images_then (λ (e : Name × Option Name). record { fileset = e.0; original = e.1 }) (map.entries other)
+      ∙ ap (map_each (λ (e : Name × Option Name). record { fileset = e.0; original = e.1 })) (sym (same_roles all other alike))
+      ∙ sym (images_then (λ (e : Name × Option Name). record { fileset = e.0; original = e.1 }) (map.entries all)))
   same_answer (command.Showquota fileset who) none =
       let here = passed_in all fileset (λ s. read_only s ∷ []) none in
       let there = in_other all other alike fileset here.0 here.1 in

@@ -1,5 +1,5 @@
 -- What is always so stays so along a legal history.
-use Rattle.std.proofs.Common.{◌≡◌, ℕ, zero, ◌≤◌, ◌<◌, true, false, length, take, IsTrue, IsSomeAnd, unwrap_or, Option, Some, None, refl, sym, ap, subst, ◌∙◌, arith, length-take, take-take, true≢false}
+use Rattle.std.proofs.Common.{◌≡◌, ℕ, zero, ◌≤◌, true, false, length, take, IsTrue, IsSomeAnd, unwrap_or, Option, Some, None, refl, sym, ap, subst, ◌∙◌, true≢false}
 use Rattle.std.specs.Option.{option_map, option_map_or}
 use Rattle.std.specs.FinMap as map
 use Rattle.domain_base.specs.Limits.{max_filesets}
@@ -15,47 +15,90 @@ use Rattle.fileset_model.specs.declared.fileset.Role.TheVariants.{Original, Clon
 use Rattle.fileset_laws.specs.Valid.{AreValid, IsValidAs, IsValidClone, IsValidSlot}
 use Rattle.fileset_laws.proofs.ValidLemmas.{from_some_and, to_some_and}
 use Rattle.history_model.specs.Marks.{GainsMarks, RoleGains, SlotGains}
-use Rattle.history_laws.proofs.ShownLemmas.{same_mark}
+use Rattle.fileset_laws.proofs.LooksLemmas.{shown_as}
 use Rattle.history_laws.proofs.ImageLemmas.{images, same_images, where_all}
 use Rattle.fileset_model.specs.Apply.{original_of}
 use Rattle.std.proofs.lemmas.List.{length-map}
+
+none≢some : {X : Type 0} (x : X) → None ≡ Some x → ⊥
+none≢some x e = cc
 
 -- ---- filesets that look alike
 
 module _ (a b : FilesetSlot) (alike : LooksLikeSlot a b) where
   -- what is shown of one is shown of the other
   shown_there : (path : Path) → IsShown a path → IsShown b path
-  shown_there path shown count below =
-      let front : IsShown a (take count path) = λ c low.
-      let short : c < count = omega (arith, low, length-take count path) in
-      subst (λ p. is_out_of_sync_at a p ≡ false) (sym (take-take c count path (omega (arith, short)))) (shown c (omega (arith, short, below))) in
-      same_mark a b alike (take count path) front ∙ shown count below
+  shown_there = shown_as a b (λ path shown also. alike.out path shown)
 
   shows_there : (path : Path) (number : ℕ) → Shows a path number → Shows b path number
   shows_there path number shows = record {
     shown = shown_there path shows.shown;
     leads = alike.paths path shows.shown ∙ shows.leads;
-    in_sync = ap (λ r. is_out_of_sync r number) alike.role ∙ shows.in_sync;
+    in_sync = sym (ap (λ o. option_map_or (is_out_of_sync b.role) o false) (alike.paths path shows.shown ∙ shows.leads)) ∙ alike.out path shows.shown
+        ∙ ap (λ o. option_map_or (is_out_of_sync a.role) o false) shows.leads ∙ shows.in_sync;
   }
 
 looks_through : (a b c : FilesetSlot) → LooksLikeSlot a b → LooksLikeSlot b c → LooksLikeSlot a c
 looks_through a b c first second = record {
-  role = second.role ∙ first.role;
-  original = λ original. second.original (first.role ∙ original) ∙ first.original original;
+  of = second.of ∙ first.of;
+  original = λ original. second.original (ap (λ (s : FilesetSlot). s.role) (first.original original) ∙ original) ∙ first.original original;
   limits = second.limits ∙ first.limits;
   paths = λ path shown. second.paths path (shown_there a b first path shown) ∙ first.paths path shown;
+  out = λ path shown. second.out path (shown_there a b first path shown) ∙ first.out path shown;
   kinds = λ path shown. second.kinds path (shown_there a b first path shown) ∙ first.kinds path shown;
   nodes = λ path number shows. second.nodes path number (shows_there a b first path number shows) ∙ first.nodes path number shows;
   links = λ path number shows. second.links path number (shows_there a b first path number shows) ∙ first.links path number shows;
 }
 
+-- a clone with another's marks looks like what that looks like, where those agree on what is shown
+module _ (whole : Fileset) (slot other : FilesetSlot) (shows : LooksLikeSlot (record slot { tree = whole }) slot) (alike : LooksLikeSlot slot other) where
+  abbrev behind : FilesetSlot
+  behind = record slot { tree = whole }
+
+  abbrev marked : FilesetSlot
+  marked = record other { tree = whole }
+
+  all : LooksLikeSlot behind other
+  all = looks_through behind slot other shows alike
+
+  same_marks : (path : Path) → IsShown behind path → is_out_of_sync_at marked path ≡ is_out_of_sync_at behind path
+  same_marks path shown = ap (λ o. option_map_or (is_out_of_sync other.role) o false) (sym (all.paths path shown)) ∙ all.out path shown
+
+  shown_behind : (path : Path) → IsShown marked path → IsShown behind path
+  shown_behind = shown_as marked behind (λ path shown also. sym (same_marks path also))
+
+  shows_behind : (path : Path) (number : ℕ) → Shows marked path number → Shows behind path number
+  shows_behind path number s =
+      let shown = shown_behind path s.shown in record {
+        shown = shown;
+        leads = s.leads;
+        in_sync = sym (ap (λ o. option_map_or (is_out_of_sync slot.role) o false) s.leads) ∙ sym (same_marks path shown)
+            ∙ ap (λ o. option_map_or (is_out_of_sync other.role) o false) s.leads ∙ s.in_sync;
+      }
+
+  with_marks : original_of other.role ≡ original_of slot.role → ¬ other.role ≡ Original → LooksLikeSlot marked other
+  with_marks of clone = record {
+    of = refl;
+    original = λ original. absurd (clone original);
+    limits = all.limits;
+    paths = λ path s. all.paths path (shown_behind path s);
+    out = λ path s. ap (λ o. option_map_or (is_out_of_sync other.role) o false) (all.paths path (shown_behind path s));
+    kinds = λ path s. all.kinds path (shown_behind path s);
+    nodes = λ path number s. all.nodes path number (shows_behind path number s);
+    links = λ path number s. all.links path number (shows_behind path number s);
+  }
+
 -- a fileset that looks like a valid one is valid
-alike_slot-valid : (slot other : FilesetSlot) (role : Role) → slot.role ≡ role → LooksLikeSlot slot other → IsValidAs role slot → IsValidAs role other
-alike_slot-valid slot other Original is alike valid = subst (λ (s : FilesetSlot). IsValidAs Original s) (sym (alike.original is)) valid
-alike_slot-valid slot other (CloneOf original out) is alike valid = record {
+alike_slot-valid : (slot other : FilesetSlot) (role role' : Role) → slot.role ≡ role → other.role ≡ role' → LooksLikeSlot slot other → IsValidAs role slot → IsValidAs role' other
+alike_slot-valid slot other Original Original is was alike valid = subst (λ (s : FilesetSlot). IsValidAs Original s) (sym (alike.original is)) valid
+alike_slot-valid slot other Original (CloneOf original out) is was alike valid =
+    absurd (none≢some original (sym (ap original_of is) ∙ sym alike.of ∙ ap original_of was))
+alike_slot-valid slot other (CloneOf original out) Original is was alike valid =
+    absurd (none≢some original (sym (ap original_of was) ∙ alike.of ∙ ap original_of is))
+alike_slot-valid slot other (CloneOf original out) (CloneOf other_original lost) is was alike valid = record {
   whole = valid.whole;
   valid = valid.valid;
-  shows = subst (λ r. LooksLikeSlot (record { tree = valid.whole; role = r }) other) (sym alike.role) (looks_through (record slot { tree = valid.whole }) slot other valid.shows alike);
+  shows = with_marks valid.whole slot other valid.shows alike alike.of (λ original'. none≢some other_original (sym (ap original_of original') ∙ ap original_of was));
 }
 
 -- ---- filesets that have the same names, originals and clones
@@ -71,9 +114,6 @@ FollowsThere (Some before) found = IsSomeAnd found (Follows before)
 
 abbrev AllFollow : FilesetMap → FilesetMap → Type 0
 AllFollow old new = (name : Name) → FollowsThere (map.get old name) (map.get new name)
-
-none≢some : {X : Type 0} (x : X) → None ≡ Some x → ⊥
-none≢some x e = cc
 
 clone_of : (role : Role) (original : Name) → original_of role ≡ Some original → (out : NumberSet) × (role ≡ CloneOf original out)
 clone_of Original original is = absurd (none≢some original is)
@@ -146,8 +186,8 @@ alike-valid all other alike v = following-valid all other (λ name. at (map.get 
     at None o' none = none
     at (Some slot) None there = absurd there
     at (Some slot) (Some slot') like = record {
-      role = ap original_of like.role;
-      valid = λ valid. subst (λ r. IsValidAs r slot') (sym like.role) (alike_slot-valid slot slot' slot.role refl like valid);
+      role = like.of;
+      valid = λ valid. alike_slot-valid slot slot' slot.role slot'.role refl refl like valid;
     }
 
 module _ (original : Name) (out out' : NumberSet) (more : (number : ℕ) → IsTrue (map.contains_key out number) → IsTrue (map.contains_key out' number)) where
@@ -171,10 +211,11 @@ module _ (original : Name) (out out' : NumberSet) (more : (number : ℕ) → IsT
         in_sync = fewer_marks (Some number) s.in_sync;
       } in
       record {
-        role = refl;
+        of = refl;
         original = λ is. absurd (none≢some original (sym (ap original_of is)));
         limits = alike.limits;
         paths = λ path s. alike.paths path (shown path s);
+        out = λ path s. ap (λ o. option_map_or (map.contains_key out') o false) (alike.paths path (shown path s));
         kinds = λ path s. alike.kinds path (shown path s);
         nodes = λ path number s. alike.nodes path number (shows path number s);
         links = λ path number s. alike.links path number (shows path number s);

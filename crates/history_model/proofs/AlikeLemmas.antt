@@ -13,10 +13,11 @@ use Rattle.fileset_model.specs.declared.node.Node.TheVariants.{File, Directory}
 
 pub slot_itself : (slot : FilesetSlot) → LooksLikeSlot slot slot
 slot_itself slot = record {
-  role = refl;
+  of = refl;
   original = λ original. refl;
   limits = refl;
   paths = λ path shown. refl;
+  out = λ path shown. refl;
   kinds = λ path shown. refl;
   nodes = λ path number shows. refl;
   links = λ path number shows. refl;
