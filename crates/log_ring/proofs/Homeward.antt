@@ -228,10 +228,6 @@ anchor_stays images d0 d2 homes writes told anchor is =
     subst (λ (sizes : List ℕ). IsAnchor sizes d2.now.contents anchor) (sym writes.touches.sizes)
     (IsAnchor-elsewhere d0.now.contents d2.now.contents (λ v k on. writes.touches.contents told v k (λ at. homes_beside_anchors d0.sizes images homes v k at on)) d0.sizes anchor is)
 
--- homes are written, and volumes synced
-pub then_synced : (images : List PageImage) (d0 d1 d2 : Disk) → OnlyWrites d0 d1 (IsAtHomes images) → OnlyWrites d1 d2 NoPlace → OnlyWrites d0 d2 (IsAtHomes images)
-then_synced images d0 d1 d2 first second = only_writes-then d0 d1 d2 (IsAtHomes images) first (only_writes-wider d1 d2 NoPlace (IsAtHomes images) (λ v k none. absurd none) second)
-
 -- syncs change nothing that a read gives
 pub home_after_syncs : (images : List PageImage) (d1 d2 : Disk) → OnlyWrites d1 d2 NoPlace → Tells d1 → AreHome images d1.now.contents → AreHome images d2.now.contents
 home_after_syncs images d1 d2 syncs told are home = go (image_at home images) (are home)

@@ -5,8 +5,6 @@
 
 mod laws;
 mod settling;
-mod writing;
 
 pub use laws::{log_laws, redo_laws};
 pub use settling::{bring_home, has_home_of};
-pub use writing::{sync_volume, write_blocks};

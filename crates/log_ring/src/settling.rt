@@ -30,12 +30,11 @@ ghost use Rattle.log_ring.specs.Settling.{
   IsOnPage,
 };
 
-use crate::{sync_volume, write_blocks};
 use disk_label::{Anchor, write_anchor};
 use domain_base::VolIx;
 use domain_base::limits::{BLOCKS_PER_PAGE, MAX_VOLUMES};
 use page_change::{PageImage, place_of};
-use volume_disk::Rack;
+use volume_disk::{Rack, sync_volume, write_blocks};
 
 /// Writes an image to its home.
 fn write_image<R: Rack>(rack: &mut R, image: &PageImage) -> Result<(), VolIx>

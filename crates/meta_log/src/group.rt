@@ -23,9 +23,8 @@ use disk_label::Anchor;
 use domain_base::gate::closed_block;
 use domain_base::limits::{BLOCK_BYTES, BLOCKS_PER_PAGE, LOG_PAGES};
 use domain_base::{Page, VolIx};
-use log_ring::{sync_volume, write_blocks};
 use page_change::{PageImage, write_header_of};
-use volume_disk::{Rack, open_gate};
+use volume_disk::{Rack, open_gate, sync_volume, write_blocks};
 
 /// The first block of a place of the ring.
 fn ring_block(anchor: &Anchor, place: u32) -> u32

@@ -427,10 +427,9 @@ only_writes-then old mid new places first second = record {
 pub only_writes-within : (old new : Disk) (vol at n w from m : ℕ) → vol ≡ w → from ≤ at → at + n ≤ from + m → OnlyWrites old new (IsIn vol at n) → OnlyWrites old new (IsIn w from m)
 only_writes-within old new vol at n w from m is low high = only_writes-wider old new (IsIn vol at n) (IsIn w from m) (in_wider vol at n w from m is low high)
 
--- a write, and the sync of its volume
-pub only_writes-synced : {T E : Type 0} (old mid new : Disk) (places : Places) (vol : ℕ) (result : Result T E) → OnOk result (SyncDone mid new vol) → OnErr result (SyncFailed mid new vol) → OnlyWrites old mid places → OnlyWrites old new places
-only_writes-synced old mid new places vol result done failed writes =
-    only_writes-then old mid new places writes (only_writes-wider mid new NoPlace places (λ v k none. absurd none) (only_writes-sync mid new vol result done failed))
+-- a write, and a sync
+pub only_writes-synced : (old mid new : Disk) (places : Places) → OnlyWrites old mid places → OnlyWrites mid new NoPlace → OnlyWrites old new places
+only_writes-synced old mid new places writes syncs = only_writes-then old mid new places writes (only_writes-wider mid new NoPlace places (λ v k none. absurd none) syncs)
 
 -- the same bytes at the same place
 pub Settles-moved : (vol at w from : ℕ) (bytes : List ℕ) (old new : Moment) → vol ≡ w → at ≡ from → Settles vol at bytes old new → Settles w from bytes old new

@@ -1,7 +1,7 @@
 //! Calls of a rack that name the volume of which they failed.
 ghost use Rattle.std.specs.Prelude.{◌≡◌, ◌*◌, length, OnOk};
-ghost use Rattle.volume_disk.specs.Disk.{AreBlocks, HasVolume, Tells};
-ghost use Rattle.volume_disk.specs.Image.{IsIn, bytes_at};
+ghost use Rattle.volume_disk.specs.Disk.{AreBlocks, HasVolume, Syncs, Tells, Writes};
+ghost use Rattle.volume_disk.specs.Image.{IsIn, NoPlace, bytes_at};
 ghost use Rattle.volume_disk.specs.Run.{
   NamesReadFault,
   NamesWriteFault,
@@ -33,6 +33,41 @@ pub fn read_blocks<R: Rack>(
     }
 }
 
+/// Writes whole blocks of 512 bytes of a volume, beginning at a block; the next sync of the volume
+/// makes them last. The error is the volume, of which the write failed.
+pub fn write_blocks<R: Rack>(
+    rack: &mut R,
+    vol: VolIx,
+    block: u32,
+    bytes: &[u8],
+) -> Result<(), VolIx>
+    requires { AreBlocks (R.disk rack.old) vol block (length bytes.now) }
+    ensures writes { let places = IsIn vol (512 * block) (length bytes.now) in
+        OnlyWrites (R.disk rack.old) (R.disk rack.new) places }
+    ensures written { let old = R.disk rack.old in let new = R.disk rack.new in
+        OnOk result (Tells old → Writes vol (512 * block) bytes.now old.now new.now) }
+    ensures fault { NamesWriteFault (R.disk rack.old) (R.disk rack.new) result }
+{
+    match rack.write(vol, block, bytes) {
+        Ok(()) => Ok(()),
+        Err(_) => Err(vol),
+    }
+}
+
+/// Syncs a volume. The error is the volume, of which that failed.
+pub fn sync_volume<R: Rack>(rack: &mut R, vol: VolIx) -> Result<(), VolIx>
+    requires { HasVolume (R.disk rack.old) vol }
+    ensures writes { OnlyWrites (R.disk rack.old) (R.disk rack.new) NoPlace }
+    ensures synced { let old = R.disk rack.old in
+        OnOk result (Tells old → Syncs vol old.now (R.disk rack.new).now) }
+    ensures fault { NamesWriteFault (R.disk rack.old) (R.disk rack.new) result }
+{
+    match rack.sync(vol) {
+        Ok(()) => Ok(()),
+        Err(_) => Err(vol),
+    }
+}
+
 /// Writes whole blocks of 512 bytes of a volume, beginning at a block, and syncs the volume. The
 /// error is the volume, of which the write or the sync failed.
 pub fn write_synced<R: Rack>(
@@ -48,11 +83,8 @@ pub fn write_synced<R: Rack>(
         OnOk result (Tells old → Settles vol (512 * block) bytes.now old.now new.now) }
     ensures fault { NamesWriteFault (R.disk rack.old) (R.disk rack.new) result }
 {
-    match rack.write(vol, block, bytes) {
-        Err(_) => Err(vol),
-        Ok(()) => match rack.sync(vol) {
-            Ok(()) => Ok(()),
-            Err(_) => Err(vol),
-        },
+    match write_blocks(rack, vol, block, bytes) {
+        Ok(()) => sync_volume(rack, vol),
+        Err(vol) => Err(vol),
     }
 }

@@ -3,11 +3,11 @@ use Rattle.std.proofs.lemmas.Result.{on_ok_weaker}
 use Rattle.volume_disk.specs.Disk.{Disk, Tells}
 use Rattle.volume_disk.specs.Image.{Image, NoPlace}
 use Rattle.volume_disk.specs.Run.{OnlyWrites}
-use Rattle.volume_disk.proofs.Laws.{only_writes-then, only_writes-wider}
+use Rattle.volume_disk.proofs.Laws.{only_writes-synced}
 use Rattle.page_change.specs.declared.image.PageImage.{PageImage}
 use Rattle.log_ring.specs.Laws.{AreHome}
 use Rattle.log_ring.specs.Settling.{IsAtHomes}
-use Rattle.log_ring.proofs.Homeward.{anchor_stays, anchor_written, brought_home, home_after_syncs, homes_written, then_synced}
+use Rattle.log_ring.proofs.Homeward.{anchor_stays, anchor_written, brought_home, home_after_syncs, homes_written}
 use Rattle.log_ring.proofs.settling.bring_home.Goals as goal
 
 pub returns-in_err-write_images-clause-brings : goal.returns-in_err-write_images-clause-brings
@@ -18,14 +18,14 @@ returns-in_err-sync_homes-clause-brings g c =
     let d0 = g.R.Rack.disk c.args.rack.now in
     let d1 = g.R.Rack.disk c.write_images.new.rack in
     let d2 = g.R.Rack.disk c.sync_homes.new.rack in
-    homes_written c.args.images.now c.args.next.now d0 d2 c.requires.homes (then_synced c.args.images.now d0 d1 d2 c.write_images.ensures.writes c.sync_homes.ensures.writes)
+    homes_written c.args.images.now c.args.next.now d0 d2 c.requires.homes (only_writes-synced d0 d1 d2 (IsAtHomes c.args.images.now) c.write_images.ensures.writes c.sync_homes.ensures.writes)
 
 pub write_anchor-requires-clause-next : goal.write_anchor-requires-clause-next
 write_anchor-requires-clause-next g c = λ told.
     let d0 = g.R.Rack.disk c.args.rack.now in
     let d1 = g.R.Rack.disk c.write_images.new.rack in
     let d2 = g.R.Rack.disk c.sync_homes.new.rack in
-    let writes = then_synced c.args.images.now d0 d1 d2 c.write_images.ensures.writes c.sync_homes.ensures.writes in
+    let writes = only_writes-synced d0 d1 d2 (IsAtHomes c.args.images.now) c.write_images.ensures.writes c.sync_homes.ensures.writes in
     let told-0 : Tells d0 = sym writes.touches.told ∙ told in
     let found = c.requires.next told-0 in
     (found.0, anchor_stays c.args.images.now d0 d2 c.requires.homes writes told-0 found.0 found.1, found.2)
@@ -38,7 +38,7 @@ returns-clause-brings g c =
     let d3 = g.R.Rack.disk c.write_anchor.new.rack in
     let images = c.args.images.now in
     anchor_written images c.args.next.now d0 d2 d3 c.requires.homes c.requires.outside c.requires.ring.behind c.requires.whole.slot
-    (then_synced images d0 d1 d2 c.write_images.ensures.writes c.sync_homes.ensures.writes)
+    (only_writes-synced d0 d1 d2 (IsAtHomes images) c.write_images.ensures.writes c.sync_homes.ensures.writes)
     (λ told. home_after_syncs images d1 d2 c.sync_homes.ensures.writes (c.write_images.ensures.writes.touches.told ∙ told) (c.in_ok-write_images.ensures.home told))
     (λ told. c.in_ok-sync_homes.ensures.synced (c.write_images.ensures.writes.touches.told ∙ told))
     c.write_anchor.ensures.writes
@@ -52,7 +52,7 @@ returns-clause-done g c =
     let images = c.args.images.now in
     on_ok_weaker c.write_anchor.result (λ done.
     brought_home images c.args.next.now d0 d2 d3 c.requires.homes c.requires.outside c.requires.ring.behind c.requires.whole.slot
-    (then_synced images d0 d1 d2 c.write_images.ensures.writes c.sync_homes.ensures.writes)
+    (only_writes-synced d0 d1 d2 (IsAtHomes images) c.write_images.ensures.writes c.sync_homes.ensures.writes)
     (λ told. home_after_syncs images d1 d2 c.sync_homes.ensures.writes (c.write_images.ensures.writes.touches.told ∙ told) (c.in_ok-write_images.ensures.home told))
     (λ told. c.in_ok-sync_homes.ensures.synced (c.write_images.ensures.writes.touches.told ∙ told))
     c.write_anchor.ensures.writes done) c.write_anchor.ensures.done

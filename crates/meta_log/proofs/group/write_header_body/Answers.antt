@@ -15,4 +15,4 @@ returns-clause-written g c =
     let from : 512 * (c.ring_block.result + 1) ≡ at + 512 = omega arith in
     let size : length header ≡ 8192 = ap (λ (l : List ℕ). length l) (sym c.bytes.ensures.value) ∙ c.bytes.ensures.len in
     let same : take (length bytes - 512) (drop 512 bytes) ≡ take (length header - 512) (drop 512 header) = ap (λ (l : List ℕ). take (length l - 512) (drop 512 l)) c.bytes.ensures.value in
-    on_ok_weaker c.write_blocks.result (λ written told. written_behind image anchor c.args.place header size (bytes-moved image c.args.vol anchor.log_vol (512 * (c.ring_block.result + 1)) (at + 512) (take (length bytes - 512) (drop 512 bytes)) (take (length header - 512) (drop 512 header)) c.requires.vol from same (written told))) c.write_blocks.ensures.written
+    on_ok_weaker c.write_blocks.result (λ written told. written_behind image anchor c.args.place header size (bytes-moved image c.args.vol anchor.log_vol (512 * (c.ring_block.result + 1)) (at + 512) (take (length bytes - 512) (drop 512 bytes)) (take (length header - 512) (drop 512 header)) c.requires.vol from same (written told).written)) c.write_blocks.ensures.written

@@ -12,4 +12,4 @@ returns-clause-written g c =
     let at = ring_byte anchor c.args.place in
     let image = (g.R.Rack.disk c.write_blocks.new.rack).now.contents in
     on_ok_weaker c.write_blocks.result (λ written told. (bytes_there anchor.log_vol at 8192 c.bytes.result.now image c.bytes.ensures.len
-    (bytes-moved image c.args.vol anchor.log_vol (512 * c.ring_block.result) at c.bytes.result.now c.bytes.result.now c.requires.vol c.ring_block.ensures.block refl (written told))) ∙ c.bytes.ensures.value) c.write_blocks.ensures.written
+    (bytes-moved image c.args.vol anchor.log_vol (512 * c.ring_block.result) at c.bytes.result.now c.bytes.result.now c.requires.vol c.ring_block.ensures.block refl (written told).written)) ∙ c.bytes.ensures.value) c.write_blocks.ensures.written

@@ -1,6 +1,6 @@
 use Rattle.std.proofs.Common.{◌*◌}
 use Rattle.volume_disk.proofs.Laws.{only_writes-write}
-use Rattle.log_ring.proofs.writing.write_blocks.Goals as goal
+use Rattle.volume_disk.proofs.synced.write_blocks.Goals as goal
 
 pub returns-in-Ok-clause-writes : goal.returns-in-Ok-clause-writes
 returns-in-Ok-clause-writes g c =
