@@ -225,6 +225,7 @@ impl MetaLog {
     pub fn force<R: Rack>(&mut self, rack: &mut R) -> Result<u64, VolIx>
         requires { IsRing (R.disk rack.old).sizes self.old.anchor }
         ensures forces { Forces (R.disk rack.old) (R.disk rack.new) self.old }
+        ensures idle { self.old.pending ≡ [] → R.disk rack.new ≡ R.disk rack.old }
         ensures ok { OnOk result (self.new ≡ forced self.old) }
         ensures number { IfOk result (λ number. number ≡ next_number self.new - 1) }
         ensures done { OnOk result (HasForced (R.disk rack.old) (R.disk rack.new) self.old) }
