@@ -1,3 +1,4 @@
+pub mod GoodAnchors
 pub mod Labels
 pub mod OneOutcome
 pub mod Outcomes

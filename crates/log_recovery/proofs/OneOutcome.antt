@@ -8,9 +8,9 @@ use Rattle.disk_label.proofs.Slots.{IsAnchorBelow-unique}
 use Rattle.page_change.proofs.HeaderPages.{one_header}
 use Rattle.log_ring.specs.Groups.{AreGroups, Group, HasGroup, HasLog, header_of, span}
 use Rattle.log_ring.specs.Ring.{IsGateOpen, place_at, ring_page}
-use Rattle.log_ring.proofs.OnImages.{images-once}
+use Rattle.log_ring.proofs.OnImages.{images-once, one_way}
 use Rattle.log_recovery.specs.Groups.{AreInTurn, IsFirstNoGroup, IsNoGroup}
-use Rattle.log_recovery.specs.Laws.{HasNoFault, HasOneFault}
+use Rattle.log_recovery.specs.Laws.{HasNoFault, HasOneFault, HasOneLog}
 use Rattle.log_recovery.specs.Members.{AreLabelled, IsLabelled, IsMember, label_version}
 use Rattle.log_recovery.specs.Outcome.{HasGoodAnchor, IsGroupFault, IsLabelFault, IsOutOfRange}
 use Rattle.log_recovery.specs.Range.{IsInRange}
@@ -88,23 +88,6 @@ from_zero anchor image groups bad = subst (λ (k : ℕ). IsNoGroup image anchor 
 
 -- Outcomes.
 
-pub has_no_fault : (sizes : List ℕ) (image : Image) (groups : List Group) (redone : Redone) (vol at : ℕ) → HasNoFault sizes image groups redone vol at
-has_no_fault sizes image groups redone vol at found (inl label) =
-    let same = one_anchor sizes image redone.anchor label.anchor found.good.anchor_is label.anchor_is in
-    label.first.wrong (subst (AreLabelled sizes image) same found.good.labelled vol label.first.member)
-has_no_fault sizes image groups redone vol at found (inr (inl anchor)) = by_cause anchor.wrong
-  where
-    by_cause : IsAnchor sizes image None ⊎ IsOutOfRange sizes image → ⊥
-    by_cause (inl none) = no_anchor sizes image redone.anchor found.good.anchor_is none
-    by_cause (inr out) = let same = one_anchor sizes image redone.anchor out.anchor found.good.anchor_is out.anchor_is in out.wrong (subst (IsInRange (label_version image)) same found.good.in_range)
-has_no_fault sizes image groups redone vol at found (inr (inr group)) =
-    let same = one_anchor sizes image redone.anchor group.anchor found.good.anchor_is group.good.anchor_is in
-    let anchor = group.anchor in
-    let log = subst (λ (a : Anchor). HasLog sizes a groups image) same found.log in
-    let first = group.first in
-    none_within anchor image first.groups groups 0 anchor.group (from_start anchor image first.groups first.stand) (subst (λ (k : ℕ). AreGroups anchor k anchor.group groups image) (omega arith) log.groups_are) (let fits = log.fits in omega (arith, fits))
-    (from_zero anchor image first.groups first.wrong)
-
 labels_not_all : (sizes : List ℕ) (image : Image) (vol at : ℕ) (anchor : Anchor) → IsLabelFault sizes image vol at → IsAnchor sizes image (Some anchor) → AreLabelled sizes image anchor → ⊥
 labels_not_all sizes image vol at anchor label counts labelled =
     let same = one_anchor sizes image anchor label.anchor counts label.anchor_is in
@@ -117,6 +100,16 @@ label_not_anchor sizes image vol at label (inr out) = labels_not_all sizes image
 anchor_not_group : (sizes : List ℕ) (image : Image) (anchor : Anchor) → HasGoodAnchor sizes image anchor → IsAnchor sizes image None ⊎ IsOutOfRange sizes image → ⊥
 anchor_not_group sizes image anchor good (inl none) = no_anchor sizes image anchor good.anchor_is none
 anchor_not_group sizes image anchor good (inr out) = let same = one_anchor sizes image anchor out.anchor good.anchor_is out.anchor_is in out.wrong (subst (IsInRange (label_version image)) same good.in_range)
+
+pub has_no_fault : (sizes : List ℕ) (image : Image) (anchor : Anchor) (groups : List Group) (vol at : ℕ) → HasNoFault sizes image anchor groups vol at
+has_no_fault sizes image anchor groups vol at good log (inl label) = labels_not_all sizes image vol at anchor label good.anchor_is good.labelled
+has_no_fault sizes image anchor groups vol at good log (inr (inl wrong)) = anchor_not_group sizes image anchor good wrong.wrong
+has_no_fault sizes image anchor groups vol at good log (inr (inr group)) =
+    let same = one_anchor sizes image anchor group.anchor good.anchor_is group.good.anchor_is in
+    let log' = subst (λ (a : Anchor). HasLog sizes a groups image) same log in
+    let first = group.first in
+    none_within group.anchor image first.groups groups 0 group.anchor.group (from_start group.anchor image first.groups first.stand) (subst (λ (k : ℕ). AreGroups group.anchor k group.anchor.group groups image) (omega arith) log'.groups_are)
+    (let fits = log'.fits in omega (arith, fits)) (from_zero group.anchor image first.groups first.wrong)
 
 one_label : (sizes : List ℕ) (image : Image) (vol at other_vol other_at : ℕ) → IsLabelFault sizes image vol at → IsLabelFault sizes image other_vol other_at → (vol ≡ other_vol) × (at ≡ other_at)
 one_label sizes image vol at other_vol other_at label other = (by_order (cases_order vol other_vol), label.first.page ∙ sym other.first.page)
@@ -153,3 +146,9 @@ has_one_fault sizes image vol at other_vol other_at (inr (inl anchor)) (inr (inr
 has_one_fault sizes image vol at other_vol other_at (inr (inr group)) (inl label) = absurd (labels_not_all sizes image other_vol other_at group.anchor label group.good.anchor_is group.good.labelled)
 has_one_fault sizes image vol at other_vol other_at (inr (inr group)) (inr (inl anchor)) = absurd (anchor_not_group sizes image group.anchor group.good anchor.wrong)
 has_one_fault sizes image vol at other_vol other_at (inr (inr group)) (inr (inr other)) = one_group_fault sizes image vol at other_vol other_at group other
+
+pub has_one_log : (sizes : List ℕ) (image : Image) (anchor : Anchor) (groups others : List Group) (redone : Redone) → HasOneLog sizes image anchor groups others redone
+has_one_log sizes image anchor groups others redone log found =
+    let same = one_anchor sizes image anchor redone.anchor log.anchor_is found.log.anchor_is in
+    let log' = subst (λ (a : Anchor). HasLog sizes a groups image) same log in
+    (same, one_way one_header redone.anchor redone.anchor.start redone.anchor.group groups others image log'.groups_are found.log.groups_are)

@@ -1,10 +1,12 @@
 -- What a log that was recovered has for its next anchor.
-use Rattle.std.proofs.Common.{◌≡◌, ℕ, ◌+◌, ◌*◌, ◌%◌, List, Some, eqb, true, refl, ◌∙◌, ap, subst, arith}
+use Rattle.std.proofs.Common.{◌≡◌, ℕ, ◌+◌, ◌*◌, ◌%◌, List, Some, eqb, true, refl, sym, ◌∙◌, ap, subst, arith}
 use Rattle.std.proofs.lemmas.Bool.{eq-eqb}
-use Rattle.volume_disk.specs.Disk.{Disk}
+use Rattle.volume_disk.specs.Disk.{Disk, MayLeave}
+use Rattle.volume_disk.specs.Image.{Image}
 use Rattle.disk_label.specs.Anchor.{IsNext}
-use Rattle.log_ring.specs.Groups.{Group, span}
+use Rattle.log_ring.specs.Groups.{Group, HasLog, span}
 use Rattle.log_ring.proofs.OnImages.{next_closed}
+use Rattle.log_recovery.specs.Laws.{MaySettleSynced}
 use Rattle.log_recovery.specs.Settled.{SettlesAsMoves, settled_anchor}
 use Rattle.log_recovery.specs.declared.redone.Redone.{Redone}
 
@@ -26,3 +28,16 @@ settles_as_moves disk groups redone may = record {
   where
     place : redone.next_place % 128 ≡ (redone.anchor.start + span groups) % 128
     place = let is = may.place in ap (λ (n : ℕ). n % 128) is ∙ omega arith
+
+-- where nothing is pending, each image is the contents
+pub may_settle_synced : (disk : Disk) (groups : List Group) (redone : Redone) → MaySettleSynced disk groups redone
+may_settle_synced disk groups redone settled found ready = record {
+  behind = let behind = found.good.in_range.log.behind in omega arith;
+  stands = λ image left. subst (HasLog disk.sizes redone.anchor groups) (contents image left) found.log;
+  images = found.images;
+  place = found.next_place;
+  ready = ready;
+}
+  where
+    contents : (image : Image) → MayLeave disk.now image → disk.now.contents ≡ image
+    contents image left = λ i v k. sym (left.synced v k (settled v k)) i

@@ -1,17 +1,36 @@
 -- What holds of recovery, whatever calls are made.
-use Rattle.std.specs.Prelude.{◌≡◌, ℕ, List}
+use Rattle.std.specs.Prelude.{◌≡◌, ℕ, List, Some}
+use Rattle.volume_disk.specs.Disk.{Disk, IsSettled}
 use Rattle.volume_disk.specs.Image.{Image}
-use Rattle.log_ring.specs.Groups.{Group}
-use Rattle.log_recovery.specs.Outcome.{HasRecovered, IsFirstFault}
+use Rattle.disk_label.specs.Slot.{IsReadyFor}
+use Rattle.disk_label.specs.declared.anchor.Anchor.{Anchor}
+use Rattle.log_ring.specs.Groups.{Group, HasLog}
+use Rattle.log_recovery.specs.Outcome.{HasGoodAnchor, HasRecovered, IsFirstFault}
+use Rattle.log_recovery.specs.Settled.{MaySettle, settled_anchor}
 use Rattle.log_recovery.specs.declared.redone.Redone.{Redone}
 
--- an image on which a log is recovered has no place at which there is no domain
-abbrev pub HasNoFault : List ℕ → Image → List Group → Redone → ℕ → ℕ → Type 0
-HasNoFault sizes image groups redone vol at =
-    HasRecovered sizes image groups redone → ¬ IsFirstFault sizes image vol at
+-- an image that has a good anchor and a log behind it has no place at which there is no domain
+abbrev pub HasNoFault : List ℕ → Image → Anchor → List Group → ℕ → ℕ → Type 0
+HasNoFault sizes image anchor groups vol at =
+    HasGoodAnchor sizes image anchor → HasLog sizes anchor groups image
+    → ¬ IsFirstFault sizes image vol at
 
 -- and any other image has one first place of that
 abbrev pub HasOneFault : List ℕ → Image → ℕ → ℕ → ℕ → ℕ → Type 0
 HasOneFault sizes image vol at other_vol other_at =
     IsFirstFault sizes image vol at → IsFirstFault sizes image other_vol other_at
     → (vol ≡ other_vol) × (at ≡ other_at)
+
+-- the log that an image has is the one that is recovered of it
+abbrev pub HasOneLog : List ℕ → Image → Anchor → List Group → List Group → Redone → Type 0
+HasOneLog sizes image anchor groups others redone =
+    HasLog sizes anchor groups image → HasRecovered sizes image others redone
+    → (anchor ≡ redone.anchor) × (groups ≡ others)
+
+-- what is recovered of the contents may be settled, where nothing is pending and the slot of the
+-- next anchor is ready
+abbrev pub MaySettleSynced : Disk → List Group → Redone → Type 0
+MaySettleSynced disk groups redone =
+    IsSettled disk.now → HasRecovered disk.sizes disk.now.contents groups redone
+    → IsReadyFor disk (Some redone.anchor) (settled_anchor redone)
+    → MaySettle disk groups redone

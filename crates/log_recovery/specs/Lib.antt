@@ -4,4 +4,5 @@ pub mod Laws
 pub mod Members
 pub mod Outcome
 pub mod Range
+pub mod Readable
 pub mod Settled

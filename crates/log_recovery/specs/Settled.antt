@@ -1,5 +1,5 @@
 -- What settles a log.
-use Rattle.std.specs.Prelude.{◌≡◌, ◌+◌, ◌-◌, ◌%◌, ◌≤◌, List, Some}
+use Rattle.std.specs.Prelude.{◌≡◌, ◌+◌, ◌-◌, ◌%◌, ◌^◌, ◌<◌, ◌≤◌, List, Some}
 use Rattle.domain_base.specs.Limits.{log_pages}
 use Rattle.volume_disk.specs.Disk.{Disk}
 use Rattle.disk_label.specs.Slot.{IsReadyFor}
@@ -16,6 +16,11 @@ settled_anchor redone = record redone.anchor {
   group = redone.next_group;
   slot = 1 - redone.anchor.slot;
 }
+
+-- its numbers are in their ranges: its own, and that of the group at its start
+pub record HasNumbersLeft (redone : Redone) : Type 0 where
+  pub number : redone.anchor.number + 1 < 2 ^ 63
+  pub group : redone.next_group < 2 ^ 63
 
 -- the log stands with the groups that were redone, and the slot of the next anchor is ready
 pub record MaySettle (disk : Disk) (groups : List Group) (redone : Redone) : Type 0 where

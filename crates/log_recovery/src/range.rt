@@ -17,7 +17,7 @@ use domain_base::limits::{LOG_PAGES, MAX_VOLUMES, MIN_VOLUME_PAGES};
 use domain_base::{Version, VolIx};
 
 /// The numbers of anchors and groups are below this one.
-const NUMBERS: u64 = 1 << 63;
+pub(crate) const NUMBERS: u64 = 1 << 63;
 
 /// The pages in front of a volume's bitmap.
 const FIRST_BITMAP_PAGE: u32 = 2;

@@ -1,6 +1,7 @@
 //! What is recovered of a log.
-ghost use Rattle.std.specs.Prelude.{◌≡◌};
+ghost use Rattle.std.specs.Prelude.{◌≡◌, ◌↔◌, IsTrue};
 
+use crate::range::NUMBERS;
 use disk_label::Anchor;
 use page_change::PageImage;
 use std::marker::Model;
@@ -54,4 +55,16 @@ pub struct Redone {
     pub next_group: u64,
     /// The place of the log, from 0 to 127, at which the next group begins.
     pub next_place: u32,
+}
+
+impl Redone {
+    ghost use Rattle.log_recovery.specs.Settled.{HasNumbersLeft};
+
+    /// Whether the log may be settled: the next anchor's number is below 2^63, and so is that of
+    /// the group at its start. An anchor or a group of an image may have the last such number.
+    pub fn has_numbers_left(&self) -> bool
+        ensures { IsTrue result ↔ HasNumbersLeft self.now }
+    {
+        self.anchor.number < NUMBERS - 1 && self.next_group < NUMBERS
+    }
 }

@@ -6,7 +6,8 @@ ghost use Rattle.volume_disk.specs.Run.{NamesWriteFault};
 ghost use Rattle.disk_label.specs.Anchor.{IsAnchor};
 ghost use Rattle.log_ring.specs.Settling.{BringsHome, HasBroughtHome};
 ghost use Rattle.log_recovery.specs.Outcome.{IsSound};
-ghost use Rattle.log_recovery.specs.Settled.{settled_anchor};
+ghost use Rattle.log_recovery.specs.Readable.{SettlesReadably};
+ghost use Rattle.log_recovery.specs.Settled.{HasNumbersLeft, settled_anchor};
 
 use crate::Redone;
 use disk_label::Anchor;
@@ -32,20 +33,23 @@ fn next_anchor(redone: &Redone) -> Anchor
 /// Settles a log as it was recovered: brings its images home, and writes the next anchor, with
 /// which the log starts behind them. It reads nothing. Each home is written once, with the last
 /// image of it, and each volume that was written is synced once, before the anchor. The anchor that
-/// was recovered has still to be the one that counts. The error is the volume, of which a write or
-/// a sync failed.
+/// was recovered has still to be the one that counts, and its number and the next group's not the
+/// last (`Redone::has_numbers_left`). The error is the volume, of which a write or a sync failed.
 ///
 /// What a stop may leave is said where the log stands as it was recovered on each image that a stop
 /// might leave at the start, and the slot of the next anchor is ready (`MaySettle`, of which
-/// `recovery_laws` says that it is the premise here).
+/// `recovery_laws` says that it is the premise here). Recovery takes each image since, where the
+/// anchor is good on each of the start.
 pub fn settle<R: Rack>(rack: &mut R, redone: &Redone) -> Result<(), VolIx>
     requires sound { IsSound (R.disk rack.old).sizes redone.now }
+    requires left { HasNumbersLeft redone.now }
     requires counts { let old = R.disk rack.old in
         Tells old → IsAnchor old.sizes old.now.contents (Some redone.now.anchor) }
     ensures brings { BringsHome (R.disk rack.old) (R.disk rack.new) redone.now.images
         (settled_anchor redone.now) }
     ensures done { OnOk result (HasBroughtHome (R.disk rack.old) (R.disk rack.new)
         redone.now.images (settled_anchor redone.now)) }
+    ensures readable { SettlesReadably (R.disk rack.old) (R.disk rack.new) redone.now }
     ensures fault { NamesWriteFault (R.disk rack.old) (R.disk rack.new) result }
 {
     let next = next_anchor(redone);

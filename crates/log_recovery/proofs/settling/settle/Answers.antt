@@ -1,5 +1,9 @@
-use Rattle.std.proofs.Common.{Some, sym, subst}
+use Rattle.std.proofs.Common.{List, Some, sym, subst}
 use Rattle.disk_label.specs.Anchor.{IsNext}
+use Rattle.disk_label.specs.declared.anchor.Anchor.{Anchor}
+use Rattle.page_change.specs.declared.image.PageImage.{PageImage}
+use Rattle.log_ring.specs.Settling.{BringsHome}
+use Rattle.log_recovery.proofs.GoodAnchors.{settles_readably}
 use Rattle.log_recovery.proofs.SettledAnchors.{is_next}
 use Rattle.log_recovery.proofs.settling.settle.Goals as goal
 
@@ -7,3 +11,11 @@ pub bring_home-requires-clause-next : goal.bring_home-requires-clause-next
 bring_home-requires-clause-next g c told =
     let redone = c.args.redone.now in
     (Some redone.anchor, c.requires.counts told, subst (IsNext (Some redone.anchor)) (sym c.next_anchor-next.ensures) (is_next redone))
+
+pub returns-clause-readable : goal.returns-clause-readable
+returns-clause-readable g c =
+    let redone = c.args.redone.now in
+    let old = g.R.Rack.disk c.args.rack.now in
+    let new = g.R.Rack.disk c.bring_home.new.rack in
+    settles_readably old new redone c.requires.left c.requires.sound
+    (subst (λ (next : Anchor). BringsHome old new redone.images next) c.next_anchor-next.ensures (subst (λ (images : List PageImage). BringsHome old new images c.next_anchor-next.result) c.as_slice.ensures c.bring_home.ensures.brings))

@@ -1,0 +1,147 @@
+-- A good anchor stays good while the labels stay, and so does an image of which recovery takes the log.
+use Rattle.std.proofs.Common.{◌≡◌, ◌⊎◌, ◌==◌, ℕ, ◌+◌, ◌*◌, ◌-◌, ◌<◌, ◌≤◌, List, [], Option, Some, None, IsSomeAnd, if◌then◌else◌, sym, ◌∙◌, ap, subst, inl, inr, arith}
+use Rattle.std.proofs.lemmas.List.Elements.{All-weaker}
+use Rattle.domain_base.specs.declared.place.Home.{Home}
+use Rattle.domain_base.specs.declared.version.Version.{Version}
+use Rattle.domain_base.specs.declared.version.Version.TheVariants.{Three, Four}
+use Rattle.volume_disk.specs.Disk.{Disk, MayLeave, Tells, volume_pages}
+use Rattle.volume_disk.specs.Image.{Image, Places, SameOutside}
+use Rattle.volume_disk.specs.Run.{LeavesOnly, MayLeaveTorn}
+use Rattle.volume_disk.proofs.Bytes.{bytes_from-same}
+use Rattle.volume_disk.proofs.Laws.{both, touches-stays, weaker}
+use Rattle.disk_label.specs.Body.{word_at}
+use Rattle.disk_label.specs.Label.{IsLabel, label_block}
+use Rattle.disk_label.specs.Slot.{IsOnAnchors}
+use Rattle.disk_label.specs.declared.anchor.Anchor.{Anchor}
+use Rattle.disk_label.proofs.Elsewhere.{IsAnchor-elsewhere}
+use Rattle.page_change.specs.declared.image.PageImage.{PageImage}
+use Rattle.log_ring.specs.Groups.{Group, HasLog}
+use Rattle.log_ring.specs.Homes.{HaveHomes, IsHomeOf, IsLoggable, member_of}
+use Rattle.log_ring.specs.Settling.{BringsHome, IsAtHomesOrSlot, IsRedoneAs, MeansTheSame}
+use Rattle.log_ring.proofs.HomePages.{each_home}
+use Rattle.log_recovery.specs.Members.{AreLabelled, IsLabelled, IsMember, label_version}
+use Rattle.log_recovery.specs.Outcome.{HasGoodAnchor, IsSound}
+use Rattle.log_recovery.specs.Range.{IsInRange}
+use Rattle.log_recovery.specs.Readable.{IsBehindAnchors, IsReadable, KeepsGoodAnchor, LeavesReadable, SettlesReadably, WouldBeGood}
+use Rattle.log_recovery.specs.Settled.{HasNumbersLeft, settled_anchor}
+use Rattle.log_recovery.specs.declared.redone.Redone.{Redone}
+use Rattle.log_recovery.proofs.Outcomes.{range-same}
+use Rattle.log_recovery.proofs.SettledAnchors.{settles_as_moves}
+
+-- what a good anchor has beside its place
+pub would_be_good : (sizes : List ℕ) (image : Image) (anchor : Anchor) → HasGoodAnchor sizes image anchor → WouldBeGood sizes image anchor
+would_be_good sizes image anchor good = record { labelled = good.labelled; in_range = good.in_range }
+
+-- images with the same labels
+module _ (old new : Image) (same : (vol : ℕ) → label_block new vol ≡ label_block old vol) (sizes : List ℕ) (anchor : Anchor) where
+  version-same : (vol : ℕ) → label_version old vol ≡ label_version new vol
+  version-same vol = ap (λ (block : List ℕ). if word_at block 2 == 3 then Three else Four) (sym (same vol))
+
+  labelled-same : AreLabelled sizes old anchor → AreLabelled sizes new anchor
+  labelled-same was vol member =
+      let here = was vol member in
+      record {
+        there = here.there;
+        label =
+            subst (λ (block : List ℕ). IsLabel (volume_pages sizes vol) vol (record { pages = (member_of anchor vol).pages; version = if word_at block 2 == 3 then Three else Four }) block) (sym (same vol)) here.label;
+        version = λ three. sym (version-same vol) ∙ here.version three;
+      }
+
+  pub would_be-same : WouldBeGood sizes old anchor → WouldBeGood sizes new anchor
+  would_be-same was = record { labelled = labelled-same was.labelled; in_range = range-same anchor (label_version old) (label_version new) (λ vol member. version-same vol) was.in_range }
+
+-- the labels stay where calls touch none of their bytes
+labels-same : (places : Places) (old new : Image) → ((v k : ℕ) → places v k → 512 ≤ k) → SameOutside places old new → (vol : ℕ) → label_block new vol ≡ label_block old vol
+labels-same places old new behind same vol = bytes_from-same (new vol) (old vol) 0 512 (λ k le lt. same vol k (λ is. let far = behind vol k is in omega arith))
+
+pub keeps_good_anchor : (old new : Disk) (anchor : Anchor) → KeepsGoodAnchor old new anchor
+keeps_good_anchor old new anchor told good touches =
+    touches-stays old new IsBehindAnchors (λ image. HasGoodAnchor old.sizes image anchor) told touches
+    (λ before image same was.
+    let would = would_be-same before image (labels-same IsBehindAnchors before image (λ v k is. omega (arith, is)) same) old.sizes anchor (would_be_good old.sizes before anchor was) in
+    record {
+      anchor_is = IsAnchor-elsewhere before image (λ v k on. same v k (λ is. let low = on.0 in let high = on.1 in omega (arith, is, low, high))) old.sizes (Some anchor) was.anchor_is;
+      labelled = would.labelled;
+      in_range = would.in_range;
+    })
+    good
+
+-- Images brought home.
+
+module _ (images : List PageImage) (next : Anchor) (sizes : List ℕ) (homes : HaveHomes sizes images) where
+  behind_labels : (v k : ℕ) → IsAtHomesOrSlot images next v k → 512 ≤ k
+  behind_labels v k (inl at) =
+      let is : IsHomeOf sizes at.0 = each_home (IsHomeOf sizes) images at.0 homes at.1 in
+      let behind = is.behind in
+      let low = at.2.1 in
+      omega arith
+  behind_labels v k (inr slot) = let low = slot.1 in omega arith
+
+module _ (old new : Disk) (images : List PageImage) (anchor : Anchor) (groups : List Group) (next : Anchor) where
+  abbrev Torn : Image → Type 0
+  Torn = MayLeaveTorn (IsAtHomesOrSlot images next) old.now
+
+  abbrev Means : Image → Type 0
+  Means = MeansTheSame old anchor groups next
+
+  -- an anchor that would have been good before is so on an image that is torn there
+  good_still : HaveHomes old.sizes images → (image : Image) (torn : Torn image) (one : Anchor) → WouldBeGood old.sizes torn.0 one → WouldBeGood old.sizes image one
+  good_still homes image torn one was = would_be-same torn.0 image (labels-same (IsAtHomesOrSlot images next) torn.0 image (behind_labels images next old.sizes homes) torn.2) old.sizes one was
+
+  found : (image : Image) (one : Anchor) (its : List Group) → WouldBeGood old.sizes image one → HasLog old.sizes one its image → IsReadable old.sizes image
+  found image one its would log = record { anchor = one; groups = its; good = record { anchor_is = log.anchor_is; labelled = would.labelled; in_range = would.in_range }; log = log }
+
+  pub leaves_readable : LeavesReadable old new images anchor groups next
+  leaves_readable told homes writes means here there =
+      weaker old new (λ image. Torn image × Means image) (IsReadable old.sizes) (λ image has. readable image has.0 has.1.before has.1.same) (both old new Torn Means (writes.touches.tears told) means)
+    where
+      readable : (image : Image) (torn : Torn image) (before : Image)
+          → (HasLog old.sizes anchor groups image × IsRedoneAs groups before groups image) ⊎ (HasLog old.sizes next [] image × IsRedoneAs groups before [] image) → IsReadable old.sizes image
+      readable image torn before (inl log) = found image anchor groups (good_still homes image torn anchor (here torn.0 torn.1)) log.0
+      readable image torn before (inr log) = found image next [] (good_still homes image torn next (there torn.0 torn.1)) log.0
+
+-- The next anchor of a log that was recovered.
+
+module _ (redone : Redone) (left : HasNumbersLeft redone) (place : redone.next_place < 128) (sizes : List ℕ) (image : Image) where
+  member-back : (vol : ℕ) → IsMember (settled_anchor redone) vol → IsMember redone.anchor vol
+  member-back vol is = record { first = is.first; last = is.last; some = is.some; known = is.known }
+
+  member-on : (vol : ℕ) → IsMember redone.anchor vol → IsMember (settled_anchor redone) vol
+  member-on vol is = record { first = is.first; last = is.last; some = is.some; known = is.known }
+
+  pub settled_would : WouldBeGood sizes image redone.anchor → WouldBeGood sizes image (settled_anchor redone)
+  settled_would was =
+      let range = was.in_range in
+      let numbers = range.numbers in
+      record {
+        labelled = λ vol member. let here = was.labelled vol (member-back vol member) in record { there = here.there; label = here.label; version = here.version };
+        in_range = record {
+          whole = record { version = range.whole.version; volume = range.whole.volume; slot = omega arith; member = range.whole.member; table = range.whole.table };
+          numbers = record { first = omega arith; number = left.number; group = left.group; start = place; pages = numbers.pages };
+          sized = λ vol first lt. let is = range.sized vol first lt in record { state = is.state; least = λ member. is.least (member-back vol member); most = λ member. is.most (member-back vol member) };
+          log = record { within = range.log.within; behind = range.log.behind };
+          table = table redone.anchor.table range.table;
+        };
+      }
+    where
+      table : (o : Option Home) → IsSomeAnd o (λ (home : Home). IsMember redone.anchor home.vol × (home.page < (member_of redone.anchor home.vol).pages))
+          → IsSomeAnd o (λ (home : Home). IsMember (settled_anchor redone) home.vol × (home.page < (member_of redone.anchor home.vol).pages))
+      table None is = is
+      table (Some home) is = (member-on home.vol is.0, is.1)
+
+-- A log that is settled.
+
+homes_there : (sizes : List ℕ) (redone : Redone) → IsSound sizes redone → HaveHomes sizes redone.images
+homes_there sizes redone sound =
+    All-weaker (λ (i : PageImage). IsLoggable redone.anchor i.home) (λ (i : PageImage). IsHomeOf sizes i.home) (λ i is.
+    let there = sound.usable.members i.home.vol is.first_volume is.last_volume is.member.0 is.member.1 in
+    let within = is.within in
+    let pages = there.1 in
+    let limit = there.2 in
+    record { first_volume = is.first_volume; last_volume = there.0; few_volumes = is.last_volume; behind = is.behind; within = omega arith; limit = omega arith }) redone.images sound.loggable
+
+pub settles_readably : (old new : Disk) (redone : Redone) → HasNumbersLeft redone → IsSound old.sizes redone → BringsHome old new redone.images (settled_anchor redone) → SettlesReadably old new redone
+settles_readably old new redone left sound brings told groups may good =
+    let here = λ (image : Image) (is : MayLeave old.now image). would_be_good old.sizes image redone.anchor (good image is) in
+    leaves_readable old new redone.images redone.anchor groups (settled_anchor redone) told (homes_there old.sizes redone sound) brings.writes (brings.any_moment told redone.anchor groups (settles_as_moves old groups redone may)) here
+    (λ image is. settled_would redone left sound.place old.sizes image (here image is))

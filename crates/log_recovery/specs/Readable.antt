@@ -1,0 +1,64 @@
+-- Images of which recovery takes the log, and that calls leave no others.
+use Rattle.std.specs.Prelude.{ℕ, ◌+◌, ◌*◌, ◌≤◌, List}
+use Rattle.domain_base.specs.Limits.{page_bytes}
+use Rattle.volume_disk.specs.Disk.{Disk, MayLeave, Tells}
+use Rattle.volume_disk.specs.Image.{Image, Places}
+use Rattle.volume_disk.specs.Run.{LeavesOnly, OnlyWrites, Touches}
+use Rattle.disk_label.specs.FirstPages.{anchors_page}
+use Rattle.disk_label.specs.declared.anchor.Anchor.{Anchor}
+use Rattle.page_change.specs.declared.image.PageImage.{PageImage}
+use Rattle.log_ring.specs.Groups.{Group, HasLog}
+use Rattle.log_ring.specs.Homes.{HaveHomes}
+use Rattle.log_ring.specs.Settling.{IsAtHomesOrSlot, MeansTheSame}
+use Rattle.log_recovery.specs.Members.{AreLabelled, label_version}
+use Rattle.log_recovery.specs.Outcome.{HasGoodAnchor}
+use Rattle.log_recovery.specs.Range.{IsInRange}
+use Rattle.log_recovery.specs.Settled.{MaySettle}
+use Rattle.log_recovery.specs.declared.redone.Redone.{Redone}
+
+-- recovery takes the log of an image: its anchor is good, and the groups behind that are in order
+pub record IsReadable (sizes : List ℕ) (image : Image) : Type 0 where
+  pub anchor : Anchor
+  pub groups : List Group
+  pub good : HasGoodAnchor sizes image anchor
+  pub log : HasLog sizes anchor groups image
+
+-- an anchor would be good on an image: its members have their labels, with which it is in range
+pub record WouldBeGood (sizes : List ℕ) (image : Image) (anchor : Anchor) : Type 0 where
+  pub labelled : AreLabelled sizes image anchor
+  pub in_range : IsInRange (label_version image) anchor
+
+-- so it would on each image that a stop might leave now
+abbrev pub WouldBeGoodNow : Disk → Anchor → Type 0
+WouldBeGoodNow disk anchor =
+    (image : Image) → MayLeave disk.now image → WouldBeGood disk.sizes image anchor
+
+-- each image that a stop might leave now has this good anchor
+abbrev pub IsGoodNow : Disk → Anchor → Type 0
+IsGoodNow disk anchor =
+    (image : Image) → MayLeave disk.now image → HasGoodAnchor disk.sizes image anchor
+
+-- the pages behind those of labels and anchors
+abbrev pub IsBehindAnchors : Places
+IsBehindAnchors v k = page_bytes * (anchors_page + 1) ≤ k
+
+-- calls that touch no other pages leave a good anchor good, now and at each moment since
+abbrev pub KeepsGoodAnchor : Disk → Disk → Anchor → Type 0
+KeepsGoodAnchor old new anchor =
+    Tells old → IsGoodNow old anchor → Touches old new IsBehindAnchors
+    → LeavesOnly old new (λ image. HasGoodAnchor old.sizes image anchor)
+
+-- where images were brought home and an anchor was written, or that was cut short, recovery takes
+-- each image since, if both anchors would be good before
+abbrev pub LeavesReadable : Disk → Disk → List PageImage → Anchor → List Group → Anchor → Type 0
+LeavesReadable old new images anchor groups next =
+    Tells old → HaveHomes old.sizes images → OnlyWrites old new (IsAtHomesOrSlot images next)
+    → LeavesOnly old new (MeansTheSame old anchor groups next)
+    → WouldBeGoodNow old anchor → WouldBeGoodNow old next
+    → LeavesOnly old new (IsReadable old.sizes)
+
+-- so it is while a log that was recovered is settled, and once it is
+abbrev pub SettlesReadably : Disk → Disk → Redone → Type 0
+SettlesReadably old new redone =
+    Tells old → (groups : List Group) → MaySettle old groups redone → IsGoodNow old redone.anchor
+    → LeavesOnly old new (IsReadable old.sizes)
