@@ -14,7 +14,7 @@ use Rattle.extent_maps.proofs.EditLemmas.{over, place_append}
 use Rattle.record_table.specs.declared.record.Record.{Record}
 use Rattle.extent_records.specs.Rows.{AreOneMap, IsPlaced, NoPageTwice, runs_in, runs_of, there, times}
 use Rattle.extent_records.specs.Writing.{IsMapRecord, places_before, places_in}
-use Rattle.extent_records.specs.Chains.{AreCutRecords, ChangesAlone, ChangesChain, CutsChain, FollowsChange}
+use Rattle.extent_records.specs.Chains.{AreCutRecords, ArePartsFor, ChangesAlone, ChangesChain, CutsChain, FollowsChange}
 use Rattle.extent_records.proofs.PutLemmas.{all_append, all_back, all_front, there_times, times_append}
 
 none_there : (x : PagePlace) → there x ≡ 0 → x ≡ Absent
@@ -246,3 +246,69 @@ cuts_chain from olds news one h = record {
   };
   places = λ p. cut_places from olds news p h;
 }
+
+-- ** A record that is parted, with one page at another place
+
+pub parts_change : (records : List Record) (i : ℕ) (whole front tail : Record) (front_kind tail_kind page : ℕ) (x : PagePlace) → i < length records → get_or records i whole ≡ whole → AreOneMap records
+    → place_of (runs_of records) page ≡ places_in whole page → ArePartsFor (with_place page x (places_in whole)) front_kind tail_kind front tail
+    → ChangesChain page x records (take i records ++ front ∷ tail ∷ drop (suc i) records)
+parts_change records i whole front tail front_kind tail_kind page x lt is one there parts = record {
+  one_map = record {
+    placed = subst (AllByRecursion IsPlaced) (sym after)
+        (all_append IsPlaced before_it (new ++ behind_it) (all_front IsPlaced before_it (runs_in whole ++ behind_it) all)
+        (all_append IsPlaced new behind_it parts.one_map.placed (all_back IsPlaced (runs_in whole) behind_it (all_back IsPlaced before_it (runs_in whole ++ behind_it) all))));
+    once = subst NoPageTwice (sym after) (λ p. once_after before_it (runs_in whole) new behind_it few parts.one_map.once p (sides p (eqb p page) refl));
+  };
+  places = λ p. at_after p ∙ each p (eqb p page) refl;
+}
+  where
+    before_it : List Run
+    before_it = flat_map runs_in (take i records)
+
+    behind_it : List Run
+    behind_it = flat_map runs_in (drop (i + 1) records)
+
+    new : List Run
+    new = runs_of (front ∷ tail ∷ [])
+
+    before : runs_of records ≡ before_it ++ (runs_in whole ++ behind_it)
+    before = around records i whole lt is
+
+    next : suc i ≡ i + 1
+    next = omega arith
+
+    after : runs_of (take i records ++ front ∷ tail ∷ drop (suc i) records) ≡ before_it ++ (new ++ behind_it)
+    after =
+        flat_map-append runs_in (take i records) (front ∷ tail ∷ drop (suc i) records)
+        ∙ ap (λ n. before_it ++ (runs_in front ++ (runs_in tail ++ flat_map runs_in (drop n records)))) next
+        ∙ ap (λ l. before_it ++ l) (flat_map-append runs_in (front ∷ tail ∷ []) (drop (i + 1) records))
+
+    at_before : (p : ℕ) → place_of (runs_of records) p ≡ place_of (before_it ++ (runs_in whole ++ behind_it)) p
+    at_before p = ap (λ l. place_of l p) before
+
+    at_after : (p : ℕ) → place_of (runs_of (take i records ++ front ∷ tail ∷ drop (suc i) records)) p ≡ place_of (before_it ++ (new ++ behind_it)) p
+    at_after p = ap (λ l. place_of l p) after
+
+    all : AllByRecursion IsPlaced (before_it ++ (runs_in whole ++ behind_it))
+    all = subst (AllByRecursion IsPlaced) before one.placed
+
+    few : NoPageTwice (before_it ++ (runs_in whole ++ behind_it))
+    few = subst NoPageTwice before one.once
+
+    shown : (p : ℕ) → p ≡ page → place_of (before_it ++ (runs_in whole ++ behind_it)) p ≡ places_in whole p
+    shown p e = sym (at_before p) ∙ ap (place_of (runs_of records)) e ∙ there ∙ ap (places_in whole) (sym e)
+
+    same_there : (p : ℕ) → eqb p page ≡ false → place_of new p ≡ places_in whole p
+    same_there p e = parts.same p ∙ ap (λ b. cond b x (places_in whole p)) e
+
+    sides : (p : ℕ) (b : Bool) → eqb p page ≡ b → (place_of new p ≡ places_in whole p) ⊎ (place_of (before_it ++ (runs_in whole ++ behind_it)) p ≡ places_in whole p)
+    sides p true e = inr (shown p (eqb-true p page e))
+    sides p false e = inl (same_there p e)
+
+    each : (p : ℕ) (b : Bool) → eqb p page ≡ b → place_of (before_it ++ (new ++ behind_it)) p ≡ with_place page x (place_of (runs_of records)) p
+    each p true e =
+        moves before_it (runs_in whole) new behind_it few parts.one_map.once p (shown p (eqb-true p page e)) ∙ parts.same p
+        ∙ ap (λ b. cond b x (places_in whole p)) e ∙ sym (ap (λ b. cond b x (place_of (runs_of records) p)) e)
+    each p false e =
+        stays before_it (runs_in whole) new behind_it few parts.one_map.once p (same_there p e) ∙ sym (at_before p)
+        ∙ sym (ap (λ b. cond b x (place_of (runs_of records) p)) e)

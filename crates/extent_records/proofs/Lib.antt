@@ -9,4 +9,6 @@ pub mod ChainLemmas
 pub mod PartingLemmas
 pub mod DenseLemmas
 pub mod ListingLemmas
+pub mod MovedLemmas
+pub mod HalfLemmas
 pub mod LeastLemmas

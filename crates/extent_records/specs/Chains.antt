@@ -3,7 +3,7 @@ use Rattle.std.specs.Prelude.{◌≡◌, ℕ, ◌+◌, ◌<◌, ◌≤◌, ◌�
 use Rattle.std.specs.List.{AllByRecursion}
 use Rattle.extent_maps.specs.declared.run.PagePlace.{PagePlace}
 use Rattle.extent_maps.specs.declared.run.PagePlace.TheVariants.{At, Hole, Absent}
-use Rattle.extent_maps.specs.Runs.{place_of, with_place}
+use Rattle.extent_maps.specs.Runs.{Places, place_of, with_place}
 use Rattle.record_table.specs.declared.record.Record.{Record}
 use Rattle.record_table.specs.Records.{kind_of}
 use Rattle.extent_records.specs.Rows.{AreOneMap, IsPlaced, NoPageTwice, runs_in, runs_of}
@@ -96,6 +96,16 @@ pub record ArePartsOf (from : ℕ) (whole front tail : Record) : Type 0 where
   pub tail_map : IsMapRecord tail
   pub front_places : (p : ℕ) → places_in front p ≡ places_before from (places_in whole) p
   pub tail_places : (p : ℕ) → places_in tail p ≡ places_from from (places_in whole) p
+
+-- two records of these kinds that say one map, which has each page at its place
+pub record ArePartsFor (places : Places) (front_kind tail_kind : ℕ) (front tail : Record)
+    : Type 0 where
+  pub front_map : IsMapRecord front
+  pub tail_map : IsMapRecord tail
+  pub of_front : kind_of front ≡ front_kind
+  pub of_tail : kind_of tail ≡ tail_kind
+  pub one_map : AreOneMap (front ∷ tail ∷ [])
+  pub same : (p : ℕ) → place_of (runs_of (front ∷ tail ∷ [])) p ≡ places p
 
 -- a record that has of another the pages in front of one, where the other has them
 pub record IsCutRecord (from : ℕ) (old new : Record) : Type 0 where

@@ -6,6 +6,7 @@ mod choosing;
 mod dense;
 mod laws;
 mod listing;
+mod parting;
 mod reading;
 mod rows;
 mod writing;
@@ -18,6 +19,7 @@ pub use laws::{
     parts_of_a_record_keep_the_map,
 };
 pub use listing::map_records;
+pub use parting::{Parts, switch_in_parts};
 pub use reading::read_map;
 pub use rows::{place_in, used_rows};
 pub use writing::{empty_extents, empty_holes, empty_short};
