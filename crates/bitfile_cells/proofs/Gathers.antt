@@ -7,7 +7,7 @@ use Rattle.std.specs.List.{AllByRecursion}
 use Rattle.domain_base.specs.declared.place.CellAt.{CellAt}
 use Rattle.page_store.specs.Pages.{Pages}
 use Rattle.record_table.specs.declared.record.Record.{Record}
-use Rattle.bmt_mcells.specs.Chain.{AreDistinct, Follow, PlacedCell, StandsAt, places, records_of}
+use Rattle.bmt_mcells.specs.Chain.{AreDistinct, PlacedCell, places, records_of}
 use Rattle.bitfile_cells.specs.Files.{IsFile, IsNumbered, has_rows, map_records}
 use Rattle.extent_records.specs.Rows.{AreOneMap}
 use Rattle.bitfile_cells.proofs.MapRecords.{one_map_of}

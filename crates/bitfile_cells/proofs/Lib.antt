@@ -9,5 +9,7 @@ pub mod ChainChanges
 pub mod Chosen
 pub mod OnePage
 pub mod Added
+pub mod Halves
+pub mod Parted
 pub mod Still
 pub mod Switched

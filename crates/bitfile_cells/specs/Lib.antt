@@ -3,3 +3,4 @@ pub mod Changes
 pub mod FileChanges
 pub mod Files
 pub mod MapChanges
+pub mod Moving

@@ -1,5 +1,5 @@
 //! A cell more for a file, behind its first one.
-ghost use Rattle.std.specs.Prelude.{◌≡◌, ◌∷◌, ◌+◌, ◌<◌, ◌≤◌, ◌||◌, ℕ, [], IfErr, IfOk, List, OnErr, OnOk, Some, false, length};
+ghost use Rattle.std.specs.Prelude.{◌≡◌, ◌∷◌, ◌+◌, ◌<◌, ◌≤◌, ◌||◌, ℕ, [], IfErr, IfOk, IfSome, List, OnErr, OnOk, Some, false, length};
 ghost use Rattle.domain_base.specs.declared.place.Home.{Home as HomeOf};
 ghost use Rattle.page_store.specs.Pages.{same_home};
 ghost use Rattle.record_table.specs.Records.{kind_of};
@@ -11,12 +11,13 @@ ghost use Rattle.extent_maps.specs.declared.run.PagePlace.TheVariants.{Absent, A
 ghost use Rattle.extent_maps.specs.Runs.{with_place};
 ghost use Rattle.extent_records.specs.Writing.{IsMapRecord, chain_kind, places_in};
 ghost use Rattle.bitfile_cells.specs.Allocated.{AreAllocated, FindsNone};
+ghost use Rattle.bitfile_cells.specs.Changes.{IsInUse};
 ghost use Rattle.bitfile_cells.specs.FileChanges.{AreOnTables, LeavesOtherCells};
 ghost use Rattle.bitfile_cells.specs.Files.{HasFile, IsFile, places_of};
 ghost use Rattle.bitfile_cells.specs.MapChanges.{ChangesOnTables, LeavesOffTables, TakesOne};
 
 use crate::taking::take_cell;
-use bmt_mcells::{CellHead, CellKind, RecordList, UsedCell, read_used, write_cell};
+use bmt_mcells::{CellHead, CellKind, RecordList, read_used, write_cell};
 use domain_base::limits::{FILE_PAGES, MAX_VOLUMES};
 use domain_base::{CellAt, Home, OutOfMemory, Version, VolIx};
 use extent_records::{empty_extents, put_page};
@@ -41,8 +42,8 @@ fn one_page(alloc: Global, version: Version, page: u32, home: &Home) -> Result<R
     Ok(value)
 }
 
-/// That record alone.
-fn one_record(alloc: Global, value: &Record) -> Result<RecordList, OutOfMemory>
+/// A record alone.
+pub(crate) fn one_record(alloc: Global, value: &Record) -> Result<RecordList, OutOfMemory>
     ensures { IfOk result (λ records. records ≡ value.now ∷ []) }
 {
     let mut records = Vec::new(alloc);
@@ -50,29 +51,30 @@ fn one_record(alloc: Global, value: &Record) -> Result<RecordList, OutOfMemory>
     Ok(RecordList::from_vec(records))
 }
 
-/// Writes a chain cell with these records right behind the first cell of a file.
-fn link_behind<M: MetaPages>(
+/// Writes a cell in use with these records, and a chain cell with others right behind it.
+pub(crate) fn link_behind<M: MetaPages>(
     pages: &mut M,
     start: &CellAt,
-    first: &UsedCell,
-    at: &CellAt,
+    head: &CellHead,
     records: &RecordList,
+    at: &CellAt,
+    others: &RecordList,
 )
-    requires first { StandsAt (M.pages pages.old) start.now (record {
-      head = first.now.head;
-      records = first.now.records;
-    }) }
+    requires in_use { IsInUse (M.pages pages.old) start.now }
+    requires next { IfSome head.now.next (λ at. at.cell < 28) }
     requires place { HasPlace (M.pages pages.old) at.now }
     requires apart { is_at at.now start.now ≡ false }
     requires good { AreRecords records.now }
     requires fits { length (spellings records.now) ≤ 272 }
+    requires others_good { AreRecords others.now }
+    requires others_fit { length (spellings others.now) ≤ 272 }
     ensures first { StandsAt (M.pages pages.new) start.now (record {
-      head = record first.now.head { next = Some at.now };
-      records = first.now.records;
+      head = record head.now { next = Some at.now };
+      records = records.now;
     }) }
     ensures behind { StandsAt (M.pages pages.new) at.now (record {
-      head = record first.now.head { kind = Chain };
-      records = records.now;
+      head = record head.now { kind = Chain };
+      records = others.now;
     }) }
     ensures others { LeavesOthers (λ q. is_at at.now q || is_at start.now q)
         (M.pages pages.old) (M.pages pages.new) }
@@ -84,14 +86,14 @@ fn link_behind<M: MetaPages>(
 {
     let behind = CellHead {
         kind: CellKind::Chain,
-        ..first.head
+        ..*head
     };
     let front = CellHead {
         next: Some(*at),
-        ..first.head
+        ..*head
     };
-    write_cell(pages, *at, &behind, records);
-    write_cell(pages, *start, &front, &first.records);
+    write_cell(pages, *at, &behind, others);
+    write_cell(pages, *start, &front, records);
 }
 
 /// Puts a page that a file does not have at a home, in a chain cell that is handed out for it and
@@ -134,6 +136,6 @@ pub(crate) fn put_in_new_cell<M: MetaPages>(
     let value = one_page(alloc, version, page, home)?;
     let records = one_record(alloc, &value)?;
     let at = take_cell(alloc, pages, space, cells, prefer)?;
-    link_behind(pages, start, &first, &at, &records);
+    link_behind(pages, start, &first.head, &first.records, &at, &records);
     Ok(())
 }

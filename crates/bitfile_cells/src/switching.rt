@@ -23,7 +23,7 @@ use record_table::Record;
 use std::alloc::Global;
 
 /// The first of the records that has a page.
-fn holder(records: &[Record], page: u32) -> Option<usize>
+pub(crate) fn holder(records: &[Record], page: u32) -> Option<usize>
     requires { AllByRecursion IsMapRecord records.now }
     ensures { Finds (HasPage page) records.now result }
 {

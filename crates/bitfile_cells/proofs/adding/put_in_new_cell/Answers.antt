@@ -23,8 +23,8 @@ returns-in_default-clause-taken g c =
     let first = first_cell pages c.args.start.now c.requires.file.0 c.requires.file.1 in
     absurd ((subst (λ o. IfNone o ((cell : Cell) → ¬ StandsAt pages c.args.start.now cell)) c.in_default.is c.in_ok-first.ensures.none) first.0 first.1)
 
-pub link_behind-requires-clause-first : goal.link_behind-requires-clause-first
-link_behind-requires-clause-first g c =
+pub link_behind-requires-clause-in_use : goal.link_behind-requires-clause-in_use
+link_behind-requires-clause-in_use g c =
     let old = g.M.MetaPages.pages c.args.pages.now in
     let between = g.M.MetaPages.pages c.take_cell.new.pages in
     let at = c.in_ok-at.at in
@@ -33,7 +33,7 @@ link_behind-requires-clause-first g c =
     let cell : Cell = record { head = c.in-Some.first.head; records = c.in-Some.first.records } in
     let stands : StandsAt old start cell
     = subst (λ o. IfSome o (λ (used : UsedCell). StandsAt old start (record { head = used.head; records = used.records }))) c.in-Some.is c.in_ok-first.ensures.some in
-    stands_taken c.args.prefer at c.args.space.now c.take_cell.new.space c.args.cells.now c.take_cell.new.cells old between low c.requires.allocated c.in_ok-at.ensures.ok start cell (start_on old c.args.cells.now start c.requires.file.0 c.requires.file.1 (c.requires.tables c.requires.file.0 c.requires.file.1)) stands
+    (cell, stands_taken c.args.prefer at c.args.space.now c.take_cell.new.space c.args.cells.now c.take_cell.new.cells old between low c.requires.allocated c.in_ok-at.ensures.ok start cell (start_on old c.args.cells.now start c.requires.file.0 c.requires.file.1 (c.requires.tables c.requires.file.0 c.requires.file.1)) stands)
 
 pub link_behind-requires-clause-apart : goal.link_behind-requires-clause-apart
 link_behind-requires-clause-apart g c =
@@ -47,8 +47,8 @@ link_behind-requires-clause-apart g c =
     = subst (λ o. IfSome o (λ (used : UsedCell). StandsAt old start (record { head = used.head; records = used.records }))) c.in-Some.is c.in_ok-first.ensures.some in
     at_apart at start (not_zeros between at start cell c.in_ok-at.ensures.zeros (stands_taken c.args.prefer at c.args.space.now c.take_cell.new.space c.args.cells.now c.take_cell.new.cells old between low c.requires.allocated c.in_ok-at.ensures.ok start cell (start_on old c.args.cells.now start c.requires.file.0 c.requires.file.1 (c.requires.tables c.requires.file.0 c.requires.file.1)) stands))
 
-pub link_behind-requires-clause-fits : goal.link_behind-requires-clause-fits
-link_behind-requires-clause-fits g c =
+pub link_behind-requires-clause-others_fit : goal.link_behind-requires-clause-others_fit
+link_behind-requires-clause-others_fit g c =
     one_fits c.args.version c.in_ok-value.value c.in_ok-records.records c.in_ok-records.ensures c.in_ok-value.ensures.is_map.allowed c.in_ok-value.ensures.kind
 
 pub returns-clause-ok : goal.returns-clause-ok
