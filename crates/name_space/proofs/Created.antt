@@ -1,7 +1,8 @@
 -- A new file or directory, and the row that names it.
-use Rattle.std.proofs.Common.{◌≡◌, ◌≢◌, ◌⊎◌, ◌∙◌, ℕ, ◌+◌, ◌-◌, ◌^◌, ◌<◌, ◌≤◌, length, take, take_all, ◌==◌, ◌&&◌, true, false, cond, is_some, eqb-true, [], ◌∷◌, ◌++◌, Option, Some, None, IsSomeAnd, inl, inr, refl, sym, ap, subst, arith, true≢false}
+use Rattle.std.proofs.Common.{◌≡◌, ◌≢◌, ◌⊎◌, ◌∙◌, ℕ, ◌+◌, ◌-◌, ◌^◌, ◌<◌, ◌≤◌, length, length-append, take, take_all, List, ◌==◌, ◌&&◌, true, false, cond, is_some, eqb-true, [], ◌∷◌, ◌++◌, Option, Some, None, IsSomeAnd, inl, inr, refl, sym, ap, subst, arith, true≢false}
 use Rattle.std.proofs.lemmas.Bool.{eq-eqb}
-use Rattle.std.proofs.lemmas.List.{take_more}
+use Rattle.std.proofs.lemmas.List.{take_at, take_more}
+use Rattle.std.specs.Ordering.{nat_cmp}
 use Rattle.std.specs.Cmp.{nat_cmp_total}
 use Rattle.std.specs.Option.{option_and_then, option_map, option_map_or}
 use Rattle.std.specs.FinMap as map
@@ -21,15 +22,16 @@ use Rattle.fileset_model.specs.Paths.{first_refusal, paths_to}
 use Rattle.fileset_model.specs.declared.fileset.FilesetSlot.{FilesetSlot}
 use Rattle.fileset_model.specs.declared.fileset.Role.TheVariants.{Original}
 use Rattle.fileset_model.proofs.MapLemmas.{get-insert_other, get-insert_same}
-use Rattle.fileset_laws.specs.Valid.{IsValidFileset}
+use Rattle.fileset_laws.specs.Valid.{HasWholePages, IsDirectoryAt, IsValidFileset}
 use Rattle.fileset_laws.proofs.ValidCountLemmas.{no_paths}
 use Rattle.fileset_laws.proofs.ValidLemmas.{from_some_and, some_inj, to_some_and}
+use Rattle.fileset_laws.proofs.ValidTreeLemmas.{with_node-valid}
 use Rattle.name_space.specs.Changes.{Creates, IsMade, IsOriginal, free_checks, last_name, new_node}
 use Rattle.name_space.specs.Walks.{IsWayTo}
 use Rattle.name_space.specs.Names.{IsNodeOf, Names, led_from, led_to, number_of}
 use Rattle.name_space.proofs.Leads.{led-name}
 use Rattle.name_space.proofs.Leaves.{LeafAt, found_new, found_past, leaf_changed, leaf_names, same_node}
-use Rattle.name_space.proofs.Originals.{IsIn, all_shown, fresh_number, is_in, one_way, tags_same}
+use Rattle.name_space.proofs.Originals.{IsIn, all_shown, directory_at, fresh_number, is_in, one_way, tags_same}
 use Rattle.name_space.proofs.PathCounts.{count-new}
 
 -- which of two tags
@@ -56,6 +58,12 @@ other_there old dir tag file fresh there = by_tag (with_file tag file old dir �
 pub whole_path : (path : Path) → 1 ≤ length path → take (length path - 1) path ++ last_name path ∷ [] ≡ path
 whole_path path some =
     sym (take_more path (length path - 1) [] (omega (arith, some))) ∙ take_all (length path - 1 + 1) path (omega (arith, some))
+
+-- what is in front of a last name
+pub fore : (front : Path) (name : Name) → take (length (front ++ name ∷ []) - 1) (front ++ name ∷ []) ≡ front
+fore front name =
+    ap (λ n. take n (front ++ name ∷ [])) (omega (arith, length-append front (name ∷ [])))
+    ∙ take_at front (name ∷ []) (length front) refl
 
 module _ (old new : Bitfiles) (slot : FilesetSlot) (names : Names old slot) (role : slot.role ≡ Original) (valid : IsValidFileset slot.tree) (dir : Tag) (place : Path) (name : Name)
     (led : led_to old place ≡ Some (dir, kinds.Directory)) (free : found name (rows_in old dir) ≡ None) (tag : Tag) (kind : Kind) (uid gid : ℕ) (low : tag.seq < 2 ^ 16) (fresh : old tag ≡ None)
@@ -239,6 +247,20 @@ module _ (old new : Bitfiles) (slot : FilesetSlot) (names : Names old slot) (rol
       (λ t of is. subst (λ (led : Tag × Kind). IsIn new after.tree led.0 led.1) (some_inj is) in_new)
       in_old directories live seq
 
+  pub created_valid : IsValidFileset after.tree
+  created_valid = with_node-valid slot.tree path (number_of tag) (new_node kind uid gid) valid path_free no_node (by_kind kind)
+      (λ front n e. subst (IsDirectoryAt slot.tree) (sym (same_front front n e)) (directory_at old slot names role place dir led))
+    where
+      by_kind : (k : Kind) → HasWholePages (new_node k uid gid)
+      by_kind kinds.File = λ q page at. absurd (none_some (sym (map.get-empty nat_cmp q) ∙ at))
+        where
+          none_some : {x : List ℕ} → (¬ None ≡ Some x)
+          none_some e = cc
+      by_kind kinds.Directory = tt
+
+      same_front : (front : Path) (n : Name) → front ++ n ∷ [] ≡ path → front ≡ place
+      same_front front n e = sym (fore front n) ∙ ap (λ p. take (length p - 1) p) e ∙ fore place name
+
   pub created_fresh : map.get slot.tree.nodes (number_of tag) ≡ None
   created_fresh = no_node
 
@@ -251,8 +273,11 @@ creates old new slot original path some dir way free allowed tag kind uid gid lo
     record {
       allowed = allowed;
       fresh = created_fresh old new slot original.names original.role original.valid dir place (last_name path) way.led free tag kind uid gid low made.fresh made.adds;
-      names = subst (λ p. Names new (record slot { tree = with_node p (number_of tag) (new_node kind uid gid) slot.tree })) (whole_path path some)
-          (created_names old new slot original.names original.role original.valid dir place (last_name path) way.led free tag kind uid gid low made.fresh made.adds);
+      makes = subst (λ p. IsOriginal new (record slot { tree = with_node p (number_of tag) (new_node kind uid gid) slot.tree })) (whole_path path some) (record {
+        names = created_names old new slot original.names original.role original.valid dir place (last_name path) way.led free tag kind uid gid low made.fresh made.adds;
+        role = original.role;
+        valid = created_valid old new slot original.names original.role original.valid dir place (last_name path) way.led free tag kind uid gid low made.fresh made.adds;
+      });
     }
 
 -- what a directory was before a file was made

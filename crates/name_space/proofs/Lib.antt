@@ -9,3 +9,15 @@ pub mod Originals
 pub mod RowChanged
 pub mod Leaves
 pub mod Created
+pub mod Removed
+pub mod Spots
+pub mod Taken
+pub mod RowFacts
+pub mod MovedPaths
+pub mod MovedLeads
+pub mod MovedNames
+pub mod LinkedNames
+pub mod LeafChecks
+pub mod RenameChecks
+pub mod RenamedNames
+pub mod LinkChecks

@@ -1,7 +1,7 @@
 -- Originals: nothing in them is out of sync, so that each path is shown.
-use Rattle.std.proofs.Common.{◌≡◌, ◌∙◌, ℕ, ◌^◌, ◌<◌, ◌==◌, true, false, not, is_some, Option, Some, None, IsSomeAnd, IsTrue, take, refl, sym, ap, subst, arith, eqb-true}
-use Rattle.std.proofs.lemmas.Bool.{and_parts}
-use Rattle.std.specs.Option.{option_map, option_map_or}
+use Rattle.std.proofs.Common.{◌≡◌, ◌≢◌, ◌∙◌, ℕ, ◌^◌, ◌<◌, ◌==◌, ◌&&◌, true, false, not, is_some, Option, Some, None, IsSomeAnd, IsTrue, take, refl, sym, ap, subst, arith, eqb-true, true≢false}
+use Rattle.std.proofs.lemmas.Bool.{and_parts, eq-eqb}
+use Rattle.std.specs.Option.{option_and_then, option_map, option_map_or}
 use Rattle.std.specs.FinMap.{get}
 use Rattle.domain_base.specs.declared.place.Kind.{Kind}
 use Rattle.domain_base.specs.declared.place.Kind.TheVariants.{Directory, File as FileKind}
@@ -17,7 +17,7 @@ use Rattle.fileset_model.specs.declared.fileset.Role.{Role}
 use Rattle.fileset_model.specs.declared.fileset.Role.TheVariants.{Original}
 use Rattle.fileset_model.specs.declared.node.Node.{Node}
 use Rattle.fileset_model.specs.declared.node.Node.TheVariants.{File, Directory as DirectoryNode}
-use Rattle.fileset_laws.specs.Valid.{IsValidFileset}
+use Rattle.fileset_laws.specs.Valid.{IsDirectoryAt, IsValidFileset}
 use Rattle.fileset_laws.proofs.ValidTreeLemmas.{at_directory}
 use Rattle.name_space.specs.Names.{IsNodeOf, Names, is_directory_kind, led_to, number_of}
 
@@ -29,6 +29,12 @@ tags_same a b h =
     let slot = eqb-true a.slot b.slot parts.0 in
     let seq = eqb-true a.seq b.seq parts.1 in
     λ i. record { slot = slot i; seq = seq i }
+
+pub tag_itself : (t : Tag) → same_tag t t ≡ true
+tag_itself t = ap (λ a. a && (t.seq == t.seq)) (eq-eqb t.slot t.slot refl) ∙ eq-eqb t.seq t.seq refl
+
+pub tags_differ : (a b : Tag) → same_tag a b ≡ false → a ≢ b
+tags_differ a b other same = true≢false (sym (tag_itself b) ∙ ap (λ t. same_tag t b) (sym same) ∙ other)
 
 -- no two tags are one number
 pub one_tag : (a b : Tag) → a.seq < 2 ^ 16 → b.seq < 2 ^ 16 → number_of a ≡ number_of b → a ≡ b
@@ -72,6 +78,12 @@ module _ (files : Bitfiles) (slot : FilesetSlot) (names : Names files slot) (rol
       live : (o : Option Bitfile) → not (is_some o) ≡ false → (file : Bitfile) × (o ≡ Some file)
       live None out = absurd cc
       live (Some file) out = (file, refl)
+
+  -- a directory of the set is one of the fileset
+  pub directory_at : (path : Path) (tag : Tag) → led_to files path ≡ Some (tag, Directory) → IsDirectoryAt slot.tree path
+  directory_at path tag led =
+      subst (λ o. IsSomeAnd (option_and_then (get slot.tree.nodes) o) (λ node. IsTrue (is_directory node))) (sym (number_at path tag Directory led))
+      (names.shown path tag Directory (all_shown path) led).kind
 
   module _ (valid : IsValidFileset slot.tree) where
     -- a directory is at one path

@@ -1,5 +1,5 @@
 -- How many paths lead to a number where there is one path more, or one less.
-use Rattle.std.proofs.Common.{◌≡◌, ◌≢◌, ◌∙◌, ℕ, ◌+◌, ◌≤◌, ◌==◌, true, false, cond, count_by, List, [], ◌∷◌, Some, None, refl, sym, ap, arith, true≢false}
+use Rattle.std.proofs.Common.{◌≡◌, ◌∙◌, ℕ, ◌+◌, ◌≤◌, ◌==◌, true, false, cond, count_by, List, [], ◌∷◌, Some, None, refl, sym, ap, arith, true≢false}
 use Rattle.std.proofs.lemmas.Bool.{eq-eqb}
 use Rattle.std.proofs.lemmas.List.Sums.{sum_by-cons}
 use Rattle.std.specs.declared.cmp.Ordering.TheVariants.{Less, Equal, Greater}
@@ -52,7 +52,7 @@ count-gone m path v k there =
     let less = map.remove m path in
     let none : map.get less path ≡ None = map.get-remove path_cmp-total m path path ∙ ap (λ r. cond (is_eq r) None (map.get m path)) (tied_itself path_cmp-total path) in
     let back : m ≡ map.insert less path v = map.same_map path_cmp-total path_cmp-IsAntisymmetric m (map.insert less path v) (λ q.
-      sym (map.get-insert path_cmp-total less path v q ∙ ap (cond (eq_by_cmp path_cmp q path) (Some v)) (map.get-remove path_cmp-total m path q) ∙ by_key q)) in
+    sym (map.get-insert path_cmp-total less path v q ∙ ap (cond (eq_by_cmp path_cmp q path) (Some v)) (map.get-remove path_cmp-total m path q) ∙ by_key q)) in
     ap (λ (n : map.FinMap path_cmp ℕ). count_of k (map.entries n)) back ∙ count-new less path v k none
   where
     by_key : (q : Path) → cond (eq_by_cmp path_cmp q path) (Some v) (cond (eq_by_cmp path_cmp q path) None (map.get m q)) ≡ map.get m q
@@ -73,7 +73,7 @@ module _ (tree : Fileset) (path : Path) (number : ℕ) (there : map.get tree.pat
     | true ↦ λ is.
         let other = named_by tree path number is in
         let left = found_counted number other.0 (map.entries (map.remove tree.paths path))
-            (sym (map.get-entries (map.remove tree.paths path) other.0) ∙ get-remove_other path_cmp-total path_cmp-IsAntisymmetric tree.paths path other.0 other.1 ∙ other.2) in
+        (sym (map.get-entries (map.remove tree.paths path) other.0) ∙ get-remove_other path_cmp-total path_cmp-IsAntisymmetric tree.paths path other.0 other.1 ∙ other.2) in
         absurd (omega (arith, one_less, single, left))
     | false ↦ λ is. refl
   ] refl
@@ -84,7 +84,7 @@ module _ (tree : Fileset) (path : Path) (number : ℕ) (there : map.get tree.pat
     | true ↦ λ is. refl
     | false ↦ λ is.
         let none = no_paths (map.remove tree.paths path) number (λ q at.
-          let was = got-remove path_cmp-total path_cmp-IsAntisymmetric tree.paths path q number at in
-          true≢false (sym (another_path tree path number q was.1 was.0) ∙ is)) in
+        let was = got-remove path_cmp-total path_cmp-IsAntisymmetric tree.paths path q number at in
+        true≢false (sym (another_path tree path number q was.1 was.0) ∙ is)) in
         absurd (omega (arith, one_less, several, none))
   ] refl

@@ -1,35 +1,46 @@
 -- What the calls answer that change names.
-use Rattle.std.specs.Prelude.{◌≡◌, ◌-◌, ℕ, false, List, [], ◌∷◌, Option, Some, None, Result, Ok, Err, length, get_or}
+use Rattle.std.specs.Prelude.{◌≡◌, ◌==◌, ◌+◌, ◌-◌, ◌<◌, ◌≤◌, ℕ, Bool, true, false, not, List, [], ◌∷◌, Option, Some, None, Result, Ok, Err, length, get_or, take, if◌then◌else◌}
+use Rattle.std.specs.Option.{option_and_then, option_map}
 use Rattle.std.specs.FinMap.{get, empty}
+use Rattle.domain_base.specs.Limits.{max_links}
 use Rattle.domain_base.specs.Counts.{HasRisen}
 use Rattle.domain_base.specs.declared.place.Kind.{Kind}
 use Rattle.domain_base.specs.declared.place.Kind.TheVariants as kind
 use Rattle.domain_base.specs.declared.place.Tag.{Tag}
-use Rattle.page_store.specs.Bitfiles.{Bitfile, Bitfiles, with_file}
+use Rattle.page_store.specs.Bitfiles.{Bitfile, Bitfiles, linked, links_at, with_change, with_file, without_file}
 use Rattle.page_store.specs.declared.fault.StoreFault.{StoreFault}
 use Rattle.page_store.specs.declared.fault.StoreFault.TheVariants as store
-use Rattle.dir_pages.specs.Rows.{found}
+use Rattle.dir_pages.specs.Rows.{found, is_row_name}
 use Rattle.dir_rows.specs.Directory.{rows_in}
-use Rattle.dir_rows.specs.RowChanges.{AddsRow}
-use Rattle.fileset_model.specs.Apply.{path_taken, with_node}
+use Rattle.dir_rows.specs.RowChanges.{AddsRow, RemovesRow}
+use Rattle.fileset_model.specs.Apply.{is_named_elsewhere, link_checks, linked as with_path, not_empty, path_taken, rename_checks, renamed, with_node, without}
+use Rattle.fileset_model.specs.Fileset.{Fileset}
 use Rattle.fileset_model.specs.Orders.{Name, Path}
-use Rattle.fileset_model.specs.Paths.{first_refusal, walk_refusal}
+use Rattle.fileset_model.specs.Paths.{directory_here, file_here, first_refusal, is_directory, names_one, node_at, refuse_if, target_refusal, walk_refusal}
 use Rattle.fileset_model.specs.declared.fileset.FilesetSlot.{FilesetSlot}
 use Rattle.fileset_model.specs.declared.fileset.Role.TheVariants.{Original}
 use Rattle.fileset_model.specs.declared.node.Node.{Node}
 use Rattle.fileset_model.specs.declared.node.Node.TheVariants.{File, Directory}
 use Rattle.fileset_model.specs.declared.reply.Refusal.{Refusal}
+use Rattle.fileset_model.specs.declared.reply.Refusal.TheVariants.{IsDirectory, NotDirectory, NotEmpty}
 use Rattle.fileset_laws.specs.Valid.{IsValidFileset}
-use Rattle.name_space.specs.Names.{Names, number_of}
-use Rattle.name_space.specs.Walks.{IsWayTo}
+use Rattle.name_space.specs.Names.{Names, is_directory_kind, led_to, number_of}
+use Rattle.name_space.specs.Walks.{IsWalked, IsWayTo}
 use Rattle.name_space.specs.declared.fault.NameFault.{NameFault}
 use Rattle.name_space.specs.declared.fault.NameFault.TheVariants.{Refused, NoPage, OutOfMemory}
+use Rattle.name_space.specs.declared.link.LinkPlace.{LinkPlace}
+use Rattle.name_space.specs.declared.rename.Renamed.{Renamed}
+use Rattle.name_space.specs.declared.spot.Spot.{Spot}
 
 -- a fileset that the rows of a set make, and no clone
 pub record IsOriginal (files : Bitfiles) (slot : FilesetSlot) : Type 0 where
   pub names : Names files slot
   pub role : slot.role ≡ Original
   pub valid : IsValidFileset slot.tree
+
+-- the set's rows make such a fileset
+abbrev pub HasOriginal : Bitfiles → Type 0
+HasOriginal files = (slot : FilesetSlot) × IsOriginal files slot
 
 abbrev pub Checks : Type 0
 Checks = FilesetSlot → List (Option Refusal)
@@ -78,4 +89,123 @@ pub record Creates (path : Path) (node : Node) (slot : FilesetSlot) (new : Bitfi
     : Type 0 where
   pub allowed : first_refusal (free_checks path slot) ≡ None
   pub fresh : get slot.tree.nodes (number_of tag) ≡ None
-  pub names : Names new (record slot { tree = with_node path (number_of tag) node slot.tree })
+  pub makes : IsOriginal new
+      (record slot { tree = with_node path (number_of tag) node slot.tree })
+
+-- ---- names that go
+
+-- something stands at a path
+abbrev pub target_checks : Path → Checks
+target_checks path slot = target_refusal slot path ∷ []
+
+-- what stands at a path can go in place of a thing of a kind: a file, or a directory without rows
+abbrev pub leaf_checks : Kind → Path → Checks
+leaf_checks kind.File path slot = directory_here slot path ∷ []
+leaf_checks kind.Directory path slot = file_here slot path ∷ not_empty slot path ∷ []
+
+-- such a thing stands at a path
+abbrev pub taking_checks : Kind → Path → Checks
+taking_checks of path slot = target_refusal slot path ∷ leaf_checks of path slot
+
+abbrev pub unlink_checks : Path → Checks
+unlink_checks path slot = target_refusal slot path ∷ directory_here slot path ∷ []
+
+abbrev pub rmdir_checks : Path → Checks
+rmdir_checks path slot =
+    target_refusal slot path ∷ file_here slot path ∷ not_empty slot path ∷ []
+
+-- why a thing does not go in place of one of the first kind, by its kind and whether it has no row
+abbrev pub leaf_refusal : Kind → Kind → Bool → Option Refusal
+leaf_refusal kind.File of bare = refuse_if (is_directory_kind of) IsDirectory
+leaf_refusal kind.Directory of bare =
+    first_refusal
+    (refuse_if (not (is_directory_kind of)) NotDirectory ∷ refuse_if (not bare) NotEmpty ∷ [])
+
+-- the row to which a path leads, or the first refusal of the checks
+abbrev pub IsSpot : Checks → Bitfiles → FilesetSlot → Path → Result Spot Refusal → Type 0
+IsSpot checks files slot path (Ok spot) = (first_refusal (checks slot) ≡ None)
+    × IsWayTo files path (length path - 1) spot.dir
+    × (found (last_name path) (rows_in files spot.dir) ≡ Some (spot.tag, spot.kind))
+IsSpot checks files slot path (Err refusal) = first_refusal (checks slot) ≡ Some refusal
+
+-- a file or directory has one link less, or is gone where it had but one
+pub record DropsLink (tag : Tag) (old new : Bitfiles) (gone : Bool) : Type 0 where
+  pub last : gone ≡ (links_at old tag == 1)
+  pub left : new ≡ (if gone then without_file tag old
+      else with_change tag (linked (links_at old tag - 1)) old)
+
+-- the row of a name left a directory, and what it named lost that link
+pub record TakesName (dir : Tag) (name : Name) (tag : Tag) (old new : Bitfiles) (gone : Bool)
+    : Type 0 where
+  pub mid : Bitfiles
+  pub removes : RemovesRow dir name old mid
+  pub drops : DropsLink tag mid new gone
+
+-- a path is gone that led to a tag's number, and with its last path what stood there
+pub record Removes (checks : Checks) (path : Path) (slot : FilesetSlot) (new : Bitfiles) (tag : Tag)
+    (gone : Bool) : Type 0 where
+  pub allowed : first_refusal (checks slot) ≡ None
+  pub was : get slot.tree.paths path ≡ Some (number_of tag)
+  pub last : gone ≡ not (is_named_elsewhere slot.tree path (number_of tag))
+  pub makes : IsOriginal new (record slot { tree = without path slot.tree })
+
+-- ---- one path more
+
+-- the file at a path, and the directory of a second, where that can be a path of the file; or what
+-- is refused
+abbrev pub IsLinkPlace : Bitfiles → FilesetSlot → Path → Path → Result LinkPlace Refusal → Type 0
+IsLinkPlace files slot path to (Ok place) = (first_refusal (link_checks path to slot) ≡ None)
+    × (led_to files path ≡ Some (place.tag, kind.File)) × (rows_in files place.tag ≡ [])
+    × (links_at files place.tag < max_links) × IsWayTo files to (length to - 1) place.dir
+    × (found (last_name to) (rows_in files place.dir) ≡ None)
+IsLinkPlace files slot path to (Err refusal) =
+    first_refusal (link_checks path to slot) ≡ Some refusal
+
+-- a directory has a row more, which names a file, and the file has a link more
+pub record AddsLink (place : LinkPlace) (name : Name) (old new : Bitfiles) : Type 0 where
+  pub mid : Bitfiles
+  pub adds : AddsRow place.dir (record { tag = place.tag; kind = kind.File; name = name }) old mid
+  pub counted : new ≡ with_change place.tag (linked (links_at mid place.tag + 1)) mid
+
+-- a second path leads to a file
+pub record Links (path to : Path) (slot : FilesetSlot) (new : Bitfiles) (tag : Tag) : Type 0 where
+  pub allowed : first_refusal (link_checks path to slot) ≡ None
+  pub was : get slot.tree.paths path ≡ Some (number_of tag)
+  pub makes : IsOriginal new (record slot { tree = with_path path to slot.tree })
+
+-- ---- paths that move
+
+-- both paths of a rename were looked at: what stands at the first, and the directory of the second
+pub record AreLooked (path to : Path) (spot : Spot) (dir : Tag) (files : Bitfiles) : Type 0 where
+  pub names : HasOriginal files
+  pub some : 1 ≤ length path
+  pub some_to : 1 ≤ length to
+  pub name : is_row_name (last_name to) ≡ true
+  pub spot_is : (slot : FilesetSlot) → IsOriginal files slot
+      → IsSpot (target_checks path) files slot path (Ok spot)
+  pub dir_is : (slot : FilesetSlot) → IsOriginal files slot → IsWalked files slot to (Ok dir)
+
+-- what a row names has a row of another name or in another directory in its place
+pub record MovesRow (spot : Spot) (name : Name) (dir : Tag) (new_name : Name) (old new : Bitfiles)
+    : Type 0 where
+  pub mid : Bitfiles
+  pub removes : RemovesRow spot.dir name old mid
+  pub adds : AddsRow dir (record { tag = spot.tag; kind = spot.kind; name = new_name }) mid new
+
+-- the number of what a rename takes away, if it does
+abbrev pub replaced_number : Path → Path → Fileset → Option ℕ
+replaced_number path to tree =
+    if names_one tree path to then None
+    else option_and_then
+    (λ number. if is_named_elsewhere tree to number then None else Some number)
+    (get tree.paths to)
+
+-- what stood at a path, with all below it, stands at a second one
+pub record Renames (path to : Path) (slot : FilesetSlot) (new : Bitfiles) (answer : Renamed)
+    : Type 0 where
+  pub allowed : first_refusal (rename_checks path to slot) ≡ None
+  pub was : get slot.tree.paths path ≡ Some (number_of answer.moved)
+  pub kind : option_map is_directory (node_at slot.tree path) ≡ Some (is_directory_kind answer.kind)
+  pub into : get slot.tree.paths (take (length to - 1) to) ≡ Some (number_of answer.dir)
+  pub replaced : option_map number_of answer.replaced ≡ replaced_number path to slot.tree
+  pub makes : IsOriginal new (record slot { tree = renamed path to slot.tree })

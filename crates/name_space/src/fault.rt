@@ -3,9 +3,11 @@ ghost use Rattle.std.specs.Prelude.{◌≡◌};
 
 use fileset_model::Refusal;
 use page_store::StoreFault;
+use std::error::Error;
+use std::fmt;
 
 /// Why a call that changes names failed.
-#[derive(Clone, Copy)]
+#[derive(Clone, Copy, Debug)]
 pub enum NameFault {
     /// The command is refused, and nothing has changed.
     Refused(Refusal),
@@ -27,3 +29,15 @@ impl From<StoreFault> for NameFault {
         }
     }
 }
+
+impl fmt::Display for NameFault {
+    fn fmt<W: fmt::Write>(&self, f: &mut fmt::Formatter<W>) -> fmt::Result {
+        f.write_str(match self {
+            NameFault::Refused(_) => "the call is refused",
+            NameFault::NoPage => "no page is free",
+            NameFault::OutOfMemory => "out of memory",
+        })
+    }
+}
+
+impl Error for NameFault {}

@@ -3,10 +3,17 @@
 
 mod create;
 mod fault;
+mod link;
 mod listing;
+mod rename;
+mod spot;
+mod unlink;
 mod walking;
 
 pub use create::create_at;
 pub use fault::NameFault;
+pub use link::link_at;
 pub use listing::{list_rows, row_count};
+pub use rename::{Renamed, rename_at};
+pub use unlink::{Unlinked, rmdir_at, unlink_at};
 pub use walking::{target, walk};

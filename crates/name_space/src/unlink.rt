@@ -1,0 +1,133 @@
+//! Paths that go.
+ghost use Rattle.std.specs.Prelude.{◌≡◌, ◌≤◌, true, Some, IfErr, IfOk, IsSome, length};
+ghost use Rattle.page_store.specs.Bitfiles.{IsCounted};
+ghost use Rattle.dir_pages.specs.Rows.{found};
+ghost use Rattle.dir_rows.specs.Directory.{IsWellFormed, rows_in};
+ghost use Rattle.fileset_model.specs.declared.fileset.FilesetSlot.{FilesetSlot};
+ghost use Rattle.name_space.specs.Changes.{DropsLink, HasOriginal, IsFaultOf, IsOriginal, Removes, TakesName, rmdir_checks, taking_checks, unlink_checks};
+
+use crate::create::last_name;
+use crate::fault::NameFault;
+use crate::spot::{Spot, leaf_spot};
+use dir_rows::remove_row;
+use domain_base::{Kind, Tag};
+use fileset_model::Path;
+use page_store::{BitfileSet, StoreFault};
+use std::alloc::Global;
+
+/// What came of a file one of whose paths was removed.
+#[derive(Clone, Copy)]
+pub struct Unlinked {
+    /// The tag of the file.
+    pub tag: Tag,
+    /// Whether the file is gone, since that was its last path. Else it has one link less.
+    pub gone: bool,
+}
+
+/// Takes one link of a file or directory away, and with the last link all of it. Answers whether it
+/// is gone.
+fn drop_link<S: BitfileSet>(set: &mut S, alloc: Global, tag: Tag) -> Result<bool, StoreFault>
+    requires there { IsSome (S.files set.old tag) }
+    ensures ok { IfOk result (DropsLink tag (S.files set.old) (S.files set.new)) }
+    ensures no_page { IfErr result (IsCounted (S.missed set.old) (S.missed set.new)) }
+    ensures count { S.missed set.old ≤ S.missed set.new }
+{
+    let links = set.links(tag);
+    if links == 1 {
+        match set.remove(alloc, tag) {
+            Ok(()) => Ok(true),
+            Err(fault) => Err(fault),
+        }
+    } else {
+        match set.set_links(alloc, tag, links - 1) {
+            Ok(()) => Ok(false),
+            Err(fault) => Err(fault),
+        }
+    }
+}
+
+/// Removes a row, and the link that it was. Answers whether what it named is gone.
+pub(crate) fn take_name<S: BitfileSet>(
+    set: &mut S,
+    alloc: Global,
+    spot: Spot,
+    name: &[u8],
+) -> Result<bool, StoreFault>
+    requires good { IsWellFormed (S.files set.old) spot.dir }
+    requires named { found name.now (rows_in (S.files set.old) spot.dir)
+        ≡ Some (spot.tag, spot.kind) }
+    requires there { IsSome (S.files set.old spot.tag) }
+    ensures ok { IfOk result (TakesName spot.dir name.now spot.tag (S.files set.old)
+        (S.files set.new)) }
+    ensures no_page { IfErr result (IsCounted (S.missed set.old) (S.missed set.new)) }
+    ensures count { S.missed set.old ≤ S.missed set.new }
+{
+    match remove_row(set, alloc, spot.dir, name) {
+        Ok(()) => drop_link(set, alloc, spot.tag),
+        Err(fault) => Err(fault),
+    }
+}
+
+/// Removes the path of a file, or of a directory without rows.
+fn take_path<S: BitfileSet>(
+    set: &mut S,
+    alloc: Global,
+    path: &Path,
+    of: Kind,
+) -> Result<Unlinked, NameFault>
+    requires names { HasOriginal (S.files set.old) }
+    requires some { 1 ≤ length path.now }
+    ensures ok { IfOk result (λ file. (slot : FilesetSlot) → IsOriginal (S.files set.old) slot
+        → Removes (taking_checks of path.now) path.now slot (S.files set.new) file.tag
+        file.gone) }
+    ensures err { IfErr result (IsFaultOf (taking_checks of path.now) (S.files set.old)
+        (S.files set.new) (S.missed set.old) (S.missed set.new)) }
+    ensures count { S.missed set.old ≤ S.missed set.new }
+{
+    let spot = match leaf_spot(set, path, of) {
+        Ok(spot) => spot,
+        Err(refusal) => return Err(NameFault::Refused(refusal)),
+    };
+    match take_name(set, alloc, spot, last_name(path)) {
+        Ok(gone) => Ok(Unlinked {
+            tag: spot.tag,
+            gone,
+        }),
+        Err(fault) => Err(NameFault::from(fault)),
+    }
+}
+
+/// Removes a path that leads to a file, and with its last path the file. After NoPage or
+/// OutOfMemory the set may hold some of this.
+pub fn unlink_at<S: BitfileSet>(
+    set: &mut S,
+    alloc: Global,
+    path: &Path,
+) -> Result<Unlinked, NameFault>
+    requires names { HasOriginal (S.files set.old) }
+    requires some { 1 ≤ length path.now }
+    ensures ok { IfOk result (λ file. (slot : FilesetSlot) → IsOriginal (S.files set.old) slot
+        → Removes (unlink_checks path.now) path.now slot (S.files set.new) file.tag file.gone) }
+    ensures err { IfErr result (IsFaultOf (unlink_checks path.now) (S.files set.old)
+        (S.files set.new) (S.missed set.old) (S.missed set.new)) }
+    ensures count { S.missed set.old ≤ S.missed set.new }
+{
+    take_path(set, alloc, path, Kind::File)
+}
+
+/// Removes a directory without rows, and answers its tag. After NoPage or OutOfMemory the set may
+/// hold some of this.
+pub fn rmdir_at<S: BitfileSet>(set: &mut S, alloc: Global, path: &Path) -> Result<Tag, NameFault>
+    requires names { HasOriginal (S.files set.old) }
+    requires some { 1 ≤ length path.now }
+    ensures ok { IfOk result (λ tag. (slot : FilesetSlot) → IsOriginal (S.files set.old) slot
+        → Removes (rmdir_checks path.now) path.now slot (S.files set.new) tag true) }
+    ensures err { IfErr result (IsFaultOf (rmdir_checks path.now) (S.files set.old)
+        (S.files set.new) (S.missed set.old) (S.missed set.new)) }
+    ensures count { S.missed set.old ≤ S.missed set.new }
+{
+    match take_path(set, alloc, path, Kind::Directory) {
+        Ok(directory) => Ok(directory.tag),
+        Err(fault) => Err(fault),
+    }
+}
