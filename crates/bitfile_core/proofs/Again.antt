@@ -1,5 +1,5 @@
 -- All belongs together again where one tag's file has one page at another home.
-use Rattle.std.proofs.Common.{◌≡◌, ◌∙◌, ℕ, ◌≤◌, Bool, true, false, cond, nat_eq, List, Option, Some, None, IfSome, IsSomeAnd, Contains, Result, Ok, Err, IfErr, refl, sym, ap, subst, ⊎_elim, ◌⊎◌, inl, inr}
+use Rattle.std.proofs.Common.{◌≡◌, ◌∙◌, ℕ, ◌≤◌, Bool, true, false, cond, nat_eq, List, Option, Some, None, IfSome, Contains, refl, sym, ap, subst, ⊎_elim, ◌⊎◌, inl, inr}
 use Rattle.std.proofs.lemmas.Bool.{cases_Bool, eqb-true, false_from_ne_true}
 use Rattle.std.specs.Option.{option_map_or}
 use Rattle.domain_base.specs.declared.place.CellAt.{CellAt}

@@ -1,10 +1,10 @@
 -- All belongs together where a file is made: after a cell was handed out, a page of tags was added, and
 -- a tag was made to lead to a file of one cell.
-use Rattle.std.proofs.Common.{◌≡◌, ◌∙◌, ℕ, ◌+◌, ◌*◌, ◌/◌, ◌%◌, ◌<◌, ◌≤◌, ◌&&◌, ◌||◌, not, Bool, true, false, cond, nat_eq, nat_lt, List, [], ◌∷◌, ◌++◌, Option, Some, None, IfSome, IsSome, IsSomeAnd, is_some, Contains, get_or, length, refl, sym, ap, subst, arith, zero, suc, ⊎_elim, ◌⊎◌, inl, inr}
-use Rattle.std.proofs.lemmas.Bool.{and_from, and_parts, both_ways, cases_Bool, cases_lt, eq-eqb, eqb-true, false_from_ne_true, or_cases, or_from, or_left, or_right, true≢false}
+use Rattle.std.proofs.Common.{◌≡◌, ◌∙◌, ℕ, ◌+◌, ◌*◌, ◌/◌, ◌%◌, ◌<◌, ◌≤◌, ◌&&◌, not, Bool, true, false, cond, nat_eq, nat_lt, List, [], ◌∷◌, ◌++◌, Option, Some, None, IfSome, IsSome, IsSomeAnd, is_some, Contains, length, refl, sym, ap, subst, arith, zero, suc, ⊎_elim, ◌⊎◌, inl, inr}
+use Rattle.std.proofs.lemmas.Bool.{and_from, and_parts, both_ways, cases_Bool, cases_lt, eq-eqb, eqb-true, false_from_ne_true, or_cases, or_left, or_right, true≢false}
 use Rattle.std.proofs.lemmas.List.{append-nil}
 use Rattle.std.proofs.lemmas.Nat.{div-mul-add}
-use Rattle.std.specs.List.{AllByRecursion, list_any}
+use Rattle.std.specs.List.{AllByRecursion}
 use Rattle.std.specs.Option.{option_and_then, option_map, option_map_or}
 use Rattle.domain_base.specs.Page.{zero_bytes}
 use Rattle.domain_base.specs.declared.place.CellAt.{CellAt}
@@ -46,7 +46,7 @@ use Rattle.bitfile_cells.proofs.Still.{allocated_still}
 use Rattle.bitfile_core.specs.declared.new_cells.NewFile.{NewFile}
 use Rattle.bitfile_core.specs.Creation.{AreNew, Creates, CreatesNone, Enters, LeavesBeside, new_head, with_new}
 use Rattle.bitfile_core.specs.Files.{AreApart, AreFiles, Chains, LeadsToFile, place_at}
-use Rattle.bitfile_core.specs.Together.{AreTagPages, AreTogether, IsFilePage, IsHeldApart}
+use Rattle.bitfile_core.specs.Together.{AreTagPages, AreTogether, IsHeldApart}
 use Rattle.bitfile_core.proofs.Again.{together_missed}
 use Rattle.bitfile_core.proofs.Given.{one_file}
 use Rattle.bitfile_core.proofs.Grown.{allocated_taken, apart_taken, on_grown, one_apart, one_tables}

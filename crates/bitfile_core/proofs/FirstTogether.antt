@@ -1,10 +1,7 @@
 -- All belongs together where one file's first cell says something else, but not of pages.
-use Rattle.std.proofs.Common.{◌≡◌, ◌∙◌, ℕ, ◌∷◌, ◌++◌, [], Bool, true, false, cond, nat_le, List, Option, Some, None, IfSome, IsSome, refl, sym, ap, subst, ⊎_elim}
-use Rattle.std.proofs.lemmas.Bool.{both_ways, cases_Bool, false_from_ne_true, true≢false}
-use Rattle.std.specs.List.{AllByRecursion}
+use Rattle.std.proofs.Common.{◌≡◌, ◌∙◌, ℕ, ◌∷◌, ◌++◌, true, false, nat_le, List, Option, Some, None, IfSome, IsSome, refl, sym, ap, subst, ⊎_elim}
+use Rattle.std.proofs.lemmas.Bool.{cases_Bool, true≢false}
 use Rattle.std.specs.Option.{option_map, option_map_or}
-use Rattle.domain_base.specs.declared.place.CellAt.{CellAt}
-use Rattle.domain_base.specs.declared.place.Home.{Home}
 use Rattle.domain_base.specs.declared.place.Tag.{Tag}
 use Rattle.page_store.specs.Pages.{Pages}
 use Rattle.page_store.specs.Bitfiles.{same_tag}
@@ -15,22 +12,21 @@ use Rattle.bmt_mcells.specs.Cell.{Cell, record_of}
 use Rattle.bmt_mcells.specs.CellPage.{KeepsHeaders, KeepsWellFormed}
 use Rattle.bmt_mcells.specs.Chain.{LeavesOthers, PlacedCell, StandsAt, is_at, records_of}
 use Rattle.tag_dirs.specs.declared.dir.TagPlace.{TagPlace}
-use Rattle.tag_dirs.specs.Directory.{cell_of}
-use Rattle.extent_maps.specs.declared.run.PagePlace.TheVariants.{Absent, At}
+use Rattle.extent_maps.specs.declared.run.PagePlace.TheVariants.{Absent}
 use Rattle.extent_maps.specs.Runs.{place_of}
 use Rattle.extent_records.specs.Rows.{runs_in, runs_of}
 use Rattle.extent_records.specs.Writing.{most_rows}
-use Rattle.free_cells.specs.Cells.{Cells, is_free}
+use Rattle.free_cells.specs.Cells.{Cells}
 use Rattle.free_space.specs.Spaces.{Spaces}
 use Rattle.bitfile_cells.specs.FileChanges.{AreOnTables}
-use Rattle.bitfile_cells.specs.Files.{AreFile, IsFile, has_rows, map_records, places_of}
+use Rattle.bitfile_cells.specs.Files.{AreFile, has_rows, map_records, places_of}
 use Rattle.bitfile_cells.proofs.Added.{not_zeros}
 use Rattle.bitfile_cells.proofs.ChainChanges.{at_apart}
 use Rattle.bitfile_cells.proofs.MapRecords.{kind_found, runs_by_map, value_has_rows}
 use Rattle.bitfile_cells.proofs.Still.{allocated_still}
 use Rattle.bitfile_core.specs.declared.attributes.Attributes.{Attributes}
 use Rattle.bitfile_core.specs.Changes.{says_attributes, says_parent, with_attributes, with_chain, with_first}
-use Rattle.bitfile_core.specs.Files.{AreFiles, Chains, LeadsToFile, place_at}
+use Rattle.bitfile_core.specs.Files.{AreFiles, Chains, place_at}
 use Rattle.bitfile_core.specs.Together.{AreTogether}
 use Rattle.std.proofs.lemmas.Grind.{flat_map-append}
 use Rattle.bitfile_core.proofs.FirstCell.{map_stays}

@@ -1,6 +1,6 @@
 -- A page is given to the file of a live tag, or none is.
-use Rattle.std.proofs.Common.{◌≡◌, ◌∙◌, ℕ, suc, ◌≤◌, ◌<◌, List, [], ◌∷◌, Option, Some, None, IfSome, IsSomeAnd, Result, Ok, Err, IfOk, IfErr, refl, sym, ap, subst, inr}
-use Rattle.std.specs.Option.{option_and_then, option_map_or}
+use Rattle.std.proofs.Common.{◌≡◌, ◌∙◌, ℕ, ◌<◌, List, [], ◌∷◌, Some, None, IfSome, IsSomeAnd, Result, Ok, Err, IfOk, IfErr, refl, sym, ap, subst, inr}
+use Rattle.std.specs.Option.{option_map_or}
 use Rattle.domain_base.specs.declared.place.CellAt.{CellAt}
 use Rattle.domain_base.specs.declared.place.Home.{Home}
 use Rattle.domain_base.specs.declared.place.Tag.{Tag}
@@ -21,9 +21,8 @@ use Rattle.bitfile_cells.specs.Files.{IsFile, places_of}
 use Rattle.bitfile_cells.specs.MapChanges.{NoneTakes}
 use Rattle.bitfile_cells.proofs.Allocated.{allocated_missed, same_allocated}
 use Rattle.bitfile_cells.proofs.Spaces.{given_back}
-use Rattle.bitfile_core.specs.Files.{Chains, IsLiveCell, keep_of, of_live, place_at}
+use Rattle.bitfile_core.specs.Files.{Chains, IsLiveCell, keep_of, place_at}
 use Rattle.bitfile_core.specs.Pages.{GetsNone, IsGivenBack, MayGrow}
-use Rattle.bitfile_core.specs.Together.{AreTogether}
 use Rattle.bitfile_core.proofs.Live.{live_none, live_some}
 
 -- ---- a chain is one chain at most

@@ -1,16 +1,15 @@
 -- Pages and tables after a page was taken, and a cell where it was wanted.
-use Rattle.std.proofs.Common.{◌≡◌, ◌∙◌, ℕ, ◌≤◌, Bool, true, false, cond, nat_eq, List, [], ◌∷◌, ◌++◌, length, get_or, Contains, refl, sym, ap, subst, zero, suc, arith, ⊎_elim, ◌⊎◌, inl, inr}
-use Rattle.std.proofs.lemmas.Bool.{cases_Bool, eqb-true}
-use Rattle.std.specs.List.{AllByRecursion}
+use Rattle.std.proofs.Common.{◌≡◌, ℕ, ◌≤◌, Bool, true, false, cond, nat_eq, List, [], ◌∷◌, ◌++◌, get_or, Contains, refl, sym, subst, zero, suc, arith, ⊎_elim, ◌⊎◌, inl, inr}
+use Rattle.std.proofs.lemmas.Bool.{eqb-true}
 use Rattle.domain_base.specs.declared.place.Home.{Home}
 use Rattle.page_store.specs.Pages.{Pages}
 use Rattle.bmt_mcells.specs.Chain.{PlacedCell}
 use Rattle.extent_maps.specs.declared.run.PagePlace.{PagePlace}
 use Rattle.free_cells.specs.Cells.{Cells, table_of}
 use Rattle.free_space.specs.VolumeSpace.{with_page}
-use Rattle.free_space.specs.Spaces.{CanTake, IsHeld, Spaces, change_volume, missed}
+use Rattle.free_space.specs.Spaces.{CanTake, IsHeld, Spaces, change_volume}
 use Rattle.free_space.proofs.Places.{free_can, held_taken}
-use Rattle.bitfile_cells.specs.Allocated.{AddsTablePage, AreAllocated, Takes}
+use Rattle.bitfile_cells.specs.Allocated.{AddsTablePage, AreAllocated}
 use Rattle.bitfile_cells.specs.FileChanges.{AreOnTables}
 use Rattle.bitfile_cells.specs.MapChanges.{TakesIfFull, TakesOne}
 use Rattle.bitfile_cells.proofs.Allocated.{not_in_table}

@@ -17,3 +17,4 @@ pub mod NewRecords
 pub mod Created
 pub mod FirstTogether
 pub mod RemovedTogether
+pub mod Moved

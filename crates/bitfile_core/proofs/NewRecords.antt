@@ -1,5 +1,5 @@
 -- The records of a new file's first cell.
-use Rattle.std.proofs.Common.{◌≡◌, ◌≢◌, ◌∙◌, ℕ, ◌+◌, ◌*◌, ◌^◌, ◌<◌, ◌≤◌, Bool, true, false, cond, nat_le, List, [], ◌∷◌, ◌++◌, map, Option, Some, None, IfSome, refl, sym, ap, subst, arith}
+use Rattle.std.proofs.Common.{◌≡◌, ◌≢◌, ◌∙◌, ℕ, ◌^◌, ◌<◌, ◌≤◌, true, nat_le, List, [], ◌∷◌, map, Some, None, refl, sym, ap, subst, arith}
 use Rattle.std.proofs.lemmas.Bool.{true≢false}
 use Rattle.std.specs.List.{AllByRecursion}
 use Rattle.domain_base.specs.declared.place.Kind.{Kind}
@@ -11,10 +11,9 @@ use Rattle.record_table.specs.declared.record.Record.{Record}
 use Rattle.record_table.specs.declared.record.Record.TheVariants as written
 use Rattle.record_table.specs.Records.{Allowed, kind_of}
 use Rattle.bmt_mcells.specs.Cell.{AreRecords, record_of}
-use Rattle.extent_records.specs.Rows.{runs_in}
-use Rattle.extent_records.specs.Writing.{IsMapRecord, most_rows, short_kind}
-use Rattle.bitfile_cells.specs.Changes.{above, below, with_kind}
-use Rattle.bitfile_cells.specs.Files.{has_rows, map_records}
+use Rattle.extent_records.specs.Writing.{most_rows, short_kind}
+use Rattle.bitfile_cells.specs.Changes.{with_kind}
+use Rattle.bitfile_cells.specs.Files.{map_records}
 use Rattle.bitfile_cells.proofs.MapRecords.{one_map_record, value_has_rows}
 use Rattle.bitfile_cells.proofs.Replaced.{records_replaced}
 use Rattle.bitfile_core.specs.Changes.{kind_number}

@@ -1,5 +1,5 @@
 -- One tag's file has another chain, and all others stay.
-use Rattle.std.proofs.Common.{◌≡◌, ◌∙◌, ℕ, zero, suc, not, Bool, true, false, cond, nat_eq, List, [], ◌∷◌, map, filter, Option, Some, None, IfSome, IsSomeAnd, Contains, refl, sym, ap, subst, arith, ⊎_elim}
+use Rattle.std.proofs.Common.{◌≡◌, ◌∙◌, ℕ, zero, suc, not, Bool, true, false, cond, nat_eq, List, [], ◌∷◌, map, Option, Some, None, IfSome, IsSomeAnd, Contains, refl, sym, ap, subst, arith, ⊎_elim}
 use Rattle.std.proofs.lemmas.Bool.{and_from, cases_Bool, eq-eqb, true≢false}
 use Rattle.std.specs.List.{AllByRecursion}
 use Rattle.std.specs.Option.{option_map}
@@ -17,8 +17,8 @@ use Rattle.free_cells.specs.Cells.{Cells, table_of}
 use Rattle.tag_dirs.specs.declared.dir.TagPlace.{TagPlace}
 use Rattle.tag_dirs.specs.Directory.{cell_of, has_home}
 use Rattle.bitfile_cells.specs.FileChanges.{AreOnTables, LeavesOtherCells, SameFirst, map_kinds, other_records}
-use Rattle.bitfile_cells.specs.Files.{AreFile, IsFile, has_rows, map_records}
-use Rattle.bitfile_cells.proofs.ChainChanges.{inside_places, stand_file}
+use Rattle.bitfile_cells.specs.Files.{IsFile, has_rows, map_records}
+use Rattle.bitfile_cells.proofs.ChainChanges.{stand_file}
 use Rattle.bitfile_cells.proofs.Chosen.{all_at}
 use Rattle.bitfile_cells.proofs.Replaced.{all_filter, filter_false, filter_true}
 use Rattle.bitfile_core.specs.Changes.{with_chain}

@@ -1,5 +1,5 @@
 -- A file's first cell says another size, and which pages are stale.
-use Rattle.std.proofs.Common.{◌≡◌, ◌∙◌, ℕ, ◌+◌, ◌-◌, ◌^◌, ◌<◌, ◌≤◌, ◌&&◌, ◌||◌, Bool, true, false, cond, nat_le, nat_lt, List, [], ◌∷◌, Option, Some, None, IfSome, IfNone, IsSome, IsSomeAnd, is_some, length, refl, sym, ap, subst, unwrap_or, arith, ⊎_elim}
+use Rattle.std.proofs.Common.{◌≡◌, ◌∙◌, ℕ, ◌-◌, ◌^◌, ◌<◌, ◌||◌, Bool, true, false, cond, nat_le, nat_lt, List, [], ◌∷◌, Option, Some, None, IfSome, IfNone, IsSome, IsSomeAnd, is_some, refl, sym, ap, subst, unwrap_or, arith, ⊎_elim}
 use Rattle.std.proofs.lemmas.Bool.{and_from, and_parts, both_ways, cases_Bool, cases_lt, ltb-true, lt-ltb, or_cases, or_left, or_right, true≢false}
 use Rattle.std.specs.List.{AllByRecursion, list_any}
 use Rattle.std.specs.Option.{option_and_then, option_map}
@@ -22,17 +22,16 @@ use Rattle.extent_maps.specs.Runs.{AreRuns, Places, behind, covers, end_of, plac
 use Rattle.extent_maps.proofs.EditLemmas.{covers_from, covers_is, never_absent}
 use Rattle.extent_records.specs.Writing.{most_rows}
 use Rattle.bitfile_cells.specs.Changes.{HasRoomForTwo, with_kind, with_record, with_two}
-use Rattle.bitfile_cells.specs.Files.{AreFile, IsFile, has_rows, map_records, places_of}
+use Rattle.bitfile_cells.specs.Files.{IsFile, has_rows, map_records, places_of}
 use Rattle.bitfile_cells.proofs.MapRecords.{kind_found, value_has_rows}
 use Rattle.bitfile_cells.proofs.Replaced.{records_replaced}
-use Rattle.bitfile_core.specs.Changes.{with_chain, with_first}
+use Rattle.bitfile_core.specs.Changes.{with_first}
 use Rattle.bitfile_core.specs.Files.{AreFiles, Chains, IsLiveCell, first_record, is_first_kind, keep_in, keep_of}
 use Rattle.bitfile_core.specs.Truncation.{HasPageWithin, IsLowered, Truncates, TruncatesChain, meets, pages_in, pending_cell, resized, says_size, says_truncated}
 use Rattle.bitfile_core.proofs.FirstCell.{file_changed, find_other, find_put, map_stays}
 use Rattle.bitfile_core.proofs.FirstRoom.{first_fits, kinds_replaced}
 use Rattle.bitfile_core.proofs.OneFile.{files_now}
 use Rattle.bitfile_core.proofs.RemoveFile.{First, the_first}
-use Rattle.bitfile_core.proofs.Room.{allowed_found}
 
 -- ---- pages within
 

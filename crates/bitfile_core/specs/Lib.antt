@@ -1,6 +1,7 @@
 pub mod Changes
 pub mod Creation
 pub mod Files
+pub mod Moves
 pub mod Pages
 pub mod Shown
 pub mod Together

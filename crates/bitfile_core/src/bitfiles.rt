@@ -260,6 +260,7 @@ impl Bitfiles {
         };
         set_record(alloc, pages, at, &with_attributes(&was, value))
     }
+
     /// Says of the directory that a live tag names in which directory it stands. Every other file
     /// stays, and all else of this one. After an error nothing has changed.
     pub fn set_parent<M: MetaPages>(

@@ -6,6 +6,7 @@ mod bitfiles;
 mod creating;
 mod giving;
 mod laws;
+mod moving;
 mod new_cells;
 mod truncating;
 

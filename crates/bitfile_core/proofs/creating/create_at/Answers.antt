@@ -1,5 +1,4 @@
 use Rattle.std.proofs.Common.{◌≡◌, ◌∙◌, ◌≤◌, ◌++◌, ◌∷◌, [], List, false, rules, subst, sym}
-use Rattle.page_store.specs.Pages.{Pages}
 use Rattle.bmt_mcells.specs.CellPage.{home_of}
 use Rattle.tag_dirs.specs.declared.dir.TagPlace.{TagPlace}
 use Rattle.tag_dirs.specs.Directory.{CanTake, IsDirectory, has_home}

@@ -1,4 +1,4 @@
-use Rattle.std.proofs.Common.{◌≤◌, rules, subst, sym}
+use Rattle.std.proofs.Common.{subst, sym}
 use Rattle.extent_maps.specs.declared.run.PagePlace.TheVariants.{At}
 use Rattle.free_space.specs.Spaces.{IsHeld, Spaces}
 use Rattle.free_space.proofs.Places.{free_can, held_taken}

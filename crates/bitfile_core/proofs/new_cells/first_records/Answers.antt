@@ -1,5 +1,4 @@
-use Rattle.std.proofs.Common.{◌∙◌, ◌<◌, ◌^◌, IfOk, Some, ap, rules, subst, sym}
-use Rattle.bmt_mcells.specs.Cell.{Cell}
+use Rattle.std.proofs.Common.{◌∙◌, ◌<◌, ◌^◌, Some, ap, rules, subst, sym}
 use Rattle.record_table.specs.declared.record.Record.TheVariants.{Parent}
 use Rattle.bitfile_cells.specs.Changes.{with_kind}
 use Rattle.bitfile_cells.proofs.Switched.{map_if}

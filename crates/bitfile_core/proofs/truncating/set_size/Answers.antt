@@ -1,4 +1,4 @@
-use Rattle.std.proofs.Common.{◌∙◌, ◌<◌, ◌^◌, IfSome, None, Option, Some, ℕ, ap, rules, subst, sym}
+use Rattle.std.proofs.Common.{◌∙◌, ◌<◌, ◌^◌, IfSome, None, Option, ℕ, ap, rules, subst, sym}
 use Rattle.bmt_mcells.specs.Cell.{Cell}
 use Rattle.bmt_mcells.specs.Chain.{StandsAt}
 use Rattle.bitfile_core.specs.Files.{is_first_kind}

@@ -1,8 +1,4 @@
-use Rattle.std.proofs.Common.{◌∙◌, IsSomeAnd, List, None, Option, Some, ℕ, ap, subst, sym}
-use Rattle.std.specs.Option.{option_and_then}
-use Rattle.extent_maps.specs.Runs.{place_of}
-use Rattle.bitfile_cells.specs.Files.{places_of}
-use Rattle.bitfile_core.specs.Files.{keep_in}
+use Rattle.std.proofs.Common.{◌∙◌, sym}
 use Rattle.bitfile_core.proofs.Truncated.{keep_is, lowered_from, no_keep}
 use Rattle.bitfile_core.proofs.truncating.stale_in.Goals as goal
 

@@ -1,4 +1,4 @@
-use Rattle.std.proofs.Common.{◌∙◌, ◌∷◌, Bool, None, Some, ap, cond, is_some, subst, sym}
+use Rattle.std.proofs.Common.{◌∙◌, ◌∷◌, None, Some, ap, cond, is_some, subst, sym}
 use Rattle.std.proofs.Common.{◌||◌}
 use Rattle.domain_base.specs.declared.place.CellAt.{CellAt}
 use Rattle.bmt_mcells.specs.Chain.{StandsAt}

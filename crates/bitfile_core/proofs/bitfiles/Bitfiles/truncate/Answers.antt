@@ -1,4 +1,4 @@
-use Rattle.std.proofs.Common.{◌∙◌, ◌∷◌, Some, subst, sym}
+use Rattle.std.proofs.Common.{◌∙◌, ◌∷◌, subst, sym}
 use Rattle.bitfile_cells.proofs.Switched.{map_if}
 use Rattle.bitfile_core.specs.Files.{IsLiveCell}
 use Rattle.bitfile_core.proofs.RemoveFile.{first_beside, room, the_first}
