@@ -36,7 +36,7 @@ same_at a b e = cc
 abbrev placed : CellAt → Cell → PlacedCell
 placed at cell = record { at = at; cell = cell }
 
-one_follow : (pages : Pages) (head : CellHead) (xs ys : List PlacedCell) → Follow pages head xs → Follow pages head ys → xs ≡ ys
+pub one_follow : (pages : Pages) (head : CellHead) (xs ys : List PlacedCell) → Follow pages head xs → Follow pages head ys → xs ≡ ys
 one_follow pages head [] [] f g = refl
 one_follow pages head [] (y ∷ ys) f g = absurd (none_is_some y.at (sym f ∙ g.0))
 one_follow pages head (x ∷ xs) [] f g = absurd (none_is_some x.at (sym g ∙ f.0))

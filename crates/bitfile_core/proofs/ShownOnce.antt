@@ -10,7 +10,7 @@ use Rattle.bitfile_core.specs.Files.{attributes_of, is_removed, of_live}
 use Rattle.bitfile_core.specs.Shown.{AreIndexPages, IsWhat, ShowOnce, ShowsAt, ShowsFile, index_of, shown_index, shown_page}
 
 -- lists that have the same at each number are the same
-same_each : {X : Type 0} (xs ys : List X) → ((k : ℕ) → slice_get xs k ≡ slice_get ys k) → xs ≡ ys
+pub same_each : {X : Type 0} (xs ys : List X) → ((k : ℕ) → slice_get xs k ≡ slice_get ys k) → xs ≡ ys
 same_each [] [] each = refl
 same_each [] (y ∷ ys) each = let e : None ≡ Some y = each 0 in absurd (cc)
 same_each (x ∷ xs) [] each = let e : Some x ≡ None = each 0 in absurd (cc)

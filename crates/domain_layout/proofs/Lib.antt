@@ -1,0 +1,3 @@
+pub mod OneFilling
+pub mod OneSlot
+pub mod OneShape

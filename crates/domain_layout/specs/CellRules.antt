@@ -1,0 +1,305 @@
+-- The rules of pages of cells, of cells, and of their chains. Each is said by where it is broken.
+use Rattle.std.specs.Prelude.{◌≡◌, ◌⊎◌, ◌==◌, ◌||◌, ◌&&◌, ◌+◌, ◌^◌, ◌<◌, ◌≤◌, ◌++◌, ℕ, Bool, true, false, not, is_some, List, [], ◌∷◌, Option, Some, None, IsSome, IsSomeAnd, Contains, nat_lt, slice_get}
+use Rattle.std.specs.List.{AllByRecursion, list_all, list_any}
+use Rattle.std.specs.Option.{option_and_then, option_map, option_map_or}
+use Rattle.domain_base.specs.Version.{bitmap_pages}
+use Rattle.domain_base.specs.declared.place.CellAt.{CellAt}
+use Rattle.domain_base.specs.declared.place.Home.{Home}
+use Rattle.domain_base.specs.declared.version.Version.{Version}
+use Rattle.page_store.specs.Pages.{Pages}
+use Rattle.record_table.specs.Fields.{number_at}
+use Rattle.record_table.specs.Records.{kind_of, last_kind}
+use Rattle.record_table.specs.declared.record.Record.{Record}
+use Rattle.record_table.specs.declared.record.Record.TheVariants as written
+use Rattle.record_table.specs.declared.record.Leftover.TheVariants.{Remove}
+use Rattle.log_ring.specs.Homes.{member_of}
+use Rattle.bmt_mcells.specs.Cell.{Cell, IsCell, IsFreeCell, id_of, record_of}
+use Rattle.bmt_mcells.specs.CellPage.{cell_of, free_cells, home_of, index_of}
+use Rattle.bmt_mcells.specs.Chain.{HasHeadAt, StandsAt, may_follow}
+use Rattle.bmt_mcells.specs.declared.head.CellHead.{CellHead}
+use Rattle.bmt_mcells.specs.declared.head.CellKind.{CellKind}
+use Rattle.bmt_mcells.specs.declared.head.CellKind.TheVariants.{Chain, Primary, Quota, Volume}
+use Rattle.extent_maps.specs.declared.run.PagePlace.TheVariants.{Absent}
+use Rattle.extent_records.specs.Writing.{places_in}
+use Rattle.fileset_table.specs.Table.{Table}
+use Rattle.fileset_table.specs.declared.slot.SlotItem.{SlotItem}
+use Rattle.fileset_table.specs.declared.slot.SlotItem.TheVariants as slot
+use Rattle.domain_layout.specs.Layout.{IsMember}
+use Rattle.domain_layout.specs.Reached.{Frame, IsRead, IsUnread, cells_way, first_cells}
+
+-- ** Pages of cells
+
+-- cells of a page that is read, and the page itself
+pub record IsCellsPage (pages : Pages) (frame : Frame) (place : ℕ) (home : Home) (page : List ℕ)
+    : Type 0 where
+  pub member : IsMember frame.anchor home.vol
+  pub read : IsRead pages frame (cells_way frame home.vol) place home page
+
+-- a page is come to that cannot be one of cells
+pub record IsNoCellsPage (pages : Pages) (frame : Frame) (home : Home) : Type 0 where
+  pub vol : ℕ
+  pub member : IsMember frame.anchor vol
+  pub unread : IsUnread pages frame (cells_way frame vol) home
+
+-- it has another index than its place, or another count of free cells than it has
+pub record HasWrongHeader (pages : Pages) (frame : Frame) (home : Home) : Type 0 where
+  pub place : ℕ
+  pub page : List ℕ
+  pub is : IsCellsPage pages frame place home page
+  pub wrong : ¬ index_of page ≡ place ⊎ ¬ number_at 2 12 page ≡ free_cells page
+      ⊎ ¬ number_at 2 14 page ≡ 0
+
+-- ** One cell
+
+-- a cell that the version has: its records are all of kinds that it knows
+pub record IsCellOf (version : Version) (bytes : List ℕ) (cell : Cell) : Type 0 where
+  pub is : IsCell bytes cell
+  pub known : AllByRecursion (λ r. kind_of r ≤ last_kind version) cell.records
+
+-- some cell is neither free nor in use
+pub record HasWrongCell (pages : Pages) (frame : Frame) (home : Home) : Type 0 where
+  pub place : ℕ
+  pub page : List ℕ
+  pub is : IsCellsPage pages frame place home page
+  pub cell : ℕ
+  pub within : cell < 28
+  pub used : ¬ IsFreeCell (cell_of page cell)
+  pub wrong : (c : Cell) → ¬ IsCellOf frame.version (cell_of page cell) c
+
+-- a place of a page that is read
+pub record IsPlace (pages : Pages) (frame : Frame) (at : CellAt) : Type 0 where
+  pub place : ℕ
+  pub page : List ℕ
+  pub is : IsCellsPage pages frame place (home_of at) page
+  pub within : at.cell < 28
+
+-- a cell in use stands at such a place, with this head, whatever its records are
+pub record IsHead (pages : Pages) (frame : Frame) (at : CellAt) (head : CellHead) : Type 0 where
+  pub place : IsPlace pages frame at
+  pub head : HasHeadAt pages at head
+
+-- and with these records
+pub record IsUsed (pages : Pages) (frame : Frame) (at : CellAt) (cell : Cell) : Type 0 where
+  pub place : IsPlace pages frame at
+  pub stands : StandsAt pages at cell
+
+-- the first cell of a volume says the volume
+pub record SaysVolume (frame : Frame) (vol : ℕ) (cell : Cell) : Type 0 where
+  pub kind : cell.head.kind ≡ Volume
+  pub alone : cell.head.next ≡ None
+  pub says : let pages = (member_of frame.anchor vol).pages in
+      cell.records ≡ written.Volume vol pages (bitmap_pages frame.version pages) ∷ []
+
+-- the place of a volume's first cell
+abbrev pub IsFirstPlace : Frame → CellAt → Type 0
+IsFirstPlace frame at = (at.page ≡ first_cells frame at.vol) × (at.cell ≡ 0)
+
+-- the first cell of a volume does not, or another cell is of that kind
+abbrev pub IsWrongVolumeCell : Pages → Frame → CellAt → Type 0
+IsWrongVolumeCell pages frame at =
+    (IsPlace pages frame at × IsFirstPlace frame at
+    × ((cell : Cell) → StandsAt pages at cell → ¬ SaysVolume frame at.vol cell))
+    ⊎ ((head : CellHead) × IsHead pages frame at head × (head.kind ≡ Volume)
+    × ¬ IsFirstPlace frame at)
+
+-- ** The first cell of a file or directory
+
+-- the record of a kind is there
+abbrev pub has_kind : ℕ → List Record → Bool
+has_kind kind records = is_some (record_of kind records)
+
+-- all of it is to be removed
+abbrev pub is_removed : List Record → Bool
+is_removed records = option_map_or says (record_of 6 records) false
+  where
+    says : Record → Bool
+    says (written.Pending Remove) = true
+    says _ = false
+
+-- what stands in the slot that a head names
+abbrev pub item_of : Table → CellHead → Option SlotItem
+item_of table head = option_and_then (slice_get table.slots) head.fileset
+
+abbrev pub is_original : Option SlotItem → Bool
+is_original (Some (slot.Original entry)) = true
+is_original _ = false
+
+abbrev pub is_clone : Option SlotItem → Bool
+is_clone (Some (slot.Clone of number entry)) = true
+is_clone _ = false
+
+abbrev pub says_directory : Record → Bool
+says_directory (written.Attributes kind uid gid flags size keep links birth unsynced) = kind == 2
+says_directory _ = false
+
+-- each first cell has attributes, and one record of extents, plain or dense
+abbrev pub has_first_records : List Record → Bool
+has_first_records records = has_kind 1 records
+    && not (has_kind 4 records == has_kind 14 records)
+
+-- the kinds that a first cell may have in an original and in a clone: a directory has its parent,
+-- and no file has one
+abbrev pub has_its_kinds : Bool → List Record → Bool
+has_its_kinds clone records = (has_kind 2 records == clone)
+    && (has_kind 10 records == option_map_or says_directory (record_of 1 records) false)
+    && list_all (λ r. list_any (λ k. kind_of r == k)
+    (1 ∷ 2 ∷ 4 ∷ 6 ∷ 9 ∷ 10 ∷ 11 ∷ 14 ∷ [])) records
+
+-- an original keeps at most all pages, and fewer only where something is pending
+abbrev pub keeps_well : Record → Bool → Bool
+keeps_well (written.Attributes kind uid gid flags size keep links birth unsynced) pending =
+    (keep == 65536) || (nat_lt keep 65536 && pending)
+keeps_well _ pending = true
+
+-- what tells originals and clones apart is not asked of what is to be removed
+abbrev pub is_good_first : Table → Cell → Bool
+is_good_first table cell = has_first_records cell.records
+    && (is_removed cell.records
+    || ((not (is_original (item_of table cell.head)) || (has_its_kinds false cell.records
+    && option_map_or (λ r. keeps_well r (has_kind 6 cell.records)) (record_of 1 cell.records) false))
+    && (not (is_clone (item_of table cell.head)) || has_its_kinds true cell.records)))
+
+-- a first cell has other records than it may have
+pub record IsWrongFirst (pages : Pages) (frame : Frame) (table : Table) (at : CellAt) : Type 0 where
+  pub cell : Cell
+  pub used : IsUsed pages frame at cell
+  pub kind : cell.head.kind ≡ Primary
+  pub wrong : is_good_first table cell ≡ false
+
+-- ** Chain cells and quota cells
+
+-- one record of extents or holes
+abbrev pub is_chain_records : List Record → Bool
+is_chain_records (r ∷ []) = (kind_of r == 3) || (kind_of r == 5) || (kind_of r == 13)
+is_chain_records _ = false
+
+-- limits alone
+abbrev pub are_limits : List Record → Bool
+are_limits records = list_all (λ r. (kind_of r == 7) || (kind_of r == 8)) records
+
+pub record IsWrongLater (pages : Pages) (frame : Frame) (at : CellAt) : Type 0 where
+  pub cell : Cell
+  pub used : IsUsed pages frame at cell
+  pub wrong : ((cell.head.kind ≡ Chain) × (is_chain_records cell.records ≡ false))
+      ⊎ ((cell.head.kind ≡ Quota) × (are_limits cell.records ≡ false))
+
+-- ** Chains
+
+-- from a first cell on, the cells that were passed, and the one that is come to: each stands where
+-- the one in front of it leads, may follow it, and was not passed before
+pub data Follows (pages : Pages) (frame : Frame) (start : CellAt) : List CellAt → CellAt → CellHead
+    → Type 0 where
+  begins : (head : CellHead) → IsHead pages frame start head
+      → Follows pages frame start [] start head
+  goes_on : (passed : List CellAt) (at onto : CellAt) (head next : CellHead)
+      → Follows pages frame start passed at head → head.next ≡ Some onto
+      → ¬ Contains (passed ++ at ∷ []) onto → IsHead pages frame onto next
+      → may_follow head.kind next.kind ≡ true
+      → Follows pages frame start (passed ++ at ∷ []) onto next
+
+-- the first cell of a chain: of a file or directory, or one of quotas to which no cell leads
+abbrev pub LeadsTo : Pages → Frame → CellAt → CellAt → Type 0
+LeadsTo pages frame at onto =
+    (head : CellHead) × IsHead pages frame at head × (head.next ≡ Some onto)
+
+abbrev pub IsChainHead : Pages → Frame → CellAt → CellHead → Type 0
+IsChainHead pages frame at head = IsHead pages frame at head
+    × ((head.kind ≡ Primary)
+    ⊎ ((head.kind ≡ Quota) × ((other : CellAt) → ¬ LeadsTo pages frame other at)))
+
+-- the order of cells: by volume, page and cell
+abbrev pub is_before : CellAt → CellAt → Bool
+is_before a b = nat_lt a.vol b.vol || ((a.vol == b.vol)
+    && (nat_lt a.page b.page || ((a.page == b.page) && nat_lt a.cell b.cell)))
+
+-- a cell leads back, to no cell that may follow it, or to one to which an earlier cell leads
+pub record LeadsWrong (pages : Pages) (frame : Frame) (at : CellAt) : Type 0 where
+  pub head : CellHead
+  pub is : IsHead pages frame at head
+  pub onto : CellAt
+  pub leads : head.next ≡ Some onto
+  pub wrong : ((next : CellHead) → IsHead pages frame onto next
+      → may_follow head.kind next.kind ≡ false)
+      ⊎ ((start : CellAt) × (passed : List CellAt) × Follows pages frame start passed at head
+      × Contains (passed ++ at ∷ []) onto)
+      ⊎ ((other : CellAt) × LeadsTo pages frame other onto × (is_before other at ≡ true))
+
+-- a chain cell to which no chain comes
+pub record IsUnchained (pages : Pages) (frame : Frame) (at : CellAt) : Type 0 where
+  pub head : CellHead
+  pub is : IsHead pages frame at head
+  pub kind : head.kind ≡ Chain
+  pub alone : (start : CellAt) (first : CellHead) (passed : List CellAt)
+      → IsChainHead pages frame start first → ¬ Follows pages frame start passed at head
+
+-- two cells of a chain, one behind the other
+pub record AreInChain (pages : Pages) (frame : Frame) (first : CellHead) (early late : Cell)
+    (at : CellAt) : Type 0 where
+  pub start : CellAt
+  pub is_head : IsChainHead pages frame start first
+  pub passed : List CellAt
+  pub follows : Follows pages frame start passed at late.head
+  pub late_is : IsUsed pages frame at late
+  pub before : CellAt
+  pub among : Contains passed before
+  pub early_is : IsUsed pages frame before early
+
+-- a cell says of a page where it stands that an earlier one of its chain does
+pub record IsPageTwice (pages : Pages) (frame : Frame) (at : CellAt) : Type 0 where
+  pub first : CellHead
+  pub early : Cell
+  pub late : Cell
+  pub chain : AreInChain pages frame first early late at
+  pub one : Record
+  pub other : Record
+  pub in_early : Contains early.records one
+  pub in_late : Contains late.records other
+  pub page : ℕ
+  pub there : ¬ places_in one page ≡ Absent
+  pub again : ¬ places_in other page ≡ Absent
+
+-- a cell says an owner's limits that an earlier one of its chain says
+pub record AreLimitsTwice (pages : Pages) (frame : Frame) (at : CellAt) : Type 0 where
+  pub first : CellHead
+  pub early : Cell
+  pub late : Cell
+  pub chain : AreInChain pages frame first early late at
+  pub quotas : first.kind ≡ Quota
+  pub one : Record
+  pub other : Record
+  pub in_early : Contains early.records one
+  pub in_late : Contains late.records other
+  pub kinds : kind_of one ≡ kind_of other
+  pub ids : id_of one ≡ id_of other
+
+-- holes in the chain of a file of an original
+pub record AreHolesOfOriginal (pages : Pages) (frame : Frame) (table : Table) (at : CellAt)
+    : Type 0 where
+  pub start : CellAt
+  pub first : Cell
+  pub first_is : IsUsed pages frame start first
+  pub kind : first.head.kind ≡ Primary
+  pub original : is_original (item_of table first.head) ≡ true
+  pub live : is_removed first.records ≡ false
+  pub passed : List CellAt
+  pub cell : Cell
+  pub follows : Follows pages frame start passed at cell.head
+  pub is : IsUsed pages frame at cell
+  pub holes : has_kind 5 cell.records ≡ true
+
+-- ** All of them
+
+-- a rule of cells is broken at a cell
+abbrev pub IsCellFault : Pages → Frame → Table → CellAt → Type 0
+IsCellFault pages frame table at =
+    IsWrongVolumeCell pages frame at ⊎ IsWrongFirst pages frame table at
+    ⊎ IsWrongLater pages frame at ⊎ LeadsWrong pages frame at ⊎ IsUnchained pages frame at
+    ⊎ IsPageTwice pages frame at ⊎ AreLimitsTwice pages frame at
+    ⊎ AreHolesOfOriginal pages frame table at
+
+-- a rule of cells is broken on a page: code 5
+abbrev pub IsCellsFault : Pages → Frame → Table → Home → Type 0
+IsCellsFault pages frame table home =
+    IsNoCellsPage pages frame home ⊎ HasWrongHeader pages frame home
+    ⊎ HasWrongCell pages frame home
+    ⊎ ((at : CellAt) × (home_of at ≡ home) × IsCellFault pages frame table at)

@@ -1,0 +1,353 @@
+-- The rules of directories and of their indexes, where the pages of tables stand as they should.
+use Rattle.std.specs.Prelude.{◌≡◌, ◌⊎◌, ◌==◌, ◌&&◌, ◌+◌, ◌*◌, ◌<◌, ◌≤◌, ◌↔◌, ℕ, true, false, List, [], ◌∷◌, length, Option, Some, None, IsSome, IsSomeAnd, Contains, count_by, slice_get}
+use Rattle.std.specs.List.{AllByRecursion}
+use Rattle.std.specs.Option.{option_and_then, option_map, option_map_or}
+use Rattle.domain_base.specs.declared.place.CellAt.{CellAt}
+use Rattle.domain_base.specs.declared.place.Home.{Home}
+use Rattle.domain_base.specs.declared.place.Kind.{Kind}
+use Rattle.domain_base.specs.declared.place.Kind.TheVariants.{Directory, File}
+use Rattle.domain_base.specs.declared.place.Tag.{Tag}
+use Rattle.page_store.specs.Pages.{Pages}
+use Rattle.record_table.specs.declared.record.Record.{Record}
+use Rattle.record_table.specs.declared.record.Record.TheVariants as written
+use Rattle.bmt_mcells.specs.CellPage.{home_of}
+use Rattle.bmt_mcells.specs.Chain.{PlacedCell}
+use Rattle.bitfile_core.specs.Files.{Chains, first_record}
+use Rattle.bitfile_core.specs.Shown.{index_in}
+use Rattle.dir_index.specs.Entries.{hash_of, is_below}
+use Rattle.dir_index.specs.Index.{IsIndexPage, all_entries, entries_of}
+use Rattle.dir_index.specs.declared.entry.IndexEntry.{IndexEntry}
+use Rattle.dir_pages.specs.RowPage.{IsDirPage, rows_of}
+use Rattle.dir_pages.specs.declared.row.Row.{Row}
+use Rattle.dir_rows.specs.Directory.{count_entries, count_hash}
+use Rattle.fileset_table.specs.Table.{Table, entry_of as fileset_of}
+use Rattle.fileset_table.specs.declared.slot.FilesetEntry.{FilesetEntry}
+use Rattle.fileset_table.specs.declared.slot.SlotItem.{SlotItem}
+use Rattle.fileset_table.specs.declared.slot.SlotItem.TheVariants as slot
+use Rattle.name_space.specs.Names.{root_tag}
+use Rattle.domain_layout.specs.CellRules.{is_clone}
+use Rattle.domain_layout.specs.Reached.{Frame, IsRead, IsUnread, MayBe, index_way}
+use Rattle.domain_layout.specs.Seen.{IsOwn, SeenFile, seen_in, seen_through}
+use Rattle.domain_layout.specs.Shape.{HasChains}
+
+-- ** What a fileset has at a tag
+
+-- a fileset has a file at a tag, and these are its cells
+pub record IsThere (pages : Pages) (number : ℕ) (entry : FilesetEntry) (tag : Tag)
+    (cells : List PlacedCell) : Type 0 where
+  pub chains : Chains
+  pub has : HasChains pages number entry chains
+  pub there : chains tag ≡ Some cells
+
+-- and none
+pub record IsNotThere (pages : Pages) (number : ℕ) (entry : FilesetEntry) (tag : Tag) : Type 0 where
+  pub chains : Chains
+  pub has : HasChains pages number entry chains
+  pub none : chains tag ≡ None
+
+-- the file of these cells as the original in a slot has it
+pub record IsInOriginal (pages : Pages) (number : ℕ) (entry : FilesetEntry) (tag : Tag)
+    (cells : List PlacedCell) (seen : SeenFile) : Type 0 where
+  pub there : IsThere pages number entry tag cells
+  pub is : seen_in cells ≡ Some seen
+
+-- the same of a clone: they are its own, or the original's
+pub record IsInClone (pages : Pages) (number of : ℕ) (entry original : FilesetEntry) (clone : ℕ)
+    (tag : Tag) (cells : List PlacedCell) (seen : SeenFile) : Type 0 where
+  pub is : (IsThere pages number entry tag cells × IsOwn pages cells seen)
+      ⊎ (IsNotThere pages number entry tag × IsThere pages of original tag cells
+      × (seen_through clone cells ≡ Some seen))
+
+abbrev pub IsInItem : Pages → Table → ℕ → SlotItem → Tag → List PlacedCell → SeenFile → Type 0
+IsInItem pages table number (slot.Original entry) tag cells seen =
+    IsInOriginal pages number entry tag cells seen
+IsInItem pages table number (slot.Clone of clone entry) tag cells seen =
+    IsSomeAnd (option_and_then fileset_of (slice_get table.slots of))
+    (λ original. IsInClone pages number of entry original clone tag cells seen)
+IsInItem pages table number _ tag cells seen = ⊥
+
+-- a fileset that is not being removed has the file of these cells at a tag
+pub record Has (pages : Pages) (table : Table) (number : ℕ) (tag : Tag) (cells : List PlacedCell)
+    (seen : SeenFile) : Type 0 where
+  pub item : SlotItem
+  pub there : slice_get table.slots number ≡ Some item
+  pub is : IsInItem pages table number item tag cells seen
+
+-- of that kind
+abbrev pub HasOfKind : Pages → Table → ℕ → Tag → Kind → Type 0
+HasOfKind pages table number tag of = (cells : List PlacedCell) × (seen : SeenFile)
+    × Has pages table number tag cells seen × (seen.is.kind ≡ of)
+
+-- the page of its first cell
+abbrev pub IsFirstHome : List PlacedCell → Home → Type 0
+IsFirstHome [] home = ⊥
+IsFirstHome (first ∷ rest) home = home_of first.at ≡ home
+
+-- ** Rows
+
+-- where a row stands: its directory, the page's number there, and its place on that
+pub record RowPlace : Type 0 where
+  pub dir : Tag
+  pub page : ℕ
+  pub place : ℕ
+
+-- a page of a directory stands at a home where pages may stand
+pub record IsDirectoryPage (pages : Pages) (frame : Frame) (table : Table) (number : ℕ) (dir : Tag)
+    (page : ℕ) (home : Home) (bytes : List ℕ) : Type 0 where
+  pub cells : List PlacedCell
+  pub seen : SeenFile
+  pub has : Has pages table number dir cells seen
+  pub kind : seen.is.kind ≡ Directory
+  pub at : seen.homes page ≡ Some home
+  pub may : MayBe frame home
+  pub there : pages home ≡ Some bytes
+
+-- a row stands at a place of a page that is well formed
+pub record IsRow (pages : Pages) (frame : Frame) (table : Table) (number : ℕ) (at : RowPlace)
+    (row : Row) (home : Home) : Type 0 where
+  pub bytes : List ℕ
+  pub is : IsDirectoryPage pages frame table number at.dir at.page home bytes
+  pub good : IsDirPage bytes
+  pub there : slice_get (rows_of bytes) at.place ≡ Some row
+
+-- these are all rows that lead to a tag
+pub record AreRowsTo (pages : Pages) (frame : Frame) (table : Table) (number : ℕ) (tag : Tag)
+    (rows : List RowPlace) : Type 0 where
+  pub each : (at : RowPlace) → Contains rows at
+      ↔ ((row : Row) × (home : Home) × IsRow pages frame table number at row home
+      × (row.tag ≡ tag))
+  pub once : (j k : ℕ) (at : RowPlace) → slice_get rows j ≡ Some at → slice_get rows k ≡ Some at
+      → j ≡ k
+
+-- from one directory on rows lead to a tag
+pub data RowsLead (pages : Pages) (frame : Frame) (table : Table) (number : ℕ) (dir : Tag) : Tag
+    → Type 0 where
+  one : (at : RowPlace) (row : Row) (home : Home) → at.dir ≡ dir
+      → IsRow pages frame table number at row home
+      → RowsLead pages frame table number dir row.tag
+  more : (middle : Tag) (at : RowPlace) (row : Row) (home : Home)
+      → RowsLead pages frame table number dir middle → at.dir ≡ middle
+      → IsRow pages frame table number at row home
+      → RowsLead pages frame table number dir row.tag
+
+-- all directories of a fileset are read: an original's are, and a clone's where none is out of sync
+pub record AreAllRead (pages : Pages) (frame : Frame) (table : Table) (number : ℕ) : Type 0 where
+  pub root : HasOfKind pages table number root_tag Directory
+  pub rows : (at : RowPlace) (row : Row) (home : Home)
+      → IsRow pages frame table number at row home → row.kind ≡ Directory
+      → HasOfKind pages table number row.tag Directory
+
+-- ** What a directory's pages break: at that page
+
+abbrev pub IsWrongRowPage : Pages → Frame → Table → Home → Type 0
+IsWrongRowPage pages frame table home = (number : ℕ) × (dir : Tag) × (page : ℕ) × (bytes : List ℕ)
+    × IsDirectoryPage pages frame table number dir page home bytes × ¬ IsDirPage bytes
+
+-- one place is in front of another
+abbrev pub IsEarlier : RowPlace → RowPlace → Type 0
+IsEarlier a b = (a.page < b.page) ⊎ ((a.page ≡ b.page) × (a.place < b.place))
+
+-- a row has the name of an earlier one of its directory
+pub record IsNameTwice (pages : Pages) (frame : Frame) (table : Table) (home : Home) : Type 0 where
+  pub number : ℕ
+  pub early : RowPlace
+  pub late : RowPlace
+  pub one : Row
+  pub other : Row
+  pub first_home : Home
+  pub is_early : IsRow pages frame table number early one first_home
+  pub is_late : IsRow pages frame table number late other home
+  pub same : early.dir ≡ late.dir
+  pub order : IsEarlier early late
+  pub names : one.name ≡ other.name
+
+-- a row leads to the root; to no file of its kind in an original; or in a clone to one of another
+-- kind
+pub record IsWrongRow (pages : Pages) (frame : Frame) (table : Table) (home : Home) : Type 0 where
+  pub number : ℕ
+  pub at : RowPlace
+  pub row : Row
+  pub is : IsRow pages frame table number at row home
+  pub wrong : (row.tag ≡ root_tag)
+      ⊎ ((is_clone (slice_get table.slots number) ≡ false)
+      × ¬ HasOfKind pages table number row.tag row.kind)
+      ⊎ ((of : Kind) × HasOfKind pages table number row.tag of × ¬ of ≡ row.kind)
+
+-- ** What files and directories break: at the page of their first cell
+
+-- its pages have a gap, or it has another size than they
+abbrev pub HasWrongSize : SeenFile → Type 0
+HasWrongSize seen = ¬ ((count : ℕ) × (seen.is.size ≡ 8192 * count)
+    × ((page : ℕ) → IsSome (seen.homes page) ↔ (page < count)))
+
+-- the directory that it says to stand in
+abbrev pub parent_in : Record → Option Tag
+parent_in (written.Parent slot seq) = Some (record { slot = slot; seq = seq })
+parent_in _ = None
+
+abbrev pub parent_of : List PlacedCell → Option Tag
+parent_of cells = option_and_then parent_in (first_record 10 cells)
+
+-- a row that leads to a directory stands in another one than it says
+pub record HasWrongParent (pages : Pages) (frame : Frame) (table : Table) (number : ℕ) (tag : Tag)
+    (cells : List PlacedCell) : Type 0 where
+  pub parent : Tag
+  pub is : (tag ≡ root_tag × parent ≡ root_tag)
+      ⊎ ((at : RowPlace) × (row : Row) × (home : Home) × IsRow pages frame table number at row home
+      × (row.tag ≡ tag) × (at.dir ≡ parent))
+  pub wrong : ¬ parent_of cells ≡ Some parent
+
+-- a directory: two rows lead to it, or it is below itself; or none does, or it is not below the
+-- root, where all directories are read
+abbrev pub IsMisplaced : Pages → Frame → Table → ℕ → Tag → Type 0
+IsMisplaced pages frame table number tag = (rows : List RowPlace)
+    × AreRowsTo pages frame table number tag rows
+    × ((1 < length rows) ⊎ RowsLead pages frame table number tag tag
+    ⊎ (AreAllRead pages frame table number
+    × ¬ RowsLead pages frame table number root_tag tag))
+
+-- a file: more rows lead to it than it has links; or fewer do, where all directories are read
+abbrev pub IsMiscounted : Pages → Frame → Table → ℕ → Tag → SeenFile → Type 0
+IsMiscounted pages frame table number tag seen = (rows : List RowPlace)
+    × AreRowsTo pages frame table number tag rows
+    × ((seen.is.links < length rows)
+    ⊎ (AreAllRead pages frame table number × (length rows < seen.is.links)))
+
+abbrev pub IsWrongFile : Pages → Frame → Table → ℕ → Tag → List PlacedCell → SeenFile → Kind
+    → Type 0
+IsWrongFile pages frame table number tag cells seen File =
+    (tag ≡ root_tag) ⊎ IsMiscounted pages frame table number tag seen
+IsWrongFile pages frame table number tag cells seen Directory =
+    HasWrongSize seen ⊎ ¬ seen.is.links ≡ 1
+    ⊎ HasWrongParent pages frame table number tag cells
+    ⊎ (¬ tag ≡ root_tag × IsMisplaced pages frame table number tag)
+
+-- ** All of them: code 9
+
+pub record IsFileFault (pages : Pages) (frame : Frame) (table : Table) (home : Home) : Type 0 where
+  pub number : ℕ
+  pub tag : Tag
+  pub cells : List PlacedCell
+  pub seen : SeenFile
+  pub has : Has pages table number tag cells seen
+  pub at : IsFirstHome cells home
+  pub wrong : IsWrongFile pages frame table number tag cells seen seen.is.kind
+
+abbrev pub IsDirectoryFault : Pages → Frame → Table → Home → Type 0
+IsDirectoryFault pages frame table home =
+    IsWrongRowPage pages frame table home ⊎ IsNameTwice pages frame table home
+    ⊎ IsWrongRow pages frame table home ⊎ IsFileFault pages frame table home
+
+-- ** Indexes: code 10
+
+-- how many entries a record says that the index has
+abbrev pub total_in : Record → ℕ
+total_in (written.DirIndex vol page entries) = entries
+total_in _ = 0
+
+-- a file of an original has an index that begins there, of so many entries
+pub record HasIndex (pages : Pages) (table : Table) (number : ℕ) (tag : Tag) (seen : SeenFile)
+    (first : Home) (total : ℕ) : Type 0 where
+  pub cells : List PlacedCell
+  pub has : Has pages table number tag cells seen
+  pub original : is_clone (slice_get table.slots number) ≡ false
+  pub value : Record
+  pub there : first_record 9 cells ≡ Some value
+  pub begins : index_in value ≡ Some first
+  pub entries : total_in value ≡ total
+
+-- all pages of an index are read, and no more is come to
+pub record AreIndexPages (pages : Pages) (frame : Frame) (first : Home) (index : List (List ℕ))
+    : Type 0 where
+  pub each : (place : ℕ) (page : List ℕ) → slice_get index place ≡ Some page
+      ↔ ((home : Home) × IsRead pages frame (index_way first) place home page)
+  pub whole : (home : Home) → ¬ IsUnread pages frame (index_way first) home
+
+-- the entries of all index pages as far as they are read, the page in front first
+pub record AreEntries (pages : Pages) (frame : Frame) (first : Home) (index : List (List ℕ))
+    : Type 0 where
+  pub each : (place : ℕ) (page : List ℕ) → slice_get index place ≡ Some page
+      ↔ ((home : Home) × IsRead pages frame (index_way first) place home page)
+
+-- how many rows with a name of that hash the page with a number has
+pub record CountsRows (pages : Pages) (frame : Frame) (table : Table) (number : ℕ) (dir : Tag)
+    (hash page count : ℕ) : Type 0 where
+  pub is : ((home : Home) × (bytes : List ℕ)
+      × IsDirectoryPage pages frame table number dir page home bytes × IsDirPage bytes
+      × (count ≡ count_hash hash (rows_of bytes)))
+      ⊎ (((home : Home) (bytes : List ℕ)
+      → IsDirectoryPage pages frame table number dir page home bytes → ¬ IsDirPage bytes)
+      × (count ≡ 0))
+
+-- an entry is below one in front of it; or there are more of it than rows
+pub record IsWrongIndexEntry (pages : Pages) (frame : Frame) (table : Table) (number : ℕ)
+    (dir : Tag) (first : Home) (index : List (List ℕ)) (place : ℕ) : Type 0 where
+  pub page : List ℕ
+  pub there : slice_get index place ≡ Some page
+  pub k : ℕ
+  pub entry : IndexEntry
+  pub is : slice_get (entries_of page) k ≡ Some entry
+  pub wrong : ((earlier : ℕ) × (j : ℕ) × (before : IndexEntry) × (bytes : List ℕ)
+      × (slice_get index earlier ≡ Some bytes) × (slice_get (entries_of bytes) j ≡ Some before)
+      × ((earlier < place) ⊎ ((earlier ≡ place) × (j < k))) × (is_below entry before ≡ true))
+      ⊎ ((count : ℕ) × CountsRows pages frame table number dir entry.hash entry.page count
+      × (count < count_entries entry.hash entry.page (all_entries index)))
+
+-- the total is wrong, or a row has no entry: at the first page, and only where all are read
+pub record IsWrongTotal (pages : Pages) (frame : Frame) (table : Table) (number : ℕ) (dir : Tag)
+    (first : Home) (total : ℕ) : Type 0 where
+  pub index : List (List ℕ)
+  pub are : AreIndexPages pages frame first index
+  pub wrong : ¬ total ≡ length (all_entries index)
+      ⊎ ((hash : ℕ) × (page : ℕ) × (count : ℕ)
+      × CountsRows pages frame table number dir hash page count
+      × (count_entries hash page (all_entries index) < count))
+
+-- a directory has a second page
+abbrev pub HasSecondPage : SeenFile → Type 0
+HasSecondPage seen = IsSome (seen.homes 1)
+
+-- what is wrong with an index at one of its pages
+abbrev pub IsWrongIndex : Pages → Frame → Table → ℕ → Tag → SeenFile → Home → ℕ → Home → Type 0
+IsWrongIndex pages frame table number dir seen first total home =
+    IsUnread pages frame (index_way first) home
+    ⊎ ((place : ℕ) × (page : List ℕ) × IsRead pages frame (index_way first) place home page
+    × (¬ IsIndexPage page ⊎ ((index : List (List ℕ)) × AreEntries pages frame first index
+    × IsWrongIndexEntry pages frame table number dir first index place)))
+    ⊎ ((home ≡ first) × (¬ seen.is.kind ≡ Directory ⊎ ¬ HasSecondPage seen
+    ⊎ IsWrongTotal pages frame table number dir first total))
+
+-- a page of it that the index of another directory has, too
+pub record IsSharedIndexPage (pages : Pages) (frame : Frame) (table : Table) (home : Home) : Type 0
+  where
+    pub number : ℕ
+    pub dir : Tag
+    pub seen : SeenFile
+    pub first : Home
+    pub total : ℕ
+    pub has : HasIndex pages table number dir seen first total
+    pub other_number : ℕ
+    pub other : Tag
+    pub other_seen : SeenFile
+    pub other_first : Home
+    pub other_total : ℕ
+    pub also : HasIndex pages table other_number other other_seen other_first other_total
+    pub differ : ¬ (number, dir) ≡ (other_number, other)
+    pub one_place : ℕ
+    pub other_place : ℕ
+    pub page : List ℕ
+    pub in_one : IsRead pages frame (index_way first) one_place home page
+    pub in_other : IsRead pages frame (index_way other_first) other_place home page
+
+pub record IsWrongIndexPage (pages : Pages) (frame : Frame) (table : Table) (home : Home) : Type 0 where
+  pub number : ℕ
+  pub dir : Tag
+  pub seen : SeenFile
+  pub first : Home
+  pub total : ℕ
+  pub has : HasIndex pages table number dir seen first total
+  pub wrong : IsWrongIndex pages frame table number dir seen first total home
+
+abbrev pub IsIndexFault : Pages → Frame → Table → Home → Type 0
+IsIndexFault pages frame table home =
+    IsWrongIndexPage pages frame table home ⊎ IsSharedIndexPage pages frame table home

@@ -1,0 +1,12 @@
+pub mod Seen
+pub mod Shape
+pub mod Filled
+pub mod Read
+pub mod Layout
+pub mod Owners
+pub mod Reached
+pub mod CellRules
+pub mod TagRules
+pub mod PageRules
+pub mod DirectoryRules
+pub mod Faults

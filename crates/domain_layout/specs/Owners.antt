@@ -1,0 +1,83 @@
+-- To whom each page of a domain's volumes belongs.
+use Rattle.std.specs.Prelude.{◌≡◌, ◌⊎◌, ◌<◌, ℕ, List, ◌∷◌, [], true, Some, None, Option, Contains}
+use Rattle.domain_base.specs.declared.place.CellAt.{CellAt}
+use Rattle.domain_base.specs.declared.place.Home.{Home}
+use Rattle.page_store.specs.Pages.{Pages}
+use Rattle.record_table.specs.declared.record.Record.{Record}
+use Rattle.disk_label.specs.FirstPages.{first_pages}
+use Rattle.log_ring.specs.Homes.{IsLogPage, member_of}
+use Rattle.bmt_mcells.specs.Cell.{Cell, record_of}
+use Rattle.bmt_mcells.specs.Chain.{StandsAt}
+use Rattle.tag_dirs.specs.Directory.{has_home}
+use Rattle.tag_dirs.specs.TagPage.{next_of}
+use Rattle.extent_maps.specs.declared.run.PagePlace.TheVariants.{At}
+use Rattle.extent_records.specs.Writing.{IsMapRecord, places_in}
+use Rattle.bitfile_core.specs.Shown.{index_in}
+use Rattle.domain_layout.specs.Layout.{IsMember, Layout}
+
+-- what a page may be of: the first pages of a volume, which are its label, anchors and bitmap; the
+-- log; the fileset table; a table of cells; the tag directory of a slot; the index of the directory
+-- whose first cell this is; or a page of the file in one of whose cells it stands
+pub data Owner : Type 0 where
+  of_volume : Owner
+  of_log : Owner
+  of_table : Owner
+  of_cells : Owner
+  of_tags : ℕ → Owner
+  of_index : CellAt → ℕ → Owner
+  of_file : CellAt → ℕ → Owner
+
+-- a cell in use stands there, on a page of its volume's table
+pub record IsOnTable (pages : Pages) (layout : Layout) (at : CellAt) (cell : Cell) : Type 0 where
+  pub member : IsMember layout.anchor at.vol
+  pub table : Contains (layout.cells at.vol) at.page
+  pub stands : StandsAt pages at cell
+
+-- from one page of an index on, so many pages further stands the one at this home
+pub data IsIndexPage (pages : Pages) : Home → ℕ → Home → Type 0 where
+  here : (home : Home) → IsIndexPage pages home 0 home
+  behind : (home next last : Home) (number : ℕ) (page : List ℕ) → pages home ≡ Some page
+      → next_of page ≡ Some next → IsIndexPage pages next number last
+      → IsIndexPage pages home (number + 1) last
+
+-- a page with this number of the index that a cell in use names
+pub record HasIndexPage (pages : Pages) (layout : Layout) (at : CellAt) (number : ℕ) (home : Home)
+    : Type 0 where
+  pub cell : Cell
+  pub on : IsOnTable pages layout at cell
+  pub value : Record
+  pub there : record_of 9 cell.records ≡ Some value
+  pub first : Home
+  pub begins : index_in value ≡ Some first
+  pub is : IsIndexPage pages first number home
+
+-- a page of a file that a record of a cell in use says to stand there, whatever the file keeps
+pub record HasExtent (pages : Pages) (layout : Layout) (at : CellAt) (page : ℕ) (home : Home)
+    : Type 0 where
+  pub cell : Cell
+  pub on : IsOnTable pages layout at cell
+  pub value : Record
+  pub is_map : IsMapRecord value
+  pub among : Contains cell.records value
+  pub place : places_in value page ≡ At home
+
+-- the page at a home belongs to this owner
+abbrev pub BelongsTo : Pages → Layout → Owner → Home → Type 0
+BelongsTo pages layout Owner.of_volume home = IsMember layout.anchor home.vol
+    × (home.page < (first_pages layout.version (member_of layout.anchor home.vol).pages).cells)
+BelongsTo pages layout Owner.of_log home = IsLogPage layout.anchor home
+BelongsTo pages layout Owner.of_table home = layout.anchor.table ≡ Some home
+BelongsTo pages layout Owner.of_cells home =
+    IsMember layout.anchor home.vol × Contains (layout.cells home.vol) home.page
+BelongsTo pages layout (Owner.of_tags number) home = has_home (layout.tags number) home ≡ true
+BelongsTo pages layout (Owner.of_index at number) home = HasIndexPage pages layout at number home
+BelongsTo pages layout (Owner.of_file at page) home = HasExtent pages layout at page home
+
+-- it belongs to some owner
+abbrev pub IsOwned : Pages → Layout → Home → Type 0
+IsOwned pages layout home = (owner : Owner) × BelongsTo pages layout owner home
+
+-- no page has two owners
+abbrev pub IsOwnedOnce : Pages → Layout → Type 0
+IsOwnedOnce pages layout = (home : Home) (one other : Owner) → BelongsTo pages layout one home
+    → BelongsTo pages layout other home → one ≡ other

@@ -1,0 +1,91 @@
+-- Pages of one kind that lead from one to the next, and which of them are read.
+use Rattle.std.specs.Prelude.{◌≡◌, ◌==◌, ◌⊎◌, ◌<◌, ◌++◌, ℕ, Bool, true, List, [], ◌∷◌, length, Option, Some, None, IsSomeAnd, Contains, if◌then◌else◌}
+use Rattle.domain_base.specs.declared.place.Home.{Home}
+use Rattle.domain_base.specs.declared.version.Version.{Version}
+use Rattle.page_store.specs.Pages.{Pages}
+use Rattle.record_table.specs.Fields.{number_at}
+use Rattle.disk_label.specs.FirstPages.{first_pages}
+use Rattle.disk_label.specs.declared.anchor.Anchor.{Anchor}
+use Rattle.log_ring.specs.Homes.{IsLogPage, member_of}
+use Rattle.bmt_mcells.specs.CellPage.{is_cell_page, next_of}
+use Rattle.tag_dirs.specs.TagPage.{next_of as next_home}
+use Rattle.domain_layout.specs.Layout.{IsMember}
+
+-- the anchor that counts, and the version that it says
+pub record Frame : Type 0 where
+  pub anchor : Anchor
+  pub version : Version
+
+-- the first page of cells of a volume: in front of it stand label, anchors and bitmap
+abbrev pub first_cells : Frame → ℕ → ℕ
+first_cells frame vol = (first_pages frame.version (member_of frame.anchor vol).pages).cells
+
+-- a page of a member, and one of label, anchors, bitmap or log
+abbrev pub IsWithin : Frame → Home → Type 0
+IsWithin frame home = IsMember frame.anchor home.vol
+    × (home.page < (member_of frame.anchor home.vol).pages)
+
+abbrev pub IsReserved : Frame → Home → Type 0
+IsReserved frame home = (home.page < first_cells frame home.vol) ⊎ IsLogPage frame.anchor home
+
+-- a page that tables and files may have
+abbrev pub MayBe : Frame → Home → Type 0
+MayBe frame home = IsWithin frame home × ¬ IsReserved frame home
+
+-- a kind of pages: how they begin, what one leads to, and the first of them
+pub record Way : Type 0 where
+  pub begins_so : List ℕ → Bool
+  pub next : Home → List ℕ → Option Home
+  pub first : Home
+
+-- from the first page on, the pages that are read, and the one that is come to
+pub data Reaches (pages : Pages) (frame : Frame) (way : Way) : List Home → Home → Type 0 where
+  begins : Reaches pages frame way [] way.first
+  goes_on : (passed : List Home) (home onto : Home) (page : List ℕ)
+      → Reaches pages frame way passed home → MayBe frame home → ¬ Contains passed home
+      → pages home ≡ Some page → way.begins_so page ≡ true → way.next home page ≡ Some onto
+      → Reaches pages frame way (passed ++ home ∷ []) onto
+
+-- the page at this place is read: it may be there, is come to for the first time, and begins so
+pub record IsRead (pages : Pages) (frame : Frame) (way : Way) (place : ℕ) (home : Home)
+    (page : List ℕ) : Type 0 where
+  pub passed : List Home
+  pub reached : Reaches pages frame way passed home
+  pub may : MayBe frame home
+  pub fresh : ¬ Contains passed home
+  pub there : pages home ≡ Some page
+  pub begins : way.begins_so page ≡ true
+  pub at : length passed ≡ place
+
+-- a page is come to that is not read
+pub record IsUnread (pages : Pages) (frame : Frame) (way : Way) (home : Home) : Type 0 where
+  pub passed : List Home
+  pub reached : Reaches pages frame way passed home
+  pub wrong : ¬ MayBe frame home ⊎ Contains passed home
+      ⊎ ¬ IsSomeAnd (pages home) (λ page. way.begins_so page ≡ true)
+
+-- ** The kinds
+
+-- the pages of cells of a volume; page 0 is no next one
+abbrev pub cells_way : Frame → ℕ → Way
+cells_way frame vol = record {
+  begins_so = is_cell_page;
+  next = λ home page. if next_of page == 0 then None
+      else Some (record { vol = home.vol; page = next_of page });
+  first = record { vol = vol; page = first_cells frame vol };
+}
+
+-- the pages of a tag directory, and of an index, that begins at a home
+abbrev pub tags_way : Home → Way
+tags_way first = record {
+  begins_so = λ page. number_at 4 0 page == 0x50474154;
+  next = λ home page. next_home page;
+  first = first;
+}
+
+abbrev pub index_way : Home → Way
+index_way first = record {
+  begins_so = λ page. number_at 4 0 page == 0x58524944;
+  next = λ home page. next_home page;
+  first = first;
+}

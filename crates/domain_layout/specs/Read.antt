@@ -1,0 +1,30 @@
+-- The filesets that an image of a domain's volumes has.
+use Rattle.std.specs.Prelude.{◌≡◌, ℕ, List, [], Some, unwrap_or}
+use Rattle.domain_base.specs.declared.place.Home.{Home}
+use Rattle.page_store.specs.Pages.{Pages}
+use Rattle.volume_disk.specs.Image.{Image}
+use Rattle.disk_label.specs.declared.anchor.Anchor.{Anchor}
+use Rattle.log_ring.specs.Groups.{Group, HasLog, redone}
+use Rattle.fileset_model.specs.Filesets.{FilesetMap}
+use Rattle.domain_layout.specs.Shape.{HaveShapes, Shapes}
+use Rattle.domain_layout.specs.Filled.{AreFilled, Contents}
+
+-- the bytes of pages by their homes
+abbrev pub contents_of : Pages → Contents
+contents_of pages home = unwrap_or (pages home) []
+
+-- pages with the table at this home have these filesets
+pub record ReadsFrom (pages : Pages) (home : Home) (all : FilesetMap) : Type 0 where
+  pub shapes : Shapes
+  pub shaped : HaveShapes pages home shapes
+  pub filled : AreFilled (contents_of pages) shapes all
+
+-- an image of a rack with volumes of these sizes has these filesets: those of its pages once the
+-- groups of its log are redone
+pub record Reads (sizes : List ℕ) (image : Image) (all : FilesetMap) : Type 0 where
+  pub anchor : Anchor
+  pub groups : List Group
+  pub log : HasLog sizes anchor groups image
+  pub home : Home
+  pub table : anchor.table ≡ Some home
+  pub reads : ReadsFrom (redone groups image) home all

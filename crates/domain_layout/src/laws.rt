@@ -1,0 +1,23 @@
+//! Laws of what pages mean.
+ghost use Rattle.domain_base.specs.declared.place.Home.{Home};
+ghost use Rattle.page_store.specs.Pages.{Pages};
+ghost use Rattle.fileset_model.specs.Filesets.{FilesetMap};
+ghost use Rattle.fileset_model.specs.LooksLike.{LooksLike};
+ghost use Rattle.domain_layout.specs.Filled.{AreFilled, Contents};
+ghost use Rattle.fileset_model.specs.Orders.{Name};
+ghost use Rattle.domain_layout.specs.Shape.{HaveShapes, IsSameShapeThere, Shapes};
+
+/// Pages of metadata have one shape of each fileset at most, whatever the bytes of files are.
+pub fn one_shape()
+    ensures { (pages : Pages) (home : Home) (a b : Shapes) (name : Name)
+        → HaveShapes pages home a → HaveShapes pages home b
+        → IsSameShapeThere (a name) (b name) }
+{}
+
+/// Filesets of one shape that are filled from the same contents look alike: no reply tells them
+/// apart.
+pub fn one_filling()
+    ensures { (pages : Pages) (home : Home) (contents : Contents) (shapes : Shapes)
+        (all other : FilesetMap) → HaveShapes pages home shapes → AreFilled contents shapes all
+        → AreFilled contents shapes other → LooksLike all other }
+{}
