@@ -1,9 +1,12 @@
 //! What forces and checkpoints leave.
 
 use crate::counting::{CountRack, Counts, NO_CALLS};
-use crate::logs::{Appended, Seen, append, append_run, bring_home, force, leaves, started};
-use domain_base::{OutOfMemory, VolIx};
-use meta_log::MetaLog;
+use crate::logs::{
+    Appended, Seen, append, append_run, bring_home, faults_of, force, leaves, move_home, started,
+    started_on,
+};
+use domain_base::OutOfMemory;
+use meta_log::{LogFull, MetaLog};
 use std::alloc::Global;
 use std::test::Fail;
 use volume_disk::Rack;
@@ -152,6 +155,39 @@ fn a_stop_within_a_checkpoint_changes_no_redone_page(rt: HostRuntime) -> Result<
 }
 
 #[test]
+fn a_log_goes_to_another_volume(rt: HostRuntime) -> Result<(), Fail> {
+    let (mut rack, mut log) = started_on(rt.alloc(), &[160, 80, 140], 126, &[])?;
+    let logged = log_all(&mut rack, &mut log, rt.alloc())?;
+    let begin = rack.calls();
+    let brought = move_home(&mut log, &mut rack, 140);
+    let end = rack.calls();
+    let during = leaves(&rack, rt.alloc(), (begin, end), (STAGES[3], HOME))?;
+    let last = (end, end.saturating_add(1));
+    let after = leaves(&rack, rt.alloc(), last, (HOME, HOME))?;
+    assert_eq!(rt; (logged, brought, during, after), (true, Ok(2), true, true));
+    let anchor = log.anchor();
+    assert_eq!(rt;
+        (anchor.log_vol, anchor.start, anchor.group, anchor.slot),
+        (3, 0, 12, 0)
+    );
+    let one = Seen {
+        groups: 1,
+        bytes: [1, 2, 4],
+    };
+    let next = log_well(&mut rack, &mut log, rt.alloc(), GROUPS[0], 12, (HOME, one))?;
+    assert_eq!(rt; next, [true; 3]);
+    Ok(())
+}
+
+#[test]
+fn a_full_log_says_so(rt: HostRuntime) -> Result<(), Fail> {
+    let full = LogFull;
+    let text = format!(in rt.alloc(); "{full}")?;
+    assert_eq!(rt; text.as_str(), "the log has no place for the change");
+    Ok(())
+}
+
+#[test]
 fn a_group_has_60_images_at_most(rt: HostRuntime) -> Result<(), Fail> {
     let (mut rack, mut log) = started(rt.alloc(), 0, &[])?;
     let appended = [(10, 30), (40, 30), (70, 1), (10, 32), (30, 32), (9, 31)].map(|(
@@ -240,13 +276,6 @@ fn run_until_fault(
     match bring_home(log, rack) {
         Ok(_) => Ok((3, true, 0)),
         Err(vol) => Ok((3, false, vol)),
-    }
-}
-
-fn faults_of<R: Rack>(rack: &R, vol: u32) -> u64 {
-    match VolIx::new(vol) {
-        Some(vol) => rack.write_faults(vol),
-        None => 0,
     }
 }
 

@@ -2,6 +2,8 @@
 //! wherever a stop comes.
 #![tactic(auto)]
 
+#[cfg(test)]
+mod changes;
 mod counting;
 #[cfg(test)]
 mod forces;
@@ -9,3 +11,5 @@ mod forces;
 mod logs;
 #[cfg(test)]
 mod recoveries;
+#[cfg(test)]
+mod settlings;

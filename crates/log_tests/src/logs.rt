@@ -215,6 +215,44 @@ pub fn append_run(
     append(log, alloc, &pages)
 }
 
+/// The log's anchor with volume 3 as one more member, of so many pages, and the log on it.
+fn moved(old: &Anchor, pages: u32) -> Anchor {
+    let [first, second, _third, ..] = old.members;
+    let open = Member { pages, state: 1 };
+    Anchor {
+        log_vol: 3,
+        members: [first, second, open, NONE, NONE, NONE, NONE, NONE],
+        ..*old
+    }
+}
+
+/// Whether a log may be brought home for an anchor whose log is on a volume that was no member.
+fn may_move<R: Rack>(log: &MetaLog, rack: &R, anchor: &Anchor) -> bool
+    ensures { IsTrue result → MayBringHome (R.disk rack.now) log.now anchor.now }
+{
+    let _room = log.room();
+    let Some(vol) = VolIx::new(anchor.log_vol) else {
+        return false;
+    };
+    let was = log.anchor().members[vol.index()];
+    was.state == 0
+        && !log.is_pending()
+        && log.anchor().number < 1 << 60
+        && is_whole(anchor)
+        && has_ring(rack, anchor)
+        && has_members(rack, log.anchor())
+}
+
+/// Brings a log home and moves it to volume 3: the number of the anchor, or the volume of which a
+/// call failed. 0 where that may not be called.
+pub fn move_home(log: &mut MetaLog, rack: &mut CountRack, pages: u32) -> Result<u64, u32> {
+    let anchor = moved(log.anchor(), pages);
+    if !may_move(log, rack, &anchor) {
+        return Ok(0);
+    }
+    log.checkpoint(rack, &anchor).map_err(|vol| vol.number())
+}
+
 // Racks.
 
 fn write_first<R: Rack>(rack: &mut R, anchor: &Anchor) -> bool
@@ -230,7 +268,7 @@ fn write_first<R: Rack>(rack: &mut R, anchor: &Anchor) -> bool
 }
 
 fn write_labels<R: Rack>(rack: &mut R) {
-    for number in 1..3 {
+    for number in 1..4 {
         let Some(vol) = VolIx::new(number) else {
             return;
         };
@@ -247,7 +285,17 @@ pub fn started(
     start: u32,
     fails: &[u64],
 ) -> Result<(CountRack, MetaLog), OutOfMemory> {
-    let rack = MemoryRack::new(alloc, &SIZES, fails, true)?;
+    started_on(alloc, &SIZES, start, fails)
+}
+
+/// The same on volumes of these sizes, of which the first two are members.
+pub fn started_on(
+    alloc: Global,
+    sizes: &[u32],
+    start: u32,
+    fails: &[u64],
+) -> Result<(CountRack, MetaLog), OutOfMemory> {
+    let rack = MemoryRack::new(alloc, sizes, fails, true)?;
     let mut rack = CountRack {
         rack,
         counts: NO_CALLS,
@@ -310,6 +358,14 @@ fn byte_redone<R: Rack>(rack: &mut R, images: &[PageImage], page: u32) -> u8 {
     }
 }
 
+/// How many writes and syncs of a volume failed; 0 where there is no such volume.
+pub fn faults_of<R: Rack>(rack: &R, vol: u32) -> u64 {
+    match VolIx::new(vol) {
+        Some(vol) => rack.write_faults(vol),
+        None => 0,
+    }
+}
+
 /// What is seen on a rack.
 pub fn look_at(rack: &mut MemoryRack, alloc: Global) -> Seen {
     match recover(alloc, rack) {
@@ -340,8 +396,19 @@ pub fn leaves(
     calls: (u64, u64),
     allowed: (Seen, Seen),
 ) -> Result<bool, OutOfMemory> {
+    leaves_by(8, rack, alloc, calls, allowed)
+}
+
+/// The same by so many picks, from 0 on.
+pub fn leaves_by(
+    picks: u64,
+    rack: &CountRack,
+    alloc: Global,
+    calls: (u64, u64),
+    allowed: (Seen, Seen),
+) -> Result<bool, OutOfMemory> {
     for call in calls.0..calls.1 {
-        for pick in 0..8 {
+        for pick in 0..picks {
             let found = left(rack, alloc, call, pick)?;
             if found != allowed.0 && found != allowed.1 {
                 return Ok(false);

@@ -1,12 +1,11 @@
-//! What recovery finds of groups that were written by hand, and what settling leaves.
+//! What recovery finds of groups that were written by hand.
 
-use crate::counting::{CountRack, NO_CALLS};
-use crate::logs::{Seen, leaves, look_at, started};
-use disk_label::ready_slot;
+use crate::counting::CountRack;
+use crate::logs::{Seen, look_at, started};
 use domain_base::gate::open_block;
 use domain_base::limits::{BLOCKS_PER_PAGE, LOG_PAGES, PAGE_BYTES};
 use domain_base::{OutOfMemory, Page, VolIx};
-use log_recovery::{RecoverFault, recover, settle};
+use log_recovery::{RecoverFault, recover};
 use std::alloc::Global;
 use std::test::Fail;
 use volume_disk::{Rack, read_blocks};
@@ -40,12 +39,12 @@ static GROUPS: [ByHand; 3] = [
 ];
 
 /// What is seen of them, and the same once they are home.
-const REDONE: Seen = Seen {
+pub const REDONE: Seen = Seen {
     groups: 3,
     bytes: [3, 2, 5],
 };
 
-const HOME: Seen = Seen {
+pub const HOME: Seen = Seen {
     groups: 0,
     bytes: [3, 2, 5],
 };
@@ -53,14 +52,14 @@ const HOME: Seen = Seen {
 /// What recovery answers: the number and the place of the next group and how many images there are;
 /// the volume and page at which there is no domain; or the volume of which a read failed.
 #[derive(Clone, Copy, Debug, PartialEq, Eq)]
-enum Answer {
+pub enum Answer {
     Log(u64, u32, usize),
     NoDomain(u32, u32),
     Unread(u32),
     NoMemory,
 }
 
-fn found<R: Rack>(rack: &mut R, alloc: Global) -> Answer {
+pub fn found<R: Rack>(rack: &mut R, alloc: Global) -> Answer {
     match recover(alloc, rack) {
         Ok(redone) => Answer::Log(
             redone.next_group,
@@ -133,7 +132,7 @@ fn put_group(
 }
 
 /// A rack with the three groups, on which these calls fail.
-fn by_hand(alloc: Global, fails: &[u64]) -> Result<CountRack, OutOfMemory> {
+pub fn by_hand(alloc: Global, fails: &[u64]) -> Result<CountRack, OutOfMemory> {
     let (mut rack, _log) = started(alloc, 126, fails)?;
     let mut place = 126;
     for group in GROUPS.iter() {
@@ -257,15 +256,18 @@ fn put_byte(
 
 /// Bytes of labels and anchors that make a domain none: the volume, the page, the byte's place, the
 /// byte, and where there is said to be none.
-static BYTES: [(u32, u32, usize, u8, Answer); 13] = [
+static BYTES: [(u32, u32, usize, u8, Answer); 16] = [
     // the labels: their first byte, another version, volume, number of pages and of bitmap pages
     (1, 0, 0, 0, Answer::NoDomain(1, 0)),
     (2, 0, 8, 4, Answer::NoDomain(2, 0)),
     (2, 0, 12, 1, Answer::NoDomain(2, 0)),
     (2, 0, 16, 79, Answer::NoDomain(2, 0)),
     (2, 0, 20, 2, Answer::NoDomain(2, 0)),
-    // the anchor: its gate, version, first page, pages, start, group, table, a state, a number
+    // the anchor: its gate, number, version, first page, pages, start, group, table and a state
     (1, 1, 0, 0, Answer::NoDomain(1, 1)),
+    (1, 1, 512, 0, Answer::NoDomain(1, 1)),
+    (1, 1, 519, 128, Answer::NoDomain(1, 1)),
+    (1, 1, 520, 5, Answer::NoDomain(1, 1)),
     (1, 1, 528, 2, Answer::NoDomain(1, 1)),
     (1, 1, 528, 33, Answer::NoDomain(1, 1)),
     (1, 1, 532, 127, Answer::NoDomain(1, 1)),
@@ -282,6 +284,98 @@ fn labels_and_anchors_out_of_order_are_no_domain(rt: HostRuntime) -> Result<(), 
         put_byte(&mut rack, rt.alloc(), case.0, case.1, case.2, case.3)?;
         assert_eq!(rt; found(&mut rack, rt.alloc()), case.4);
     }
+    Ok(())
+}
+
+/// Bytes that are changed together, by volume, page and place, and what is found of the three
+/// groups then.
+static TOGETHER: [(&[(u32, u32, usize, u8)], Answer); 9] = [
+    // a closed member is one: it has homes and a label. One of no state is none.
+    (&[(1, 1, 572, 2)], Answer::Log(12, 6, 5)),
+    (&[(1, 1, 572, 2), (2, 0, 0, 0)], Answer::NoDomain(2, 0)),
+    (&[(1, 1, 572, 0)], Answer::NoDomain(1, 132)),
+    // under version 4 labels of both versions pass
+    (&[(1, 1, 520, 4)], Answer::Log(12, 6, 5)),
+    (&[(1, 1, 520, 4), (2, 0, 8, 4)], Answer::Log(12, 6, 5)),
+    (
+        &[(1, 1, 520, 4), (1, 0, 8, 4), (2, 0, 8, 4)],
+        Answer::Log(12, 6, 5),
+    ),
+    // so they do under another version, which is out of range itself
+    (&[(1, 1, 520, 5), (2, 0, 8, 4)], Answer::NoDomain(1, 1)),
+    // labels come before the range, and that before groups
+    (&[(1, 1, 536, 128), (2, 0, 0, 0)], Answer::NoDomain(2, 0)),
+    (
+        &[(1, 1, 551, 128), (1, 132, 512, 8)],
+        Answer::NoDomain(1, 1),
+    ),
+];
+
+#[test]
+fn members_versions_and_the_order_of_rules(rt: HostRuntime) -> Result<(), Fail> {
+    for case in TOGETHER.iter() {
+        let mut rack = by_hand(rt.alloc(), &[])?;
+        for (vol, page, at, byte) in case.0.iter() {
+            put_byte(&mut rack, rt.alloc(), *vol, *page, *at, *byte)?;
+        }
+        assert_eq!(rt; found(&mut rack, rt.alloc()), case.1);
+    }
+    Ok(())
+}
+
+/// What is found of a group of so many images.
+fn found_first(alloc: Global, count: u32) -> Result<Answer, OutOfMemory> {
+    let (mut rack, _log) = started(alloc, 100, &[])?;
+    let homes = run_of(alloc, count)?;
+    put_place(&mut rack, 100, header_of(alloc, 9, &homes)?.bytes());
+    Ok(found(&mut rack, alloc))
+}
+
+#[test]
+fn a_group_of_61_images_is_no_domain(rt: HostRuntime) -> Result<(), Fail> {
+    assert_eq!(rt; found_first(rt.alloc(), 60)?, Answer::Log(10, 33, 60));
+    assert_eq!(rt; found_first(rt.alloc(), 61)?, Answer::NoDomain(1, 106));
+    Ok(())
+}
+
+/// The last number that a group may have.
+const LAST_NUMBER: u64 = (1 << 63) - 1;
+
+/// A rack whose anchor says this number of its first group, with that group.
+fn at_the_end(alloc: Global) -> Result<CountRack, OutOfMemory> {
+    let (mut rack, _log) = started(alloc, 126, &[])?;
+    let mut at = 544;
+    for byte in LAST_NUMBER.to_le_bytes() {
+        put_byte(&mut rack, alloc, 1, 1, at, byte)?;
+        at = at.saturating_add(1);
+    }
+    let last = ByHand {
+        number: LAST_NUMBER,
+        ..GROUPS[0]
+    };
+    let _ = put_group(&mut rack, alloc, 126, &last)?;
+    Ok(rack)
+}
+
+/// Whether a log is recovered that has no number left.
+fn has_no_number_left<R: Rack>(rack: &mut R, alloc: Global) -> bool {
+    match recover(alloc, rack) {
+        Ok(redone) => !redone.has_numbers_left(),
+        Err(_) => false,
+    }
+}
+
+#[test]
+fn numbers_end_below_the_highest_bit(rt: HostRuntime) -> Result<(), Fail> {
+    let mut rack = at_the_end(rt.alloc())?;
+    assert_eq!(rt; found(&mut rack, rt.alloc()), Answer::Log(1 << 63, 0, 1));
+    assert!(rt; has_no_number_left(&mut rack, rt.alloc()));
+    let past = ByHand {
+        number: 1 << 63,
+        ..GROUPS[1]
+    };
+    let _ = put_group(&mut rack, rt.alloc(), 128, &past)?;
+    assert_eq!(rt; found(&mut rack, rt.alloc()), Answer::NoDomain(1, 6));
     Ok(())
 }
 
@@ -305,83 +399,6 @@ fn each_read_that_fails_is_named(rt: HostRuntime) -> Result<(), Fail> {
     for call in start..rack.calls() {
         let failing = call.saturating_add(1);
         assert!(rt; fails_well(rt.alloc(), failing)?);
-    }
-    Ok(())
-}
-
-// Settling.
-
-/// Makes both slots of volume 1 ready: whether that passes.
-fn make_ready(rack: &mut CountRack) -> bool {
-    let Some(vol) = VolIx::new(1) else {
-        return false;
-    };
-    if rack.volumes() < 1 || rack.pages(vol) < 2 {
-        return false;
-    }
-    if ready_slot(rack, vol, 0).is_err() {
-        return false;
-    }
-    rack.volumes() >= 1 && rack.pages(vol) >= 2 && ready_slot(rack, vol, 1).is_ok()
-}
-
-/// Recovers a log and settles it: whether that passes.
-fn settle_log(rack: &mut CountRack, alloc: Global) -> bool {
-    match recover(alloc, rack) {
-        Ok(redone) => settle(rack, &redone).is_ok(),
-        Err(_) => false,
-    }
-}
-
-/// A rack that starts again on what a stop right after a call leaves.
-fn again(rack: &CountRack, alloc: Global, call: u64, pick: u64) -> Result<CountRack, OutOfMemory> {
-    if !rack.rack.keeps_calls() || call > rack.rack.calls() {
-        return Ok(started(alloc, 0, &[])?.0);
-    }
-    Ok(CountRack {
-        rack: rack.rack.image(alloc, call, pick)?,
-        counts: NO_CALLS,
-    })
-}
-
-#[test]
-fn a_stop_within_settling_changes_no_redone_page(rt: HostRuntime) -> Result<(), Fail> {
-    let alloc = rt.alloc();
-    let mut rack = by_hand(alloc, &[])?;
-    let ready = make_ready(&mut rack);
-    let start = rack.calls();
-    let settled = settle_log(&mut rack, alloc);
-    let end = rack.calls();
-    let during = leaves(&rack, alloc, (start, end), (REDONE, HOME))?;
-    let last = (end, end.saturating_add(1));
-    let after = leaves(&rack, alloc, last, (HOME, HOME))?;
-    assert_eq!(rt; [ready, settled, during, after], [true; 4]);
-    Ok(())
-}
-
-/// Whether a log that is settled again after a stop is home then, and so is what a stop leaves.
-fn settles_again(rack: &CountRack, alloc: Global, call: u64) -> Result<bool, OutOfMemory> {
-    for pick in 1..4 {
-        let mut second = again(rack, alloc, call, pick)?;
-        let done = make_ready(&mut second) && settle_log(&mut second, alloc);
-        let end = second.calls();
-        let last = (end, end.saturating_add(1));
-        if !done || !leaves(&second, alloc, last, (HOME, HOME))? {
-            return Ok(false);
-        }
-    }
-    Ok(true)
-}
-
-#[test]
-fn a_second_stop_changes_no_redone_page(rt: HostRuntime) -> Result<(), Fail> {
-    let alloc = rt.alloc();
-    let mut rack = by_hand(alloc, &[])?;
-    let _ = make_ready(&mut rack);
-    let start = rack.calls();
-    let _ = settle_log(&mut rack, alloc);
-    for call in start..rack.calls() {
-        assert!(rt; settles_again(&rack, alloc, call)?);
     }
     Ok(())
 }
