@@ -3,4 +3,4 @@
 
 #[cfg(test)]
 mod files;
-mod world;
+pub mod world;

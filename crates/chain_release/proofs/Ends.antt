@@ -1,0 +1,38 @@
+-- Where the pages of a map end.
+use Rattle.std.proofs.Common.{◌≡◌, ◌∙◌, ℕ, zero, ◌+◌, ◌-◌, ◌<◌, ◌≤◌, List, [], ◌∷◌, length, get_or, suc, refl, sym, ap, subst, arith}
+use Rattle.std.specs.List.{AllByRecursion}
+use Rattle.extent_maps.specs.declared.run.Run.{Run}
+use Rattle.extent_maps.specs.declared.run.PagePlace.TheVariants.{Absent}
+use Rattle.extent_maps.specs.Runs.{AreRuns, Has, IsRun, end_of, place_of}
+use Rattle.extent_maps.proofs.EditLemmas.{never_absent}
+use Rattle.extent_maps.proofs.RunLemmas.{absent_between, all_drop, all_take, is_run_at, place_at, rising}
+
+module _ (runs : List Run) (last : ℕ) (d : Run) (are : AreRuns runs) (is_last : last + 1 ≡ length runs) where
+  within : last < length runs
+  within = omega (arith, is_last)
+
+  pub end_behind : (page : ℕ) → end_of (get_or runs last d) ≤ page → place_of runs page ≡ Absent
+  end_behind page behind =
+      let run = is_run_at runs last d are within in
+      absent_between runs last d page are within
+      (all_take (λ (r : Run). r.page ≤ page) runs (suc last) (λ k e less.
+      omega (arith, behind, run.some, rising runs k last e are (omega (arith, less)) within, first_same k e)) (omega (arith, within)))
+      (all_drop (λ (r : Run). page < r.page) runs (suc last) (λ k e from below. absurd (omega (arith, from, below, is_last))) (omega (arith, within)))
+      behind
+    where
+      first_same : (k : ℕ) (e : Run) → (get_or runs last e).page ≡ (get_or runs last d).page
+      first_same k e = ap (λ (r : Run). r.page) (default_same runs last e d within)
+        where
+          default_same : (xs : List Run) (k : ℕ) (a b : Run) → k < length xs → get_or xs k a ≡ get_or xs k b
+          default_same [] k a b below = absurd (omega (arith, below))
+          default_same (x ∷ xs) zero a b below = refl
+          default_same (x ∷ xs) (suc k) a b below = default_same xs k a b (omega (arith, below))
+
+  pub end_there : place_of runs (end_of (get_or runs last d) - 1) ≡ Absent → ⊥
+  end_there none =
+      let run = is_run_at runs last d are within in
+      let has : Has (end_of (get_or runs last d) - 1) (get_or runs last d) = record { is_run = run; begins = omega (arith, run.some); ends = omega (arith, run.some) } in
+      never_absent _ (sym (place_at runs last d (end_of (get_or runs last d) - 1) are within has) ∙ none)
+
+  pub end_small : end_of (get_or runs last d) ≤ 65536
+  end_small = (is_run_at runs last d are within).ends

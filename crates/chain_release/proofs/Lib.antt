@@ -1,0 +1,5 @@
+pub mod Chains
+pub mod Cuts
+pub mod Ends
+pub mod Found
+pub mod Given

@@ -1,0 +1,4 @@
+pub mod Reading
+pub mod Releases
+pub mod Sharing
+pub mod Steps

@@ -1,0 +1,68 @@
+-- A file, and the clone's file that reads through it if there is one.
+use Rattle.std.specs.Prelude.{◌≡◌, ◌≤◌, ℕ, Bool, List, [], ◌∷◌, Option, Some, None, Contains}
+use Rattle.std.specs.List.{AllByRecursion}
+use Rattle.domain_base.specs.declared.place.CellAt.{CellAt}
+use Rattle.domain_base.specs.declared.place.Home.{Home}
+use Rattle.page_store.specs.Pages.{Pages}
+use Rattle.bmt_mcells.specs.Chain.{PlacedCell, places}
+use Rattle.extent_maps.specs.declared.run.PagePlace.TheVariants.{Absent, At}
+use Rattle.free_cells.specs.Cells.{Cells, table_of}
+use Rattle.free_space.specs.Spaces.{IsHeld, Spaces}
+use Rattle.bitfile_cells.specs.FileChanges.{AreOnTables}
+use Rattle.bitfile_cells.specs.Files.{IsFile, places_of}
+use Rattle.chain_release.specs.declared.reader.Reader.{Reader}
+
+-- the chain of the file that reads through another, and no cell where there is none
+abbrev pub IsReader : Pages → Option Reader → List PlacedCell → Type 0
+IsReader pages None own = own ≡ []
+IsReader pages (Some reader) own = IsFile pages reader.at own
+
+-- how many pages were frozen for it
+abbrev pub frozen_of : Option Reader → ℕ
+frozen_of None = 0
+frozen_of (Some reader) = reader.frozen
+
+-- no cell is in both chains
+abbrev pub ShareNoCell : List PlacedCell → List PlacedCell → Type 0
+ShareNoCell xs ys = (at : CellAt) → Contains (places xs) at → ¬ Contains (places ys) at
+
+-- a page that is used, does not wait, and is none of cells
+pub record IsHeldApart (space : Spaces) (cells : Cells) (home : Home) : Type 0 where
+  pub held : IsHeld space home.vol home.page
+  pub off_table : ¬ Contains (table_of cells home.vol) home.page
+
+-- the chains of a file and of its reader stand on their volumes' tables and share no cell; each home
+-- of the file is held and none of cells, and that of no other page of the two
+pub record AreSharing (start : CellAt) (reader : Option Reader) (space : Spaces) (cells : Cells)
+    (pages : Pages) (chain own : List PlacedCell) : Type 0 where
+  pub file : IsFile pages start chain
+  pub reads : IsReader pages reader own
+  pub on_tables : AreOnTables cells chain
+  pub own_on_tables : AreOnTables cells own
+  pub apart : ShareNoCell chain own
+  pub held : (page : ℕ) (home : Home) → places_of chain page ≡ At home
+      → IsHeldApart space cells home
+  pub once : (p q : ℕ) (home : Home) → places_of chain p ≡ At home → places_of chain q ≡ At home
+      → p ≡ q
+  pub not_own : (p q : ℕ) (home : Home) → places_of chain p ≡ At home
+      → ¬ places_of own q ≡ At home
+
+-- some chains do
+abbrev pub HasSharing : CellAt → Option Reader → Spaces → Cells → Pages → Type 0
+HasSharing start reader space cells pages = (chain : List PlacedCell) × (own : List PlacedCell)
+    × AreSharing start reader space cells pages chain own
+
+-- a cell says where some page stands
+pub record HasPages (c : PlacedCell) : Type 0 where
+  pub page : ℕ
+  pub there : ¬ places_of (c ∷ []) page ≡ Absent
+
+-- each cell of a chain but the first does
+abbrev pub LaterHavePages : List PlacedCell → Type 0
+LaterHavePages [] = Unit {0}
+LaterHavePages (first ∷ rest) = AllByRecursion HasPages rest
+
+-- a chain has let go of all its pages from one on, and of all cells that say of none where it stands
+pub record IsReleased (from : ℕ) (chain : List PlacedCell) : Type 0 where
+  pub absent : (page : ℕ) → from ≤ page → places_of chain page ≡ Absent
+  pub later : LaterHavePages chain

@@ -1,0 +1,317 @@
+//! The steps in which a file lets go of its pages and cells.
+ghost use Rattle.std.specs.Prelude.{◌≡◌, ◌∷◌, ◌+◌, ◌<◌, ◌≤◌, ◌↔◌, [], ℕ, IfErr, IfOk, IfSome, List, OnErr, OnOk, Contains};
+ghost use Rattle.domain_base.specs.declared.place.CellAt.{CellAt as CellAtOf};
+ghost use Rattle.page_store.specs.declared.fault.StoreFault.TheVariants.{NoPage};
+ghost use Rattle.bmt_mcells.specs.Chain.{LeavesOthers, PlacedCell, is_at};
+ghost use Rattle.extent_maps.specs.declared.run.PagePlace.TheVariants.{Absent, At};
+ghost use Rattle.extent_maps.specs.Runs.{place_of};
+ghost use Rattle.free_cells.specs.Cells.{FreesCell, table_of};
+ghost use Rattle.free_space.specs.Spaces.{Spaces};
+ghost use Rattle.bitfile_cells.specs.Allocated.{AreAllocated, FindsNone};
+ghost use Rattle.bitfile_cells.specs.FileChanges.{LeavesOtherCells};
+ghost use Rattle.bitfile_cells.specs.Files.{IsFile, places_of};
+ghost use Rattle.bitfile_cells.specs.MapChanges.{LeavesOffTables, NoneTakes};
+ghost use Rattle.chain_release.specs.declared.released.Released.TheVariants as released;
+ghost use Rattle.chain_release.specs.Releases.{LacksPlace, LeavesBoth, Releases};
+ghost use Rattle.chain_release.specs.Sharing.{AreSharing, HasSharing, IsReleased, frozen_of};
+ghost use Rattle.chain_release.specs.Steps.{HandsOver, IsPlan, IsPlanned, IsStaleCell, MayHandOver, MayPlan, PassesOn, went};
+
+use crate::edits::{ChainEdit, edit_for, write_edit};
+use crate::giving_back::{give_back_from, use_of};
+use crate::reader::{Reader, frozen_pages, reader_map};
+use crate::released::Released;
+use crate::stale::{Stale, cell_map, find_stale};
+use crate::tail::{Tail, tail_of};
+use bitfile_cells::put_page;
+use domain_base::limits::FILE_PAGES;
+use domain_base::{CellAt, Home, OutOfMemory, Version};
+use extent_maps::ExtentMap;
+use free_cells::FreeCells;
+use free_space::{FreeSpace, PageUse};
+use page_store::{MetaPages, StoreFault};
+use std::alloc::Global;
+
+/// What is let go of in a step: the tail of the pages of one cell's record, whose map it is, and
+/// what is written of the chain then.
+#[derive(Drop)]
+pub struct Plan {
+    pub map: ExtentMap,
+    pub tail: Tail,
+    pub edit: ChainEdit,
+}
+
+/// What goes of a cell in one step. It takes all memory that the step wants but for what is handed
+/// over.
+fn plan_step<M: MetaPages>(
+    alloc: Global,
+    pages: &M,
+    stale: &Stale,
+    from: u32,
+    reader: &Option<Reader>,
+) -> Result<Plan, OutOfMemory>
+    requires { (chain : List PlacedCell) × (own : List PlacedCell)
+        × MayPlan from reader.now stale.now (M.pages pages.now) chain own }
+    ensures { (chain own : List PlacedCell)
+        → MayPlan from reader.now stale.now (M.pages pages.now) chain own
+        → IfOk result (IsPlan from (frozen_of reader.now) chain own stale.now) }
+{
+    let own = reader_map(alloc, pages, reader)?;
+    let map = cell_map(alloc, pages, &stale.at)?;
+    let tail = tail_of(&map, &own, from, frozen_pages(reader));
+    let edit = edit_for(alloc, pages, stale, tail.from)?;
+    Ok(Plan { map, tail, edit })
+}
+
+/// Puts a page in a reader's chain.
+fn hand_over<M: MetaPages>(
+    alloc: Global,
+    pages: &mut M,
+    space: &mut FreeSpace,
+    cells: &mut FreeCells,
+    reader: &Option<Reader>,
+    page: u32,
+    home: Home,
+    version: Version,
+) -> Result<(), StoreFault>
+    requires allocated { AreAllocated space.old cells.old (M.pages pages.old) }
+    requires may { (own : List PlacedCell)
+        × MayHandOver page reader.now cells.old (M.pages pages.old) own }
+    requires small { page < FILE_PAGES }
+    ensures ok { (own : List PlacedCell)
+        → MayHandOver page reader.now cells.old (M.pages pages.old) own
+        → OnOk result (IfSome reader.now (λ r. HandsOver page home r.at own version space.old
+        space.new cells.old cells.new (M.pages pages.old) (M.pages pages.new))) }
+    ensures err { IfErr result (FindsNone space.old space.new cells.old) }
+    ensures full { (own : List PlacedCell)
+        → MayHandOver page reader.now cells.old (M.pages pages.old) own
+        → IfErr result (λ fault. fault ≡ NoPage → NoneTakes page (At home) own) }
+    ensures cells { OnErr result (cells.new ≡ cells.old) }
+    ensures pages { OnErr result (M.pages pages.new ≡ M.pages pages.old) }
+    ensures allocated { AreAllocated space.new cells.new (M.pages pages.new) }
+    ensures others { (own : List PlacedCell)
+        → MayHandOver page reader.now cells.old (M.pages pages.old) own
+        → LeavesOtherCells cells.old own (M.pages pages.old) (M.pages pages.new) }
+    ensures elsewhere { LeavesOffTables cells.new (M.pages pages.old) (M.pages pages.new) }
+    ensures room { M.room pages.old ≤ M.room pages.new + 1 }
+{
+    match reader {
+        Some(reader) => put_page(
+            alloc, pages, space, cells, reader.at, page, home, version, home.vol,
+        ),
+        None => Ok(()),
+    }
+}
+
+/// Hands the tail over to the reader, or gives it back.
+fn pass_on<M: MetaPages>(
+    alloc: Global,
+    pages: &mut M,
+    space: &mut FreeSpace,
+    cells: &mut FreeCells,
+    plan: &Plan,
+    reader: &Option<Reader>,
+    kind: PageUse,
+    group: u64,
+    version: Version,
+) -> Result<(), StoreFault>
+    requires allocated { AreAllocated space.old cells.old (M.pages pages.old) }
+    requires planned { (from : ℕ) × (start : CellAtOf) × (chain : List PlacedCell)
+        × (own : List PlacedCell) × IsPlanned from start reader.now plan.now space.old cells.old
+        (M.pages pages.old) chain own }
+    ensures ok { (from : ℕ) (start : CellAtOf) (chain own : List PlacedCell)
+        → IsPlanned from start reader.now plan.now space.old cells.old (M.pages pages.old) chain own
+        → OnOk result (PassesOn plan.now.tail (place_of plan.now.map) reader.now own kind group
+        version space.old space.new cells.old cells.new (M.pages pages.old) (M.pages pages.new)) }
+    ensures err { IfErr result (FindsNone space.old space.new cells.old) }
+    ensures full { (from : ℕ) (start : CellAtOf) (chain own : List PlacedCell)
+        → IsPlanned from start reader.now plan.now space.old cells.old (M.pages pages.old) chain own
+        → IfErr result (λ fault. fault ≡ NoPage
+        → LacksPlace from (frozen_of reader.now) chain own) }
+    ensures cells { OnErr result (cells.new ≡ cells.old) }
+    ensures pages { OnErr result (M.pages pages.new ≡ M.pages pages.old) }
+    ensures allocated { AreAllocated space.new cells.new (M.pages pages.new) }
+    ensures others { (from : ℕ) (start : CellAtOf) (chain own : List PlacedCell)
+        → IsPlanned from start reader.now plan.now space.old cells.old (M.pages pages.old) chain own
+        → LeavesOtherCells cells.old own (M.pages pages.old) (M.pages pages.new) }
+    ensures elsewhere { LeavesOffTables cells.new (M.pages pages.old) (M.pages pages.new) }
+    ensures room { M.room pages.old ≤ M.room pages.new + 1 }
+{
+    match plan.tail.home {
+        Some(home) => hand_over(
+            alloc, pages, space, cells, reader, plan.tail.from, home, version,
+        ),
+        None => {
+            give_back_from(space, &plan.map, plan.tail.from, kind, group);
+            Ok(())
+        }
+    }
+}
+
+/// What a written edit let go of.
+fn what_went(edit: &ChainEdit) -> Released
+    ensures { result ≡ went edit.now.freed }
+{
+    match edit.freed {
+        Some(_) => Released::Cell,
+        None => Released::Pages,
+    }
+}
+
+/// Lets go of what was planned.
+fn carry_out<M: MetaPages>(
+    alloc: Global,
+    pages: &mut M,
+    space: &mut FreeSpace,
+    cells: &mut FreeCells,
+    start: &CellAt,
+    plan: &Plan,
+    reader: &Option<Reader>,
+    group: u64,
+    version: Version,
+) -> Result<Released, StoreFault>
+    requires allocated { AreAllocated space.old cells.old (M.pages pages.old) }
+    requires planned { (from : ℕ) × (chain : List PlacedCell) × (own : List PlacedCell)
+        × IsPlanned from start.now reader.now plan.now space.old cells.old (M.pages pages.old) chain
+        own }
+    ensures ok { (from : ℕ) (chain own : List PlacedCell)
+        → IsPlanned from start.now reader.now plan.now space.old cells.old (M.pages pages.old) chain
+        own → IfOk result (Releases from start.now reader.now group version chain own space.old
+        space.new cells.old cells.new (M.pages pages.old) (M.pages pages.new)) }
+    ensures err { IfErr result (FindsNone space.old space.new cells.old) }
+    ensures full { (from : ℕ) (chain own : List PlacedCell)
+        → IsPlanned from start.now reader.now plan.now space.old cells.old (M.pages pages.old) chain
+        own → IfErr result (λ fault. fault ≡ NoPage
+        → LacksPlace from (frozen_of reader.now) chain own) }
+    ensures cells { OnErr result (cells.new ≡ cells.old) }
+    ensures pages { OnErr result (M.pages pages.new ≡ M.pages pages.old) }
+    ensures others { (from : ℕ) (chain own : List PlacedCell)
+        → IsPlanned from start.now reader.now plan.now space.old cells.old (M.pages pages.old) chain
+        own → LeavesBoth cells.old chain own (M.pages pages.old) (M.pages pages.new) }
+    ensures elsewhere { LeavesOffTables cells.new (M.pages pages.old) (M.pages pages.new) }
+    ensures allocated { AreAllocated space.new cells.new (M.pages pages.new) }
+    ensures room { M.room pages.old ≤ M.room pages.new + 1 }
+{
+    let kind = use_of(pages, start);
+    pass_on(
+        alloc, pages, space, cells, plan, reader, kind, group, version,
+    )?;
+    write_edit(pages, cells, &plan.edit);
+    Ok(what_went(&plan.edit))
+}
+
+/// Lets go of something that a cell of the chain has.
+fn release_at<M: MetaPages>(
+    alloc: Global,
+    pages: &mut M,
+    space: &mut FreeSpace,
+    cells: &mut FreeCells,
+    start: &CellAt,
+    stale: &Stale,
+    from: u32,
+    reader: &Option<Reader>,
+    group: u64,
+    version: Version,
+) -> Result<Released, StoreFault>
+    requires allocated { AreAllocated space.old cells.old (M.pages pages.old) }
+    requires sharing { (chain : List PlacedCell) × (own : List PlacedCell)
+        × AreSharing start.now reader.now space.old cells.old (M.pages pages.old) chain own
+        × IsStaleCell from chain stale.now }
+    ensures ok { (chain own : List PlacedCell)
+        → AreSharing start.now reader.now space.old cells.old (M.pages pages.old) chain own
+        → IsStaleCell from chain stale.now
+        → IfOk result (Releases from start.now reader.now group version chain own space.old
+        space.new cells.old cells.new (M.pages pages.old) (M.pages pages.new)) }
+    ensures err { IfErr result (FindsNone space.old space.new cells.old) }
+    ensures full { (chain own : List PlacedCell)
+        → AreSharing start.now reader.now space.old cells.old (M.pages pages.old) chain own
+        → IsStaleCell from chain stale.now
+        → IfErr result (λ fault. fault ≡ NoPage
+        → LacksPlace from (frozen_of reader.now) chain own) }
+    ensures cells { OnErr result (cells.new ≡ cells.old) }
+    ensures pages { OnErr result (M.pages pages.new ≡ M.pages pages.old) }
+    ensures others { (chain own : List PlacedCell)
+        → AreSharing start.now reader.now space.old cells.old (M.pages pages.old) chain own
+        → IsStaleCell from chain stale.now
+        → LeavesBoth cells.old chain own (M.pages pages.old) (M.pages pages.new) }
+    ensures elsewhere { LeavesOffTables cells.new (M.pages pages.old) (M.pages pages.new) }
+    ensures allocated { AreAllocated space.new cells.new (M.pages pages.new) }
+    ensures room { M.room pages.old ≤ M.room pages.new + 1 }
+{
+    let plan = plan_step(alloc, pages, stale, from, reader)?;
+    carry_out(
+        alloc, pages, space, cells, start, &plan, reader, group, version,
+    )
+}
+
+/// Lets go of something that the file has whose chain begins at that cell: of its first cell that
+/// has a page from `from` on, or behind the first one no page at all. Of that cell's pages from
+/// `from` on as many go as the reader does not read through the file, up to the last one; or the
+/// last one alone, where the reader reads it: it is put in the reader's chain. All others are given
+/// back, and wait for the group: as metadata, where the file is a directory or its data is logged,
+/// and else as data. A cell behind the first that has no page left is unlinked and freed. `Nothing`
+/// exactly where no such cell is there: nothing has changed then.
+///
+/// NoPage comes only where the reader reads a page through the file that no record of its chain
+/// can have, no cell is free, and no page that would hold more, which is a miss. At an Err nothing
+/// but room and the count of misses has changed.
+pub fn release_tail<M: MetaPages>(
+    alloc: Global,
+    pages: &mut M,
+    space: &mut FreeSpace,
+    cells: &mut FreeCells,
+    start: CellAt,
+    from: u32,
+    reader: &Option<Reader>,
+    group: u64,
+    version: Version,
+) -> Result<Released, StoreFault>
+    requires allocated { AreAllocated space.old cells.old (M.pages pages.old) }
+    requires sharing { HasSharing start reader.now space.old cells.old (M.pages pages.old) }
+    ensures ok { (chain own : List PlacedCell)
+        → AreSharing start reader.now space.old cells.old (M.pages pages.old) chain own
+        → IfOk result (λ what. ¬ what ≡ released.Nothing → Releases from start reader.now group
+        version chain own space.old space.new cells.old cells.new (M.pages pages.old)
+        (M.pages pages.new) what) }
+    ensures nothing { (chain own : List PlacedCell)
+        → AreSharing start reader.now space.old cells.old (M.pages pages.old) chain own
+        → IfOk result (λ what. (what ≡ released.Nothing) ↔ IsReleased from chain) }
+    ensures kept { IfOk result (λ what. what ≡ released.Nothing → (space.new ≡ space.old)
+        × (cells.new ≡ cells.old) × (M.pages pages.new ≡ M.pages pages.old)) }
+    ensures err { IfErr result (FindsNone space.old space.new cells.old) }
+    ensures full { (chain own : List PlacedCell)
+        → AreSharing start reader.now space.old cells.old (M.pages pages.old) chain own
+        → IfErr result (λ fault. fault ≡ NoPage
+        → LacksPlace from (frozen_of reader.now) chain own) }
+    ensures cells { OnErr result (cells.new ≡ cells.old) }
+    ensures pages { OnErr result (M.pages pages.new ≡ M.pages pages.old) }
+    ensures others { (chain own : List PlacedCell)
+        → AreSharing start reader.now space.old cells.old (M.pages pages.old) chain own
+        → LeavesBoth cells.old chain own (M.pages pages.old) (M.pages pages.new) }
+    ensures elsewhere { LeavesOffTables cells.new (M.pages pages.old) (M.pages pages.new) }
+    ensures allocated { AreAllocated space.new cells.new (M.pages pages.new) }
+    ensures room { M.room pages.old ≤ M.room pages.new + 1 }
+{
+    match find_stale(alloc, pages, &start, from)? {
+        Some(stale) => release_at(
+            alloc, pages, space, cells, &start, &stale, from, reader, group, version,
+        ),
+        None => Ok(Released::Nothing),
+    }
+}
+
+/// Frees the only cell of a file that has no page left: nothing is left of the file then. It takes
+/// no memory.
+pub fn release_last<M: MetaPages>(pages: &mut M, cells: &mut FreeCells, start: CellAt)
+    requires file { (first : PlacedCell) × IsFile (M.pages pages.old) start (first ∷ [])
+        × ((page : ℕ) → places_of (first ∷ []) page ≡ Absent) }
+    requires table { Contains (table_of cells.old start.vol) start.page }
+    requires allocated { (space : Spaces) × AreAllocated space cells.old (M.pages pages.old) }
+    ensures frees { FreesCell start cells.old cells.new }
+    ensures others { LeavesOthers (is_at start) (M.pages pages.old) (M.pages pages.new) }
+    ensures elsewhere { LeavesOffTables cells.new (M.pages pages.old) (M.pages pages.new) }
+    ensures allocated { (space : Spaces) → AreAllocated space cells.old (M.pages pages.old)
+        → AreAllocated space cells.new (M.pages pages.new) }
+    ensures room { M.room pages.new ≡ M.room pages.old }
+{
+    cells.free_cell(pages, start);
+}

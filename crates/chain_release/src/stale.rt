@@ -1,0 +1,116 @@
+//! The cell of a chain that has something to let go of.
+ghost use Rattle.std.specs.Prelude.{◌≡◌, ◌-◌, ◌<◌, ◌≤◌, ◌↔◌, ℕ, IfNone, IfOk, IfSome, IsTrue, List};
+ghost use Rattle.record_table.specs.declared.record.Record.{Record as RecordOf};
+ghost use Rattle.bmt_mcells.specs.Cell.{Cell};
+ghost use Rattle.bmt_mcells.specs.Chain.{PlacedCell, StandsAt};
+ghost use Rattle.extent_maps.specs.declared.run.PagePlace.TheVariants.{Absent};
+ghost use Rattle.extent_maps.specs.Runs.{SamePlaces, place_of};
+ghost use Rattle.extent_records.specs.Rows.{runs_in};
+ghost use Rattle.extent_records.specs.Writing.{IsMapRecord, places_in};
+ghost use Rattle.bitfile_cells.specs.Files.{HasFile, HasMap, HasMapAt, IsFile};
+ghost use Rattle.chain_release.specs.Sharing.{IsReleased};
+ghost use Rattle.chain_release.specs.Steps.{IsStale, IsStaleCell};
+
+use crate::walking::{CELLS, map_record, next_cell};
+use domain_base::{CellAt, OutOfMemory};
+use extent_maps::ExtentMap;
+use extent_records::read_map;
+use page_store::MetaPages;
+use record_table::Record;
+use std::alloc::Global;
+
+/// A cell of a chain that has something to let go of, and the cell that leads to it.
+#[derive(Clone, Copy)]
+pub struct Stale {
+    pub before: Option<CellAt>,
+    pub at: CellAt,
+}
+
+/// The map that a record says.
+pub(crate) fn record_map(alloc: Global, value: &Record) -> Result<ExtentMap, OutOfMemory>
+    requires { IsMapRecord value.now }
+    ensures { IfOk result (λ map. SamePlaces (runs_in value.now) map) }
+{
+    match read_map(alloc, &[*value])? {
+        Some(map) => Ok(map),
+        None => Ok(ExtentMap::new(alloc)),
+    }
+}
+
+/// The map that the record of a cell says.
+pub(crate) fn cell_map<M: MetaPages>(
+    alloc: Global,
+    pages: &M,
+    at: &CellAt,
+) -> Result<ExtentMap, OutOfMemory>
+    requires { HasMapAt (M.pages pages.now) at.now }
+    ensures { (cell : Cell) (value : RecordOf) → StandsAt (M.pages pages.now) at.now cell
+        → HasMap cell value → IfOk result (λ map. SamePlaces (runs_in value) map) }
+{
+    match map_record(pages, at) {
+        Some(value) => record_map(alloc, &value),
+        None => Ok(ExtentMap::new(alloc)),
+    }
+}
+
+/// The number behind the last page of a map, 0 where it has none.
+pub(crate) fn end_of_map(map: &ExtentMap) -> u32
+    ensures last { 0 < result → ¬ place_of map.now (result - 1) ≡ Absent }
+    ensures behind { (page : ℕ) → result ≤ page → place_of map.now page ≡ Absent }
+    ensures small { result ≤ 65536 }
+{
+    let runs = map.runs();
+    match runs.len().checked_sub(1) {
+        Some(last) => {
+            let run = runs[last];
+            run.page + run.count
+        }
+        None => 0,
+    }
+}
+
+/// Whether the record of a cell has something to let go of: a page from one on or, behind the first
+/// cell, none at all.
+fn is_stale<M: MetaPages>(
+    alloc: Global,
+    pages: &M,
+    at: &CellAt,
+    from: u32,
+    is_behind: bool,
+) -> Result<bool, OutOfMemory>
+    requires { HasMapAt (M.pages pages.now) at.now }
+    ensures { (cell : Cell) (value : RecordOf) → StandsAt (M.pages pages.now) at.now cell
+        → HasMap cell value
+        → IfOk result (λ found. IsTrue found ↔ IsStale from is_behind (places_in value)) }
+{
+    let end = end_of_map(&cell_map(alloc, pages, at)?);
+    Ok(from < end || is_behind && end == 0)
+}
+
+/// The first cell of a file's chain that has something to let go of.
+pub(crate) fn find_stale<M: MetaPages>(
+    alloc: Global,
+    pages: &M,
+    start: &CellAt,
+    from: u32,
+) -> Result<Option<Stale>, OutOfMemory>
+    requires { HasFile (M.pages pages.now) start.now }
+    ensures some { (chain : List PlacedCell) → IsFile (M.pages pages.now) start.now chain
+        → IfOk result (λ found. IfSome found (IsStaleCell from chain)) }
+    ensures none { (chain : List PlacedCell) → IsFile (M.pages pages.now) start.now chain
+        → IfOk result (λ found. IfNone found (IsReleased from chain)) }
+{
+    let mut before = None;
+    let mut next = Some(*start);
+    for _ in 0..CELLS {
+        let Some(at) = next else {
+            return Ok(None);
+        };
+        if is_stale(alloc, pages, &at, from, before.is_some())? {
+            return Ok(Some(Stale { before, at }));
+        }
+        before = Some(at);
+        next = next_cell(pages, &at);
+    }
+    Ok(None)
+}
