@@ -36,3 +36,14 @@ module _ (runs : List Run) (last : ℕ) (d : Run) (are : AreRuns runs) (is_last 
 
   pub end_small : end_of (get_or runs last d) ≤ 65536
   end_small = (is_run_at runs last d are within).ends
+
+-- the same by the last run
+module _ (runs : List Run) (last : ℕ) (run : Run) (are : AreRuns runs) (is_last : last + 1 ≡ length runs) (is : run ≡ get_or runs last run) where
+  pub run_behind : (page : ℕ) → run.page + run.count ≤ page → place_of runs page ≡ Absent
+  run_behind page behind = end_behind runs last run are is_last page (subst (λ (r : Run). end_of r ≤ page) is behind)
+
+  pub run_there : place_of runs (run.page + run.count - 1) ≡ Absent → ⊥
+  run_there none = end_there runs last run are is_last (subst (λ (r : Run). place_of runs (end_of r - 1) ≡ Absent) is none)
+
+  pub run_small : run.page + run.count ≤ 65536
+  run_small = subst (λ (r : Run). end_of r ≤ 65536) (sym is) (end_small runs last run are is_last)

@@ -1,0 +1,191 @@
+-- A walk along the cells of a file to one that has something to let go of.
+use Rattle.std.proofs.Common.{◌≡◌, ◌∙◌, cond, nat_eq, ℕ, zero, suc, ◌+◌, ◌-◌, ◌<◌, ◌≤◌, Bool, true, false, List, [], ◌∷◌, ◌++◌, length, Option, Some, None, is_some, Contains, refl, sym, ap, subst, arith, append_assoc, length-append, ⊎_elim, ◌⊎◌, inl, inr}
+use Rattle.std.proofs.lemmas.Bool.{eq-eqb}
+use Rattle.std.proofs.lemmas.List.{append-nil}
+use Rattle.std.specs.List.{AllByRecursion}
+use Rattle.domain_base.specs.declared.place.CellAt.{CellAt}
+use Rattle.domain_base.specs.declared.place.Home.{Home}
+use Rattle.page_store.specs.Pages.{Pages}
+use Rattle.record_table.specs.declared.record.Record.{Record}
+use Rattle.bmt_mcells.specs.Chain.{PlacedCell, StandsAt, records_of}
+use Rattle.extent_maps.specs.declared.run.PagePlace.{PagePlace}
+use Rattle.extent_maps.specs.declared.run.PagePlace.TheVariants.{Absent, At, Hole}
+use Rattle.extent_maps.specs.declared.run.Run.{Run}
+use Rattle.extent_maps.specs.Runs.{Places, behind, place_of, placed}
+use Rattle.extent_maps.proofs.EditLemmas.{covers_from, never_absent, over}
+use Rattle.extent_records.specs.Rows.{IsPlaced, runs_in, runs_of}
+use Rattle.extent_records.specs.Writing.{places_in}
+use Rattle.extent_records.proofs.ChainLemmas.{over_absent}
+use Rattle.bitfile_cells.specs.Files.{HasMap, IsFile, IsNumbered, places_of}
+use Rattle.bitfile_cells.proofs.Walks.{Mapped, RestAt, There, all_push, cell_places, distinct_file, first_places, map_cells, rest_of, there_at, walk_short}
+use Rattle.bmt_mcells.specs.Chain.{AreDistinct}
+use Rattle.chain_release.specs.declared.stale.Stale.{Stale}
+use Rattle.chain_release.specs.Reading.{HasPageFrom}
+use Rattle.chain_release.specs.Sharing.{HasPages, IsReleased, LaterHavePages}
+use Rattle.chain_release.specs.Steps.{IsStale, IsStaleCell, last_place}
+
+-- ---- one record
+
+module _ (from end : ℕ) (is_behind : Bool) (map : List Run) (places : Places) (same : (p : ℕ) → place_of map p ≡ places p) where
+  pub stale_from : from < end → (0 < end → place_of map (end - 1) ≡ Absent → ⊥) → IsStale from is_behind places
+  stale_from more last = inl (record { page = end - 1; begins = omega (arith, more); there = λ none. last (omega (arith, more)) (same (end - 1) ∙ none) })
+
+  pub stale_empty : is_behind ≡ true → end ≡ 0 → ((p : ℕ) → end ≤ p → place_of map p ≡ Absent) → IsStale from is_behind places
+  stale_empty is zero_end none = inr (is, λ p. sym (same p) ∙ none p (omega (arith, zero_end)))
+
+  pub not_stale : end ≤ from → (is_behind ≡ true → end ≡ 0 → ⊥) → (0 < end → place_of map (end - 1) ≡ Absent → ⊥) → ((p : ℕ) → end ≤ p → place_of map p ≡ Absent) → IsStale from is_behind places → ⊥
+  not_stale less some last none stale = ⊎_elim
+      (λ has. has.there (sym (same has.page) ∙ none has.page (omega (arith, less, has.begins))))
+      (λ empty. by_end end refl empty)
+      stale
+    where
+      by_end : (n : ℕ) → end ≡ n → (is_behind ≡ true) × ((p : ℕ) → places p ≡ Absent) → ⊥
+      by_end zero is empty = some empty.0 is
+      by_end (suc n) is empty = last (omega (arith, is)) (same (end - 1) ∙ empty.1 (end - 1))
+
+  -- what is stale though it has no page from there on has none
+  pub stale_is_empty : end ≤ from → (0 < end → place_of map (end - 1) ≡ Absent → ⊥) → ((p : ℕ) → end ≤ p → place_of map p ≡ Absent) → IsStale from is_behind places → nat_eq end 0 ≡ true
+  stale_is_empty less last none stale = by_end end refl
+    where
+      by_end : (n : ℕ) → end ≡ n → nat_eq end 0 ≡ true
+      by_end zero is = eq-eqb end 0 is
+      by_end (suc n) is = absurd (not_stale less (λ _ zero_end. omega (arith, is, zero_end)) last none stale)
+
+-- runs have a page, or none
+pub some_or_none : (runs : List Run) → AllByRecursion IsPlaced runs → HasPageFrom 0 (place_of runs) ⊎ ((p : ℕ) → place_of runs p ≡ Absent)
+some_or_none [] all = inr (λ p. refl)
+some_or_none (run ∷ runs) all = inl (record {
+  page = run.page;
+  begins = omega arith;
+  there = λ none. never_absent (behind (run.page - run.page) run.first)
+      (sym (ap (λ (b : Bool). cond b (placed (behind (run.page - run.page) run.first)) (place_of runs run.page)) (covers_from run run.page (omega arith) (omega (arith, all.0.is_run.some)))) ∙ none);
+})
+
+pub absent_unless : (x : PagePlace) → ((x ≡ Absent → ⊥) → ⊥) → x ≡ Absent
+absent_unless Absent not = refl
+absent_unless (At home) not = absurd (not (λ is. at_is home is))
+  where
+    at_is : (home : Home) → At home ≡ Absent → ⊥
+    at_is home is = cc
+absent_unless Hole not = absurd (not (λ is. hole_is is))
+  where
+    hole_is : Hole ≡ Absent → ⊥
+    hole_is is = cc
+
+-- where the only cell of a list has a page
+pub one_cell : (c : PlacedCell) (value : Record) (p : ℕ) → HasMap c.cell value → places_of (c ∷ []) p ≡ places_in value p
+one_cell c value p has = first_places c [] p ∙ over_absent (place_of (runs_of c.cell.records) p) ∙ cell_places c.cell value p has
+
+-- ---- the walk
+
+pub last_push : (cs : List PlacedCell) (c : PlacedCell) → last_place (cs ++ c ∷ []) ≡ Some c.at
+last_push [] c = refl
+last_push (x ∷ []) c = refl
+last_push (x ∷ y ∷ cs) c = last_push (y ∷ cs) c
+
+none_behind : (x : PlacedCell) (cs : List PlacedCell) → is_some (last_place (x ∷ cs)) ≡ true
+none_behind x [] = refl
+none_behind x (y ∷ cs) = none_behind y cs
+
+pub front_some : (cs : List PlacedCell) → ¬ cs ≡ [] → is_some (last_place cs) ≡ true
+front_some [] some = absurd (some refl)
+front_some (x ∷ cs) some = none_behind x cs
+
+later_push : (x : PlacedCell) (cs : List PlacedCell) (c : PlacedCell) → LaterHavePages (x ∷ cs) → HasPages c → LaterHavePages (x ∷ (cs ++ c ∷ []))
+later_push x cs c later has = push cs later
+  where
+    push : (cs : List PlacedCell) → AllByRecursion HasPages cs → AllByRecursion HasPages (cs ++ c ∷ [])
+    push [] all = (has, tt)
+    push (y ∷ cs) all = (all.0, push cs all.1)
+
+pub places_append : (xs ys : List PlacedCell) (p : ℕ) → places_of (xs ++ ys) p ≡ over (places_of xs p) (places_of ys p)
+places_append [] ys p = refl
+places_append (x ∷ xs) ys p =
+    first_places x (xs ++ ys) p ∙ ap (over (place_of (runs_of x.cell.records) p)) (places_append xs ys p) ∙ over_assoc (place_of (runs_of x.cell.records) p) (places_of xs p) (places_of ys p)
+    ∙ ap (λ z. over z (places_of ys p)) (sym (first_places x xs p))
+  where
+    over_assoc : (a b c : PagePlace) → over a (over b c) ≡ over (over a b) c
+    over_assoc Absent b c = refl
+    over_assoc (At home) b c = refl
+    over_assoc Hole b c = refl
+
+-- of the cells so far none has anything to let go of
+pub record IsOnWay (pages : Pages) (from i : ℕ) (before next : Option CellAt) (chain : List PlacedCell) : Type 0 where
+  pub passed : List PlacedCell
+  pub rest : List PlacedCell
+  pub all : chain ≡ passed ++ rest
+  pub count : length passed ≡ i
+  pub numbered : AllByRecursion (λ (c : PlacedCell). IsNumbered c.at) passed
+  pub here : RestAt pages next rest
+  pub maps : AllByRecursion Mapped rest
+  pub last : before ≡ last_place passed
+  pub released : IsReleased from passed
+
+pub way_begins : (pages : Pages) (from : ℕ) (start : CellAt) (chain : List PlacedCell) → IsFile pages start chain → IsOnWay pages from 0 None (Some start) chain
+way_begins pages from start [] is = absurd is
+way_begins pages from start (first ∷ rest) is = record {
+  passed = [];
+  rest = first ∷ rest;
+  all = refl;
+  count = refl;
+  numbered = tt;
+  here = (is.0, is.1.links.stands, is.1.links.follow);
+  maps = (record { value = is.1.value; map = is.1.map }, map_cells rest is.1.others);
+  last = refl;
+  released = record { absent = λ page less. refl; later = tt };
+}
+
+module _ (pages : Pages) (from i : ℕ) (before : Option CellAt) (at : CellAt) (chain : List PlacedCell) (way : IsOnWay pages from i before (Some at) chain) where
+  pub there : There pages at way.rest
+  there = there_at pages at way.rest way.here way.maps
+
+  pub split : chain ≡ way.passed ++ there.c ∷ there.cs
+  split = way.all ∙ ap (λ (cs : List PlacedCell). way.passed ++ cs) there.all
+
+  pub way_found : (stale : Stale) → stale.before ≡ before → stale.at ≡ at → IsStale from (is_some before) (places_in there.mapped.value) → IsStaleCell from chain stale
+  way_found stale before_is at_is is_stale = record {
+    front = way.passed;
+    c = there.c;
+    rest = there.cs;
+    value = there.mapped.value;
+    all = split;
+    is_at = there.is_at ∙ sym at_is;
+    before = before_is ∙ way.last;
+    map = there.mapped.map;
+    is_stale = subst (λ (o : Option CellAt). IsStale from (is_some o) (places_in there.mapped.value)) (sym before_is) is_stale;
+  }
+
+  pub way_on : IsNumbered at → (IsStale from (is_some before) (places_in there.mapped.value) → ⊥) → IsOnWay pages from (i + 1) (Some at) there.c.cell.head.next chain
+  way_on numbered fresh = record {
+    passed = way.passed ++ there.c ∷ [];
+    rest = there.cs;
+    all = split ∙ sym (append_assoc way.passed (there.c ∷ []) there.cs);
+    count = omega (arith, length-append way.passed (there.c ∷ []), way.count);
+    numbered = all_push way.passed there.c way.numbered (subst IsNumbered (sym there.is_at) numbered);
+    here = rest_of pages there.c.cell.head there.cs there.follow;
+    maps = there.maps;
+    last = ap Some (sym there.is_at) ∙ sym (last_push way.passed there.c);
+    released = released_on way.passed there.c there.mapped.value there.mapped.map way.released (λ stale. fresh (subst (λ (o : Option CellAt). IsStale from (is_some o) (places_in there.mapped.value)) (sym way.last) stale));
+  }
+    where
+      released_on : (passed : List PlacedCell) (c : PlacedCell) (value : Record) → HasMap c.cell value → IsReleased from passed → (IsStale from (is_some (last_place passed)) (places_in value) → ⊥) → IsReleased from (passed ++ c ∷ [])
+      released_on passed c value has released fresh = record {
+        absent = λ p less. places_append passed (c ∷ []) p ∙ ap (λ x. over x (places_of (c ∷ []) p)) (released.absent p less) ∙ one_cell c value p has
+            ∙ absent_unless (places_in value p) (λ some. fresh (inl (record { page = p; begins = less; there = some })));
+        later = by_front passed released.later (λ empty. fresh (inr empty));
+      }
+        where
+          by_front : (passed : List PlacedCell) → LaterHavePages passed → ((is_some (last_place passed) ≡ true) × ((p : ℕ) → places_in value p ≡ Absent) → ⊥) → LaterHavePages (passed ++ c ∷ [])
+          by_front [] later some = tt
+          by_front (x ∷ xs) later some = later_push x xs c later (⊎_elim
+              (λ page. record { page = page.page; there = λ none. page.there (sym (one_cell c value page.page has) ∙ none) })
+              (λ none. absurd (some (none_behind x xs, none)))
+              (some_or_none (runs_in value) has.is_map.placed))
+
+pub way_ends : (pages : Pages) (from i : ℕ) (before : Option CellAt) (chain : List PlacedCell) → IsOnWay pages from i before None chain → IsReleased from chain
+way_ends pages from i before chain way =
+    subst (IsReleased from) (sym (way.all ∙ ap (λ (cs : List PlacedCell). way.passed ++ cs) way.here ∙ append-nil way.passed)) way.released
+
+pub way_short : (pages : Pages) (from i : ℕ) (before next : Option CellAt) (start : CellAt) (chain : List PlacedCell) → IsFile pages start chain → IsOnWay pages from i before next chain → i ≤ 9895604649984
+way_short pages from i before next start chain is way =
+    omega (arith, way.count, walk_short way.passed way.rest (subst AreDistinct way.all (distinct_file pages start chain is)) way.numbered)

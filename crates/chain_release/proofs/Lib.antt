@@ -3,3 +3,4 @@ pub mod Cuts
 pub mod Ends
 pub mod Found
 pub mod Given
+pub mod Used

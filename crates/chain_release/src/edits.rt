@@ -103,6 +103,18 @@ fn unlinked<M: MetaPages>(
     })
 }
 
+/// The cell in front of a cell behind the first whose record has no page left.
+fn leads_past(stale: &Stale, after: &Record) -> Option<CellAt>
+    ensures empty { length (runs_in after.now) ≡ 0 → result ≡ stale.now.before }
+    ensures some { ¬ length (runs_in after.now) ≡ 0 → result ≡ None }
+{
+    if used_rows(after) == 0 {
+        stale.before
+    } else {
+        None
+    }
+}
+
 /// What is written where a cell of a chain lets go of its pages from one on: the cell with its
 /// record so cut or, behind the first cell where no page is left, the cell in front of it, which
 /// leads past it.
@@ -120,9 +132,9 @@ pub(crate) fn edit_for<M: MetaPages>(
         → IfOk result (EditsCell front c value from) }
 {
     let after = cut_record(alloc, pages, &stale.at, from)?;
-    match stale.before {
-        Some(before) if used_rows(&after) == 0 => unlinked(alloc, pages, &before, &stale.at),
-        _ => rewritten(alloc, pages, &stale.at, &after),
+    match leads_past(stale, &after) {
+        Some(before) => unlinked(alloc, pages, &before, &stale.at),
+        None => rewritten(alloc, pages, &stale.at, &after),
     }
 }
 

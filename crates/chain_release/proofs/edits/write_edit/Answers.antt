@@ -1,0 +1,1 @@
+use Rattle.chain_release.proofs.edits.write_edit.Goals as goal
