@@ -51,15 +51,19 @@ module _ (from end : ℕ) (is_behind : Bool) (map : List Run) (places : Places) 
       by_end zero is = eq-eqb end 0 is
       by_end (suc n) is = absurd (not_stale less (λ _ zero_end. omega (arith, is, zero_end)) last none stale)
 
--- runs have a page, or none
-pub some_or_none : (runs : List Run) → AllByRecursion IsPlaced runs → HasPageFrom 0 (place_of runs) ⊎ ((p : ℕ) → place_of runs p ≡ Absent)
-some_or_none [] all = inr (λ p. refl)
-some_or_none (run ∷ runs) all = inl (record {
+-- the first of some runs has a page
+pub first_there : (run : Run) (runs : List Run) → AllByRecursion IsPlaced (run ∷ runs) → HasPageFrom 0 (place_of (run ∷ runs))
+first_there run runs all = record {
   page = run.page;
   begins = omega arith;
   there = λ none. never_absent (behind (run.page - run.page) run.first)
       (sym (ap (λ (b : Bool). cond b (placed (behind (run.page - run.page) run.first)) (place_of runs run.page)) (covers_from run run.page (omega arith) (omega (arith, all.0.is_run.some)))) ∙ none);
-})
+}
+
+-- runs have a page, or none
+pub some_or_none : (runs : List Run) → AllByRecursion IsPlaced runs → HasPageFrom 0 (place_of runs) ⊎ ((p : ℕ) → place_of runs p ≡ Absent)
+some_or_none [] all = inr (λ p. refl)
+some_or_none (run ∷ runs) all = inl (first_there run runs all)
 
 pub absent_unless : (x : PagePlace) → ((x ≡ Absent → ⊥) → ⊥) → x ≡ Absent
 absent_unless Absent not = refl

@@ -1,6 +1,10 @@
 pub mod Chains
 pub mod Cuts
+pub mod Edited
 pub mod Ends
 pub mod Found
+pub mod Freed
 pub mod Given
+pub mod Once
+pub mod Passed
 pub mod Used

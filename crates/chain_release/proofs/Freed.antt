@@ -1,0 +1,45 @@
+-- Free cells, free space and pages belong together once a cell is freed.
+use Rattle.std.proofs.Common.{◌≡◌, ◌∙◌, ℕ, ◌+◌, ◌<◌, ◌≤◌, Option, Some, None, IsSomeAnd, List, length, slice_index, refl, sym, ap, subst}
+use Rattle.std.specs.Option.{option_map}
+use Rattle.domain_base.specs.declared.place.CellAt.{CellAt}
+use Rattle.domain_base.specs.declared.place.Home.{Home}
+use Rattle.page_store.specs.Pages.{Pages}
+use Rattle.bmt_mcells.specs.CellPage.{KeepsHeaders, header, next_of}
+use Rattle.free_cells.specs.Cells.{Cells, FreesCell, is_closed, table_of}
+use Rattle.free_cells.specs.Belong.{Belong, home_at}
+use Rattle.free_space.specs.Spaces.{IsHeld, Spaces}
+use Rattle.bitfile_cells.specs.Allocated.{AreAllocated}
+
+none_is_some : {X : Type 0} {x : X} → None ≡ Some x → ⊥
+none_is_some e = cc
+
+next_in : Option (ℕ × ℕ) → ℕ
+next_in None = 0
+next_in (Some h) = h.1
+
+next_stays : (o n : Option (List ℕ)) → option_map header n ≡ option_map header o → IsSomeAnd o (λ page. next_of page ≡ 0) → IsSomeAnd n (λ page. next_of page ≡ 0)
+unfolding next_in
+next_stays None n same is = absurd is
+next_stays (Some p) None same is = absurd (none_is_some same)
+next_stays (Some p) (Some q) same is = ap next_in same ∙ is
+
+abbrev home : ℕ → ℕ → Home
+home vol page = record { vol = vol; page = page }
+
+-- over tables and marks that are as they were
+pub allocated_over : (space : Spaces) (cells cells_now : Cells) (old new : Pages) → AreAllocated space cells old → ((vol : ℕ) → table_of cells_now vol ≡ table_of cells vol) → ((vol : ℕ) → is_closed cells_now vol ≡ is_closed cells vol) → Belong cells_now new → KeepsHeaders old new
+    → AreAllocated space cells_now new
+allocated_over space cells cells_now old new allocated tables marks belong headers = record {
+  belong = belong;
+  held = λ vol place from within. subst (λ (t : List ℕ). IsHeld space vol (slice_index t place)) (sym (tables vol)) (allocated.held vol place from (subst (λ (t : List ℕ). place < length t) (tables vol) within));
+  table = λ vol p from can. subst (λ (t : List ℕ). 0 < length t) (sym (tables vol)) (allocated.table vol p from can);
+  opened = λ vol p from can. marks vol ∙ allocated.opened vol p from can;
+  first = allocated.first;
+  ends = λ vol place last.
+      let here : home_at cells_now vol place ≡ home_at cells vol place = ap (λ (t : List ℕ). home vol (slice_index t place)) (tables vol) in
+      subst (λ (h : Home). IsSomeAnd (new h) (λ page. next_of page ≡ 0)) (sym here)
+      (next_stays (old (home_at cells vol place)) (new (home_at cells vol place)) (headers (home_at cells vol place)) (allocated.ends vol place (last ∙ ap length (tables vol))));
+}
+
+pub allocated_freed : (at : CellAt) (space : Spaces) (cells cells_now : Cells) (old new : Pages) → AreAllocated space cells old → FreesCell at cells cells_now → Belong cells_now new → KeepsHeaders old new → AreAllocated space cells_now new
+allocated_freed at space cells cells_now old new allocated frees belong headers = allocated_over space cells cells_now old new allocated frees.tables frees.marks belong headers

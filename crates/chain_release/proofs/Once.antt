@@ -1,0 +1,87 @@
+-- A file's chain is one, and what its cells say of pages.
+use Rattle.std.proofs.Common.{◌≡◌, ◌∙◌, ℕ, zero, suc, ◌+◌, ◌-◌, ◌<◌, ◌≤◌, Bool, true, false, cond, List, [], ◌∷◌, ◌++◌, Option, Some, None, IfSome, Contains, refl, sym, ap, subst, arith}
+use Rattle.std.proofs.lemmas.Bool.{cases_Bool}
+use Rattle.std.specs.List.{AllByRecursion}
+use Rattle.domain_base.specs.declared.place.CellAt.{CellAt}
+use Rattle.domain_base.specs.declared.place.Home.{Home}
+use Rattle.page_store.specs.Pages.{Pages}
+use Rattle.record_table.specs.declared.record.Record.{Record}
+use Rattle.bmt_mcells.specs.declared.head.CellHead.{CellHead}
+use Rattle.bmt_mcells.specs.Cell.{Cell}
+use Rattle.bmt_mcells.specs.Chain.{Follow, PlacedCell, StandsAt, places, records_of}
+use Rattle.bmt_mcells.proofs.Unique.{one_stands}
+use Rattle.extent_maps.specs.declared.run.PagePlace.TheVariants.{Absent, At, Hole}
+use Rattle.extent_maps.specs.declared.run.RunPlace.{RunPlace}
+use Rattle.extent_maps.specs.declared.run.RunPlace.TheVariants as place
+use Rattle.extent_maps.specs.declared.run.Run.{Run}
+use Rattle.extent_maps.specs.Runs.{behind, covers, end_of, place_of, placed}
+use Rattle.extent_maps.proofs.EditLemmas.{covers_is}
+use Rattle.extent_records.specs.Rows.{AreOneMap, IsPlaced, NoPageTwice, OnVolume, runs_in}
+use Rattle.extent_records.specs.Writing.{places_in}
+use Rattle.bitfile_cells.specs.Files.{HasMap, IsFile, places_of}
+use Rattle.chain_release.proofs.Cuts.{runs_around, runs_at, shown_runs}
+use Rattle.chain_release.proofs.Given.{one_home}
+
+none_is_some : (at : CellAt) → None ≡ Some at → ⊥
+none_is_some at e = cc
+
+same_at : (a b : CellAt) → Some a ≡ Some b → a ≡ b
+same_at a b e = cc
+
+abbrev placed_cell : CellAt → Cell → PlacedCell
+placed_cell at cell = record { at = at; cell = cell }
+
+one_follow : (pages : Pages) (head : CellHead) (xs ys : List PlacedCell) → Follow pages head xs → Follow pages head ys → xs ≡ ys
+one_follow pages head [] [] f g = refl
+one_follow pages head [] (y ∷ ys) f g = absurd (none_is_some y.at (sym f ∙ g.0))
+one_follow pages head (x ∷ xs) [] f g = absurd (none_is_some x.at (sym g ∙ f.0))
+one_follow pages head (x ∷ xs) (y ∷ ys) f g =
+    let at = same_at x.at y.at (sym f.0 ∙ g.0) in
+    let cell = one_stands pages y.at x.cell y.cell (subst (λ (a : CellAt). StandsAt pages a x.cell) at f.2) g.2 in
+    let rest = one_follow pages y.cell.head xs ys (subst (λ (c : Cell). Follow pages c.head xs) cell f.3) g.3 in
+    (λ i. placed_cell (at i) (cell i) ∷ rest i)
+
+pub one_file : (pages : Pages) (start : CellAt) (xs ys : List PlacedCell) → IsFile pages start xs → IsFile pages start ys → xs ≡ ys
+one_file pages start [] ys f g = absurd f
+one_file pages start (x ∷ xs) [] f g = absurd g
+one_file pages start (x ∷ xs) (y ∷ ys) f g =
+    let at : x.at ≡ y.at = f.0 ∙ sym g.0 in
+    let cell = one_stands pages y.at x.cell y.cell (subst (λ (a : CellAt). StandsAt pages a x.cell) at f.1.links.stands) g.1.links.stands in
+    let rest = one_follow pages y.cell.head xs ys (subst (λ (c : Cell). Follow pages c.head xs) cell f.1.links.follow) g.1.links.follow in
+    (λ i. placed_cell (at i) (cell i) ∷ rest i)
+
+-- ---- homes
+
+hole_not : (home : Home) → Hole ≡ At home → ⊥
+hole_not home e = cc
+
+absent_not : (home : Home) → Absent ≡ At home → ⊥
+absent_not home e = cc
+
+-- a page with a home is one of a file, and stands on a volume
+pub record IsGoodPage (page : ℕ) (home : Home) : Type 0 where
+  pub small : page < 65536
+  pub low : 1 ≤ home.vol
+
+pub good_page : (runs : List Run) → AllByRecursion IsPlaced runs → (page : ℕ) (home : Home) → place_of runs page ≡ At home → IsGoodPage page home
+good_page [] all page home there = absurd (absent_not home there)
+good_page (run ∷ runs) all page home there = by_cover (λ later. good_page runs all.1 page home later) (covers run page) refl there
+  where
+    on_volume : (first : RunPlace) → OnVolume first → (n : ℕ) → placed (behind n first) ≡ At home → 1 ≤ home.vol
+    on_volume (place.At h) on n is = subst (λ (x : Home). 1 ≤ x.vol) (one_home (record { vol = h.vol; page = h.page + n }) home is) on.0
+    on_volume place.Holes on n is = absurd (hole_not home is)
+
+    by_cover : (place_of runs page ≡ At home → IsGoodPage page home) → (b : Bool) → covers run page ≡ b → cond b (placed (behind (page - run.page) run.first)) (place_of runs page) ≡ At home → IsGoodPage page home
+    by_cover rest true is there = let inside = covers_is run page is in
+        record { small = omega (arith, inside.1, all.0.is_run.ends); low = on_volume run.first all.0.volume (page - run.page) there }
+    by_cover rest false is there = rest there
+
+-- the chain has a page where a record of it has the page
+pub shown_value : (front : List PlacedCell) (c : PlacedCell) (rest : List PlacedCell) (value : Record) → HasMap c.cell value → AreOneMap (records_of (front ++ c ∷ rest)) → (p : ℕ) → (places_in value p ≡ Absent → ⊥) → places_of (front ++ c ∷ rest) p ≡ places_in value p
+shown_value front c rest value has one p some =
+    let was = runs_around front c rest value has in
+    ap (λ rs. place_of rs p) was ∙ shown_runs (runs_at front) (runs_in value) (runs_at rest) (subst NoPageTwice was one.once) p some
+
+pub file_map : (pages : Pages) (start : CellAt) (chain : List PlacedCell) → IsFile pages start chain → AreOneMap (records_of chain)
+file_map pages start [] is = absurd is
+file_map pages start (first ∷ rest) is = is.1.one_map
