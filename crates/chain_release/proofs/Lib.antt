@@ -7,4 +7,6 @@ pub mod Freed
 pub mod Given
 pub mod Once
 pub mod Passed
+pub mod Planned
+pub mod Stepped
 pub mod Used

@@ -47,6 +47,9 @@ module _ (from : ℕ) (start : CellAt) (reader : Option Reader) (plan : Plan) (s
   pub map_held : (page : ℕ) (home : Home) → place_of plan.map page ≡ At home → IsHeld space home.vol home.page
   map_held page home there = (is.sharing.held page home (chain_there page home there)).held
 
+  pub map_off : (page : ℕ) (home : Home) → place_of plan.map page ≡ At home → ¬ Contains (table_of cells home.vol) home.page
+  map_off page home there = (is.sharing.held page home (chain_there page home there)).off_table
+
   pub map_once : (p q : ℕ) (home : Home) → place_of plan.map p ≡ At home → place_of plan.map q ≡ At home → p ≡ q
   map_once p q home a b = is.sharing.once p q home (chain_there p home a) (chain_there q home b)
 
@@ -83,3 +86,7 @@ on_both (Err e) f p q = tt
 -- the reader's chain
 pub reader_is : (pages : Pages) (reader : Option Reader) (r : Reader) (page : ℕ) (cells : Cells) (own : List PlacedCell) → reader ≡ Some r → MayHandOver page reader cells pages own → IsFile pages r.at own
 reader_is pages reader r page cells own is may = subst (λ o. IsReader pages o own) is may.reads
+
+pub map_err : {A E : Type 0} {P Q : E → Type 0} (r : Result A E) → ((x : E) → P x → Q x) → IfErr r P → IfErr r Q
+map_err (Ok x) f is = tt
+map_err (Err e) f is = f e is

@@ -192,11 +192,15 @@ fn carry_out<M: MetaPages>(
     ensures room { M.room pages.old ≤ M.room pages.new + 1 }
 {
     let kind = use_of(pages, start);
-    pass_on(
+    match pass_on(
         alloc, pages, space, cells, plan, reader, kind, group, version,
-    )?;
-    write_edit(pages, cells, &plan.edit);
-    Ok(what_went(&plan.edit))
+    ) {
+        Ok(()) => {
+            write_edit(pages, cells, &plan.edit);
+            Ok(what_went(&plan.edit))
+        }
+        Err(fault) => Err(fault),
+    }
 }
 
 /// Lets go of something that a cell of the chain has.

@@ -1,0 +1,70 @@
+-- What is planned of a cell that has something to let go of.
+use Rattle.std.proofs.Common.{◌≡◌, ◌∙◌, ℕ, ◌<◌, ◌≤◌, List, [], ◌∷◌, ◌++◌, Option, Some, None, IfNone, IfSome, refl, sym, ap, subst}
+use Rattle.std.specs.List.{AllByRecursion}
+use Rattle.domain_base.specs.declared.place.CellAt.{CellAt}
+use Rattle.domain_base.specs.declared.place.Home.{Home}
+use Rattle.page_store.specs.Pages.{Pages}
+use Rattle.bmt_mcells.specs.Cell.{Cell}
+use Rattle.bmt_mcells.specs.Chain.{PlacedCell, StandsAt}
+use Rattle.extent_maps.specs.declared.run.PagePlace.{PagePlace}
+use Rattle.extent_maps.specs.declared.run.PagePlace.TheVariants.{Absent, At}
+use Rattle.extent_maps.specs.Runs.{Places}
+use Rattle.bitfile_cells.specs.Changes.{IsInUse}
+use Rattle.bitfile_cells.specs.Files.{HasMapAt, IsFile}
+use Rattle.bitfile_cells.proofs.ChainChanges.{stand_file}
+use Rattle.chain_release.specs.declared.reader.Reader.{Reader}
+use Rattle.chain_release.specs.declared.stale.Stale.{Stale}
+use Rattle.chain_release.specs.declared.tail.Tail.{Tail}
+use Rattle.chain_release.specs.Reading.{HasPageFrom}
+use Rattle.chain_release.specs.Steps.{AllStand, AreUnread, IsReadLast, IsTail, MayPlan, last_place, through}
+use Rattle.chain_release.proofs.Chains.{all_back, all_front}
+use Rattle.chain_release.proofs.Edited.{last_of}
+
+if_some : {X : Type 0} {P : X → Type 0} (o : Option X) → ((x : X) → o ≡ Some x → P x) → IfSome o P
+if_some None f = tt
+if_some (Some x) f = f x refl
+
+module _ (from : ℕ) (reader : Option Reader) (stale : Stale) (pages : Pages) (chain own : List PlacedCell) (may : MayPlan from reader stale pages chain own) where
+  all_stand : AllStand pages (may.spot.front ++ may.spot.c ∷ may.spot.rest)
+  all_stand = subst (AllStand pages) may.spot.all (stand_file pages may.start chain may.file)
+
+  pub front_stand : AllStand pages may.spot.front
+  front_stand = all_front (λ (c : PlacedCell). StandsAt pages c.at c.cell) may.spot.front (may.spot.c ∷ may.spot.rest) all_stand
+
+  pub cell_stands : StandsAt pages may.spot.c.at may.spot.c.cell
+  cell_stands = (all_back (λ (c : PlacedCell). StandsAt pages c.at c.cell) may.spot.front (may.spot.c ∷ may.spot.rest) all_stand).0
+
+  pub stands_there : StandsAt pages stale.at may.spot.c.cell
+  stands_there = subst (λ (a : CellAt). StandsAt pages a may.spot.c.cell) may.spot.is_at cell_stands
+
+  pub has_map : HasMapAt pages stale.at
+  has_map = record { cell = may.spot.c.cell; value = may.spot.value; stands = stands_there; map = may.spot.map }
+
+  pub before_used : IfSome stale.before (IsInUse pages)
+  before_used = if_some stale.before (λ at is.
+      let l = last_of may.spot.front at (sym may.spot.before ∙ is) in
+      let stand = (all_back (λ (c : PlacedCell). StandsAt pages c.at c.cell) l.earlier (l.c ∷ []) (subst (AllStand pages) l.all front_stand)).0 in
+      (l.c.cell, subst (λ (a : CellAt). StandsAt pages a l.c.cell) l.place stand))
+
+-- a tail by maps that have each page at its place
+pub tail_by : (from frozen : ℕ) (own own_too map map_too : Places) (tail : Tail) → ((p : ℕ) → own p ≡ own_too p) → ((p : ℕ) → map p ≡ map_too p) → IsTail from frozen own map tail → IsTail from frozen own_too map_too tail
+tail_by from frozen own own_too map map_too tail same_own same_map is = record {
+  begins = is.begins;
+  read = by_some tail.home is.read;
+  unread = by_none tail.home is.unread;
+  some = λ has. let at = is.some (record { page = has.page; begins = has.begins; there = λ none. has.there (sym (same_map has.page) ∙ none) }) in
+      record { page = at.page; begins = at.begins; there = λ none. at.there (same_map at.page ∙ none) };
+}
+  where
+    by_some : (o : Option Home) → IfSome o (IsReadLast tail.from frozen own map) → IfSome o (IsReadLast tail.from frozen own_too map_too)
+    by_some None read = tt
+    by_some (Some home) read = record {
+      there = sym (same_map tail.from) ∙ read.there;
+      absent = sym (same_own tail.from) ∙ read.absent;
+      is_frozen = read.is_frozen;
+      last = λ p less. sym (same_map p) ∙ read.last p less;
+    }
+
+    by_none : (o : Option Home) → IfNone o (AreUnread tail.from frozen own map) → IfNone o (AreUnread tail.from frozen own_too map_too)
+    by_none None unread = λ p less below. ap (λ (x : PagePlace). through x (map_too p)) (sym (same_own p)) ∙ ap (λ (x : PagePlace). through (own p) x) (sym (same_map p)) ∙ unread p less below
+    by_none (Some home) unread = tt

@@ -1,0 +1,31 @@
+use Rattle.extent_maps.specs.Runs.{place_of}
+use Rattle.extent_records.specs.Writing.{places_in}
+use Rattle.bitfile_cells.specs.Files.{places_of}
+use Rattle.chain_release.specs.Sharing.{frozen_of}
+use Rattle.chain_release.specs.Steps.{IsTail}
+use Rattle.chain_release.proofs.Planned.{before_used, cell_stands, front_stand, has_map, stands_there, tail_by}
+use Rattle.std.proofs.Common.{ℕ, subst}
+use Rattle.chain_release.proofs.releasing.plan_step.Goals as goal
+
+pub cell_map-requires : goal.cell_map-requires
+cell_map-requires g c = has_map c.args.from c.args.reader.now c.args.stale.now (g.M.MetaPages.pages c.args.pages.now) c.requires.0 c.requires.1 c.requires.2
+
+pub edit_for-requires-clause-map : goal.edit_for-requires-clause-map
+edit_for-requires-clause-map g c = has_map c.args.from c.args.reader.now c.args.stale.now (g.M.MetaPages.pages c.args.pages.now) c.requires.0 c.requires.1 c.requires.2
+
+pub edit_for-requires-clause-before : goal.edit_for-requires-clause-before
+edit_for-requires-clause-before g c = before_used c.args.from c.args.reader.now c.args.stale.now (g.M.MetaPages.pages c.args.pages.now) c.requires.0 c.requires.1 c.requires.2
+
+pub returns : goal.returns
+returns g c = λ chain own may.
+    let pages = g.M.MetaPages.pages c.args.pages.now in
+    let there = stands_there c.args.from c.args.reader.now c.args.stale.now pages chain own may in
+    let map = c.in_ok-map.ensures may.spot.c.cell may.spot.value there may.spot.map in
+    record {
+      spot = may.spot;
+      map = map;
+      tail = tail_by c.args.from (frozen_of c.args.reader.now) (place_of c.in_ok-own.own) (places_of own) (place_of c.in_ok-map.map) (places_in may.spot.value) c.tail_of-tail.result (c.in_ok-own.ensures own may.reads) map
+          (subst (λ (n : ℕ). IsTail c.args.from n (place_of c.in_ok-own.own) (place_of c.in_ok-map.map) c.tail_of-tail.result) c.frozen_pages.ensures c.tail_of-tail.ensures);
+      edit = c.in_ok-edit.ensures may.spot.front may.spot.c may.spot.value (front_stand c.args.from c.args.reader.now c.args.stale.now pages chain own may) (cell_stands c.args.from c.args.reader.now c.args.stale.now pages chain own may)
+          may.spot.is_at may.spot.before may.spot.map;
+    }
