@@ -107,9 +107,9 @@ module _ {E : Type 0} (pages : Pages) (front : List PlacedCell) (d : PlacedCell)
         how = inl (
           record { place = p.0 ∙ sym at_is; cell = e ∙ ap (λ (k : ℕ). with_record k (Some after) d.cell) cut.same_kind; none = p.1 },
           (λ front_some. ⊎_elim
-          (λ none. absurd (front_some (none_last front (sym before_is ∙ sym (empty none) ∙ past_is))))
-          (λ more. some_in (runs_in after) cut.is_map.placed more)
-          (by_length (length (runs_in after)))),
+              (λ none. absurd (front_some (none_last front (sym before_is ∙ sym (empty none) ∙ past_is))))
+              (λ more. some_in (runs_in after) cut.is_map.placed more)
+              (by_length (length (runs_in after)))),
         );
       })
       place (cell d.cell (subst (λ (a : CellAt). StandsAt pages a d.cell) at_is stands))

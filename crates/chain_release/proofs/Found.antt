@@ -1,6 +1,6 @@
 -- A walk along the cells of a file to one that has something to let go of.
 use Rattle.std.proofs.Common.{◌≡◌, ◌∙◌, cond, nat_eq, ℕ, zero, suc, ◌+◌, ◌-◌, ◌<◌, ◌≤◌, Bool, true, false, List, [], ◌∷◌, ◌++◌, length, Option, Some, None, is_some, Contains, refl, sym, ap, subst, arith, append_assoc, length-append, ⊎_elim, ◌⊎◌, inl, inr}
-use Rattle.std.proofs.lemmas.Bool.{eq-eqb}
+use Rattle.std.proofs.lemmas.Bool.{eq-eqb, true≢false}
 use Rattle.std.proofs.lemmas.List.{append-nil}
 use Rattle.std.specs.List.{AllByRecursion}
 use Rattle.domain_base.specs.declared.place.CellAt.{CellAt}
@@ -193,3 +193,39 @@ way_ends pages from i before chain way =
 pub way_short : (pages : Pages) (from i : ℕ) (before next : Option CellAt) (start : CellAt) (chain : List PlacedCell) → IsFile pages start chain → IsOnWay pages from i before next chain → i ≤ 9895604649984
 way_short pages from i before next start chain is way =
     omega (arith, way.count, walk_short way.passed way.rest (subst AreDistinct way.all (distinct_file pages start chain is)) way.numbered)
+
+later_back : (xs : List PlacedCell) (c : PlacedCell) (cs : List PlacedCell) → ¬ xs ≡ [] → LaterHavePages (xs ++ c ∷ cs) → HasPages c
+later_back [] c cs some later = absurd (some refl)
+later_back (x ∷ xs) c cs some later = back xs later
+  where
+    back : (xs : List PlacedCell) → AllByRecursion HasPages (xs ++ c ∷ cs) → HasPages c
+    back [] all = all.0
+    back (y ∷ xs) all = back xs all.1
+
+no_front : (cs : List PlacedCell) → is_some (last_place cs) ≡ true → ¬ cs ≡ []
+no_front [] is = absurd (true≢false (sym is))
+no_front (x ∷ xs) is = λ e. cc
+
+pub front_of : (from : ℕ) (chain : List PlacedCell) (stale : Stale) (spot : IsStaleCell from chain stale) → is_some stale.before ≡ true → ¬ spot.front ≡ []
+front_of from chain stale spot is = no_front spot.front (ap (λ (o : Option CellAt). is_some o) (sym spot.before) ∙ is)
+
+-- a page that a chain does not have none of its cells has
+absent_inside : (xs : List PlacedCell) (c : PlacedCell) (cs : List PlacedCell) (p : ℕ) → places_of (xs ++ c ∷ cs) p ≡ Absent → places_of (c ∷ []) p ≡ Absent
+absent_inside xs c cs p none =
+    let behind = (over_absents (places_of xs p) (places_of (c ∷ cs) p) (sym (places_append xs (c ∷ cs) p) ∙ none)).1 in
+    (over_absents (places_of (c ∷ []) p) (places_of cs p) (sym (places_append (c ∷ []) cs p) ∙ behind)).0
+  where
+    over_absents : (a b : PagePlace) → over a b ≡ Absent → (a ≡ Absent) × (b ≡ Absent)
+    over_absents Absent b is = (refl, is)
+    over_absents (At home) b is = absurd cc
+    over_absents Hole b is = absurd cc
+
+-- where a cell has something to let go of, the chain has
+pub found_unreleased : (from : ℕ) (chain : List PlacedCell) (stale : Stale) → IsStaleCell from chain stale → IsReleased from chain → ⊥
+found_unreleased from chain stale spot released = ⊎_elim
+    (λ has. has.there (sym (one_cell spot.c spot.value has.page spot.map)
+    ∙ absent_inside spot.front spot.c spot.rest has.page (ap (λ (cs : List PlacedCell). places_of cs has.page) (sym spot.all) ∙ released.absent has.page has.begins)))
+    (λ empty.
+    let has = later_back spot.front spot.c spot.rest (front_of from chain stale spot empty.0) (subst LaterHavePages spot.all released.later) in
+    has.there (one_cell spot.c spot.value has.page spot.map ∙ empty.1 has.page))
+    spot.is_stale

@@ -130,9 +130,9 @@ module _ (from page : ℕ) (map : Places) (kind : PageUse) (group : ℕ) (s t u 
     each = λ home. (
       (λ inside. let w = (so_far.each home).0 inside in record { page = w.page; begins = w.begins; ends = omega (arith, w.ends); there = w.there }),
       (λ w. ⊎_elim
-      (λ before. (so_far.each home).1 (record { page = w.page; begins = w.begins; ends = before; there = w.there }))
-      (λ past. absurd (none home (sym (ap map (the_page w past)) ∙ w.there)))
-      (cases_lt w.page page)),
+          (λ before. (so_far.each home).1 (record { page = w.page; begins = w.begins; ends = before; there = w.there }))
+          (λ past. absurd (none home (sym (ap map (the_page w past)) ∙ w.there)))
+          (cases_lt w.page page)),
     );
     once = so_far.once;
     is = same ∙ so_far.is;

@@ -1,12 +1,16 @@
 pub mod Chains
 pub mod Cuts
+pub mod Done
 pub mod Edited
 pub mod Ends
 pub mod Found
 pub mod Freed
 pub mod Given
+pub mod Grown
 pub mod Once
+pub mod Outcome
 pub mod Passed
 pub mod Planned
 pub mod Stepped
 pub mod Used
+pub mod Went

@@ -52,10 +52,10 @@ one_file pages start (x ∷ xs) (y ∷ ys) f g =
 
 -- ---- homes
 
-hole_not : (home : Home) → Hole ≡ At home → ⊥
+pub hole_not : (home : Home) → Hole ≡ At home → ⊥
 hole_not home e = cc
 
-absent_not : (home : Home) → Absent ≡ At home → ⊥
+pub absent_not : (home : Home) → Absent ≡ At home → ⊥
 absent_not home e = cc
 
 -- a page with a home is one of a file, and stands on a volume

@@ -13,10 +13,14 @@ use Rattle.bitfile_cells.specs.Changes.{IsInUse}
 use Rattle.bitfile_cells.specs.Files.{HasMapAt, IsFile}
 use Rattle.bitfile_cells.proofs.ChainChanges.{stand_file}
 use Rattle.chain_release.specs.declared.reader.Reader.{Reader}
+use Rattle.chain_release.specs.declared.releasing.Plan.{Plan}
 use Rattle.chain_release.specs.declared.stale.Stale.{Stale}
+use Rattle.chain_release.specs.Sharing.{AreSharing, frozen_of}
+use Rattle.free_cells.specs.Cells.{Cells}
+use Rattle.free_space.specs.Spaces.{Spaces}
 use Rattle.chain_release.specs.declared.tail.Tail.{Tail}
 use Rattle.chain_release.specs.Reading.{HasPageFrom}
-use Rattle.chain_release.specs.Steps.{AllStand, AreUnread, IsReadLast, IsTail, MayPlan, last_place, through}
+use Rattle.chain_release.specs.Steps.{AllStand, AreUnread, IsPlan, IsPlanned, IsReadLast, IsStaleCell, IsTail, MayPlan, last_place, through}
 use Rattle.chain_release.proofs.Chains.{all_back, all_front}
 use Rattle.chain_release.proofs.Edited.{last_of}
 
@@ -68,3 +72,12 @@ tail_by from frozen own own_too map map_too tail same_own same_map is = record {
     by_none : (o : Option Home) → IfNone o (AreUnread tail.from frozen own map) → IfNone o (AreUnread tail.from frozen own_too map_too)
     by_none None unread = λ p less below. ap (λ (x : PagePlace). through x (map_too p)) (sym (same_own p)) ∙ ap (λ (x : PagePlace). through (own p) x) (sym (same_map p)) ∙ unread p less below
     by_none (Some home) unread = tt
+
+-- of a file that shares nothing but what it should with its reader
+module _ (from : ℕ) (start : CellAt) (reader : Option Reader) (stale : Stale) (space : Spaces) (cells : Cells) (pages : Pages) (chain own : List PlacedCell) (sharing : AreSharing start reader space cells pages chain own) where
+  pub may_plan : IsStaleCell from chain stale → MayPlan from reader stale pages chain own
+  may_plan spot = record { start = start; file = sharing.file; reads = sharing.reads; spot = spot }
+
+pub planned : (from : ℕ) (start : CellAt) (reader : Option Reader) (plan : Plan) (stale : Stale) (space : Spaces) (cells : Cells) (pages : Pages) (chain own : List PlacedCell) → AreSharing start reader space cells pages chain own → IsPlan from (frozen_of reader) chain own stale plan
+    → IsPlanned from start reader plan space cells pages chain own
+planned from start reader plan stale space cells pages chain own sharing is = record { sharing = sharing; stale = stale; planned = is }

@@ -25,13 +25,13 @@ pub record HasPageFrom (from : ℕ) (places : Places) : Type 0 where
 
 -- a page that was absent and is frozen has the home that the source had there and has no more
 pub record IsHandedOver (frozen : ℕ) (own own_now source source_now : Places) (page : ℕ) : Type 0
-    where
-  pub home : Home
-  pub absent : own page ≡ Absent
-  pub is_frozen : page < frozen
-  pub was : source page ≡ At home
-  pub is : own_now page ≡ At home
-  pub gone : source_now page ≡ Absent
+  where
+    pub home : Home
+    pub absent : own page ≡ Absent
+    pub is_frozen : page < frozen
+    pub was : source page ≡ At home
+    pub is : own_now page ≡ At home
+    pub gone : source_now page ≡ Absent
 
 -- the source lets go of pages from one on, and each page is read where it was: what it has it had
 -- at that place, and what the reader has it had too, or was handed over

@@ -84,13 +84,13 @@ pub record FreesOne (chain after : List PlacedCell) (cells cells_now : Cells) : 
 
 -- a page from one on that was there is absent, in the same cells
 pub record LosesPage (from : ℕ) (chain after : List PlacedCell) (cells cells_now : Cells) : Type 0
-    where
-  pub page : ℕ
-  pub begins : from ≤ page
-  pub was : ¬ places_of chain page ≡ Absent
-  pub gone : places_of after page ≡ Absent
-  pub same_places : places after ≡ places chain
-  pub same_cells : cells_now ≡ cells
+  where
+    pub page : ℕ
+    pub begins : from ≤ page
+    pub was : ¬ places_of chain page ≡ Absent
+    pub gone : places_of after page ≡ Absent
+    pub same_places : places after ≡ places chain
+    pub same_cells : cells_now ≡ cells
 
 -- what the answer says: a cell went, or pages went and no cell
 abbrev pub Progresses : Released → ℕ → List PlacedCell → List PlacedCell → Cells → Cells → Type 0

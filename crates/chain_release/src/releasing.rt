@@ -138,7 +138,14 @@ fn pass_on<M: MetaPages>(
 {
     match plan.tail.home {
         Some(home) => hand_over(
-            alloc, pages, space, cells, reader, plan.tail.from, home, version,
+            alloc,
+            pages,
+            space,
+            cells,
+            reader,
+            plan.tail.from,
+            home,
+            version,
         ),
         None => {
             give_back_from(space, &plan.map, plan.tail.from, kind, group);
