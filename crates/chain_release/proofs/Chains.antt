@@ -1,5 +1,5 @@
 -- A file's chain with another record in a cell, or without a later cell.
-use Rattle.std.proofs.Common.{◌≡◌, ◌∙◌, ℕ, zero, suc, Bool, true, false, List, [], ◌∷◌, ◌++◌, map, length, Some, IsSome, Contains, refl, sym, ap, subst, arith}
+use Rattle.std.proofs.Common.{◌≡◌, ◌∙◌, ℕ, zero, suc, true, List, [], ◌∷◌, ◌++◌, map, Some, Contains, refl, sym, ap, subst, arith}
 use Rattle.std.proofs.lemmas.Bool.{true≢false}
 use Rattle.std.specs.List.{AllByRecursion}
 use Rattle.domain_base.specs.declared.place.CellAt.{CellAt}
@@ -9,12 +9,11 @@ use Rattle.record_table.specs.Records.{kind_of}
 use Rattle.bmt_mcells.specs.declared.head.CellHead.{CellHead}
 use Rattle.bmt_mcells.specs.declared.head.CellKind.{CellKind}
 use Rattle.bmt_mcells.specs.declared.head.CellKind.TheVariants.{Primary, Chain, Quota, Volume}
-use Rattle.bmt_mcells.specs.Cell.{Cell, record_of}
 use Rattle.bmt_mcells.specs.Chain.{AreDistinct, Follow, PlacedCell, StandsAt, may_follow, places, records_of}
 use Rattle.extent_records.specs.Rows.{AreOneMap}
 use Rattle.extent_records.specs.Writing.{IsMapRecord}
 use Rattle.bitfile_cells.specs.Changes.{with_record}
-use Rattle.bitfile_cells.specs.FileChanges.{SameFirst, map_kinds}
+use Rattle.bitfile_cells.specs.FileChanges.{SameFirst}
 use Rattle.bitfile_cells.specs.Files.{HasMap, IsFile, IsMapCell}
 use Rattle.bitfile_cells.proofs.ChainChanges.{in_first, in_later}
 use Rattle.bitfile_cells.proofs.MapRecords.{rows_kind, value_has_rows}

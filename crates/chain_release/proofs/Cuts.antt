@@ -1,6 +1,6 @@
 -- What a chain says of pages once a record of it is cut, or gone.
-use Rattle.std.proofs.Common.{◌≡◌, ◌∙◌, ℕ, zero, suc, ◌+◌, ◌<◌, ◌≤◌, Bool, true, false, cond, nat_lt, List, [], ◌∷◌, ◌++◌, length, refl, sym, ap, subst, arith, append_assoc, ⊎_elim, ◌⊎◌, inl, inr}
-use Rattle.std.proofs.lemmas.Bool.{both_ways, cases_Bool, lt-ltb, ltb-true}
+use Rattle.std.proofs.Common.{◌≡◌, ◌∙◌, ℕ, ◌+◌, ◌<◌, ◌≤◌, Bool, true, false, cond, nat_lt, List, [], ◌∷◌, ◌++◌, refl, sym, ap, subst, arith, append_assoc, ⊎_elim, ◌⊎◌, inl, inr}
+use Rattle.std.proofs.lemmas.Bool.{cases_Bool, lt-ltb, ltb-true}
 use Rattle.std.proofs.lemmas.Grind.{flat_map-append}
 use Rattle.std.proofs.lemmas.List.{append-nil}
 use Rattle.std.specs.List.{AllByRecursion}
@@ -15,7 +15,7 @@ use Rattle.extent_maps.proofs.EditLemmas.{over, place_append}
 use Rattle.extent_records.specs.Rows.{AreOneMap, IsPlaced, NoPageTwice, runs_in, runs_of, there, times}
 use Rattle.extent_records.specs.Writing.{places_before, places_in}
 use Rattle.extent_records.proofs.ChainLemmas.{moves, once_after, stays, there_few}
-use Rattle.bitfile_cells.specs.Files.{HasMap, map_records, places_of}
+use Rattle.bitfile_cells.specs.Files.{HasMap, places_of}
 use Rattle.bitfile_cells.proofs.MapRecords.{runs_by_map}
 use Rattle.chain_release.specs.Steps.{IsCut}
 

@@ -1,10 +1,9 @@
 -- A step that was carried out.
-use Rattle.std.proofs.Common.{◌≡◌, ◌∙◌, ℕ, ◌+◌, ◌<◌, ◌≤◌, ◌||◌, Bool, true, false, List, [], ◌∷◌, ◌++◌, length, Option, Some, None, IfNone, IfSome, IsSome, is_some, Contains, refl, sym, ap, subst, arith, ⊎_elim, ◌⊎◌, inl, inr}
+use Rattle.std.proofs.Common.{◌≡◌, ◌∙◌, ℕ, ◌<◌, ◌||◌, Bool, false, List, [], Option, Some, None, IfNone, IfSome, Contains, refl, sym, ap, subst, arith, ⊎_elim, ◌⊎◌, inl, inr}
 use Rattle.domain_base.specs.declared.place.CellAt.{CellAt}
 use Rattle.domain_base.specs.declared.place.Home.{Home}
 use Rattle.domain_base.specs.declared.version.Version.{Version}
 use Rattle.page_store.specs.Pages.{Pages, same_home}
-use Rattle.bmt_mcells.specs.Cell.{AreRecords, Cell, spellings}
 use Rattle.bmt_mcells.specs.CellPage.{HasPlace, IsUsedAt, home_of}
 use Rattle.bmt_mcells.specs.Chain.{PlacedCell, StandsAt, is_at, places}
 use Rattle.bmt_mcells.proofs.Frames.{stands_stays}
@@ -28,9 +27,9 @@ use Rattle.chain_release.specs.declared.released.Released.{Released}
 use Rattle.chain_release.specs.declared.released.Released.TheVariants as released
 use Rattle.chain_release.specs.declared.releasing.Plan.{Plan}
 use Rattle.chain_release.specs.Reading.{HasPageFrom, IsGone}
-use Rattle.chain_release.specs.Releases.{FreesOne, GivesBack, LeavesBoth, LosesPage, Progresses, Releases, use_of}
-use Rattle.chain_release.specs.Sharing.{AreSharing, IsHeldApart, IsReader, frozen_of}
-use Rattle.chain_release.specs.Steps.{AllStand, EditsCell, GivesTail, HandsOver, IsFreed, IsPlanned, IsReadLast, PassesOn, WritesEdit, edited, is_freed, went}
+use Rattle.chain_release.specs.Releases.{GivesBack, LeavesBoth, Progresses, Releases, use_of}
+use Rattle.chain_release.specs.Sharing.{frozen_of}
+use Rattle.chain_release.specs.Steps.{AllStand, GivesTail, HandsOver, IsFreed, IsPlanned, PassesOn, WritesEdit, edited, is_freed, went}
 use Rattle.chain_release.proofs.Cuts.{Cuts}
 use Rattle.chain_release.proofs.Found.{front_of}
 use Rattle.chain_release.proofs.Freed.{allocated_over}

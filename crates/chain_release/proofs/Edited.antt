@@ -1,5 +1,5 @@
 -- What is written where a cell lets go of pages.
-use Rattle.std.proofs.Common.{◌≡◌, ◌∙◌, ℕ, zero, suc, Bool, true, false, List, [], ◌∷◌, ◌++◌, length, Option, Some, None, Result, Ok, Err, IfOk, Contains, refl, sym, ap, subst, arith, ⊎_elim, ◌⊎◌, inl, inr}
+use Rattle.std.proofs.Common.{◌≡◌, ◌∙◌, ℕ, zero, suc, true, false, List, [], ◌∷◌, ◌++◌, length, Option, Some, None, Result, Ok, Err, IfOk, refl, sym, ap, subst, arith, ⊎_elim, ◌⊎◌, inl, inr}
 use Rattle.std.proofs.lemmas.Bool.{both_ways, cases_Bool}
 use Rattle.std.specs.List.{AllByRecursion}
 use Rattle.domain_base.specs.declared.place.CellAt.{CellAt}
@@ -13,7 +13,6 @@ use Rattle.extent_maps.specs.declared.run.PagePlace.TheVariants.{Absent}
 use Rattle.extent_maps.specs.declared.run.Run.{Run}
 use Rattle.extent_maps.specs.Runs.{place_of}
 use Rattle.extent_records.specs.Rows.{IsPlaced, runs_in}
-use Rattle.extent_records.specs.Writing.{places_in}
 use Rattle.free_cells.specs.Cells.{Cells, is_free}
 use Rattle.free_cells.specs.Belong.{Belong}
 use Rattle.free_cells.proofs.Belongs.{belong_still}
@@ -21,7 +20,7 @@ use Rattle.bitfile_cells.specs.Changes.{with_record}
 use Rattle.bitfile_cells.proofs.ChainChanges.{at_same}
 use Rattle.chain_release.specs.declared.edits.ChainEdit.{ChainEdit}
 use Rattle.chain_release.specs.Reading.{HasPageFrom}
-use Rattle.chain_release.specs.Steps.{AllStand, EditsCell, IsCut, Rewrites, Unlinks, edited, last_place}
+use Rattle.chain_release.specs.Steps.{AllStand, EditsCell, IsCut, edited, last_place}
 use Rattle.chain_release.proofs.Chains.{all_back}
 use Rattle.chain_release.proofs.Found.{first_there}
 

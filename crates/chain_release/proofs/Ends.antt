@@ -1,9 +1,8 @@
 -- Where the pages of a map end.
 use Rattle.std.proofs.Common.{◌≡◌, ◌∙◌, ℕ, zero, ◌+◌, ◌-◌, ◌<◌, ◌≤◌, List, [], ◌∷◌, length, get_or, suc, refl, sym, ap, subst, arith}
-use Rattle.std.specs.List.{AllByRecursion}
 use Rattle.extent_maps.specs.declared.run.Run.{Run}
 use Rattle.extent_maps.specs.declared.run.PagePlace.TheVariants.{Absent}
-use Rattle.extent_maps.specs.Runs.{AreRuns, Has, IsRun, end_of, place_of}
+use Rattle.extent_maps.specs.Runs.{AreRuns, Has, end_of, place_of}
 use Rattle.extent_maps.proofs.EditLemmas.{never_absent}
 use Rattle.extent_maps.proofs.RunLemmas.{absent_between, all_drop, all_take, is_run_at, place_at, rising}
 

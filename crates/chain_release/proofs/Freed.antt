@@ -1,5 +1,5 @@
 -- Free cells, free space and pages belong together once a cell is freed.
-use Rattle.std.proofs.Common.{◌≡◌, ◌∙◌, ℕ, ◌+◌, ◌<◌, ◌≤◌, Option, Some, None, IsSomeAnd, List, length, slice_index, refl, sym, ap, subst}
+use Rattle.std.proofs.Common.{◌≡◌, ◌∙◌, ℕ, ◌<◌, Option, Some, None, IsSomeAnd, List, length, slice_index, sym, ap, subst}
 use Rattle.std.specs.Option.{option_map}
 use Rattle.domain_base.specs.declared.place.CellAt.{CellAt}
 use Rattle.domain_base.specs.declared.place.Home.{Home}

@@ -1,7 +1,6 @@
 -- Pages that are given back, and the free space then.
-use Rattle.std.proofs.Common.{◌≡◌, ◌∙◌, ℕ, zero, suc, ◌+◌, ◌-◌, ◌<◌, ◌≤◌, ◌||◌, ◌↔◌, get_or, Bool, true, false, List, [], ◌∷◌, ◌++◌, nat_eq, Option, Some, None, IsSomeAnd, Contains, length, refl, sym, ap, subst, arith, ⊎_elim, ◌⊎◌, inl, inr}
-use Rattle.std.proofs.lemmas.Bool.{both_ways, cases_Bool, cases_lt, eq-eqb, eqb-true, or_cases, or_left}
-use Rattle.std.specs.List.{AllByRecursion, list_any}
+use Rattle.std.proofs.Common.{◌≡◌, ◌∙◌, ℕ, zero, suc, ◌+◌, ◌-◌, ◌≤◌, ◌||◌, get_or, Bool, true, false, List, [], ◌∷◌, ◌++◌, nat_eq, Option, Some, None, IsSomeAnd, Contains, refl, sym, ap, subst, arith, ⊎_elim}
+use Rattle.std.proofs.lemmas.Bool.{both_ways, cases_Bool, cases_lt, eq-eqb, eqb-true, or_left}
 use Rattle.std.specs.Option.{option_map}
 use Rattle.std.specs.FinSet.{contains}
 use Rattle.domain_base.specs.declared.place.Home.{Home}
@@ -17,8 +16,8 @@ use Rattle.free_space.specs.Spaces.{CanTake, IsHeld, Spaces, change_volume, volu
 use Rattle.free_space.proofs.Places.{volume_of-change_other, volume_of-change_same}
 use Rattle.bitfile_cells.specs.Allocated.{AreAllocated}
 use Rattle.bitfile_cells.proofs.Allocated.{there_is}
-use Rattle.chain_release.specs.Releases.{AreAllOnce, GivesBack, with_given}
-use Rattle.chain_release.specs.Steps.{GivesPage, IsHomeFrom, IsHomeWithin}
+use Rattle.chain_release.specs.Releases.{GivesBack, with_given}
+use Rattle.chain_release.specs.Steps.{GivesPage, IsHomeWithin}
 
 the_home : Home → PagePlace → Home
 the_home other Absent = other

@@ -1,6 +1,5 @@
 -- A file's chain is one, and what its cells say of pages.
-use Rattle.std.proofs.Common.{◌≡◌, ◌∙◌, ℕ, zero, suc, ◌+◌, ◌-◌, ◌<◌, ◌≤◌, Bool, true, false, cond, List, [], ◌∷◌, ◌++◌, Option, Some, None, IfSome, Contains, refl, sym, ap, subst, arith}
-use Rattle.std.proofs.lemmas.Bool.{cases_Bool}
+use Rattle.std.proofs.Common.{◌≡◌, ◌∙◌, ℕ, ◌+◌, ◌-◌, ◌<◌, ◌≤◌, Bool, true, false, cond, List, [], ◌∷◌, ◌++◌, Some, None, refl, sym, ap, subst, arith}
 use Rattle.std.specs.List.{AllByRecursion}
 use Rattle.domain_base.specs.declared.place.CellAt.{CellAt}
 use Rattle.domain_base.specs.declared.place.Home.{Home}
@@ -8,13 +7,13 @@ use Rattle.page_store.specs.Pages.{Pages}
 use Rattle.record_table.specs.declared.record.Record.{Record}
 use Rattle.bmt_mcells.specs.declared.head.CellHead.{CellHead}
 use Rattle.bmt_mcells.specs.Cell.{Cell}
-use Rattle.bmt_mcells.specs.Chain.{Follow, PlacedCell, StandsAt, places, records_of}
+use Rattle.bmt_mcells.specs.Chain.{Follow, PlacedCell, StandsAt, records_of}
 use Rattle.bmt_mcells.proofs.Unique.{one_stands}
 use Rattle.extent_maps.specs.declared.run.PagePlace.TheVariants.{Absent, At, Hole}
 use Rattle.extent_maps.specs.declared.run.RunPlace.{RunPlace}
 use Rattle.extent_maps.specs.declared.run.RunPlace.TheVariants as place
 use Rattle.extent_maps.specs.declared.run.Run.{Run}
-use Rattle.extent_maps.specs.Runs.{behind, covers, end_of, place_of, placed}
+use Rattle.extent_maps.specs.Runs.{behind, covers, place_of, placed}
 use Rattle.extent_maps.proofs.EditLemmas.{covers_is}
 use Rattle.extent_records.specs.Rows.{AreOneMap, IsPlaced, NoPageTwice, OnVolume, runs_in}
 use Rattle.extent_records.specs.Writing.{places_in}

@@ -1,43 +1,37 @@
 -- A step as a whole: a tail handed over or given back, and the chain written again.
-use Rattle.std.proofs.Common.{◌≡◌, ◌∙◌, ℕ, zero, suc, ◌+◌, ◌<◌, ◌≤◌, ◌||◌, Bool, true, false, cond, nat_eq, nat_lt, List, [], ◌∷◌, ◌++◌, length, Option, Some, None, IfNone, IfSome, is_some, Contains, refl, sym, ap, subst, arith, ⊎_elim, ◌⊎◌, inl, inr}
+use Rattle.std.proofs.Common.{◌≡◌, ◌∙◌, ℕ, zero, suc, ◌≤◌, Bool, true, false, cond, nat_eq, nat_lt, List, [], ◌∷◌, Option, Some, None, IfNone, IfSome, Contains, refl, sym, ap, subst, arith, ⊎_elim, ◌⊎◌, inl, inr}
 use Rattle.std.proofs.lemmas.Bool.{both_ways, cases_Bool, cases_lt, eq-eqb, eqb-true, lt-ltb, ltb-true}
-use Rattle.std.specs.List.{AllByRecursion}
 use Rattle.domain_base.specs.declared.place.CellAt.{CellAt}
 use Rattle.domain_base.specs.declared.place.Home.{Home}
 use Rattle.domain_base.specs.declared.version.Version.{Version}
-use Rattle.page_store.specs.Pages.{Pages, same_home}
+use Rattle.page_store.specs.Pages.{Pages}
 use Rattle.record_table.specs.declared.record.Record.{Record}
 use Rattle.bmt_mcells.specs.Cell.{Cell}
-use Rattle.bmt_mcells.specs.CellPage.{home_of}
-use Rattle.bmt_mcells.specs.Chain.{PlacedCell, StandsAt, is_at, places, records_of}
-use Rattle.bmt_mcells.proofs.Frames.{stands_stays}
+use Rattle.bmt_mcells.specs.Chain.{PlacedCell, StandsAt, places, records_of}
 use Rattle.extent_maps.specs.declared.run.PagePlace.{PagePlace}
 use Rattle.extent_maps.specs.declared.run.PagePlace.TheVariants.{Absent, At, Hole}
-use Rattle.extent_maps.specs.Runs.{Places, home_at, place_of, with_place}
+use Rattle.extent_maps.specs.Runs.{home_at, place_of}
 use Rattle.extent_records.specs.Rows.{runs_in, runs_of}
 use Rattle.extent_records.specs.Writing.{places_in}
 use Rattle.free_cells.specs.Cells.{Cells, table_of}
 use Rattle.free_space.specs.declared.waiting.PageUse.{PageUse}
 use Rattle.free_space.specs.Spaces.{IsHeld, Spaces}
-use Rattle.bitfile_cells.specs.Allocated.{AreAllocated}
 use Rattle.bitfile_cells.specs.FileChanges.{AreOnTables, LeavesOtherCells, SameFirst}
 use Rattle.bitfile_cells.specs.Files.{IsFile, places_of}
 use Rattle.bitfile_cells.specs.MapChanges.{Joins, LeavesOffTables}
-use Rattle.bitfile_cells.proofs.Added.{off_table, used_of}
-use Rattle.bitfile_cells.proofs.ChainChanges.{at_apart, inside_places, stand_file}
+use Rattle.bitfile_cells.proofs.ChainChanges.{inside_places, stand_file}
 use Rattle.bitfile_cells.proofs.Chosen.{all_at}
 use Rattle.chain_release.specs.declared.reader.Reader.{Reader}
 use Rattle.chain_release.specs.declared.releasing.Plan.{Plan}
-use Rattle.chain_release.specs.Reading.{HasPageFrom, IsGone, IsHandedOver, LetsGo, own_or, read_home}
-use Rattle.chain_release.specs.Releases.{FreesOne, GivesBack, LeavesBoth, LosesPage, Progresses, Releases, TakesForReader, use_of}
-use Rattle.chain_release.specs.Sharing.{AreSharing, IsHeldApart, IsReader, ShareNoCell, frozen_of}
-use Rattle.chain_release.specs.Steps.{AllStand, AreUnread, GivesTail, HandsOver, IsFreed, IsHomeFrom, IsPlanned, IsReadLast, PassesOn, WritesEdit, edited, is_freed, through, went}
+use Rattle.chain_release.specs.Reading.{IsGone, IsHandedOver, LetsGo, own_or, read_home}
+use Rattle.chain_release.specs.Releases.{GivesBack, TakesForReader}
+use Rattle.chain_release.specs.Sharing.{IsHeldApart, IsReader, ShareNoCell, frozen_of}
+use Rattle.chain_release.specs.Steps.{AllStand, AreUnread, GivesTail, HandsOver, IsHomeFrom, IsPlanned, IsReadLast, PassesOn, through}
 use Rattle.chain_release.proofs.Chains.{follow_by}
 use Rattle.chain_release.proofs.Cuts.{Cuts, there_or_not}
-use Rattle.chain_release.proofs.Found.{front_of}
-use Rattle.chain_release.proofs.Given.{absent_home, gives_by, gives_none, held_given, one_home}
-use Rattle.chain_release.proofs.Grown.{apart_grows, on_grown, tables_grow}
-use Rattle.chain_release.proofs.Once.{absent_not, file_map, good_page}
+use Rattle.chain_release.proofs.Given.{absent_home, gives_by, held_given, one_home}
+use Rattle.chain_release.proofs.Grown.{apart_grows}
+use Rattle.chain_release.proofs.Once.{file_map, good_page}
 
 -- ---- files of which each cell stands
 

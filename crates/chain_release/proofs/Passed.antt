@@ -1,19 +1,15 @@
 -- A tail that is handed over or given back.
-use Rattle.std.proofs.Common.{◌≡◌, ◌∙◌, ℕ, zero, suc, ◌<◌, ◌≤◌, true, List, [], ◌∷◌, Option, Some, None, IfNone, IfSome, IsSome, Result, Ok, Err, IfErr, OnOk, Contains, refl, sym, ap, subst, arith}
+use Rattle.std.proofs.Common.{◌≡◌, ◌∙◌, ℕ, ◌<◌, List, Option, Some, None, IfSome, IsSome, Result, Ok, Err, IfErr, OnOk, Contains, refl, sym, ap, subst, arith}
 use Rattle.domain_base.specs.declared.place.CellAt.{CellAt}
 use Rattle.domain_base.specs.declared.place.Home.{Home}
 use Rattle.page_store.specs.Pages.{Pages}
-use Rattle.page_store.specs.declared.fault.StoreFault.{StoreFault}
-use Rattle.page_store.specs.declared.fault.StoreFault.TheVariants.{NoPage}
 use Rattle.bmt_mcells.specs.Chain.{PlacedCell, records_of}
-use Rattle.extent_maps.specs.declared.run.PagePlace.{PagePlace}
 use Rattle.extent_maps.specs.declared.run.PagePlace.TheVariants.{Absent, At}
 use Rattle.extent_maps.specs.Runs.{place_of}
 use Rattle.extent_records.specs.Rows.{AreOneMap, runs_in}
 use Rattle.extent_records.specs.Writing.{places_in}
 use Rattle.free_cells.specs.Cells.{Cells, table_of}
 use Rattle.free_space.specs.Spaces.{IsHeld, Spaces}
-use Rattle.bitfile_cells.specs.Allocated.{AreAllocated}
 use Rattle.bitfile_cells.specs.Files.{IsFile, places_of}
 use Rattle.bitfile_cells.specs.MapChanges.{NoneTakes}
 use Rattle.chain_release.specs.declared.reader.Reader.{Reader}

@@ -1,16 +1,13 @@
 -- What is planned of a cell that has something to let go of.
-use Rattle.std.proofs.Common.{◌≡◌, ◌∙◌, ℕ, ◌<◌, ◌≤◌, List, [], ◌∷◌, ◌++◌, Option, Some, None, IfNone, IfSome, refl, sym, ap, subst}
-use Rattle.std.specs.List.{AllByRecursion}
+use Rattle.std.proofs.Common.{◌≡◌, ◌∙◌, ℕ, List, [], ◌∷◌, ◌++◌, Option, Some, None, IfNone, IfSome, refl, sym, ap, subst}
 use Rattle.domain_base.specs.declared.place.CellAt.{CellAt}
 use Rattle.domain_base.specs.declared.place.Home.{Home}
 use Rattle.page_store.specs.Pages.{Pages}
-use Rattle.bmt_mcells.specs.Cell.{Cell}
 use Rattle.bmt_mcells.specs.Chain.{PlacedCell, StandsAt}
 use Rattle.extent_maps.specs.declared.run.PagePlace.{PagePlace}
-use Rattle.extent_maps.specs.declared.run.PagePlace.TheVariants.{Absent, At}
 use Rattle.extent_maps.specs.Runs.{Places}
 use Rattle.bitfile_cells.specs.Changes.{IsInUse}
-use Rattle.bitfile_cells.specs.Files.{HasMapAt, IsFile}
+use Rattle.bitfile_cells.specs.Files.{HasMapAt}
 use Rattle.bitfile_cells.proofs.ChainChanges.{stand_file}
 use Rattle.chain_release.specs.declared.reader.Reader.{Reader}
 use Rattle.chain_release.specs.declared.releasing.Plan.{Plan}
@@ -19,8 +16,7 @@ use Rattle.chain_release.specs.Sharing.{AreSharing, frozen_of}
 use Rattle.free_cells.specs.Cells.{Cells}
 use Rattle.free_space.specs.Spaces.{Spaces}
 use Rattle.chain_release.specs.declared.tail.Tail.{Tail}
-use Rattle.chain_release.specs.Reading.{HasPageFrom}
-use Rattle.chain_release.specs.Steps.{AllStand, AreUnread, IsPlan, IsPlanned, IsReadLast, IsStaleCell, IsTail, MayPlan, last_place, through}
+use Rattle.chain_release.specs.Steps.{AllStand, AreUnread, IsPlan, IsPlanned, IsReadLast, IsStaleCell, IsTail, MayPlan, through}
 use Rattle.chain_release.proofs.Chains.{all_back, all_front}
 use Rattle.chain_release.proofs.Edited.{last_of}
 

@@ -1,40 +1,31 @@
 -- The chain once a cell was written again, or left out.
-use Rattle.std.proofs.Common.{◌≡◌, ◌∙◌, ℕ, zero, suc, ◌+◌, ◌<◌, ◌≤◌, ◌||◌, Bool, true, false, cond, nat_lt, List, [], ◌∷◌, ◌++◌, length, Option, Some, None, IfSome, is_some, Contains, refl, sym, ap, subst, arith, append_assoc, length-append, ⊎_elim, ◌⊎◌, inl, inr}
-use Rattle.std.specs.List.{AllByRecursion}
+use Rattle.std.proofs.Common.{◌≡◌, ◌∙◌, ℕ, zero, suc, ◌<◌, ◌≤◌, ◌||◌, Bool, true, false, cond, nat_lt, List, [], ◌∷◌, ◌++◌, length, Option, Some, None, IfSome, Contains, refl, sym, ap, subst, arith, append_assoc, length-append, ⊎_elim, ◌⊎◌, inl, inr}
 use Rattle.domain_base.specs.declared.place.CellAt.{CellAt}
 use Rattle.page_store.specs.Pages.{Pages}
 use Rattle.record_table.specs.declared.record.Record.{Record}
 use Rattle.record_table.specs.Fields.{number_at}
 use Rattle.record_table.specs.Records.{kind_of}
-use Rattle.bmt_mcells.specs.declared.head.CellHead.{CellHead}
-use Rattle.bmt_mcells.specs.Cell.{AreRecords, Cell, HasHead, IsAddress, spellings}
-use Rattle.bmt_mcells.specs.CellPage.{HasPlace, IsUsedAt}
+use Rattle.bmt_mcells.specs.Cell.{AreRecords, Cell, IsAddress, spellings}
+use Rattle.bmt_mcells.specs.CellPage.{IsUsedAt}
 use Rattle.bmt_mcells.specs.Chain.{AreDistinct, LeavesOthers, PlacedCell, StandsAt, is_at, places, records_of}
 use Rattle.bmt_mcells.proofs.Frames.{stands_stays}
 use Rattle.extent_maps.specs.declared.run.PagePlace.{PagePlace}
 use Rattle.extent_maps.specs.declared.run.PagePlace.TheVariants.{Absent}
 use Rattle.extent_records.specs.Rows.{AreOneMap}
-use Rattle.extent_records.specs.Writing.{places_before, places_in}
-use Rattle.free_cells.specs.Cells.{Cells, FreesCell, is_free, table_of}
-use Rattle.free_cells.specs.Belong.{Belong}
-use Rattle.free_cells.proofs.Belongs.{used_not_free}
-use Rattle.bitfile_cells.specs.Changes.{with_kind, with_record}
-use Rattle.bitfile_cells.specs.FileChanges.{AreOnTables}
+use Rattle.extent_records.specs.Writing.{places_in}
+use Rattle.free_cells.specs.Cells.{Cells}
+use Rattle.bitfile_cells.specs.Changes.{with_record}
 use Rattle.bitfile_cells.specs.Files.{HasMap, IsFile, places_of}
 use Rattle.bitfile_cells.proofs.Added.{used_of}
 use Rattle.bitfile_cells.proofs.ChainChanges.{at_apart, in_first, in_later, stand_file}
-use Rattle.bitfile_cells.proofs.Chosen.{all_at}
-use Rattle.bitfile_cells.proofs.OnePage.{place_stands}
 use Rattle.bitfile_cells.proofs.OneRecord.{has_after, replaced_fits}
 use Rattle.bitfile_cells.proofs.Replaced.{records_replaced}
 use Rattle.bitfile_cells.proofs.Walks.{distinct_file}
 use Rattle.chain_release.specs.declared.edits.ChainEdit.{ChainEdit}
-use Rattle.chain_release.specs.declared.released.Released.{Released}
-use Rattle.chain_release.specs.declared.released.Released.TheVariants as released
 use Rattle.chain_release.specs.Reading.{HasPageFrom}
 use Rattle.chain_release.specs.Releases.{FreesOne, LosesPage, Progresses}
-use Rattle.chain_release.specs.Steps.{AllStand, EditsCell, IsCut, IsFreed, IsStale, IsStaleCell, Rewrites, Unlinks, WritesEdit, edited, is_freed, last_place, went}
-use Rattle.chain_release.proofs.Chains.{Stays, all_back, all_front, fresh_front, fresh_rest, in_back, in_front, in_middle, in_more, places_same, rewritten, unlinked}
+use Rattle.chain_release.specs.Steps.{AllStand, EditsCell, IsCut, IsFreed, Rewrites, Unlinks, WritesEdit, edited, is_freed, went}
+use Rattle.chain_release.proofs.Chains.{Stays, all_back, all_front, fresh_front, fresh_rest, in_front, in_middle, in_more, places_same, rewritten, unlinked}
 use Rattle.chain_release.proofs.Cuts.{Cuts, cuts_rewritten, cuts_unlinked}
 use Rattle.chain_release.proofs.Once.{file_map}
 

@@ -1,5 +1,5 @@
 -- A cell in use that was read.
-use Rattle.std.proofs.Common.{◌≡◌, Option, Some, None, IfNone, IfSome, IsSome, refl, subst, sym}
+use Rattle.std.proofs.Common.{◌≡◌, Option, Some, None, IfNone, IfSome, IsSome, refl, subst}
 use Rattle.domain_base.specs.declared.place.CellAt.{CellAt}
 use Rattle.page_store.specs.Pages.{Pages}
 use Rattle.bmt_mcells.specs.declared.used.UsedCell.{UsedCell}

@@ -12,7 +12,7 @@ use Rattle.bmt_mcells.specs.CellPage.{KeepsHeaders, KeepsWellFormed, home_of}
 use Rattle.bmt_mcells.specs.Chain.{LeavesOthers, PlacedCell, StandsAt, is_at}
 use Rattle.extent_maps.specs.declared.run.PagePlace.{PagePlace}
 use Rattle.extent_maps.specs.declared.run.PagePlace.TheVariants.{Absent, At, Hole}
-use Rattle.extent_maps.specs.Runs.{Places, SamePlaces, home_at, place_of}
+use Rattle.extent_maps.specs.Runs.{Places, SamePlaces, home_at}
 use Rattle.extent_records.specs.Rows.{runs_in}
 use Rattle.extent_records.specs.Writing.{IsMapRecord, places_before, places_in}
 use Rattle.free_cells.specs.Cells.{Cells, FreesCell}

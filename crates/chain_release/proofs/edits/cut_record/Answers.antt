@@ -1,4 +1,4 @@
-use Rattle.std.proofs.Common.{◌≡◌, ◌∙◌, ap, subst, sym}
+use Rattle.std.proofs.Common.{◌∙◌, ap, subst, sym}
 use Rattle.record_table.specs.declared.record.Record.{Record}
 use Rattle.record_table.specs.Records.{kind_of}
 use Rattle.extent_records.specs.Writing.{IsMapRecord, places_before, places_in}

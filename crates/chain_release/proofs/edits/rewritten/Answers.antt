@@ -1,10 +1,6 @@
-use Rattle.std.proofs.Common.{◌≡◌, ◌∙◌, IfSome, List, Some, ap, subst, sym}
-use Rattle.record_table.specs.declared.record.Record.{Record}
+use Rattle.std.proofs.Common.{◌∙◌, Some, ap}
 use Rattle.record_table.specs.Records.{kind_of}
-use Rattle.bmt_mcells.specs.declared.used.UsedCell.{UsedCell}
 use Rattle.bmt_mcells.specs.Cell.{Cell}
-use Rattle.bmt_mcells.specs.Chain.{StandsAt}
-use Rattle.bmt_mcells.proofs.Unique.{one_stands}
 use Rattle.bitfile_cells.specs.Changes.{with_kind}
 use Rattle.chain_release.proofs.Used.{some_used, used_stands}
 use Rattle.chain_release.proofs.edits.rewritten.Goals as goal

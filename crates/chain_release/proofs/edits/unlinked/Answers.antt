@@ -1,5 +1,3 @@
-use Rattle.std.proofs.Common.{◌≡◌, ap}
-use Rattle.bmt_mcells.specs.Cell.{Cell}
 use Rattle.chain_release.proofs.Used.{some_used, used_stands}
 use Rattle.chain_release.proofs.edits.unlinked.Goals as goal
 

@@ -1,4 +1,4 @@
-use Rattle.std.proofs.Common.{◌≤◌, arith, ⊎_elim}
+use Rattle.std.proofs.Common.{arith, ⊎_elim}
 use Rattle.std.proofs.lemmas.Bool.{cases_lt}
 use Rattle.extent_maps.specs.Runs.{place_of}
 use Rattle.chain_release.specs.Steps.{IsHomeFrom, IsHomeWithin}

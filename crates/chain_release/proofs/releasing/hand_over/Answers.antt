@@ -1,4 +1,4 @@
-use Rattle.std.proofs.Common.{◌≡◌, ◌∙◌, List, OnOk, IfSome, ap, subst, sym}
+use Rattle.std.proofs.Common.{◌∙◌, List, OnOk, IfSome, ap, subst, sym}
 use Rattle.bmt_mcells.specs.Chain.{PlacedCell}
 use Rattle.bitfile_cells.specs.FileChanges.{AreOnTables}
 use Rattle.bitfile_cells.specs.Files.{places_of}

@@ -1,4 +1,3 @@
-use Rattle.chain_release.specs.Steps.{IsPlanned, MayPlan}
 use Rattle.chain_release.proofs.Planned.{may_plan, planned}
 use Rattle.chain_release.proofs.releasing.release_at.Goals as goal
 

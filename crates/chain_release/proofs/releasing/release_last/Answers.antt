@@ -1,5 +1,4 @@
 use Rattle.std.proofs.Common.{ℕ, List, Contains, subst, sym}
-use Rattle.domain_base.specs.declared.place.Home.{Home}
 use Rattle.bitfile_cells.proofs.Added.{off_table}
 use Rattle.chain_release.proofs.Freed.{allocated_freed}
 use Rattle.chain_release.proofs.releasing.release_last.Goals as goal

@@ -1,5 +1,4 @@
-use Rattle.std.proofs.Common.{subst, sym}
-use Rattle.std.proofs.lemmas.Bool.{both_ways, eq-eqb, eqb-true, lt-ltb, true≢false}
+use Rattle.std.proofs.lemmas.Bool.{both_ways, eqb-true, lt-ltb}
 use Rattle.chain_release.proofs.Found.{not_stale, stale_empty, stale_from, stale_is_empty}
 use Rattle.chain_release.proofs.stale.is_stale.Goals as goal
 use Rattle.extent_records.specs.Writing.{places_in}
