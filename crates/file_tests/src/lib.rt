@@ -3,4 +3,4 @@
 
 #[cfg(test)]
 mod files;
-pub mod world;
+mod world;
