@@ -8,6 +8,7 @@ pub mod Freed
 pub mod Given
 pub mod Grown
 pub mod Once
+pub mod Others
 pub mod Outcome
 pub mod Passed
 pub mod Planned

@@ -3,6 +3,7 @@
 
 mod edits;
 mod giving_back;
+mod laws;
 mod reader;
 mod released;
 mod releasing;
@@ -10,6 +11,7 @@ mod stale;
 mod tail;
 mod walking;
 
+pub use laws::other_pages_stay_held;
 pub use reader::Reader;
 pub use released::Released;
 pub use releasing::{release_last, release_tail};

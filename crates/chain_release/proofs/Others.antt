@@ -1,0 +1,42 @@
+-- Pages of other files after a step.
+use Rattle.std.proofs.Common.{◌≡◌, ◌∙◌, ℕ, ◌≤◌, List, Option, Contains, refl, sym, ap, subst, ⊎_elim}
+use Rattle.domain_base.specs.declared.place.CellAt.{CellAt}
+use Rattle.domain_base.specs.declared.place.Home.{Home}
+use Rattle.domain_base.specs.declared.version.Version.{Version}
+use Rattle.page_store.specs.Pages.{Pages}
+use Rattle.bmt_mcells.specs.Chain.{PlacedCell, records_of}
+use Rattle.extent_maps.specs.declared.run.PagePlace.TheVariants.{At}
+use Rattle.extent_records.specs.Rows.{runs_of}
+use Rattle.free_cells.specs.Cells.{Cells, table_of}
+use Rattle.free_space.specs.Spaces.{IsHeld, Spaces}
+use Rattle.bitfile_cells.specs.Files.{places_of}
+use Rattle.chain_release.specs.declared.reader.Reader.{Reader}
+use Rattle.chain_release.specs.declared.released.Released.{Released}
+use Rattle.chain_release.specs.declared.released.Released.TheVariants as released
+use Rattle.chain_release.specs.Releases.{Progresses, Releases, use_of}
+use Rattle.chain_release.specs.Sharing.{AreSharing, IsHeldApart}
+use Rattle.chain_release.proofs.Given.{held_given}
+use Rattle.chain_release.proofs.Grown.{apart_grows}
+use Rattle.chain_release.proofs.Once.{file_map, good_page}
+
+same_tables : (what : Released) (from : ℕ) (chain after : List PlacedCell) (cells cells_now : Cells) → Progresses what from chain after cells cells_now → (vol : ℕ) → table_of cells_now vol ≡ table_of cells vol
+same_tables released.Nothing from chain after cells cells_now progress vol = absurd progress
+same_tables released.Pages from chain after cells cells_now progress vol = ap (λ (c : Cells). table_of c vol) progress.same_cells
+same_tables released.Cell from chain after cells cells_now progress vol = progress.frees.tables vol
+
+pub others_held : (from : ℕ) (start : CellAt) (reader : Option Reader) (group : ℕ) (version : Version) (chain own : List PlacedCell) (space space_now : Spaces) (cells cells_now : Cells) (old new : Pages) (what : Released) (home : Home) → AreSharing start reader space cells old chain own
+    → Releases from start reader group version chain own space space_now cells cells_now old new what → 1 ≤ home.vol → IsHeldApart space cells home → ((page : ℕ) → ¬ places_of chain page ≡ At home) → IsHeldApart space_now cells_now home
+others_held from start reader group version chain own space space_now cells cells_now old new what home sharing r low is none =
+    let between : IsHeldApart r.space_between r.cells_between home = ⊎_elim
+    (λ same. subst (λ (s : Spaces). IsHeldApart s r.cells_between home) (sym same.0) (subst (λ (c : Cells). IsHeldApart space c home) (sym same.1) is))
+    (λ t. apart_grows t.page (At t.home) own t.home.vol space r.space_between cells r.cells_between old t.taken home is)
+    r.taken in
+    record {
+      held = subst (λ (s : Spaces). IsHeld s home.vol home.page) (sym r.given.is)
+          (held_given (use_of chain) group r.given.homes r.space_between home
+          (λ x inside. let gone = (r.given.each x).0 inside in (good_page (runs_of (records_of chain)) (file_map old start chain sharing.file).placed gone.page x gone.was).low)
+          low
+          (λ inside. let gone = (r.given.each home).0 inside in none gone.page gone.was)
+          between.held);
+      off_table = λ on. between.off_table (subst (λ (t : List ℕ). Contains t home.page) (same_tables what from chain r.after r.cells_between cells_now r.progress home.vol) on);
+    }
