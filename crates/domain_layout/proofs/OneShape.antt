@@ -32,7 +32,8 @@ use Rattle.fileset_table.specs.declared.slot.FilesetEntry.{FilesetEntry}
 use Rattle.fileset_table.specs.declared.slot.SlotItem.{SlotItem}
 use Rattle.fileset_table.specs.declared.slot.SlotItem.TheVariants as slots
 use Rattle.fileset_table.proofs.Unique.{table_unique}
-use Rattle.domain_layout.specs.Seen.{IsOfClone, IsOwn, IsSource, SeenFile, own_or, read_home, seen_in, seen_through, source_of, frozen_of}
+use Rattle.chain_release.specs.Reading.{own_or, read_home}
+use Rattle.domain_layout.specs.Seen.{IsOfClone, IsOwn, IsSource, SeenFile, seen_in, seen_through, source_of, frozen_of}
 use Rattle.domain_layout.specs.Shape.{AreLimits, AreQuotas, AreShapesOf, FilesetShape, HasChains, HasFileset, HaveShapes, IsClone, IsOriginal, IsSameSeen, IsSameShape, IsSameShapeThere, IsSameThere, IsShapeOf, Shapes, ShowsSeen, ShowsSeenAt, limits_in, shown_at}
 
 -- ---- lists

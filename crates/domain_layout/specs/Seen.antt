@@ -8,10 +8,10 @@ use Rattle.record_table.specs.declared.record.Record.{Record}
 use Rattle.record_table.specs.declared.record.Record.TheVariants as written
 use Rattle.bmt_mcells.specs.Chain.{PlacedCell}
 use Rattle.extent_maps.specs.Runs.{Places, home_at}
-use Rattle.extent_maps.specs.declared.run.PagePlace.{PagePlace}
-use Rattle.extent_maps.specs.declared.run.PagePlace.TheVariants.{Absent, At, Hole}
+use Rattle.extent_maps.specs.declared.run.PagePlace.TheVariants.{Absent}
 use Rattle.extent_records.specs.Writing.{places_before}
 use Rattle.bitfile_cells.specs.Files.{IsFile, places_of}
+use Rattle.chain_release.specs.Reading.{read_home}
 use Rattle.bitfile_core.specs.Files.{attributes_of, first_record, keep_of, of_live}
 use Rattle.bitfile_core.specs.declared.attributes.Attributes.{Attributes}
 
@@ -60,18 +60,6 @@ abbrev pub IsSource : Pages → Option CellAt → Places → Type 0
 IsSource pages None places = (page : ℕ) → places page ≡ Absent
 IsSource pages (Some at) places = (cells : List PlacedCell) × IsFile pages at cells
     × ((page : ℕ) → places page ≡ places_of cells page)
-
--- the home of a page that is there, none of a hole, and where it is absent another one
-abbrev pub own_or : PagePlace → Option Home → Option Home
-own_or (At home) other = Some home
-own_or Hole other = None
-own_or Absent other = other
-
--- the home at which a page is read, none where zeros are read: its own, and where it is absent and
--- in front of the frozen pages that of the source, whatever the source keeps
-abbrev pub read_home : ℕ → Places → Places → ℕ → Option Home
-read_home frozen own source page =
-    own_or (own page) (if nat_lt page frozen then home_at (source page) else None)
 
 -- the file of a clone's own cells
 pub record IsOwn (pages : Pages) (cells : List PlacedCell) (seen : SeenFile) : Type 0 where
