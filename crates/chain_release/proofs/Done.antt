@@ -34,8 +34,9 @@ use Rattle.chain_release.proofs.Cuts.{Cuts}
 use Rattle.chain_release.proofs.Found.{front_of}
 use Rattle.chain_release.proofs.Freed.{allocated_over}
 use Rattle.chain_release.proofs.Given.{absent_home}
-use Rattle.chain_release.proofs.Grown.{on_grown, tables_grow}
-use Rattle.chain_release.proofs.Outcome.{Passed, file_by, on_all, on_at, passed_none, passed_some, reader_by, reader_stands, stand_still}
+use Rattle.bitfile_core.proofs.Grown.{on_grown, tables_grow}
+use Rattle.bitfile_core.proofs.OneChain.{file_by, stand_still}
+use Rattle.chain_release.proofs.Outcome.{Passed, on_all, on_at, passed_none, passed_some, reader_by, reader_stands}
 use Rattle.chain_release.proofs.Passed.{read_last}
 use Rattle.chain_release.proofs.Stepped.{IsWritable, Steps, Written, stand_apart, steps, written}
 

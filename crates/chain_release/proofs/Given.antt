@@ -16,17 +16,9 @@ use Rattle.free_space.specs.Spaces.{CanTake, IsHeld, Spaces, change_volume, volu
 use Rattle.free_space.proofs.Places.{volume_of-change_other, volume_of-change_same}
 use Rattle.bitfile_cells.specs.Allocated.{AreAllocated}
 use Rattle.bitfile_cells.proofs.Allocated.{there_is}
+use Rattle.bitfile_core.proofs.Again.{one_home}
 use Rattle.chain_release.specs.Releases.{GivesBack, with_given}
 use Rattle.chain_release.specs.Steps.{GivesPage, IsHomeWithin}
-
-the_home : Home → PagePlace → Home
-the_home other Absent = other
-the_home other (At home) = home
-the_home other Hole = other
-
-pub one_home : (a b : Home) → At a ≡ At b → a ≡ b
-unfolding the_home
-one_home a b same = ap (the_home a) same
 
 -- ---- one page that waits
 

@@ -6,7 +6,6 @@ pub mod Ends
 pub mod Found
 pub mod Freed
 pub mod Given
-pub mod Grown
 pub mod Once
 pub mod Others
 pub mod Outcome

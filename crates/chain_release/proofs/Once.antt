@@ -1,14 +1,11 @@
--- A file's chain is one, and what its cells say of pages.
-use Rattle.std.proofs.Common.{◌≡◌, ◌∙◌, ℕ, ◌+◌, ◌-◌, ◌<◌, ◌≤◌, Bool, true, false, cond, List, [], ◌∷◌, ◌++◌, Some, None, refl, sym, ap, subst, arith}
+-- What the cells of a file say of pages.
+use Rattle.std.proofs.Common.{◌≡◌, ◌∙◌, ℕ, ◌+◌, ◌-◌, ◌<◌, ◌≤◌, Bool, true, false, cond, List, [], ◌∷◌, ◌++◌, refl, ap, subst, arith}
 use Rattle.std.specs.List.{AllByRecursion}
 use Rattle.domain_base.specs.declared.place.CellAt.{CellAt}
 use Rattle.domain_base.specs.declared.place.Home.{Home}
 use Rattle.page_store.specs.Pages.{Pages}
 use Rattle.record_table.specs.declared.record.Record.{Record}
-use Rattle.bmt_mcells.specs.declared.head.CellHead.{CellHead}
-use Rattle.bmt_mcells.specs.Cell.{Cell}
-use Rattle.bmt_mcells.specs.Chain.{Follow, PlacedCell, StandsAt, records_of}
-use Rattle.bmt_mcells.proofs.Unique.{one_stands}
+use Rattle.bmt_mcells.specs.Chain.{PlacedCell, records_of}
 use Rattle.extent_maps.specs.declared.run.PagePlace.TheVariants.{Absent, At, Hole}
 use Rattle.extent_maps.specs.declared.run.RunPlace.{RunPlace}
 use Rattle.extent_maps.specs.declared.run.RunPlace.TheVariants as place
@@ -19,35 +16,7 @@ use Rattle.extent_records.specs.Rows.{AreOneMap, IsPlaced, NoPageTwice, OnVolume
 use Rattle.extent_records.specs.Writing.{places_in}
 use Rattle.bitfile_cells.specs.Files.{HasMap, IsFile, places_of}
 use Rattle.chain_release.proofs.Cuts.{runs_around, runs_at, shown_runs}
-use Rattle.chain_release.proofs.Given.{one_home}
-
-none_is_some : (at : CellAt) → None ≡ Some at → ⊥
-none_is_some at e = cc
-
-same_at : (a b : CellAt) → Some a ≡ Some b → a ≡ b
-same_at a b e = cc
-
-abbrev placed_cell : CellAt → Cell → PlacedCell
-placed_cell at cell = record { at = at; cell = cell }
-
-one_follow : (pages : Pages) (head : CellHead) (xs ys : List PlacedCell) → Follow pages head xs → Follow pages head ys → xs ≡ ys
-one_follow pages head [] [] f g = refl
-one_follow pages head [] (y ∷ ys) f g = absurd (none_is_some y.at (sym f ∙ g.0))
-one_follow pages head (x ∷ xs) [] f g = absurd (none_is_some x.at (sym g ∙ f.0))
-one_follow pages head (x ∷ xs) (y ∷ ys) f g =
-    let at = same_at x.at y.at (sym f.0 ∙ g.0) in
-    let cell = one_stands pages y.at x.cell y.cell (subst (λ (a : CellAt). StandsAt pages a x.cell) at f.2) g.2 in
-    let rest = one_follow pages y.cell.head xs ys (subst (λ (c : Cell). Follow pages c.head xs) cell f.3) g.3 in
-    (λ i. placed_cell (at i) (cell i) ∷ rest i)
-
-pub one_file : (pages : Pages) (start : CellAt) (xs ys : List PlacedCell) → IsFile pages start xs → IsFile pages start ys → xs ≡ ys
-one_file pages start [] ys f g = absurd f
-one_file pages start (x ∷ xs) [] f g = absurd g
-one_file pages start (x ∷ xs) (y ∷ ys) f g =
-    let at : x.at ≡ y.at = f.0 ∙ sym g.0 in
-    let cell = one_stands pages y.at x.cell y.cell (subst (λ (a : CellAt). StandsAt pages a x.cell) at f.1.links.stands) g.1.links.stands in
-    let rest = one_follow pages y.cell.head xs ys (subst (λ (c : Cell). Follow pages c.head xs) cell f.1.links.follow) g.1.links.follow in
-    (λ i. placed_cell (at i) (cell i) ∷ rest i)
+use Rattle.bitfile_core.proofs.Again.{one_home}
 
 -- ---- homes
 

@@ -1,5 +1,5 @@
 -- Pages of other files after a step.
-use Rattle.std.proofs.Common.{◌≡◌, ◌∙◌, ℕ, ◌≤◌, List, Option, Contains, refl, sym, ap, subst, ⊎_elim}
+use Rattle.std.proofs.Common.{◌≡◌, ℕ, ◌≤◌, List, Option, Contains, sym, ap, subst, ⊎_elim}
 use Rattle.domain_base.specs.declared.place.CellAt.{CellAt}
 use Rattle.domain_base.specs.declared.place.Home.{Home}
 use Rattle.domain_base.specs.declared.version.Version.{Version}
@@ -14,9 +14,10 @@ use Rattle.chain_release.specs.declared.reader.Reader.{Reader}
 use Rattle.chain_release.specs.declared.released.Released.{Released}
 use Rattle.chain_release.specs.declared.released.Released.TheVariants as released
 use Rattle.chain_release.specs.Releases.{Progresses, Releases, use_of}
-use Rattle.chain_release.specs.Sharing.{AreSharing, IsHeldApart}
+use Rattle.bitfile_core.specs.Together.{IsHeldApart}
+use Rattle.chain_release.specs.Sharing.{AreSharing}
 use Rattle.chain_release.proofs.Given.{held_given}
-use Rattle.chain_release.proofs.Grown.{apart_grows}
+use Rattle.bitfile_core.proofs.Grown.{apart_grows}
 use Rattle.chain_release.proofs.Once.{file_map, good_page}
 
 same_tables : (what : Released) (from : ℕ) (chain after : List PlacedCell) (cells cells_now : Cells) → Progresses what from chain after cells cells_now → (vol : ℕ) → table_of cells_now vol ≡ table_of cells vol

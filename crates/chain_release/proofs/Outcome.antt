@@ -17,7 +17,7 @@ use Rattle.free_cells.specs.Cells.{Cells, table_of}
 use Rattle.free_space.specs.declared.waiting.PageUse.{PageUse}
 use Rattle.free_space.specs.Spaces.{IsHeld, Spaces}
 use Rattle.bitfile_cells.specs.FileChanges.{AreOnTables, LeavesOtherCells, SameFirst}
-use Rattle.bitfile_cells.specs.Files.{IsFile, places_of}
+use Rattle.bitfile_cells.specs.Files.{places_of}
 use Rattle.bitfile_cells.specs.MapChanges.{Joins, LeavesOffTables}
 use Rattle.bitfile_cells.proofs.ChainChanges.{inside_places, stand_file}
 use Rattle.bitfile_cells.proofs.Chosen.{all_at}
@@ -25,37 +25,18 @@ use Rattle.chain_release.specs.declared.reader.Reader.{Reader}
 use Rattle.chain_release.specs.declared.releasing.Plan.{Plan}
 use Rattle.chain_release.specs.Reading.{IsGone, IsHandedOver, LetsGo, own_or, read_home}
 use Rattle.chain_release.specs.Releases.{GivesBack, TakesForReader}
-use Rattle.chain_release.specs.Sharing.{IsHeldApart, IsReader, ShareNoCell, frozen_of}
+use Rattle.bitfile_core.specs.Files.{AreApart}
+use Rattle.bitfile_core.specs.Together.{IsHeldApart}
+use Rattle.chain_release.specs.Sharing.{IsReader, frozen_of}
 use Rattle.chain_release.specs.Steps.{AllStand, AreUnread, GivesTail, HandsOver, IsHomeFrom, IsPlanned, IsReadLast, PassesOn, through}
-use Rattle.chain_release.proofs.Chains.{follow_by}
 use Rattle.chain_release.proofs.Cuts.{Cuts, there_or_not}
-use Rattle.chain_release.proofs.Given.{absent_home, gives_by, held_given, one_home}
-use Rattle.chain_release.proofs.Grown.{apart_grows}
+use Rattle.bitfile_core.proofs.Again.{one_home}
+use Rattle.bitfile_core.proofs.OneChain.{file_by}
+use Rattle.chain_release.proofs.Given.{absent_home, gives_by, held_given}
+use Rattle.bitfile_core.proofs.Grown.{apart_grows}
 use Rattle.chain_release.proofs.Once.{file_map, good_page}
 
 -- ---- files of which each cell stands
-
-pub file_by : (old new : Pages) (start : CellAt) (cs : List PlacedCell) → AllStand new cs → IsFile old start cs → IsFile new start cs
-file_by old new start [] stand is = is
-file_by old new start (first ∷ rest) stand is = (
-  is.0,
-  record {
-    links = record { stands = stand.0; follow = follow_by old new first.cell.head rest stand.1 is.1.links.follow; distinct = is.1.links.distinct };
-    primary = is.1.primary;
-    attributes = is.1.attributes;
-    value = is.1.value;
-    map = is.1.map;
-    others = is.1.others;
-    one_map = is.1.one_map;
-  },
-)
-
-pub stand_still : (old new : Pages) (cells : Cells) (changed cs : List PlacedCell) → LeavesOtherCells cells changed old new → ((at : CellAt) → Contains (places cs) at → ¬ Contains (places changed) at) → AreOnTables cells cs → AllStand old cs → AllStand new cs
-stand_still old new cells changed [] others apart on stand = tt
-stand_still old new cells changed (c ∷ cs) others apart on stand = (
-  others c.at c.cell stand.0 on.0 (apart c.at (0, omega arith, refl)),
-  stand_still old new cells changed cs others (λ at inside. apart at (suc inside.0, omega (arith, inside.1), inside.2)) on.1 stand.1,
-)
 
 pub reader_stands : (pages : Pages) (reader : Option Reader) (own : List PlacedCell) → IsReader pages reader own → AllStand pages own
 reader_stands pages None own is = subst (AllStand pages) (sym is) tt
@@ -98,7 +79,7 @@ module _ (from : ℕ) (start : CellAt) (reader : Option Reader) (plan : Plan) (s
     pub own_now : List PlacedCell
     pub reads : IsReader mid reader own_now
     pub on : AreOnTables cells_now own_now
-    pub apart : ShareNoCell chain own_now
+    pub apart : AreApart chain own_now
     pub first : (own_now ≡ own) ⊎ SameFirst own own_now
     pub joined : (c : PlacedCell) → Contains own_now c → ¬ Contains (places own) c.at → Joins cells old version c
     pub lets : LetsGo from (frozen_of reader) (places_of own) (places_of own_now) (places_of chain) (places_of after)
@@ -274,7 +255,7 @@ module _ (from : ℕ) (start : CellAt) (reader : Option Reader) (plan : Plan) (s
           (λ other. absent_home h (g.gone) (other_left g.page (λ e. absurd (both_ways (nat_eq g.page plan.tail.from) other (eq-eqb g.page plan.tail.from e))) ∙ g.was))
           (cases_Bool (nat_eq g.page plan.tail.from))
 
-      share_none : ShareNoCell chain own_after
+      share_none : AreApart chain own_after
       unfolding own_after
       share_none at in_chain in_own =
           let c = placed_at hands.changes.changes.after at in_own in

@@ -1,15 +1,17 @@
 -- A file, and the clone's file that reads through it if there is one.
-use Rattle.std.specs.Prelude.{◌≡◌, ◌≤◌, ℕ, List, [], ◌∷◌, Option, Some, None, Contains}
+use Rattle.std.specs.Prelude.{◌≡◌, ◌≤◌, ℕ, List, [], ◌∷◌, Option, Some, None}
 use Rattle.std.specs.List.{AllByRecursion}
 use Rattle.domain_base.specs.declared.place.CellAt.{CellAt}
 use Rattle.domain_base.specs.declared.place.Home.{Home}
 use Rattle.page_store.specs.Pages.{Pages}
-use Rattle.bmt_mcells.specs.Chain.{PlacedCell, places}
+use Rattle.bmt_mcells.specs.Chain.{PlacedCell}
 use Rattle.extent_maps.specs.declared.run.PagePlace.TheVariants.{Absent, At}
-use Rattle.free_cells.specs.Cells.{Cells, table_of}
-use Rattle.free_space.specs.Spaces.{IsHeld, Spaces}
+use Rattle.free_cells.specs.Cells.{Cells}
+use Rattle.free_space.specs.Spaces.{Spaces}
 use Rattle.bitfile_cells.specs.FileChanges.{AreOnTables}
 use Rattle.bitfile_cells.specs.Files.{IsFile, places_of}
+use Rattle.bitfile_core.specs.Files.{AreApart}
+use Rattle.bitfile_core.specs.Together.{IsHeldApart}
 use Rattle.chain_release.specs.declared.reader.Reader.{Reader}
 
 -- the chain of the file that reads through another, and no cell where there is none
@@ -22,15 +24,6 @@ abbrev pub frozen_of : Option Reader → ℕ
 frozen_of None = 0
 frozen_of (Some reader) = reader.frozen
 
--- no cell is in both chains
-abbrev pub ShareNoCell : List PlacedCell → List PlacedCell → Type 0
-ShareNoCell xs ys = (at : CellAt) → Contains (places xs) at → ¬ Contains (places ys) at
-
--- a page that is used, does not wait, and is none of cells
-pub record IsHeldApart (space : Spaces) (cells : Cells) (home : Home) : Type 0 where
-  pub held : IsHeld space home.vol home.page
-  pub off_table : ¬ Contains (table_of cells home.vol) home.page
-
 -- the chains of a file and of its reader stand on their volumes' tables and share no cell; each home
 -- of the file is held and none of cells, and that of no other page of the two
 pub record AreSharing (start : CellAt) (reader : Option Reader) (space : Spaces) (cells : Cells)
@@ -39,7 +32,7 @@ pub record AreSharing (start : CellAt) (reader : Option Reader) (space : Spaces)
   pub reads : IsReader pages reader own
   pub on_tables : AreOnTables cells chain
   pub own_on_tables : AreOnTables cells own
-  pub apart : ShareNoCell chain own
+  pub apart : AreApart chain own
   pub held : (page : ℕ) (home : Home) → places_of chain page ≡ At home
       → IsHeldApart space cells home
   pub once : (p q : ℕ) (home : Home) → places_of chain p ≡ At home → places_of chain q ≡ At home

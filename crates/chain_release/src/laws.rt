@@ -12,7 +12,8 @@ ghost use Rattle.bitfile_cells.specs.Files.{places_of};
 ghost use Rattle.chain_release.specs.declared.reader.Reader.{Reader};
 ghost use Rattle.chain_release.specs.declared.released.Released.{Released};
 ghost use Rattle.chain_release.specs.Releases.{Releases};
-ghost use Rattle.chain_release.specs.Sharing.{AreSharing, IsHeldApart};
+ghost use Rattle.bitfile_core.specs.Together.{IsHeldApart};
+ghost use Rattle.chain_release.specs.Sharing.{AreSharing};
 
 /// A page that is held and none of cells stays so in a step of a file that does not have it.
 pub fn other_pages_stay_held()

@@ -3,7 +3,7 @@ use Rattle.bmt_mcells.specs.Chain.{PlacedCell}
 use Rattle.bitfile_cells.specs.FileChanges.{AreOnTables}
 use Rattle.bitfile_cells.specs.Files.{places_of}
 use Rattle.chain_release.specs.Steps.{HandsOver}
-use Rattle.chain_release.proofs.Once.{one_file}
+use Rattle.bitfile_core.proofs.Given.{one_file}
 use Rattle.chain_release.proofs.Passed.{on_both, reader_is}
 use Rattle.chain_release.proofs.releasing.hand_over.Goals as goal
 
