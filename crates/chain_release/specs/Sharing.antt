@@ -24,8 +24,8 @@ abbrev pub frozen_of : Option Reader → ℕ
 frozen_of None = 0
 frozen_of (Some reader) = reader.frozen
 
--- the chains of a file and of its reader stand on their volumes' tables and share no cell; each home
--- of the file is held and none of cells, and that of no other page of the two
+-- the chains of a file and of its reader stand on their volumes' tables and share no cell; each
+-- home of the file is held and none of cells, and that of no other page of the two
 pub record AreSharing (start : CellAt) (reader : Option Reader) (space : Spaces) (cells : Cells)
     (pages : Pages) (chain own : List PlacedCell) : Type 0 where
   pub file : IsFile pages start chain
@@ -55,7 +55,8 @@ abbrev pub LaterHavePages : List PlacedCell → Type 0
 LaterHavePages [] = Unit {0}
 LaterHavePages (first ∷ rest) = AllByRecursion HasPages rest
 
--- a chain has let go of all its pages from one on, and of all cells that say of none where it stands
+-- a chain has let go of all its pages from one on, and of all cells behind its first that say of
+-- none where it stands
 pub record IsReleased (from : ℕ) (chain : List PlacedCell) : Type 0 where
   pub absent : (page : ℕ) → from ≤ page → places_of chain page ≡ Absent
   pub later : LaterHavePages chain
