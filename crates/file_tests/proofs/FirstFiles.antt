@@ -1,7 +1,6 @@
 -- The first pages belong together, with no file.
-use Rattle.std.proofs.Common.{◌≡◌, ◌∙◌, ℕ, zero, suc, ◌+◌, ◌-◌, ◌/◌, ◌<◌, ◌≤◌, Bool, true, false, cond, nat_eq, List, [], ◌∷◌, ◌++◌, length, get_or, Option, Some, None, IfSome, IsSomeAnd, Contains, refl, sym, ap, subst, arith, ⊎_elim, replicate}
+use Rattle.std.proofs.Common.{◌≡◌, ◌∙◌, ℕ, zero, suc, ◌-◌, ◌/◌, ◌<◌, ◌≤◌, Bool, true, false, cond, nat_eq, List, [], ◌∷◌, length, get_or, Option, Some, None, IsSomeAnd, Contains, refl, sym, ap, subst, arith, ⊎_elim, replicate}
 use Rattle.std.proofs.lemmas.Bool.{both_ways, cases_Bool, eq-eqb, eqb-true, false_from_ne_true, or_cases, true≢false}
-use Rattle.std.proofs.lemmas.List.{get_or-set_other}
 use Rattle.std.specs.Option.{option_and_then}
 use Rattle.std.specs.FinSet.{FinSet, contains, empty, insert}
 use Rattle.std.specs.Ordering.{nat_cmp}
@@ -11,10 +10,9 @@ use Rattle.domain_base.specs.declared.place.Home.{Home}
 use Rattle.domain_base.specs.declared.place.Tag.{Tag}
 use Rattle.page_store.specs.Pages.{Pages, same_home}
 use Rattle.bmt_mcells.specs.CellPage.{next_of}
-use Rattle.bmt_mcells.specs.Chain.{PlacedCell}
 use Rattle.bmt_mcells.proofs.Changed.{homes_same}
 use Rattle.tag_dirs.specs.declared.dir.TagPlace.{TagPlace}
-use Rattle.tag_dirs.specs.Directory.{AddsPage, cell_for, cell_of, entry_at, has_home}
+use Rattle.tag_dirs.specs.Directory.{AddsPage, cell_for, cell_of, entry_at}
 use Rattle.extent_maps.specs.declared.run.PagePlace.TheVariants.{Absent, At}
 use Rattle.free_cells.specs.Belong.{LeadsTo, home_at as table_home}
 use Rattle.free_cells.specs.Cells.{Cells, table_of}

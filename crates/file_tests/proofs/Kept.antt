@@ -1,5 +1,7 @@
 -- All belongs together after a call.
-use Rattle.std.proofs.Common.{◌≡◌, ℕ, List, Option, IsSomeAnd, Some, None, Result, Ok, Err, IfOk, OnErr, subst, sym}
+use Rattle.std.proofs.Common.{◌≡◌, ◌∙◌, ℕ, ◌≤◌, List, Option, IsSome, IsSomeAnd, Some, None, Result, Ok, Err, IfOk, OnOk, OnErr, ap, subst, sym}
+use Rattle.std.proofs.lemmas.Bool.{false_from_ne_true}
+use Rattle.std.specs.Option.{option_map_or}
 use Rattle.domain_base.specs.declared.place.Home.{Home}
 use Rattle.domain_base.specs.declared.place.Tag.{Tag}
 use Rattle.domain_base.specs.declared.version.Version.{Version}
@@ -7,15 +9,24 @@ use Rattle.page_store.specs.Pages.{Pages}
 use Rattle.page_store.specs.declared.fault.StoreFault.{StoreFault}
 use Rattle.bmt_mcells.specs.Chain.{PlacedCell}
 use Rattle.tag_dirs.specs.declared.dir.TagPlace.{TagPlace}
+use Rattle.tag_dirs.specs.Directory.{has_home}
 use Rattle.extent_maps.specs.declared.run.PagePlace.{PagePlace}
-use Rattle.extent_maps.specs.declared.run.PagePlace.TheVariants.{At}
+use Rattle.extent_maps.specs.declared.run.PagePlace.TheVariants.{Absent, At}
+use Rattle.extent_maps.specs.Runs.{home_at}
 use Rattle.free_cells.specs.Cells.{Cells}
-use Rattle.free_space.specs.Spaces.{Spaces}
+use Rattle.free_space.specs.VolumeSpace.{with_page}
+use Rattle.free_space.specs.Spaces.{CanTake, Spaces, change_volume}
+use Rattle.bitfile_cells.specs.Files.{places_of}
+use Rattle.bitfile_cells.proofs.Spaces.{not_held}
+use Rattle.bitfile_core.specs.Changes.{IsLive}
 use Rattle.bitfile_core.specs.declared.new_cells.NewFile.{NewFile}
 use Rattle.bitfile_core.specs.Creation.{Creates}
-use Rattle.bitfile_core.specs.Files.{Chains}
+use Rattle.bitfile_core.specs.Files.{Chains, place_at}
+use Rattle.bitfile_core.specs.Moves.{MayMove}
 use Rattle.bitfile_core.specs.Pages.{ChangesFile}
-use Rattle.bitfile_core.specs.Together.{AreTogether, HasTogether}
+use Rattle.bitfile_core.specs.Together.{AreTogether, HasTogether, IsFilePage}
+use Rattle.bitfile_core.proofs.Created.{one_chains, together_page}
+use Rattle.bitfile_core.proofs.Grown.{apart_now}
 
 pub created : (fileset fileset_now : ℕ) (places : List TagPlace) (tag : Tag) (version : Version) (what : NewFile) (chains : Chains) (space : Spaces) (cells cells_now : Cells) (old new : Pages) → fileset_now ≡ fileset
     → Creates fileset places tag version what chains space cells cells_now old new → HasTogether fileset_now places space cells_now new
@@ -31,3 +42,37 @@ pub given_or_kept : (fileset : ℕ) (places : List TagPlace) (tag : Tag) (page :
     → IfOk r (λ home. IsSomeAnd (chains tag) (ChangesFile fileset places tag page (At home) version chains space_now cells cells_now old new)) → OnErr r (AreTogether fileset places space_now cells_now new chains) → HasTogether fileset places space_now cells_now new
 given_or_kept fileset places tag page version chains space_now cells cells_now old new (Ok home) changes kept = given fileset places tag page (At home) version chains space_now cells cells_now old new (chains tag) changes
 given_or_kept fileset places tag page version chains space_now cells cells_now old new (Err fault) changes kept = (chains, kept)
+
+-- ---- a page is held for a file
+
+module _ (pages : Pages) (fileset : ℕ) (places : List TagPlace) (chains : Chains) (space : Spaces) (cells : Cells) (home : Home) (low : 1 ≤ home.vol) (are : AreTogether fileset places space cells pages chains) (can : CanTake space home.vol home.page) where
+  abbrev taken : Spaces
+  taken = change_volume (with_page home.page) space home.vol
+
+  pub together : (space_now : Spaces) → space_now ≡ taken → AreTogether fileset places space_now cells pages chains
+  together space_now is = subst (λ (s : Spaces). AreTogether fileset places s cells pages chains) (sym is) (together_page pages fileset places chains space cells home are)
+
+  pub held : (space_now : Spaces) → space_now ≡ taken → HasTogether fileset places space_now cells pages
+  held space_now is = (chains, together space_now is)
+
+  pub may_move : (space_now : Spaces) → space_now ≡ taken → (tag : Tag) (page : ℕ) (now : Chains) → AreTogether fileset places space_now cells pages now → IsLive tag now → IsSome (home_at (place_at now tag page)) → MayMove tag page home places space_now cells now
+  may_move space_now is tag page now are_now live there = record {
+    live = live;
+    there = there;
+    file_page = subst (λ (s : Spaces). IsFilePage s cells places home) (sym is) (record {
+      apart = apart_now space cells pages home low are.allocated can;
+      no_tags = false_from_ne_true (has_home places home) (λ has. not_held space home.vol home.page can (are.tag_pages home has).held);
+    });
+    unused = λ t p at. not_held space home.vol home.page can
+        (are.file_pages t p home (ap (λ o. option_map_or (λ cs. places_of cs p) o Absent) (one_chains pages fileset places chains now are.files are_now.files t) ∙ at)).apart.held;
+  }
+
+pub moved_or_kept : (fileset : ℕ) (places : List TagPlace) (tag : Tag) (page : ℕ) (home : Home) (version : Version) (chains : Chains) (space_now : Spaces) (cells cells_now : Cells) (old new : Pages) (r : Result Home StoreFault)
+    → OnOk r (IsSomeAnd (chains tag) (ChangesFile fileset places tag page (At home) version chains space_now cells cells_now old new)) → OnErr r (AreTogether fileset places space_now cells_now new chains) → HasTogether fileset places space_now cells_now new
+moved_or_kept fileset places tag page home version chains space_now cells cells_now old new (Ok was) changes kept = given fileset places tag page (At home) version chains space_now cells cells_now old new (chains tag) changes
+moved_or_kept fileset places tag page home version chains space_now cells cells_now old new (Err fault) changes kept = (chains, kept)
+
+pub made_or_kept : (fileset fileset_now : ℕ) (places : List TagPlace) (version : Version) (what : NewFile) (chains : Chains) (space : Spaces) (cells cells_now : Cells) (old new : Pages) (r : Result Tag StoreFault) → fileset_now ≡ fileset
+    → IfOk r (λ tag. Creates fileset places tag version what chains space cells cells_now old new) → OnErr r (AreTogether fileset_now places space cells_now new chains) → HasTogether fileset_now places space cells_now new
+made_or_kept fileset fileset_now places version what chains space cells cells_now old new (Ok tag) same creates kept = created fileset fileset_now places tag version what chains space cells cells_now old new same creates
+made_or_kept fileset fileset_now places version what chains space cells cells_now old new (Err fault) same creates kept = (chains, kept)

@@ -1,7 +1,6 @@
 -- The pages of one volume with a page of cells and a page of tags, and no file.
-use Rattle.std.specs.Prelude.{◌≡◌, ℕ, false, List, [], ◌∷◌, length, Some, None}
+use Rattle.std.specs.Prelude.{◌≡◌, ℕ, false, [], ◌∷◌, Some}
 use Rattle.std.specs.FinSet.{empty, insert}
-use Rattle.std.specs.Ordering.{nat_cmp}
 use Rattle.domain_base.specs.declared.place.Home.{Home}
 use Rattle.page_store.specs.Pages.{Pages}
 use Rattle.storage_bitmap.specs.VolumePages.{VolumePages}

@@ -13,7 +13,7 @@ use std::alloc::Global;
 use std::test::Fail;
 
 /// Makes a file or a directory, born at clone 7.
-fn make(alloc: Global, world: &mut World, kind: Kind) -> Result<Tag, Fail>
+pub(crate) fn make(alloc: Global, world: &mut World, kind: Kind) -> Result<Tag, Fail>
     requires { IsWorld world.old }
     ensures { IfOk result (λ _. IsWorld world.new) }
 {
@@ -34,7 +34,7 @@ fn make(alloc: Global, world: &mut World, kind: Kind) -> Result<Tag, Fail>
 }
 
 /// Gives a page to a file that keeps it and does not have it, of the last version.
-fn give(
+pub(crate) fn give(
     alloc: Global,
     world: &mut World,
     tag: Tag,

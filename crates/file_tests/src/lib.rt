@@ -3,4 +3,8 @@
 
 #[cfg(test)]
 mod files;
+#[cfg(test)]
+mod making;
+#[cfg(test)]
+mod moves;
 mod world;

@@ -1,7 +1,4 @@
-use Rattle.std.proofs.Common.{ℕ, subst, sym}
 use Rattle.memory_store.specs.Homes.{pages_of}
-use Rattle.bitfile_core.specs.Together.{AreTogether}
-use Rattle.bitfile_core.specs.Creation.{with_new}
 use Rattle.file_tests.proofs.Kept.{created}
 use Rattle.file_tests.proofs.files.make.Goals as goal
 

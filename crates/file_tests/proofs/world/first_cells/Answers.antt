@@ -1,4 +1,4 @@
-use Rattle.std.proofs.Common.{◌≡◌, ◌∙◌, ℕ, ◌-◌, Bool, false, cond, nat_eq, List, [], ◌∷◌, ◌++◌, length, slice_index, Option, Some, None, IsSomeAnd, ap, subst, sym, ⊎_elim}
+use Rattle.std.proofs.Common.{◌≡◌, ◌∙◌, ℕ, ◌-◌, Bool, cond, nat_eq, List, [], ◌∷◌, ◌++◌, length, slice_index, Option, Some, None, IsSomeAnd, ap, subst, sym, ⊎_elim}
 use Rattle.std.proofs.lemmas.Bool.{cases_Bool, eqb-true}
 use Rattle.domain_base.specs.declared.place.Home.{Home}
 use Rattle.memory_store.specs.Homes.{pages_of}

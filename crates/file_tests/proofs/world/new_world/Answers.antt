@@ -1,4 +1,4 @@
-use Rattle.std.proofs.Common.{◌≡◌, ◌∙◌, ◌++◌, ◌∷◌, [], List, ap, subst, sym}
+use Rattle.std.proofs.Common.{◌∙◌, ◌++◌, ◌∷◌, [], List, ap, subst, sym}
 use Rattle.domain_base.specs.declared.place.Home.{Home}
 use Rattle.memory_store.specs.Homes.{pages_of}
 use Rattle.tag_dirs.specs.declared.dir.TagPlace.{TagPlace}
