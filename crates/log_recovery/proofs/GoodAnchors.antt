@@ -1,17 +1,15 @@
--- A good anchor stays good while the labels stay, and so does an image of which recovery takes the log.
+-- A good anchor stays good while the labels stay, and recovery takes the images left meanwhile.
 use Rattle.std.proofs.Common.{◌≡◌, ◌⊎◌, ◌==◌, ℕ, ◌+◌, ◌*◌, ◌-◌, ◌<◌, ◌≤◌, List, [], Option, Some, None, IsSomeAnd, if◌then◌else◌, sym, ◌∙◌, ap, subst, inl, inr, arith}
 use Rattle.std.proofs.lemmas.List.Elements.{All-weaker}
 use Rattle.domain_base.specs.declared.place.Home.{Home}
-use Rattle.domain_base.specs.declared.version.Version.{Version}
 use Rattle.domain_base.specs.declared.version.Version.TheVariants.{Three, Four}
-use Rattle.volume_disk.specs.Disk.{Disk, MayLeave, Tells, volume_pages}
+use Rattle.volume_disk.specs.Disk.{Disk, MayLeave, volume_pages}
 use Rattle.volume_disk.specs.Image.{Image, Places, SameOutside}
-use Rattle.volume_disk.specs.Run.{LeavesOnly, MayLeaveTorn}
+use Rattle.volume_disk.specs.Run.{MayLeaveTorn}
 use Rattle.volume_disk.proofs.Bytes.{bytes_from-same}
 use Rattle.volume_disk.proofs.Laws.{both, touches-stays, weaker}
 use Rattle.disk_label.specs.Body.{word_at}
 use Rattle.disk_label.specs.Label.{IsLabel, label_block}
-use Rattle.disk_label.specs.Slot.{IsOnAnchors}
 use Rattle.disk_label.specs.declared.anchor.Anchor.{Anchor}
 use Rattle.disk_label.proofs.Elsewhere.{IsAnchor-elsewhere}
 use Rattle.page_change.specs.declared.image.PageImage.{PageImage}
@@ -19,9 +17,8 @@ use Rattle.log_ring.specs.Groups.{Group, HasLog}
 use Rattle.log_ring.specs.Homes.{HaveHomes, IsHomeOf, IsLoggable, member_of}
 use Rattle.log_ring.specs.Settling.{BringsHome, IsAtHomesOrSlot, IsRedoneAs, MeansTheSame}
 use Rattle.log_ring.proofs.HomePages.{each_home}
-use Rattle.log_recovery.specs.Members.{AreLabelled, IsLabelled, IsMember, label_version}
+use Rattle.log_recovery.specs.Members.{AreLabelled, IsMember, label_version}
 use Rattle.log_recovery.specs.Outcome.{HasGoodAnchor, IsSound}
-use Rattle.log_recovery.specs.Range.{IsInRange}
 use Rattle.log_recovery.specs.Readable.{IsBehindAnchors, IsReadable, KeepsGoodAnchor, LeavesReadable, SettlesReadably, WouldBeGood}
 use Rattle.log_recovery.specs.Settled.{HasNumbersLeft, settled_anchor}
 use Rattle.log_recovery.specs.declared.redone.Redone.{Redone}

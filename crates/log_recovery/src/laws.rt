@@ -14,9 +14,9 @@ ghost use Rattle.log_recovery.specs.declared.redone.Redone.{Redone};
 /// next anchor's slot is ready (`synced`); and so a log that stands as it was recovered is brought
 /// home (`settles`).
 ///
-/// An image that has a good anchor and a log has no place at which there is no domain (`sound`), any
-/// image has one first such place at most (`one`), and the log that an image has is the one that is
-/// recovered of it (`one_log`): so what `recover` answers is told by the image alone.
+/// An image that has a good anchor and a log has no place at which there is no domain (`sound`),
+/// any image has one first such place at most (`one`), and the log that an image has is the one
+/// that is recovered of it (`one_log`): so what `recover` answers is told by the image alone.
 ///
 /// A good anchor stays good in calls that touch only pages behind those of anchors (`keeps`), and
 /// recovery takes each image that is left while images are brought home and an anchor is written
