@@ -17,7 +17,7 @@ use Rattle.tag_dirs.proofs.Reading.{same_directory}
 use Rattle.extent_maps.specs.declared.run.PagePlace.{PagePlace}
 use Rattle.extent_maps.specs.Runs.{Places, home_at}
 use Rattle.bitfile_cells.specs.Files.{IsFile, places_of}
-use Rattle.bitfile_core.specs.Files.{AreFiles, Chains, attributes_of}
+use Rattle.bitfile_core.specs.Files.{AreFiles, Chains, is_removed}
 use Rattle.bitfile_core.specs.Shown.{IsWhat, Shows, ShowsAt}
 use Rattle.bitfile_core.specs.declared.attributes.Attributes.{Attributes}
 use Rattle.bitfile_core.proofs.Created.{one_chains}
@@ -33,7 +33,7 @@ use Rattle.fileset_table.specs.declared.slot.SlotItem.{SlotItem}
 use Rattle.fileset_table.specs.declared.slot.SlotItem.TheVariants as slots
 use Rattle.fileset_table.proofs.Unique.{table_unique}
 use Rattle.chain_release.specs.Reading.{own_or, read_home}
-use Rattle.domain_layout.specs.Seen.{IsOfClone, IsOwn, IsSource, SeenFile, seen_in, seen_through, source_of, frozen_of}
+use Rattle.domain_layout.specs.Seen.{IsOfClone, IsOwn, IsOwnUnless, IsSource, SeenFile, seen_in, seen_through, source_of, frozen_of}
 use Rattle.domain_layout.specs.Shape.{AreLimits, AreQuotas, AreShapesOf, FilesetShape, HasChains, HasFileset, HaveShapes, IsClone, IsOriginal, IsSameSeen, IsSameShape, IsSameShapeThere, IsSameThere, IsShapeOf, Shapes, ShowsSeen, ShowsSeenAt, limits_in, shown_at}
 
 -- ---- lists
@@ -107,9 +107,13 @@ own_same pages cells a b is also = record {
 }
 
 of_clone_same : (pages : Pages) (clone : ℕ) (own behind : Option (List PlacedCell)) (a b : Option SeenFile) → IsOfClone pages clone own behind a → IsOfClone pages clone own behind b → IsSameThere a b
-of_clone_same pages clone (Some own) behind None b is also = absurd is
-of_clone_same pages clone (Some own) behind (Some a) None is also = absurd also
-of_clone_same pages clone (Some own) behind (Some a) (Some b) is also = own_same pages own a b is also
+of_clone_same pages clone (Some own) behind a b is also = by_removed (is_removed own) a b is also
+  where
+    by_removed : (removed : Bool) (a b : Option SeenFile) → IsOwnUnless removed pages own a → IsOwnUnless removed pages own b → IsSameThere a b
+    by_removed true a b is also = same_by a b (is ∙ sym also)
+    by_removed false None b is also = absurd is
+    by_removed false (Some a) None is also = absurd also
+    by_removed false (Some a) (Some b) is also = own_same pages own a b is also
 of_clone_same pages clone None behind a b is also = same_by a b (is ∙ sym also)
 
 shown_page_same : (pages : Pages) (a b : SeenFile) → IsSameSeen a b → (kind : Kind) (number : ℕ) → shown_at pages a kind number ≡ shown_at pages b kind number

@@ -1,7 +1,7 @@
 -- The rules of pages of cells, of cells, and of their chains. Each is said by where it is broken.
-use Rattle.std.specs.Prelude.{◌≡◌, ◌⊎◌, ◌==◌, ◌||◌, ◌&&◌, ◌+◌, ◌^◌, ◌<◌, ◌≤◌, ◌++◌, ℕ, Bool, true, false, not, is_some, List, [], ◌∷◌, Option, Some, None, IsSome, IsSomeAnd, Contains, nat_lt, slice_get}
-use Rattle.std.specs.List.{AllByRecursion, list_all, list_any}
-use Rattle.std.specs.Option.{option_and_then, option_map, option_map_or}
+use Rattle.std.specs.Prelude.{◌≡◌, ◌⊎◌, ◌==◌, ◌||◌, ◌&&◌, ◌<◌, ◌≤◌, ◌++◌, ℕ, Bool, true, false, not, is_some, List, [], ◌∷◌, Option, Some, None, Contains, nat_lt, slice_get}
+use Rattle.std.specs.List.{AllByRecursion, list_all}
+use Rattle.std.specs.Option.{option_and_then, option_map_or}
 use Rattle.domain_base.specs.Version.{bitmap_pages}
 use Rattle.domain_base.specs.declared.place.CellAt.{CellAt}
 use Rattle.domain_base.specs.declared.place.Home.{Home}
@@ -17,10 +17,10 @@ use Rattle.bmt_mcells.specs.Cell.{Cell, IsCell, IsFreeCell, id_of, record_of}
 use Rattle.bmt_mcells.specs.CellPage.{cell_of, free_cells, home_of, index_of}
 use Rattle.bmt_mcells.specs.Chain.{HasHeadAt, StandsAt, may_follow}
 use Rattle.bmt_mcells.specs.declared.head.CellHead.{CellHead}
-use Rattle.bmt_mcells.specs.declared.head.CellKind.{CellKind}
 use Rattle.bmt_mcells.specs.declared.head.CellKind.TheVariants.{Chain, Primary, Quota, Volume}
 use Rattle.extent_maps.specs.declared.run.PagePlace.TheVariants.{Absent}
 use Rattle.extent_records.specs.Writing.{places_in}
+use Rattle.bitfile_core.specs.Files.{is_first_kind}
 use Rattle.fileset_table.specs.Table.{Table}
 use Rattle.fileset_table.specs.declared.slot.SlotItem.{SlotItem}
 use Rattle.fileset_table.specs.declared.slot.SlotItem.TheVariants as slot
@@ -132,18 +132,18 @@ abbrev pub says_directory : Record → Bool
 says_directory (written.Attributes kind uid gid flags size keep links birth unsynced) = kind == 2
 says_directory _ = false
 
--- each first cell has attributes, and one record of extents, plain or dense
+-- each first cell has attributes, and one record of extents, plain or dense, and records of these
+-- kinds alone
 abbrev pub has_first_records : List Record → Bool
 has_first_records records = has_kind 1 records
     && not (has_kind 4 records == has_kind 14 records)
+    && list_all (λ r. is_first_kind (kind_of r)) records
 
 -- the kinds that a first cell may have in an original and in a clone: a directory has its parent,
 -- and no file has one
 abbrev pub has_its_kinds : Bool → List Record → Bool
 has_its_kinds clone records = (has_kind 2 records == clone)
     && (has_kind 10 records == option_map_or says_directory (record_of 1 records) false)
-    && list_all (λ r. list_any (λ k. kind_of r == k)
-    (1 ∷ 2 ∷ 4 ∷ 6 ∷ 9 ∷ 10 ∷ 11 ∷ 14 ∷ [])) records
 
 -- an original keeps at most all pages, and fewer only where something is pending
 abbrev pub keeps_well : Record → Bool → Bool
@@ -156,7 +156,8 @@ abbrev pub is_good_first : Table → Cell → Bool
 is_good_first table cell = has_first_records cell.records
     && (is_removed cell.records
     || ((not (is_original (item_of table cell.head)) || (has_its_kinds false cell.records
-    && option_map_or (λ r. keeps_well r (has_kind 6 cell.records)) (record_of 1 cell.records) false))
+    && option_map_or (λ r. keeps_well r (has_kind 6 cell.records))
+    (record_of 1 cell.records) false))
     && (not (is_clone (item_of table cell.head)) || has_its_kinds true cell.records)))
 
 -- a first cell has other records than it may have
@@ -197,10 +198,12 @@ pub data Follows (pages : Pages) (frame : Frame) (start : CellAt) : List CellAt 
       → may_follow head.kind next.kind ≡ true
       → Follows pages frame start (passed ++ at ∷ []) onto next
 
--- the first cell of a chain: of a file or directory, or one of quotas to which no cell leads
+-- a cell of quotas leads to another
 abbrev pub LeadsTo : Pages → Frame → CellAt → CellAt → Type 0
-LeadsTo pages frame at onto =
-    (head : CellHead) × IsHead pages frame at head × (head.next ≡ Some onto)
+LeadsTo pages frame at onto = (head : CellHead) × IsHead pages frame at head
+    × (head.kind ≡ Quota) × (head.next ≡ Some onto)
+
+-- the first cell of a chain: of a file or directory, or one of quotas to which none of quotas leads
 
 abbrev pub IsChainHead : Pages → Frame → CellAt → CellHead → Type 0
 IsChainHead pages frame at head = IsHead pages frame at head
@@ -212,25 +215,45 @@ abbrev pub is_before : CellAt → CellAt → Bool
 is_before a b = nat_lt a.vol b.vol || ((a.vol == b.vol)
     && (nat_lt a.page b.page || ((a.page == b.page) && nat_lt a.cell b.cell)))
 
--- a cell leads back, to no cell that may follow it, or to one to which an earlier cell leads
-pub record LeadsWrong (pages : Pages) (frame : Frame) (at : CellAt) : Type 0 where
+-- a cell of the chain that begins at a place
+pub record IsInChain (pages : Pages) (frame : Frame) (start at : CellAt) (head : CellHead) : Type 0
+  where
+    pub first : CellHead
+    pub begins : IsChainHead pages frame start first
+    pub passed : List CellAt
+    pub follows : Follows pages frame start passed at head
+
+-- a cell of another chain leads to a cell, too
+pub record IsLedTo (pages : Pages) (frame : Frame) (start : CellAt) (other onto : CellAt)
+    : Type 0 where
+  pub chain : CellAt
+  pub another : ¬ chain ≡ start
   pub head : CellHead
-  pub is : IsHead pages frame at head
+  pub is : IsInChain pages frame chain other head
+  pub leads : head.next ≡ Some onto
+  pub next : CellHead
+  pub there : IsHead pages frame onto next
+  pub may : may_follow head.kind next.kind ≡ true
+
+-- a cell of a chain leads back, to no cell that may follow it, or to one to which an earlier cell
+-- of another chain leads
+pub record LeadsWrong (pages : Pages) (frame : Frame) (at : CellAt) : Type 0 where
+  pub start : CellAt
+  pub head : CellHead
+  pub is : IsInChain pages frame start at head
   pub onto : CellAt
   pub leads : head.next ≡ Some onto
   pub wrong : ((next : CellHead) → IsHead pages frame onto next
       → may_follow head.kind next.kind ≡ false)
-      ⊎ ((start : CellAt) × (passed : List CellAt) × Follows pages frame start passed at head
-      × Contains (passed ++ at ∷ []) onto)
-      ⊎ ((other : CellAt) × LeadsTo pages frame other onto × (is_before other at ≡ true))
+      ⊎ Contains (is.passed ++ at ∷ []) onto
+      ⊎ ((other : CellAt) × IsLedTo pages frame start other onto × (is_before other at ≡ true))
 
--- a chain cell to which no chain comes
+-- a chain cell or a quota cell to which no chain comes
 pub record IsUnchained (pages : Pages) (frame : Frame) (at : CellAt) : Type 0 where
   pub head : CellHead
   pub is : IsHead pages frame at head
-  pub kind : head.kind ≡ Chain
-  pub alone : (start : CellAt) (first : CellHead) (passed : List CellAt)
-      → IsChainHead pages frame start first → ¬ Follows pages frame start passed at head
+  pub kind : (head.kind ≡ Chain) ⊎ (head.kind ≡ Quota)
+  pub alone : (start : CellAt) → ¬ IsInChain pages frame start at head
 
 -- two cells of a chain, one behind the other
 pub record AreInChain (pages : Pages) (frame : Frame) (first : CellHead) (early late : Cell)

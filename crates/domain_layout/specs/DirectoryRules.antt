@@ -1,21 +1,25 @@
 -- The rules of directories and of their indexes, where the pages of tables stand as they should.
-use Rattle.std.specs.Prelude.{◌≡◌, ◌⊎◌, ◌==◌, ◌&&◌, ◌+◌, ◌*◌, ◌<◌, ◌≤◌, ◌↔◌, ℕ, true, false, List, [], ◌∷◌, length, Option, Some, None, IsSome, IsSomeAnd, Contains, count_by, slice_get}
-use Rattle.std.specs.List.{AllByRecursion}
-use Rattle.std.specs.Option.{option_and_then, option_map, option_map_or}
+use Rattle.std.specs.Prelude.{◌≡◌, ◌⊎◌, ◌*◌, ◌<◌, ◌≤◌, ◌↔◌, ℕ, true, false, List, [], ◌∷◌, length, Option, Some, None, IsSome, IsSomeAnd, Contains, nat_le, slice_get, if◌then◌else◌}
+use Rattle.std.specs.List.{AllByRecursion, flat_map}
+use Rattle.std.specs.Option.{option_and_then}
 use Rattle.domain_base.specs.declared.place.CellAt.{CellAt}
 use Rattle.domain_base.specs.declared.place.Home.{Home}
 use Rattle.domain_base.specs.declared.place.Kind.{Kind}
 use Rattle.domain_base.specs.declared.place.Kind.TheVariants.{Directory, File}
 use Rattle.domain_base.specs.declared.place.Tag.{Tag}
 use Rattle.page_store.specs.Pages.{Pages}
+use Rattle.record_table.specs.Fields.{number_at}
 use Rattle.record_table.specs.declared.record.Record.{Record}
 use Rattle.record_table.specs.declared.record.Record.TheVariants as written
+use Rattle.bmt_mcells.specs.Cell.{Cell, record_of}
 use Rattle.bmt_mcells.specs.CellPage.{home_of}
 use Rattle.bmt_mcells.specs.Chain.{PlacedCell}
-use Rattle.bitfile_core.specs.Files.{Chains, first_record}
+use Rattle.extent_maps.specs.Runs.{home_at}
+use Rattle.bitfile_cells.specs.Files.{places_of}
+use Rattle.bitfile_core.specs.Files.{Chains, first_record, is_removed}
 use Rattle.bitfile_core.specs.Shown.{index_in}
-use Rattle.dir_index.specs.Entries.{hash_of, is_below}
-use Rattle.dir_index.specs.Index.{IsIndexPage, all_entries, entries_of}
+use Rattle.dir_index.specs.Entries.{is_below}
+use Rattle.dir_index.specs.Index.{IsIndexPage, entries_of}
 use Rattle.dir_index.specs.declared.entry.IndexEntry.{IndexEntry}
 use Rattle.dir_pages.specs.RowPage.{IsDirPage, rows_of}
 use Rattle.dir_pages.specs.declared.row.Row.{Row}
@@ -25,8 +29,8 @@ use Rattle.fileset_table.specs.declared.slot.FilesetEntry.{FilesetEntry}
 use Rattle.fileset_table.specs.declared.slot.SlotItem.{SlotItem}
 use Rattle.fileset_table.specs.declared.slot.SlotItem.TheVariants as slot
 use Rattle.name_space.specs.Names.{root_tag}
-use Rattle.domain_layout.specs.CellRules.{is_clone}
-use Rattle.domain_layout.specs.Reached.{Frame, IsRead, IsUnread, MayBe, index_way}
+use Rattle.domain_layout.specs.CellRules.{IsUsed, is_clone}
+use Rattle.domain_layout.specs.Reached.{Frame, IsRead, IsUnread, IsWithin, index_way}
 use Rattle.domain_layout.specs.Seen.{IsOwn, SeenFile, seen_in, seen_through}
 use Rattle.domain_layout.specs.Shape.{HasChains}
 
@@ -54,7 +58,8 @@ pub record IsInOriginal (pages : Pages) (number : ℕ) (entry : FilesetEntry) (t
 -- the same of a clone: they are its own, or the original's
 pub record IsInClone (pages : Pages) (number of : ℕ) (entry original : FilesetEntry) (clone : ℕ)
     (tag : Tag) (cells : List PlacedCell) (seen : SeenFile) : Type 0 where
-  pub is : (IsThere pages number entry tag cells × IsOwn pages cells seen)
+  pub is : (IsThere pages number entry tag cells × (is_removed cells ≡ false)
+      × IsOwn pages cells seen)
       ⊎ (IsNotThere pages number entry tag × IsThere pages of original tag cells
       × (seen_through clone cells ≡ Some seen))
 
@@ -91,7 +96,7 @@ pub record RowPlace : Type 0 where
   pub page : ℕ
   pub place : ℕ
 
--- a page of a directory stands at a home where pages may stand
+-- a page of a directory stands at a home on its volume
 pub record IsDirectoryPage (pages : Pages) (frame : Frame) (table : Table) (number : ℕ) (dir : Tag)
     (page : ℕ) (home : Home) (bytes : List ℕ) : Type 0 where
   pub cells : List PlacedCell
@@ -99,7 +104,7 @@ pub record IsDirectoryPage (pages : Pages) (frame : Frame) (table : Table) (numb
   pub has : Has pages table number dir cells seen
   pub kind : seen.is.kind ≡ Directory
   pub at : seen.homes page ≡ Some home
-  pub may : MayBe frame home
+  pub within : IsWithin frame home
   pub there : pages home ≡ Some bytes
 
 -- a row stands at a place of a page that is well formed
@@ -110,32 +115,42 @@ pub record IsRow (pages : Pages) (frame : Frame) (table : Table) (number : ℕ) 
   pub good : IsDirPage bytes
   pub there : slice_get (rows_of bytes) at.place ≡ Some row
 
--- these are all rows that lead to a tag
+-- these are all rows that lead to a tag of this kind: one of another kind leads to nothing
 pub record AreRowsTo (pages : Pages) (frame : Frame) (table : Table) (number : ℕ) (tag : Tag)
-    (rows : List RowPlace) : Type 0 where
+    (of : Kind) (rows : List RowPlace) : Type 0 where
   pub each : (at : RowPlace) → Contains rows at
       ↔ ((row : Row) × (home : Home) × IsRow pages frame table number at row home
-      × (row.tag ≡ tag))
+      × (row.tag ≡ tag) × (row.kind ≡ of))
   pub once : (j k : ℕ) (at : RowPlace) → slice_get rows j ≡ Some at → slice_get rows k ≡ Some at
       → j ≡ k
 
--- from one directory on rows lead to a tag
+-- from one directory on rows of directories lead to a tag
 pub data RowsLead (pages : Pages) (frame : Frame) (table : Table) (number : ℕ) (dir : Tag) : Tag
     → Type 0 where
   one : (at : RowPlace) (row : Row) (home : Home) → at.dir ≡ dir
-      → IsRow pages frame table number at row home
+      → IsRow pages frame table number at row home → row.kind ≡ Directory
       → RowsLead pages frame table number dir row.tag
   more : (middle : Tag) (at : RowPlace) (row : Row) (home : Home)
       → RowsLead pages frame table number dir middle → at.dir ≡ middle
-      → IsRow pages frame table number at row home
+      → IsRow pages frame table number at row home → row.kind ≡ Directory
       → RowsLead pages frame table number dir row.tag
 
--- all directories of a fileset are read: an original's are, and a clone's where none is out of sync
-pub record AreAllRead (pages : Pages) (frame : Frame) (table : Table) (number : ℕ) : Type 0 where
-  pub root : HasOfKind pages table number root_tag Directory
+-- something is there at a tag
+abbrev pub IsHere : Pages → Table → ℕ → Tag → Type 0
+IsHere pages table number tag =
+    (cells : List PlacedCell) × (seen : SeenFile) × Has pages table number tag cells seen
+
+-- no directory of a fileset is out of sync: an original's never is, and a clone's none is where the
+-- root is there, and what each row of a directory leads to
+pub record AreAllInSync (pages : Pages) (frame : Frame) (table : Table) (number : ℕ) : Type 0 where
+  pub root : IsHere pages table number root_tag
   pub rows : (at : RowPlace) (row : Row) (home : Home)
       → IsRow pages frame table number at row home → row.kind ≡ Directory
-      → HasOfKind pages table number row.tag Directory
+      → IsHere pages table number row.tag
+
+abbrev pub AreAllRead : Pages → Frame → Table → ℕ → Type 0
+AreAllRead pages frame table number = (is_clone (slice_get table.slots number) ≡ false)
+    ⊎ AreAllInSync pages frame table number
 
 -- ** What a directory's pages break: at that page
 
@@ -175,10 +190,12 @@ pub record IsWrongRow (pages : Pages) (frame : Frame) (table : Table) (home : Ho
 
 -- ** What files and directories break: at the page of their first cell
 
--- its pages have a gap, or it has another size than they
-abbrev pub HasWrongSize : SeenFile → Type 0
-HasWrongSize seen = ¬ ((count : ℕ) × (seen.is.size ≡ 8192 * count)
+-- its pages have a gap, or it has another size than they; or its cells have pages that it does not
+-- keep
+abbrev pub HasWrongSize : List PlacedCell → SeenFile → Type 0
+HasWrongSize cells seen = ¬ ((count : ℕ) × (seen.is.size ≡ 8192 * count)
     × ((page : ℕ) → IsSome (seen.homes page) ↔ (page < count)))
+    ⊎ ((page : ℕ) × IsSome (home_at (places_of cells page)) × (seen.homes page ≡ None))
 
 -- the directory that it says to stand in
 abbrev pub parent_in : Record → Option Tag
@@ -192,24 +209,24 @@ parent_of cells = option_and_then parent_in (first_record 10 cells)
 pub record HasWrongParent (pages : Pages) (frame : Frame) (table : Table) (number : ℕ) (tag : Tag)
     (cells : List PlacedCell) : Type 0 where
   pub parent : Tag
-  pub is : (tag ≡ root_tag × parent ≡ root_tag)
+  pub is : ((tag ≡ root_tag) × (parent ≡ root_tag))
       ⊎ ((at : RowPlace) × (row : Row) × (home : Home) × IsRow pages frame table number at row home
-      × (row.tag ≡ tag) × (at.dir ≡ parent))
+      × (row.tag ≡ tag) × (row.kind ≡ Directory) × (at.dir ≡ parent) × ¬ tag ≡ root_tag)
   pub wrong : ¬ parent_of cells ≡ Some parent
 
 -- a directory: two rows lead to it, or it is below itself; or none does, or it is not below the
--- root, where all directories are read
+-- root, where no directory is out of sync
 abbrev pub IsMisplaced : Pages → Frame → Table → ℕ → Tag → Type 0
 IsMisplaced pages frame table number tag = (rows : List RowPlace)
-    × AreRowsTo pages frame table number tag rows
+    × AreRowsTo pages frame table number tag Directory rows
     × ((1 < length rows) ⊎ RowsLead pages frame table number tag tag
     ⊎ (AreAllRead pages frame table number
     × ¬ RowsLead pages frame table number root_tag tag))
 
--- a file: more rows lead to it than it has links; or fewer do, where all directories are read
+-- a file: more rows lead to it than it has links; or fewer do, where no directory is out of sync
 abbrev pub IsMiscounted : Pages → Frame → Table → ℕ → Tag → SeenFile → Type 0
 IsMiscounted pages frame table number tag seen = (rows : List RowPlace)
-    × AreRowsTo pages frame table number tag rows
+    × AreRowsTo pages frame table number tag File rows
     × ((seen.is.links < length rows)
     ⊎ (AreAllRead pages frame table number × (length rows < seen.is.links)))
 
@@ -218,7 +235,7 @@ abbrev pub IsWrongFile : Pages → Frame → Table → ℕ → Tag → List Plac
 IsWrongFile pages frame table number tag cells seen File =
     (tag ≡ root_tag) ⊎ IsMiscounted pages frame table number tag seen
 IsWrongFile pages frame table number tag cells seen Directory =
-    HasWrongSize seen ⊎ ¬ seen.is.links ≡ 1
+    HasWrongSize cells seen ⊎ ¬ seen.is.links ≡ 1
     ⊎ HasWrongParent pages frame table number tag cells
     ⊎ (¬ tag ≡ root_tag × IsMisplaced pages frame table number tag)
 
@@ -240,6 +257,31 @@ IsDirectoryFault pages frame table home =
 
 -- ** Indexes: code 10
 
+-- a cell in use names an index that begins there
+pub record HasIndexAt (pages : Pages) (frame : Frame) (at : CellAt) (first : Home) : Type 0 where
+  pub cell : Cell
+  pub is : IsUsed pages frame at cell
+  pub value : Record
+  pub there : record_of 9 cell.records ≡ Some value
+  pub begins : index_in value ≡ Some first
+
+-- a page that is well formed by itself, and leads to none, or to one on a volume that there may be
+abbrev pub IsGoodIndexPage : List ℕ → Type 0
+IsGoodIndexPage page = IsIndexPage page × (number_at 4 8 page ≤ 8)
+
+-- what is asked of every index, of whatever it is: each page that is come to can be one, is well
+-- formed, and is none of another index
+pub record IsWrongIndexPage (pages : Pages) (frame : Frame) (home : Home) : Type 0 where
+  pub at : CellAt
+  pub first : Home
+  pub has : HasIndexAt pages frame at first
+  pub wrong : IsUnread pages frame (index_way first) home
+      ⊎ ((place : ℕ) × (page : List ℕ) × IsRead pages frame (index_way first) place home page
+      × (¬ IsGoodIndexPage page
+      ⊎ ((other : CellAt) × (begin : Home) × (k : ℕ) × ¬ other ≡ at
+      × HasIndexAt pages frame other begin
+      × IsRead pages frame (index_way begin) k home page)))
+
 -- how many entries a record says that the index has
 abbrev pub total_in : Record → ℕ
 total_in (written.DirIndex vol page entries) = entries
@@ -256,18 +298,22 @@ pub record HasIndex (pages : Pages) (table : Table) (number : ℕ) (tag : Tag) (
   pub begins : index_in value ≡ Some first
   pub entries : total_in value ≡ total
 
--- all pages of an index are read, and no more is come to
-pub record AreIndexPages (pages : Pages) (frame : Frame) (first : Home) (index : List (List ℕ))
+-- the pages of an index that are read, the page in front first
+pub record AreReadPages (pages : Pages) (frame : Frame) (first : Home) (index : List (List ℕ))
     : Type 0 where
   pub each : (place : ℕ) (page : List ℕ) → slice_get index place ≡ Some page
       ↔ ((home : Home) × IsRead pages frame (index_way first) place home page)
-  pub whole : (home : Home) → ¬ IsUnread pages frame (index_way first) home
 
--- the entries of all index pages as far as they are read, the page in front first
-pub record AreEntries (pages : Pages) (frame : Frame) (first : Home) (index : List (List ℕ))
+-- they are all pages of it: no other is come to, and each is well formed
+pub record AreAllPages (pages : Pages) (frame : Frame) (first : Home) (index : List (List ℕ))
     : Type 0 where
-  pub each : (place : ℕ) (page : List ℕ) → slice_get index place ≡ Some page
-      ↔ ((home : Home) × IsRead pages frame (index_way first) place home page)
+  pub read : AreReadPages pages frame first index
+  pub whole : (home : Home) → ¬ IsUnread pages frame (index_way first) home
+  pub good : AllByRecursion IsGoodIndexPage index
+
+-- the entries of a page, none where it says that it has more than a page can have
+abbrev pub entries_in : List ℕ → List IndexEntry
+entries_in page = if nat_le (number_at 4 4 page) 1022 then entries_of page else []
 
 -- how many rows with a name of that hash the page with a number has
 pub record CountsRows (pages : Pages) (frame : Frame) (table : Table) (number : ℕ) (dir : Tag)
@@ -281,44 +327,43 @@ pub record CountsRows (pages : Pages) (frame : Frame) (table : Table) (number : 
 
 -- an entry is below one in front of it; or there are more of it than rows
 pub record IsWrongIndexEntry (pages : Pages) (frame : Frame) (table : Table) (number : ℕ)
-    (dir : Tag) (first : Home) (index : List (List ℕ)) (place : ℕ) : Type 0 where
+    (dir : Tag) (index : List (List ℕ)) (place : ℕ) : Type 0 where
   pub page : List ℕ
   pub there : slice_get index place ≡ Some page
   pub k : ℕ
   pub entry : IndexEntry
-  pub is : slice_get (entries_of page) k ≡ Some entry
+  pub is : slice_get (entries_in page) k ≡ Some entry
   pub wrong : ((earlier : ℕ) × (j : ℕ) × (before : IndexEntry) × (bytes : List ℕ)
-      × (slice_get index earlier ≡ Some bytes) × (slice_get (entries_of bytes) j ≡ Some before)
+      × (slice_get index earlier ≡ Some bytes) × (slice_get (entries_in bytes) j ≡ Some before)
       × ((earlier < place) ⊎ ((earlier ≡ place) × (j < k))) × (is_below entry before ≡ true))
       ⊎ ((count : ℕ) × CountsRows pages frame table number dir entry.hash entry.page count
-      × (count < count_entries entry.hash entry.page (all_entries index)))
+      × (count < count_entries entry.hash entry.page (flat_map entries_in index)))
 
 -- the total is wrong, or a row has no entry: at the first page, and only where all are read
 pub record IsWrongTotal (pages : Pages) (frame : Frame) (table : Table) (number : ℕ) (dir : Tag)
     (first : Home) (total : ℕ) : Type 0 where
   pub index : List (List ℕ)
-  pub are : AreIndexPages pages frame first index
-  pub wrong : ¬ total ≡ length (all_entries index)
+  pub are : AreAllPages pages frame first index
+  pub wrong : ¬ total ≡ length (flat_map entries_in index)
       ⊎ ((hash : ℕ) × (page : ℕ) × (count : ℕ)
       × CountsRows pages frame table number dir hash page count
-      × (count_entries hash page (all_entries index) < count))
+      × (count_entries hash page (flat_map entries_in index) < count))
 
 -- a directory has a second page
 abbrev pub HasSecondPage : SeenFile → Type 0
 HasSecondPage seen = IsSome (seen.homes 1)
 
--- what is wrong with an index at one of its pages
+-- what is wrong with the index of a file that is there, at one of its pages
 abbrev pub IsWrongIndex : Pages → Frame → Table → ℕ → Tag → SeenFile → Home → ℕ → Home → Type 0
 IsWrongIndex pages frame table number dir seen first total home =
-    IsUnread pages frame (index_way first) home
-    ⊎ ((place : ℕ) × (page : List ℕ) × IsRead pages frame (index_way first) place home page
-    × (¬ IsIndexPage page ⊎ ((index : List (List ℕ)) × AreEntries pages frame first index
-    × IsWrongIndexEntry pages frame table number dir first index place)))
+    ((place : ℕ) × (page : List ℕ) × (index : List (List ℕ))
+    × IsRead pages frame (index_way first) place home page
+    × AreReadPages pages frame first index
+    × IsWrongIndexEntry pages frame table number dir index place)
     ⊎ ((home ≡ first) × (¬ seen.is.kind ≡ Directory ⊎ ¬ HasSecondPage seen
     ⊎ IsWrongTotal pages frame table number dir first total))
 
--- a page of it that the index of another directory has, too
-pub record IsSharedIndexPage (pages : Pages) (frame : Frame) (table : Table) (home : Home) : Type 0
+pub record IsWrongIndexOf (pages : Pages) (frame : Frame) (table : Table) (home : Home) : Type 0
   where
     pub number : ℕ
     pub dir : Tag
@@ -326,28 +371,8 @@ pub record IsSharedIndexPage (pages : Pages) (frame : Frame) (table : Table) (ho
     pub first : Home
     pub total : ℕ
     pub has : HasIndex pages table number dir seen first total
-    pub other_number : ℕ
-    pub other : Tag
-    pub other_seen : SeenFile
-    pub other_first : Home
-    pub other_total : ℕ
-    pub also : HasIndex pages table other_number other other_seen other_first other_total
-    pub differ : ¬ (number, dir) ≡ (other_number, other)
-    pub one_place : ℕ
-    pub other_place : ℕ
-    pub page : List ℕ
-    pub in_one : IsRead pages frame (index_way first) one_place home page
-    pub in_other : IsRead pages frame (index_way other_first) other_place home page
-
-pub record IsWrongIndexPage (pages : Pages) (frame : Frame) (table : Table) (home : Home) : Type 0 where
-  pub number : ℕ
-  pub dir : Tag
-  pub seen : SeenFile
-  pub first : Home
-  pub total : ℕ
-  pub has : HasIndex pages table number dir seen first total
-  pub wrong : IsWrongIndex pages frame table number dir seen first total home
+    pub wrong : IsWrongIndex pages frame table number dir seen first total home
 
 abbrev pub IsIndexFault : Pages → Frame → Table → Home → Type 0
 IsIndexFault pages frame table home =
-    IsWrongIndexPage pages frame table home ⊎ IsSharedIndexPage pages frame table home
+    IsWrongIndexPage pages frame home ⊎ IsWrongIndexOf pages frame table home

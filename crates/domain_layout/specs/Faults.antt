@@ -2,7 +2,6 @@
 -- code at which a rule is broken.
 use Rattle.std.specs.Prelude.{◌≡◌, ◌⊎◌, ◌<◌, ◌↔◌, ℕ, List, [], ◌∷◌, Some, IsSomeAnd, Contains}
 use Rattle.std.specs.List.{AllByRecursion}
-use Rattle.domain_base.specs.Version.{number_of}
 use Rattle.domain_base.specs.declared.place.Home.{Home}
 use Rattle.page_store.specs.Pages.{Pages}
 use Rattle.fileset_table.specs.Page.{IsTablePage}
@@ -10,7 +9,8 @@ use Rattle.fileset_table.specs.Table.{Table}
 use Rattle.domain_layout.specs.CellRules.{IsCellsFault}
 use Rattle.domain_layout.specs.DirectoryRules.{IsDirectoryFault, IsIndexFault}
 use Rattle.domain_layout.specs.Layout.{IsLayout, Layout}
-use Rattle.domain_layout.specs.PageRules.{IsBitmapFault, IsExtentFault, frame_of}
+use Rattle.domain_layout.specs.Owners.{frame_of}
+use Rattle.domain_layout.specs.PageRules.{IsBitmapFault, IsExtentFault}
 use Rattle.domain_layout.specs.Reached.{Frame, IsReserved}
 use Rattle.domain_layout.specs.TagRules.{IsTagsFault}
 

@@ -1,6 +1,6 @@
 -- Where the pages of metadata of a domain stand: the table of filesets, the pages of cells of each
 -- volume, and those of each tag directory.
-use Rattle.std.specs.Prelude.{◌≡◌, ◌+◌, ◌<◌, ◌≤◌, ℕ, List, [], length, Option, Some, None, IfSome, IsSomeAnd, slice_get, slice_index, slice_index_or}
+use Rattle.std.specs.Prelude.{◌≡◌, ◌+◌, ◌<◌, ◌≤◌, ℕ, List, [], length, Option, Some, None, IsSomeAnd, slice_get, slice_index, slice_index_or}
 use Rattle.domain_base.specs.Limits.{max_volumes}
 use Rattle.domain_base.specs.Version.{number_of}
 use Rattle.domain_base.specs.declared.place.Home.{Home}

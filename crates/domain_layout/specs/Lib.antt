@@ -1,7 +1,6 @@
 pub mod Seen
 pub mod Shape
 pub mod Filled
-pub mod Read
 pub mod Layout
 pub mod Owners
 pub mod Reached
@@ -10,3 +9,4 @@ pub mod TagRules
 pub mod PageRules
 pub mod DirectoryRules
 pub mod Faults
+pub mod Read

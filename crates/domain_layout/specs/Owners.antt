@@ -1,5 +1,5 @@
 -- To whom each page of a domain's volumes belongs.
-use Rattle.std.specs.Prelude.{◌≡◌, ◌⊎◌, ◌<◌, ℕ, List, ◌∷◌, [], true, Some, None, Option, Contains}
+use Rattle.std.specs.Prelude.{◌≡◌, ◌<◌, ℕ, List, true, Some, Contains, length, slice_get}
 use Rattle.domain_base.specs.declared.place.CellAt.{CellAt}
 use Rattle.domain_base.specs.declared.place.Home.{Home}
 use Rattle.page_store.specs.Pages.{Pages}
@@ -9,11 +9,12 @@ use Rattle.log_ring.specs.Homes.{IsLogPage, member_of}
 use Rattle.bmt_mcells.specs.Cell.{Cell, record_of}
 use Rattle.bmt_mcells.specs.Chain.{StandsAt}
 use Rattle.tag_dirs.specs.Directory.{has_home}
-use Rattle.tag_dirs.specs.TagPage.{next_of}
 use Rattle.extent_maps.specs.declared.run.PagePlace.TheVariants.{At}
-use Rattle.extent_records.specs.Writing.{IsMapRecord, places_in}
+use Rattle.extent_records.specs.Writing.{places_in}
 use Rattle.bitfile_core.specs.Shown.{index_in}
+use Rattle.fileset_table.specs.declared.slot.SlotItem.{SlotItem}
 use Rattle.domain_layout.specs.Layout.{IsMember, Layout}
+use Rattle.domain_layout.specs.Reached.{Frame, Reaches, index_way}
 
 -- what a page may be of: the first pages of a volume, which are its label, anchors and bitmap; the
 -- log; the fileset table; a table of cells; the tag directory of a slot; the index of the directory
@@ -33,14 +34,10 @@ pub record IsOnTable (pages : Pages) (layout : Layout) (at : CellAt) (cell : Cel
   pub table : Contains (layout.cells at.vol) at.page
   pub stands : StandsAt pages at cell
 
--- from one page of an index on, so many pages further stands the one at this home
-pub data IsIndexPage (pages : Pages) : Home → ℕ → Home → Type 0 where
-  here : (home : Home) → IsIndexPage pages home 0 home
-  behind : (home next last : Home) (number : ℕ) (page : List ℕ) → pages home ≡ Some page
-      → next_of page ≡ Some next → IsIndexPage pages next number last
-      → IsIndexPage pages home (number + 1) last
+abbrev pub frame_of : Layout → Frame
+frame_of layout = record { anchor = layout.anchor; version = layout.version }
 
--- a page with this number of the index that a cell in use names
+-- a page of the index that a cell in use names: it is come to, so many pages behind the first
 pub record HasIndexPage (pages : Pages) (layout : Layout) (at : CellAt) (number : ℕ) (home : Home)
     : Type 0 where
   pub cell : Cell
@@ -49,7 +46,15 @@ pub record HasIndexPage (pages : Pages) (layout : Layout) (at : CellAt) (number 
   pub there : record_of 9 cell.records ≡ Some value
   pub first : Home
   pub begins : index_in value ≡ Some first
-  pub is : IsIndexPage pages first number home
+  pub passed : List Home
+  pub is : Reaches pages (frame_of layout) (index_way first) passed home
+  pub at : length passed ≡ number
+
+-- a page of the tag directory of what is in a slot
+pub record HasTagPage (layout : Layout) (number : ℕ) (home : Home) : Type 0 where
+  pub item : SlotItem
+  pub there : slice_get layout.table.slots number ≡ Some item
+  pub has : has_home (layout.tags number) home ≡ true
 
 -- a page of a file that a record of a cell in use says to stand there, whatever the file keeps
 pub record HasExtent (pages : Pages) (layout : Layout) (at : CellAt) (page : ℕ) (home : Home)
@@ -57,7 +62,6 @@ pub record HasExtent (pages : Pages) (layout : Layout) (at : CellAt) (page : ℕ
   pub cell : Cell
   pub on : IsOnTable pages layout at cell
   pub value : Record
-  pub is_map : IsMapRecord value
   pub among : Contains cell.records value
   pub place : places_in value page ≡ At home
 
@@ -69,7 +73,7 @@ BelongsTo pages layout Owner.of_log home = IsLogPage layout.anchor home
 BelongsTo pages layout Owner.of_table home = layout.anchor.table ≡ Some home
 BelongsTo pages layout Owner.of_cells home =
     IsMember layout.anchor home.vol × Contains (layout.cells home.vol) home.page
-BelongsTo pages layout (Owner.of_tags number) home = has_home (layout.tags number) home ≡ true
+BelongsTo pages layout (Owner.of_tags number) home = HasTagPage layout number home
 BelongsTo pages layout (Owner.of_index at number) home = HasIndexPage pages layout at number home
 BelongsTo pages layout (Owner.of_file at page) home = HasExtent pages layout at page home
 

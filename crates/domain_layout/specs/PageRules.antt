@@ -8,12 +8,9 @@ use Rattle.storage_bitmap.specs.Bits.{is_set}
 use Rattle.log_ring.specs.Homes.{member_of}
 use Rattle.bmt_mcells.specs.CellPage.{home_of}
 use Rattle.domain_layout.specs.Layout.{IsMember, Layout}
-use Rattle.domain_layout.specs.Owners.{BelongsTo, HasExtent, IsOwned, Owner}
+use Rattle.domain_layout.specs.Owners.{BelongsTo, HasExtent, IsOwned, Owner, frame_of}
 use Rattle.domain_layout.specs.Owners.Owner.{of_file}
-use Rattle.domain_layout.specs.Reached.{Frame, MayBe}
-
-abbrev pub frame_of : Layout → Frame
-frame_of layout = record { anchor = layout.anchor; version = layout.version }
+use Rattle.domain_layout.specs.Reached.{MayBe}
 
 -- a cell says that a page of its file stands where none may, or where another owner's page is or
 -- another page of a file: code 7

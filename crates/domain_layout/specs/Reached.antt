@@ -1,5 +1,6 @@
 -- Pages of one kind that lead from one to the next, and which of them are read.
-use Rattle.std.specs.Prelude.{◌≡◌, ◌==◌, ◌⊎◌, ◌<◌, ◌++◌, ℕ, Bool, true, List, [], ◌∷◌, length, Option, Some, None, IsSomeAnd, Contains, if◌then◌else◌}
+use Rattle.std.specs.Prelude.{◌≡◌, ◌==◌, ◌⊎◌, ◌<◌, ◌++◌, ℕ, Bool, true, List, [], ◌∷◌, length, Option, Some, None, IsSomeAnd, Contains, nat_le, if◌then◌else◌}
+use Rattle.std.specs.Option.{option_and_then}
 use Rattle.domain_base.specs.declared.place.Home.{Home}
 use Rattle.domain_base.specs.declared.version.Version.{Version}
 use Rattle.page_store.specs.Pages.{Pages}
@@ -75,17 +76,21 @@ cells_way frame vol = record {
   first = record { vol = vol; page = first_cells frame vol };
 }
 
+-- a next page is on a volume that there may be
+abbrev pub on_volume : Option Home → Option Home
+on_volume next = option_and_then (λ home. if nat_le home.vol 8 then Some home else None) next
+
 -- the pages of a tag directory, and of an index, that begins at a home
 abbrev pub tags_way : Home → Way
 tags_way first = record {
   begins_so = λ page. number_at 4 0 page == 0x50474154;
-  next = λ home page. next_home page;
+  next = λ home page. on_volume (next_home page);
   first = first;
 }
 
 abbrev pub index_way : Home → Way
 index_way first = record {
   begins_so = λ page. number_at 4 0 page == 0x58524944;
-  next = λ home page. next_home page;
+  next = λ home page. on_volume (next_home page);
   first = first;
 }

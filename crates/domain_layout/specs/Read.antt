@@ -1,12 +1,16 @@
 -- The filesets that an image of a domain's volumes has.
 use Rattle.std.specs.Prelude.{◌≡◌, ℕ, List, [], Some, unwrap_or}
+use Rattle.domain_base.specs.Version.{number_of}
 use Rattle.domain_base.specs.declared.place.Home.{Home}
+use Rattle.domain_base.specs.declared.version.Version.{Version}
 use Rattle.page_store.specs.Pages.{Pages}
 use Rattle.volume_disk.specs.Image.{Image}
 use Rattle.disk_label.specs.declared.anchor.Anchor.{Anchor}
 use Rattle.log_ring.specs.Groups.{Group, HasLog, redone}
+use Rattle.log_recovery.specs.Outcome.{IsFirstFault}
 use Rattle.fileset_model.specs.Filesets.{FilesetMap}
 use Rattle.domain_layout.specs.Shape.{HaveShapes, Shapes}
+use Rattle.domain_layout.specs.Faults.{HasNoFault}
 use Rattle.domain_layout.specs.Filled.{AreFilled, Contents}
 
 -- the bytes of pages by their homes
@@ -28,3 +32,16 @@ pub record Reads (sizes : List ℕ) (image : Image) (all : FilesetMap) : Type 0 
   pub home : Home
   pub table : anchor.table ≡ Some home
   pub reads : ReadsFrom (redone groups image) home all
+
+-- an image of a rack with volumes of these sizes means these filesets: it has no fault, and they
+-- are what it has
+pub record Means (sizes : List ℕ) (image : Image) (all : FilesetMap) : Type 0 where
+  pub anchor : Anchor
+  pub groups : List Group
+  pub version : Version
+  pub log : HasLog sizes anchor groups image
+  pub is_version : anchor.version ≡ number_of version
+  pub no_first : (vol at : ℕ) → ¬ IsFirstFault sizes image vol at
+  pub no_fault : HasNoFault (redone groups image)
+      (record { anchor = anchor; version = version })
+  pub reads : Reads sizes image all

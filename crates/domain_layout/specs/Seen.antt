@@ -1,5 +1,5 @@
 -- A file or directory as a fileset has it: what it is, and at which home each of its pages stands.
-use Rattle.std.specs.Prelude.{◌≡◌, ◌==◌, ◌&&◌, ℕ, Bool, false, not, nat_lt, List, Option, Some, None, IsSomeAnd, if◌then◌else◌}
+use Rattle.std.specs.Prelude.{◌≡◌, ◌==◌, ◌&&◌, ℕ, Bool, true, false, not, nat_lt, List, Option, Some, None, IsSomeAnd, if◌then◌else◌}
 use Rattle.std.specs.Option.{option_and_then, option_map, option_map_or}
 use Rattle.domain_base.specs.declared.place.CellAt.{CellAt}
 use Rattle.domain_base.specs.declared.place.Home.{Home}
@@ -12,7 +12,7 @@ use Rattle.extent_maps.specs.declared.run.PagePlace.TheVariants.{Absent}
 use Rattle.extent_records.specs.Writing.{places_before}
 use Rattle.bitfile_cells.specs.Files.{IsFile, places_of}
 use Rattle.chain_release.specs.Reading.{read_home}
-use Rattle.bitfile_core.specs.Files.{attributes_of, first_record, keep_of, of_live}
+use Rattle.bitfile_core.specs.Files.{attributes_of, first_record, is_removed, keep_of, of_live}
 use Rattle.bitfile_core.specs.declared.attributes.Attributes.{Attributes}
 
 -- what it is, and the home of each page that it has
@@ -80,9 +80,14 @@ abbrev pub seen_through : ℕ → List PlacedCell → Option SeenFile
 seen_through number cells =
     if option_map_or (is_in_sync number) (first_record 1 cells) false then seen_in cells else None
 
+-- the file of a clone's own cells, and none where it is to be removed
+abbrev pub IsOwnUnless : Bool → Pages → List PlacedCell → Option SeenFile → Type 0
+IsOwnUnless true pages own seen = seen ≡ None
+IsOwnUnless false pages own seen = IsSomeAnd seen (IsOwn pages own)
+
 -- what a clone has at a tag: the file of its own cells if it has some, else the original's
 abbrev pub IsOfClone : Pages → ℕ → Option (List PlacedCell) → Option (List PlacedCell)
     → Option SeenFile → Type 0
-IsOfClone pages number (Some own) original seen = IsSomeAnd seen (IsOwn pages own)
+IsOfClone pages number (Some own) original seen = IsOwnUnless (is_removed own) pages own seen
 IsOfClone pages number None original seen =
     seen ≡ option_and_then (seen_through number) original

@@ -1,15 +1,16 @@
 -- The rules of tag directories, of what their entries name, and of the slots of the fileset table.
 -- Each is said by where it is broken.
-use Rattle.std.specs.Prelude.{◌≡◌, ◌⊎◌, ◌<◌, ℕ, true, false, Option, Some, None, IfSome, slice_get}
-use Rattle.std.specs.Option.{option_and_then, option_map}
+use Rattle.std.specs.Prelude.{◌≡◌, ◌⊎◌, ◌<◌, ℕ, List, true, false, Option, Some, None, slice_get}
+use Rattle.std.specs.Option.{option_and_then}
 use Rattle.domain_base.specs.declared.place.CellAt.{CellAt}
 use Rattle.domain_base.specs.declared.place.Home.{Home}
 use Rattle.domain_base.specs.declared.place.Tag.{Tag}
 use Rattle.page_store.specs.Pages.{Pages}
 use Rattle.record_table.specs.declared.record.Record.{Record}
 use Rattle.record_table.specs.declared.record.Record.TheVariants as written
-use Rattle.bmt_mcells.specs.Cell.{Cell, record_of}
-use Rattle.bmt_mcells.specs.CellPage.{home_of}
+use Rattle.record_table.specs.Fields.{number_at}
+use Rattle.bmt_mcells.specs.Cell.{Cell, IsFileset, kind_number, record_of}
+use Rattle.bmt_mcells.specs.CellPage.{cell_at, home_of}
 use Rattle.bmt_mcells.specs.declared.head.CellHead.{CellHead}
 use Rattle.bmt_mcells.specs.declared.head.CellKind.TheVariants.{Primary, Quota}
 use Rattle.tag_dirs.specs.TagPage.{IsTagPage, entry_of, index_of, slot_of}
@@ -17,7 +18,7 @@ use Rattle.fileset_table.specs.Table.{Table, entry_of as fileset_of}
 use Rattle.fileset_table.specs.declared.slot.SlotItem.{SlotItem}
 use Rattle.fileset_table.specs.declared.slot.SlotItem.TheVariants as slot
 use Rattle.name_space.specs.Names.{root_tag}
-use Rattle.domain_layout.specs.CellRules.{IsHead, IsUsed, LeadsTo, is_clone, is_original, is_removed, item_of}
+use Rattle.domain_layout.specs.CellRules.{IsHead, IsPlace, IsUsed, LeadsTo, is_original, is_removed, item_of}
 use Rattle.domain_layout.specs.Layout.{first_tag_of}
 use Rattle.domain_layout.specs.Reached.{Frame, IsRead, IsUnread, tags_way}
 use Rattle.domain_layout.specs.Seen.{source_in}
@@ -82,15 +83,16 @@ pub record HasEntry (pages : Pages) (frame : Frame) (table : Table) (number : �
   pub slot : slot_of page entry ≡ tag.slot
   pub used : entry_of page entry ≡ record { seq = tag.seq; at = Some at }
 
--- a first cell of that fileset and tag stands there
+-- a first cell of that fileset and tag stands there, whatever else is in it
 pub record IsFirstOf (pages : Pages) (frame : Frame) (number : ℕ) (tag : Tag) (at : CellAt)
     : Type 0 where
-  pub head : CellHead
-  pub is : IsHead pages frame at head
-  pub kind : head.kind ≡ Primary
-  pub fileset : head.fileset ≡ Some number
-  pub slot : head.slot ≡ tag.slot
-  pub seq : head.seq ≡ tag.seq
+  pub place : IsPlace pages frame at
+  pub bytes : List ℕ
+  pub there : cell_at pages at ≡ Some bytes
+  pub kind : number_at 1 15 bytes ≡ kind_number Primary
+  pub fileset : IsFileset (number_at 1 14 bytes) (Some number)
+  pub slot : number_at 4 8 bytes ≡ tag.slot
+  pub seq : number_at 2 12 bytes ≡ tag.seq
 
 -- an entry leads to no such cell
 pub record IsWrongEntry (pages : Pages) (frame : Frame) (table : Table) (home : Home) : Type 0 where
@@ -100,26 +102,27 @@ pub record IsWrongEntry (pages : Pages) (frame : Frame) (table : Table) (home : 
   pub has : HasEntry pages frame table number tag at home
   pub wrong : ¬ IsFirstOf pages frame number tag at
 
--- an original has no entry of the root, at its first tag page
+-- an original has no entry of the root that leads to a cell which stays, at its first tag page
 pub record HasNoRoot (pages : Pages) (frame : Frame) (table : Table) (home : Home) : Type 0 where
   pub number : ℕ
   pub item : SlotItem
   pub there : slice_get table.slots number ≡ Some item
   pub original : is_original (Some item) ≡ true
   pub first : first_tag_of item ≡ Some home
-  pub none : (at : CellAt) (other : Home)
-      → ¬ HasEntry pages frame table number root_tag at other
+  pub none : (at : CellAt) (other : Home) → HasEntry pages frame table number root_tag at other
+      → (cell : Cell) × IsUsed pages frame at cell × (is_removed cell.records ≡ true)
 
 -- ** Cells
 
 -- a first cell that is not to be removed, and that no entry of its fileset and tag names
 pub record IsUnnamed (pages : Pages) (frame : Frame) (table : Table) (at : CellAt) : Type 0 where
-  pub head : CellHead
-  pub is : IsHead pages frame at head
-  pub kind : head.kind ≡ Primary
+  pub place : IsPlace pages frame at
+  pub bytes : List ℕ
+  pub there : cell_at pages at ≡ Some bytes
+  pub kind : number_at 1 15 bytes ≡ kind_number Primary
   pub stays : (cell : Cell) → IsUsed pages frame at cell → is_removed cell.records ≡ false
-  pub unnamed : (number : ℕ) (home : Home) → head.fileset ≡ Some number
-      → ¬ HasEntry pages frame table number (record { slot = head.slot; seq = head.seq }) at home
+  pub unnamed : (number : ℕ) (tag : Tag) (home : Home) → IsFirstOf pages frame number tag at
+      → ¬ HasEntry pages frame table number tag at home
 
 -- the slot of the original of which there is a clone in a slot
 abbrev pub original_slot : Option SlotItem → Option ℕ

@@ -7,7 +7,7 @@ ghost use Rattle.domain_layout.specs.Filled.{AreFilled, Contents};
 ghost use Rattle.fileset_model.specs.Orders.{Name};
 ghost use Rattle.domain_layout.specs.Shape.{HaveShapes, IsSameShapeThere, Shapes};
 
-/// Pages of metadata have one shape of each fileset at most, whatever the bytes of files are.
+/// Pages of metadata have one shape of each fileset at most.
 pub fn one_shape()
     ensures { (pages : Pages) (home : Home) (a b : Shapes) (name : Name)
         → HaveShapes pages home a → HaveShapes pages home b

@@ -226,7 +226,7 @@ module _ (old new : Bitfiles) (slot : FilesetSlot) (names : Names old slot) (rol
       inl (ap (λ t. led_as t kind) (sym same) ∙ ap (λ (f : Bitfile). led_as t f.kind) is))
       (λ other.
       let file = was t now there other in
-      let at = names.live t file.0 file.1 in
+      let at = names.live role t file.0 file.1 in
       inr (at.0, (λ here. none_some (sym path_none ∙ sym (ap (led_to old) here) ∙ at.1)), at.1 ∙ ap (led_as t) (sym file.2)))
     where
       path_none : led_to old path ≡ None

@@ -192,7 +192,7 @@ module _ (old mid new : Bitfiles) (slot : FilesetSlot) (original : IsOriginal ol
       inl (ap (λ t. led_as t kinds.File) (sym same) ∙ ap (led_as t) kind))
       (λ other.
       let f = was t file other there in
-      let at = original.names.live t f.0 f.1 in
+      let at = original.names.live original.role t f.0 f.1 in
       inr (at.0, (λ here. none≢some (sym lost ∙ sym (ap (led_to old) here) ∙ at.1)), at.1 ∙ ap (led_as t) (sym f.2)))
     where
       none≢some : {x : Tag × Kind} → (¬ None ≡ Some x)

@@ -166,7 +166,7 @@ module _ (old mid new : Bitfiles) (slot : FilesetSlot) (original : IsOriginal ol
   live : (t : Tag) (now : Bitfile) → new t ≡ Some now → (q : Path) × (led_to new q ≡ led_as t now.kind)
   live t now there =
       let file = was t now there in
-      let at = original.names.live t file.0 file.1 in
+      let at = original.names.live original.role t file.0 file.1 in
       goes_to at.0 t now.kind (at.1 ∙ ap (led_as t) (sym file.2.kind))
 
   pub moved_names : Names new after

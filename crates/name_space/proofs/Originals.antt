@@ -134,7 +134,7 @@ original_names files slot role paths each directories live seq = record {
             subst (λ f. (f.kind ≡ of) × IsSomeAnd (get slot.tree.nodes (number_of tag)) (IsNodeOf f) × (f.links ≡ paths_to slot.tree (number_of tag))) same (is.kind, is.node, is.links);
       };
   directories = directories;
-  live = live;
+  live = λ _. live;
   seq = seq;
 }
   where

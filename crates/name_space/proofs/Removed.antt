@@ -245,7 +245,7 @@ module _ (old mid new : Bitfiles) (slot : FilesetSlot) (names : Names old slot) 
       (λ same. inr (of_tag t now is same stays refl left))
       (λ other.
       let was = before t now other is in
-      let at = names.live t was.0 was.1 in
+      let at = names.live role t was.0 was.1 in
       inr (at.0, (λ here. true≢false (sym (same_of t (some_fst (sym at.1 ∙ ap (led_to old) here ∙ led_path))) ∙ other)), at.1 ∙ ap (led_as t) (sym was.2)))
     where
       some_fst : {a b : Tag} {j k : Kind} → led_as a j ≡ led_as b k → a ≡ b

@@ -13,6 +13,7 @@ use Rattle.fileset_model.specs.LooksLike.{IsShown}
 use Rattle.fileset_model.specs.Orders.{Path}
 use Rattle.fileset_model.specs.Paths.{is_directory, is_out_of_sync, paths_to}
 use Rattle.fileset_model.specs.declared.fileset.FilesetSlot.{FilesetSlot}
+use Rattle.fileset_model.specs.declared.fileset.Role.TheVariants.{Original}
 use Rattle.fileset_model.specs.declared.node.Node.{Node}
 use Rattle.fileset_model.specs.declared.node.Node.TheVariants.{File, Directory}
 use Rattle.fileset_laws.specs.Valid.{IsValidSlot}
@@ -64,8 +65,9 @@ pub record Names (files : Bitfiles) (slot : FilesetSlot) : Type 0 where
   pub shown : (path : Path) (tag : Tag) (of : Kind) → IsShown slot path
       → led_to files path ≡ Some (tag, of) → IsShownAs files slot tag of
   pub directories : (dir : Tag) → IsDirectory files dir → IsWellFormed files dir
-  -- each file has a path, and no two tags are one number
-  pub live : (tag : Tag) (file : Bitfile) → files tag ≡ Some file
+  -- each file of an original has a path, and no two tags are one number: in a clone a file below a
+  -- directory that is out of sync has none
+  pub live : slot.role ≡ Original → (tag : Tag) (file : Bitfile) → files tag ≡ Some file
       → (path : Path) × (led_to files path ≡ Some (tag, file.kind))
   pub seq : (tag : Tag) (file : Bitfile) → files tag ≡ Some file → tag.seq < 2 ^ 16
 
