@@ -194,7 +194,7 @@ same_in pages table a b are also name = by_shapes (a name) (b name) refl refl
         subst (λ o. IsSameShapeThere o y) is_x (subst (IsSameShapeThere (a name)) is_y (slot_same pages table has.number has.item (a name) (b name) (in_table pages table a name are has) (in_table pages table b name also has)))
 
 pub one_shape : (pages : Pages) (home : Home) (a b : Shapes) (name : Name) → HaveShapes pages home a → HaveShapes pages home b → IsSameShapeThere (a name) (b name)
-one_shape pages home a b name have also = same_in pages also.table a b (subst (λ (t : Table). AreShapesOf pages t a) tables have.shapes) also.shapes name
+one_shape pages home a b name have also = same_in pages also.table a b (subst (λ (t : Table). AreShapesOf pages t a) tables have.are) also.are name
   where
     by_page : (o : Option (List ℕ)) → IsSomeAnd o (λ page. IsTablePage page have.table) → IsSomeAnd o (λ page. IsTablePage page also.table) → have.table ≡ also.table
     by_page None is was = absurd is

@@ -10,6 +10,9 @@ use Rattle.page_store.specs.Bitfiles.{Bitfile}
 use Rattle.page_store.specs.Pages.{Pages}
 use Rattle.record_table.specs.declared.record.Record.{Record}
 use Rattle.bmt_mcells.specs.Chain.{PlacedCell}
+use Rattle.bitfile_cells.specs.Files.{places_of}
+use Rattle.extent_maps.specs.Runs.{home_at}
+use Rattle.extent_records.specs.Writing.{places_before}
 use Rattle.bitfile_core.specs.Files.{attributes_in, attributes_of, first_record, is_removed, keep_in, keep_of}
 use Rattle.bitfile_core.specs.Shown.{IsWhat, ShowsAt, ShowsFile}
 use Rattle.bitfile_core.specs.declared.attributes.Attributes.{Attributes}
@@ -55,15 +58,17 @@ keeps cells is said = by_record (first_record 1 cells) refl
         by_keep None none = absurd (no_keep cells r there (sym none))
         by_keep (Some keep) has = (keep, ap (option_and_then keep_in) there ∙ has)
 
+kept_seen : (cells : List PlacedCell) (is : Attributes) (keep : ℕ) (o : Option ℕ) → o ≡ Some keep
+    → (seen : SeenFile) × (option_map (λ keep. record { is = is; homes = λ page. home_at (places_before keep (places_of cells) page) }) o ≡ Some seen)
+kept_seen cells is keep None none = let e : None ≡ Some keep = none in absurd (cc)
+kept_seen cells is keep (Some other) some = (record { is = is; homes = λ page. home_at (places_before other (places_of cells) page) }, refl)
+
 -- a file that is live and has attributes is seen
 seen_file : (cells : List PlacedCell) (is : Attributes) → is_removed cells ≡ false → attributes_of cells ≡ Some is → (seen : SeenFile) × (seen_in cells ≡ Some seen)
 seen_file cells is live said =
     let keep = keeps cells is said in
-    by_kept (kept_by cells is) refl (ap (option_map _) keep.1)
-  where
-    by_kept : (o : Option SeenFile) → kept_by cells is ≡ o → kept_by cells is ≡ Some _ → (seen : SeenFile) × (seen_in cells ≡ Some seen)
-    by_kept None none some = absurd (cc)
-    by_kept (Some seen) is_seen some = (seen, ap (λ b. cond b None (option_and_then (kept_by cells) (attributes_of cells))) live ∙ ap (option_and_then (kept_by cells)) said ∙ is_seen)
+    let seen = kept_seen cells is keep.0 (keep_of cells) keep.1 in
+    (seen.0, ap (λ b. cond b None (option_and_then (kept_by cells) (attributes_of cells))) live ∙ ap (option_and_then (kept_by cells)) said ∙ seen.1)
 
 shown_original : (pages : Pages) (number : ℕ) (entry : FilesetEntry) (shape : FilesetShape) → IsOriginal pages number entry shape → HasShown shape
 shown_original pages number entry shape is tag file there =
@@ -102,14 +107,14 @@ shown_slot pages table number (slots.Clone of clone entry) shape is = by_origina
 
 pub all_shown_there : (pages : Pages) (home : Home) (shapes : Shapes) → HaveShapes pages home shapes → (name : Name) (shape : FilesetShape) → shapes name ≡ Some shape → HasShown shape
 all_shown_there pages home shapes have name shape is =
-    let has = have.shapes.only name (ap is_some is) in
+    let has = have.are.only name (ap is_some is) in
     by_entry has (entry_of has.item) refl has.named
   where
     by_entry : (has : HasFileset have.table name) (o : Option FilesetEntry) → entry_of has.item ≡ o → IsSomeAnd o (λ entry. entry.name ≡ name) → HasShown shape
     by_entry has None none named = absurd named
     by_entry has (Some entry) there named =
         let each : IsShapeOf pages have.table has.number has.item (shapes entry.name) =
-        subst (λ o. IfSome o (λ entry. IsShapeOf pages have.table has.number has.item (shapes entry.name))) there (have.shapes.each has.number has.item has.there) in
+        subst (λ o. IfSome o (λ entry. IsShapeOf pages have.table has.number has.item (shapes entry.name))) there (have.are.each has.number has.item has.there) in
         shown_slot pages have.table has.number has.item shape (subst (IsShapeOf pages have.table has.number has.item) (ap shapes named ∙ is) each)
 
 -- ---- limits

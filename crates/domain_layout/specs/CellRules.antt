@@ -76,7 +76,7 @@ pub record IsPlace (pages : Pages) (frame : Frame) (at : CellAt) : Type 0 where
 -- a cell in use stands at such a place, with this head, whatever its records are
 pub record IsHead (pages : Pages) (frame : Frame) (at : CellAt) (head : CellHead) : Type 0 where
   pub place : IsPlace pages frame at
-  pub head : HasHeadAt pages at head
+  pub says : HasHeadAt pages at head
 
 -- and with these records
 pub record IsUsed (pages : Pages) (frame : Frame) (at : CellAt) (cell : Cell) : Type 0 where
@@ -132,18 +132,23 @@ abbrev pub says_directory : Record → Bool
 says_directory (written.Attributes kind uid gid flags size keep links birth unsynced) = kind == 2
 says_directory _ = false
 
+-- both are true, or none is
+abbrev agree : Bool → Bool → Bool
+agree true b = b
+agree false b = not b
+
 -- each first cell has attributes, and one record of extents, plain or dense, and records of these
 -- kinds alone
 abbrev pub has_first_records : List Record → Bool
 has_first_records records = has_kind 1 records
-    && not (has_kind 4 records == has_kind 14 records)
+    && not (agree (has_kind 4 records) (has_kind 14 records))
     && list_all (λ r. is_first_kind (kind_of r)) records
 
 -- the kinds that a first cell may have in an original and in a clone: a directory has its parent,
 -- and no file has one
 abbrev pub has_its_kinds : Bool → List Record → Bool
-has_its_kinds clone records = (has_kind 2 records == clone)
-    && (has_kind 10 records == option_map_or says_directory (record_of 1 records) false)
+has_its_kinds clone records = agree (has_kind 2 records) clone
+    && agree (has_kind 10 records) (option_map_or says_directory (record_of 1 records) false)
 
 -- an original keeps at most all pages, and fewer only where something is pending
 abbrev pub keeps_well : Record → Bool → Bool

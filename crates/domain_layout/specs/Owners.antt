@@ -48,7 +48,7 @@ pub record HasIndexPage (pages : Pages) (layout : Layout) (at : CellAt) (number 
   pub begins : index_in value ≡ Some first
   pub passed : List Home
   pub is : Reaches pages (frame_of layout) (index_way first) passed home
-  pub at : length passed ≡ number
+  pub behind : length passed ≡ number
 
 -- a page of the tag directory of what is in a slot
 pub record HasTagPage (layout : Layout) (number : ℕ) (home : Home) : Type 0 where

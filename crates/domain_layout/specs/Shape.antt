@@ -137,7 +137,7 @@ pub record AreShapesOf (pages : Pages) (table : Table) (shapes : Shapes) : Type 
 pub record HaveShapes (pages : Pages) (home : Home) (shapes : Shapes) : Type 0 where
   pub table : Table
   pub there : IsSomeAnd (pages home) (λ page. IsTablePage page table)
-  pub shapes : AreShapesOf pages table shapes
+  pub are : AreShapesOf pages table shapes
 
 -- ** One shape
 
