@@ -10,13 +10,11 @@ use Rattle.page_store.specs.Bitfiles.{Bitfile}
 use Rattle.fileset_laws.proofs.LooksLemmas.{shown_as}
 use Rattle.fileset_model.specs.LooksLike.{IsShown, Shows}
 use Rattle.fileset_model.specs.Orders.{Path}
-use Rattle.fileset_model.specs.Pages.{Pages}
 use Rattle.fileset_model.specs.Paths.{is_directory, is_out_of_sync, is_out_of_sync_at, node_at, paths_to}
 use Rattle.fileset_model.specs.declared.fileset.FilesetSlot.{FilesetSlot}
-use Rattle.fileset_model.specs.declared.fileset.Role.{Role}
 use Rattle.fileset_model.specs.declared.node.Node.{Node}
 use Rattle.fileset_model.specs.declared.node.Node.TheVariants.{Directory, File}
-use Rattle.name_space.specs.Names.{IsNodeOf, IsShownAs, Names, is_directory_kind, led_to, number_of}
+use Rattle.name_space.specs.Names.{Names, is_directory_kind, led_to, number_of}
 use Rattle.domain_layout.specs.Seen.{SeenFile}
 use Rattle.domain_layout.specs.Shape.{FilesetShape}
 use Rattle.domain_layout.specs.Filled.{Contents, Fills, IsFilled}

@@ -1,24 +1,23 @@
 -- Pages of metadata have one shape.
-use Rattle.std.proofs.Common.{◌≡◌, ◌∙◌, ℕ, suc, Bool, true, false, cond, nat_lt, List, [], ◌∷◌, Option, Some, None, IfSome, IsSomeAnd, is_some, slice_get, refl, sym, ap, subst}
-use Rattle.std.specs.Option.{option_and_then, option_map}
+use Rattle.std.proofs.Common.{◌≡◌, ◌∙◌, ℕ, Bool, true, false, cond, nat_lt, List, [], ◌∷◌, Option, Some, None, IfSome, IsSomeAnd, is_some, slice_get, refl, sym, ap, subst}
+use Rattle.std.specs.Option.{option_and_then}
 use Rattle.domain_base.specs.declared.place.CellAt.{CellAt}
 use Rattle.domain_base.specs.declared.place.Home.{Home}
 use Rattle.domain_base.specs.declared.place.Kind.{Kind}
 use Rattle.domain_base.specs.declared.place.Tag.{Tag}
-use Rattle.page_store.specs.Bitfiles.{Bitfile, Bitfiles}
+use Rattle.page_store.specs.Bitfiles.{Bitfile}
 use Rattle.page_store.specs.Pages.{Pages}
 use Rattle.record_table.specs.declared.record.Record.{Record}
 use Rattle.bmt_mcells.specs.Cell.{Cell}
 use Rattle.bmt_mcells.specs.Chain.{LinksFrom, PlacedCell, StandsAt, Follow, records_of}
 use Rattle.bmt_mcells.proofs.Unique.{one_stands}
 use Rattle.tag_dirs.specs.declared.dir.TagPlace.{TagPlace}
-use Rattle.tag_dirs.specs.Directory.{IsDirectoryAt}
 use Rattle.tag_dirs.proofs.Reading.{same_directory}
 use Rattle.extent_maps.specs.declared.run.PagePlace.{PagePlace}
 use Rattle.extent_maps.specs.Runs.{Places, home_at}
-use Rattle.bitfile_cells.specs.Files.{IsFile, places_of}
+use Rattle.bitfile_cells.specs.Files.{places_of}
 use Rattle.bitfile_core.specs.Files.{AreFiles, Chains, is_removed}
-use Rattle.bitfile_core.specs.Shown.{IsWhat, Shows, ShowsAt}
+use Rattle.bitfile_core.specs.Shown.{ShowsAt}
 use Rattle.bitfile_core.specs.declared.attributes.Attributes.{Attributes}
 use Rattle.bitfile_core.proofs.Created.{one_chains}
 use Rattle.bitfile_core.proofs.Given.{one_file, one_follow}
@@ -33,7 +32,7 @@ use Rattle.fileset_table.specs.declared.slot.SlotItem.{SlotItem}
 use Rattle.fileset_table.specs.declared.slot.SlotItem.TheVariants as slots
 use Rattle.fileset_table.proofs.Unique.{table_unique}
 use Rattle.chain_release.specs.Reading.{own_or, read_home}
-use Rattle.domain_layout.specs.Seen.{IsOfClone, IsOwn, IsOwnUnless, IsSource, SeenFile, seen_in, seen_through, source_of, frozen_of}
+use Rattle.domain_layout.specs.Seen.{IsOfClone, IsOwn, IsOwnUnless, IsSource, SeenFile, seen_in, source_of, frozen_of}
 use Rattle.domain_layout.specs.Shape.{AreLimits, AreQuotas, AreShapesOf, FilesetShape, HasChains, HasFileset, HaveShapes, IsClone, IsOriginal, IsSameSeen, IsSameShape, IsSameShapeThere, IsSameThere, IsShapeOf, Shapes, ShowsSeen, ShowsSeenAt, limits_in, shown_at}
 
 -- ---- lists

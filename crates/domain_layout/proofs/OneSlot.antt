@@ -1,12 +1,9 @@
 -- The slots that one shape fills are alike.
-use Rattle.std.proofs.Common.{◌≡◌, ◌∙◌, ℕ, ◌==◌, Bool, true, false, cond, List, Option, Some, None, IfSome, IsSome, IsSomeAnd, IsTrue, is_some, unwrap_or, slice_get, refl, sym, ap, subst, eqb-true}
-use Rattle.std.proofs.lemmas.Bool.{and_parts}
+use Rattle.std.proofs.Common.{◌≡◌, ◌∙◌, ℕ, Bool, true, false, cond, List, Option, Some, None, IfSome, IsSomeAnd, is_some, unwrap_or, slice_get, refl, sym, ap, subst}
 use Rattle.std.specs.Option.{option_and_then, option_map}
 use Rattle.std.specs.FinMap as map
 use Rattle.std.specs.Cmp.{nat_cmp_total}
 use Rattle.domain_base.specs.declared.place.Home.{Home}
-use Rattle.domain_base.specs.declared.place.Tag.{Tag}
-use Rattle.page_store.specs.Bitfiles.{Bitfile}
 use Rattle.page_store.specs.Pages.{Pages}
 use Rattle.record_table.specs.declared.record.Record.{Record}
 use Rattle.bmt_mcells.specs.Chain.{PlacedCell}
@@ -19,13 +16,12 @@ use Rattle.bitfile_core.specs.declared.attributes.Attributes.{Attributes}
 use Rattle.bitfile_core.proofs.Truncated.{no_keep}
 use Rattle.fileset_laws.specs.Valid.{IsValidAs, IsValidFileset}
 use Rattle.fileset_model.proofs.OwnerLemmas.{owner_cmp-IsAntisymmetric}
-use Rattle.fileset_model.specs.Fileset.{Fileset}
 use Rattle.fileset_model.specs.Filesets.{FilesetMap}
 use Rattle.fileset_model.specs.Apply.{original_of}
-use Rattle.fileset_model.specs.LooksLike.{IsShown, LooksLike, LooksLikeSlot, LooksLikeThere, Shows}
-use Rattle.fileset_model.specs.Orders.{Name, Path, owner_cmp, owner_cmp-total, path_cmp, path_cmp-total, path_cmp-IsAntisymmetric}
+use Rattle.fileset_model.specs.LooksLike.{LooksLike, LooksLikeSlot, LooksLikeThere, Shows}
+use Rattle.fileset_model.specs.Orders.{Name, owner_cmp, owner_cmp-total, path_cmp, path_cmp-total, path_cmp-IsAntisymmetric}
 use Rattle.fileset_model.specs.Paths.{is_out_of_sync}
-use Rattle.fileset_model.specs.Usage.{is_unlimited, limits_of}
+use Rattle.fileset_model.specs.Usage.{is_unlimited}
 use Rattle.fileset_model.specs.declared.command.Owner.{Owner}
 use Rattle.fileset_model.specs.declared.fileset.FilesetSlot.{FilesetSlot}
 use Rattle.fileset_model.specs.declared.fileset.Limits.{Limits}
@@ -38,7 +34,7 @@ use Rattle.fileset_table.specs.declared.slot.SlotItem.{SlotItem}
 use Rattle.fileset_table.specs.declared.slot.SlotItem.TheVariants as slots
 use Rattle.name_space.proofs.Originals.{all_shown}
 use Rattle.domain_layout.specs.Seen.{SeenFile, kept_by, seen_in}
-use Rattle.domain_layout.specs.Shape.{FilesetShape, HasFileset, HaveShapes, IsClone, IsOriginal, IsShapeOf, Shapes, ShowsSeen, ShowsSeenAt}
+use Rattle.domain_layout.specs.Shape.{FilesetShape, HasFileset, HaveShapes, IsClone, IsOriginal, IsShapeOf, Shapes, ShowsSeenAt}
 use Rattle.domain_layout.specs.Filled.{AreFilled, Contents, Fills, FillsThere, IsRole}
 use Rattle.domain_layout.proofs.OneFilling.{HasShown, kinds_alike, links_alike, nodes_alike, out_alike, paths_alike}
 
