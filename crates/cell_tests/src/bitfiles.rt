@@ -3,10 +3,11 @@
 ghost use Rattle.std.specs.Prelude.{◌≡◌, ◌≤◌, IsSome, IsTrue};
 ghost use Rattle.page_store.specs.Bitfiles.{IsDirectory, count_index};
 
+use bitfile_set::BitfileSet;
 use domain_base::limits::{FILE_PAGES, MAX_LINKS};
 use domain_base::{Kind, OutOfMemory, Page, Tag};
 use memory_store::MemoryBitfiles;
-use page_store::{BitfileSet, StoreFault};
+use page_store::StoreFault;
 use std::alloc::Global;
 use std::test::Fail;
 

@@ -9,8 +9,9 @@ use crate::entry::IndexEntry;
 use crate::page::{ENTRIES, count_below, read_entries};
 use crate::search::{page_for, page_from};
 use crate::write::entry_page;
+use bitfile_set::BitfileSet;
 use domain_base::{OutOfMemory, Page, Tag};
-use page_store::{BitfileSet, StoreFault};
+use page_store::StoreFault;
 use std::alloc::Global;
 
 /// Puts an index page of these entries at a number.

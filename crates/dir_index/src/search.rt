@@ -6,8 +6,8 @@ ghost use Rattle.dir_index.specs.Index.{IsFirstPage, IsIndex, all_entries, index
 
 use crate::entry::IndexEntry;
 use crate::page::{ends_below, first_on};
+use bitfile_set::BitfileSet;
 use domain_base::Tag;
-use page_store::BitfileSet;
 
 /// The first page of an index, of those from one number to another, that has an entry which is not
 /// below the key. It halves the pages at each look, and looks at both halves only where the page

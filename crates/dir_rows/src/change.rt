@@ -8,9 +8,10 @@ ghost use Rattle.dir_rows.specs.RowChanges.{AddsRow, OnlyDirectory, RemovesRow};
 use crate::index::{forget_row, index_row};
 use crate::look::place_of;
 use crate::pages::{put_row, take_row};
+use bitfile_set::BitfileSet;
 use dir_index::{IndexEntry, name_hash};
 use domain_base::{Kind, Tag};
-use page_store::{BitfileSet, StoreFault};
+use page_store::StoreFault;
 use std::alloc::Global;
 
 /// Adds a row of a new name: behind those of the first page with room for it, or on a new page. An

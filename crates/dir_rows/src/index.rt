@@ -10,10 +10,11 @@ ghost use Rattle.dir_rows.specs.Directory.{AreEntriesOf, row_pages, rows_at};
 ghost use Rattle.dir_rows.specs.Steps.{CompletesIndex, LacksEntry, SetsIndex, SparesEntry, entries_for};
 
 use crate::look::has_index;
+use bitfile_set::BitfileSet;
 use dir_index::{IndexEntry, add_entry, build, name_hash, remove_entry};
 use dir_pages::Rows;
 use domain_base::{OutOfMemory, Tag};
-use page_store::{BitfileSet, StoreFault};
+use page_store::StoreFault;
 use std::alloc::Global;
 
 /// Puts the entries of one page's rows behind others.

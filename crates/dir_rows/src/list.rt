@@ -5,9 +5,9 @@ ghost use Rattle.std.specs.Ordering.{nat_cmp};
 ghost use Rattle.dir_pages.specs.declared.row.Row.{Row as RowItem};
 ghost use Rattle.dir_rows.specs.Directory.{IsWellFormed, row_pages, rows_at, rows_in};
 
+use bitfile_set::BitfileSet;
 use dir_pages::{Row, RowList, RowName, Rows};
 use domain_base::{OutOfMemory, Tag};
-use page_store::BitfileSet;
 use std::alloc::Global;
 
 /// Puts copies of the rows of one page behind others.

@@ -5,10 +5,10 @@ ghost use Rattle.dir_rows.specs.Directory.{IndexesRows, IsWellFormed, row_pages,
 ghost use Rattle.dir_rows.specs.Places.{IsSearched, IsSearchedAt};
 ghost use Rattle.dir_index.specs.Index.{index_pages};
 
+use bitfile_set::BitfileSet;
 use dir_index::{name_hash, next_page};
 use dir_pages::count_rows;
 use domain_base::{Kind, Tag};
-use page_store::BitfileSet;
 
 /// Where a row stands: the number of its page, and its tag and kind.
 #[derive(Clone, Copy)]

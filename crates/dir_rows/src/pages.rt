@@ -8,10 +8,11 @@ ghost use Rattle.dir_rows.specs.Directory.{IsWellFormed, row_pages, rows_at};
 ghost use Rattle.dir_rows.specs.RowChanges.{IsFirstWithRoom, fits_at};
 ghost use Rattle.dir_rows.specs.Steps.{IsCopyOf, PutsRowIn, TakesRow};
 
+use bitfile_set::BitfileSet;
 use dir_pages::{clear_rows, has_room};
 use domain_base::limits::FILE_PAGES;
 use domain_base::{Kind, OutOfMemory, Page, Tag};
-use page_store::{BitfileSet, StoreFault};
+use page_store::StoreFault;
 use std::alloc::Global;
 
 /// Whether a row of this name fits on the page of that number, or on a new one where it is not

@@ -1,9 +1,9 @@
 //! Indexes made, looked through, and changed.
 
 use crate::steps::{ROOT, add, add_all, count_found, indexed, page_of, remove, remove_odd};
+use bitfile_set::BitfileSet;
 use dir_index::{IndexEntry, name_hash};
 use hex::decode;
-use page_store::BitfileSet;
 use std::alloc::Global;
 use std::test::Fail;
 

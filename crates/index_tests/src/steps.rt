@@ -3,10 +3,11 @@ ghost use Rattle.std.specs.Prelude.{IfOk, OnOk};
 ghost use Rattle.dir_index.specs.Entries.{Rise};
 ghost use Rattle.index_tests.specs.Steps.{HasIndex};
 
+use bitfile_set::BitfileSet;
 use dir_index::{IndexEntry, add_entry, build, next_page, remove_entry};
 use domain_base::Tag;
 use memory_store::MemoryBitfiles;
-use page_store::{BitfileSet, StoreFault};
+use page_store::StoreFault;
 use std::alloc::Global;
 
 /// The tag of the root directory.

@@ -11,8 +11,9 @@ ghost use Rattle.memory_store.specs.Tags.{AreSound, AreUnused, Changes, IsDirect
 use crate::misses::Misses;
 use crate::paged_file::{PageChange, PagedFile};
 use crate::sorted::{find, place_of, put, take};
+use bitfile_set::BitfileSet;
 use domain_base::{Kind, OutOfMemory, Page, Tag};
-use page_store::{BitfileSet, StoreFault};
+use page_store::StoreFault;
 use std::alloc::Global;
 
 /// Files and directories by their tags, in one list in the order of tags. Each new one takes the

@@ -10,10 +10,11 @@ ghost use Rattle.name_space.specs.Names.{HasNames, Names};
 
 use crate::fault::NameFault;
 use crate::walking::walk;
+use bitfile_set::BitfileSet;
 use dir_rows::{add_row, find_row};
 use domain_base::{Kind, Tag};
 use fileset_model::{Path, Refusal};
-use page_store::{BitfileSet, StoreFault};
+use page_store::StoreFault;
 use std::alloc::Global;
 
 /// The last name of a path that has one.

@@ -11,11 +11,12 @@ ghost use Rattle.name_space.specs.Changes.{AddsLink, HasOriginal, IsFaultOf, IsL
 use crate::create::{free_place, last_name};
 use crate::fault::NameFault;
 use crate::spot::leaf_spot;
+use bitfile_set::BitfileSet;
 use dir_rows::add_row;
 use domain_base::limits::MAX_LINKS;
 use domain_base::{Kind, Tag};
 use fileset_model::{Path, Refusal};
-use page_store::{BitfileSet, StoreFault};
+use page_store::StoreFault;
 use std::alloc::Global;
 
 /// A file that gets a row more, and the directory that gets the row.

@@ -5,10 +5,10 @@ ghost use Rattle.fileset_model.specs.declared.fileset.FilesetSlot.{FilesetSlot};
 ghost use Rattle.name_space.specs.Lists.{AreRowsOf, IsRowCount, item_of};
 ghost use Rattle.name_space.specs.Names.{HasNames, Names};
 
+use bitfile_set::BitfileSet;
 use dir_pages::{Row, RowList};
 use domain_base::{Kind, OutOfMemory, Tag};
 use fileset_model::{Name, NameItem, NameList};
-use page_store::BitfileSet;
 use std::alloc::Global;
 
 /// What a list shows of a row.

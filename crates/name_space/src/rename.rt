@@ -14,10 +14,11 @@ use crate::fault::NameFault;
 use crate::spot::{Spot, check_leaf, spot_of};
 use crate::unlink::take_name;
 use crate::walking::walk;
+use bitfile_set::BitfileSet;
 use dir_rows::{add_row, find_row, remove_row};
 use domain_base::{Kind, Tag};
 use fileset_model::{Path, Refusal};
-use page_store::{BitfileSet, StoreFault};
+use page_store::StoreFault;
 use std::alloc::Global;
 
 /// What came of a rename.

@@ -8,10 +8,10 @@ ghost use Rattle.name_space.specs.Changes.{HasOriginal, IsOriginal, IsSpot, leaf
 
 use crate::create::last_name;
 use crate::walking::walk;
+use bitfile_set::BitfileSet;
 use dir_rows::{find_row, is_empty};
 use domain_base::{Kind, Tag};
 use fileset_model::{Path, Refusal};
-use page_store::BitfileSet;
 
 /// The row to which a path leads: the directory that it stands in, and the tag and kind of what it
 /// names.

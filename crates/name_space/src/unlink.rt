@@ -9,10 +9,11 @@ ghost use Rattle.name_space.specs.Changes.{DropsLink, HasOriginal, IsFaultOf, Is
 use crate::create::last_name;
 use crate::fault::NameFault;
 use crate::spot::{Spot, leaf_spot};
+use bitfile_set::BitfileSet;
 use dir_rows::remove_row;
 use domain_base::{Kind, Tag};
 use fileset_model::Path;
-use page_store::{BitfileSet, StoreFault};
+use page_store::StoreFault;
 use std::alloc::Global;
 
 /// What came of a file one of whose paths was removed.

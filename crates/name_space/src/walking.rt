@@ -5,10 +5,10 @@ ghost use Rattle.fileset_model.specs.declared.fileset.FilesetSlot.{FilesetSlot};
 ghost use Rattle.name_space.specs.Names.{HasNames, Names};
 ghost use Rattle.name_space.specs.Walks.{IsAtDirectory, IsClear, IsTarget, IsWalked, IsWayTo};
 
+use bitfile_set::BitfileSet;
 use dir_rows::find_row;
 use domain_base::{Kind, Tag};
 use fileset_model::{Name, Path, Refusal};
-use page_store::BitfileSet;
 
 /// The tag of the root directory.
 const ROOT: Tag = Tag { slot: 1, seq: 1 };

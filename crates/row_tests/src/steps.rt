@@ -2,11 +2,12 @@
 ghost use Rattle.std.specs.Prelude.{◌<◌, IfOk, OnOk};
 ghost use Rattle.dir_rows.specs.Directory.{IsWellFormed};
 
+use bitfile_set::BitfileSet;
 use dir_pages::{Row, is_row_name};
 use dir_rows::{add_row, find_row, list_rows, remove_row};
 use domain_base::{Kind, OutOfMemory, Tag};
 use memory_store::MemoryBitfiles;
-use page_store::{BitfileSet, StoreFault};
+use page_store::StoreFault;
 use std::alloc::Global;
 
 /// The tag of the root directory.

@@ -6,8 +6,9 @@ use crate::steps::{
     ROOT, add, add_mixed, add_wide, count_long, count_wide, empty_root, first_four,
     listed_in_place, remove, remove_odd, slot_of,
 };
+use bitfile_set::BitfileSet;
 use dir_rows::{is_empty, row_count};
-use page_store::{BitfileSet, StoreFault};
+use page_store::StoreFault;
 use std::alloc::Global;
 use std::test::Fail;
 

@@ -1,11 +1,14 @@
-//! Files and directories by their tags.
+//! Files and directories by their tags, as the layers of names see them: a trait that a domain and a
+//! map in memory both meet.
+#![tactic(auto)]
+
 ghost use Rattle.std.specs.Prelude.{◌≡◌, ◌<◌, ◌≤◌, ℕ, IfErr, IfOk, IsSome, None, OnErr, OnOk};
 ghost use Rattle.std.specs.Option.{option_copied};
 ghost use Rattle.domain_base.specs.Limits.{file_pages, max_links};
 ghost use Rattle.page_store.specs.Bitfiles.{AreBitfiles, Bitfiles, IsCounted, IsDirectory, count_index, count_pages, index_at, insert_index, kind_at, linked, links_at, new_file, page_at, put_index, put_page, with_change, with_file, without_file};
 
-use crate::fault::StoreFault;
 use domain_base::{Kind, Page, Tag};
+use page_store::StoreFault;
 use std::alloc::Global;
 
 /// A finite map from tag to file or directory, with a directory's pages and those of its index, and
