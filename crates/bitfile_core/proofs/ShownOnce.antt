@@ -1,13 +1,13 @@
 -- Files show one set at most.
 use Rattle.std.proofs.Common.{◌≡◌, ◌∙◌, ℕ, suc, Bool, true, false, cond, List, [], ◌∷◌, Option, Some, None, IsSomeAnd, slice_get, refl, sym, ap}
 use Rattle.domain_base.specs.declared.place.Home.{Home}
-use Rattle.page_store.specs.Bitfiles.{Bitfile}
+use Rattle.page_store.specs.Bitfiles.{Bitfile, shown_index}
 use Rattle.page_store.specs.Pages.{Pages}
 use Rattle.bmt_mcells.specs.Chain.{PlacedCell}
 use Rattle.tag_dirs.specs.TagPage.{next_of}
 use Rattle.bitfile_core.specs.declared.attributes.Attributes.{Attributes}
 use Rattle.bitfile_core.specs.Files.{attributes_of, is_removed, of_live}
-use Rattle.bitfile_core.specs.Shown.{AreIndexPages, IsWhat, ShowOnce, ShowsAt, ShowsFile, index_of, shown_index, shown_page}
+use Rattle.bitfile_core.specs.Shown.{AreIndexPages, IsWhat, ShowOnce, ShowsAt, ShowsFile, index_of, shown_page}
 
 -- lists that have the same at each number are the same
 pub same_each : {X : Type 0} (xs ys : List X) → ((k : ℕ) → slice_get xs k ≡ slice_get ys k) → xs ≡ ys

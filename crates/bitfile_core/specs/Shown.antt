@@ -2,12 +2,11 @@
 -- directories and of their indexes.
 use Rattle.std.specs.Prelude.{◌≡◌, ℕ, List, [], ◌∷◌, Option, Some, None, IsSomeAnd, slice_get}
 use Rattle.std.specs.Option.{option_and_then}
-use Rattle.domain_base.specs.Page.{overwritten, zero_bytes}
 use Rattle.domain_base.specs.declared.place.Home.{Home}
 use Rattle.domain_base.specs.declared.place.Kind.TheVariants.{Directory, File}
 use Rattle.domain_base.specs.declared.place.Kind.{Kind}
 use Rattle.domain_base.specs.declared.place.Tag.{Tag}
-use Rattle.page_store.specs.Bitfiles.{Bitfile, Bitfiles}
+use Rattle.page_store.specs.Bitfiles.{Bitfile, Bitfiles, shown_index}
 use Rattle.page_store.specs.Pages.{Pages}
 use Rattle.record_table.specs.declared.record.Record.{Record}
 use Rattle.record_table.specs.declared.record.Record.TheVariants as written
@@ -37,10 +36,6 @@ index_in _ = None
 
 abbrev pub index_of : List PlacedCell → Option Home
 index_of cells = option_and_then index_in (first_record 9 cells)
-
--- an index page without the home of the next one
-abbrev pub shown_index : List ℕ → List ℕ
-shown_index page = overwritten page 8 (zero_bytes 8)
 
 -- from a home on each index page leads to the next, and the last to none
 abbrev pub AreIndexPages : Pages → Option Home → List (List ℕ) → Type 0

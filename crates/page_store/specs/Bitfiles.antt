@@ -3,6 +3,7 @@ use Rattle.std.specs.Prelude.{◌≡◌, ◌==◌, ◌&&◌, ◌+◌, ◌^◌, �
 use Rattle.std.specs.Option.{option_and_then, option_map, option_map_or}
 use Rattle.domain_base.specs.Counts.{HasRisen}
 use Rattle.domain_base.specs.Limits.{page_bytes, file_pages, max_links}
+use Rattle.domain_base.specs.Page.{overwritten, zero_bytes}
 use Rattle.domain_base.specs.declared.place.Kind.{Kind}
 use Rattle.domain_base.specs.declared.place.Kind.TheVariants.{File, Directory}
 use Rattle.domain_base.specs.declared.place.Tag.{Tag}
@@ -81,6 +82,10 @@ page_at files tag page =
 abbrev pub index_at : Bitfiles → Tag → ℕ → Option (List ℕ)
 index_at files tag page =
     option_and_then (λ (file : Bitfile). slice_get file.index page) (files tag)
+
+-- an index page as a set shows it: without the home of the next one
+abbrev pub shown_index : List ℕ → List ℕ
+shown_index page = overwritten page 8 (zero_bytes 8)
 
 abbrev pub IsDirectory : Bitfiles → Tag → Type 0
 IsDirectory files tag = IsSomeAnd (files tag) (λ file. file.kind ≡ Directory)
