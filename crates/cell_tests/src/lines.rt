@@ -54,9 +54,8 @@ fn put_bytes(pages: &mut MemoryPages, home: &Home, at: usize, bytes: &[u8]) -> R
     if PAGE_BYTES < at || PAGE_BYTES - at < bytes.len() {
         return Err(Fail::from("bytes of a page"));
     }
-    if let Some(mut page) = pages.take_off(*home) {
-        page.set(at, bytes);
-        pages.put(*home, page);
+    if pages.get(*home).is_some() {
+        pages.set(*home, at, bytes);
     }
     Ok(())
 }

@@ -58,14 +58,12 @@ fn put(alloc: Global, pages: &mut MemoryPages, home: &Home, mark: u8) -> Result<
     Ok(fell == usize::from(new))
 }
 
-/// Takes a page off, and says its mark, and whether the room rose by one exactly where there was
-/// one.
+/// Forgets a page, and says which mark it had, and whether the room rose by one exactly where there
+/// was one.
 fn take(pages: &mut MemoryPages, home: &Home) -> (Option<u8>, bool) {
     let before = pages.spare();
-    let mark = match pages.take_off(*home) {
-        Some(page) => Some(mark_of(&page)),
-        None => None,
-    };
+    let mark = pages.get(*home).map(mark_of);
+    pages.forget(*home);
     let rose = pages.spare().saturating_sub(before);
     (mark, rose == usize::from(mark.is_some()))
 }

@@ -85,7 +85,7 @@ impl MetaPages for MemoryPages {
         set_bytes(&mut self.entries, key_of(&home), at, bytes);
     }
 
-    fn take_off(&mut self, home: Home) -> Option<Page> {
-        take(&mut self.entries, key_of(&home))
+    fn forget(&mut self, home: Home) {
+        let _ = take(&mut self.entries, key_of(&home));
     }
 }

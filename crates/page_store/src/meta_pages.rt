@@ -10,7 +10,7 @@ use domain_base::{Home, OutOfMemory, Page};
 use std::alloc::Global;
 
 /// A finite map from home to page, with room for more pages. A page is changed where it stands, or
-/// taken off, changed and put back: none of these takes memory.
+/// forgotten: neither takes memory.
 pub trait MetaPages {
     /// What stands at each home.
     ghost pages: { Self → Pages };
@@ -47,12 +47,10 @@ pub trait MetaPages {
             ≡ with_page home (overwritten page at bytes.now) (pages self.old)) }
         ensures left { room self.new ≡ room self.old };
 
-    /// Takes the page off that stands at a home, which leaves room for one more.
-    fn take_off(&mut self, home: Home) -> Option<Page>
-        ensures taken { result ≡ pages self.old home }
+    /// Forgets the page that stands at a home.
+    fn forget(&mut self, home: Home)
         ensures value { pages self.new ≡ without_page home (pages self.old) }
-        ensures left { room self.new ≡
-            (if is_some (pages self.old home) then room self.old + 1 else room self.old) };
+        ensures left { room self.old ≤ room self.new };
 
     /// A page has 8,192 bytes.
     ghost whole: { (store : Self) → AreWhole (pages store) };
