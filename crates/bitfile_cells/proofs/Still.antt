@@ -27,7 +27,7 @@ next_in : Option (ℕ × ℕ) → ℕ
 next_in None = 0
 next_in (Some h) = h.1
 
-next_stays : (o n : Option (List ℕ)) → option_map header n ≡ option_map header o → IsSomeAnd o (λ page. next_of page ≡ 0) → IsSomeAnd n (λ page. next_of page ≡ 0)
+pub next_stays : (o n : Option (List ℕ)) → option_map header n ≡ option_map header o → IsSomeAnd o (λ page. next_of page ≡ 0) → IsSomeAnd n (λ page. next_of page ≡ 0)
 unfolding next_in
 next_stays None n same is = absurd is
 next_stays (Some p) None same is = absurd (none_is_some same)

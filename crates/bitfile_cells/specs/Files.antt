@@ -44,8 +44,8 @@ pub record IsMapCell (cell : Cell) : Type 0 where
   pub only : cell.records ≡ value ∷ []
   pub is_map : IsMapRecord value
 
--- the chain of a file or directory: its first cell has its attributes and one record that says where
--- pages stand, each other one such a record alone, and no page stands twice
+-- the chain of a file or directory: its first cell has its attributes and one record that says
+-- where pages stand, each other one such a record alone, and no page stands twice
 pub record AreFile (pages : Pages) (first : PlacedCell) (rest : List PlacedCell) : Type 0 where
   pub links : AreLinked pages first rest
   pub primary : first.cell.head.kind ≡ Primary

@@ -18,4 +18,4 @@ pub use moving::switch_page;
 pub use putting::put_in_records;
 pub use switching::switch_in_records;
 pub use taking::take_cell;
-pub use walking::find_place;
+pub use walking::{CELLS, find_place, map_record, next_cell};

@@ -87,10 +87,10 @@ fn add_table_page<M: MetaPages>(
 }
 
 /// Takes a free cell of a volume that is not closed, of the preferred one if that has any. Where
-/// none is free, a page of 28 cells is added first, of the preferred volume if that has a free page.
-/// The cell is 292 zeros, and no free one any more. NoPage exactly where no cell is free and no page
-/// that would hold more, which is a miss. At an Err nothing but room and the count of misses has
-/// changed.
+/// none is free, a page of 28 cells is added first, of the preferred volume if that has a free
+/// page. The cell is 292 zeros, and no free one any more. NoPage exactly where no cell is free and
+/// no page that would hold more, which is a miss. At an Err nothing but room and the count of
+/// misses has changed.
 pub fn take_cell<M: MetaPages>(
     alloc: Global,
     pages: &mut M,

@@ -15,13 +15,13 @@ use page_store::MetaPages;
 use record_table::Record;
 
 /// More cells than there are: of 8 volumes, each of 2^32 pages of 256 cells.
-pub(crate) const CELLS: u64 = 1 << 44;
+pub const CELLS: u64 = 1 << 44;
 
 /// The kinds of records that say where pages stand.
 const MAP_KINDS: [u8; 5] = [3, 4, 5, 13, 14];
 
 /// The cell that comes next to the cell in use that stands there.
-pub(crate) fn next_cell<M: MetaPages>(pages: &M, at: &CellAt) -> Option<CellAt>
+pub fn next_cell<M: MetaPages>(pages: &M, at: &CellAt) -> Option<CellAt>
     ensures next { (cell : Cell) → StandsAt (M.pages pages.now) at.now cell
         → result ≡ cell.head.next }
     ensures widths { IsNumbered at.now }
@@ -33,7 +33,7 @@ pub(crate) fn next_cell<M: MetaPages>(pages: &M, at: &CellAt) -> Option<CellAt>
 }
 
 /// The record of a cell in use that says where pages stand.
-pub(crate) fn map_record<M: MetaPages>(pages: &M, at: &CellAt) -> Option<Record>
+pub fn map_record<M: MetaPages>(pages: &M, at: &CellAt) -> Option<Record>
     ensures { (cell : Cell) (value : RecordOf) → StandsAt (M.pages pages.now) at.now cell
         → HasMap cell value → result ≡ Some value }
 {

@@ -1,5 +1,5 @@
--- All belongs together where a file is made: after a cell was handed out, a page of tags was added, and
--- a tag was made to lead to a file of one cell.
+-- All belongs together where a file is made: after a cell was handed out, a page of tags was added,
+-- and a tag was made to lead to a file of one cell.
 use Rattle.std.proofs.Common.{◌≡◌, ◌∙◌, ℕ, ◌+◌, ◌*◌, ◌/◌, ◌%◌, ◌<◌, ◌≤◌, ◌&&◌, not, Bool, true, false, cond, nat_eq, nat_lt, List, [], ◌∷◌, ◌++◌, Option, Some, None, IfSome, IsSome, IsSomeAnd, is_some, Contains, length, refl, sym, ap, subst, arith, zero, suc, ⊎_elim, ◌⊎◌, inl, inr}
 use Rattle.std.proofs.lemmas.Bool.{and_from, and_parts, both_ways, cases_Bool, cases_lt, eq-eqb, eqb-true, false_from_ne_true, or_cases, or_left, or_right, true≢false}
 use Rattle.std.proofs.lemmas.List.{append-nil}

@@ -28,7 +28,7 @@ use Rattle.bitfile_core.proofs.Tags.{cell_same, directory_same, pages_same}
 
 -- ---- a file of which each cell stands
 
-follow_by : (new old : Pages) (head : CellHead) (cs : List PlacedCell) → AllByRecursion (λ (c : PlacedCell). StandsAt new c.at c.cell) cs → Follow old head cs → Follow new head cs
+pub follow_by : (new old : Pages) (head : CellHead) (cs : List PlacedCell) → AllByRecursion (λ (c : PlacedCell). StandsAt new c.at c.cell) cs → Follow old head cs → Follow new head cs
 follow_by new old head [] stand follow = follow
 follow_by new old head (c ∷ cs) stand follow = (follow.0, follow.1, stand.0, follow_by new old c.cell.head cs stand.1 follow.3)
 
@@ -91,7 +91,7 @@ start_same old new at start [] after same was is = absurd was
 start_same old new at start (a ∷ xs) [] same was is = absurd same
 start_same old new at start (a ∷ xs) (b ∷ ys) same was is = (same.0 ∙ was.0, is.1)
 
-placed_at : (cs : List PlacedCell) (at : CellAt) → Contains (cell_places cs) at → (c : PlacedCell) × Contains cs c × (c.at ≡ at)
+pub placed_at : (cs : List PlacedCell) (at : CellAt) → Contains (cell_places cs) at → (c : PlacedCell) × Contains cs c × (c.at ≡ at)
 placed_at [] at inside = absurd (omega (arith, inside.1))
 placed_at (c ∷ cs) at (zero, within, is) = (c, (0, omega arith, refl), is)
 placed_at (c ∷ cs) at (suc k, within, is) = let later = placed_at cs at (k, omega (arith, within), is) in (later.0, (suc later.1.0, omega (arith, later.1.1), later.1.2), later.2)

@@ -113,8 +113,8 @@ fn take_for_page<M: MetaPages>(
       home = home.now;
     } ∷ []) }
     ensures ready { IfOk result (λ taken. IsReady index home.now tags.old taken.ready) }
-    ensures ok { IfOk result (λ taken. Takes prefer taken.at space.old space.new cells.old cells.new
-        (M.pages pages.old) (M.pages pages.new)) }
+    ensures ok { IfOk result (λ taken. Takes prefer taken.at space.old space.new cells.old
+        cells.new (M.pages pages.old) (M.pages pages.new)) }
     ensures place { IfOk result (λ taken. HasPlace (M.pages pages.new) taken.at) }
     ensures zeros { IfOk result (λ taken. cell_at (M.pages pages.new) taken.at
         ≡ Some (zero_bytes 292)) }
@@ -153,8 +153,8 @@ fn create_as<M: MetaPages>(
     requires tag { CanTakeTag (M.pages pages.old) tags.old tag.now }
     ensures ok { (chains : Chains)
         → AreTogether fileset tags.old space.old cells.old (M.pages pages.old) chains
-        → OnOk result (Creates fileset tags.new tag.now version what.now chains space.new cells.old
-        cells.new (M.pages pages.old) (M.pages pages.new)) }
+        → OnOk result (Creates fileset tags.new tag.now version what.now chains space.new
+        cells.old cells.new (M.pages pages.old) (M.pages pages.new)) }
     ensures taken { OnOk result (TakesOne prefer space.old space.new cells.old cells.new
         (M.pages pages.old)) }
     ensures err { IfErr result (FindsNone space.old space.new cells.old) }

@@ -18,6 +18,7 @@ use Rattle.bitfile_cells.specs.Files.{HasMap, IsFile, IsMapCell}
 use Rattle.bitfile_cells.proofs.ChainChanges.{in_first, in_later}
 use Rattle.bitfile_cells.proofs.MapRecords.{rows_kind, value_has_rows}
 use Rattle.bitfile_cells.proofs.OneRecord.{has_after, map_cell_after, only_after, others_same, still_found}
+use Rattle.bitfile_core.proofs.OneChain.{follow_by}
 use Rattle.chain_release.specs.Steps.{AllStand}
 
 -- ---- places
@@ -83,10 +84,6 @@ all_join P (x ∷ xs) ys all more = (all.0, all_join P xs ys all.1 more)
 
 -- ---- what follows what
 
-pub follow_by : (old new : Pages) (head : CellHead) (cs : List PlacedCell) → AllStand new cs → Follow old head cs → Follow new head cs
-follow_by old new head [] stand follow = follow
-follow_by old new head (c ∷ cs) stand follow = (follow.0, follow.1, stand.0, follow_by old new c.cell.head cs stand.1 follow.3)
-
 -- with another tail
 follow_tail : (old new : Pages) (front xs ys : List PlacedCell) → AllStand new front → ((h : CellHead) → Follow old h xs → Follow new h ys) → (h : CellHead) → Follow old h (front ++ xs) → Follow new h (front ++ ys)
 follow_tail old new [] xs ys stand tail h follow = tail h follow
@@ -119,7 +116,7 @@ skip_kind Volume Volume c x y = absurd (true≢false (sym x))
 -- what followed a cell follows the one in front of it
 skip_cell : (old new : Pages) (b : CellHead) (c : CellHead) (rest : List PlacedCell) → may_follow b.kind c.kind ≡ true → AllStand new rest → Follow old c rest → Follow new (record b { next = c.next }) rest
 skip_cell old new b c [] kinds stand follow = follow
-skip_cell old new b c (r ∷ rest) kinds stand follow = (follow.0, skip_kind b.kind c.kind r.cell.head.kind kinds follow.1, stand.0, follow_by old new r.cell.head rest stand.1 follow.3)
+skip_cell old new b c (r ∷ rest) kinds stand follow = (follow.0, skip_kind b.kind c.kind r.cell.head.kind kinds follow.1, stand.0, follow_by new old r.cell.head rest stand.1 follow.3)
 
 -- ---- the chains
 
@@ -137,7 +134,7 @@ module _ (old new : Pages) (start : CellAt) (c : PlacedCell) (rest : List Placed
     is_file = (
       is.0,
       record {
-        links = record { stands = stands; follow = follow_by old new c.cell.head rest later is.1.links.follow; distinct = is.1.links.distinct };
+        links = record { stands = stands; follow = follow_by new old c.cell.head rest later is.1.links.follow; distinct = is.1.links.distinct };
         primary = is.1.primary;
         attributes = still_found value after is_map same 1 c.cell.records (rows_kind value (value_has_rows value has.is_map)) is.1.attributes;
         value = after;
@@ -159,7 +156,7 @@ module _ (old new : Pages) (start : CellAt) (c : PlacedCell) (rest : List Placed
       record {
         links = record {
           stands = stand.0;
-          follow = follow_tail old new front (c ∷ rest) (cell_now ∷ rest) stand.1 (λ h follow. (follow.0, follow.1, stands, follow_by old new c.cell.head rest later follow.3)) f.cell.head is.1.links.follow;
+          follow = follow_tail old new front (c ∷ rest) (cell_now ∷ rest) stand.1 (λ h follow. (follow.0, follow.1, stands, follow_by new old c.cell.head rest later follow.3)) f.cell.head is.1.links.follow;
           distinct = distinct_same (f ∷ front) c cell_now rest refl is.1.links.distinct;
         };
         primary = is.1.primary;

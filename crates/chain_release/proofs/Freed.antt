@@ -1,27 +1,14 @@
 -- Free cells, free space and pages belong together once a cell is freed.
-use Rattle.std.proofs.Common.{◌≡◌, ◌∙◌, ℕ, ◌<◌, Option, Some, None, IsSomeAnd, List, length, slice_index, sym, ap, subst}
-use Rattle.std.specs.Option.{option_map}
+use Rattle.std.proofs.Common.{◌≡◌, ◌∙◌, ℕ, ◌<◌, IsSomeAnd, List, length, slice_index, sym, ap, subst}
 use Rattle.domain_base.specs.declared.place.CellAt.{CellAt}
 use Rattle.domain_base.specs.declared.place.Home.{Home}
 use Rattle.page_store.specs.Pages.{Pages}
-use Rattle.bmt_mcells.specs.CellPage.{KeepsHeaders, header, next_of}
+use Rattle.bmt_mcells.specs.CellPage.{KeepsHeaders, next_of}
 use Rattle.free_cells.specs.Cells.{Cells, FreesCell, is_closed, table_of}
 use Rattle.free_cells.specs.Belong.{Belong, home_at}
 use Rattle.free_space.specs.Spaces.{IsHeld, Spaces}
 use Rattle.bitfile_cells.specs.Allocated.{AreAllocated}
-
-none_is_some : {X : Type 0} {x : X} → None ≡ Some x → ⊥
-none_is_some e = cc
-
-next_in : Option (ℕ × ℕ) → ℕ
-next_in None = 0
-next_in (Some h) = h.1
-
-next_stays : (o n : Option (List ℕ)) → option_map header n ≡ option_map header o → IsSomeAnd o (λ page. next_of page ≡ 0) → IsSomeAnd n (λ page. next_of page ≡ 0)
-unfolding next_in
-next_stays None n same is = absurd is
-next_stays (Some p) None same is = absurd (none_is_some same)
-next_stays (Some p) (Some q) same is = ap next_in same ∙ is
+use Rattle.bitfile_cells.proofs.Still.{next_stays}
 
 abbrev home : ℕ → ℕ → Home
 home vol page = record { vol = vol; page = page }

@@ -31,7 +31,7 @@ use Rattle.chain_release.specs.Sharing.{IsReader, frozen_of}
 use Rattle.chain_release.specs.Steps.{AllStand, AreUnread, GivesTail, HandsOver, IsHomeFrom, IsPlanned, IsReadLast, PassesOn, through}
 use Rattle.chain_release.proofs.Cuts.{Cuts, there_or_not}
 use Rattle.bitfile_core.proofs.Again.{one_home}
-use Rattle.bitfile_core.proofs.OneChain.{file_by}
+use Rattle.bitfile_core.proofs.OneChain.{file_by, placed_at}
 use Rattle.chain_release.proofs.Given.{absent_home, gives_by, held_given}
 use Rattle.bitfile_core.proofs.Grown.{apart_grows}
 use Rattle.chain_release.proofs.Once.{file_map, good_page}
@@ -52,11 +52,6 @@ on_all cells (c ∷ cs) all = (all c.at (0, omega arith, refl), on_all cells cs 
 
 pub on_at : (cells : Cells) (cs : List PlacedCell) (at : CellAt) → AreOnTables cells cs → Contains (places cs) at → Contains (table_of cells at.vol) at.page
 on_at cells cs at on inside = all_at (λ (at : CellAt). Contains (table_of cells at.vol) at.page) cs at on inside
-
-placed_at : (cs : List PlacedCell) (at : CellAt) → Contains (places cs) at → (c : PlacedCell) × Contains cs c × (c.at ≡ at)
-placed_at [] at inside = absurd (omega (arith, inside.1))
-placed_at (c ∷ cs) at (zero, within, is) = (c, (0, omega arith, refl), is)
-placed_at (c ∷ cs) at (suc k, within, is) = let later = placed_at cs at (k, omega (arith, within), is) in (later.0, (suc later.1.0, omega (arith, later.1.1), later.1.2), later.2)
 
 stands_in : (pages : Pages) (cs : List PlacedCell) (at : CellAt) → AllStand pages cs → Contains (places cs) at → (cell : Cell) × StandsAt pages at cell
 stands_in pages [] at stand inside = absurd (omega (arith, inside.1))

@@ -13,8 +13,7 @@ ghost use Rattle.record_table.specs.Records.{kind_of};
 ghost use Rattle.chain_release.specs.Steps.{AllStand, EditsCell, IsCut, WritesEdit, edited, last_place};
 
 use crate::stale::Stale;
-use crate::walking::{map_record, next_cell};
-use bitfile_cells::put_among;
+use bitfile_cells::{map_record, next_cell, put_among};
 use bmt_mcells::{CellHead, RecordList, UsedCell, read_used, write_cell};
 use domain_base::{CellAt, OutOfMemory};
 use extent_records::{cut_from, used_rows};

@@ -9,7 +9,6 @@ mod released;
 mod releasing;
 mod stale;
 mod tail;
-mod walking;
 
 pub use laws::other_pages_stay_held;
 pub use reader::Reader;

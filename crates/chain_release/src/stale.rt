@@ -11,7 +11,7 @@ ghost use Rattle.bitfile_cells.specs.Files.{HasFile, HasMap, HasMapAt, IsFile};
 ghost use Rattle.chain_release.specs.Sharing.{IsReleased};
 ghost use Rattle.chain_release.specs.Steps.{IsStale, IsStaleCell};
 
-use crate::walking::{CELLS, map_record, next_cell};
+use bitfile_cells::{CELLS, map_record, next_cell};
 use domain_base::{CellAt, OutOfMemory};
 use extent_maps::ExtentMap;
 use extent_records::read_map;

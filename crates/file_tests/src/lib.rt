@@ -7,4 +7,4 @@ mod files;
 mod making;
 #[cfg(test)]
 mod moves;
-mod world;
+pub mod world;

@@ -21,7 +21,7 @@ use tag_dirs::TagDir;
 
 /// All that a call on files is given.
 #[derive(Drop)]
-pub(crate) struct World {
+pub struct World {
     pub pages: MemoryPages,
     pub space: FreeSpace,
     pub cells: FreeCells,
@@ -29,7 +29,7 @@ pub(crate) struct World {
 }
 
 /// The volume.
-pub(crate) fn volume() -> VolIx
+pub fn volume() -> VolIx
     ensures { result ≡ 1 }
 {
     VolIx::new(1).unwrap()
@@ -94,7 +94,7 @@ fn first_space(alloc: Global, count: u32) -> Result<FreeSpace, Fail>
 }
 
 /// A fileset with no file on a volume of so many pages, of which the first three are used.
-pub(crate) fn new_world(alloc: Global, count: u32) -> Result<World, Fail>
+pub fn new_world(alloc: Global, count: u32) -> Result<World, Fail>
     requires low { 3 ≤ count }
     requires high { count ≤ 2 ^ 20 }
     ensures { IfOk result (λ world. HasTogether world.files.fileset world.files.tags world.space
