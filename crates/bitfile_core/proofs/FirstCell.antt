@@ -69,7 +69,7 @@ module _ (kind : ℕ) (value : Option Record) (rs : List Record) (map : Record) 
 
 -- ---- a record of another kind stays
 
-find_filter : (j : ℕ) (p : Record → Bool) (rs : List Record) → ((r : Record) → kind_of r ≡ j → p r ≡ true) → record_of j (filter p rs) ≡ record_of j rs
+pub find_filter : (j : ℕ) (p : Record → Bool) (rs : List Record) → ((r : Record) → kind_of r ≡ j → p r ≡ true) → record_of j (filter p rs) ≡ record_of j rs
 find_filter j p [] keeps = refl
 find_filter j p (r ∷ rs) keeps = ⊎_elim
     (λ is. ap (record_of j) (filter_true p r rs is) ∙ ap (λ o. cond (nat_eq (kind_of r) j) (Some r) o) (find_filter j p rs keeps))

@@ -73,7 +73,7 @@ kinds_back (r ∷ rs) others maps = ⊎_elim
     (others_now.0, kinds_back rs others_now.1 (subst (λ xs. AllByRecursion (λ k. is_first_kind k ≡ true) (map kind_of xs)) (filter_false has_rows r rs none) maps)))
     (cases_Bool (has_rows r))
 
-kinds_same : (chain after : List PlacedCell) → SameFirst chain after → HasFirstKinds chain → HasFirstKinds after
+pub kinds_same : (chain after : List PlacedCell) → SameFirst chain after → HasFirstKinds chain → HasFirstKinds after
 kinds_same [] after same kinds = absurd kinds
 kinds_same (a ∷ xs) [] same kinds = absurd same
 kinds_same (a ∷ xs) (b ∷ ys) same kinds =
@@ -86,7 +86,7 @@ of_same fileset tag [] after same is = absurd is
 of_same fileset tag (a ∷ xs) [] same is = absurd same
 of_same fileset tag (a ∷ xs) (b ∷ ys) same is = (ap (λ h. h.slot) same.1 ∙ is.0, ap (λ h. h.seq) same.1 ∙ is.1, ap (λ h. h.fileset) same.1 ∙ is.2)
 
-start_same : (old new : Pages) (at start : CellAt) (chain after : List PlacedCell) → SameFirst chain after → IsFile old at chain → IsFile new start after → IsFile new at after
+pub start_same : (old new : Pages) (at start : CellAt) (chain after : List PlacedCell) → SameFirst chain after → IsFile old at chain → IsFile new start after → IsFile new at after
 start_same old new at start [] after same was is = absurd was
 start_same old new at start (a ∷ xs) [] same was is = absurd same
 start_same old new at start (a ∷ xs) (b ∷ ys) same was is = (same.0 ∙ was.0, is.1)
