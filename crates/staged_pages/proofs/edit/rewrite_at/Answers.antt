@@ -1,0 +1,48 @@
+use Rattle.std.proofs.Common.{◌∙◌, true, false, set, sym, ap, subst, arith}
+use mathlib.Core.Bool.{false≢true}
+use Rattle.domain_base.specs.Page.{overwritten}
+use Rattle.numbered_values.specs.Rising.{IsGapFor}
+use Rattle.numbered_values.proofs.Search.{value_in_gap}
+use Rattle.staged_pages.specs.declared.slot.Slot.{Slot}
+use Rattle.std.proofs.lemmas.Option.{same_Some}
+use Rattle.staged_pages.specs.Slots.{is_same}
+use Rattle.staged_pages.specs.Staged.{AreSlots}
+use Rattle.staged_pages.proofs.Edits.{edits_if_there, has_room, its_slot, slots_with}
+use Rattle.staged_pages.proofs.edit.rewrite_at.Goals as goal
+
+pub returns-in_default-clause-edits : goal.returns-in_default-clause-edits
+returns-in_default-clause-edits c =
+    let gap = subst (λ k. IsGapFor c.args.entries.now.items k c.in_default.field-0) c.home_number.ensures.value (subst (λ l. IsGapFor l c.home_number.result c.in_default.field-0) c.deref.ensures.value c.in_default.ensures.gap) in
+    absurd (false≢true (rw (value_in_gap _ _ _ gap) at c.requires.there))
+
+pub rewrite-requires-clause-there : goal.rewrite-requires-clause-there
+rewrite-requires-clause-there c =
+    let slot = its_slot _ _ c.requires.slots c.args.home _ c.deref.ensures.value _ c.home_number.ensures.value _ c.in-Ok.ensures.place c.index_mut.result.now c.index_mut.ensures.value in
+    rw slot at c.requires.there
+
+pub push_reserved-requires : goal.push_reserved-requires
+push_reserved-requires c =
+    let room = has_room _ _ c.requires.slots c.args.home _ c.deref.ensures.value _ c.home_number.ensures.value _ c.in-Ok.ensures.place c.index.result.now c.index.ensures (sym c.is_same-is_new.ensures ∙ c.if-is_new.true) in
+    omega (arith, room, c.requires.room)
+
+pub returns-then-is_new-clause-edits : goal.returns-then-is_new-clause-edits
+returns-then-is_new-clause-edits c = edits_if_there _ _ c.requires.slots c.args.home _ c.deref.ensures.value _ c.home_number.ensures.value _ c.in-Ok.ensures.place c.index_mut.result.now c.index_mut.ensures.value c.rewrite.new.self (λ page. overwritten page c.args.at c.args.bytes.now) c.rewrite.ensures.page c.rewrite.ensures.before
+
+pub returns-then-is_new-clause-slots : goal.returns-then-is_new-clause-slots
+returns-then-is_new-clause-slots c =
+    let slot = its_slot _ _ c.requires.slots c.args.home _ c.deref.ensures.value _ c.home_number.ensures.value _ c.in-Ok.ensures.place in
+    let one = same_Some _ _ (sym (slot c.index.result.now c.index.ensures) ∙ slot c.index_mut.result.now c.index_mut.ensures.value) in
+    let says = ap (λ (s : Slot). is_same s.change) one in
+    let kept = slots_with _ _ c.requires.slots c.args.home _ c.deref.ensures.value _ c.home_number.ensures.value _ c.in-Ok.ensures.place c.index_mut.result.now c.index_mut.ensures.value c.rewrite.new.self true (sym c.if-is_new.true ∙ c.is_same-is_new.ensures ∙ says) c.home_number.ensures.width c.rewrite.ensures.changed c.rewrite.ensures.whole in
+    subst (λ l. AreSlots (set c.args.entries.now.items c.in-Ok.place (c.index_mut.result.now.0, c.rewrite.new.self)) l) (sym c.push_reserved.ensures.items) kept
+
+pub returns-else-is_new-clause-edits : goal.returns-else-is_new-clause-edits
+returns-else-is_new-clause-edits c = edits_if_there _ _ c.requires.slots c.args.home _ c.deref.ensures.value _ c.home_number.ensures.value _ c.in-Ok.ensures.place c.index_mut.result.now c.index_mut.ensures.value c.rewrite.new.self (λ page. overwritten page c.args.at c.args.bytes.now) c.rewrite.ensures.page c.rewrite.ensures.before
+
+pub returns-else-is_new-clause-slots : goal.returns-else-is_new-clause-slots
+returns-else-is_new-clause-slots c =
+    let slot = its_slot _ _ c.requires.slots c.args.home _ c.deref.ensures.value _ c.home_number.ensures.value _ c.in-Ok.ensures.place in
+    let one = same_Some _ _ (sym (slot c.index.result.now c.index.ensures) ∙ slot c.index_mut.result.now c.index_mut.ensures.value) in
+    let says = ap (λ (s : Slot). is_same s.change) one in
+    let kept = slots_with _ _ c.requires.slots c.args.home _ c.deref.ensures.value _ c.home_number.ensures.value _ c.in-Ok.ensures.place c.index_mut.result.now c.index_mut.ensures.value c.rewrite.new.self false (sym c.if-is_new.false ∙ c.is_same-is_new.ensures ∙ says) c.home_number.ensures.width c.rewrite.ensures.changed c.rewrite.ensures.whole in
+    kept

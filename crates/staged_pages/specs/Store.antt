@@ -1,0 +1,52 @@
+-- What a store has at each home, and what it had there before the change that is not kept yet.
+use Rattle.std.specs.Prelude.{◌≡◌, ◌^◌, ℕ, true, false, List, Option, Some, None, IfSome, length, nat_lt, refl, if◌then◌else◌}
+use Rattle.std.specs.Option.{ForSome, option_and_then}
+use Rattle.domain_base.specs.Limits.{page_bytes}
+use Rattle.domain_base.specs.declared.place.Home.{Home}
+use Rattle.page_store.specs.Pages.{AreWhole as WholePages, Pages}
+use Rattle.numbered_values.specs.Homes.{number_of}
+use Rattle.numbered_values.specs.Rising.{value_at}
+use Rattle.staged_pages.specs.declared.pages.StagedPages.{StagedPages}
+use Rattle.staged_pages.specs.declared.slot.Change.{Change}
+use Rattle.staged_pages.specs.declared.slot.Change.TheVariants.{Same, Rewritten, Added, Forgotten, Passed}
+use Rattle.staged_pages.specs.declared.slot.Slot.{Slot}
+use Rattle.staged_pages.specs.Slots.{AreWhole, after, page_before, page_now}
+use Rattle.staged_pages.specs.Staged.{AreSlots, pages_in}
+
+abbrev pub pages_of : StagedPages → Pages
+pages_of store = pages_in page_now store.entries.items
+
+abbrev pub before_of : StagedPages → Pages
+before_of store = pages_in page_before store.entries.items
+
+-- the homes that the change has touched
+abbrev pub changed_in : StagedPages → List Home
+changed_in store = store.changed.items
+
+if_some : (found : Option Slot) → ForSome found AreWhole
+    → IfSome (option_and_then page_now found) (λ page. length page ≡ page_bytes)
+if_some None whole = tt
+if_some (Some slot) whole = of_change slot.change (whole slot refl)
+  where
+    of_change : (change : Change) → AreWhole slot
+        → IfSome (after change slot.page) (λ page. length page ≡ page_bytes)
+    of_change Same are = are.page
+    of_change Rewritten are = are.page
+    of_change Added are = are.page
+    of_change Forgotten are = tt
+    of_change Passed are = tt
+
+-- each page has all its bytes
+pub whole_pages : (entries : List (ℕ × Slot)) (changed : List Home) → AreSlots entries changed
+    → WholePages (pages_in page_now entries)
+whole_pages entries changed slots home =
+    elim (nat_lt home.page (2 ^ 32)) as
+    (λ b. IfSome (option_and_then page_now (if b then value_at entries (number_of home) else None))
+    (λ page. length page ≡ page_bytes)) [
+      | true ↦ if_some _ (slots.whole (number_of home))
+      | false ↦ tt
+    ]
+
+-- for how many homes more there is room
+abbrev pub room_of : StagedPages → ℕ
+room_of store = length store.spare.items
