@@ -241,6 +241,7 @@ module _ (old new : Disk) (reads writes : ℕ → ℕ) (moment : Moment) (makes 
     sizes = makes.sizes;
     told = makes.told;
     kept = makes.kept;
+    later = omega (arith, makes.calls);
     read_faults = λ v. subst (λ (faults : ℕ → ℕ). old.read_faults v ≤ faults v) (sym makes.read_faults) (more_reads v);
     write_faults = λ v. subst (λ (faults : ℕ → ℕ). old.write_faults v ≤ faults v) (sym makes.write_faults) (more_writes v);
     contents = λ told. (becomes told).contents;
@@ -311,6 +312,7 @@ touches-none disk places = record {
   sizes = refl;
   told = refl;
   kept = refl;
+  later = omega arith;
   read_faults = λ v. omega arith;
   write_faults = λ v. omega arith;
   contents = λ told v k out. refl;
@@ -328,6 +330,7 @@ touches-wider old new places wider within touches = record {
   sizes = touches.sizes;
   told = touches.told;
   kept = touches.kept;
+  later = touches.later;
   read_faults = touches.read_faults;
   write_faults = touches.write_faults;
   contents = λ told v k out. touches.contents told v k (λ is_in. out (within v k is_in));
@@ -348,6 +351,7 @@ touches-then old mid new places first second = record {
   sizes = second.sizes ∙ first.sizes;
   told = second.told ∙ first.told;
   kept = second.kept ∙ first.kept;
+  later = omega (arith, first.later, second.later);
   read_faults = λ v. let a = first.read_faults v in let b = second.read_faults v in omega arith;
   write_faults = λ v. let a = first.write_faults v in let b = second.write_faults v in omega arith;
   contents = λ told v k out. second.contents (first.told ∙ told) v k out ∙ first.contents told v k out;

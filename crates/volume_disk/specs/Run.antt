@@ -1,5 +1,5 @@
 -- Runs of calls: what they have changed, and what a stop since their start may leave.
-use Rattle.std.specs.Prelude.{◌≡◌, ◌≢◌, ◌⊎◌, ℕ, ◌≤◌, false, IsTrue, List, length, Result, Ok, Err}
+use Rattle.std.specs.Prelude.{◌≡◌, ◌≢◌, ◌⊎◌, ℕ, ◌<◌, ◌≤◌, false, IsTrue, List, length, Result, Ok, Err}
 use Rattle.volume_disk.specs.Disk.{Disk, Moment, MayLeave, Since, Tells, raised_at}
 use Rattle.volume_disk.specs.Image.{Image, Places, AreBytes, HasBytes, IsIn, NoPlace, SameOutside}
 
@@ -16,6 +16,10 @@ pub record LeavesOnly (old new : Disk) (P : Image → Type 0) : Type 0 where
   pub before : (t : ℕ) (image : Image) → t ≤ old.calls → Since new t image
       → Since old t image ⊎ P image
 
+-- calls were made: the clock has gone on
+abbrev pub IsLater : Disk → Disk → Type 0
+IsLater old new = old.calls < new.calls
+
 -- A run of calls that has changed nothing but these places. What a stop since its start may leave
 -- is what one at its start might have left, with any bytes there. It may have read anything, and
 -- synced any volume.
@@ -23,6 +27,7 @@ pub record Touches (old new : Disk) (places : Places) : Type 0 where
   pub sizes : new.sizes ≡ old.sizes
   pub told : new.told ≡ old.told
   pub kept : new.kept ≡ old.kept
+  pub later : old.calls ≤ new.calls
   pub read_faults : (v : ℕ) → old.read_faults v ≤ new.read_faults v
   pub write_faults : (v : ℕ) → old.write_faults v ≤ new.write_faults v
   pub contents : Tells old → SameOutside places old.now.contents new.now.contents

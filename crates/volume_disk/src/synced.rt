@@ -3,6 +3,7 @@ ghost use Rattle.std.specs.Prelude.{◌≡◌, ◌*◌, length, OnOk};
 ghost use Rattle.volume_disk.specs.Disk.{AreBlocks, HasVolume, Syncs, Tells, Writes};
 ghost use Rattle.volume_disk.specs.Image.{IsIn, NoPlace, bytes_at};
 ghost use Rattle.volume_disk.specs.Run.{
+  IsLater,
   NamesReadFault,
   NamesWriteFault,
   OnlyReads,
@@ -60,6 +61,7 @@ pub fn sync_volume<R: Rack>(rack: &mut R, vol: VolIx) -> Result<(), VolIx>
     ensures writes { OnlyWrites (R.disk rack.old) (R.disk rack.new) NoPlace }
     ensures synced { let old = R.disk rack.old in
         OnOk result (Tells old → Syncs vol old.now (R.disk rack.new).now) }
+    ensures later { OnOk result (IsLater (R.disk rack.old) (R.disk rack.new)) }
     ensures fault { NamesWriteFault (R.disk rack.old) (R.disk rack.new) result }
 {
     match rack.sync(vol) {
@@ -81,6 +83,7 @@ pub fn write_synced<R: Rack>(
         OnlyWrites (R.disk rack.old) (R.disk rack.new) places }
     ensures settled { let old = R.disk rack.old in let new = R.disk rack.new in
         OnOk result (Tells old → Settles vol (512 * block) bytes.now old.now new.now) }
+    ensures later { OnOk result (IsLater (R.disk rack.old) (R.disk rack.new)) }
     ensures fault { NamesWriteFault (R.disk rack.old) (R.disk rack.new) result }
 {
     match write_blocks(rack, vol, block, bytes) {
