@@ -19,6 +19,7 @@ ghost use Rattle.domain_base.specs.Gate.{closed, opened};
 ghost use Rattle.volume_disk.specs.Disk.{HasVolume, Tells, volume_pages};
 ghost use Rattle.volume_disk.specs.Gate.{IsOpenAt};
 ghost use Rattle.volume_disk.specs.Run.{
+  IsLater,
   NamesReadFault,
   NamesWriteFault,
   OnlyReads,
@@ -99,6 +100,7 @@ fn open_slot<R: Rack>(rack: &mut R, vol: VolIx, slot: u8) -> Result<(), VolIx>
     ensures writes { OnlyWrites (R.disk rack.old) (R.disk rack.new) (IsGate vol slot) }
     ensures settled { let old = R.disk rack.old in let new = R.disk rack.new in
         OnOk result (Tells old → Settles vol (gate_byte slot) opened old.now new.now) }
+    ensures later { OnOk result (IsLater (R.disk rack.old) (R.disk rack.new)) }
     ensures fault { NamesWriteFault (R.disk rack.old) (R.disk rack.new) result }
 {
     open_gate(rack, vol, gate_block(slot))
@@ -282,6 +284,7 @@ pub fn write_anchor<R: Rack>(rack: &mut R, anchor: &Anchor) -> Result<(), VolIx>
         × IsAnchor old.sizes old.now.contents before × IsNext before anchor.now }
     ensures writes { WritesAnchor (R.disk rack.old) (R.disk rack.new) anchor.now }
     ensures done { OnOk result (HasWritten (R.disk rack.old) (R.disk rack.new) anchor.now) }
+    ensures later { OnOk result (IsLater (R.disk rack.old) (R.disk rack.new)) }
     ensures fault { NamesWriteFault (R.disk rack.old) (R.disk rack.new) result }
 {
     let Some(vol) = VolIx::new(anchor.log_vol) else {
