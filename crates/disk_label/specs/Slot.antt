@@ -101,6 +101,11 @@ HasReadied old new vol slot =
     Tells old → (before : Option Anchor) → HasAnchor old before → IsGateSynced old vol slot
     → ¬ StandsIn before vol slot → IsReady new before vol slot
 
+-- what was synced still is
+abbrev pub StaysSynced : Disk → Disk → Type 0
+StaysSynced old new =
+    Tells old → (v k : ℕ) → old.now.unsynced v k ≡ false → new.now.unsynced v k ≡ false
+
 -- no image that a stop might leave has an anchor that counts in a slot of this volume
 abbrev pub HasNoAnchorOn : Disk → ℕ → Type 0
 HasNoAnchorOn disk vol =

@@ -44,6 +44,7 @@ ghost use Rattle.disk_label.specs.Slot.{
   IsGate,
   IsGateOf,
   ReadiesSlot,
+  StaysSynced,
   WritesAnchor,
 };
 
@@ -219,7 +220,7 @@ pub fn read_anchor<R: Rack>(rack: &mut R) -> Result<Anchor, AnchorFault>
 /// calls it once for each slot of the volume of its log: when it is opened, and when the log goes
 /// to another volume, before the first anchor there. No more is needed before later anchors, since
 /// each leaves the slot of the next one ready (`next` and `others` of `HasWritten`). What it does
-/// to one slot leaves each other slot as ready as it was. The volume has to be one of the rack,
+/// to one slot leaves each other slot as ready as it was, and what it wrote is synced. The volume has to be one of the rack,
 /// with two pages or more. The error says of which volume a call failed, and whether that was a
 /// read, or a write or a sync.
 ///
@@ -237,6 +238,7 @@ pub fn ready_slot<R: Rack>(rack: &mut R, vol: VolIx, slot: u8) -> Result<(), Slo
     requires slot { slot ≤ 1 }
     ensures readies { ReadiesSlot (R.disk rack.old) (R.disk rack.new) vol slot }
     ensures ready { OnOk result (HasReadied (R.disk rack.old) (R.disk rack.new) vol slot) }
+    ensures synced { OnOk result (StaysSynced (R.disk rack.old) (R.disk rack.new)) }
     ensures passed { OnOk result (HasPassed (R.disk rack.old) (R.disk rack.new)) }
     ensures fault { IfErr result (HasSlotCause (R.disk rack.old) (R.disk rack.new)) }
 {

@@ -1,12 +1,12 @@
-use Rattle.std.proofs.Common.{◌≡◌, ℕ, ◌+◌, ◌*◌, ◌≤◌, List, replicate, Option, sym, ◌∙◌, subst, arith}
-use Rattle.std.proofs.lemmas.Bool.{both_ways}
+use Rattle.std.proofs.Common.{◌≡◌, ℕ, ◌+◌, ◌*◌, ◌≤◌, List, replicate, Option, inl, inr, sym, ◌∙◌, ap, subst, arith}
+use Rattle.std.proofs.lemmas.Bool.{both_ways, cases_eq}
 use Rattle.std.proofs.lemmas.List.{get_or-replicate, length-replicate}
 use Rattle.volume_disk.specs.Disk.{Disk, Moment, MayLeave, Tells}
 use Rattle.volume_disk.specs.Image.{Image, IsIn, NoPlace}
 use Rattle.volume_disk.specs.Run.{LeavesOnly, MayLeaveTorn, OnlyReads, OnlyWrites, Settles}
 use Rattle.volume_disk.proofs.Laws.{then_on, only_reads-leaves, touches-then, touches-wider, torn_before, untorn}
 use Rattle.disk_label.specs.Anchor.{IsAnchor}
-use Rattle.disk_label.specs.Slot.{HasAnchor, IsBody, IsGate, IsGateSynced, IsReady, ReadiesSlot, StandsIn}
+use Rattle.disk_label.specs.Slot.{HasAnchor, IsBody, IsGate, IsGateSynced, IsReady, ReadiesSlot, StandsIn, StaysSynced}
 use Rattle.disk_label.proofs.Written.{Shut, gate_seen, ready_open, stays, writing, zeros_ready}
 use Rattle.disk_label.specs.declared.anchor.Anchor.{Anchor}
 use Rattle.disk_label.proofs.store.ready_slot.Goals as goal
@@ -89,6 +89,19 @@ body_written vol slot low high d0 d1 d2 reads closed writes = record {
   others = λ told old v s synced other ready. other_ready vol slot low high old d0 d1 told (IsReady-has old v s d0 ready) synced reads (closed told) d2 writes v s other ready;
 }
 
+-- reads leave synced what was
+read_synced : (d0 d1 : Disk) → OnlyReads d0 d1 → StaysSynced d0 d1
+read_synced d0 d1 reads told v k was = ap (λ (m : Moment). m.unsynced v k) (reads.now told) ∙ was
+
+-- and so does a write whose volume is synced
+settled_synced : (vol at : ℕ) (bytes : List ℕ) (d0 d1 d2 : Disk) → OnlyReads d0 d1 → (Tells d1 → Settles vol at bytes d1.now d2.now) → StaysSynced d0 d2
+settled_synced vol at bytes d0 d1 d2 reads settles told v k was =
+    let done = settles (reads.touches.told ∙ told) in
+    elim (cases_eq v vol) [
+      | inl is ↦ ap (λ (w : ℕ). d2.now.unsynced w k) is ∙ done.here k
+      | inr other ↦ done.elsewhere v k other ∙ read_synced d0 d1 reads told v k was
+    ]
+
 pub returns-in-Err-clause-readies : goal.returns-in-Err-clause-readies
 returns-in-Err-clause-readies g c = read_alone c.args.vol c.args.slot (g.R.Rack.disk c.args.rack.now) (g.R.Rack.disk c.is_slot_open.new.rack) c.is_slot_open.ensures.reads
 
@@ -115,3 +128,10 @@ returns-in-Ok-clause-ready g c = λ told old has synced other.
     shut_ready c.args.vol c.args.slot c.requires.there.0 c.requires.slot old (g.R.Rack.disk c.args.rack.now) (g.R.Rack.disk c.is_slot_open.new.rack) told has synced c.is_slot_open.ensures.reads
     (λ is_open. both_ways c.in-Ok-false.field-0 c.in-Ok-false.field-0-test ((c.in-Ok-false.ensures.gate told).1 is_open))
     (g.R.Rack.disk c.write_body.new.rack) c.write_body.ensures.writes (c.in-Ok.ensures.settled (c.is_slot_open.ensures.reads.touches.told ∙ told))
+
+pub returns-in-Ok-true-clause-synced : goal.returns-in-Ok-true-clause-synced
+returns-in-Ok-true-clause-synced g c = read_synced (g.R.Rack.disk c.args.rack.now) (g.R.Rack.disk c.is_slot_open.new.rack) c.is_slot_open.ensures.reads
+
+pub returns-in-Ok-clause-synced : goal.returns-in-Ok-clause-synced
+returns-in-Ok-clause-synced g c =
+    settled_synced c.args.vol (8192 + 4096 * c.args.slot + 512) zeros (g.R.Rack.disk c.args.rack.now) (g.R.Rack.disk c.is_slot_open.new.rack) (g.R.Rack.disk c.write_body.new.rack) c.is_slot_open.ensures.reads c.in-Ok.ensures.settled
