@@ -4,7 +4,9 @@
 #![tactic(auto)]
 
 mod laws;
+mod ring;
 mod settling;
 
 pub use laws::{log_laws, redo_laws};
+pub use ring::ring_page;
 pub use settling::{bring_home, has_home_of};
