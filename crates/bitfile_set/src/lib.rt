@@ -2,10 +2,11 @@
 //! map in memory both meet.
 #![tactic(auto)]
 
-ghost use Rattle.std.specs.Prelude.{◌≡◌, ◌<◌, ◌≤◌, ℕ, IfErr, IfOk, IsSome, None, OnErr, OnOk};
-ghost use Rattle.std.specs.Option.{option_copied};
+ghost use Rattle.std.specs.Prelude.{◌≡◌, ◌↔◌, ◌<◌, ◌≤◌, ℕ, IfErr, IfOk, IsSome, None, OnErr, OnOk};
+ghost use Rattle.std.specs.Option.{option_copied, option_map};
 ghost use Rattle.domain_base.specs.Limits.{file_pages, max_links};
-ghost use Rattle.page_store.specs.Bitfiles.{AreBitfiles, Bitfiles, IsCounted, IsDirectory, count_index, count_pages, index_at, insert_index, kind_at, linked, links_at, new_file, page_at, put_index, put_page, with_change, with_file, without_file};
+ghost use Rattle.domain_base.specs.declared.place.Tag.{Tag};
+ghost use Rattle.page_store.specs.Bitfiles.{AreBitfiles, Bitfiles, IsCounted, IsDirectory, count_index, count_pages, index_at, insert_index, kind_at, linked, links_at, new_file, page_at, put_index, put_page, shown_index, with_change, with_file, without_file};
 
 use domain_base::{Kind, Page, Tag};
 use page_store::StoreFault;
@@ -13,13 +14,20 @@ use std::alloc::Global;
 
 /// A finite map from tag to file or directory, with a directory's pages and those of its index, and
 /// a count of misses. A call that changes it answers NoPage only where that count rose, OutOfMemory
-/// where no memory could be had, and has changed no file where it answers an Err.
+/// where no memory could be had, and has changed no file where it answers an Err. What a set holds
+/// beside the files that it shows is left by each call.
 pub trait BitfileSet {
     /// What each tag names.
     ghost files: { Self → Bitfiles };
 
     /// How often no page was free.
     ghost missed: { Self → ℕ };
+
+    /// All that a set holds beside the files that it shows is in another as it was.
+    ghost leaves_rest: { Self → Self → Type 0 };
+
+    /// A tag that no new file gets, although it names nothing.
+    ghost is_spent: { Self → Tag → Type 0 };
 
     /// Whether the tag names a file or a directory; None exactly where it names nothing.
     fn kind_of(&self, tag: Tag) -> Option<Kind>
@@ -29,11 +37,13 @@ pub trait BitfileSet {
     /// which named nothing before.
     fn make(&mut self, alloc: Global, kind: Kind, uid: u32, gid: u32) -> Result<Tag, StoreFault>
         ensures fresh { IfOk result (λ tag. files self.old tag ≡ None) }
+        ensures unspent { IfOk result (λ tag. ¬ is_spent self.old tag) }
         ensures ok { IfOk result (λ tag. files self.new ≡
             with_file tag (new_file kind uid gid) (files self.old)) }
         ensures err { OnErr result (files self.new ≡ files self.old) }
         ensures no_page { IfErr result (IsCounted (missed self.old) (missed self.new)) }
-        ensures count { missed self.old ≤ missed self.new };
+        ensures count { missed self.old ≤ missed self.new }
+        ensures rest { leaves_rest self.old self.new };
 
     /// Takes a tag's file or directory away, with all its pages.
     fn remove(&mut self, alloc: Global, tag: Tag) -> Result<(), StoreFault>
@@ -41,7 +51,8 @@ pub trait BitfileSet {
         ensures ok { OnOk result (files self.new ≡ without_file tag (files self.old)) }
         ensures err { OnErr result (files self.new ≡ files self.old) }
         ensures no_page { IfErr result (IsCounted (missed self.old) (missed self.new)) }
-        ensures count { missed self.old ≤ missed self.new };
+        ensures count { missed self.old ≤ missed self.new }
+        ensures rest { leaves_rest self.old self.new };
 
     /// How many pages a directory has; 0 where the tag names none.
     fn dir_pages(&self, tag: Tag) -> u32
@@ -66,14 +77,22 @@ pub trait BitfileSet {
             with_change tag (put_page page bytes) (files self.old)) }
         ensures err { OnErr result (files self.new ≡ files self.old) }
         ensures no_page { IfErr result (IsCounted (missed self.old) (missed self.new)) }
-        ensures count { missed self.old ≤ missed self.new };
+        ensures count { missed self.old ≤ missed self.new }
+        ensures rest { leaves_rest self.old self.new };
 
-    /// A page of a directory's index, counted from 0; None exactly where it has no such page.
+    /// How many pages a directory's index has; 0 where the tag names no directory, or one without an
+    /// index.
+    fn index_pages(&self, tag: Tag) -> u32
+        ensures { result ≡ count_index (files self.now) tag };
+
+    /// A page of a directory's index, counted from 0; None exactly where it has no such page. Where
+    /// the next page stands is the set's own: it is not said what stands in the page for it.
     fn index_page(&self, tag: Tag, page: u32) -> Option<&Page>
-        ensures { option_copied result ≡ index_at (files self.now) tag page };
+        ensures { option_map shown_index (option_copied result)
+            ≡ option_map shown_index (index_at (files self.now) tag page) };
 
-    /// Puts an index page in place of the one at that number, or behind the last one. OutOfMemory
-    /// also where the index would have 2^32 pages.
+    /// Puts an index page in place of the one at that number, or behind the last one. Where the next
+    /// page stands is the set's own. OutOfMemory also where the index would have 2^32 pages.
     fn put_index_page(
         &mut self,
         alloc: Global,
@@ -84,13 +103,14 @@ pub trait BitfileSet {
         requires directory { IsDirectory (files self.old) tag }
         requires place { page ≤ count_index (files self.old) tag }
         ensures ok { OnOk result (files self.new ≡
-            with_change tag (put_index page bytes) (files self.old)) }
+            with_change tag (put_index page (shown_index bytes)) (files self.old)) }
         ensures err { OnErr result (files self.new ≡ files self.old) }
         ensures no_page { IfErr result (IsCounted (missed self.old) (missed self.new)) }
-        ensures count { missed self.old ≤ missed self.new };
+        ensures count { missed self.old ≤ missed self.new }
+        ensures rest { leaves_rest self.old self.new };
 
-    /// Puts a new index page at that number; the pages from there on count one more. OutOfMemory
-    /// also where the index would have 2^32 pages.
+    /// Puts a new index page at that number; the pages from there on count one more. Where the next
+    /// page stands is the set's own. OutOfMemory also where the index would have 2^32 pages.
     fn insert_index_page(
         &mut self,
         alloc: Global,
@@ -101,10 +121,11 @@ pub trait BitfileSet {
         requires directory { IsDirectory (files self.old) tag }
         requires place { page ≤ count_index (files self.old) tag }
         ensures ok { OnOk result (files self.new ≡
-            with_change tag (insert_index page bytes) (files self.old)) }
+            with_change tag (insert_index page (shown_index bytes)) (files self.old)) }
         ensures err { OnErr result (files self.new ≡ files self.old) }
         ensures no_page { IfErr result (IsCounted (missed self.old) (missed self.new)) }
-        ensures count { missed self.old ≤ missed self.new };
+        ensures count { missed self.old ≤ missed self.new }
+        ensures rest { leaves_rest self.old self.new };
 
     /// How many rows name a file or a directory; 0 where the tag names nothing.
     fn links(&self, tag: Tag) -> u32
@@ -119,7 +140,8 @@ pub trait BitfileSet {
             with_change tag (linked links) (files self.old)) }
         ensures err { OnErr result (files self.new ≡ files self.old) }
         ensures no_page { IfErr result (IsCounted (missed self.old) (missed self.new)) }
-        ensures count { missed self.old ≤ missed self.new };
+        ensures count { missed self.old ≤ missed self.new }
+        ensures rest { leaves_rest self.old self.new };
 
     /// How often no page was free. It never falls, and stays at its greatest value.
     fn misses(&self) -> u64
@@ -127,4 +149,12 @@ pub trait BitfileSet {
 
     /// Each is within its limits, its pages have 8,192 bytes, and only a directory has pages.
     ghost sound: { (set : Self) → AreBitfiles (files set) };
+
+    /// What is left as it was is the same, after any number of changes, and as to spent tags.
+    ghost rest_same: { (set : Self) → leaves_rest set set };
+
+    ghost rest_joins: { (a b c : Self) → leaves_rest a b → leaves_rest b c → leaves_rest a c };
+
+    ghost rest_spends: { (a b : Self) (tag : Tag) → leaves_rest a b
+        → is_spent a tag ↔ is_spent b tag };
 }

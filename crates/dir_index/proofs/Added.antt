@@ -1,5 +1,5 @@
 -- One entry more in an index.
-use Rattle.std.proofs.Common.{◌≡◌, ◌∙◌, ℕ, zero, suc, ◌+◌, ◌<◌, ◌≤◌, true, false, Some, None, List, [], ◌∷◌, ◌++◌, length, take, drop, slice_get, refl, sym, ap, subst, arith, append_assoc, length-append, length-take}
+use Rattle.std.proofs.Common.{◌≡◌, ◌∙◌, ℕ, zero, suc, ◌+◌, ◌<◌, ◌≤◌, true, false, Some, None, List, [], ◌∷◌, ◌++◌, length, take, drop, slice_get, refl, sym, ap, subst, arith, append_assoc, length-append, length-drop, length-take}
 use Rattle.std.proofs.lemmas.Bool.{both_ways}
 use Rattle.std.proofs.lemmas.List.{append-nil, drop_all, drop_at, take-append-drop, take-append-le, take-take}
 use Rattle.std.specs.List.{AllByRecursion}
@@ -12,7 +12,7 @@ use Rattle.dir_index.specs.Index.{FirstPage, IsIndex, IsIndexPage, all_entries, 
 use Rattle.dir_index.specs.Changes.{Adds, AddsEntry, InsertsPage, IsPageFor, PutsPage, Spreads, StartsHigh, with_index}
 use Rattle.dir_index.proofs.Orders.{all_both, none_from, rise_with}
 use Rattle.dir_index.proofs.IndexParts.{all-append, from_start, split_entries}
-use Rattle.dir_index.proofs.Removed.{all_drop, all_join, all_take, got_at}
+use Rattle.dir_index.proofs.Removed.{all_drop, all_join, all_take, below_length, got_at}
 use Rattle.dir_index.proofs.Sets.{DirectoryFile, change_is, index_of_file, only, pages_now, put_on, same_pages, the_file}
 
 -- ---- entries with one more
@@ -84,6 +84,7 @@ module _ (dir : Tag) (number : ℕ) (old : Bitfiles) (directory : IsDirectory ol
     good = (puts.made.good, tt);
     read = append-nil (entries_of puts.page) ∙ puts.made.read;
     some = omega arith;
+    most = omega arith;
     changed = put_on dir old at.file at.is index number puts.page old new unchanged puts.changed ∙ ap (λ ps. with_change dir (with_index ps) old) (sym (append_assoc (take number index) (puts.page ∷ []) (drop (number + 1) index)));
   }
 
@@ -99,6 +100,7 @@ module _ (dir : Tag) (number : ℕ) (old : Bitfiles) (directory : IsDirectory ol
     good = (puts.made.good, (inserts.made.good, tt));
     read = ap (λ (es : List IndexEntry). entries_of puts.page ++ es) (append-nil (entries_of inserts.page)) ∙ (λ i. puts.made.read i ++ inserts.made.read i) ∙ take-append-drop half list;
     some = omega arith;
+    most = omega arith;
     changed = put_on dir old at.file at.is middle number puts.page mid new (insert_is (number + 1) inserts.page mid inserts.changed) puts.changed ∙ ap (λ ps. with_change dir (with_index ps) old) all;
   }
     where
@@ -180,6 +182,10 @@ module _ (dir : Tag) (key : IndexEntry) (number : ℕ) (list : List IndexEntry) 
     rise = subst Rise (sym are) (rise_with (before ++ more.front) key (more.back ++ behind) (subst Rise were is.rise) low high);
   }
 
+  put_most : length put ≤ length pages + 1
+  put_most =
+      omega (arith, spreads.most, below_length pages number page found, length-append (take number pages ++ spreads.pages) (drop (number + 1) pages), length-append (take number pages) spreads.pages, length-take number pages, length-drop (number + 1) pages)
+
   pub added : AddsEntry dir key old new
   added = record {
     others = let f = the_file dir old directory in only dir old f.file f.is put new spreads.changed;
@@ -188,4 +194,5 @@ module _ (dir : Tag) (key : IndexEntry) (number : ℕ) (list : List IndexEntry) 
     back = more.back ++ behind;
     were = were;
     are = ap all_entries now ∙ are;
+    most = omega (arith, ap length now, put_most);
   }

@@ -3,9 +3,9 @@ use Rattle.std.proofs.Common.{◌≡◌, ◌∙◌, ℕ, zero, suc, ◌+◌, ◌
 use Rattle.std.proofs.lemmas.List.{drop-drop, take-append-drop, take_all}
 use Rattle.std.proofs.Math.Seq.{take-add}
 use Rattle.std.specs.List.{AllByRecursion}
-use Rattle.std.specs.Option.{is_some, IfSome, option_and_then, option_map_or}
+use Rattle.std.specs.Option.{is_some, option_and_then, option_map_or}
 use Rattle.domain_base.specs.declared.place.Tag.{Tag}
-use Rattle.page_store.specs.Bitfiles.{Bitfile, Bitfiles, IsBitfile, index_at}
+use Rattle.page_store.specs.Bitfiles.{Bitfile, Bitfiles, index_at}
 use Rattle.record_table.specs.Fields.{number_at}
 use Rattle.dir_index.specs.declared.entry.IndexEntry.{IndexEntry}
 use Rattle.dir_index.specs.Entries.{EndsBelow, Rise, first_from, is_below}
@@ -152,12 +152,8 @@ index_is files tag k = by_file (files tag)
     by_file None = index_at_page k
     by_file (Some file) = refl
 
-pub whole_index : (files : Bitfiles) (tag : Tag) → IfSome (files tag) IsBitfile → between 0 4294967295 (index_pages files tag) ≡ index_pages files tag
-whole_index files tag = by_file (files tag)
-  where
-    by_file : (o : Option Bitfile) → IfSome o IsBitfile → take (4294967295 - 0) (drop 0 (option_map_or (λ (file : Bitfile). file.index) o [])) ≡ option_map_or (λ (file : Bitfile). file.index) o []
-    by_file None good = take_all 4294967295 no_pages (omega arith)
-    by_file (Some file) good = take_all 4294967295 file.index (omega (arith, good.index_fits))
+pub whole_index : (index : List (List ℕ)) (pages : ℕ) → pages ≡ length index → between 0 pages index ≡ index
+whole_index index pages long = take_all (pages - 0) index (omega (arith, long))
 
 module _ (index : List (List ℕ)) (key : IndexEntry) (low middle high : ℕ) (page : List ℕ) (above : low ≤ middle) (below : middle < high) (is : IsIndex index) (found : slice_get index middle ≡ Some page) where
   pages_split : all_entries (between low high index) ≡ all_entries (between low middle index) ++ (entries_of page ++ all_entries (between (middle + 1) high index))

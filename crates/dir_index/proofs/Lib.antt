@@ -4,3 +4,4 @@ pub mod Orders
 pub mod Pages
 pub mod Removed
 pub mod Sets
+pub mod Shown

@@ -1,5 +1,5 @@
 -- One entry less in an index.
-use Rattle.std.proofs.Common.{◌≡◌, ◌∙◌, inl, inr, ℕ, zero, suc, ◌+◌, ◌<◌, true, false, Option, Some, None, List, [], ◌∷◌, ◌++◌, length, take, drop, slice_get, refl, sym, ap, subst, arith, append_assoc, length-append}
+use Rattle.std.proofs.Common.{◌≡◌, ◌∙◌, inl, inr, ℕ, zero, suc, ◌+◌, ◌<◌, true, false, Option, Some, None, List, [], ◌∷◌, ◌++◌, length, take, drop, slice_get, refl, sym, ap, subst, arith, append_assoc, length-append, length-drop, length-take}
 use Rattle.std.proofs.lemmas.Bool.{both_ways, cases_lt}
 use Rattle.std.proofs.lemmas.List.{take_all}
 use Rattle.std.specs.List.{AllByRecursion}
@@ -69,6 +69,19 @@ cuts key xs left k at inside is =
       high = at.above m.0 m.1;
     }
 
+-- the page that a search found has an entry that is not below the key
+pub first_there : (index : List (List ℕ)) (key : IndexEntry) (n : ℕ) (page : List ℕ) → slice_get index n ≡ Some page → FirstPage key index 0 n → is_some (first_from key (entries_of page)) ≡ true
+first_there index key n page there first =
+    let same : Some page ≡ Some first.page = sym there ∙ first.there in
+    let is : page ≡ first.page = cc in
+    ap (λ p. is_some (first_from key (entries_of p))) is ∙ first.here
+
+pub below_length : {X : Type 0} (xs : List X) (k : ℕ) (x : X) → slice_get xs k ≡ Some x → k < length xs
+below_length [] zero x at = absurd cc
+below_length [] (suc k) x at = absurd cc
+below_length (y ∷ xs) zero x at = omega arith
+below_length (y ∷ xs) (suc k) x at = omega (arith, below_length xs k x at)
+
 -- ---- an index with a page put in place of one that had an entry more
 
 module _ (dir : Tag) (key : IndexEntry) (number : ℕ) (part : List IndexEntry) (old new : Bitfiles) (directory : IsDirectory old dir) (is : IsIndex (index_pages old dir)) (page : List ℕ)
@@ -121,6 +134,10 @@ module _ (dir : Tag) (key : IndexEntry) (number : ℕ) (part : List IndexEntry) 
     rise = subst Rise (sym are) (rise_without (before ++ cut.front) cut.middle (cut.back ++ behind) (subst Rise were is.rise));
   }
 
+  put_length : length put ≡ length index
+  put_length =
+      omega (arith, below_length index number page found, length-append (take number index) (puts.page ∷ drop (number + 1) index), length-take number index, length-drop (number + 1) index)
+
   pub removes : RemovesEntry dir key old new
   removes = record {
     others = let at = the_file dir old directory in only dir old at.file at.is put new changed;
@@ -129,13 +146,8 @@ module _ (dir : Tag) (key : IndexEntry) (number : ℕ) (part : List IndexEntry) 
     back = cut.back ++ behind;
     were = were ∙ ap (λ (m : IndexEntry). (before ++ cut.front) ++ m ∷ (cut.back ++ behind)) same;
     are = ap all_entries now ∙ are;
+    count = ap length now ∙ put_length;
   }
-
-pub below_length : {X : Type 0} (xs : List X) (k : ℕ) (x : X) → slice_get xs k ≡ Some x → k < length xs
-below_length [] zero x at = absurd cc
-below_length [] (suc k) x at = absurd cc
-below_length (y ∷ xs) zero x at = omega arith
-below_length (y ∷ xs) (suc k) x at = omega (arith, below_length xs k x at)
 
 pub count_is : (files : Bitfiles) (tag : Tag) → count_index files tag ≡ length (index_pages files tag)
 count_is files tag = by_file (files tag)

@@ -5,7 +5,7 @@ use Rattle.domain_base.specs.declared.place.Tag.{Tag}
 use Rattle.page_store.specs.Bitfiles.{Bitfile, Bitfiles, insert_index, put_index, with_change}
 use Rattle.dir_index.specs.declared.entry.IndexEntry.{IndexEntry}
 use Rattle.dir_index.specs.Entries.{first_from, is_below}
-use Rattle.dir_index.specs.Index.{IsIndex, IsIndexPage, IsPageOf, all_entries, entries_of, index_pages}
+use Rattle.dir_index.specs.Index.{IsIndex, IsIndexPage, IsPageOf, all_entries, entries_of, index_pages, part_count}
 
 -- a file with other index pages
 abbrev pub with_index : List (List ℕ) → Bitfile → Bitfile
@@ -15,11 +15,13 @@ with_index index file = record file { index = index }
 abbrev pub OnlyIndex : Tag → Bitfiles → Bitfiles → Type 0
 OnlyIndex dir old new = new ≡ with_change dir (with_index (index_pages new dir)) old
 
--- a directory has an index of these entries now, and all else is as it was
+-- a directory has an index of these entries now, on as few pages as have room for them, and all else
+-- is as it was
 pub record SetsEntries (dir : Tag) (list : List IndexEntry) (old new : Bitfiles) : Type 0 where
   pub others : OnlyIndex dir old new
   pub good : IsIndex (index_pages new dir)
   pub entries : all_entries (index_pages new dir) ≡ list
+  pub count : length (index_pages new dir) ≡ part_count (length list)
 
 -- an index page was put at a number that has these entries
 pub record PutsPage (dir : Tag) (number : ℕ) (part : List IndexEntry) (old new : Bitfiles)
@@ -28,7 +30,7 @@ pub record PutsPage (dir : Tag) (number : ℕ) (part : List IndexEntry) (old new
   pub made : IsPageOf part page
   pub changed : new ≡ with_change dir (put_index number page) old
 
--- one entry less stands in a directory's index, and all else is as it was
+-- one entry less stands in a directory's index, on as many pages, and all else is as it was
 pub record RemovesEntry (dir : Tag) (entry : IndexEntry) (old new : Bitfiles) : Type 0 where
   pub others : OnlyIndex dir old new
   pub good : IsIndex (index_pages new dir)
@@ -36,6 +38,7 @@ pub record RemovesEntry (dir : Tag) (entry : IndexEntry) (old new : Bitfiles) : 
   pub back : List IndexEntry
   pub were : all_entries (index_pages old dir) ≡ front ++ entry ∷ back
   pub are : all_entries (index_pages new dir) ≡ front ++ back
+  pub count : length (index_pages new dir) ≡ length (index_pages old dir)
 
 -- entries without the first one that is not below this one
 pub record Cuts (key : IndexEntry) (list left : List IndexEntry) : Type 0 where
@@ -47,7 +50,7 @@ pub record Cuts (key : IndexEntry) (list left : List IndexEntry) : Type 0 where
   pub low : AllByRecursion (λ entry. is_below entry key ≡ true) front
   pub high : is_below middle key ≡ false
 
--- one entry more stands in a directory's index, and all else is as it was
+-- one entry more stands in a directory's index, on at most one page more, and all else is as it was
 pub record AddsEntry (dir : Tag) (entry : IndexEntry) (old new : Bitfiles) : Type 0 where
   pub others : OnlyIndex dir old new
   pub good : IsIndex (index_pages new dir)
@@ -55,6 +58,7 @@ pub record AddsEntry (dir : Tag) (entry : IndexEntry) (old new : Bitfiles) : Typ
   pub back : List IndexEntry
   pub were : all_entries (index_pages old dir) ≡ front ++ back
   pub are : all_entries (index_pages new dir) ≡ front ++ entry ∷ back
+  pub most : length (index_pages new dir) ≤ length (index_pages old dir) + 1
 
 -- the first of some entries, if there is one, is not below this one
 abbrev pub StartsHigh : IndexEntry → List IndexEntry → Type 0
@@ -92,5 +96,6 @@ pub record Spreads (dir : Tag) (number : ℕ) (list : List IndexEntry) (old new 
   pub good : AllByRecursion IsIndexPage pages
   pub read : all_entries pages ≡ list
   pub some : 1 ≤ length pages
+  pub most : length pages ≤ 2
   pub changed : new ≡ with_change dir (with_index (take number (index_pages old dir) ++ pages
       ++ drop (number + 1) (index_pages old dir))) old

@@ -1,5 +1,6 @@
 -- Index pages: 16 bytes, and up to 1,022 entries of 8 bytes.
-use Rattle.std.specs.Prelude.{◌≡◌, ◌+◌, ◌-◌, ◌*◌, ◌^◌, ◌<◌, ◌≤◌, ℕ, zero, suc, true, Option, Some, None, is_some, List, [], ◌∷◌, ◌++◌, length, take, drop, slice_get}
+use Rattle.std.specs.Prelude.{◌≡◌, ◌+◌, ◌-◌, ◌*◌, ◌^◌, ◌<◌, ◌≤◌, ℕ, zero, suc, true, max, Option, Some, None, is_some, List, [], ◌∷◌, ◌++◌, length, take, drop, slice_get}
+use Rattle.std.specs.Int.{div_ceil}
 use Rattle.std.specs.List.{AllByRecursion}
 use Rattle.std.specs.Option.{option_map_or}
 use Rattle.domain_base.specs.declared.place.Tag.{Tag}
@@ -47,6 +48,22 @@ pub record IsIndex (index : List (List ℕ)) : Type 0 where
 -- the index pages of a directory
 abbrev pub index_pages : Bitfiles → Tag → List (List ℕ)
 index_pages files tag = option_map_or (λ (file : Bitfile). file.index) (files tag) []
+
+-- so many pages have as many entries, full ones but for the last; no entry has one page too
+abbrev pub part_count : ℕ → ℕ
+part_count entries = max 1 (div_ceil entries 1022)
+
+-- a page with the entries of the index page of that number
+pub record HasPart (index : List (List ℕ)) (number : ℕ) (page : List ℕ) : Type 0 where
+  pub part : List ℕ
+  pub there : slice_get index number ≡ Some part
+  pub good : IsIndexPage page
+  pub read : entries_of page ≡ entries_of part
+
+-- the same, or none where the index has no page of that number
+abbrev pub IsPart : List (List ℕ) → ℕ → Option (List ℕ) → Type 0
+IsPart index number None = slice_get index number ≡ None
+IsPart index number (Some page) = HasPart index number page
 
 -- the pages from one number to another
 abbrev pub between : ℕ → ℕ → List (List ℕ) → List (List ℕ)

@@ -7,7 +7,7 @@ ghost use Rattle.dir_index.specs.Index.{IsIndex, IsIndexPage, all_entries, entri
 
 use crate::entry::IndexEntry;
 use crate::page::{ENTRIES, count_below, read_entries};
-use crate::search::{page_for, page_from};
+use crate::search::{page_for, page_from, part_at};
 use crate::write::entry_page;
 use bitfile_set::BitfileSet;
 use domain_base::{OutOfMemory, Page, Tag};
@@ -29,6 +29,7 @@ fn put_part<S: BitfileSet>(
     ensures err { OnErr result (S.files set.new ≡ S.files set.old) }
     ensures no_page { IfErr result (IsCounted (S.missed set.old) (S.missed set.new)) }
     ensures count { S.missed set.old ≤ S.missed set.new }
+    ensures rest { S.leaves_rest set.old set.new }
 {
     let Ok(place) = u32::try_from(number) else {
         return Err(StoreFault::OutOfMemory);
@@ -53,6 +54,7 @@ fn insert_part<S: BitfileSet>(
     ensures err { OnErr result (S.files set.new ≡ S.files set.old) }
     ensures no_page { IfErr result (IsCounted (S.missed set.old) (S.missed set.new)) }
     ensures count { S.missed set.old ≤ S.missed set.new }
+    ensures rest { S.leaves_rest set.old set.new }
 {
     let Ok(place) = u32::try_from(number) else {
         return Err(StoreFault::OutOfMemory);
@@ -77,6 +79,7 @@ pub fn build<S: BitfileSet>(
     ensures directory { IsDirectory (S.files set.new) dir }
     ensures no_page { IfErr result (IsCounted (S.missed set.old) (S.missed set.new)) }
     ensures count { S.missed set.old ≤ S.missed set.new }
+    ensures rest { S.leaves_rest set.old set.new }
 {
     let pages = entries.len().div_ceil(ENTRIES).max(1);
     for number in 0..pages {
@@ -120,11 +123,13 @@ pub fn remove_entry<S: BitfileSet>(
     ensures directory { IsDirectory (S.files set.new) dir }
     ensures no_page { IfErr result (IsCounted (S.missed set.old) (S.missed set.new)) }
     ensures count { S.missed set.old ≤ S.missed set.new }
+    ensures rest { S.leaves_rest set.old set.new }
 {
-    let Some(number) = page_from(set, dir, &entry, 0, u32::MAX) else {
+    let pages = set.index_pages(dir);
+    let Some(number) = page_from(set, dir, &entry, 0, pages) else {
         return Ok(());
     };
-    let Some(page) = set.index_page(dir, number) else {
+    let Some(page) = part_at(set, dir, number) else {
         return Ok(());
     };
     let list = entries_without(alloc, page, &entry)?;
@@ -163,6 +168,7 @@ fn spread<S: BitfileSet>(
     ensures err { OnErr result (OnlyIndex dir (S.files set.old) (S.files set.new)) }
     ensures no_page { IfErr result (IsCounted (S.missed set.old) (S.missed set.new)) }
     ensures count { S.missed set.old ≤ S.missed set.new }
+    ensures rest { S.leaves_rest set.old set.new }
 {
     if list.len() <= ENTRIES {
         return put_part(set, alloc, dir, number, list);
@@ -187,9 +193,10 @@ pub fn add_entry<S: BitfileSet>(
     ensures directory { IsDirectory (S.files set.new) dir }
     ensures no_page { IfErr result (IsCounted (S.missed set.old) (S.missed set.new)) }
     ensures count { S.missed set.old ≤ S.missed set.new }
+    ensures rest { S.leaves_rest set.old set.new }
 {
     let number = page_for(set, dir, &entry);
-    let Some(page) = set.index_page(dir, number) else {
+    let Some(page) = part_at(set, dir, number) else {
         return Ok(());
     };
     let list = entries_with(alloc, page, &entry)?;

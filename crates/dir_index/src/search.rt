@@ -1,13 +1,22 @@
 //! The pages of a directory that have rows of a hash.
 ghost use Rattle.std.specs.Prelude.{◌≡◌, ◌+◌, ◌<◌, ◌≤◌, length, IfSome, IfNone};
+ghost use Rattle.std.specs.Option.{option_copied};
 ghost use Rattle.dir_index.specs.Changes.{IsPageFor};
 ghost use Rattle.dir_index.specs.Entries.{HasNext, IsNext, first_from};
-ghost use Rattle.dir_index.specs.Index.{IsFirstPage, IsIndex, all_entries, index_pages};
+ghost use Rattle.dir_index.specs.Index.{IsFirstPage, IsIndex, IsPart, all_entries, index_pages};
 
 use crate::entry::IndexEntry;
 use crate::page::{ends_below, first_on};
 use bitfile_set::BitfileSet;
-use domain_base::Tag;
+use domain_base::{Page, Tag};
+
+/// The page of that number of an index, with the entries that it has; None where there is none.
+pub(crate) fn part_at<S: BitfileSet>(set: &S, dir: Tag, number: u32) -> Option<&Page>
+    requires { IsIndex (index_pages (S.files set.now) dir) }
+    ensures { IsPart (index_pages (S.files set.now) dir) number (option_copied result) }
+{
+    set.index_page(dir, number)
+}
 
 /// The first page of an index, of those from one number to another, that has an entry which is not
 /// below the key. It halves the pages at each look, and looks at both halves only where the page
@@ -26,7 +35,7 @@ pub(crate) fn page_from<S: BitfileSet>(
         return None;
     }
     let middle = low + (high - low) / 2;
-    let Some(page) = set.index_page(dir, middle) else {
+    let Some(page) = part_at(set, dir, middle) else {
         return page_from(set, dir, key, low, middle);
     };
     if ends_below(page, key) {
@@ -42,30 +51,15 @@ pub(crate) fn page_from<S: BitfileSet>(
     page_from(set, dir, key, middle + 1, high)
 }
 
-/// The last page of an index that has more than `low` pages, and at most `high`.
-fn last_page<S: BitfileSet>(set: &S, dir: Tag, low: u32, high: u32) -> u32
-    requires some { low < length (index_pages (S.files set.now) dir) }
-    requires most { length (index_pages (S.files set.now) dir) ≤ high }
-    ensures { result + 1 ≡ length (index_pages (S.files set.now) dir) }
-{
-    if high <= low + 1 {
-        return low;
-    }
-    let middle = low + (high - low) / 2;
-    if set.index_page(dir, middle).is_some() {
-        return last_page(set, dir, middle, high);
-    }
-    last_page(set, dir, low, middle)
-}
-
 /// The page of an index to which an entry goes: the first that has one not below it, or the last.
 pub(crate) fn page_for<S: BitfileSet>(set: &S, dir: Tag, key: &IndexEntry) -> u32
     requires { IsIndex (index_pages (S.files set.now) dir) }
     ensures { IsPageFor key.now (index_pages (S.files set.now) dir) result }
 {
-    match page_from(set, dir, key, 0, u32::MAX) {
+    let pages = set.index_pages(dir);
+    match page_from(set, dir, key, 0, pages) {
         Some(number) => number,
-        None => last_page(set, dir, 0, u32::MAX),
+        None => pages - 1,
     }
 }
 
@@ -74,8 +68,9 @@ fn first_entry<S: BitfileSet>(set: &S, dir: Tag, key: &IndexEntry) -> Option<Ind
     requires { IsIndex (index_pages (S.files set.now) dir) }
     ensures { result ≡ first_from key.now (all_entries (index_pages (S.files set.now) dir)) }
 {
-    let number = page_from(set, dir, key, 0, u32::MAX)?;
-    let page = set.index_page(dir, number)?;
+    let pages = set.index_pages(dir);
+    let number = page_from(set, dir, key, 0, pages)?;
+    let page = part_at(set, dir, number)?;
     first_on(page, key)
 }
 

@@ -2,6 +2,7 @@
 ghost use Rattle.std.specs.Prelude.{◌≡◌, ◌+◌, ◌*◌, ◌<◌, ◌≤◌, ◌++◌, length, take, drop, IfOk};
 ghost use Rattle.std.specs.List.{AllByRecursion};
 ghost use Rattle.domain_base.specs.Page.{overwritten};
+ghost use Rattle.page_store.specs.Bitfiles.{shown_index};
 ghost use Rattle.dir_index.specs.Index.{Fits, IsPageOf, header, spelled_entry, spelling};
 
 use crate::entry::IndexEntry;
@@ -57,10 +58,10 @@ fn put_entries(page: &mut Page, entries: &[IndexEntry])
     }
 }
 
-/// A page of these entries, of which there are at most 1,022.
+/// A page that a set shows as one of these entries, of which there are at most 1,022.
 pub(crate) fn entry_page(alloc: Global, entries: &[IndexEntry]) -> Result<Page, OutOfMemory>
     requires { length entries.now ≤ 1022 }
-    ensures { IfOk result (IsPageOf entries.now) }
+    ensures { IfOk result (λ page. IsPageOf entries.now (shown_index page)) }
 {
     let mut page = Page::zeros(alloc)?;
     put_header(&mut page, entries.len());

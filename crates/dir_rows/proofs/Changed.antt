@@ -114,6 +114,7 @@ module _ (dir : Tag) (row : Row) (number : ℕ) (old mid : Bitfiles) (good : IsW
         are = ap all_rows same ∙ are;
         kept = index_kept dir old mid new good.directory puts.others completes.sets;
         indexed = completes.indexed;
+        bare = λ none outside. completes.bare (omega (arith, none, index_long old dir, index_long mid dir, ap length (index_mid dir old mid good.directory puts.others))) outside;
       }
 
 -- ---- a row less

@@ -14,6 +14,14 @@ use Rattle.dir_rows.specs.Steps.{OnlyPages, with_pages}
 pub pages_of_file : (dir : Tag) (files : Bitfiles) (file : Bitfile) → files dir ≡ Some file → row_pages files dir ≡ file.pages
 pages_of_file dir files file is = ap (λ (o : Option Bitfile). option_map_or (λ (f : Bitfile). f.pages) o []) is
 
+-- a change of the index leaves the pages
+pub pages_stay : (dir : Tag) (old new : Bitfiles) → IsDirectory old dir → OnlyIndex dir old new → row_pages new dir ≡ row_pages old dir
+pages_stay dir old new directory only =
+    let at = the_file dir old directory in
+    let last = with_index (index_pages new dir) at.file in
+    let now : new dir ≡ Some last = ap (λ (fs : Bitfiles). fs dir) (only ∙ change_is dir old at.file at.is (with_index (index_pages new dir))) ∙ there_now dir old at.file at.is last in
+    pages_of_file dir new last now ∙ sym (pages_of_file dir old at.file at.is)
+
 -- a page was put
 module _ (dir : Tag) (old new : Bitfiles) (directory : IsDirectory old dir) (number : ℕ) (page : List ℕ) (put : new ≡ with_change dir (put_page number page) old) where
   abbrev file : Bitfile

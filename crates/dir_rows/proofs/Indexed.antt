@@ -1,14 +1,17 @@
 -- The index of a directory after its pages were changed.
-use Rattle.std.proofs.Common.{◌≡◌, ◌⊎◌, inl, inr, ℕ, ◌≤◌, List, [], length, sym, ap, subst, arith}
+use Rattle.std.proofs.Common.{◌≡◌, ◌∙◌, ◌⊎◌, inl, inr, ℕ, ◌≤◌, List, [], length, sym, ap, subst, arith}
 use Rattle.domain_base.specs.declared.place.Tag.{Tag}
-use Rattle.page_store.specs.Bitfiles.{Bitfiles, count_index}
+use Rattle.page_store.specs.Bitfiles.{Bitfiles, IsDirectory, count_index}
 use Rattle.dir_index.specs.declared.entry.IndexEntry.{IndexEntry}
-use Rattle.dir_index.specs.Changes.{AddsEntry, RemovesEntry, SetsEntries}
+use Rattle.dir_index.specs.Changes.{AddsEntry, OnlyIndex, RemovesEntry, SetsEntries}
 use Rattle.dir_index.specs.Index.{all_entries, index_pages}
 use Rattle.dir_index.proofs.Removed.{count_is as index_long}
 use Rattle.dir_rows.specs.Directory.{AreEntriesOf, row_pages}
+use Rattle.dir_rows.specs.RowChanges.{GetsNoIndex}
 use Rattle.dir_rows.specs.Steps.{CompletesIndex, LacksEntry, SetsIndex, SparesEntry}
 use Rattle.dir_rows.proofs.Counted.{exact_with, exact_without}
+use Rattle.dir_rows.proofs.Files.{pages_stay}
+use Rattle.dir_rows.proofs.Parts.{count_is}
 
 -- where an index is there, it is the one that lacks or spares an entry
 pub there_is : {P : Type 0} (index : List (List ℕ)) → (index ≡ []) ⊎ P → 1 ≤ length index → P
@@ -19,8 +22,13 @@ module _ (dir : Tag) (old new : Bitfiles) where
   some_now : 1 ≤ length (index_pages new dir) → 1 ≤ count_index new dir
   some_now some = omega (arith, some, index_long new dir)
 
-  pub indexes_added : (entry : IndexEntry) → LacksEntry entry (row_pages old dir) (index_pages old dir) → AddsEntry dir entry old new → CompletesIndex dir old new
-  indexes_added entry lacks adds =
+  no_room : IsDirectory old dir → OnlyIndex dir old new → 2 ≤ length (row_pages old dir) → length (row_pages old dir) ≤ 4 → GetsNoIndex dir old new
+  no_room directory only many few had outside =
+      let long = count_is new dir ∙ ap length (pages_stay dir old new directory only) in
+      elim outside [ inl one ↦ absurd (omega (arith, one, long, many)) | inr more ↦ absurd (omega (arith, more, long, few)) ]
+
+  pub indexes_added : (entry : IndexEntry) → LacksEntry entry (row_pages old dir) (index_pages old dir) → 1 ≤ length (index_pages old dir) → AddsEntry dir entry old new → CompletesIndex dir old new
+  indexes_added entry lacks there adds =
       let some = some_now adds.good.some in
       record {
         sets = record {
@@ -29,10 +37,11 @@ module _ (dir : Tag) (old new : Bitfiles) where
           kept = λ had. some;
         };
         indexed = λ least most. some;
+        bare = λ none outside. absurd (omega (arith, none, index_long old dir, there));
       }
 
-  pub indexes_made : (list : List IndexEntry) → 2 ≤ length (row_pages old dir) → AreEntriesOf (row_pages old dir) list → SetsEntries dir list old new → CompletesIndex dir old new
-  indexes_made list many exact sets =
+  pub indexes_made : (list : List IndexEntry) → IsDirectory old dir → length (row_pages old dir) ≤ 4 → 2 ≤ length (row_pages old dir) → AreEntriesOf (row_pages old dir) list → SetsEntries dir list old new → CompletesIndex dir old new
+  indexes_made list directory few many exact sets =
       let some = some_now sets.good.some in
       record {
         sets = record {
@@ -41,6 +50,7 @@ module _ (dir : Tag) (old new : Bitfiles) where
           kept = λ had. some;
         };
         indexed = λ least most. some;
+        bare = no_room directory sets.others many few;
       }
 
   pub forgets : (entry : IndexEntry) → SparesEntry entry (row_pages old dir) (index_pages old dir) → RemovesEntry dir entry old new → SetsIndex dir old new

@@ -1,5 +1,5 @@
 -- Changes of a directory's rows.
-use Rattle.std.specs.Prelude.{◌≡◌, ◌<◌, ◌≤◌, ℕ, Bool, true, false, List, [], ◌∷◌, ◌++◌, length, slice_get}
+use Rattle.std.specs.Prelude.{◌≡◌, ◌<◌, ◌≤◌, ◌⊎◌, ℕ, Bool, true, false, List, [], ◌∷◌, ◌++◌, length, slice_get}
 use Rattle.std.specs.Option.{option_map_or}
 use Rattle.domain_base.specs.declared.place.Tag.{Tag}
 use Rattle.page_store.specs.Bitfiles.{Bitfile, Bitfiles, count_index, count_pages, with_change, with_entry}
@@ -44,6 +44,12 @@ abbrev pub IsIndexedWhereSmall : Tag → Bitfiles → Type 0
 IsIndexedWhereSmall dir files =
     2 ≤ count_pages files dir → count_pages files dir ≤ 4 → 1 ≤ count_index files dir
 
+-- a directory without an index gets none where it then has one page, or more than four
+abbrev pub GetsNoIndex : Tag → Bitfiles → Bitfiles → Type 0
+GetsNoIndex dir old new =
+    count_index old dir ≡ 0 → (count_pages new dir ≤ 1) ⊎ (5 ≤ count_pages new dir)
+    → count_index new dir ≡ 0
+
 -- a directory has one row more
 pub record AddsRow (dir : Tag) (row : Row) (old new : Bitfiles) : Type 0 where
   pub others : OnlyDirectory dir old new
@@ -56,6 +62,7 @@ pub record AddsRow (dir : Tag) (row : Row) (old new : Bitfiles) : Type 0 where
   pub are : rows_in new dir ≡ front ++ row ∷ back
   pub kept : KeepsIndex dir old new
   pub indexed : IsIndexedWhereSmall dir new
+  pub bare : GetsNoIndex dir old new
 
 -- the row of a name left a directory, which keeps its pages
 pub record RemovesRow (dir : Tag) (name : List ℕ) (old new : Bitfiles) : Type 0 where

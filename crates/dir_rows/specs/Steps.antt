@@ -10,7 +10,7 @@ use Rattle.dir_index.specs.Changes.{OnlyIndex}
 use Rattle.dir_index.specs.Entries.{hash_of}
 use Rattle.dir_index.specs.Index.{IsIndex, all_entries, index_pages}
 use Rattle.dir_rows.specs.Directory.{AreEntriesOf, IndexesRows, count_entries, count_hash, row_pages, rows_at}
-use Rattle.dir_rows.specs.RowChanges.{IsIndexedWhereSmall, KeepsIndex, PutsRow, fits_at}
+use Rattle.dir_rows.specs.RowChanges.{GetsNoIndex, IsIndexedWhereSmall, KeepsIndex, PutsRow, fits_at}
 
 -- a file with other pages
 abbrev pub with_pages : List (List ℕ) → Bitfile → Bitfile
@@ -59,10 +59,11 @@ pub record SetsIndex (dir : Tag) (old new : Bitfiles) : Type 0 where
   pub index : (index_pages new dir ≡ []) ⊎ IndexesRows (row_pages old dir) (index_pages new dir)
   pub kept : KeepsIndex dir old new
 
--- the same, and a small directory has one
+-- the same, a small directory has one, and one of one page or of more than four gets none
 pub record CompletesIndex (dir : Tag) (old new : Bitfiles) : Type 0 where
   pub sets : SetsIndex dir old new
   pub indexed : IsIndexedWhereSmall dir new
+  pub bare : GetsNoIndex dir old new
 
 -- the entries of rows on the page of that number
 abbrev pub entries_for : ℕ → List Row → List IndexEntry

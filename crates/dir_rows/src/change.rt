@@ -37,6 +37,7 @@ pub fn add_row<S: BitfileSet>(
     ensures err { OnErr result (OnlyDirectory dir (S.files set.old) (S.files set.new)) }
     ensures no_page { IfErr result (IsCounted (S.missed set.old) (S.missed set.new)) }
     ensures count { S.missed set.old ≤ S.missed set.new }
+    ensures rest { S.leaves_rest set.old set.new }
 {
     let page = put_row(set, alloc, dir, tag, kind, name)?;
     let hash = name_hash(name);
@@ -57,6 +58,7 @@ pub fn remove_row<S: BitfileSet>(
     ensures err { OnErr result (OnlyDirectory dir (S.files set.old) (S.files set.new)) }
     ensures no_page { IfErr result (IsCounted (S.missed set.old) (S.missed set.new)) }
     ensures count { S.missed set.old ≤ S.missed set.new }
+    ensures rest { S.leaves_rest set.old set.new }
 {
     let Some(place) = place_of(set, dir, name) else {
         return Ok(());

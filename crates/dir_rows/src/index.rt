@@ -77,11 +77,13 @@ fn build_index<S: BitfileSet>(set: &mut S, alloc: Global, dir: Tag) -> Result<()
     requires directory { IsDirectory (S.files set.old) dir }
     requires pages { AllByRecursion IsDirPage (row_pages (S.files set.old) dir) }
     requires some { 2 ≤ length (row_pages (S.files set.old) dir) }
+    requires few { length (row_pages (S.files set.old) dir) ≤ 4 }
     requires none { index_pages (S.files set.old) dir ≡ [] }
     ensures ok { OnOk result (CompletesIndex dir (S.files set.old) (S.files set.new)) }
     ensures err { OnErr result (OnlyIndex dir (S.files set.old) (S.files set.new)) }
     ensures no_page { IfErr result (IsCounted (S.missed set.old) (S.missed set.new)) }
     ensures count { S.missed set.old ≤ S.missed set.new }
+    ensures rest { S.leaves_rest set.old set.new }
 {
     let entries = sorted_entries(set, alloc, dir)?;
     build(set, alloc, dir, entries.as_slice())
@@ -103,6 +105,7 @@ pub(crate) fn index_row<S: BitfileSet>(
     ensures err { OnErr result (OnlyIndex dir (S.files set.old) (S.files set.new)) }
     ensures no_page { IfErr result (IsCounted (S.missed set.old) (S.missed set.new)) }
     ensures count { S.missed set.old ≤ S.missed set.new }
+    ensures rest { S.leaves_rest set.old set.new }
 {
     if has_index(set, dir) {
         return add_entry(set, alloc, dir, entry);
@@ -128,6 +131,7 @@ pub(crate) fn forget_row<S: BitfileSet>(
     ensures err { OnErr result (OnlyIndex dir (S.files set.old) (S.files set.new)) }
     ensures no_page { IfErr result (IsCounted (S.missed set.old) (S.missed set.new)) }
     ensures count { S.missed set.old ≤ S.missed set.new }
+    ensures rest { S.leaves_rest set.old set.new }
 {
     if has_index(set, dir) {
         return remove_entry(set, alloc, dir, entry);

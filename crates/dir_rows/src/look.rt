@@ -110,7 +110,7 @@ pub(crate) fn has_index<S: BitfileSet>(set: &S, dir: Tag) -> bool
     ensures some { result ≡ true → 1 ≤ length (index_pages (S.files set.now) dir) }
     ensures none { result ≡ false → index_pages (S.files set.now) dir ≡ [] }
 {
-    set.index_page(dir, 0).is_some()
+    set.index_pages(dir) != 0
 }
 
 /// Where the first row of a name stands. With an index only those pages are looked at that have

@@ -88,6 +88,7 @@ pub(crate) fn put_row<S: BitfileSet>(
     ensures err { OnErr result (S.files set.new ≡ S.files set.old) }
     ensures no_page { IfErr result (IsCounted (S.missed set.old) (S.missed set.new)) }
     ensures count { S.missed set.old ≤ S.missed set.new }
+    ensures rest { S.leaves_rest set.old set.new }
 {
     let number = page_with_room(set, dir, name);
     if number >= FILE_PAGES {
@@ -113,6 +114,7 @@ pub(crate) fn take_row<S: BitfileSet>(
     ensures err { OnErr result (S.files set.new ≡ S.files set.old) }
     ensures no_page { IfErr result (IsCounted (S.missed set.old) (S.missed set.new)) }
     ensures count { S.missed set.old ≤ S.missed set.new }
+    ensures rest { S.leaves_rest set.old set.new }
 {
     let mut page = page_copy(set, alloc, dir, number)?;
     dir_pages::remove_row(&mut page, name);

@@ -1,9 +1,9 @@
 //! Files and directories in memory.
-ghost use Rattle.std.specs.Prelude.{◌≡◌, ◌+◌, ◌^◌, ◌<◌, ◌≤◌, IfOk, IsSome, IsSomeAnd, OnErr, OnOk, is_some, length};
+ghost use Rattle.std.specs.Prelude.{◌≡◌, ◌+◌, ◌^◌, ◌<◌, ◌≤◌, ⊤, IfOk, IsSome, IsSomeAnd, OnErr, OnOk, is_some, length};
 ghost use Rattle.std.specs.Option.{option_map, option_map_or};
 ghost use Rattle.domain_base.specs.Limits.{file_pages, max_links};
 ghost use Rattle.domain_base.specs.declared.place.Kind.TheVariants.{Directory as ADirectory};
-ghost use Rattle.page_store.specs.Bitfiles.{Bitfile, insert_index, linked, new_file, put_index, put_page as with_page};
+ghost use Rattle.page_store.specs.Bitfiles.{Bitfile, insert_index, linked, new_file, put_index, put_page as with_page, shown_index};
 ghost use Rattle.memory_store.specs.PageChanges.{HasPlaceFor, changed};
 ghost use Rattle.memory_store.specs.Rising.{IsRising, value_at};
 ghost use Rattle.memory_store.specs.Tags.{AreSound, AreUnused, Changes, IsDirectoryAt, are_bitfiles, files_of, number_of, root_alone};
@@ -68,7 +68,17 @@ impl BitfileSet for MemoryBitfiles {
 
     ghost missed = { λ set. set.misses.count };
 
+    ghost leaves_rest = { λ _ _. ⊤ };
+
+    ghost is_spent = { λ _ _. ⊥ };
+
     ghost sound = { λ set. are_bitfiles set.files.items set.sound };
+
+    ghost rest_same = { λ _. tt };
+
+    ghost rest_joins = { λ _ _ _ _ _. tt };
+
+    ghost rest_spends = { λ _ _ _ _. (λ none. none, λ none. none) };
 
     fn kind_of(&self, tag: Tag) -> Option<Kind> {
         match find(&self.files, key_of(&tag)) {
@@ -128,6 +138,13 @@ impl BitfileSet for MemoryBitfiles {
         Ok(())
     }
 
+    fn index_pages(&self, tag: Tag) -> u32 {
+        match find(&self.files, key_of(&tag)) {
+            Some(file) => file.index_count(),
+            None => 0,
+        }
+    }
+
     fn index_page(&self, tag: Tag, page: u32) -> Option<&Page> {
         find(&self.files, key_of(&tag))?.index_page(page)
     }
@@ -145,7 +162,7 @@ impl BitfileSet for MemoryBitfiles {
             key_of(&tag),
             PageChange::PutIndexPage,
             page,
-            bytes,
+            shown(bytes),
         )?;
         Ok(())
     }
@@ -163,7 +180,7 @@ impl BitfileSet for MemoryBitfiles {
             key_of(&tag),
             PageChange::InsertIndexPage,
             page,
-            bytes,
+            shown(bytes),
         )?;
         Ok(())
     }
@@ -193,6 +210,14 @@ fn key_of(tag: &Tag) -> u64
 {
     let seq = tag.seq;
     (u64::from(tag.slot) << 16) + u64::from(seq)
+}
+
+/// An index page without a home of the next one.
+fn shown(mut page: Page) -> Page
+    ensures { result ≡ shown_index page }
+{
+    page.set(8, &[0; 8]);
+    page
 }
 
 /// Sets how many rows name the file of that number.

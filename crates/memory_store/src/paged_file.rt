@@ -108,6 +108,13 @@ impl PagedFile {
         self.pages.get(page as usize)
     }
 
+    /// How many pages its index has.
+    pub(crate) fn index_count(&self) -> u32
+        ensures { result ≡ length self.now.index }
+    {
+        self.index.len() as u32
+    }
+
     /// A page of its index.
     pub(crate) fn index_page(&self, page: u32) -> Option<&Page>
         ensures { option_copied result ≡ slice_get self.now.index page }

@@ -31,7 +31,7 @@ use Rattle.name_space.specs.Walks.{IsWayTo}
 use Rattle.name_space.specs.Names.{IsNodeOf, Names, led_from, led_to, number_of}
 use Rattle.name_space.proofs.Leads.{led-name}
 use Rattle.name_space.proofs.Leaves.{LeafAt, found_new, found_past, leaf_changed, leaf_names, same_node}
-use Rattle.name_space.proofs.Originals.{IsIn, all_shown, directory_at, fresh_number, is_in, one_way, tags_same}
+use Rattle.name_space.proofs.Originals.{IsIn, all_shown, directory_at, fresh_number, is_in, number_at, one_way, tags_same}
 use Rattle.name_space.proofs.PathCounts.{count-new}
 
 -- which of two tags
@@ -278,6 +278,7 @@ creates old new slot original path some dir way free allowed tag kind uid gid lo
         role = original.role;
         valid = created_valid old new slot original.names original.role original.valid dir place (last_name path) way.led free tag kind uid gid low made.fresh made.adds;
       });
+      indexed = record { dir = dir; into = number_at old slot original.names original.role place dir kinds.Directory way.led; indexed = made.adds.indexed };
     }
 
 -- what a directory was before a file was made

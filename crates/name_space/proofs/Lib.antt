@@ -2,6 +2,7 @@ pub mod Leads
 pub mod Ways
 pub mod Walked
 pub mod Targets
+pub mod Faults
 pub mod Keyed
 pub mod Listed
 pub mod PathCounts

@@ -10,7 +10,7 @@ use Rattle.domain_base.specs.declared.place.Tag.{Tag}
 use Rattle.page_store.specs.Bitfiles.{Bitfile, Bitfiles, IsDirectory, linked, links_at, same_tag, with_change, with_file}
 use Rattle.dir_pages.specs.Rows.{found}
 use Rattle.dir_rows.specs.Directory.{IsWellFormed, rows_in}
-use Rattle.dir_rows.specs.RowChanges.{AddsRow}
+use Rattle.dir_rows.specs.RowChanges.{AddsRow, IsIndexedWhereSmall}
 use Rattle.dir_rows.proofs.Outside.{others_stay_lem, rows_decide_lem}
 use Rattle.fileset_model.specs.Apply.{linked as with_path}
 use Rattle.fileset_model.specs.Orders.{Name, Path, path_cmp-total, path_cmp-IsAntisymmetric}
@@ -211,6 +211,11 @@ module _ (old mid new : Bitfiles) (slot : FilesetSlot) (original : IsOriginal ol
       (λ t of is. subst (λ (led : Tag × Kind). IsIn new after.tree led.0 led.1) (some_inj is) (in_tag kinds.File had.kind))
       in_old directories live seq)
 
+  pub linked_indexed : IsIndexedWhereSmall dir new
+  linked_indexed =
+      let small : Option Bitfile → Type 0 = λ o. 2 ≤ option_map_or (λ (f : Bitfile). length f.pages) o 0 → option_map_or (λ (f : Bitfile). length f.pages) o 0 ≤ 4 → 1 ≤ option_map_or (λ (f : Bitfile). length f.index) o 0 in
+      subst small (sym (others dir dir_apart)) adds.indexed
+
   pub linked_original : paths_to slot.tree (number_of tag) < max_links → IsOriginal new (record slot { tree = with_path source path slot.tree })
   linked_original few = record {
     names = linked_names;
@@ -233,4 +238,9 @@ links old new slot original path to some place at adds =
       makes = subst (λ p. IsOriginal new (record slot { tree = with_path path p slot.tree })) (whole_path to some)
           (linked_original old adds.mid new slot original path place.tag at.1 at.2 place.dir (take (length to - 1) to) (last_name to) at.4.led at.5 adds.adds adds.counted
           (subst (λ n. n < max_links) count at.3));
+      indexed = record {
+        dir = place.dir;
+        into = number_at old slot original.names original.role (take (length to - 1) to) place.dir kinds.Directory at.4.led;
+        indexed = linked_indexed old adds.mid new slot original path place.tag at.1 at.2 place.dir (take (length to - 1) to) (last_name to) at.4.led at.5 adds.adds adds.counted;
+      };
     }

@@ -29,7 +29,7 @@ use Rattle.name_space.proofs.Created.{by_tag, fore, whole_path}
 use Rattle.name_space.proofs.Leaves.{LeafAt}
 use Rattle.name_space.proofs.MovedNames.{moved_names}
 use Rattle.name_space.proofs.Originals.{directory_at, is_in, number_at, path_at}
-use Rattle.name_space.proofs.RenameChecks.{free_checks_are, free_not_one, from_led, from_number, kind_is, one_checks_are, taken_led, taken_not_one, taken_number, taken_one, to_free, two_checks_are}
+use Rattle.name_space.proofs.RenameChecks.{free_checks_are, free_not_one, from_led, from_number, kind_is, move_beside, one_checks_are, taken_led, taken_not_one, taken_number, taken_one, to_free, two_checks_are}
 use Rattle.name_space.proofs.RowFacts.{removed_none}
 use Rattle.name_space.proofs.Spots.{led_path}
 use Rattle.name_space.proofs.Taken.{removes, taken_leads}
@@ -105,6 +105,7 @@ module _ (old new : Bitfiles) (path to : Path) (spot : Spot) (dir : Tag) (looked
         replaced = sym (ap (λ b. cond b None (option_and_then (λ number. cond (is_named_elsewhere slot.tree to number) None (Some number)) (map.get slot.tree.paths to))) one);
         makes = subst (λ tree. IsOriginal new (record slot { tree = tree })) (sym (ap (λ b. cond b slot.tree (moved path to (without to slot.tree))) one))
             (subst (λ files. IsOriginal files slot) (sym unchanged) original);
+        indexed = λ differ. absurd (true≢false (sym one ∙ differ));
       }
 
   -- nothing stands at the second path
@@ -123,6 +124,7 @@ module _ (old new : Bitfiles) (path to : Path) (spot : Spot) (dir : Tag) (looked
         makes = subst (λ tree. IsOriginal new (record slot { tree = tree }))
             (ap (moved path to) (sym (without-missing slot.tree to none)) ∙ sym (ap (λ b. cond b slot.tree (moved path to (without to slot.tree))) two))
             (one_move old new slot original path to looked.some looked.some_to spot dir at.1 at.2 (looked.dir_is slot original).1 free apart moves);
+        indexed = λ differ. moves.adds.indexed;
       }
 
 -- ---- a path of which something else is taken away first
@@ -231,6 +233,7 @@ module _ (old mid : Bitfiles) (path to : Path) (spot other : Spot) (looked : Are
             ∙ ap (option_and_then (λ number. cond (is_named_elsewhere slot.tree to number) None (Some number))) number);
         makes = subst (λ tree. IsOriginal new (record slot { tree = tree })) (sym (ap (λ b. cond b slot.tree (moved path to (without to slot.tree))) two))
             (one_move mid new (record slot { tree = without to slot.tree }) mid_original path to looked.some looked.some_to spot other.dir way_now cleared.row way_to_now cleared.free beside moves);
+        indexed = λ differ. moves.adds.indexed;
       }
     where
       by_last : (elsewhere gone : Bool) → gone ≡ not elsewhere → option_map number_of (cond gone (Some other.tag) None) ≡ cond elsewhere None (Some (number_of other.tag))
@@ -238,3 +241,24 @@ module _ (old mid : Bitfiles) (path to : Path) (spot other : Spot) (looked : Are
       by_last true false last = refl
       by_last false true last = refl
       by_last false false last = absurd (true≢false (sym last))
+
+-- ---- the same where the last names stand in slices
+
+pub moves_of : (spot : Spot) (dir : Tag) (path to : Path) (name new_name : Name) (old new : Bitfiles) → name ≡ last_name path → new_name ≡ last_name to → MovesRow spot name dir new_name old new → MovesRow spot (last_name path) dir (last_name to) old new
+moves_of spot dir path to name new_name old new is new_is moves =
+    subst (λ n. MovesRow spot (last_name path) dir n old new) new_is (subst (λ n. MovesRow spot n dir new_name old new) is moves)
+
+module _ (old mid : Bitfiles) (path to : Path) (spot other : Spot) (looked : AreLooked path to spot other.dir old) (taken : found (last_name to) (rows_in old other.dir) ≡ Some (other.tag, other.kind))
+    (apart : other.tag ≢ spot.tag) (bare : rows_in old other.tag ≡ []) (sound : IfSome (old other.tag) IsBitfile) (gone : Bool) (name : Name) (is : name ≡ last_name to) (takes : TakesName other.dir name other.tag old mid gone) where
+  takes_last : TakesName other.dir (last_name to) other.tag old mid gone
+  takes_last = subst (λ n. TakesName other.dir n other.tag old mid gone) is takes
+
+  pub cleared_of : IsCleared path to spot other.dir looked.names.0 mid
+  cleared_of = cleared old mid path to spot other looked taken apart bare sound gone takes_last looked.names.0 looked.names.1
+
+  pub onto_of : (new : Bitfiles) (moved_name new_name : Name) → moved_name ≡ last_name path → new_name ≡ last_name to → MovesRow spot moved_name other.dir new_name mid new
+      → ((slot : FilesetSlot) → IsOriginal old slot → first_refusal (move_checks path to slot) ≡ None) → (replaced : Option Tag) → replaced ≡ cond gone (Some other.tag) None
+      → (slot : FilesetSlot) → IsOriginal old slot → Renames path to slot new (record { moved = spot.tag; kind = spot.kind; dir = other.dir; replaced = replaced })
+  onto_of new moved_name new_name moved_is new_is moves allowed replaced replaced_is slot original =
+      renames_onto old mid path to spot other looked taken apart bare sound gone takes_last slot original new
+      (move_beside slot path to (allowed slot original)) (allowed slot original) (moves_of spot other.dir path to moved_name new_name mid new moved_is new_is moves) replaced replaced_is

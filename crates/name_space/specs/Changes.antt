@@ -12,7 +12,7 @@ use Rattle.page_store.specs.declared.fault.StoreFault.{StoreFault}
 use Rattle.page_store.specs.declared.fault.StoreFault.TheVariants as store
 use Rattle.dir_pages.specs.Rows.{found, is_row_name}
 use Rattle.dir_rows.specs.Directory.{rows_in}
-use Rattle.dir_rows.specs.RowChanges.{AddsRow, RemovesRow}
+use Rattle.dir_rows.specs.RowChanges.{AddsRow, IsIndexedWhereSmall, RemovesRow}
 use Rattle.fileset_model.specs.Apply.{is_named_elsewhere, link_checks, linked as with_path, not_empty, path_taken, rename_checks, renamed, with_node, without}
 use Rattle.fileset_model.specs.Fileset.{Fileset}
 use Rattle.fileset_model.specs.Orders.{Name, Path}
@@ -46,11 +46,12 @@ abbrev pub Checks : Type 0
 Checks = FilesetSlot → List (Option Refusal)
 
 -- what a fault tells: the first refusal of the checks, after which all is as it was; or that no page
--- was free, which the misses count
+-- was free, which the misses count, where the checks refuse nothing
 abbrev pub IsFaultOf : Checks → Bitfiles → Bitfiles → ℕ → ℕ → NameFault → Type 0
 IsFaultOf checks old new before after (Refused refusal) = (new ≡ old)
     × ((slot : FilesetSlot) → IsOriginal old slot → first_refusal (checks slot) ≡ Some refusal)
 IsFaultOf checks old new before after NoPage = HasRisen before after
+    × ((slot : FilesetSlot) → IsOriginal old slot → first_refusal (checks slot) ≡ None)
 IsFaultOf checks old new before after OutOfMemory = Unit {0}
 
 -- what a call answers whose store failed
@@ -84,6 +85,12 @@ abbrev pub new_node : Kind → ℕ → ℕ → Node
 new_node kind.File uid gid = File uid gid 0 false empty
 new_node kind.Directory uid gid = Directory uid gid
 
+-- the directory of a path's last name has an index where it has two to four pages
+pub record IsIndexedAbove (path : Path) (slot : FilesetSlot) (new : Bitfiles) : Type 0 where
+  pub dir : Tag
+  pub into : get slot.tree.paths (take (length path - 1) path) ≡ Some (number_of dir)
+  pub indexed : IsIndexedWhereSmall dir new
+
 -- a new node stands at a path, under a number that no node had
 pub record Creates (path : Path) (node : Node) (slot : FilesetSlot) (new : Bitfiles) (tag : Tag)
     : Type 0 where
@@ -91,6 +98,7 @@ pub record Creates (path : Path) (node : Node) (slot : FilesetSlot) (new : Bitfi
   pub fresh : get slot.tree.nodes (number_of tag) ≡ None
   pub makes : IsOriginal new
       (record slot { tree = with_node path (number_of tag) node slot.tree })
+  pub indexed : IsIndexedAbove path slot new
 
 -- ---- names that go
 
@@ -172,6 +180,7 @@ pub record Links (path to : Path) (slot : FilesetSlot) (new : Bitfiles) (tag : T
   pub allowed : first_refusal (link_checks path to slot) ≡ None
   pub was : get slot.tree.paths path ≡ Some (number_of tag)
   pub makes : IsOriginal new (record slot { tree = with_path path to slot.tree })
+  pub indexed : IsIndexedAbove to slot new
 
 -- ---- paths that move
 
@@ -209,3 +218,4 @@ pub record Renames (path to : Path) (slot : FilesetSlot) (new : Bitfiles) (answe
   pub into : get slot.tree.paths (take (length to - 1) to) ≡ Some (number_of answer.dir)
   pub replaced : option_map number_of answer.replaced ≡ replaced_number path to slot.tree
   pub makes : IsOriginal new (record slot { tree = renamed path to slot.tree })
+  pub indexed : names_one slot.tree path to ≡ false → IsIndexedWhereSmall answer.dir new

@@ -5,7 +5,7 @@ ghost use Rattle.dir_pages.specs.Rows.{found, is_row_name};
 ghost use Rattle.dir_rows.specs.Directory.{IsWellFormed, rows_in};
 ghost use Rattle.dir_rows.specs.RowChanges.{AddsRow};
 ghost use Rattle.fileset_model.specs.declared.fileset.FilesetSlot.{FilesetSlot};
-ghost use Rattle.name_space.specs.Changes.{Creates, IsFaultOf, IsFreePlace, IsMade, IsOriginal, free_checks, last_name, new_node};
+ghost use Rattle.name_space.specs.Changes.{Creates, HasOriginal, IsFaultOf, IsFreePlace, IsMade, IsOriginal, free_checks, last_name, new_node};
 ghost use Rattle.name_space.specs.Names.{HasNames, Names};
 
 use crate::fault::NameFault;
@@ -58,8 +58,10 @@ fn make_row<S: BitfileSet>(
     requires free { found name.now (rows_in (S.files set.old) dir) ≡ None }
     ensures ok { IfOk result (IsMade dir name.now (new_file kind uid gid) (S.files set.old)
         (S.files set.new)) }
+    ensures unspent { IfOk result (λ tag. ¬ S.is_spent set.old tag) }
     ensures no_page { IfErr result (IsCounted (S.missed set.old) (S.missed set.new)) }
     ensures count { S.missed set.old ≤ S.missed set.new }
+    ensures rest { S.leaves_rest set.old set.new }
 {
     let tag = match set.make(alloc, kind, uid, gid) {
         Ok(tag) => tag,
@@ -82,14 +84,16 @@ pub fn create_at<S: BitfileSet>(
     uid: u32,
     gid: u32,
 ) -> Result<Tag, NameFault>
-    requires names { HasNames (S.files set.old) }
+    requires names { HasOriginal (S.files set.old) }
     requires some { 1 ≤ length path.now }
     requires name { is_row_name (last_name path.now) ≡ true }
     ensures ok { IfOk result (λ tag. (slot : FilesetSlot) → IsOriginal (S.files set.old) slot
         → Creates path.now (new_node kind uid gid) slot (S.files set.new) tag) }
     ensures err { IfErr result (IsFaultOf (free_checks path.now) (S.files set.old)
         (S.files set.new) (S.missed set.old) (S.missed set.new)) }
+    ensures unspent { IfOk result (λ tag. ¬ S.is_spent set.old tag) }
     ensures count { S.missed set.old ≤ S.missed set.new }
+    ensures rest { S.leaves_rest set.old set.new }
 {
     let dir = match free_place(set, path) {
         Ok(dir) => dir,

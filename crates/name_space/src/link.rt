@@ -65,6 +65,7 @@ fn add_link<S: BitfileSet>(
     ensures ok { OnOk result (AddsLink place name.now (S.files set.old) (S.files set.new)) }
     ensures no_page { IfErr result (IsCounted (S.missed set.old) (S.missed set.new)) }
     ensures count { S.missed set.old ≤ S.missed set.new }
+    ensures rest { S.leaves_rest set.old set.new }
 {
     match add_row(set, alloc, place.dir, place.tag, Kind::File, name) {
         Ok(()) => {
@@ -92,6 +93,7 @@ pub fn link_at<S: BitfileSet>(
     ensures err { IfErr result (IsFaultOf (link_checks path.now to.now) (S.files set.old)
         (S.files set.new) (S.missed set.old) (S.missed set.new)) }
     ensures count { S.missed set.old ≤ S.missed set.new }
+    ensures rest { S.leaves_rest set.old set.new }
 {
     let place = match link_place(set, path, to) {
         Ok(place) => place,

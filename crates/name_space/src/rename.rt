@@ -54,6 +54,7 @@ fn move_row<S: BitfileSet>(
         (S.files set.new)) }
     ensures no_page { IfErr result (IsCounted (S.missed set.old) (S.missed set.new)) }
     ensures count { S.missed set.old ≤ S.missed set.new }
+    ensures rest { S.leaves_rest set.old set.new }
 {
     match remove_row(set, alloc, spot.dir, name) {
         Ok(()) => add_row(set, alloc, dir, spot.tag, spot.kind, new_name),
@@ -77,6 +78,7 @@ fn rename_free<S: BitfileSet>(
     ensures err { IfErr result (IsFaultOf (rename_checks path.now to.now) (S.files set.old)
         (S.files set.new) (S.missed set.old) (S.missed set.new)) }
     ensures count { S.missed set.old ≤ S.missed set.new }
+    ensures rest { S.leaves_rest set.old set.new }
 {
     if to.as_slice().starts_with(path.as_slice()) {
         return Err(NameFault::Refused(Refusal::IntoItself));
@@ -133,6 +135,7 @@ fn replace<S: BitfileSet>(
         → Renames path.now to.now slot (S.files set.new) answer) }
     ensures no_page { IfErr result (IsCounted (S.missed set.old) (S.missed set.new)) }
     ensures count { S.missed set.old ≤ S.missed set.new }
+    ensures rest { S.leaves_rest set.old set.new }
 {
     let gone = match take_name(set, alloc, other, last_name(to)) {
         Ok(gone) => gone,
@@ -166,6 +169,7 @@ fn rename_onto<S: BitfileSet>(
     ensures err { IfErr result (IsFaultOf (rename_checks path.now to.now) (S.files set.old)
         (S.files set.new) (S.missed set.old) (S.missed set.new)) }
     ensures count { S.missed set.old ≤ S.missed set.new }
+    ensures rest { S.leaves_rest set.old set.new }
 {
     if other.tag == spot.tag {
         return Ok(Renamed {
@@ -200,6 +204,7 @@ fn rename_into<S: BitfileSet>(
     ensures err { IfErr result (IsFaultOf (rename_checks path.now to.now) (S.files set.old)
         (S.files set.new) (S.missed set.old) (S.missed set.new)) }
     ensures count { S.missed set.old ≤ S.missed set.new }
+    ensures rest { S.leaves_rest set.old set.new }
 {
     match find_row(set, dir, last_name(to)) {
         None => rename_free(set, alloc, path, to, spot, dir),
@@ -226,6 +231,7 @@ pub fn rename_at<S: BitfileSet>(
     ensures err { IfErr result (IsFaultOf (rename_checks path.now to.now) (S.files set.old)
         (S.files set.new) (S.missed set.old) (S.missed set.new)) }
     ensures count { S.missed set.old ≤ S.missed set.new }
+    ensures rest { S.leaves_rest set.old set.new }
 {
     let spot = match spot_of(set, path) {
         Ok(spot) => spot,

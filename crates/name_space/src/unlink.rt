@@ -32,6 +32,7 @@ fn drop_link<S: BitfileSet>(set: &mut S, alloc: Global, tag: Tag) -> Result<bool
     ensures ok { IfOk result (DropsLink tag (S.files set.old) (S.files set.new)) }
     ensures no_page { IfErr result (IsCounted (S.missed set.old) (S.missed set.new)) }
     ensures count { S.missed set.old ≤ S.missed set.new }
+    ensures rest { S.leaves_rest set.old set.new }
 {
     let links = set.links(tag);
     if links == 1 {
@@ -62,6 +63,7 @@ pub(crate) fn take_name<S: BitfileSet>(
         (S.files set.new)) }
     ensures no_page { IfErr result (IsCounted (S.missed set.old) (S.missed set.new)) }
     ensures count { S.missed set.old ≤ S.missed set.new }
+    ensures rest { S.leaves_rest set.old set.new }
 {
     match remove_row(set, alloc, spot.dir, name) {
         Ok(()) => drop_link(set, alloc, spot.tag),
@@ -84,6 +86,7 @@ fn take_path<S: BitfileSet>(
     ensures err { IfErr result (IsFaultOf (taking_checks of path.now) (S.files set.old)
         (S.files set.new) (S.missed set.old) (S.missed set.new)) }
     ensures count { S.missed set.old ≤ S.missed set.new }
+    ensures rest { S.leaves_rest set.old set.new }
 {
     let spot = match leaf_spot(set, path, of) {
         Ok(spot) => spot,
@@ -112,6 +115,7 @@ pub fn unlink_at<S: BitfileSet>(
     ensures err { IfErr result (IsFaultOf (unlink_checks path.now) (S.files set.old)
         (S.files set.new) (S.missed set.old) (S.missed set.new)) }
     ensures count { S.missed set.old ≤ S.missed set.new }
+    ensures rest { S.leaves_rest set.old set.new }
 {
     take_path(set, alloc, path, Kind::File)
 }
@@ -126,6 +130,7 @@ pub fn rmdir_at<S: BitfileSet>(set: &mut S, alloc: Global, path: &Path) -> Resul
     ensures err { IfErr result (IsFaultOf (rmdir_checks path.now) (S.files set.old)
         (S.files set.new) (S.missed set.old) (S.missed set.new)) }
     ensures count { S.missed set.old ≤ S.missed set.new }
+    ensures rest { S.leaves_rest set.old set.new }
 {
     match take_path(set, alloc, path, Kind::Directory) {
         Ok(directory) => Ok(directory.tag),

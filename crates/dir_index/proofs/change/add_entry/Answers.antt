@@ -1,8 +1,7 @@
-use Rattle.std.proofs.Common.{◌∙◌, OnOk, sym, subst}
+use Rattle.std.proofs.Common.{OnOk, subst}
 use Rattle.std.proofs.lemmas.Result.{on_ok_weaker}
-use Rattle.dir_index.specs.Changes.{Spreads}
+use Rattle.dir_index.specs.Changes.{Adds, Spreads}
 use Rattle.dir_index.proofs.Added.{added}
-use Rattle.dir_index.proofs.IndexParts.{index_is}
 use Rattle.dir_index.proofs.Sets.{either_directory}
 use Rattle.dir_index.proofs.change.add_entry.Goals as goal
 
@@ -12,9 +11,9 @@ returns-clause-ok g c =
     let new = g.S.BitfileSet.files c.spread.new.set in
     let number = c.page_for-number.result in
     let list = c.in_ok-list.list.items in
-    let found = sym (index_is old c.args.dir number) ∙ sym c.in-Some.ensures in
+    let has = c.in-Some.ensures in
     on_ok_weaker c.spread.result
-    (λ spreads. added c.args.dir c.args.entry number list old new c.requires.directory c.requires.index c.in-Some.page.now found c.page_for-number.ensures c.in_ok-list.ensures.adds spreads)
+    (λ spreads. added c.args.dir c.args.entry number list old new c.requires.directory c.requires.index has.part has.there c.page_for-number.ensures (subst (λ es. Adds c.args.entry es list) has.read c.in_ok-list.ensures.adds) spreads)
     (subst (λ part. OnOk c.spread.result (Spreads c.args.dir number part old new)) c.as_slice.ensures.value c.spread.ensures.ok)
 
 pub returns-clause-directory : goal.returns-clause-directory

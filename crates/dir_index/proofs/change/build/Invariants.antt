@@ -6,4 +6,5 @@ abbrev pub invariant-loop-number : goal.invariant-loop-number
 invariant-loop-number g l = record {
   built : Built l.dir l.entries l.number (g.S.BitfileSet.files l.initial.set) (g.S.BitfileSet.files l.set);
   count : g.S.BitfileSet.missed l.initial.set ≤ g.S.BitfileSet.missed l.set;
+  rest : g.S.BitfileSet.leaves_rest l.initial.set l.set;
 }

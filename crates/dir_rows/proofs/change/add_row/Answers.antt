@@ -10,6 +10,9 @@ index_row-requires-clause-index g c =
     let mid = g.S.BitfileSet.files c.put_row.new.set in
     put_index c.args.dir row c.in_ok-page.page old mid c.requires.good c.in_ok-page.ensures.ok c.name_hash-hash.result c.name_hash-hash.ensures
 
+pub returns-clause-rest : goal.returns-clause-rest
+returns-clause-rest g c = g.met.S.BitfileSet.rest_joins c.args.set.now c.put_row.new.set c.index_row.new.set c.in_ok-page.ensures.rest c.index_row.ensures.rest
+
 pub returns-clause-ok : goal.returns-clause-ok
 returns-clause-ok g c =
     let row : Row = record { tag = c.args.tag; kind = c.args.kind; name = c.args.name.now } in

@@ -31,6 +31,9 @@ forget_row-requires-clause-index g c =
     let mid = g.S.BitfileSet.files c.take_row.new.set in
     take_index c.args.dir c.args.name.now c.in-Some.place.page old mid c.requires.good (on_page c.args.name.now (row_pages old c.args.dir) c.in-Some.place c.in-Some.ensures) c.in_ok-take_row.ensures.ok c.name_hash-hash.result c.name_hash-hash.ensures
 
+pub returns-clause-rest : goal.returns-clause-rest
+returns-clause-rest g c = g.met.S.BitfileSet.rest_joins c.args.set.now c.take_row.new.set c.forget_row.new.set c.in_ok-take_row.ensures.rest c.forget_row.ensures.rest
+
 pub returns-clause-ok : goal.returns-clause-ok
 returns-clause-ok g c =
     let old = g.S.BitfileSet.files c.args.set.now in

@@ -9,5 +9,5 @@ returns-clause-ok g c =
     let old = g.S.BitfileSet.files c.args.set.now in
     let new = g.S.BitfileSet.files c.build.new.set in
     let list = c.in_ok-entries.entries.items in
-    on_ok_weaker c.build.result (indexes_made c.args.dir old new list c.requires.some c.in_ok-entries.ensures.exact)
+    on_ok_weaker c.build.result (indexes_made c.args.dir old new list c.requires.directory c.requires.few c.requires.some c.in_ok-entries.ensures.exact)
     (subst (λ part. OnOk c.build.result (SetsEntries c.args.dir part old new)) c.as_slice.ensures.value c.build.ensures.ok)

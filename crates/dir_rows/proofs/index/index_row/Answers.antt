@@ -13,4 +13,4 @@ returns-then-has_index-clause-ok g c =
     let old = g.S.BitfileSet.files c.args.set.now in
     let new = g.S.BitfileSet.files c.add_entry.new.set in
     let lacks = there_is (index_pages old c.args.dir) c.requires.index (c.has_index.ensures.some c.if-has_index.true) in
-    on_ok_weaker c.add_entry.result (indexes_added c.args.dir old new c.args.entry lacks) c.add_entry.ensures.ok
+    on_ok_weaker c.add_entry.result (indexes_added c.args.dir old new c.args.entry lacks (c.has_index.ensures.some c.if-has_index.true)) c.add_entry.ensures.ok

@@ -1,6 +1,8 @@
 use Rattle.std.proofs.Common.{is_some, ap, subst}
 use Rattle.domain_base.specs.declared.place.Kind.TheVariants.{File}
+use Rattle.fileset_model.specs.Apply.{link_checks}
 use Rattle.name_space.specs.Changes.{AddsLink}
+use Rattle.name_space.proofs.Faults.{faulted}
 use Rattle.name_space.proofs.LinkedNames.{links}
 use Rattle.name_space.proofs.Originals.{is_in}
 use Rattle.name_space.proofs.link.link_at.Goals as goal
@@ -18,3 +20,8 @@ returns-in-Ok-add_link-clause-ok g c = λ slot original.
     let new = g.S.BitfileSet.files c.add_link.new.set in
     links old new slot original c.args.path.now c.args.to.now c.requires.some_to c.in-Ok.place (c.in-Ok.ensures slot original)
     (subst (λ n. AddsLink c.in-Ok.place n old new) c.last_name.ensures c.in-Ok-add_link.ensures.ok)
+
+pub returns-in-Err-add_link-clause-err : goal.returns-in-Err-add_link-clause-err
+returns-in-Err-add_link-clause-err g c =
+    faulted (link_checks c.args.path.now c.args.to.now) (g.S.BitfileSet.files c.args.set.now) (g.S.BitfileSet.files c.add_link.new.set) (g.S.BitfileSet.missed c.args.set.now) (g.S.BitfileSet.missed c.add_link.new.set) c.in-Err-add_link.fault c.from.result c.from.ensures c.in-Err-add_link.ensures.no_page
+    (λ slot original. (c.in-Ok.ensures slot original).0)

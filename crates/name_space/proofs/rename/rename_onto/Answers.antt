@@ -1,4 +1,6 @@
 use Rattle.std.proofs.Common.{rules, ◌∙◌, refl, sym}
+use Rattle.fileset_model.specs.Apply.{rename_checks}
+use Rattle.name_space.proofs.Faults.{faulted}
 use Rattle.name_space.proofs.Originals.{tags_differ}
 use Rattle.name_space.proofs.RenameChecks.{two_checks_are}
 use Rattle.name_space.proofs.RenamedNames.{renames_none}
@@ -18,3 +20,13 @@ returns-in-Err-clause-err g c = (
       let other = c.args.other in
       two_checks_are old c.args.path.now c.args.to.now c.args.spot other.dir c.requires.looked slot original other.tag other.kind c.requires.taken (tags_differ other.tag c.args.spot.tag (sym c.if-eq.ensures)) ∙ c.in-Err.ensures.checked slot original,
 )
+
+pub returns-in-Err-replace-clause-err : goal.returns-in-Err-replace-clause-err
+returns-in-Err-replace-clause-err g c =
+    let old = g.S.BitfileSet.files c.args.set.now in
+    let new = g.S.BitfileSet.files c.replace.new.set in
+    let path = c.args.path.now in
+    let to = c.args.to.now in
+    let other = c.args.other in
+    faulted (rename_checks path to) old new (g.S.BitfileSet.missed c.args.set.now) (g.S.BitfileSet.missed c.replace.new.set) c.in-Err-replace.fault c.from.result c.from.ensures c.in-Err-replace.ensures.no_page
+    (λ slot original. two_checks_are old path to c.args.spot other.dir c.requires.looked slot original other.tag other.kind c.requires.taken (tags_differ other.tag c.args.spot.tag (sym c.if-eq.ensures)) ∙ c.in-Ok.ensures.checked slot original)

@@ -1,5 +1,6 @@
 use Rattle.std.proofs.Common.{subst}
 use Rattle.name_space.specs.Changes.{TakesName, taking_checks}
+use Rattle.name_space.proofs.Faults.{faulted}
 use Rattle.name_space.proofs.Spots.{spot_facts}
 use Rattle.name_space.proofs.Taken.{removes}
 use Rattle.name_space.proofs.unlink.take_path.Goals as goal
@@ -19,3 +20,8 @@ returns-in-Ok-take_name-clause-ok g c = λ slot original.
     removes old new slot original path c.requires.some spot.dir at.1 spot.tag spot.kind at.2 c.in-Ok.ensures.bare (g.met.S.BitfileSet.sound c.args.set.now spot.tag) c.in-Ok-take_name.gone
     (subst (λ n. TakesName spot.dir n spot.tag old new c.in-Ok-take_name.gone) c.last_name.ensures c.in-Ok-take_name.ensures.ok)
     (taking_checks c.args.of path) at.0
+
+pub returns-in-Err-take_name-clause-err : goal.returns-in-Err-take_name-clause-err
+returns-in-Err-take_name-clause-err g c =
+    faulted (taking_checks c.args.of c.args.path.now) (g.S.BitfileSet.files c.args.set.now) (g.S.BitfileSet.files c.take_name.new.set) (g.S.BitfileSet.missed c.args.set.now) (g.S.BitfileSet.missed c.take_name.new.set) c.in-Err-take_name.fault c.from.result c.from.ensures c.in-Err-take_name.ensures.no_page
+    (λ slot original. (c.in-Ok.ensures.spot slot original).0)

@@ -1,0 +1,17 @@
+-- What a fault of a store tells, where the checks refuse nothing.
+use Rattle.std.proofs.Common.{◌≡◌, ℕ, None, sym, subst}
+use Rattle.page_store.specs.Bitfiles.{Bitfiles, IsCounted}
+use Rattle.page_store.specs.declared.fault.StoreFault.{StoreFault}
+use Rattle.page_store.specs.declared.fault.StoreFault.TheVariants as store
+use Rattle.fileset_model.specs.Paths.{first_refusal}
+use Rattle.fileset_model.specs.declared.fileset.FilesetSlot.{FilesetSlot}
+use Rattle.name_space.specs.Changes.{Checks, IsFaultOf, IsOriginal, fault_of}
+use Rattle.name_space.specs.declared.fault.NameFault.{NameFault}
+
+pub faulted : (checks : Checks) (old new : Bitfiles) (before after : ℕ) (fault : StoreFault) (answer : NameFault) → answer ≡ fault_of fault → IsCounted before after fault
+    → ((slot : FilesetSlot) → IsOriginal old slot → first_refusal (checks slot) ≡ None) → IsFaultOf checks old new before after answer
+faulted checks old new before after fault answer is counted allowed = subst (IsFaultOf checks old new before after) (sym is) (by_fault fault counted)
+  where
+    by_fault : (fault : StoreFault) → IsCounted before after fault → IsFaultOf checks old new before after (fault_of fault)
+    by_fault store.NoPage counted = (counted, allowed)
+    by_fault store.OutOfMemory counted = tt
