@@ -83,6 +83,7 @@ pub(crate) fn link_behind<M: MetaPages>(
     ensures elsewhere { (h : HomeOf) → same_home h (home_there at.now) ≡ false
         → same_home h (home_there start.now) ≡ false → M.pages pages.new h ≡ M.pages pages.old h }
     ensures room { M.room pages.new ≡ M.room pages.old }
+    ensures before { M.before pages.new ≡ M.before pages.old }
 {
     let behind = CellHead {
         kind: CellKind::Chain,
@@ -129,6 +130,7 @@ pub(crate) fn put_in_new_cell<M: MetaPages>(
     ensures elsewhere { LeavesOffTables cells.new (M.pages pages.old) (M.pages pages.new) }
     ensures allocated { AreAllocated space.new cells.new (M.pages pages.new) }
     ensures room { M.room pages.old ≤ M.room pages.new + 1 }
+    ensures before { M.before pages.new ≡ M.before pages.old }
 {
     let Some(first) = read_used(alloc, pages, *start)? else {
         return Ok(());

@@ -90,6 +90,7 @@ fn change_record<M: MetaPages>(
     ensures elsewhere { (home : HomeOf) → same_home home (home_there at.now) ≡ false
         → M.pages pages.new home ≡ M.pages pages.old home }
     ensures room { M.room pages.new ≡ M.room pages.old }
+    ensures before { M.before pages.new ≡ M.before pages.old }
 {
     let Some(used) = read_used(alloc, pages, *at)? else {
         return Ok(());
@@ -120,6 +121,7 @@ pub fn set_record<M: MetaPages>(
     ensures elsewhere { (home : HomeOf) → same_home home (home_there at) ≡ false
         → M.pages pages.new home ≡ M.pages pages.old home }
     ensures room { M.room pages.new ≡ M.room pages.old }
+    ensures before { M.before pages.new ≡ M.before pages.old }
 {
     change_record(alloc, pages, &at, value.kind(), &Some(*value))
 }
@@ -159,6 +161,7 @@ fn change_two<M: MetaPages>(
     ensures elsewhere { (home : HomeOf) → same_home home (home_there at.now) ≡ false
         → M.pages pages.new home ≡ M.pages pages.old home }
     ensures room { M.room pages.new ≡ M.room pages.old }
+    ensures before { M.before pages.new ≡ M.before pages.old }
 {
     let Some(used) = read_used(alloc, pages, *at)? else {
         return Ok(());
@@ -190,6 +193,7 @@ pub fn set_two_records<M: MetaPages>(
     ensures elsewhere { (home : HomeOf) → same_home home (home_there at) ≡ false
         → M.pages pages.new home ≡ M.pages pages.old home }
     ensures room { M.room pages.new ≡ M.room pages.old }
+    ensures before { M.before pages.new ≡ M.before pages.old }
 {
     change_two(alloc, pages, &at, one, other)
 }
@@ -212,6 +216,7 @@ pub fn clear_record<M: MetaPages>(
     ensures elsewhere { (home : HomeOf) → same_home home (home_there at) ≡ false
         → M.pages pages.new home ≡ M.pages pages.old home }
     ensures room { M.room pages.new ≡ M.room pages.old }
+    ensures before { M.before pages.new ≡ M.before pages.old }
 {
     change_record(alloc, pages, &at, kind, &None)
 }

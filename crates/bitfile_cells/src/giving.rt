@@ -59,6 +59,7 @@ pub fn put_page<M: MetaPages>(
     ensures elsewhere { LeavesOffTables cells.new (M.pages pages.old) (M.pages pages.new) }
     ensures allocated { AreAllocated space.new cells.new (M.pages pages.new) }
     ensures room { M.room pages.old ≤ M.room pages.new + 1 }
+    ensures before { M.before pages.new ≡ M.before pages.old }
 {
     if put_in_records(alloc, pages, start, page, home)? {
         return Ok(());

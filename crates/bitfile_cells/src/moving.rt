@@ -93,6 +93,7 @@ fn part_cell<M: MetaPages>(
     ensures elsewhere { LeavesOffTables cells.new (M.pages pages.old) (M.pages pages.new) }
     ensures allocated { AreAllocated space.new cells.new (M.pages pages.new) }
     ensures room { M.room pages.old ≤ M.room pages.new + 1 }
+    ensures before { M.before pages.new ≡ M.before pages.old }
 {
     let Some(cell) = read_used(alloc, pages, *at)? else {
         return Ok(());
@@ -135,6 +136,7 @@ fn switch_in_new_cell<M: MetaPages>(
     ensures elsewhere { LeavesOffTables cells.new (M.pages pages.old) (M.pages pages.new) }
     ensures allocated { AreAllocated space.new cells.new (M.pages pages.new) }
     ensures room { M.room pages.old ≤ M.room pages.new + 1 }
+    ensures before { M.before pages.new ≡ M.before pages.old }
 {
     let maps = read_maps(alloc, pages, *start)?;
     let Some(i) = holder(maps.records.as_slice(), page) else {
@@ -195,6 +197,7 @@ pub fn switch_page<M: MetaPages>(
     ensures elsewhere { LeavesOffTables cells.new (M.pages pages.old) (M.pages pages.new) }
     ensures allocated { AreAllocated space.new cells.new (M.pages pages.new) }
     ensures room { M.room pages.old ≤ M.room pages.new + 1 }
+    ensures before { M.before pages.new ≡ M.before pages.old }
 {
     if switch_in_records(alloc, pages, start, page, home)? {
         return Ok(());

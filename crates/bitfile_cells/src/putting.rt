@@ -41,6 +41,7 @@ fn put_at<M: MetaPages>(
     ensures elsewhere { (h : HomeOf) → same_home h (home_there at.now) ≡ false
         → M.pages pages.new h ≡ M.pages pages.old h }
     ensures room { M.room pages.new ≡ M.room pages.old }
+    ensures before { M.before pages.new ≡ M.before pages.old }
 {
     let mut after = *value;
     extent_records::put_page(alloc, &mut after, page, *home)?;
@@ -76,6 +77,7 @@ pub fn put_in_records<M: MetaPages>(
     ensures well_formed { KeepsWellFormed (M.pages pages.old) (M.pages pages.new) }
     ensures headers { KeepsHeaders (M.pages pages.old) (M.pages pages.new) }
     ensures room { M.room pages.new ≡ M.room pages.old }
+    ensures before { M.before pages.new ≡ M.before pages.old }
 {
     let maps = read_maps(alloc, pages, start)?;
     let Some(i) = record_for(alloc, maps.records.as_slice(), page, home)? else {

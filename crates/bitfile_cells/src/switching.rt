@@ -60,6 +60,7 @@ fn switch_at<M: MetaPages>(
     ensures elsewhere { (h : HomeOf) → same_home h (home_there at.now) ≡ false
         → M.pages pages.new h ≡ M.pages pages.old h }
     ensures room { M.room pages.new ≡ M.room pages.old }
+    ensures before { M.before pages.new ≡ M.before pages.old }
 {
     let mut after = *value;
     if !switch_page(alloc, &mut after, page, *home)? {
@@ -97,6 +98,7 @@ pub fn switch_in_records<M: MetaPages>(
     ensures well_formed { KeepsWellFormed (M.pages pages.old) (M.pages pages.new) }
     ensures headers { KeepsHeaders (M.pages pages.old) (M.pages pages.new) }
     ensures room { M.room pages.new ≡ M.room pages.old }
+    ensures before { M.before pages.new ≡ M.before pages.old }
 {
     let maps = read_maps(alloc, pages, start)?;
     let Some(i) = holder(maps.records.as_slice(), page) else {

@@ -48,6 +48,7 @@ fn add_on<M: MetaPages>(
     ensures pages { OnErr result (M.pages pages.new ≡ M.pages pages.old) }
     ensures belong { Belong cells.new (M.pages pages.new) }
     ensures room { M.room pages.old ≤ M.room pages.new + 1 }
+    ensures before { M.before pages.new ≡ M.before pages.old }
 {
     let added = cells.add_page(alloc, pages, *home);
     if added.is_err() {
@@ -76,6 +77,7 @@ fn add_table_page<M: MetaPages>(
     ensures pages { OnErr result (M.pages pages.new ≡ M.pages pages.old) }
     ensures allocated { AreAllocated space.new cells.new (M.pages pages.new) }
     ensures room { M.room pages.old ≤ M.room pages.new + 1 }
+    ensures before { M.before pages.new ≡ M.before pages.old }
 {
     let Some(home) = space.allocate(prefer) else {
         return Err(StoreFault::NoPage);
@@ -108,6 +110,7 @@ pub fn take_cell<M: MetaPages>(
     ensures pages { OnErr result (M.pages pages.new ≡ M.pages pages.old) }
     ensures allocated { AreAllocated space.new cells.new (M.pages pages.new) }
     ensures room { M.room pages.old ≤ M.room pages.new + 1 }
+    ensures before { M.before pages.new ≡ M.before pages.old }
 {
     if let Some(at) = cells.new_cell(prefer) {
         return Ok(at);

@@ -73,6 +73,7 @@ pub(crate) fn set_first<M: MetaPages>(
     ensures elsewhere { (home : HomeOf) → same_home home (home_there at.now) ≡ false
         → M.pages pages.new home ≡ M.pages pages.old home }
     ensures room { M.room pages.new ≡ M.room pages.old }
+    ensures before { M.before pages.new ≡ M.before pages.old }
 {
     set_record(alloc, pages, *at, value)
 }
@@ -89,6 +90,7 @@ fn set_pending<M: MetaPages>(alloc: Global, pages: &mut M, at: &CellAt) -> Resul
     ensures elsewhere { (home : HomeOf) → same_home home (home_there at.now) ≡ false
         → M.pages pages.new home ≡ M.pages pages.old home }
     ensures room { M.room pages.new ≡ M.room pages.old }
+    ensures before { M.before pages.new ≡ M.before pages.old }
 {
     let value = Record::Pending {
         what: Leftover::Remove,
@@ -113,6 +115,7 @@ fn put_parent<M: MetaPages>(
     ensures elsewhere { (home : HomeOf) → same_home home (home_there at.now) ≡ false
         → M.pages pages.new home ≡ M.pages pages.old home }
     ensures room { M.room pages.new ≡ M.room pages.old }
+    ensures before { M.before pages.new ≡ M.before pages.old }
 {
     prove!(parent.slot <= u32::MAX);
     prove!(parent.seq <= u16::MAX);
@@ -251,6 +254,7 @@ impl Bitfiles {
         ensures well_formed { KeepsWellFormed (M.pages pages.old) (M.pages pages.new) }
         ensures headers { KeepsHeaders (M.pages pages.old) (M.pages pages.new) }
         ensures room { M.room pages.new ≡ M.room pages.old }
+        ensures before { M.before pages.new ≡ M.before pages.old }
     {
         let Some(at) = self.live_cell(pages, tag) else {
             return Ok(());
@@ -289,6 +293,7 @@ impl Bitfiles {
         ensures well_formed { KeepsWellFormed (M.pages pages.old) (M.pages pages.new) }
         ensures headers { KeepsHeaders (M.pages pages.old) (M.pages pages.new) }
         ensures room { M.room pages.new ≡ M.room pages.old }
+        ensures before { M.before pages.new ≡ M.before pages.old }
     {
         match self.live_cell(pages, tag) {
             Some(at) => put_parent(alloc, pages, &at, &parent),
@@ -323,6 +328,7 @@ impl Bitfiles {
             → ChangesBeside self.old.tags (chains tag) (M.pages pages.old) (M.pages pages.new) }
         ensures same { self.new ≡ self.old }
         ensures room { M.room pages.new ≡ M.room pages.old }
+        ensures before { M.before pages.new ≡ M.before pages.old }
     {
         let Some(at) = self.live_cell(pages, tag) else {
             return Err(OutOfMemory);

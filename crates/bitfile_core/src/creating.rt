@@ -50,6 +50,7 @@ fn enter_file<M: MetaPages>(
         (M.pages pages.new) }
     ensures same { tags.new ≡ tags.old }
     ensures room { M.room pages.new ≡ M.room pages.old }
+    ensures before { M.before pages.new ≡ M.before pages.old }
 {
     tags.enter_as(pages, *tag, *at);
     let head = CellHead {
@@ -81,6 +82,7 @@ fn take_with_room<M: MetaPages>(
     ensures allocated { AreAllocated space.new cells.new (M.pages pages.new) }
     ensures spare { OnOk result (0 < M.room pages.new) }
     ensures room { M.room pages.old ≤ M.room pages.new + 1 }
+    ensures before { M.before pages.new ≡ M.before pages.old }
 {
     pages.reserve(alloc, 2)?;
     take_cell(alloc, pages, space, cells, prefer)
@@ -125,6 +127,7 @@ fn take_for_page<M: MetaPages>(
     ensures allocated { AreAllocated space.new cells.new (M.pages pages.new) }
     ensures spare { OnOk result (0 < M.room pages.new) }
     ensures room { M.room pages.old ≤ M.room pages.new + 1 }
+    ensures before { M.before pages.new ≡ M.before pages.old }
 {
     let ready = tags.prepare_page(alloc, index, *home)?;
     match take_with_room(alloc, pages, space, cells, prefer) {
@@ -164,6 +167,7 @@ fn create_as<M: MetaPages>(
     ensures others { LeavesOtherCells cells.old [] (M.pages pages.old) (M.pages pages.new) }
     ensures elsewhere { LeavesBeside cells.new tags.new (M.pages pages.old) (M.pages pages.new) }
     ensures room { M.room pages.old ≤ M.room pages.new + 1 }
+    ensures before { M.before pages.new ≡ M.before pages.old }
 {
     let records = first_records(alloc, version, what, tag)?;
     let at = take_cell(alloc, pages, space, cells, prefer)?;
@@ -221,6 +225,7 @@ fn create_at<M: MetaPages>(
     ensures others { LeavesOtherCells cells.old [] (M.pages pages.old) (M.pages pages.new) }
     ensures elsewhere { LeavesBeside cells.new tags.new (M.pages pages.old) (M.pages pages.new) }
     ensures room { M.room pages.old ≤ M.room pages.new + 2 }
+    ensures before { M.before pages.new ≡ M.before pages.old }
 {
     let tag = first_tag(index);
     let records = first_records(alloc, version, what, &tag)?;
@@ -263,6 +268,7 @@ fn create_on_new_page<M: MetaPages>(
     ensures others { LeavesOtherCells cells.old [] (M.pages pages.old) (M.pages pages.new) }
     ensures elsewhere { LeavesBeside cells.new tags.new (M.pages pages.old) (M.pages pages.new) }
     ensures room { M.room pages.old ≤ M.room pages.new + 2 }
+    ensures before { M.before pages.new ≡ M.before pages.old }
 {
     let Some(index) = tags.next_index() else {
         return Err(StoreFault::OutOfMemory);
@@ -308,6 +314,7 @@ fn create_file<M: MetaPages>(
     ensures others { LeavesOtherCells cells.old [] (M.pages pages.old) (M.pages pages.new) }
     ensures elsewhere { LeavesBeside cells.new tags.new (M.pages pages.old) (M.pages pages.new) }
     ensures room { M.room pages.old ≤ M.room pages.new + 2 }
+    ensures before { M.before pages.new ≡ M.before pages.old }
 {
     let Some(tag) = tags.free_tag(pages) else {
         return create_on_new_page(
@@ -365,6 +372,7 @@ impl Bitfiles {
         ensures elsewhere { LeavesBeside cells.new self.new.tags (M.pages pages.old)
             (M.pages pages.new) }
         ensures room { M.room pages.old ≤ M.room pages.new + 2 }
+        ensures before { M.before pages.new ≡ M.before pages.old }
     {
         let what = NewFile {
             kind,

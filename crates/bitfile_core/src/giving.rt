@@ -57,6 +57,7 @@ fn put_or_give_back<M: MetaPages>(
     ensures elsewhere { LeavesOffTables cells.new (M.pages pages.old) (M.pages pages.new) }
     ensures allocated { OnOk result (AreAllocated space.new cells.new (M.pages pages.new)) }
     ensures room { M.room pages.old ≤ M.room pages.new + 1 }
+    ensures before { M.before pages.new ≡ M.before pages.old }
 {
     match put_page(
         alloc, pages, space, cells, *start, page, *home, version, prefer,
@@ -103,6 +104,7 @@ pub(crate) fn give_at<M: MetaPages>(
     ensures allocated { AreAllocated space.new cells.new (M.pages pages.new) }
     ensures volume { IfOk result (λ home. 1 ≤ home.vol) }
     ensures room { M.room pages.old ≤ M.room pages.new + 1 }
+    ensures before { M.before pages.new ≡ M.before pages.old }
 {
     let Some(home) = space.allocate(prefer) else {
         return Err(StoreFault::NoPage);
@@ -157,6 +159,7 @@ impl Bitfiles {
             LeavesOtherCells cells.old chain (M.pages pages.old) (M.pages pages.new)) }
         ensures elsewhere { LeavesOffTables cells.new (M.pages pages.old) (M.pages pages.new) }
         ensures room { M.room pages.old ≤ M.room pages.new + 1 }
+        ensures before { M.before pages.new ≡ M.before pages.old }
     {
         match self.live_cell(pages, tag) {
             Some(at) => give_at(alloc, pages, space, cells, &at, page, version, prefer),

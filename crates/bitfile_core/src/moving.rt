@@ -55,6 +55,7 @@ fn switch_at<M: MetaPages>(
     ensures elsewhere { LeavesOffTables cells.new (M.pages pages.old) (M.pages pages.new) }
     ensures allocated { AreAllocated space.new cells.new (M.pages pages.new) }
     ensures room { M.room pages.old ≤ M.room pages.new + 1 }
+    ensures before { M.before pages.new ≡ M.before pages.old }
 {
     let Some(was) = find_place(pages, *start, page).home() else {
         return Err(StoreFault::NoPage);
@@ -114,6 +115,7 @@ impl Bitfiles {
             LeavesOtherCells cells.old chain (M.pages pages.old) (M.pages pages.new)) }
         ensures elsewhere { LeavesOffTables cells.new (M.pages pages.old) (M.pages pages.new) }
         ensures room { M.room pages.old ≤ M.room pages.new + 1 }
+        ensures before { M.before pages.new ≡ M.before pages.old }
     {
         match self.live_cell(pages, tag) {
             Some(at) => switch_at(alloc, pages, space, cells, &at, page, &home, version),

@@ -90,6 +90,7 @@ fn set_trim<M: MetaPages>(
     ensures elsewhere { (home : HomeOf) → same_home home (home_there at.now) ≡ false
         → M.pages pages.new home ≡ M.pages pages.old home }
     ensures room { M.room pages.new ≡ M.room pages.old }
+    ensures before { M.before pages.new ≡ M.before pages.old }
 {
     let trim = Record::Pending {
         what: Leftover::Trim,
@@ -120,6 +121,7 @@ fn set_size<M: MetaPages>(
     ensures elsewhere { (home : HomeOf) → same_home home (home_there at.now) ≡ false
         → M.pages pages.new home ≡ M.pages pages.old home }
     ensures room { M.room pages.new ≡ M.room pages.old }
+    ensures before { M.before pages.new ≡ M.before pages.old }
 {
     let value = with_size(was, size, lowered);
     match lowered {
@@ -185,6 +187,7 @@ fn truncate_at<M: MetaPages>(
     ensures elsewhere { (home : HomeOf) → same_home home (home_there at.now) ≡ false
         → M.pages pages.new home ≡ M.pages pages.old home }
     ensures room { M.room pages.new ≡ M.room pages.old }
+    ensures before { M.before pages.new ≡ M.before pages.old }
 {
     let pending = first_record(pages, at, 6).is_some();
     let lowered = stale_in(alloc, pages, at, was, size)?;
@@ -225,6 +228,7 @@ impl Bitfiles {
         ensures well_formed { KeepsWellFormed (M.pages pages.old) (M.pages pages.new) }
         ensures headers { KeepsHeaders (M.pages pages.old) (M.pages pages.new) }
         ensures room { M.room pages.new ≡ M.room pages.old }
+        ensures before { M.before pages.new ≡ M.before pages.old }
     {
         let Some(at) = self.live_cell(pages, tag) else {
             return Err(OutOfMemory);

@@ -78,6 +78,7 @@ fn change_next<M: MetaPages>(pages: &mut M, home: &Home, next: u32)
     ensures changes { ChangesPage home.now (with_next next) (M.pages pages.old)
         (M.pages pages.new) }
     ensures room { M.room pages.new ≡ M.room pages.old }
+    ensures before { M.before pages.new ≡ M.before pages.old }
 {
     let mut bytes = [0; 4];
     LittleEndian::write_u32(&mut bytes, next);
@@ -97,6 +98,7 @@ pub fn set_next<M: MetaPages>(pages: &mut M, home: Home, next: u32)
     ensures elsewhere { (h : Home) → same_home h home ≡ false
         → M.pages pages.new h ≡ M.pages pages.old h }
     ensures room { M.room pages.new ≡ M.room pages.old }
+    ensures before { M.before pages.new ≡ M.before pages.old }
 {
     change_next(pages, &home, next);
 }

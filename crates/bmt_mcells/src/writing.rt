@@ -148,6 +148,7 @@ fn recount<M: MetaPages>(pages: &mut M, home: &Home)
     requires { IsSome (M.pages pages.old home.now) }
     ensures changes { ChangesPage home.now recounted (M.pages pages.old) (M.pages pages.new) }
     ensures room { M.room pages.new ≡ M.room pages.old }
+    ensures before { M.before pages.new ≡ M.before pages.old }
 {
     if let Some(page) = pages.get(*home) {
         let count = count_of(page);
@@ -171,6 +172,7 @@ fn change_cell<M: MetaPages>(pages: &mut M, at: &CellAt, bytes: &[u8])
     requires len { length bytes.now ≡ 292 }
     ensures changes { ChangesCell at.now bytes.now (M.pages pages.old) (M.pages pages.new) }
     ensures room { M.room pages.new ≡ M.room pages.old }
+    ensures before { M.before pages.new ≡ M.before pages.old }
 {
     pages.set(home_of(at), 16 + CELL_BYTES * usize::from(at.cell), bytes);
     recount(pages, &home_of(at));
@@ -188,6 +190,7 @@ fn put_bytes<M: MetaPages>(pages: &mut M, at: &CellAt, bytes: &[u8])
     ensures elsewhere { (home : Home) → same_home home (home_there at.now) ≡ false
         → M.pages pages.new home ≡ M.pages pages.old home }
     ensures room { M.room pages.new ≡ M.room pages.old }
+    ensures before { M.before pages.new ≡ M.before pages.old }
 {
     change_cell(pages, at, bytes);
 }
@@ -210,6 +213,7 @@ pub fn write_cell<M: MetaPages>(pages: &mut M, at: CellAt, head: &CellHead, reco
     ensures elsewhere { (home : Home) → same_home home (home_there at) ≡ false
         → M.pages pages.new home ≡ M.pages pages.old home }
     ensures room { M.room pages.new ≡ M.room pages.old }
+    ensures before { M.before pages.new ≡ M.before pages.old }
 {
     let mut bytes = [0; CELL_BYTES];
     put_cell(head, records.as_slice(), &mut bytes);
@@ -228,6 +232,7 @@ pub fn clear_cell<M: MetaPages>(pages: &mut M, at: CellAt)
     ensures elsewhere { (home : Home) → same_home home (home_there at) ≡ false
         → M.pages pages.new home ≡ M.pages pages.old home }
     ensures room { M.room pages.new ≡ M.room pages.old }
+    ensures before { M.before pages.new ≡ M.before pages.old }
 {
     put_bytes(pages, &at, &[0; CELL_BYTES]);
 }

@@ -151,6 +151,7 @@ pub(crate) fn write_edit<M: MetaPages>(pages: &mut M, cells: &mut FreeCells, edi
         (M.pages pages.new) }
     ensures belong { Belong cells.new (M.pages pages.new) }
     ensures room { M.room pages.new ≡ M.room pages.old }
+    ensures before { M.before pages.new ≡ M.before pages.old }
 {
     write_cell(pages, edit.at, &edit.cell.head, &edit.cell.records);
     if let Some(freed) = edit.freed {

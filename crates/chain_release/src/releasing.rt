@@ -93,6 +93,7 @@ fn hand_over<M: MetaPages>(
         → LeavesOtherCells cells.old own (M.pages pages.old) (M.pages pages.new) }
     ensures elsewhere { LeavesOffTables cells.new (M.pages pages.old) (M.pages pages.new) }
     ensures room { M.room pages.old ≤ M.room pages.new + 1 }
+    ensures before { M.before pages.new ≡ M.before pages.old }
 {
     match reader {
         Some(reader) => put_page(
@@ -135,6 +136,7 @@ fn pass_on<M: MetaPages>(
         → LeavesOtherCells cells.old own (M.pages pages.old) (M.pages pages.new) }
     ensures elsewhere { LeavesOffTables cells.new (M.pages pages.old) (M.pages pages.new) }
     ensures room { M.room pages.old ≤ M.room pages.new + 1 }
+    ensures before { M.before pages.new ≡ M.before pages.old }
 {
     match plan.tail.home {
         Some(home) => hand_over(
@@ -197,6 +199,7 @@ fn carry_out<M: MetaPages>(
     ensures elsewhere { LeavesOffTables cells.new (M.pages pages.old) (M.pages pages.new) }
     ensures allocated { AreAllocated space.new cells.new (M.pages pages.new) }
     ensures room { M.room pages.old ≤ M.room pages.new + 1 }
+    ensures before { M.before pages.new ≡ M.before pages.old }
 {
     let kind = use_of(pages, start);
     match pass_on(
@@ -247,6 +250,7 @@ fn release_at<M: MetaPages>(
     ensures elsewhere { LeavesOffTables cells.new (M.pages pages.old) (M.pages pages.new) }
     ensures allocated { AreAllocated space.new cells.new (M.pages pages.new) }
     ensures room { M.room pages.old ≤ M.room pages.new + 1 }
+    ensures before { M.before pages.new ≡ M.before pages.old }
 {
     let plan = plan_step(alloc, pages, stale, from, reader)?;
     carry_out(
@@ -301,6 +305,7 @@ pub fn release_tail<M: MetaPages>(
     ensures elsewhere { LeavesOffTables cells.new (M.pages pages.old) (M.pages pages.new) }
     ensures allocated { AreAllocated space.new cells.new (M.pages pages.new) }
     ensures room { M.room pages.old ≤ M.room pages.new + 1 }
+    ensures before { M.before pages.new ≡ M.before pages.old }
 {
     match find_stale(alloc, pages, &start, from)? {
         Some(stale) => release_at(
@@ -323,6 +328,7 @@ pub fn release_last<M: MetaPages>(pages: &mut M, cells: &mut FreeCells, start: C
     ensures allocated { (space : Spaces) → AreAllocated space cells.old (M.pages pages.old)
         → AreAllocated space cells.new (M.pages pages.new) }
     ensures room { M.room pages.new ≡ M.room pages.old }
+    ensures before { M.before pages.new ≡ M.before pages.old }
 {
     cells.free_cell(pages, start);
 }

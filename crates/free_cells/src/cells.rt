@@ -106,6 +106,7 @@ impl FreeCells {
             × (M.pages pages.new ≡ M.pages pages.old)) }
         ensures room { M.room pages.old ≤ M.room pages.new + 1 }
         ensures belong { Belong self.new (M.pages pages.new) }
+        ensures before { M.before pages.new ≡ M.before pages.old }
     {
         let last = self.last_home(home.vol);
         let page = self.prepare_page(alloc, pages, &home)?;
@@ -149,6 +150,7 @@ impl FreeCells {
             → M.pages pages.new home ≡ M.pages pages.old home }
         ensures room { M.room pages.new ≡ M.room pages.old }
         ensures belong { Belong self.new (M.pages pages.new) }
+        ensures before { M.before pages.new ≡ M.before pages.old }
     {
         clear_cell(pages, at);
         self.give_back(&at);
@@ -274,6 +276,7 @@ impl FreeCells {
         ensures pages { M.pages pages.new ≡ M.pages pages.old }
         ensures room { OnOk result (0 < M.room pages.new) }
         ensures kept { M.room pages.old ≤ M.room pages.new }
+        ensures before { M.before pages.new ≡ M.before pages.old }
     {
         let index = self.next_index(home.vol)?;
         let page = empty_page(alloc, index)?;

@@ -27,6 +27,7 @@ pub fn link_page<M: MetaPages>(pages: &mut M, last: &Home, home: &Home, page: Pa
     ensures elsewhere { (h : Home) → same_home h home.now ≡ false → same_home h last.now ≡ false
         → M.pages pages.new h ≡ M.pages pages.old h }
     ensures room { M.room pages.old ≤ M.room pages.new + 1 }
+    ensures before { M.before pages.new ≡ M.before pages.old }
 {
     set_next(pages, *last, home.page);
     pages.put(*home, page);

@@ -60,6 +60,8 @@ impl MemoryPages {
 impl MetaPages for MemoryPages {
     ghost pages = { λ store. pages_of store.entries.items };
 
+    ghost before = { λ _. no_pages };
+
     ghost room = { λ store. vec_capacity store.entries - vec_len store.entries };
 
     ghost whole = { λ store. are_whole store.entries.items store.whole };

@@ -93,6 +93,7 @@ impl Change {
         requires { length self ≤ M.room pages.old }
         ensures value { M.pages pages.new ≡ overlaid self (M.pages pages.old) }
         ensures left { M.room pages.old ≤ M.room pages.new + length self }
+        ensures before { M.before pages.new ≡ M.before pages.old }
     {
         for image in self.images {
             pages.put(image.home, image.page);

@@ -18,6 +18,9 @@ pub trait MetaPages {
     /// For how many homes more there is room.
     ghost room: { Self → ℕ };
 
+    /// What stood at each home before a change that can be taken back. No call changes it.
+    ghost before: { Self → Pages };
+
     /// The page at a home, if one is there.
     fn get(&self, home: Home) -> Option<&Page>
         ensures { option_copied result ≡ pages self.now home };
@@ -26,7 +29,8 @@ pub trait MetaPages {
     fn reserve(&mut self, alloc: Global, more: usize) -> Result<(), OutOfMemory>
         ensures same { pages self.new ≡ pages self.old }
         ensures enough { OnOk result (more ≤ room self.new) }
-        ensures kept { room self.old ≤ room self.new };
+        ensures kept { room self.old ≤ room self.new }
+        ensures before { before self.new ≡ before self.old };
 
     /// For how many homes more there is room.
     fn spare(&self) -> usize
@@ -37,7 +41,8 @@ pub trait MetaPages {
         requires { (0 < room self.old) ⊎ IsSome (pages self.old home) }
         ensures value { pages self.new ≡ with_page home page (pages self.old) }
         ensures left { room self.new ≡
-            (if is_some (pages self.old home) then room self.old else room self.old - 1) };
+            (if is_some (pages self.old home) then room self.old else room self.old - 1) }
+        ensures before { before self.new ≡ before self.old };
 
     /// Writes these bytes into the page that stands at a home, from byte `at` on, and leaves all others.
     fn set(&mut self, home: Home, at: usize, bytes: &[u8])
@@ -45,12 +50,14 @@ pub trait MetaPages {
         requires fits { at + length bytes.now ≤ page_bytes }
         ensures value { IsSomeAnd (pages self.old home) (λ page. pages self.new
             ≡ with_page home (overwritten page at bytes.now) (pages self.old)) }
-        ensures left { room self.new ≡ room self.old };
+        ensures left { room self.new ≡ room self.old }
+        ensures before { before self.new ≡ before self.old };
 
     /// Forgets the page that stands at a home.
     fn forget(&mut self, home: Home)
         ensures value { pages self.new ≡ without_page home (pages self.old) }
-        ensures left { room self.old ≤ room self.new };
+        ensures left { room self.old ≤ room self.new }
+        ensures before { before self.new ≡ before self.old };
 
     /// A page has 8,192 bytes.
     ghost whole: { (store : Self) → AreWhole (pages store) };

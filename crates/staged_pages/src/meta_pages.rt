@@ -1,6 +1,6 @@
 //! Pages with a change laid over them as pages of metadata.
 ghost use Rattle.std.specs.Prelude.{◌≡◌, ◌+◌, ◌≤◌, length};
-ghost use Rattle.staged_pages.specs.Store.{pages_of, room_of, whole_pages};
+ghost use Rattle.staged_pages.specs.Store.{before_of, pages_of, room_of, whole_pages};
 
 use crate::edit::{add_at, forget_at, put_at, rewrite_at};
 use crate::pages::StagedPages;
@@ -13,6 +13,8 @@ impl MetaPages for StagedPages {
     ghost pages = { pages_of };
 
     ghost room = { room_of };
+
+    ghost before = { before_of };
 
     ghost whole = { λ store. whole_pages store.entries.items store.changed.items store.slots };
 

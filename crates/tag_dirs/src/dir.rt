@@ -82,6 +82,7 @@ pub fn put_ready<M: MetaPages>(pages: &mut M, ready: ReadyPage)
         → AddsPage (record { index = index; home = home }) places (M.pages pages.old)
         (M.pages pages.new) }
     ensures room { M.room pages.old ≤ M.room pages.new + 1 }
+    ensures before { M.before pages.new ≡ M.before pages.old }
 {
     let ReadyPage { page, last, home } = ready;
     lead_on(pages, &last, &home);
@@ -163,6 +164,7 @@ impl TagDir {
             × (M.pages pages.new ≡ M.pages pages.old)) }
         ensures room { OnOk result (M.room pages.old ≤ M.room pages.new + 1) }
         ensures kept { OnErr result (M.room pages.old ≤ M.room pages.new) }
+        ensures before { M.before pages.new ≡ M.before pages.old }
     {
         let page = new_page(alloc, index)?;
         pages.reserve(alloc, 1)?;
@@ -281,6 +283,7 @@ impl TagDir {
             (M.pages pages.new)) }
         ensures same { self.new ≡ self.old }
         ensures room { M.room pages.new ≡ M.room pages.old }
+        ensures before { M.before pages.new ≡ M.before pages.old }
     {
         let tag = self.free_tag(pages)?;
         self.enter_as(pages, tag, at);
@@ -304,6 +307,7 @@ impl TagDir {
             × (M.pages pages.new ≡ M.pages pages.old) }
         ensures same { self.new ≡ self.old }
         ensures room { M.room pages.new ≡ M.room pages.old }
+        ensures before { M.before pages.new ≡ M.before pages.old }
     {
         self.change(
             pages,
@@ -323,6 +327,7 @@ impl TagDir {
         ensures value { SetsTag tag (Some at) self.old (M.pages pages.old) (M.pages pages.new) }
         ensures same { self.new ≡ self.old }
         ensures room { M.room pages.new ≡ M.room pages.old }
+        ensures before { M.before pages.new ≡ M.before pages.old }
     {
         self.change(
             pages,
@@ -341,6 +346,7 @@ impl TagDir {
         ensures value { SetsTag tag None self.old (M.pages pages.old) (M.pages pages.new) }
         ensures same { self.new ≡ self.old }
         ensures room { M.room pages.new ≡ M.room pages.old }
+        ensures before { M.before pages.new ≡ M.before pages.old }
     {
         let seq = tag.seq;
         self.change(pages, tag.slot, &TagEntry { seq, at: None });
@@ -396,6 +402,7 @@ impl TagDir {
             × (M.pages pages.new ≡ M.pages pages.old) }
         ensures same { self.new ≡ self.old }
         ensures room { M.room pages.new ≡ M.room pages.old }
+        ensures before { M.before pages.new ≡ M.before pages.old }
     {
         let Some(number) = self.number_of(slot) else {
             return false;
@@ -421,6 +428,7 @@ impl TagDir {
         ensures changes { ChangesSlot slot entry.now self.now (M.pages pages.old)
             (M.pages pages.new) }
         ensures room { M.room pages.new ≡ M.room pages.old }
+        ensures before { M.before pages.new ≡ M.before pages.old }
     {
         let home = self.places[number].home;
         change_entry(pages, &home, slot as usize % ENTRIES, entry)

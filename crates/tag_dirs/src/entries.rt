@@ -30,6 +30,7 @@ pub(crate) fn change_entry<M: MetaPages>(
     requires place { place < 1022 }
     ensures changes { ChangesAt home.now place entry.now (M.pages pages.old) (M.pages pages.new) }
     ensures room { M.room pages.new ≡ M.room pages.old }
+    ensures before { M.before pages.new ≡ M.before pages.old }
 {
     let before = can_take_at(pages, home, place);
     pages.set(*home, 16 + 8 * place, &entry_bytes(entry));
@@ -41,6 +42,7 @@ fn change_next<M: MetaPages>(pages: &mut M, home: &Home, next: &Home)
     requires { IsSomeAnd (M.pages pages.old home.now) IsTagPage }
     ensures changes { LinksAt home.now next.now (M.pages pages.old) (M.pages pages.new) }
     ensures room { M.room pages.new ≡ M.room pages.old }
+    ensures before { M.before pages.new ≡ M.before pages.old }
 {
     pages.set(*home, 8, &next_bytes(next));
 }
@@ -50,6 +52,7 @@ pub(crate) fn lead_on<M: MetaPages>(pages: &mut M, last: &Option<Home>, next: &H
     requires { IfSome last.now (λ home. IsSomeAnd (M.pages pages.old home) IsTagPage) }
     ensures leads { Leads last.now next.now (M.pages pages.old) (M.pages pages.new) }
     ensures room { M.room pages.new ≡ M.room pages.old }
+    ensures before { M.before pages.new ≡ M.before pages.old }
 {
     if let Some(home) = last {
         change_next(pages, home, next);

@@ -17,6 +17,7 @@ put-requires g c =
 pub loop-image-preserved : goal.loop-image-preserved
 loop-image-preserved g c = record {
   value = overlaid_more c.loop-image.yielded c.in-Some.image (g.M.MetaPages.pages c.args.pages.now) (g.M.MetaPages.pages c.loop-image.pages) (g.M.MetaPages.pages c.put.new.self) c.loop-image.invariant.value c.put.ensures.value;
+  before = c.put.ensures.before ∙ c.loop-image.invariant.before;
   left = room_more c.loop-image.yielded c.in-Some.image (is_some (g.M.MetaPages.pages c.loop-image.pages c.in-Some.image.home)) (g.M.MetaPages.room c.args.pages.now) (g.M.MetaPages.room c.loop-image.pages) (g.M.MetaPages.room c.put.new.self) c.loop-image.invariant.left c.put.ensures.left;
 }
 
