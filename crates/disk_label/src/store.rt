@@ -220,9 +220,9 @@ pub fn read_anchor<R: Rack>(rack: &mut R) -> Result<Anchor, AnchorFault>
 /// calls it once for each slot of the volume of its log: when it is opened, and when the log goes
 /// to another volume, before the first anchor there. No more is needed before later anchors, since
 /// each leaves the slot of the next one ready (`next` and `others` of `HasWritten`). What it does
-/// to one slot leaves each other slot as ready as it was, and what it wrote is synced. The volume has to be one of the rack,
-/// with two pages or more. The error says of which volume a call failed, and whether that was a
-/// read, or a write or a sync.
+/// to one slot leaves each other slot as ready as it was, and what it wrote is synced. The volume
+/// has to be one of the rack, with two pages or more. The error says of which volume a call failed,
+/// and whether that was a read, or a write or a sync.
 ///
 /// It is for a rack on which nothing is pending, since a read does not show what a stop may leave
 /// of bytes that are. So each volume is synced before a domain that was stopped by a failed write
