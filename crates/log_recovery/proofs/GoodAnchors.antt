@@ -48,7 +48,7 @@ module _ (old new : Image) (same : (vol : ℕ) → label_block new vol ≡ label
   would_be-same was = record { labelled = labelled-same was.labelled; in_range = range-same anchor (label_version old) (label_version new) (λ vol member. version-same vol) was.in_range }
 
 -- the labels stay where calls touch none of their bytes
-labels-same : (places : Places) (old new : Image) → ((v k : ℕ) → places v k → 512 ≤ k) → SameOutside places old new → (vol : ℕ) → label_block new vol ≡ label_block old vol
+pub labels-same : (places : Places) (old new : Image) → ((v k : ℕ) → places v k → 512 ≤ k) → SameOutside places old new → (vol : ℕ) → label_block new vol ≡ label_block old vol
 labels-same places old new behind same vol = bytes_from-same (new vol) (old vol) 0 512 (λ k le lt. same vol k (λ is. let far = behind vol k is in omega arith))
 
 pub keeps_good_anchor : (old new : Disk) (anchor : Anchor) → KeepsGoodAnchor old new anchor

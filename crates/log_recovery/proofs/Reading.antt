@@ -6,7 +6,7 @@ use Rattle.volume_disk.specs.Image.{Image, bytes_at, bytes_from}
 use Rattle.volume_disk.specs.Run.{OnlyReads}
 use Rattle.volume_disk.proofs.Bytes.{length-bytes_from}
 use Rattle.disk_label.specs.declared.anchor.Anchor.{Anchor}
-use Rattle.log_ring.specs.Ring.{place_at}
+use Rattle.log_ring.specs.Ring.{place_at, ring_page}
 use Rattle.log_recovery.specs.Fault.{IfNotADomain}
 use Rattle.log_recovery.specs.declared.fault.RecoverFault.{RecoverFault}
 use Rattle.log_recovery.specs.declared.fault.RecoverFault.TheVariants.{Fault, NotADomain, OutOfMemory}
@@ -28,10 +28,10 @@ held_now P old mid reads told before =
 -- What is read of a place of the log.
 
 module _ (image : Image) (anchor : Anchor) (place vol len n : ℕ) (out items got page : List ℕ) where
-  pub place_read : page ≡ got → got ≡ take len (out ++ drop (length out) items) → out ≡ bytes_at image vol (512 * (16 * (anchor.log_page + place % 128))) n → n ≡ 8192 → len ≡ 8192 → vol ≡ anchor.log_vol → page ≡ place_at image anchor place
-  place_read is_got is_out read whole whole_vec volume =
-      let at : 512 * (16 * (anchor.log_page + place % 128)) ≡ 8192 * (anchor.log_page + place % 128) = omega arith in
-      let size : length out ≡ len = ap (length {A = ℕ}) read ∙ length-bytes_from (image vol) (512 * (16 * (anchor.log_page + place % 128))) n ∙ whole ∙ sym whole_vec in
+  pub place_read : (found : ℕ) → found ≡ ring_page anchor place → page ≡ got → got ≡ take len (out ++ drop (length out) items) → out ≡ bytes_at image vol (512 * (16 * found)) n → n ≡ 8192 → len ≡ 8192 → vol ≡ anchor.log_vol → page ≡ place_at image anchor place
+  place_read found there is_got is_out read whole whole_vec volume =
+      let at : 512 * (16 * found) ≡ 8192 * ring_page anchor place = omega arith in
+      let size : length out ≡ len = ap (length {A = ℕ}) read ∙ length-bytes_from (image vol) (512 * (16 * found)) n ∙ whole ∙ sym whole_vec in
       is_got ∙ is_out ∙ take_at out (drop (length out) items) len size ∙ read ∙ (λ i. bytes_from (image (volume i)) (at i) (whole i))
 
 -- what follows at the place at which there is no domain

@@ -1,11 +1,13 @@
 -- What holds of recovery, whatever calls are made.
 use Rattle.std.specs.Prelude.{◌≡◌, ℕ, List, Some}
-use Rattle.volume_disk.specs.Disk.{Disk, IsSettled}
+use Rattle.volume_disk.specs.Disk.{Disk, IsSettled, Tells}
 use Rattle.volume_disk.specs.Image.{Image}
-use Rattle.disk_label.specs.Slot.{IsReadyFor}
+use Rattle.volume_disk.specs.Run.{OnlyReads}
+use Rattle.disk_label.specs.Slot.{HasReadied, IsReadyFor, ReadiesSlot, StaysSynced}
 use Rattle.disk_label.specs.declared.anchor.Anchor.{Anchor}
 use Rattle.log_ring.specs.Groups.{Group, HasLog}
 use Rattle.log_recovery.specs.Outcome.{HasGoodAnchor, HasRecovered, IsFirstFault}
+use Rattle.log_recovery.specs.Readable.{IsGoodNow}
 use Rattle.log_recovery.specs.Settled.{MaySettle, settled_anchor}
 use Rattle.log_recovery.specs.declared.redone.Redone.{Redone}
 
@@ -34,3 +36,20 @@ MaySettleSynced disk groups redone =
     IsSettled disk.now → HasRecovered disk.sizes disk.now.contents groups redone
     → IsReadyFor disk (Some redone.anchor) (settled_anchor redone)
     → MaySettle disk groups redone
+
+-- a log may be settled as it was recovered, its anchor is good, and nothing is pending
+pub record IsReadyToSettle (disk : Disk) (groups : List Group) (redone : Redone) : Type 0 where
+  pub may_settle : MaySettle disk groups redone
+  pub good : IsGoodNow disk redone.anchor
+  pub settled : IsSettled disk.now
+
+-- so it is once it was recovered of contents, where nothing was pending, and the slot of the next
+-- anchor was made ready
+abbrev pub ReadiesToSettle : Disk → Disk → Disk → List Group → Redone → Type 0
+ReadiesToSettle start found ready groups redone =
+    let vol = redone.anchor.log_vol in
+    let slot = (settled_anchor redone).slot in
+    Tells start → IsSettled start.now
+    → HasRecovered start.sizes start.now.contents groups redone → OnlyReads start found
+    → ReadiesSlot found ready vol slot → HasReadied found ready vol slot
+    → StaysSynced found ready → IsReadyToSettle ready groups redone

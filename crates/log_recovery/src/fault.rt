@@ -23,7 +23,10 @@ impl fmt::Display for RecoverFault {
         match self {
             RecoverFault::Fault { vol } => write!(f, "a read of volume {} failed", vol.number()),
             RecoverFault::NotADomain { vol, at } => {
-                write!(f, "page {at} of volume {vol} is none of a domain")
+                write!(
+                    f,
+                    "not a domain: page {at} of volume {vol} has no valid label, anchor or header"
+                )
             }
             RecoverFault::OutOfMemory => f.write_str("out of memory"),
         }

@@ -5,14 +5,21 @@ ghost use Rattle.volume_disk.specs.Image.{Image};
 ghost use Rattle.disk_label.specs.declared.anchor.Anchor.{Anchor};
 ghost use Rattle.page_change.specs.declared.image.PageImage.{PageImage};
 ghost use Rattle.log_ring.specs.Groups.{Group};
-ghost use Rattle.log_recovery.specs.Laws.{HasNoFault, HasOneFault, HasOneLog, MaySettleSynced};
+ghost use Rattle.log_recovery.specs.Laws.{
+  HasNoFault,
+  HasOneFault,
+  HasOneLog,
+  MaySettleSynced,
+  ReadiesToSettle,
+};
 ghost use Rattle.log_recovery.specs.Readable.{KeepsGoodAnchor, LeavesReadable};
 ghost use Rattle.log_recovery.specs.Settled.{SettlesAsMoves};
 ghost use Rattle.log_recovery.specs.declared.redone.Redone.{Redone};
 
 /// Laws of recovery. What is recovered of contents may be settled, where nothing is pending and the
-/// next anchor's slot is ready (`synced`); and so a log that stands as it was recovered is brought
-/// home (`settles`).
+/// next anchor's slot is ready (`synced`), as it is once `ready_slot` was called after `recover`
+/// (`readied`, which says too that the anchor is good on each image); and so a log that stands as
+/// it was recovered is brought home (`settles`).
 ///
 /// An image that has a good anchor and a log has no place at which there is no domain (`sound`),
 /// any image has one first such place at most (`one`), and the log that an image has is the one
@@ -24,6 +31,8 @@ ghost use Rattle.log_recovery.specs.declared.redone.Redone.{Redone};
 pub fn recovery_laws()
     ensures synced { (disk : Disk) (groups : List Group) (redone : Redone)
         → MaySettleSynced disk groups redone }
+    ensures readied { (start found ready : Disk) (groups : List Group) (redone : Redone)
+        → ReadiesToSettle start found ready groups redone }
     ensures settles { (disk : Disk) (groups : List Group) (redone : Redone)
         → SettlesAsMoves disk groups redone }
     ensures sound { (sizes : List ℕ) (image : Image) (anchor : Anchor) (groups : List Group)

@@ -1,5 +1,5 @@
 //! What is recovered of a log.
-ghost use Rattle.std.specs.Prelude.{◌≡◌, ◌↔◌, IsTrue};
+ghost use Rattle.std.specs.Prelude.{◌≡◌, ◌^◌, ◌<◌, ◌≤◌, ◌↔◌, IsTrue};
 
 use crate::range::NUMBERS;
 use disk_label::Anchor;
@@ -58,7 +58,7 @@ pub struct Redone {
 }
 
 impl Redone {
-    ghost use Rattle.log_recovery.specs.Settled.{HasNumbersLeft};
+    ghost use Rattle.log_recovery.specs.Settled.{HasNumbersLeft, settled_anchor};
 
     /// Whether the log may be settled: the next anchor's number is below 2^63, and so is that of
     /// the group at its start. An anchor or a group of an image may have the last such number.
@@ -66,5 +66,21 @@ impl Redone {
         ensures { IsTrue result ↔ HasNumbersLeft self.now }
     {
         self.anchor.number < NUMBERS - 1 && self.next_group < NUMBERS
+    }
+
+    /// The next anchor, with which the log starts behind the groups that were redone: the one that
+    /// stands once the log is settled.
+    pub fn settled_anchor(&self) -> Anchor
+        requires number { self.now.anchor.number < 2 ^ 63 }
+        requires slot { self.now.anchor.slot ≤ 1 }
+        ensures { result ≡ settled_anchor self.now }
+    {
+        Anchor {
+            number: self.anchor.number + 1,
+            start: self.next_place,
+            group: self.next_group,
+            slot: 1 - self.anchor.slot,
+            ..self.anchor
+        }
     }
 }

@@ -43,6 +43,7 @@ use crate::members::{is_member, member_of};
 use disk_label::{ANCHORS_PAGE, Anchor};
 use domain_base::limits::{BLOCKS_PER_PAGE, LOG_PAGES, PAGE_BYTES};
 use domain_base::{Home, OutOfMemory, Page, VolIx};
+use log_ring::ring_page;
 use page_change::{Header, HeaderRead, PageImage, read_header};
 use std::alloc::Global;
 use volume_disk::{Rack, read_blocks};
@@ -87,7 +88,7 @@ fn read_place<R: Rack>(
     let Some(vol) = VolIx::new(anchor.log_vol) else {
         unreachable!()
     };
-    let block = BLOCKS_PER_PAGE * (anchor.log_page + place % LOG_PAGES);
+    let block = BLOCKS_PER_PAGE * ring_page(anchor, place);
     let mut bytes = vec![in alloc; 0; PAGE_BYTES]?;
     match read_blocks(rack, vol, block, &mut bytes) {
         Ok(()) => {}
@@ -225,7 +226,7 @@ fn no_group(anchor: &Anchor, place: u32) -> RecoverFault
 {
     RecoverFault::NotADomain {
         vol: anchor.log_vol,
-        at: anchor.log_page + place % LOG_PAGES,
+        at: ring_page(anchor, place),
     }
 }
 

@@ -1,8 +1,8 @@
 //! How a log that was recovered is settled: its images brought home, and its start moved behind
 //! them.
-ghost use Rattle.std.specs.Prelude.{◌≡◌, ◌+◌, ◌^◌, ◌<◌, ◌≤◌, OnOk, Some};
+ghost use Rattle.std.specs.Prelude.{OnOk, Some};
 ghost use Rattle.volume_disk.specs.Disk.{Tells};
-ghost use Rattle.volume_disk.specs.Run.{NamesWriteFault};
+ghost use Rattle.volume_disk.specs.Run.{IsLater, NamesWriteFault};
 ghost use Rattle.disk_label.specs.Anchor.{IsAnchor};
 ghost use Rattle.log_ring.specs.Settling.{BringsHome, HasBroughtHome};
 ghost use Rattle.log_recovery.specs.Outcome.{IsSound};
@@ -10,31 +10,16 @@ ghost use Rattle.log_recovery.specs.Readable.{SettlesReadably};
 ghost use Rattle.log_recovery.specs.Settled.{HasNumbersLeft, settled_anchor};
 
 use crate::Redone;
-use disk_label::Anchor;
 use domain_base::VolIx;
 use log_ring::bring_home;
 use volume_disk::Rack;
 
-/// The next anchor, with which the log starts behind the groups that were redone.
-fn next_anchor(redone: &Redone) -> Anchor
-    requires number { redone.now.anchor.number < 2 ^ 63 }
-    requires slot { redone.now.anchor.slot ≤ 1 }
-    ensures { result ≡ settled_anchor redone.now }
-{
-    Anchor {
-        number: redone.anchor.number + 1,
-        start: redone.next_place,
-        group: redone.next_group,
-        slot: 1 - redone.anchor.slot,
-        ..redone.anchor
-    }
-}
-
 /// Settles a log as it was recovered: brings its images home, and writes the next anchor, with
-/// which the log starts behind them. It reads nothing. Each home is written once, with the last
-/// image of it, and each volume that was written is synced once, before the anchor. The anchor that
-/// was recovered has still to be the one that counts, and its number and the next group's not the
-/// last (`Redone::has_numbers_left`). The error is the volume, of which a write or a sync failed.
+/// which the log starts behind them (`Redone::settled_anchor`). It reads nothing. Each home is
+/// written once, with the last image of it, and each volume that was written is synced once, before
+/// the anchor. The anchor that was recovered has still to be the one that counts, and its number and
+/// the next group's not the last (`Redone::has_numbers_left`). The error is the volume, of which a
+/// write or a sync failed.
 ///
 /// What a stop may leave is said where the log stands as it was recovered on each image that a stop
 /// might leave at the start, and the slot of the next anchor is ready (`MaySettle`, of which
@@ -50,8 +35,9 @@ pub fn settle<R: Rack>(rack: &mut R, redone: &Redone) -> Result<(), VolIx>
     ensures done { OnOk result (HasBroughtHome (R.disk rack.old) (R.disk rack.new)
         redone.now.images (settled_anchor redone.now)) }
     ensures readable { SettlesReadably (R.disk rack.old) (R.disk rack.new) redone.now }
+    ensures later { OnOk result (IsLater (R.disk rack.old) (R.disk rack.new)) }
     ensures fault { NamesWriteFault (R.disk rack.old) (R.disk rack.new) result }
 {
-    let next = next_anchor(redone);
+    let next = redone.settled_anchor();
     bring_home(rack, redone.images.as_slice(), &next)
 }

@@ -2,8 +2,8 @@
 
 use crate::counting::{CountRack, Counts, NO_CALLS};
 use crate::logs::{
-    Appended, Seen, append, append_run, bring_home, faults_of, force, leaves, move_home, started,
-    started_on,
+    Appended, Seen, append, append_on, append_run, bring_home, faults_of, force, leaves, move_home,
+    move_ring, started, started_on,
 };
 use domain_base::OutOfMemory;
 use meta_log::{LogFull, MetaLog};
@@ -176,6 +176,73 @@ fn a_log_goes_to_another_volume(rt: HostRuntime) -> Result<(), Fail> {
     };
     let next = log_well(&mut rack, &mut log, rt.alloc(), GROUPS[0], 12, (HOME, one))?;
     assert_eq!(rt; next, [true; 3]);
+    Ok(())
+}
+
+/// A log at home goes to a ring at page 150 of its volume, and on with one group more: whether each
+/// of that passes, and stops during the move leave what is home, and during and after the force
+/// that or the group.
+fn goes_to_another_ring(
+    rack: &mut CountRack,
+    log: &MetaLog,
+    alloc: Global,
+) -> Result<[bool; 4], OutOfMemory> {
+    let begin = rack.calls();
+    let Some(mut moved) = move_ring(log, rack, alloc, 150)? else {
+        return Ok([false; 4]);
+    };
+    let end = rack.calls().saturating_add(1);
+    let during = leaves(rack, alloc, (begin, end), (HOME, HOME))?;
+    let one = Seen {
+        groups: 1,
+        bytes: [1, 2, 4],
+    };
+    let next = log_well(rack, &mut moved, alloc, GROUPS[0], 12, (HOME, one))?;
+    Ok([during, next[0], next[1], next[2]])
+}
+
+#[test]
+fn a_log_goes_to_another_ring_of_its_volume(rt: HostRuntime) -> Result<(), Fail> {
+    let (mut rack, mut log) = started_on(rt.alloc(), &[300, 80], 126, &[])?;
+    let logged = log_all(&mut rack, &mut log, rt.alloc())?;
+    let brought = bring_home(&mut log, &mut rack);
+    rack.counts = NO_CALLS;
+    let goes_on = goes_to_another_ring(&mut rack, &log, rt.alloc())?;
+    assert_eq!(rt; (logged, brought, goes_on), (true, Ok(2), [true; 4]));
+    // no home and no sync but the anchor's body, its gate twice and three syncs; and then a group
+    let wanted = Counts {
+        pages: 1 + 3,
+        gates: 2 + 2,
+        syncs: [3 + 2, 0],
+    };
+    assert_eq!(rt; rack.counts, wanted);
+    Ok(())
+}
+
+#[test]
+fn homes_of_two_volumes_are_synced_before_the_anchor(rt: HostRuntime) -> Result<(), Fail> {
+    let (mut rack, mut log) = started(rt.alloc(), 126, &[])?;
+    let logged = log_all(&mut rack, &mut log, rt.alloc())?;
+    let more = append_on(&mut log, rt.alloc(), 1, &[(140, 6), (3, 7)])?;
+    let forced = force(&mut log, &mut rack);
+    assert_eq!(rt; (logged, more, forced), (true, Appended::Group(12), Ok(12)));
+    rack.counts = NO_CALLS;
+    let begin = rack.calls();
+    let brought = bring_home(&mut log, &mut rack);
+    let end = rack.calls();
+    let four = Seen {
+        groups: 4,
+        ..STAGES[3]
+    };
+    let during = leaves(&rack, rt.alloc(), (begin, end), (four, HOME))?;
+    // five homes and an anchor's body, its gate twice, and a sync of each volume before the three
+    // of the anchor's
+    let wanted = Counts {
+        pages: 5 + 1,
+        gates: 2,
+        syncs: [1 + 3, 1],
+    };
+    assert_eq!(rt; (brought, during, rack.counts), (Ok(2), true, wanted));
     Ok(())
 }
 

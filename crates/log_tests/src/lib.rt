@@ -5,10 +5,16 @@
 #[cfg(test)]
 mod changes;
 mod counting;
+mod openings;
+
+pub use openings::{close_log, log_change, open_log};
+
 #[cfg(test)]
 mod forces;
 #[cfg(test)]
 mod logs;
+#[cfg(test)]
+mod orders;
 #[cfg(test)]
 mod recoveries;
 #[cfg(test)]

@@ -1,9 +1,10 @@
 //! Logs by plain numbers, on racks in memory, whose calls are made where their conditions hold.
-ghost use Rattle.std.specs.Prelude.{◌≡◌, IsTrue};
+ghost use Rattle.std.specs.Prelude.{◌≡◌, ◌+◌, ◌^◌, ◌<◌, IsTrue};
 ghost use Rattle.volume_disk.specs.Disk.{Tells};
 ghost use Rattle.disk_label.specs.Anchor.{IsWhole};
 ghost use Rattle.log_ring.specs.Homes.{AreLoggable, HasMembers, IsLoggable};
 ghost use Rattle.log_ring.specs.Ring.{IsRing};
+ghost use Rattle.meta_log.specs.Log.{next_number};
 ghost use Rattle.log_tests.specs.Calls.{HasMember, MayAppend, MayBringHome};
 
 use crate::counting::{CountRack, NO_CALLS};
@@ -24,8 +25,9 @@ pub const SIZES: [u32; 2] = [160, 80];
 
 const NONE: Member = Member { pages: 0, state: 0 };
 
-/// The first anchor: its log begins at page 6 of volume 1, with a group of number 9 at this place.
-fn first_anchor(start: u32) -> Anchor
+/// The first anchor: its log begins at page 6 of volume 1, which has so many pages, with a group of
+/// number 9 at this place.
+fn first_anchor(start: u32, pages: u32) -> Anchor
     ensures start { result.start ≡ start }
     ensures slot { result.slot ≡ 0 }
     ensures page { result.log_page ≡ 6 }
@@ -41,7 +43,7 @@ fn first_anchor(start: u32) -> Anchor
         start,
         group: 9,
         table: VolIx::new(1).map(|vol| Home { vol, page: 150 }),
-        members: [open(160), open(80), NONE, NONE, NONE, NONE, NONE, NONE],
+        members: [open(pages), open(80), NONE, NONE, NONE, NONE, NONE, NONE],
         slot: 0,
     }
 }
@@ -72,12 +74,19 @@ fn are_loggable(anchor: &Anchor, images: &[PageImage]) -> bool
     true
 }
 
-fn may_append(log: &MetaLog, change: &Change) -> bool
+fn has_number_left(log: &MetaLog) -> bool
+    ensures { IsTrue result → next_number log.now + 1 < 2 ^ 63 }
+{
+    match log.last_durable() {
+        Some(number) => number < 1 << 60,
+        None => true,
+    }
+}
+
+pub fn may_append(log: &MetaLog, change: &Change) -> bool
     ensures { IsTrue result → MayAppend log.now change.now }
 {
-    log.last_durable() < 1 << 60
-        && !change.is_empty()
-        && are_loggable(log.anchor(), change.images())
+    has_number_left(log) && !change.is_empty() && are_loggable(log.anchor(), change.images())
 }
 
 fn has_ring<R: Rack>(rack: &R, anchor: &Anchor) -> bool
@@ -149,10 +158,10 @@ pub enum Appended {
     Unfit,
 }
 
-/// A change that puts pages full of a byte at pages of volume 2.
-fn change_of(alloc: Global, pages: &[(u32, u8)]) -> Result<Change, OutOfMemory> {
+/// A change that puts pages full of a byte at pages of a volume.
+pub fn change_of(alloc: Global, vol: u32, pages: &[(u32, u8)]) -> Result<Change, OutOfMemory> {
     let mut change = Change::new(alloc)?;
-    let Some(vol) = VolIx::new(2) else {
+    let Some(vol) = VolIx::new(vol) else {
         return Ok(change);
     };
     for (page, byte) in pages {
@@ -171,7 +180,17 @@ pub fn append(
     alloc: Global,
     pages: &[(u32, u8)],
 ) -> Result<Appended, OutOfMemory> {
-    let change = change_of(alloc, pages)?;
+    append_on(log, alloc, 2, pages)
+}
+
+/// The same on some volume.
+pub fn append_on(
+    log: &mut MetaLog,
+    alloc: Global,
+    vol: u32,
+    pages: &[(u32, u8)],
+) -> Result<Appended, OutOfMemory> {
+    let change = change_of(alloc, vol, pages)?;
     if !may_append(log, &change) {
         return Ok(Appended::Unfit);
     }
@@ -253,6 +272,33 @@ pub fn move_home(log: &mut MetaLog, rack: &mut CountRack, pages: u32) -> Result<
     log.checkpoint(rack, &anchor).map_err(|vol| vol.number())
 }
 
+/// Begins a log anew behind this one, which is home, and moves it to a ring at another page of its
+/// volume: the log then, or None where that may not be called or fails.
+pub fn move_ring(
+    log: &MetaLog,
+    rack: &mut CountRack,
+    alloc: Global,
+    page: u32,
+) -> Result<Option<MetaLog>, OutOfMemory> {
+    let _room = log.room();
+    let mut moving = MetaLog::new(alloc, log.anchor())?;
+    let anchor = Anchor {
+        log_page: page,
+        ..*log.anchor()
+    };
+    if anchor.number >= 1 << 60
+        || !is_whole(&anchor)
+        || !has_ring(rack, &anchor)
+        || !has_members(rack, log.anchor())
+    {
+        return Ok(None);
+    }
+    Ok(match moving.checkpoint(rack, &anchor) {
+        Ok(_) => Some(moving),
+        Err(_) => None,
+    })
+}
+
 // Racks.
 
 fn write_first<R: Rack>(rack: &mut R, anchor: &Anchor) -> bool
@@ -288,7 +334,8 @@ pub fn started(
     started_on(alloc, &SIZES, start, fails)
 }
 
-/// The same on volumes of these sizes, of which the first two are members.
+/// The same on volumes of these sizes, of which the first two are members, with 80 pages of the
+/// second.
 pub fn started_on(
     alloc: Global,
     sizes: &[u32],
@@ -300,7 +347,8 @@ pub fn started_on(
         rack,
         counts: NO_CALLS,
     };
-    let anchor = first_anchor(start % LOG_PAGES);
+    let first = sizes.first().copied().unwrap_or(0);
+    let anchor = first_anchor(start % LOG_PAGES, first);
     write_labels(&mut rack);
     let _ = write_first(&mut rack, &anchor);
     rack.counts = NO_CALLS;
@@ -319,7 +367,7 @@ pub struct Seen {
 }
 
 /// What is seen where nothing can be recovered.
-const NOTHING: Seen = Seen {
+pub const NOTHING: Seen = Seen {
     groups: u64::MAX,
     bytes: [255; 3],
 };

@@ -1,7 +1,7 @@
 //! What recovery finds of groups that were written by hand.
 
 use crate::counting::CountRack;
-use crate::logs::{Seen, look_at, started};
+use crate::logs::{Seen, look_at, started, started_on};
 use domain_base::gate::open_block;
 use domain_base::limits::{BLOCKS_PER_PAGE, LOG_PAGES, PAGE_BYTES};
 use domain_base::{OutOfMemory, Page, VolIx};
@@ -254,9 +254,9 @@ fn put_byte(
     Ok(())
 }
 
-/// Bytes of labels and anchors that make a domain none: the volume, the page, the byte's place, the
-/// byte, and where there is said to be none.
-static BYTES: [(u32, u32, usize, u8, Answer); 16] = [
+/// Bytes of labels and anchors that make a domain none, or just not: the volume, the page, the
+/// byte's place, the byte, and where there is said to be none.
+static BYTES: [(u32, u32, usize, u8, Answer); 20] = [
     // the labels: their first byte, another version, volume, number of pages and of bitmap pages
     (1, 0, 0, 0, Answer::NoDomain(1, 0)),
     (2, 0, 8, 4, Answer::NoDomain(2, 0)),
@@ -275,6 +275,14 @@ static BYTES: [(u32, u32, usize, u8, Answer); 16] = [
     (1, 1, 551, 128, Answer::NoDomain(1, 1)),
     (1, 1, 552, 3, Answer::NoDomain(1, 1)),
     (1, 1, 580, 3, Answer::NoDomain(1, 1)),
+    // the table on the page behind the last one of its volume
+    (1, 1, 556, 160, Answer::NoDomain(1, 1)),
+    // a third member, which the rack does not have
+    (1, 1, 580, 1, Answer::NoDomain(3, 0)),
+    // the first and the last page at which the log may begin: behind the bitmap's, and 128 before
+    // the end
+    (1, 1, 528, 3, Answer::Log(9, 0, 0)),
+    (1, 1, 528, 32, Answer::Log(9, 0, 0)),
 ];
 
 #[test]
@@ -289,7 +297,7 @@ fn labels_and_anchors_out_of_order_are_no_domain(rt: HostRuntime) -> Result<(), 
 
 /// Bytes that are changed together, by volume, page and place, and what is found of the three
 /// groups then.
-static TOGETHER: [(&[(u32, u32, usize, u8)], Answer); 9] = [
+static TOGETHER: [(&[(u32, u32, usize, u8)], Answer); 11] = [
     // a closed member is one: it has homes and a label. One of no state is none.
     (&[(1, 1, 572, 2)], Answer::Log(12, 6, 5)),
     (&[(1, 1, 572, 2), (2, 0, 0, 0)], Answer::NoDomain(2, 0)),
@@ -303,6 +311,9 @@ static TOGETHER: [(&[(u32, u32, usize, u8)], Answer); 9] = [
     ),
     // so they do under another version, which is out of range itself
     (&[(1, 1, 520, 5), (2, 0, 8, 4)], Answer::NoDomain(1, 1)),
+    // a member has 64 pages at least, as its label says
+    (&[(1, 1, 568, 64), (2, 0, 16, 64)], Answer::Log(12, 6, 5)),
+    (&[(1, 1, 568, 63), (2, 0, 16, 63)], Answer::NoDomain(1, 1)),
     // labels come before the range, and that before groups
     (&[(1, 1, 536, 128), (2, 0, 0, 0)], Answer::NoDomain(2, 0)),
     (
@@ -320,6 +331,44 @@ fn members_versions_and_the_order_of_rules(rt: HostRuntime) -> Result<(), Fail> 
         }
         assert_eq!(rt; found(&mut rack, rt.alloc()), case.1);
     }
+    Ok(())
+}
+
+/// What is found where volume 2 has so many pages, by its label of version 3 and the anchor.
+fn found_sized(alloc: Global, pages: u32) -> Result<Answer, OutOfMemory> {
+    let (mut rack, _log) = started_on(alloc, &[160, 65_537], 0, &[])?;
+    let mut label = Page::zeros(alloc)?;
+    label.set(0, b"ADVFSLAB");
+    for (i, word) in [3, 2, pages, 1].into_iter().enumerate() {
+        label.set(8 + 4 * i, &u32::to_le_bytes(word));
+    }
+    put_page(&mut rack, 2, 0, label.bytes());
+    for (i, byte) in pages.to_le_bytes().into_iter().enumerate() {
+        put_byte(&mut rack, alloc, 1, 1, 568 + i, byte)?;
+    }
+    Ok(found(&mut rack, alloc))
+}
+
+#[test]
+fn a_member_of_version_3_has_65_536_pages_at_most(rt: HostRuntime) -> Result<(), Fail> {
+    let found = [65_536, 65_537].map(|pages| found_sized(rt.alloc(), pages).ok());
+    let wanted = [Answer::Log(9, 0, 0), Answer::NoDomain(1, 1)].map(Some);
+    assert_eq!(rt; found, wanted);
+    Ok(())
+}
+
+#[test]
+fn faults_of_recovery_say_what_is_wrong(rt: HostRuntime) -> Result<(), Fail> {
+    let vol = VolIx::new(2).ok_or("a volume")?;
+    let unread = RecoverFault::Fault { vol };
+    let none = RecoverFault::NotADomain { vol: 3, at: 7 };
+    let no_memory = RecoverFault::OutOfMemory;
+    let text = format!(in rt.alloc(); "{unread}; {none}; {no_memory}")?;
+    assert_eq!(rt;
+        text.as_str(),
+        "a read of volume 2 failed; not a domain: page 7 of volume 3 has no valid label, anchor or \
+         header; out of memory"
+    );
     Ok(())
 }
 

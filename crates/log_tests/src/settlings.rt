@@ -1,7 +1,7 @@
 //! What settling leaves, and how a log goes on after that.
 
 use crate::counting::{CountRack, Counts, NO_CALLS};
-use crate::logs::{Appended, Seen, append, faults_of, force, leaves, leaves_by, started};
+use crate::logs::{Appended, Seen, append, faults_of, force, leaves, leaves_by, look_at, started};
 use crate::recoveries::{Answer, HOME, REDONE, by_hand, found};
 use disk_label::ready_slot;
 use domain_base::{OutOfMemory, VolIx};
@@ -78,12 +78,12 @@ fn a_stop_within_settling_changes_no_redone_page(rt: HostRuntime) -> Result<(), 
     Ok(())
 }
 
-/// Whether a log that is settled again after a stop is home then, and what stops leave during that
-/// and after it means the same.
+/// Whether a log that is settled again after a stop is home then, and what stops leave while a slot
+/// is made ready and the log is settled, and after that, means the same.
 fn settles_again(rack: &CountRack, alloc: Global, call: u64) -> Result<bool, OutOfMemory> {
     let mut second = again(rack, alloc, call, 1 + call % 3)?;
-    let ready = make_ready(&mut second);
     let start = second.calls();
+    let ready = make_ready(&mut second);
     let done = ready && settle_log(&mut second, alloc) == Settled::Home;
     let end = second.calls();
     let last = (end, end.saturating_add(1));
@@ -101,6 +101,76 @@ fn a_second_stop_changes_no_redone_page(rt: HostRuntime) -> Result<(), Fail> {
     let _ = settle_log(&mut rack, alloc);
     for call in start..rack.calls() {
         assert!(rt; settles_again(&rack, alloc, call)?, "call {call}");
+    }
+    Ok(())
+}
+
+/// What is seen of a log of two groups where the second may be cut short, and once it is home.
+const FIRST: Seen = Seen {
+    groups: 1,
+    bytes: [1, 2, 0],
+};
+
+const SECOND: Seen = Seen {
+    groups: 2,
+    bytes: [1, 3, 4],
+};
+
+/// Whether a log whose force was stopped right after a call is settled then, and stops meanwhile,
+/// by picks 0 to 7, leave the pages of one group or of both, as the first stop did.
+fn settles_after(rack: &CountRack, alloc: Global, call: u64) -> Result<bool, OutOfMemory> {
+    let mut second = again(rack, alloc, call, 1 + call % 7)?;
+    let was = look_at(&mut second.rack, alloc);
+    let start = second.calls();
+    let ready = make_ready(&mut second);
+    let done = ready && settle_log(&mut second, alloc) == Settled::Home;
+    let end = second.calls();
+    let home = Seen { groups: 0, ..was };
+    let during = leaves(&second, alloc, (start, end), (was, home))?;
+    let after = leaves(&second, alloc, (end, end.saturating_add(1)), (home, home))?;
+    Ok((was == FIRST || was == SECOND) && [done, during, after] == [true; 3])
+}
+
+#[test]
+fn a_stop_in_a_force_and_one_in_settling_leave_whole_groups(rt: HostRuntime) -> Result<(), Fail> {
+    let alloc = rt.alloc();
+    let (mut rack, mut log) = started(alloc, 126, &[])?;
+    let first = append(&mut log, alloc, &[(10, 1), (11, 2)])?;
+    let forced = force(&mut log, &mut rack);
+    let start = rack.calls();
+    let second = append(&mut log, alloc, &[(11, 3), (12, 4)])?;
+    let both = force(&mut log, &mut rack);
+    let groups = (Appended::Group(9), Appended::Group(10));
+    assert_eq!(rt; ((first, second), forced, both), (groups, Ok(9), Ok(10)));
+    for call in start..rack.calls().saturating_add(1) {
+        assert!(rt; settles_after(&rack, alloc, call)?, "call {call}");
+    }
+    Ok(())
+}
+
+/// Whether a call of making slots ready that fails is answered as one, and stops then leave what
+/// was there.
+fn fails_unready(alloc: Global, call: u64) -> Result<bool, OutOfMemory> {
+    let mut rack = by_hand(alloc, &[call])?;
+    let start = rack.calls();
+    let ready = make_ready(&mut rack);
+    let end = rack.calls().saturating_add(1);
+    let is_left = leaves(&rack, alloc, (start, end), (REDONE, REDONE))?;
+    Ok(!ready && is_left)
+}
+
+#[test]
+fn each_call_that_makes_a_slot_ready_fails_in_turn(rt: HostRuntime) -> Result<(), Fail> {
+    let alloc = rt.alloc();
+    let mut rack = by_hand(alloc, &[])?;
+    let start = rack.calls();
+    let ready = make_ready(&mut rack);
+    let end = rack.calls();
+    // a read of each gate, and behind the closed one a write and a sync
+    assert_eq!(rt; (ready, end.saturating_sub(start)), (true, 4));
+    for call in start..end {
+        let failed = call.saturating_add(1);
+        assert!(rt; fails_unready(alloc, failed)?, "call {failed}");
     }
     Ok(())
 }

@@ -4,7 +4,7 @@ ghost use Rattle.domain_base.specs.Limits.{log_pages, page_bytes};
 ghost use Rattle.domain_base.specs.Gate.{opened};
 ghost use Rattle.volume_disk.specs.Disk.{Tells};
 ghost use Rattle.volume_disk.specs.Image.{IsIn};
-ghost use Rattle.volume_disk.specs.Run.{NamesWriteFault, OnlyWrites, Settles};
+ghost use Rattle.volume_disk.specs.Run.{IsLater, NamesWriteFault, OnlyWrites, Settles};
 ghost use Rattle.log_ring.specs.Groups.{AreImagesAt};
 ghost use Rattle.log_ring.specs.Ring.{IsGateOpen, IsOnPlaces, IsRing, place_at, ring_byte};
 ghost use Rattle.page_change.specs.Header.{IsSayable, header_for};
@@ -21,8 +21,9 @@ ghost use Rattle.meta_log.specs.Log.{group_of};
 
 use disk_label::Anchor;
 use domain_base::gate::closed_block;
-use domain_base::limits::{BLOCK_BYTES, BLOCKS_PER_PAGE, LOG_PAGES};
+use domain_base::limits::{BLOCK_BYTES, BLOCKS_PER_PAGE};
 use domain_base::{Page, VolIx};
+use log_ring::ring_page;
 use page_change::{PageImage, write_header_of};
 use volume_disk::{Rack, open_gate, sync_volume, write_blocks};
 
@@ -32,7 +33,7 @@ fn ring_block(anchor: &Anchor, place: u32) -> u32
     ensures block { 512 * result ≡ ring_byte anchor.now place }
     ensures range { result + 16 ≤ 16 * (anchor.now.log_page + 128) }
 {
-    BLOCKS_PER_PAGE * (anchor.log_page + place % LOG_PAGES)
+    BLOCKS_PER_PAGE * ring_page(anchor, place)
 }
 
 /// Writes what stands behind the gate of a header.
@@ -146,6 +147,7 @@ fn open_group<R: Rack>(rack: &mut R, vol: VolIx, anchor: &Anchor, place: u32) ->
     ensures settled { let old = R.disk rack.old in let new = R.disk rack.new in
         OnOk result (Tells old
         → Settles anchor.now.log_vol (ring_byte anchor.now place) opened old.now new.now) }
+    ensures later { OnOk result (IsLater (R.disk rack.old) (R.disk rack.new)) }
     ensures fault { NamesWriteFault (R.disk rack.old) (R.disk rack.new) result }
 {
     open_gate(rack, vol, ring_block(anchor, place))
@@ -170,6 +172,7 @@ pub fn write_group<R: Rack>(
         WritesGroup (R.disk rack.old) (R.disk rack.new) anchor.now place group }
     ensures done { let group = group_of number images.now in OnOk result
         (HasWrittenGroup (R.disk rack.old) (R.disk rack.new) anchor.now place group) }
+    ensures later { OnOk result (IsLater (R.disk rack.old) (R.disk rack.new)) }
     ensures fault { NamesWriteFault (R.disk rack.old) (R.disk rack.new) result }
 {
     let Some(vol) = VolIx::new(anchor.log_vol) else {

@@ -12,6 +12,7 @@ ghost use Rattle.std.specs.Prelude.{
   IfOk,
   IsTrue,
   List,
+  MatchOption,
   OnErr,
   OnOk,
   [],
@@ -20,7 +21,7 @@ ghost use Rattle.std.specs.Prelude.{
 };
 ghost use Rattle.domain_base.specs.Limits.{log_pages};
 ghost use Rattle.volume_disk.specs.Disk.{Tells};
-ghost use Rattle.volume_disk.specs.Run.{NamesWriteFault};
+ghost use Rattle.volume_disk.specs.Run.{IsLater, NamesWriteFault};
 ghost use Rattle.disk_label.specs.Anchor.{IsAnchor, IsWhole};
 ghost use Rattle.disk_label.specs.FirstPages.{anchors_page};
 ghost use Rattle.page_change.specs.Images.{IsChange, joined};
@@ -114,11 +115,14 @@ impl MetaLog {
         self.logged < self.end
     }
 
-    /// The number of the last durable group: one less than that of the next one.
-    pub fn last_durable(&self) -> u64
-        ensures { result ≡ next_number self.now - 1 }
+    /// The number of the last durable group, which is the one before that of the next: of a group
+    /// that stands in the log or is home already. There is none where the next one is group 0.
+    pub fn last_durable(&self) -> Option<u64>
+        ensures { let next = next_number self.now in
+            MatchOption result (next ≡ 0) (λ number. next ≡ number + 1) }
     {
-        self.next_number().saturating_sub(1)
+        let next = self.next_number();
+        if next == 0 { None } else { Some(next - 1) }
     }
 
     /// Of how many homes each change has a place now, whichever homes it has.
@@ -143,6 +147,13 @@ impl MetaLog {
         ensures range { result < 2 ^ 63 }
     {
         self.anchor.group + self.groups
+    }
+
+    /// The number before it, and 0 before 0.
+    fn last_number(&self) -> u64
+        ensures { result ≡ next_number self.now - 1 }
+    {
+        self.next_number().saturating_sub(1)
     }
 
     /// The places of the ring that the durable groups take.
@@ -207,6 +218,7 @@ impl MetaLog {
         ensures forces { Forces (R.disk rack.old) (R.disk rack.new) self.old }
         ensures ok { OnOk result (self.new ≡ forced self.old) }
         ensures done { OnOk result (HasForced (R.disk rack.old) (R.disk rack.new) self.old) }
+        ensures later { OnOk result (IsLater (R.disk rack.old) (R.disk rack.new)) }
         ensures fault { NamesWriteFault (R.disk rack.old) (R.disk rack.new) result }
     {
         let place = self.anchor.start + self.used();
@@ -220,22 +232,26 @@ impl MetaLog {
 
     /// Makes what is pending durable: as one group behind a gate, which is opened once the group is
     /// synced. With nothing pending it makes no call. The answer is the number of the last durable
-    /// group. The ring has to lie in the rack. The error is the volume, of which a write or a sync
-    /// failed; the log is not used again then.
+    /// group, and 0 where there is none: so it may be only where nothing was pending, and
+    /// `last_durable` tells it from group 0. The ring has to lie in the rack. The error is the
+    /// volume, of which a write or a sync failed; the log is not used again then.
     pub fn force<R: Rack>(&mut self, rack: &mut R) -> Result<u64, VolIx>
         requires { IsRing (R.disk rack.old).sizes self.old.anchor }
         ensures forces { Forces (R.disk rack.old) (R.disk rack.new) self.old }
         ensures idle { self.old.pending ≡ [] → R.disk rack.new ≡ R.disk rack.old }
         ensures ok { OnOk result (self.new ≡ forced self.old) }
+        // where the next group is group 0 there is none before it, and the answer is 0
         ensures number { IfOk result (λ number. number ≡ next_number self.new - 1) }
         ensures done { OnOk result (HasForced (R.disk rack.old) (R.disk rack.new) self.old) }
+        ensures later { OnOk result (0 < length self.old.pending
+            → IsLater (R.disk rack.old) (R.disk rack.new)) }
         ensures fault { NamesWriteFault (R.disk rack.old) (R.disk rack.new) result }
     {
         if !self.is_pending() {
-            return Ok(self.last_durable());
+            return Ok(self.last_number());
         }
         self.write_pending(rack)?;
-        Ok(self.last_durable())
+        Ok(self.last_number())
     }
 
     /// The next anchor: one that is given, with the next number and slot, and the log's start
@@ -303,6 +319,7 @@ impl MetaLog {
         ensures number { IfOk result (λ number. number ≡ self.old.anchor.number + 1) }
         ensures done { let next = next_anchor self.old anchor.now in OnOk result
             (HasCheckpointed (R.disk rack.old) (R.disk rack.new) self.old next) }
+        ensures later { OnOk result (IsLater (R.disk rack.old) (R.disk rack.new)) }
         ensures fault { NamesWriteFault (R.disk rack.old) (R.disk rack.new) result }
     {
         let next = self.next_anchor(anchor);

@@ -1,11 +1,13 @@
 use Rattle.log_recovery.proofs.GoodAnchors.{keeps_good_anchor, leaves_readable}
 use Rattle.log_recovery.proofs.OneOutcome.{has_no_fault, has_one_fault, has_one_log}
+use Rattle.log_recovery.proofs.Readied.{readies_to_settle}
 use Rattle.log_recovery.proofs.SettledAnchors.{may_settle_synced, settles_as_moves}
 use Rattle.log_recovery.proofs.laws.recovery_laws.Goals as goal
 
 pub returns : goal.returns
 returns c = record {
   synced = may_settle_synced;
+  readied = readies_to_settle;
   settles = settles_as_moves;
   sound = has_no_fault;
   one = has_one_fault;

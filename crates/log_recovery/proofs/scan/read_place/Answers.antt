@@ -5,4 +5,4 @@ use Rattle.log_recovery.proofs.scan.read_place.Goals as goal
 pub returns-in-Ok-page_of-clause-page : goal.returns-in-Ok-page_of-clause-page
 returns-in-Ok-page_of-clause-page g c told =
     place_read (g.R.Rack.disk c.args.rack.now).now.contents c.args.anchor.now c.args.place c.in-Some.vol c.in_ok-bytes.bytes.len (length c.deref_mut.result.now) c.read_blocks.new.out c.in_ok-bytes.bytes.items c.deref.result.now c.in-Ok-page_of.page
-    c.in-Ok-page_of.ensures c.deref.ensures.value (c.in-Ok.ensures.bytes told) (c.deref_mut.ensures.len ∙ c.in_ok-bytes.ensures.len) c.in_ok-bytes.ensures.len c.in-Some.ensures.value
+    c.ring_page-block.result c.ring_page-block.ensures.page c.in-Ok-page_of.ensures c.deref.ensures.value (c.in-Ok.ensures.bytes told) (c.deref_mut.ensures.len ∙ c.in_ok-bytes.ensures.len) c.in_ok-bytes.ensures.len c.in-Some.ensures.value

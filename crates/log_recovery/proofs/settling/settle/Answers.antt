@@ -10,7 +10,7 @@ use Rattle.log_recovery.proofs.settling.settle.Goals as goal
 pub bring_home-requires-clause-next : goal.bring_home-requires-clause-next
 bring_home-requires-clause-next g c told =
     let redone = c.args.redone.now in
-    (Some redone.anchor, c.requires.counts told, subst (IsNext (Some redone.anchor)) (sym c.next_anchor-next.ensures) (is_next redone))
+    (Some redone.anchor, c.requires.counts told, subst (IsNext (Some redone.anchor)) (sym c.settled_anchor-next.ensures) (is_next redone))
 
 pub returns-clause-readable : goal.returns-clause-readable
 returns-clause-readable g c =
@@ -18,4 +18,4 @@ returns-clause-readable g c =
     let old = g.R.Rack.disk c.args.rack.now in
     let new = g.R.Rack.disk c.bring_home.new.rack in
     settles_readably old new redone c.requires.left c.requires.sound
-    (subst (λ (next : Anchor). BringsHome old new redone.images next) c.next_anchor-next.ensures (subst (λ (images : List PageImage). BringsHome old new images c.next_anchor-next.result) c.as_slice.ensures c.bring_home.ensures.brings))
+    (subst (λ (next : Anchor). BringsHome old new redone.images next) c.settled_anchor-next.ensures (subst (λ (images : List PageImage). BringsHome old new images c.settled_anchor-next.result) c.as_slice.ensures c.bring_home.ensures.brings))
