@@ -1,5 +1,5 @@
 -- The rules of pages of cells, of cells, and of their chains. Each is said by where it is broken.
-use Rattle.std.specs.Prelude.{◌≡◌, ◌⊎◌, ◌==◌, ◌||◌, ◌&&◌, ◌<◌, ◌≤◌, ◌++◌, ℕ, Bool, true, false, not, is_some, List, [], ◌∷◌, Option, Some, None, Contains, nat_lt, slice_get}
+use Rattle.std.specs.Prelude.{◌≡◌, ◌⊎◌, ◌==◌, ◌||◌, ◌&&◌, ◌<◌, ◌≤◌, ◌++◌, ℕ, Bool, true, false, not, is_some, List, [], ◌∷◌, Option, Some, None, Contains, nat_le, nat_lt, slice_get, if◌then◌else◌}
 use Rattle.std.specs.List.{AllByRecursion, list_all}
 use Rattle.std.specs.Option.{option_and_then, option_map_or}
 use Rattle.domain_base.specs.Version.{bitmap_pages}
@@ -11,17 +11,17 @@ use Rattle.record_table.specs.Fields.{number_at}
 use Rattle.record_table.specs.Records.{kind_of, last_kind}
 use Rattle.record_table.specs.declared.record.Record.{Record}
 use Rattle.record_table.specs.declared.record.Record.TheVariants as written
-use Rattle.record_table.specs.declared.record.Leftover.TheVariants.{Remove}
 use Rattle.log_ring.specs.Homes.{member_of}
-use Rattle.bmt_mcells.specs.Cell.{Cell, IsCell, IsFreeCell, id_of, record_of}
-use Rattle.bmt_mcells.specs.CellPage.{cell_of, free_cells, home_of, index_of}
-use Rattle.bmt_mcells.specs.Chain.{HasHeadAt, StandsAt, may_follow}
+use Rattle.bmt_mcells.specs.Cell.{Cell, IsCell, IsFreeCell, id_of, kind_number, record_of}
+use Rattle.bmt_mcells.specs.CellPage.{cell_at, cell_of, free_cells, home_of, index_of}
+use Rattle.bmt_mcells.specs.Chain.{StandsAt, may_follow}
 use Rattle.bmt_mcells.specs.declared.head.CellHead.{CellHead}
+use Rattle.bmt_mcells.specs.declared.head.CellKind.{CellKind}
 use Rattle.bmt_mcells.specs.declared.head.CellKind.TheVariants.{Chain, Primary, Quota, Volume}
 use Rattle.extent_maps.specs.declared.run.PagePlace.TheVariants.{Absent}
 use Rattle.extent_records.specs.Writing.{places_in}
-use Rattle.bitfile_core.specs.Files.{is_first_kind}
-use Rattle.fileset_table.specs.Table.{Table}
+use Rattle.bitfile_core.specs.Files.{is_first_kind, says_remove}
+use Rattle.fileset_table.specs.Table.{Table, is_original}
 use Rattle.fileset_table.specs.declared.slot.SlotItem.{SlotItem}
 use Rattle.fileset_table.specs.declared.slot.SlotItem.TheVariants as slot
 use Rattle.domain_layout.specs.Layout.{IsMember}
@@ -73,12 +73,32 @@ pub record IsPlace (pages : Pages) (frame : Frame) (at : CellAt) : Type 0 where
   pub is : IsCellsPage pages frame place (home_of at) page
   pub within : at.cell < 28
 
--- a cell in use stands at such a place, with this head, whatever its records are
-pub record IsHead (pages : Pages) (frame : Frame) (at : CellAt) (head : CellHead) : Type 0 where
-  pub place : IsPlace pages frame at
-  pub says : HasHeadAt pages at head
+-- what is read of a cell in use whatever else stands in it: its kind, and the cell that it leads to
+pub record Link : Type 0 where
+  pub kind : CellKind
+  pub next : Option CellAt
 
--- and with these records
+-- the address in a cell of the one that it leads to, and none where that is not well formed
+abbrev pub next_in : List ℕ → Option CellAt
+next_in bytes =
+    if (number_at 2 0 bytes == 0) && (nat_le 1 (number_at 1 2 bytes)
+    && (nat_le (number_at 1 2 bytes) 8 && nat_le (number_at 1 3 bytes) 27))
+    then Some (record {
+      vol = number_at 1 2 bytes;
+      page = number_at 4 4 bytes;
+      cell = number_at 1 3 bytes;
+    })
+    else None
+
+-- a cell in use stands at such a place, and leads on so
+pub record IsLink (pages : Pages) (frame : Frame) (at : CellAt) (link : Link) : Type 0 where
+  pub place : IsPlace pages frame at
+  pub bytes : List ℕ
+  pub there : cell_at pages at ≡ Some bytes
+  pub kind : number_at 1 15 bytes ≡ kind_number link.kind
+  pub next : link.next ≡ next_in bytes
+
+-- a cell in use stands there, well formed, with these records
 pub record IsUsed (pages : Pages) (frame : Frame) (at : CellAt) (cell : Cell) : Type 0 where
   pub place : IsPlace pages frame at
   pub stands : StandsAt pages at cell
@@ -99,8 +119,7 @@ abbrev pub IsWrongVolumeCell : Pages → Frame → CellAt → Type 0
 IsWrongVolumeCell pages frame at =
     (IsPlace pages frame at × IsFirstPlace frame at
     × ((cell : Cell) → StandsAt pages at cell → ¬ SaysVolume frame at.vol cell))
-    ⊎ ((head : CellHead) × IsHead pages frame at head × (head.kind ≡ Volume)
-    × ¬ IsFirstPlace frame at)
+    ⊎ ((link : Link) × IsLink pages frame at link × (link.kind ≡ Volume) × ¬ IsFirstPlace frame at)
 
 -- ** The first cell of a file or directory
 
@@ -109,24 +128,20 @@ abbrev pub has_kind : ℕ → List Record → Bool
 has_kind kind records = is_some (record_of kind records)
 
 -- all of it is to be removed
-abbrev pub is_removed : List Record → Bool
-is_removed records = option_map_or says (record_of 6 records) false
-  where
-    says : Record → Bool
-    says (written.Pending Remove) = true
-    says _ = false
+abbrev pub say_removed : List Record → Bool
+say_removed records = option_map_or says_remove (record_of 6 records) false
 
 -- what stands in the slot that a head names
 abbrev pub item_of : Table → CellHead → Option SlotItem
 item_of table head = option_and_then (slice_get table.slots) head.fileset
 
-abbrev pub is_original : Option SlotItem → Bool
-is_original (Some (slot.Original entry)) = true
-is_original _ = false
+-- that is an original, or a clone
+abbrev pub of_original : Option SlotItem → Bool
+of_original item = option_map_or is_original item false
 
-abbrev pub is_clone : Option SlotItem → Bool
-is_clone (Some (slot.Clone of number entry)) = true
-is_clone _ = false
+abbrev pub of_clone : Option SlotItem → Bool
+of_clone (Some (slot.Clone of number entry)) = true
+of_clone _ = false
 
 abbrev pub says_directory : Record → Bool
 says_directory (written.Attributes kind uid gid flags size keep links birth unsynced) = kind == 2
@@ -159,11 +174,11 @@ keeps_well _ pending = true
 -- what tells originals and clones apart is not asked of what is to be removed
 abbrev pub is_good_first : Table → Cell → Bool
 is_good_first table cell = has_first_records cell.records
-    && (is_removed cell.records
-    || ((not (is_original (item_of table cell.head)) || (has_its_kinds false cell.records
+    && (say_removed cell.records
+    || ((not (of_original (item_of table cell.head)) || (has_its_kinds false cell.records
     && option_map_or (λ r. keeps_well r (has_kind 6 cell.records))
     (record_of 1 cell.records) false))
-    && (not (is_clone (item_of table cell.head)) || has_its_kinds true cell.records)))
+    && (not (of_clone (item_of table cell.head)) || has_its_kinds true cell.records)))
 
 -- a first cell has other records than it may have
 pub record IsWrongFirst (pages : Pages) (frame : Frame) (table : Table) (at : CellAt) : Type 0 where
@@ -192,28 +207,28 @@ pub record IsWrongLater (pages : Pages) (frame : Frame) (at : CellAt) : Type 0 w
 -- ** Chains
 
 -- from a first cell on, the cells that were passed, and the one that is come to: each stands where
--- the one in front of it leads, may follow it, and was not passed before
-pub data Follows (pages : Pages) (frame : Frame) (start : CellAt) : List CellAt → CellAt → CellHead
+-- the one in front of it leads, may follow it, and was not passed before. That they are well formed
+-- is not asked, so that a wrong record hides no other fault
+pub data Follows (pages : Pages) (frame : Frame) (start : CellAt) : List CellAt → CellAt → Link
     → Type 0 where
-  begins : (head : CellHead) → IsHead pages frame start head
-      → Follows pages frame start [] start head
-  goes_on : (passed : List CellAt) (at onto : CellAt) (head next : CellHead)
-      → Follows pages frame start passed at head → head.next ≡ Some onto
-      → ¬ Contains (passed ++ at ∷ []) onto → IsHead pages frame onto next
-      → may_follow head.kind next.kind ≡ true
+  begins : (link : Link) → IsLink pages frame start link
+      → Follows pages frame start [] start link
+  goes_on : (passed : List CellAt) (at onto : CellAt) (link next : Link)
+      → Follows pages frame start passed at link → link.next ≡ Some onto
+      → ¬ Contains (passed ++ at ∷ []) onto → IsLink pages frame onto next
+      → may_follow link.kind next.kind ≡ true
       → Follows pages frame start (passed ++ at ∷ []) onto next
 
 -- a cell of quotas leads to another
 abbrev pub LeadsTo : Pages → Frame → CellAt → CellAt → Type 0
-LeadsTo pages frame at onto = (head : CellHead) × IsHead pages frame at head
-    × (head.kind ≡ Quota) × (head.next ≡ Some onto)
+LeadsTo pages frame at onto = (link : Link) × IsLink pages frame at link
+    × (link.kind ≡ Quota) × (link.next ≡ Some onto)
 
 -- the first cell of a chain: of a file or directory, or one of quotas to which none of quotas leads
-
-abbrev pub IsChainHead : Pages → Frame → CellAt → CellHead → Type 0
-IsChainHead pages frame at head = IsHead pages frame at head
-    × ((head.kind ≡ Primary)
-    ⊎ ((head.kind ≡ Quota) × ((other : CellAt) → ¬ LeadsTo pages frame other at)))
+abbrev pub IsChainHead : Pages → Frame → CellAt → Link → Type 0
+IsChainHead pages frame at link = IsLink pages frame at link
+    × ((link.kind ≡ Primary)
+    ⊎ ((link.kind ≡ Quota) × ((other : CellAt) → ¬ LeadsTo pages frame other at)))
 
 -- the order of cells: by volume, page and cell
 abbrev pub is_before : CellAt → CellAt → Bool
@@ -221,52 +236,53 @@ is_before a b = nat_lt a.vol b.vol || ((a.vol == b.vol)
     && (nat_lt a.page b.page || ((a.page == b.page) && nat_lt a.cell b.cell)))
 
 -- a cell of the chain that begins at a place
-pub record IsInChain (pages : Pages) (frame : Frame) (start at : CellAt) (head : CellHead) : Type 0
+pub record IsInChain (pages : Pages) (frame : Frame) (start at : CellAt) (link : Link) : Type 0
   where
-    pub first : CellHead
+    pub first : Link
     pub begins : IsChainHead pages frame start first
     pub passed : List CellAt
-    pub follows : Follows pages frame start passed at head
+    pub follows : Follows pages frame start passed at link
 
 -- a cell of another chain leads to a cell, too
 pub record IsLedTo (pages : Pages) (frame : Frame) (start : CellAt) (other onto : CellAt)
     : Type 0 where
   pub chain : CellAt
   pub another : ¬ chain ≡ start
-  pub head : CellHead
-  pub is : IsInChain pages frame chain other head
-  pub leads : head.next ≡ Some onto
-  pub next : CellHead
-  pub there : IsHead pages frame onto next
-  pub may : may_follow head.kind next.kind ≡ true
+  pub link : Link
+  pub is : IsInChain pages frame chain other link
+  pub leads : link.next ≡ Some onto
+  pub next : Link
+  pub there : IsLink pages frame onto next
+  pub may : may_follow link.kind next.kind ≡ true
 
 -- a cell of a chain leads back, to no cell that may follow it, or to one to which an earlier cell
 -- of another chain leads
 pub record LeadsWrong (pages : Pages) (frame : Frame) (at : CellAt) : Type 0 where
   pub start : CellAt
-  pub head : CellHead
-  pub is : IsInChain pages frame start at head
+  pub link : Link
+  pub is : IsInChain pages frame start at link
   pub onto : CellAt
-  pub leads : head.next ≡ Some onto
-  pub wrong : ((next : CellHead) → IsHead pages frame onto next
-      → may_follow head.kind next.kind ≡ false)
+  pub leads : link.next ≡ Some onto
+  pub wrong : ((next : Link) → IsLink pages frame onto next
+      → may_follow link.kind next.kind ≡ false)
       ⊎ Contains (is.passed ++ at ∷ []) onto
       ⊎ ((other : CellAt) × IsLedTo pages frame start other onto × (is_before other at ≡ true))
 
 -- a chain cell or a quota cell to which no chain comes
 pub record IsUnchained (pages : Pages) (frame : Frame) (at : CellAt) : Type 0 where
-  pub head : CellHead
-  pub is : IsHead pages frame at head
-  pub kind : (head.kind ≡ Chain) ⊎ (head.kind ≡ Quota)
-  pub alone : (start : CellAt) → ¬ IsInChain pages frame start at head
+  pub link : Link
+  pub is : IsLink pages frame at link
+  pub kind : (link.kind ≡ Chain) ⊎ (link.kind ≡ Quota)
+  pub alone : (start : CellAt) → ¬ IsInChain pages frame start at link
 
 -- two cells of a chain, one behind the other
-pub record AreInChain (pages : Pages) (frame : Frame) (first : CellHead) (early late : Cell)
+pub record AreInChain (pages : Pages) (frame : Frame) (first : Link) (early late : Cell)
     (at : CellAt) : Type 0 where
   pub start : CellAt
   pub is_head : IsChainHead pages frame start first
   pub passed : List CellAt
-  pub follows : Follows pages frame start passed at late.head
+  pub link : Link
+  pub follows : Follows pages frame start passed at link
   pub late_is : IsUsed pages frame at late
   pub before : CellAt
   pub among : Contains passed before
@@ -274,7 +290,7 @@ pub record AreInChain (pages : Pages) (frame : Frame) (first : CellHead) (early 
 
 -- a cell says of a page where it stands that an earlier one of its chain does
 pub record IsPageTwice (pages : Pages) (frame : Frame) (at : CellAt) : Type 0 where
-  pub first : CellHead
+  pub first : Link
   pub early : Cell
   pub late : Cell
   pub chain : AreInChain pages frame first early late at
@@ -288,7 +304,7 @@ pub record IsPageTwice (pages : Pages) (frame : Frame) (at : CellAt) : Type 0 wh
 
 -- a cell says an owner's limits that an earlier one of its chain says
 pub record AreLimitsTwice (pages : Pages) (frame : Frame) (at : CellAt) : Type 0 where
-  pub first : CellHead
+  pub first : Link
   pub early : Cell
   pub late : Cell
   pub chain : AreInChain pages frame first early late at
@@ -307,11 +323,12 @@ pub record AreHolesOfOriginal (pages : Pages) (frame : Frame) (table : Table) (a
   pub first : Cell
   pub first_is : IsUsed pages frame start first
   pub kind : first.head.kind ≡ Primary
-  pub original : is_original (item_of table first.head) ≡ true
-  pub live : is_removed first.records ≡ false
+  pub original : of_original (item_of table first.head) ≡ true
+  pub live : say_removed first.records ≡ false
   pub passed : List CellAt
+  pub link : Link
+  pub follows : Follows pages frame start passed at link
   pub cell : Cell
-  pub follows : Follows pages frame start passed at cell.head
   pub is : IsUsed pages frame at cell
   pub holes : has_kind 5 cell.records ≡ true
 

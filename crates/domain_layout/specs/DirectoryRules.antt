@@ -29,7 +29,7 @@ use Rattle.fileset_table.specs.declared.slot.FilesetEntry.{FilesetEntry}
 use Rattle.fileset_table.specs.declared.slot.SlotItem.{SlotItem}
 use Rattle.fileset_table.specs.declared.slot.SlotItem.TheVariants as slot
 use Rattle.name_space.specs.Names.{root_tag}
-use Rattle.domain_layout.specs.CellRules.{IsUsed, is_clone}
+use Rattle.domain_layout.specs.CellRules.{IsUsed, of_clone}
 use Rattle.domain_layout.specs.Reached.{Frame, IsRead, IsUnread, IsWithin, index_way}
 use Rattle.domain_layout.specs.Seen.{IsOwn, SeenFile, seen_in, seen_through}
 use Rattle.domain_layout.specs.Shape.{HasChains}
@@ -149,7 +149,7 @@ pub record AreAllInSync (pages : Pages) (frame : Frame) (table : Table) (number 
       → IsHere pages table number row.tag
 
 abbrev pub AreAllRead : Pages → Frame → Table → ℕ → Type 0
-AreAllRead pages frame table number = (is_clone (slice_get table.slots number) ≡ false)
+AreAllRead pages frame table number = (of_clone (slice_get table.slots number) ≡ false)
     ⊎ AreAllInSync pages frame table number
 
 -- ** What a directory's pages break: at that page
@@ -184,7 +184,7 @@ pub record IsWrongRow (pages : Pages) (frame : Frame) (table : Table) (home : Ho
   pub row : Row
   pub is : IsRow pages frame table number at row home
   pub wrong : (row.tag ≡ root_tag)
-      ⊎ ((is_clone (slice_get table.slots number) ≡ false)
+      ⊎ ((of_clone (slice_get table.slots number) ≡ false)
       × ¬ HasOfKind pages table number row.tag row.kind)
       ⊎ ((of : Kind) × HasOfKind pages table number row.tag of × ¬ of ≡ row.kind)
 
@@ -292,7 +292,7 @@ pub record HasIndex (pages : Pages) (table : Table) (number : ℕ) (tag : Tag) (
     (first : Home) (total : ℕ) : Type 0 where
   pub cells : List PlacedCell
   pub has : Has pages table number tag cells seen
-  pub original : is_clone (slice_get table.slots number) ≡ false
+  pub original : of_clone (slice_get table.slots number) ≡ false
   pub value : Record
   pub there : first_record 9 cells ≡ Some value
   pub begins : index_in value ≡ Some first

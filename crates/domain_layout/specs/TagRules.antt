@@ -11,14 +11,13 @@ use Rattle.record_table.specs.declared.record.Record.TheVariants as written
 use Rattle.record_table.specs.Fields.{number_at}
 use Rattle.bmt_mcells.specs.Cell.{Cell, IsFileset, kind_number, record_of}
 use Rattle.bmt_mcells.specs.CellPage.{cell_at, home_of}
-use Rattle.bmt_mcells.specs.declared.head.CellHead.{CellHead}
 use Rattle.bmt_mcells.specs.declared.head.CellKind.TheVariants.{Primary, Quota}
 use Rattle.tag_dirs.specs.TagPage.{IsTagPage, entry_of, index_of, slot_of}
 use Rattle.fileset_table.specs.Table.{Table, entry_of as fileset_of}
 use Rattle.fileset_table.specs.declared.slot.SlotItem.{SlotItem}
 use Rattle.fileset_table.specs.declared.slot.SlotItem.TheVariants as slot
 use Rattle.name_space.specs.Names.{root_tag}
-use Rattle.domain_layout.specs.CellRules.{IsHead, IsPlace, IsUsed, LeadsTo, is_original, is_removed, item_of}
+use Rattle.domain_layout.specs.CellRules.{IsLink, IsPlace, IsUsed, LeadsTo, Link, item_of, of_original, say_removed}
 use Rattle.domain_layout.specs.Layout.{first_tag_of}
 use Rattle.domain_layout.specs.Reached.{Frame, IsRead, IsUnread, tags_way}
 use Rattle.domain_layout.specs.Seen.{source_in}
@@ -107,10 +106,10 @@ pub record HasNoRoot (pages : Pages) (frame : Frame) (table : Table) (home : Hom
   pub number : ℕ
   pub item : SlotItem
   pub there : slice_get table.slots number ≡ Some item
-  pub original : is_original (Some item) ≡ true
+  pub original : of_original (Some item) ≡ true
   pub first : first_tag_of item ≡ Some home
   pub none : (at : CellAt) (other : Home) → HasEntry pages frame table number root_tag at other
-      → (cell : Cell) × IsUsed pages frame at cell × (is_removed cell.records ≡ true)
+      → (cell : Cell) × IsUsed pages frame at cell × (say_removed cell.records ≡ true)
 
 -- ** Cells
 
@@ -120,7 +119,7 @@ pub record IsUnnamed (pages : Pages) (frame : Frame) (table : Table) (at : CellA
   pub bytes : List ℕ
   pub there : cell_at pages at ≡ Some bytes
   pub kind : number_at 1 15 bytes ≡ kind_number Primary
-  pub stays : (cell : Cell) → IsUsed pages frame at cell → is_removed cell.records ≡ false
+  pub stays : (cell : Cell) → IsUsed pages frame at cell → say_removed cell.records ≡ false
   pub unnamed : (number : ℕ) (tag : Tag) (home : Home) → IsFirstOf pages frame number tag at
       → ¬ HasEntry pages frame table number tag at home
 
@@ -135,7 +134,7 @@ pub record HasWrongSource (pages : Pages) (frame : Frame) (table : Table) (at : 
     pub cell : Cell
     pub is : IsUsed pages frame at cell
     pub kind : cell.head.kind ≡ Primary
-    pub stays : is_removed cell.records ≡ false
+    pub stays : say_removed cell.records ≡ false
     pub of : ℕ
     pub clone : original_slot (item_of table cell.head) ≡ Some of
     pub source : CellAt
@@ -156,7 +155,7 @@ pub record IsLateFile (pages : Pages) (frame : Frame) (table : Table) (at : Cell
   pub tag : Tag
   pub home : Home
   pub named : HasEntry pages frame table number tag at home
-  pub original : is_original (slice_get table.slots number) ≡ true
+  pub original : of_original (slice_get table.slots number) ≡ true
   pub cell : Cell
   pub is : IsUsed pages frame at cell
   pub value : Record
@@ -173,9 +172,9 @@ quota_of (slot.Removed first_tag quota) = quota
 -- a quota cell to which no cell leads, and that no slot names
 pub record IsUnnamedQuota (pages : Pages) (frame : Frame) (table : Table) (at : CellAt) : Type 0
   where
-    pub head : CellHead
-    pub is : IsHead pages frame at head
-    pub kind : head.kind ≡ Quota
+    pub link : Link
+    pub is : IsLink pages frame at link
+    pub kind : link.kind ≡ Quota
     pub first : (other : CellAt) → ¬ LeadsTo pages frame other at
     pub unnamed : (number : ℕ) (item : SlotItem) → slice_get table.slots number ≡ Some item
         → ¬ quota_of item ≡ Some at
@@ -187,13 +186,20 @@ abbrev pub HasWrongNumber : Table → SlotItem → Type 0
 HasWrongNumber table (slot.Clone of number entry) = (number ≡ 0) ⊎ (table.made < number)
 HasWrongNumber table _ = ⊥
 
--- a fileset's quota cell is none of its
+-- a quota cell of that fileset stands there, whatever else is in it
+pub record IsQuotaOf (pages : Pages) (frame : Frame) (number : ℕ) (at : CellAt) : Type 0 where
+  pub place : IsPlace pages frame at
+  pub bytes : List ℕ
+  pub there : cell_at pages at ≡ Some bytes
+  pub kind : number_at 1 15 bytes ≡ kind_number Quota
+  pub fileset : IsFileset (number_at 1 14 bytes) (Some number)
+
+-- what a fileset has for its first quota cell is none of its
 pub record HasWrongQuota (pages : Pages) (frame : Frame) (number : ℕ) (item : SlotItem) : Type 0
   where
     pub at : CellAt
     pub named : option_and_then (λ entry. entry.quota) (fileset_of item) ≡ Some at
-    pub wrong : (head : CellHead) → IsHead pages frame at head → head.kind ≡ Quota
-        → ¬ head.fileset ≡ Some number
+    pub wrong : ¬ IsQuotaOf pages frame number at
 
 pub record IsWrongSlot (pages : Pages) (frame : Frame) (table : Table) : Type 0 where
   pub number : ℕ
