@@ -1,0 +1,10 @@
+pub mod OnePage
+pub mod OneTable
+pub mod NewCells
+pub mod NewTags
+pub mod NewPages
+pub mod NewDomain
+pub mod FilledAlike
+pub mod Reached
+pub mod OwnedOnce
+pub mod CellsAlike

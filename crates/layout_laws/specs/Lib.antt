@@ -1,0 +1,3 @@
+pub mod NewDomain
+pub mod Agreeing
+pub mod Alike

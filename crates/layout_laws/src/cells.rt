@@ -1,0 +1,15 @@
+//! On which pages the rules of cells depend.
+ghost use Rattle.std.specs.Prelude.{◌↔◌};
+ghost use Rattle.domain_base.specs.declared.place.Home.{Home};
+ghost use Rattle.page_store.specs.Pages.{Pages};
+ghost use Rattle.fileset_table.specs.Table.{Table};
+ghost use Rattle.domain_layout.specs.CellRules.{IsCellsFault};
+ghost use Rattle.domain_layout.specs.Reached.{Frame};
+ghost use Rattle.layout_laws.specs.Alike.{AgreeOnCells};
+
+/// Which rules of cells are broken depends on the pages of cells that are come to alone.
+pub fn cells_faults_agree()
+    ensures { (one other : Pages) (frame : Frame) (table : Table) (home : Home)
+        → AgreeOnCells one other frame
+        → (IsCellsFault one frame table home ↔ IsCellsFault other frame table home) }
+{}
