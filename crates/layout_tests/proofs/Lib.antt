@@ -1,0 +1,15 @@
+pub mod Zeros
+pub mod Bitmap
+pub mod Written
+pub mod WrittenLog
+pub mod EmptyCells
+pub mod EmptyTable
+pub mod EmptyImage
+pub mod EmptyMeans
+pub mod OneCells
+pub mod OneTags
+pub mod OneRules
+pub mod OneChains
+pub mod OneFiles
+pub mod OneReads
+pub mod OneMeans
