@@ -50,7 +50,7 @@ unread one other frame way agree home is = record {
   wrong = subst (λ o. ¬ MayBe frame home ⊎ Contains is.passed home ⊎ ¬ IsSomeAnd o (λ page. way.begins_so page ≡ true)) (agree is.passed home is.reached) is.wrong;
 }
 
-turned_cells : (one other : Pages) (frame : Frame) → AgreeOnCells one other frame → AgreeOnCells other one frame
+pub turned_cells : (one other : Pages) (frame : Frame) → AgreeOnCells one other frame → AgreeOnCells other one frame
 turned_cells one other frame agree vol member = turned one other frame (cells_way frame vol) (agree vol member)
 
 -- ---- cells
@@ -62,25 +62,25 @@ module _ (one other : Pages) (frame : Frame) (agree : AgreeOnCells one other fra
     read = read one other frame (cells_way frame home.vol) (agree home.vol is.member) place home page is.read;
   }
 
-  place_alike : (at : CellAt) → IsPlace one frame at → IsPlace other frame at
+  pub place_alike : (at : CellAt) → IsPlace one frame at → IsPlace other frame at
   place_alike at place = record { place = place.place; page = place.page; is = cells_page place.place (home_of at) place.page place.is; within = place.within }
 
   -- the same bytes stand at a place
-  bytes_alike : (at : CellAt) → IsPlace one frame at → cell_at one at ≡ cell_at other at
+  pub bytes_alike : (at : CellAt) → IsPlace one frame at → cell_at one at ≡ cell_at other at
   bytes_alike at place =
       let same = agree at.vol place.is.member place.is.read.passed (home_of at) place.is.read.reached in
       ap (λ o. option_and_then (λ page. cond (is_cell_page page && nat_lt at.cell 28) (Some (cell_of page at.cell)) None) o) same
 
-  link_alike : (at : CellAt) (link : Link) → IsLink one frame at link → IsLink other frame at link
+  pub link_alike : (at : CellAt) (link : Link) → IsLink one frame at link → IsLink other frame at link
   link_alike at link is = record { place = place_alike at is.place; bytes = is.bytes; there = sym (bytes_alike at is.place) ∙ is.there; kind = is.kind; next = is.next }
 
   stands_alike : (at : CellAt) (cell : Cell) → IsPlace one frame at → StandsAt one at cell → StandsAt other at cell
   stands_alike at cell place stands = record { bytes = stands.bytes; there = sym (bytes_alike at place) ∙ stands.there; is = stands.is }
 
-  used_alike : (at : CellAt) (cell : Cell) → IsUsed one frame at cell → IsUsed other frame at cell
+  pub used_alike : (at : CellAt) (cell : Cell) → IsUsed one frame at cell → IsUsed other frame at cell
   used_alike at cell used = record { place = place_alike at used.place; stands = stands_alike at cell used.place used.stands }
 
-  leads_alike : (at onto : CellAt) → LeadsTo one frame at onto → LeadsTo other frame at onto
+  pub leads_alike : (at onto : CellAt) → LeadsTo one frame at onto → LeadsTo other frame at onto
   leads_alike at onto leads = (leads.0, link_alike at leads.0 leads.1, leads.2, leads.3)
 
   follows_alike : (start : CellAt) (passed : List CellAt) (at : CellAt) (link : Link) → Follows one frame start passed at link → Follows other frame start passed at link

@@ -8,3 +8,5 @@ pub mod FilledAlike
 pub mod Reached
 pub mod OwnedOnce
 pub mod CellsAlike
+pub mod TagsAlike
+pub mod OneMeaning

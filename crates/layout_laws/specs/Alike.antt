@@ -1,9 +1,11 @@
--- Pages that agree on each page of cells that is come to.
+-- Pages that agree on each page of cells, and of tags, that is come to.
 use Rattle.std.specs.Prelude.{◌≡◌, ℕ, List}
 use Rattle.domain_base.specs.declared.place.Home.{Home}
 use Rattle.page_store.specs.Pages.{Pages}
+use Rattle.fileset_table.specs.Table.{Table}
 use Rattle.domain_layout.specs.Layout.{IsMember}
-use Rattle.domain_layout.specs.Reached.{Frame, Reaches, Way, cells_way}
+use Rattle.domain_layout.specs.Reached.{Frame, Reaches, Way, cells_way, tags_way}
+use Rattle.domain_layout.specs.TagRules.{HasTags}
 
 -- the same stands at each page of a kind that is come to
 abbrev pub AgreeOnWay : Pages → Pages → Frame → Way → Type 0
@@ -15,3 +17,9 @@ AgreeOnWay one other frame way =
 abbrev pub AgreeOnCells : Pages → Pages → Frame → Type 0
 AgreeOnCells one other frame =
     (vol : ℕ) → IsMember frame.anchor vol → AgreeOnWay one other frame (cells_way frame vol)
+
+-- and at each page of the tag directories of a table
+abbrev pub AgreeOnTags : Pages → Pages → Frame → Table → Type 0
+AgreeOnTags one other frame table =
+    (number : ℕ) (first : Home) → HasTags table number first
+    → AgreeOnWay one other frame (tags_way first)
