@@ -15,8 +15,8 @@ pub fn cells_faults_agree()
         → (IsCellsFault one frame table home ↔ IsCellsFault other frame table home) }
 {}
 
-/// Which rules of tags and slots are broken depends on the pages of cells and of tags that are come to
-/// alone.
+/// Which rules of tags and slots are broken depends on the pages of cells and of tags that are come
+/// to alone.
 pub fn tags_faults_agree()
     ensures { (one other : Pages) (frame : Frame) (table : Table) (home : Home)
         → AgreeOnCells one other frame → AgreeOnTags one other frame table
