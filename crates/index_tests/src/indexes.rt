@@ -1,9 +1,12 @@
 //! Indexes made, looked through, and changed.
 
-use crate::steps::{ROOT, add, add_all, count_found, indexed, page_of, remove, remove_odd};
+use crate::steps::{
+    ROOT, add, add_all, count_found, indexed, indexed_missing, page_of, remove, remove_odd, rising,
+};
 use bitfile_set::BitfileSet;
 use dir_index::{IndexEntry, name_hash};
 use hex::decode;
+use page_store::StoreFault;
 use std::alloc::Global;
 use std::test::Fail;
 
@@ -89,6 +92,77 @@ fn written(alloc: Global) -> Result<[bool; 4], Fail> {
 fn entries_stand_in_their_order(rt: HostRuntime) -> Result<(), Fail> {
     let seen = written(rt.alloc())?;
     assert_eq!(rt; seen, [true, true, false, true]);
+    Ok(())
+}
+
+/// Two equal entries and another: whether one of the two is removed, three times, and the page of
+/// their hash after the first and the second time.
+fn equal_ones(alloc: Global) -> Result<([bool; 3], [u32; 2]), Fail> {
+    let mut set = indexed(
+        alloc,
+        &[
+            IndexEntry { hash: 5, page: 1 },
+            IndexEntry { hash: 5, page: 1 },
+            IndexEntry { hash: 9, page: 0 },
+        ],
+    )?;
+    let first = remove(&mut set, alloc, ROOT, entry(5, 1))?;
+    let one = page_of(&set, ROOT, 5, 0);
+    let second = remove(&mut set, alloc, ROOT, entry(5, 1))?;
+    let none = page_of(&set, ROOT, 5, 0);
+    let third = remove(&mut set, alloc, ROOT, entry(5, 1))?;
+    Ok(([first, second, third], [one, none]))
+}
+
+#[test]
+fn of_equal_entries_one_goes_at_a_time(rt: HostRuntime) -> Result<(), Fail> {
+    let seen = equal_ones(rt.alloc())?;
+    assert_eq!(rt; seen, ([true, true, false], [1, 999]));
+    Ok(())
+}
+
+/// An index made of 2,500 entries at once: how many pages it has, and the page of five hashes.
+fn built(alloc: Global) -> Result<(u32, [u32; 5]), Fail> {
+    let entries = rising(alloc, 2_500)?;
+    let set = indexed(alloc, entries.as_slice())?;
+    let found = [
+        page_of(&set, ROOT, 0, 0),
+        page_of(&set, ROOT, 1_021, 0),
+        page_of(&set, ROOT, 1_022, 0),
+        page_of(&set, ROOT, 2_499, 0),
+        page_of(&set, ROOT, 2_500, 0),
+    ];
+    Ok((set.index_pages(ROOT), found))
+}
+
+/// Two pages of 1,022 entries, and one of 456.
+#[test]
+fn an_index_is_made_of_several_pages(rt: HostRuntime) -> Result<(), Fail> {
+    let seen = built(rt.alloc())?;
+    assert_eq!(rt; seen, (3, [0, 0, 0, 0, 999]));
+    Ok(())
+}
+
+/// What the addition of an entry to a full page answers where one changing call finds no page:
+/// whether it is NoPage, how many misses there were, and how many pages the index has.
+fn missed(alloc: Global, call: u64) -> Result<(bool, u64, u32), Fail> {
+    let misses = vec![in alloc; call]?;
+    let entries = rising(alloc, 1_022)?;
+    let mut set = indexed_missing(alloc, misses, entries.as_slice())?;
+    let answer = add(&mut set, alloc, ROOT, entry(500, 1));
+    let missed = matches!(answer, Err(StoreFault::NoPage));
+    Ok((missed, set.misses(), set.index_pages(ROOT)))
+}
+
+/// The first call makes the index, the second puts the new page, and the third the one in front.
+#[test]
+fn no_page_comes_in_the_middle_of_a_halving(rt: HostRuntime) -> Result<(), Fail> {
+    let seen = [
+        missed(rt.alloc(), 1)?,
+        missed(rt.alloc(), 2)?,
+        missed(rt.alloc(), 3)?,
+    ];
+    assert_eq!(rt; seen, [(true, 1, 1), (true, 1, 2), (false, 0, 2)]);
     Ok(())
 }
 

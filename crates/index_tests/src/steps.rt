@@ -5,7 +5,7 @@ ghost use Rattle.index_tests.specs.Steps.{HasIndex};
 
 use bitfile_set::BitfileSet;
 use dir_index::{IndexEntry, add_entry, build, next_page, remove_entry};
-use domain_base::Tag;
+use domain_base::{OutOfMemory, Tag};
 use memory_store::MemoryBitfiles;
 use page_store::StoreFault;
 use std::alloc::Global;
@@ -13,14 +13,38 @@ use std::alloc::Global;
 /// The tag of the root directory.
 pub(crate) const ROOT: Tag = Tag { slot: 1, seq: 1 };
 
-/// The root directory alone, with an index of these entries.
+/// The root directory alone, with an index of these entries. The numbers are those of the changing
+/// calls that find no page.
+pub(crate) fn indexed_missing(
+    alloc: Global,
+    misses: Vec<u64>,
+    entries: &[IndexEntry],
+) -> Result<MemoryBitfiles, StoreFault>
+    requires { Rise entries.now }
+    ensures { IfOk result (λ set. HasIndex ROOT (⟦<MemoryBitfiles as BitfileSet>⟧.files set)) }
+{
+    let mut set = MemoryBitfiles::new(alloc, misses)?;
+    build(&mut set, alloc, ROOT, entries)?;
+    Ok(set)
+}
+
+/// The same where each changing call finds its page.
 pub(crate) fn indexed(alloc: Global, entries: &[IndexEntry]) -> Result<MemoryBitfiles, StoreFault>
     requires { Rise entries.now }
     ensures { IfOk result (λ set. HasIndex ROOT (⟦<MemoryBitfiles as BitfileSet>⟧.files set)) }
 {
-    let mut set = MemoryBitfiles::new(alloc, Vec::new(alloc))?;
-    build(&mut set, alloc, ROOT, entries)?;
-    Ok(set)
+    indexed_missing(alloc, Vec::new(alloc), entries)
+}
+
+/// So many entries of page 0, with the hashes from 0 on.
+pub(crate) fn rising(alloc: Global, count: u32) -> Result<Vec<IndexEntry>, OutOfMemory>
+    ensures { IfOk result (λ list. Rise list.items) }
+{
+    let mut entries = Vec::new(alloc);
+    for hash in 0..count {
+        entries.push(IndexEntry { hash, page: 0 })?;
+    }
+    Ok(entries)
 }
 
 /// The least page from one on that an entry of the hash names, and 999 where there is none.
