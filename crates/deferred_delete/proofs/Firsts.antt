@@ -1,0 +1,25 @@
+-- Records of first cells that say nothing of pages, where those that do are others.
+use Rattle.std.proofs.Common.{◌≡◌, ◌∙◌, ℕ, not, true, false, nat_le, List, [], ◌∷◌, Option, Some, None, refl, sym, ap}
+use Rattle.std.specs.Option.{option_and_then}
+use Rattle.record_table.specs.declared.record.Record.{Record}
+use Rattle.record_table.specs.Records.{kind_of}
+use Rattle.bmt_mcells.specs.Cell.{record_of}
+use Rattle.bmt_mcells.specs.Chain.{PlacedCell}
+use Rattle.extent_records.specs.Writing.{most_rows}
+use Rattle.bitfile_cells.specs.FileChanges.{SameFirst}
+use Rattle.bitfile_cells.specs.Files.{has_rows}
+use Rattle.bitfile_core.specs.Files.{first_record}
+use Rattle.bitfile_core.proofs.FirstCell.{find_filter}
+
+pub first_same : (k : ℕ) → nat_le 1 (most_rows k) ≡ false → (chain after : List PlacedCell) → SameFirst chain after → first_record k after ≡ first_record k chain
+first_same k none [] after same = absurd same
+first_same k none (a ∷ xs) [] same = absurd same
+first_same k none (a ∷ xs) (b ∷ ys) same =
+    sym (find_filter k (λ r. not (has_rows r)) b.cell.records keeps) ∙ ap (record_of k) same.2 ∙ find_filter k (λ r. not (has_rows r)) a.cell.records keeps
+  where
+    keeps : (r : Record) → kind_of r ≡ k → not (has_rows r) ≡ true
+    keeps r is = ap (λ (j : ℕ). not (nat_le 1 (most_rows j))) is ∙ ap not none
+
+pub then_then : {X Y Z : Type 0} (f : Y → Option Z) (g : X → Option Y) (o : Option X) → option_and_then (λ x. option_and_then f (g x)) o ≡ option_and_then f (option_and_then g o)
+then_then f g None = refl
+then_then f g (Some x) = refl

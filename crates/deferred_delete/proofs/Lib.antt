@@ -1,0 +1,10 @@
+pub mod Changed
+pub mod Ends
+pub mod Firsts
+pub mod Lists
+pub mod Loops
+pub mod Records
+pub mod Spread
+pub mod Standings
+pub mod Stepping
+pub mod Well

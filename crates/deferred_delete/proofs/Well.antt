@@ -1,0 +1,185 @@
+-- A list and files that belong together, before a step and after it.
+use Rattle.std.proofs.Common.{◌≡◌, ◌∙◌, ℕ, zero, suc, ◌≤◌, List, [], ◌∷◌, ◌++◌, Option, Some, None, IsSome, IsSomeAnd, Contains, refl, sym, ap, subst, arith}
+use Rattle.std.proofs.lemmas.Bool.{true≢false}
+use Rattle.std.specs.Option.{option_and_then}
+use Rattle.domain_base.specs.declared.place.CellAt.{CellAt}
+use Rattle.domain_base.specs.declared.place.Home.{Home}
+use Rattle.page_store.specs.Pages.{Pages}
+use Rattle.page_store.specs.declared.fault.StoreFault.{StoreFault}
+use Rattle.page_store.specs.declared.fault.StoreFault.TheVariants.{NoPage, OutOfMemory}
+use Rattle.record_table.specs.declared.record.Leftover.{Leftover}
+use Rattle.bmt_mcells.specs.Chain.{PlacedCell}
+use Rattle.extent_maps.specs.declared.run.PagePlace.TheVariants.{At}
+use Rattle.free_cells.specs.Cells.{Cells}
+use Rattle.free_space.specs.declared.waiting.PageUse.TheVariants.{Metadata}
+use Rattle.free_space.specs.Spaces.{Spaces, missed}
+use Rattle.bitfile_cells.specs.Allocated.{FindsNone}
+use Rattle.bitfile_cells.specs.Files.{IsFile}
+use Rattle.bitfile_cells.proofs.Allocated.{allocated_missed}
+use Rattle.bitfile_core.specs.Together.{IsHeldApart}
+use Rattle.chain_release.specs.declared.reader.Reader.{Reader}
+use Rattle.chain_release.specs.Releases.{AreAllOnce, with_given}
+use Rattle.chain_release.specs.Sharing.{AreSharing}
+use Rattle.chain_release.proofs.Given.{allocated_given, held_given}
+use Rattle.deferred_delete.specs.declared.list.Entry.{Entry}
+use Rattle.deferred_delete.specs.Listed.{IsEntry, IsListed, from_by, left_of, stale_from}
+use Rattle.deferred_delete.specs.Listing.{Listing}
+use Rattle.deferred_delete.specs.Standing.{Files, ReadsThrough, Source, StandTogether, source_of}
+use Rattle.deferred_delete.specs.Steps.{HasEntry, IsGiven, IsWell, ReadsFrozen, TakesTagPage, now_of}
+use Rattle.deferred_delete.proofs.Lists.{home_not_last, homes_front, in_start, last_in}
+use Rattle.deferred_delete.proofs.Spread.{sharing}
+use Rattle.deferred_delete.proofs.Standings.{low_home, standing}
+
+-- ---- nothing was done
+
+well_missed : (list : Listing) (files : Files) (space : Spaces) (cells : Cells) (pages : Pages) → IsWell (now_of list files space cells pages) → IsWell (now_of list files (missed space) cells pages)
+well_missed list files space cells pages well = record {
+  together = record {
+    allocated = allocated_missed space cells pages well.together.allocated;
+    each = well.together.each;
+    apart = well.together.apart;
+    held = λ a p home there. kept home (well.together.held a p home there);
+    once = well.together.once;
+    one_deep = well.together.one_deep;
+  };
+  listed = record {
+    each = well.listed.each;
+    once = well.listed.once;
+    clones = well.listed.clones;
+    pages_once = well.listed.pages_once;
+    pages_low = well.listed.pages_low;
+    pages_held = λ home inside. kept home (well.listed.pages_held home inside);
+    pages_apart = well.listed.pages_apart;
+  };
+}
+  where
+    kept : (home : Home) → IsHeldApart space cells home → IsHeldApart (missed space) cells home
+    kept home is = record { held = is.held; off_table = is.off_table }
+
+pub well_still : (fault : StoreFault) (list : Listing) (files : Files) (space space_now : Spaces) (cells : Cells) (pages : Pages) → FindsNone space space_now cells fault → IsWell (now_of list files space cells pages) → IsWell (now_of list files space_now cells pages)
+well_still NoPage list files space space_now cells pages none well = subst (λ s. IsWell (now_of list files s cells pages)) (sym none.2) (well_missed list files space cells pages well)
+well_still OutOfMemory list files space space_now cells pages none well = subst (λ s. IsWell (now_of list files s cells pages)) (sym none) well
+
+-- ---- a page of a tag directory goes
+
+module _ (group : ℕ) (list list_now : Listing) (files : Files) (space space_now : Spaces) (cells : Cells) (pages : Pages) (well : IsWell (now_of list files space cells pages)) (takes : TakesTagPage group list list_now space space_now) where
+  there : Contains list.tag_pages takes.home
+  there = subst (λ (hs : List Home). Contains hs takes.home) (sym takes.last) (last_in takes.front takes.home)
+
+  before : (home : Home) → Contains takes.front home → Contains list.tag_pages home
+  before home inside = subst (λ (hs : List Home). Contains hs home) (sym takes.last) (in_start takes.front (takes.home ∷ []) home inside)
+
+  only : (home : Home) → Contains (takes.home ∷ []) home → takes.home ≡ home
+  only home (zero, within, is) = is
+  only home (suc k, within, is) = absurd (omega (arith, within))
+
+  abbrev after : Spaces
+  after = with_given Metadata group (takes.home ∷ []) space
+
+  kept : (home : Home) → 1 ≤ home.vol → ¬ takes.home ≡ home → IsHeldApart space cells home → IsHeldApart after cells home
+  kept home low other is = record {
+    held = held_given Metadata group (takes.home ∷ []) space home (λ x inside. subst (λ (h : Home). 1 ≤ h.vol) (only x inside) (well.listed.pages_low takes.home there)) low (λ inside. other (only home inside)) is.held;
+    off_table = is.off_table;
+  }
+
+  together_after : StandTogether after cells pages files
+  together_after = record {
+    allocated = allocated_given Metadata group (takes.home ∷ []) space cells pages
+        (λ x inside. subst (λ (h : Home). 1 ≤ h.vol) (only x inside) (well.listed.pages_low takes.home there))
+        (λ x inside on. (subst (IsHeldApart space cells) (only x inside) (well.listed.pages_held takes.home there)).off_table on)
+        well.together.allocated;
+    each = well.together.each;
+    apart = well.together.apart;
+    held = λ a p home is. kept home (low_home space cells pages files well.together a p home is) (λ same. well.listed.pages_apart takes.home there a p (is ∙ ap At (sym same))) (well.together.held a p home is);
+    once = well.together.once;
+    one_deep = well.together.one_deep;
+  }
+
+  once_now : AreAllOnce (takes.front ++ takes.home ∷ [])
+  once_now = subst AreAllOnce takes.last well.listed.pages_once
+
+  listed_after : IsListed after cells files (record { entries = list.entries; tag_pages = takes.front })
+  listed_after = record {
+    each = well.listed.each;
+    once = well.listed.once;
+    clones = well.listed.clones;
+    pages_once = homes_front takes.front takes.home once_now;
+    pages_low = λ home inside. well.listed.pages_low home (before home inside);
+    pages_held = λ home inside. kept home (well.listed.pages_low home (before home inside))
+        (λ same. home_not_last takes.front takes.home once_now (subst (Contains takes.front) (sym same) inside))
+        (well.listed.pages_held home (before home inside));
+    pages_apart = λ home inside. well.listed.pages_apart home (before home inside);
+  }
+
+  pub tag_page_well : IsWell (now_of list_now files space_now cells pages)
+  tag_page_well =
+      subst (λ (l : Listing). IsWell (now_of l files space_now cells pages)) (sym takes.is)
+      (subst (λ (s : Spaces). IsWell (now_of (record { entries = list.entries; tag_pages = takes.front }) files s cells pages)) (sym takes.waits)
+      (record { together = together_after; listed = listed_after }))
+
+-- ---- what is known of the last entry
+
+-- the chain of its file, and its reader's
+pub record IsReady (files : Files) (entry : Entry) (left : Option Leftover) (from : ℕ) (reader : Option Reader) (space : Spaces) (cells : Cells) (pages : Pages) : Type 0 where
+  pub is_entry : IsEntry files entry
+  pub chain : List PlacedCell
+  pub is : files entry.at ≡ Some chain
+  pub some : IsSome (left_of chain)
+  pub left_is : left_of chain ≡ left
+  pub from_is : from ≡ stale_from chain
+  pub own : List PlacedCell
+  pub given : IsGiven files entry.clone reader own
+  pub shares : AreSharing entry.at reader space cells pages chain own
+
+chain_of : (files : Files) (at : CellAt) → IsSome (option_and_then left_of (files at)) → (chain : List PlacedCell) × (files at ≡ Some chain) × IsSome (left_of chain)
+chain_of files at some = by_chain (files at) refl some
+  where
+    by_chain : (o : Option (List PlacedCell)) → files at ≡ o → IsSome (option_and_then left_of o) → (chain : List PlacedCell) × (files at ≡ Some chain) × IsSome (left_of chain)
+    by_chain None is some = absurd (true≢false (sym some))
+    by_chain (Some cs) is some = (cs, is, some)
+
+-- the chain of a file that reads through another
+pub source_chain : (files : Files) (clone at : CellAt) → ReadsThrough files clone at → (own : List PlacedCell) × (files clone ≡ Some own) × IsSome (source_of own)
+source_chain files clone at reads = by_chain (files clone) refl reads
+  where
+    some_of : (o : Option Source) → IsSomeAnd o (λ source. source.at ≡ at) → IsSome o
+    some_of None is = absurd is
+    some_of (Some s) is = refl
+
+    by_chain : (o : Option (List PlacedCell)) → files clone ≡ o → IsSomeAnd (option_and_then source_of o) (λ source. source.at ≡ at) → (own : List PlacedCell) × (files clone ≡ Some own) × IsSome (source_of own)
+    by_chain None is reads = absurd reads
+    by_chain (Some cs) is reads = (cs, is, some_of (source_of cs) reads)
+
+given_of : (files : Files) (entry : Entry) (reader : Option Reader) (space : Spaces) (cells : Cells) (pages : Pages) → StandTogether space cells pages files → IsEntry files entry → (entry.clone ≡ None → reader ≡ None)
+    → ((at : CellAt) (own : List PlacedCell) → entry.clone ≡ Some at → IsFile pages at own → IsSome (source_of own) → ReadsFrozen at own reader) → (own : List PlacedCell) × IsGiven files entry.clone reader own
+given_of files entry reader space cells pages together is_entry none some = by_clone entry.clone refl
+  where
+    by_reader : (at : CellAt) (own : List PlacedCell) → files at ≡ Some own → (r : Option Reader) → ReadsFrozen at own r → IsGiven files (Some at) r own
+    by_reader at own is None reads = absurd reads
+    by_reader at own is (Some r) reads = (reads.0, is, reads.1)
+
+    by_clone : (o : Option CellAt) → entry.clone ≡ o → (own : List PlacedCell) × IsGiven files entry.clone reader own
+    by_clone None is = ([], subst (λ o. IsGiven files o reader []) (sym is) (subst (λ r. IsGiven files None r []) (sym (none is)) refl))
+    by_clone (Some at) is =
+        let c = source_chain files at entry.at (is_entry.given at is) in
+        (c.0, subst (λ o. IsGiven files o reader c.0) (sym is) (by_reader at c.0 c.1 reader (some at c.0 is (standing space cells pages files together at c.0 c.1).file c.2)))
+
+pub ready : (list : Listing) (front : List Entry) (files : Files) (entry : Entry) (left : Option Leftover) (from : ℕ) (reader : Option Reader) (space : Spaces) (cells : Cells) (pages : Pages) → HasEntry front entry (now_of list files space cells pages)
+    → ((chain : List PlacedCell) → IsFile pages entry.at chain → left ≡ left_of chain) → ((chain : List PlacedCell) → IsFile pages entry.at chain → from ≡ from_by left chain) → (entry.clone ≡ None → reader ≡ None)
+    → ((at : CellAt) (own : List PlacedCell) → entry.clone ≡ Some at → IsFile pages at own → IsSome (source_of own) → ReadsFrozen at own reader) → IsReady files entry left from reader space cells pages
+ready list front files entry left from reader space cells pages has lefts froms none some =
+    let is_entry = has.well.listed.each entry (subst (λ (es : List Entry). Contains es entry) (sym has.last) (last_in front entry)) in
+    let c = chain_of files entry.at is_entry.pending in
+    let file = (standing space cells pages files has.well.together entry.at c.0 c.1).file in
+    let given = given_of files entry reader space cells pages has.well.together is_entry none some in
+    record {
+      is_entry = is_entry;
+      chain = c.0;
+      is = c.1;
+      some = c.2;
+      left_is = sym (lefts c.0 file);
+      from_is = froms c.0 file ∙ ap (λ o. from_by o c.0) (lefts c.0 file);
+      own = given.0;
+      given = given.1;
+      shares = sharing space cells pages files has.well.together entry is_entry c.0 c.1 reader given.0 given.1;
+    }

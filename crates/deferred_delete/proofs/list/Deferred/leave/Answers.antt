@@ -1,0 +1,24 @@
+use Rattle.std.proofs.Common.{◌≡◌, ◌∙◌, ◌++◌, ◌∷◌, ◌-◌, [], List, None, ap, arith, get_or, length, slice_set, sym}
+use Rattle.deferred_delete.specs.declared.list.Entry.{Entry}
+use Rattle.deferred_delete.specs.Listing.{Listing}
+use Rattle.deferred_delete.specs.Steps.{list_after}
+use Rattle.deferred_delete.proofs.Lists.{get_last, longer, set_last}
+use Rattle.deferred_delete.proofs.list.Deferred.leave.Goals as goal
+
+abbrev alone : Entry → Entry
+alone entry = record { at = entry.at; clone = None }
+
+abbrev listing : Listing → List Entry → Listing
+listing list entries = record { entries = entries; tag_pages = list.tag_pages }
+
+pub returns-in-Reading : goal.returns-in-Reading
+returns-in-Reading c = λ front entry last.
+    let items = c.self.inside.entries.items in
+    let is : items ≡ front ++ entry ∷ [] = ap (λ (l : Listing). l.entries) c.self.view_is ∙ last in
+    let n : c.len-last.result - 1 ≡ length front = omega (arith, c.len-last.ensures, c.self.inside.entries.ok.0, ap length is, longer front entry) in
+    let item = c.index_mut.result.now in
+    let was : item ≡ entry = c.index_mut.ensures.value ∙ (λ i. get_or (is i) (n i) item) ∙ get_last front entry item in
+    (λ i. record { entries = slice_set (is i) (n i) (alone (was i)); tag_pages = c.self.inside.tag_pages.items })
+    ∙ ap (λ (es : List Entry). record { entries = es; tag_pages = c.self.inside.tag_pages.items }) (set_last front entry (alone entry))
+    ∙ ap (λ (l : Listing). listing l (front ++ alone entry ∷ [])) c.self.view_is
+    ∙ ap (λ w. list_after w front entry c.args.self.now) (sym c.in-Reading.is)

@@ -1,0 +1,12 @@
+use Rattle.std.proofs.Common.{◌≡◌, ◌+◌, ◌≤◌}
+use Rattle.deferred_delete.specs.Listing.{IsEmpty}
+use Rattle.deferred_delete.specs.Standing.{Files}
+use Rattle.deferred_delete.specs.Steps.{IsWell, LeadsTo, now_of}
+use Rattle.deferred_delete.proofs.list.Deferred.release_some.Given as goal
+
+abbrev pub invariant-loop : goal.invariant-loop
+invariant-loop g l =
+    ((files : Files) → IsWell (now_of l.fn.self files l.fn.space l.fn.cells (g.M.MetaPages.pages l.fn.pages))
+    → LeadsTo l.group l.version (now_of l.fn.self files l.fn.space l.fn.cells (g.M.MetaPages.pages l.fn.pages)) l.count l.self l.space l.cells (g.M.MetaPages.pages l.pages))
+    × (l.count ≡ l.counter) × (l.count ≡ 0 → l.self ≡ l.fn.self) × (1 ≤ l.count → IsEmpty l.fn.self → ⊥)
+    × (g.M.MetaPages.room l.fn.pages ≤ g.M.MetaPages.room l.pages + l.counter)

@@ -1,0 +1,57 @@
+-- What is on a list of things to be let go of.
+use Rattle.std.specs.Prelude.{◌≡◌, ◌<◌, ◌≤◌, ℕ, List, Option, Some, None, IsSome, Contains, get_or, length, unwrap_or}
+use Rattle.std.specs.Option.{option_and_then}
+use Rattle.domain_base.specs.declared.place.CellAt.{CellAt}
+use Rattle.domain_base.specs.declared.place.Home.{Home}
+use Rattle.record_table.specs.declared.record.Leftover.{Leftover}
+use Rattle.record_table.specs.declared.record.Leftover.TheVariants.{Remove, Trim}
+use Rattle.record_table.specs.declared.record.Record.{Record}
+use Rattle.record_table.specs.declared.record.Record.TheVariants as written
+use Rattle.bmt_mcells.specs.Chain.{PlacedCell}
+use Rattle.extent_maps.specs.declared.run.PagePlace.TheVariants.{At}
+use Rattle.free_cells.specs.Cells.{Cells}
+use Rattle.free_space.specs.Spaces.{Spaces}
+use Rattle.chain_release.specs.Releases.{AreAllOnce}
+use Rattle.bitfile_core.specs.Files.{first_record, keep_of}
+use Rattle.bitfile_core.specs.Together.{IsHeldApart}
+use Rattle.deferred_delete.specs.declared.list.Entry.{Entry}
+use Rattle.deferred_delete.specs.Listing.{Listing}
+use Rattle.deferred_delete.specs.Standing.{Files, ReadsThrough, place_in}
+
+-- what a file's first cell says is left to be done
+abbrev pub leftover_in : Record → Option Leftover
+leftover_in (written.Pending what) = Some what
+leftover_in _ = None
+
+abbrev pub left_of : List PlacedCell → Option Leftover
+left_of cells = option_and_then leftover_in (first_record 6 cells)
+
+-- from which page on pages go, by what is left: behind those that the file keeps, or all
+abbrev pub from_by : Option Leftover → List PlacedCell → ℕ
+from_by (Some Trim) cells = unwrap_or (keep_of cells) 65536
+from_by (Some Remove) cells = 0
+from_by None cells = 0
+
+abbrev pub stale_from : List PlacedCell → ℕ
+stale_from cells = from_by (left_of cells) cells
+
+-- a file is there whose first cell says that something is left to be done; the clone's file is
+-- given that reads through it, and none where none does
+pub record IsEntry (files : Files) (entry : Entry) : Type 0 where
+  pub pending : IsSome (option_and_then left_of (files entry.at))
+  pub given : (clone : CellAt) → entry.clone ≡ Some clone → ReadsThrough files clone entry.at
+  pub all : (clone : CellAt) → ReadsThrough files clone entry.at → entry.clone ≡ Some clone
+
+-- the entries are so, no file has two, and no clone that is given has one; the pages of tag
+-- directories stand on volumes, are held and none of cells, each once, and no file's
+pub record IsListed (space : Spaces) (cells : Cells) (files : Files) (list : Listing) : Type 0 where
+  pub each : (entry : Entry) → Contains list.entries entry → IsEntry files entry
+  pub once : (i j : ℕ) (d : Entry) → i < length list.entries → j < length list.entries
+      → (get_or list.entries i d).at ≡ (get_or list.entries j d).at → i ≡ j
+  pub clones : (a b : Entry) → Contains list.entries a → Contains list.entries b
+      → ¬ a.clone ≡ Some b.at
+  pub pages_once : AreAllOnce list.tag_pages
+  pub pages_low : (home : Home) → Contains list.tag_pages home → 1 ≤ home.vol
+  pub pages_held : (home : Home) → Contains list.tag_pages home → IsHeldApart space cells home
+  pub pages_apart : (home : Home) → Contains list.tag_pages home → (at : CellAt) (page : ℕ)
+      → ¬ place_in files at page ≡ At home

@@ -1,0 +1,278 @@
+-- The steps in which the things of a list are let go of.
+use Rattle.std.specs.Prelude.{◌≡◌, ◌++◌, ◌∷◌, ◌+◌, ◌<◌, ℕ, List, [], Option, Some, None, IsSomeAnd}
+use Rattle.std.specs.Option.{option_map}
+use Rattle.domain_base.specs.declared.place.CellAt.{CellAt}
+use Rattle.domain_base.specs.declared.place.Home.{Home}
+use Rattle.domain_base.specs.declared.version.Version.{Version}
+use Rattle.page_store.specs.Pages.{Pages}
+use Rattle.record_table.specs.declared.record.Leftover.{Leftover}
+use Rattle.record_table.specs.declared.record.Leftover.TheVariants.{Remove, Trim}
+use Rattle.record_table.specs.declared.record.Record.{Record}
+use Rattle.record_table.specs.declared.record.Record.TheVariants as written
+use Rattle.bmt_mcells.specs.Cell.{Cell, record_of}
+use Rattle.bmt_mcells.specs.Chain.{LeavesOthers, PlacedCell, StandsAt, is_at}
+use Rattle.page_store.specs.declared.fault.StoreFault.{StoreFault}
+use Rattle.page_store.specs.declared.fault.StoreFault.TheVariants.{NoPage}
+use Rattle.free_cells.specs.Cells.{Cells, FreesCell}
+use Rattle.free_space.specs.declared.waiting.PageUse.TheVariants.{Metadata}
+use Rattle.free_space.specs.Spaces.{Spaces, change_volume}
+use Rattle.free_space.specs.VolumeSpace.{with_waiting}
+use Rattle.bitfile_cells.specs.Allocated.{FindsNone}
+use Rattle.bitfile_cells.specs.Changes.{with_record}
+use Rattle.bitfile_cells.specs.MapChanges.{LeavesOffTables}
+use Rattle.bitfile_core.specs.Changes.{with_first}
+use Rattle.chain_release.specs.declared.reader.Reader.{Reader}
+use Rattle.chain_release.specs.declared.released.Released.{Released}
+use Rattle.chain_release.specs.Releases.{LacksPlace, LeavesBoth, Releases}
+use Rattle.chain_release.specs.Sharing.{IsReleased, frozen_of}
+use Rattle.deferred_delete.specs.declared.list.Entry.{Entry}
+use Rattle.deferred_delete.specs.declared.went.Went.{Went}
+use Rattle.deferred_delete.specs.declared.went.Went.TheVariants as went
+use Rattle.deferred_delete.specs.Listed.{IsListed, from_by, left_of, stale_from}
+use Rattle.deferred_delete.specs.Listing.{Listing}
+use Rattle.deferred_delete.specs.Standing.{Files, StandTogether, source_of, with_file}
+
+-- what a step changes: the list, the files of the domain, free space, free cells and pages
+pub record Now : Type 0 where
+  pub list : Listing
+  pub files : Files
+  pub space : Spaces
+  pub cells : Cells
+  pub pages : Pages
+
+abbrev pub now_of : Listing → Files → Spaces → Cells → Pages → Now
+now_of list files space cells pages = record {
+  list = list;
+  files = files;
+  space = space;
+  cells = cells;
+  pages = pages;
+}
+
+-- all belongs together, and the list is one of these files
+pub record IsWell (now : Now) : Type 0 where
+  pub together : StandTogether now.space now.cells now.pages now.files
+  pub listed : IsListed now.space now.cells now.files now.list
+
+-- the entry is the last of a list's
+abbrev pub IsLast : List Entry → Entry → Listing → Type 0
+IsLast front entry list = list.entries ≡ front ++ entry ∷ []
+
+-- the reader is the clone's file that is given with an entry, and its chain
+abbrev pub IsGiven : Files → Option CellAt → Option Reader → List PlacedCell → Type 0
+IsGiven files None None own = own ≡ []
+IsGiven files None (Some reader) own = ⊥
+IsGiven files (Some clone) None own = ⊥
+IsGiven files (Some clone) (Some reader) own = (reader.at ≡ clone) × (files clone ≡ Some own)
+    × IsSomeAnd (source_of own) (λ source. source.frozen ≡ reader.frozen)
+
+-- a reader is that clone's file, with as many frozen pages as its first cell says
+abbrev pub ReadsFrozen : CellAt → List PlacedCell → Option Reader → Type 0
+ReadsFrozen at own reader = IsSomeAnd reader (λ r. (r.at ≡ at)
+    × IsSomeAnd (source_of own) (λ source. source.frozen ≡ r.frozen))
+
+-- the files with a clone's chain so, if there is a clone
+abbrev pub with_clone : Option CellAt → List PlacedCell → Files → Files
+with_clone None own files = files
+with_clone (Some clone) own files = with_file clone (Some own) files
+
+-- pages of the last entry's file go that are stale, or a cell: what its clone reads of them is
+-- handed to that, and all else is given back
+pub record LetsPages (group : ℕ) (version : Version) (old new : Now) : Type 0 where
+  pub front : List Entry
+  pub entry : Entry
+  pub last : IsLast front entry old.list
+  pub chain : List PlacedCell
+  pub is : old.files entry.at ≡ Some chain
+  pub reader : Option Reader
+  pub own : List PlacedCell
+  pub given : IsGiven old.files entry.clone reader own
+  pub what : Released
+  pub releases : Releases (stale_from chain) entry.at reader group version chain own old.space
+      new.space old.cells new.cells old.pages new.pages what
+  pub files : new.files ≡ with_file entry.at (Some releases.after)
+      (with_clone entry.clone releases.own_now old.files)
+  pub same_list : new.list ≡ old.list
+  pub others : LeavesBoth old.cells chain own old.pages new.pages
+  pub elsewhere : LeavesOffTables new.cells old.pages new.pages
+
+-- a record of attributes that says that all pages are kept
+abbrev pub kept_all : Record → Record
+kept_all (written.Attributes kind uid gid flags size keep links birth unsynced) =
+    written.Attributes kind uid gid flags size 65536 links birth unsynced
+kept_all r = r
+
+-- a first cell that says so, and that nothing is left to be done
+abbrev pub says_trimmed : Cell → Cell
+says_trimmed cell =
+    with_record 6 None (with_record 1 (option_map kept_all (record_of 1 cell.records)) cell)
+
+-- no page of the last entry's file is stale any more: it keeps all from now on, and the entry goes
+pub record EndsTrim (old new : Now) : Type 0 where
+  pub front : List Entry
+  pub entry : Entry
+  pub last : IsLast front entry old.list
+  pub chain : List PlacedCell
+  pub is : old.files entry.at ≡ Some chain
+  pub trim : left_of chain ≡ Some Trim
+  pub done : IsReleased (stale_from chain) chain
+  pub files : new.files ≡ with_file entry.at (Some (with_first says_trimmed chain)) old.files
+  pub list : new.list ≡ record { entries = front; tag_pages = old.list.tag_pages }
+  pub same_space : new.space ≡ old.space
+  pub same_cells : new.cells ≡ old.cells
+  pub others : LeavesOthers (is_at entry.at) old.pages new.pages
+  pub elsewhere : LeavesOffTables new.cells old.pages new.pages
+
+-- a record of a clone's file that says that it reads through none
+abbrev pub without_source : Record → Record
+without_source (written.CloneFile vol cell page frozen) = written.CloneFile 0 0 0 frozen
+without_source r = r
+
+abbrev pub says_no_source : Cell → Cell
+says_no_source cell = with_record 2 (option_map without_source (record_of 2 cell.records)) cell
+
+-- the last entry's file goes and has no page left: its clone reads through it no more
+pub record EndsReading (old new : Now) : Type 0 where
+  pub front : List Entry
+  pub entry : Entry
+  pub last : IsLast front entry old.list
+  pub chain : List PlacedCell
+  pub is : old.files entry.at ≡ Some chain
+  pub removed : left_of chain ≡ Some Remove
+  pub done : IsReleased 0 chain
+  pub clone : CellAt
+  pub given : entry.clone ≡ Some clone
+  pub own : List PlacedCell
+  pub own_is : old.files clone ≡ Some own
+  pub files : new.files ≡ with_file clone (Some (with_first says_no_source own)) old.files
+  pub list : new.list ≡ record {
+    entries = front ++ record { at = entry.at; clone = None } ∷ [];
+    tag_pages = old.list.tag_pages;
+  }
+  pub same_space : new.space ≡ old.space
+  pub same_cells : new.cells ≡ old.cells
+  pub others : LeavesOthers (is_at clone) old.pages new.pages
+  pub elsewhere : LeavesOffTables new.cells old.pages new.pages
+
+-- the last entry's file goes, has no page left and no clone: its last cell is free, and nothing is
+-- left of it
+pub record EndsFile (old new : Now) : Type 0 where
+  pub front : List Entry
+  pub entry : Entry
+  pub last : IsLast front entry old.list
+  pub chain : List PlacedCell
+  pub is : old.files entry.at ≡ Some chain
+  pub removed : left_of chain ≡ Some Remove
+  pub done : IsReleased 0 chain
+  pub alone : entry.clone ≡ None
+  pub files : new.files ≡ with_file entry.at None old.files
+  pub list : new.list ≡ record { entries = front; tag_pages = old.list.tag_pages }
+  pub frees : FreesCell entry.at old.cells new.cells
+  pub same_space : new.space ≡ old.space
+  pub others : LeavesOthers (is_at entry.at) old.pages new.pages
+  pub elsewhere : LeavesOffTables new.cells old.pages new.pages
+
+-- the last page of a tag directory on a list is on it no more, and waits as metadata
+pub record TakesTagPage (group : ℕ) (list list_now : Listing) (space space_now : Spaces) : Type 0
+  where
+    pub front : List Home
+    pub home : Home
+    pub last : list.tag_pages ≡ front ++ home ∷ []
+    pub is : list_now ≡ record { entries = list.entries; tag_pages = front }
+    pub waits : space_now ≡ change_volume (with_waiting (record {
+      page = home.page;
+      kind = Metadata;
+      group = group;
+    })) space home.vol
+
+-- no file is on the list, and a page of a tag directory goes
+pub record GivesTagPage (group : ℕ) (old new : Now) : Type 0 where
+  pub no_entry : old.list.entries ≡ []
+  pub takes : TakesTagPage group old.list new.list old.space new.space
+  pub same_files : new.files ≡ old.files
+  pub same_cells : new.cells ≡ old.cells
+  pub same_pages : new.pages ≡ old.pages
+
+-- something of a list is let go of
+pub data Step (group : ℕ) (version : Version) (old new : Now) : Type 0 where
+  pages_go : LetsPages group version old new → Step group version old new
+  trim_ends : EndsTrim old new → Step group version old new
+  reading_ends : EndsReading old new → Step group version old new
+  file_ends : EndsFile old new → Step group version old new
+  tag_page_goes : GivesTagPage group old new → Step group version old new
+
+-- so many times, one after the other
+pub data Steps (group : ℕ) (version : Version) (first : Now) : ℕ → Now → Type 0 where
+  none : Steps group version first 0 first
+  more : (n : ℕ) (between last : Now) → Steps group version first n between
+      → Step group version between last → Steps group version first (n + 1) last
+
+-- ** What a call answers
+
+-- what a step of an entry leaves of it: all, all but its clone, or nothing
+abbrev pub list_after : Went → List Entry → Entry → Listing → Listing
+list_after went.Part front entry list = list
+list_after went.Reading front entry list = record {
+  entries = front ++ record { at = entry.at; clone = None } ∷ [];
+  tag_pages = list.tag_pages;
+}
+list_after went.Last front entry list = record { entries = front; tag_pages = list.tag_pages }
+
+-- a cell in use stands there that has a record of a kind
+pub record HasRecord (kind : ℕ) (pages : Pages) (at : CellAt) : Type 0 where
+  pub cell : Cell
+  pub stands : StandsAt pages at cell
+  pub value : Record
+  pub has : record_of kind cell.records ≡ Some value
+
+-- all is well, and the entry is the last of the list
+pub record HasEntry (front : List Entry) (entry : Entry) (now : Now) : Type 0 where
+  pub last : IsLast front entry now.list
+  pub well : IsWell now
+
+-- the same, and the entry's file has let go of all that it was asked to
+pub record IsEnding (front : List Entry) (entry : Entry) (left : Option Leftover) (now : Now)
+    : Type 0 where
+  pub has : HasEntry front entry now
+  pub chain : List PlacedCell
+  pub is : now.files entry.at ≡ Some chain
+  pub left_is : left_of chain ≡ left
+  pub done : IsReleased (from_by left chain) chain
+
+-- a step leads to a list and files that belong together
+pub record Leaves (group : ℕ) (version : Version) (old : Now) (list : Listing) (space : Spaces)
+    (cells : Cells) (pages : Pages) : Type 0 where
+  pub files : Files
+  pub step : Step group version old (now_of list files space cells pages)
+  pub well : IsWell (now_of list files space cells pages)
+
+-- so many steps lead to such
+pub record LeadsTo (group : ℕ) (version : Version) (first : Now) (count : ℕ) (list : Listing)
+    (space : Spaces) (cells : Cells) (pages : Pages) : Type 0 where
+  pub files : Files
+  pub steps : Steps group version first count (now_of list files space cells pages)
+  pub well : IsWell (now_of list files space cells pages)
+
+-- the last entry's clone reads a page through its file that no record of the clone's chain can have
+pub record LacksRoom (list : Listing) (files : Files) : Type 0 where
+  pub front : List Entry
+  pub entry : Entry
+  pub last : IsLast front entry list
+  pub chain : List PlacedCell
+  pub is : files entry.at ≡ Some chain
+  pub reader : Option Reader
+  pub own : List PlacedCell
+  pub given : IsGiven files entry.clone reader own
+  pub lacks : LacksPlace (stale_from chain) (frozen_of reader) chain own
+
+-- so many steps were done, and then one was not for want of a page or of memory
+pub record StopsAt (group : ℕ) (version : Version) (first : Now) (list : Listing) (space : Spaces)
+    (cells : Cells) (pages : Pages) (fault : StoreFault) : Type 0 where
+  pub count : ℕ
+  pub few : count < 16
+  pub files : Files
+  pub before : Spaces
+  pub steps : Steps group version first count (now_of list files before cells pages)
+  pub cause : FindsNone before space cells fault
+  pub full : fault ≡ NoPage → LacksRoom list files
+  pub well : IsWell (now_of list files space cells pages)

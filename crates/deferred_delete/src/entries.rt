@@ -1,0 +1,126 @@
+//! One step of letting go of an entry's file.
+ghost use Rattle.std.specs.Prelude.{◌≡◌, ◌≤◌, ◌+◌, ℕ, IfErr, IfOk, List, OnErr, Some};
+ghost use Rattle.domain_base.specs.declared.version.Version.{Version as VersionOf};
+ghost use Rattle.record_table.specs.declared.record.Leftover.TheVariants.{Remove};
+ghost use Rattle.page_store.specs.declared.fault.StoreFault.TheVariants.{NoPage};
+ghost use Rattle.free_space.specs.Spaces.{Spaces};
+ghost use Rattle.bitfile_cells.specs.Allocated.{FindsNone};
+ghost use Rattle.deferred_delete.specs.declared.list.Entry.{Entry as EntryOf};
+ghost use Rattle.deferred_delete.specs.Listing.{Listing};
+ghost use Rattle.deferred_delete.specs.Standing.{Files};
+ghost use Rattle.deferred_delete.specs.Steps.{HasEntry, IsEnding, LacksRoom, Leaves, list_after, now_of};
+
+use crate::ending::{end_reading, end_trim};
+use crate::list::Entry;
+use crate::looking::{left_at, reader_at, stale_at};
+use crate::went::Went;
+use chain_release::{Released, release_last, release_tail};
+use domain_base::{OutOfMemory, Version};
+use free_cells::FreeCells;
+use free_space::FreeSpace;
+use page_store::{MetaPages, StoreFault};
+use record_table::Leftover;
+use std::alloc::Global;
+
+/// Ends the reading of a removed file's clone through it or, where it has none, frees its last
+/// cell.
+fn end_removed<M: MetaPages>(
+    alloc: Global,
+    pages: &mut M,
+    cells: &mut FreeCells,
+    entry: &Entry,
+) -> Result<Went, OutOfMemory>
+    requires well { (list : Listing) × (front : List EntryOf) × (files : Files) × (space : Spaces)
+        × IsEnding front entry.now (Some Remove) (now_of list files space cells.old
+        (M.pages pages.old)) }
+    ensures ok { (group : ℕ) (version : VersionOf) (list : Listing) (front : List EntryOf)
+        (files : Files) (space : Spaces) → IsEnding front entry.now (Some Remove) (now_of list files
+        space cells.old (M.pages pages.old)) → IfOk result (λ went. Leaves group version
+        (now_of list files space cells.old (M.pages pages.old)) (list_after went front entry.now
+        list) space cells.new (M.pages pages.new)) }
+    ensures cells { OnErr result (cells.new ≡ cells.old) }
+    ensures pages { OnErr result (M.pages pages.new ≡ M.pages pages.old) }
+    ensures room { M.room pages.new ≡ M.room pages.old }
+{
+    match entry.clone {
+        Some(clone) => {
+            end_reading(alloc, pages, &clone)?;
+            Ok(Went::Reading)
+        }
+        None => {
+            release_last(pages, cells, entry.at);
+            Ok(Went::Last)
+        }
+    }
+}
+
+/// Ends what is left to be done with an entry's file of which nothing is stale.
+fn end_entry<M: MetaPages>(
+    alloc: Global,
+    pages: &mut M,
+    cells: &mut FreeCells,
+    entry: &Entry,
+    left: &Option<Leftover>,
+) -> Result<Went, OutOfMemory>
+    requires well { (list : Listing) × (front : List EntryOf) × (files : Files) × (space : Spaces)
+        × IsEnding front entry.now left.now (now_of list files space cells.old
+        (M.pages pages.old)) }
+    ensures ok { (group : ℕ) (version : VersionOf) (list : Listing) (front : List EntryOf)
+        (files : Files) (space : Spaces) → IsEnding front entry.now left.now (now_of list files
+        space cells.old (M.pages pages.old)) → IfOk result (λ went. Leaves group version
+        (now_of list files space cells.old (M.pages pages.old)) (list_after went front entry.now
+        list) space cells.new (M.pages pages.new)) }
+    ensures cells { OnErr result (cells.new ≡ cells.old) }
+    ensures pages { OnErr result (M.pages pages.new ≡ M.pages pages.old) }
+    ensures room { M.room pages.new ≡ M.room pages.old }
+{
+    match left {
+        Some(what) => match what {
+            Leftover::Trim => {
+                end_trim(alloc, pages, &entry.at)?;
+                Ok(Went::Last)
+            }
+            Leftover::Remove => end_removed(alloc, pages, cells, entry),
+        },
+        None => Err(OutOfMemory),
+    }
+}
+
+/// Lets go of something of the file of a list's last entry, and says what it took off the entry.
+/// After an error nothing but room and the count of misses has changed.
+pub(crate) fn release_entry<M: MetaPages>(
+    alloc: Global,
+    pages: &mut M,
+    space: &mut FreeSpace,
+    cells: &mut FreeCells,
+    entry: &Entry,
+    group: u64,
+    version: Version,
+) -> Result<Went, StoreFault>
+    requires well { (list : Listing) × (front : List EntryOf) × (files : Files)
+        × HasEntry front entry.now (now_of list files space.old cells.old (M.pages pages.old)) }
+    ensures ok { (list : Listing) (front : List EntryOf) (files : Files)
+        → HasEntry front entry.now (now_of list files space.old cells.old (M.pages pages.old))
+        → IfOk result (λ went. Leaves group version (now_of list files space.old cells.old
+        (M.pages pages.old)) (list_after went front entry.now list) space.new cells.new
+        (M.pages pages.new)) }
+    ensures err { IfErr result (FindsNone space.old space.new cells.old) }
+    ensures full { (list : Listing) (front : List EntryOf) (files : Files)
+        → HasEntry front entry.now (now_of list files space.old cells.old (M.pages pages.old))
+        → IfErr result (λ fault. fault ≡ NoPage → LacksRoom list files) }
+    ensures cells { OnErr result (cells.new ≡ cells.old) }
+    ensures pages { OnErr result (M.pages pages.new ≡ M.pages pages.old) }
+    ensures room { M.room pages.old ≤ M.room pages.new + 1 }
+{
+    let left = left_at(pages, &entry.at);
+    let from = stale_at(pages, &entry.at, &left);
+    let reader = reader_at(pages, &entry.clone);
+    match release_tail(
+        alloc, pages, space, cells, entry.at, from, &reader, group, version,
+    ) {
+        Ok(Released::Nothing) => Ok(end_entry(alloc, pages, cells, entry, &left)?),
+        Ok(Released::Pages) => Ok(Went::Part),
+        Ok(Released::Cell) => Ok(Went::Part),
+        Err(fault) => Err(fault),
+    }
+}

@@ -1,0 +1,11 @@
+//! Files, pages of files and tag directories that are let go of little by little.
+#![tactic(auto)]
+
+mod ending;
+mod entries;
+mod list;
+mod looking;
+mod release;
+mod went;
+
+pub use list::{Deferred, Entry};

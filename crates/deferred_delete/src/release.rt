@@ -1,0 +1,153 @@
+//! Steps of letting go of what is on a list.
+ghost use Rattle.std.specs.Prelude.{◌≡◌, ◌≤◌, ◌+◌, ◌↔◌, [], Contains, IfErr, IfOk, List, OnErr, false, true};
+ghost use Rattle.domain_base.specs.declared.place.Home.{Home as HomeOf};
+ghost use Rattle.free_space.specs.Spaces.{IsHeld};
+ghost use Rattle.deferred_delete.specs.declared.list.Entry.{Entry as EntryOf};
+ghost use Rattle.deferred_delete.specs.Listing.{IsEmpty};
+ghost use Rattle.page_store.specs.declared.fault.StoreFault.TheVariants.{NoPage};
+ghost use Rattle.bitfile_cells.specs.Allocated.{FindsNone};
+ghost use Rattle.deferred_delete.specs.Standing.{Files};
+ghost use Rattle.deferred_delete.specs.Steps.{IsLast, IsWell, LacksRoom, LeadsTo, Leaves, StopsAt, TakesTagPage, list_after, now_of};
+
+use crate::entries::release_entry;
+use crate::list::Deferred;
+use crate::went::Went;
+use domain_base::Version;
+use free_cells::FreeCells;
+use free_space::{FreeSpace, PageUse};
+use page_store::{MetaPages, StoreFault};
+use std::alloc::Global;
+
+/// How many steps a call does at most.
+const STEPS: u32 = 16;
+
+impl Deferred {
+    /// Takes off the last entry what went of it.
+    fn leave(&mut self, went: Went)
+        requires { (front : List EntryOf) × (entry : EntryOf) × IsLast front entry self.old }
+        ensures { (front : List EntryOf) (entry : EntryOf) → IsLast front entry self.old
+            → self.new ≡ list_after went front entry self.old }
+    {
+        match went {
+            Went::Part => {}
+            Went::Reading => {
+                let last = self.entries.len() - 1;
+                self.entries[last].clone = None;
+            }
+            Went::Last => {
+                self.entries.pop();
+            }
+        }
+    }
+
+    /// Gives back the last page of a tag directory, where no file is on the list: whether one was
+    /// there.
+    fn give_tag_page(&mut self, space: &mut FreeSpace, group: u64) -> bool
+        requires none { self.old.entries ≡ [] }
+        requires held { (home : HomeOf) → Contains self.old.tag_pages home
+            → IsHeld space.old home.vol home.page }
+        ensures some { result ≡ true → TakesTagPage group self.old self.new space.old space.new }
+        ensures nothing { result ≡ false → (self.old.tag_pages ≡ []) × (self.new ≡ self.old)
+            × (space.new ≡ space.old) }
+    {
+        match self.tag_pages.pop() {
+            Some(home) => {
+                space.give_back(home, PageUse::Metadata, group);
+                true
+            }
+            None => false,
+        }
+    }
+
+    /// Lets go of something of the last entry's file or, where no file is on the list, of the last
+    /// page of a tag directory: whether anything was there.
+    fn release_one<M: MetaPages>(
+        &mut self,
+        alloc: Global,
+        pages: &mut M,
+        space: &mut FreeSpace,
+        cells: &mut FreeCells,
+        group: u64,
+        version: Version,
+    ) -> Result<bool, StoreFault>
+        requires well { (files : Files) × IsWell (now_of self.old files space.old cells.old
+            (M.pages pages.old)) }
+        ensures ok { (files : Files) → IsWell (now_of self.old files space.old cells.old
+            (M.pages pages.old)) → IfOk result (λ some. some ≡ true → Leaves group version
+            (now_of self.old files space.old cells.old (M.pages pages.old)) self.new space.new
+            cells.new (M.pages pages.new)) }
+        ensures nothing { IfOk result (λ some. some ≡ false → IsEmpty self.old
+            × (self.new ≡ self.old) × (space.new ≡ space.old) × (cells.new ≡ cells.old)
+            × (M.pages pages.new ≡ M.pages pages.old)) }
+        ensures there { IfOk result (λ some. some ≡ true → ¬ IsEmpty self.old) }
+        ensures err { IfErr result (FindsNone space.old space.new cells.old) }
+        ensures full { (files : Files) → IsWell (now_of self.old files space.old cells.old
+            (M.pages pages.old)) → IfErr result (λ fault. fault ≡ NoPage
+            → LacksRoom self.old files) }
+        ensures list { OnErr result (self.new ≡ self.old) }
+        ensures cells { OnErr result (cells.new ≡ cells.old) }
+        ensures pages { OnErr result (M.pages pages.new ≡ M.pages pages.old) }
+        ensures room { M.room pages.old ≤ M.room pages.new + 1 }
+    {
+        let count = self.entries.len();
+        if count == 0 {
+            return Ok(self.give_tag_page(space, group));
+        }
+        let entry = self.entries[count - 1];
+        match release_entry(alloc, pages, space, cells, &entry, group, version) {
+            Ok(went) => {
+                self.leave(went);
+                Ok(true)
+            }
+            Err(fault) => Err(fault),
+        }
+    }
+
+    /// Lets go of things of the list, one after the other, at most sixteen: in each step a cell
+    /// with the last pages that it names, or a tail of the pages of one cell, or one page that is
+    /// handed over to the clone's file that reads it; a trim's Pending record, with which all
+    /// pages are kept again; a clone's reading through a file that goes; a removed file's last
+    /// cell; or a page of a tag directory. It answers how many steps were done, 0 exactly where
+    /// the list is empty. What no file has any more waits for the group.
+    ///
+    /// At an Err what was let go stays let go, and the list says what is left. NoPage comes only
+    /// where the last entry's clone reads a page through its file for which there is no room.
+    ///
+    /// Each step looks for a cell that has something to let go of from the chain's first one on. A
+    /// file that goes is let go of from its second cell on, so that a step looks at two cells; a
+    /// trim passes the cells that it keeps in each step, so that with k cells kept and m let go of
+    /// it looks at k * m cells in all.
+    pub fn release_some<M: MetaPages>(
+        &mut self,
+        alloc: Global,
+        pages: &mut M,
+        space: &mut FreeSpace,
+        cells: &mut FreeCells,
+        group: u64,
+        version: Version,
+    ) -> Result<u32, StoreFault>
+        requires well { (files : Files) × IsWell (now_of self.old files space.old cells.old
+            (M.pages pages.old)) }
+        ensures ok { (files : Files) → IsWell (now_of self.old files space.old cells.old
+            (M.pages pages.old)) → IfOk result (λ count. LeadsTo group version
+            (now_of self.old files space.old cells.old (M.pages pages.old)) count self.new space.new
+            cells.new (M.pages pages.new)) }
+        ensures some { IfOk result (λ count. (count ≡ 0) ↔ IsEmpty self.old) }
+        ensures most { IfOk result (λ count. count ≤ 16) }
+        ensures err { (files : Files) → IsWell (now_of self.old files space.old cells.old
+            (M.pages pages.old)) → IfErr result (StopsAt group version
+            (now_of self.old files space.old cells.old (M.pages pages.old)) self.new space.new
+            cells.new (M.pages pages.new)) }
+        ensures room { M.room pages.old ≤ M.room pages.new + 16 }
+    {
+        let mut count = 0;
+        for _ in 0..STEPS {
+            match self.release_one(alloc, pages, space, cells, group, version) {
+                Ok(true) => count += 1,
+                Ok(false) => return Ok(count),
+                Err(fault) => return Err(fault),
+            }
+        }
+        Ok(count)
+    }
+}

@@ -1,0 +1,12 @@
+//! What a step leaves of an entry.
+
+/// What a step took off an entry of the list.
+#[derive(Clone, Copy, PartialEq, Eq)]
+pub enum Went {
+    /// Pages or a cell of its file, and there may be more.
+    Part,
+    /// Its clone, which reads through its file no more.
+    Reading,
+    /// The last that was left to be done.
+    Last,
+}
