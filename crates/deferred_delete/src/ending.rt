@@ -104,6 +104,7 @@ pub(crate) fn end_trim<M: MetaPages>(
     ensures elsewhere { (home : HomeOf) → same_home home (home_there at.now) ≡ false
         → M.pages pages.new home ≡ M.pages pages.old home }
     ensures room { M.room pages.new ≡ M.room pages.old }
+    ensures before { M.before pages.new ≡ M.before pages.old }
 {
     let Some(was) = find_record(pages, *at, 1) else {
         return Ok(());
@@ -148,6 +149,7 @@ pub(crate) fn end_reading<M: MetaPages>(
     ensures elsewhere { (home : HomeOf) → same_home home (home_there at.now) ≡ false
         → M.pages pages.new home ≡ M.pages pages.old home }
     ensures room { M.room pages.new ≡ M.room pages.old }
+    ensures before { M.before pages.new ≡ M.before pages.old }
 {
     match find_record(pages, *at, 2) {
         Some(was) => set_record(alloc, pages, *at, &without_source(&was)),

@@ -41,6 +41,7 @@ fn end_removed<M: MetaPages>(
     ensures cells { OnErr result (cells.new ≡ cells.old) }
     ensures pages { OnErr result (M.pages pages.new ≡ M.pages pages.old) }
     ensures room { M.room pages.new ≡ M.room pages.old }
+    ensures before { M.before pages.new ≡ M.before pages.old }
 {
     match entry.clone {
         Some(clone) => {
@@ -73,6 +74,7 @@ fn end_entry<M: MetaPages>(
     ensures cells { OnErr result (cells.new ≡ cells.old) }
     ensures pages { OnErr result (M.pages pages.new ≡ M.pages pages.old) }
     ensures room { M.room pages.new ≡ M.room pages.old }
+    ensures before { M.before pages.new ≡ M.before pages.old }
 {
     match left {
         Some(what) => match what {
@@ -111,6 +113,7 @@ pub(crate) fn release_entry<M: MetaPages>(
     ensures cells { OnErr result (cells.new ≡ cells.old) }
     ensures pages { OnErr result (M.pages pages.new ≡ M.pages pages.old) }
     ensures room { M.room pages.old ≤ M.room pages.new + 1 }
+    ensures before { M.before pages.new ≡ M.before pages.old }
 {
     let left = left_at(pages, &entry.at);
     let from = stale_at(pages, &entry.at, &left);

@@ -88,6 +88,7 @@ impl Deferred {
         ensures cells { OnErr result (cells.new ≡ cells.old) }
         ensures pages { OnErr result (M.pages pages.new ≡ M.pages pages.old) }
         ensures room { M.room pages.old ≤ M.room pages.new + 1 }
+        ensures before { M.before pages.new ≡ M.before pages.old }
     {
         let count = self.entries.len();
         if count == 0 {
@@ -139,6 +140,7 @@ impl Deferred {
             (now_of self.old files space.old cells.old (M.pages pages.old)) self.new space.new
             cells.new (M.pages pages.new)) }
         ensures room { M.room pages.old ≤ M.room pages.new + 16 }
+        ensures before { M.before pages.new ≡ M.before pages.old }
     {
         let mut count = 0;
         for _ in 0..STEPS {

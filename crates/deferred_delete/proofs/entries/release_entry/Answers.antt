@@ -61,6 +61,7 @@ returns-in-Ok-Pages g c = record {
   cells = tt;
   pages = tt;
   room = c.in-Ok-Pages.ensures.room;
+  before = c.in-Ok-Pages.ensures.before;
 }
 
 pub returns-in-Ok-Cell : goal.returns-in-Ok-Cell
@@ -76,6 +77,7 @@ returns-in-Ok-Cell g c = record {
   cells = tt;
   pages = tt;
   room = c.in-Ok-Cell.ensures.room;
+  before = c.in-Ok-Cell.ensures.before;
 }
 
 pub returns-in-Err-clause-full : goal.returns-in-Err-clause-full

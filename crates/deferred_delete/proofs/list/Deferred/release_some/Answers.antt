@@ -1,4 +1,4 @@
-use Rattle.std.proofs.Common.{◌≡◌, ◌+◌, ◌<◌, ◌≤◌, ℕ, ap, arith, refl, subst, sym, ⊎_elim}
+use Rattle.std.proofs.Common.{◌≡◌, ◌∙◌, ◌+◌, ◌<◌, ◌≤◌, ℕ, ap, arith, refl, subst, sym, ⊎_elim}
 use Rattle.std.proofs.lemmas.Bool.{cases_lt}
 use Rattle.deferred_delete.specs.Listing.{IsEmpty}
 use Rattle.deferred_delete.specs.Steps.{now_of}
@@ -12,6 +12,7 @@ loop-init g c = (
   (λ zero. refl),
   (λ less empty. omega (arith, less)),
   omega arith,
+  refl,
 )
 
 pub release_one-requires : goal.release_one-requires
@@ -42,4 +43,5 @@ loop-preserved g c =
           (λ not_less. let zero : c.loop.count ≡ 0 = omega (arith, not_less) in e.there c.in-Ok-true.field-0-test (subst IsEmpty (sym (c.loop.invariant.2 zero)) empty))
           (cases_lt 0 c.loop.count)),
       omega (arith, e.room, c.loop.invariant.4),
+      e.before ∙ c.loop.invariant.5,
     )

@@ -10,3 +10,4 @@ invariant-loop g l =
     → LeadsTo l.group l.version (now_of l.fn.self files l.fn.space l.fn.cells (g.M.MetaPages.pages l.fn.pages)) l.count l.self l.space l.cells (g.M.MetaPages.pages l.pages))
     × (l.count ≡ l.counter) × (l.count ≡ 0 → l.self ≡ l.fn.self) × (1 ≤ l.count → IsEmpty l.fn.self → ⊥)
     × (g.M.MetaPages.room l.fn.pages ≤ g.M.MetaPages.room l.pages + l.counter)
+    × (g.M.MetaPages.before l.pages ≡ g.M.MetaPages.before l.fn.pages)
