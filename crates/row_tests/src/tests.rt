@@ -2,9 +2,10 @@
 ghost use Rattle.std.specs.Prelude.{OnOk};
 ghost use Rattle.dir_rows.specs.Directory.{IsWellFormed};
 
+use crate::looks::Looks;
 use crate::steps::{
     ROOT, add, add_mixed, add_wide, count_long, count_wide, empty_root, first_four,
-    listed_in_place, remove, remove_odd, slot_of,
+    listed_in_place, remove, remove_odd, slot_of, wide_name,
 };
 use bitfile_set::BitfileSet;
 use dir_rows::{is_empty, row_count};
@@ -176,5 +177,54 @@ fn an_index_comes_with_the_second_page_and_stays(rt: HostRuntime) -> Result<(), 
     ];
     let want = [((1, false), 31), ((2, true), 32), ((5, true), 125)];
     assert_eq!(rt; seen, want);
+    Ok(())
+}
+
+/// How many pages of the directory and of its index are looked at to find a name.
+fn looks_for<S: BitfileSet>(set: &S, name: &[u8]) -> [u32; 2]
+    requires { IsWellFormed (S.files set.now) ROOT }
+{
+    let looks = Looks::new(set);
+    let _ = slot_of(&looks, ROOT, name);
+    looks.taken()
+}
+
+/// The same of names in a directory of four pages: one on the last page, one that is not there, and
+/// two of one hash, on the first page and on the second.
+fn looked(alloc: Global) -> Result<(u32, [[u32; 2]; 4]), Fail> {
+    let mut set = empty_root(alloc, Vec::new(alloc))?;
+    add_wide(&mut set, alloc, ROOT, 100)?;
+    add(&mut set, alloc, ROOT, 201, b"Aa")?;
+    add(&mut set, alloc, ROOT, 202, b"fives")?;
+    add(&mut set, alloc, ROOT, 203, b"BB")?;
+    let looks = [
+        looks_for(&set, &wide_name(99)),
+        looks_for(&set, b"x"),
+        looks_for(&set, b"Aa"),
+        looks_for(&set, b"BB"),
+    ];
+    Ok((set.dir_pages(ROOT), looks))
+}
+
+/// The index has one page, which is looked at twice for each page that may have the name: once to
+/// find it among those of the index, and once to find the entry on it.
+#[test]
+fn only_pages_of_the_hash_are_looked_at(rt: HostRuntime) -> Result<(), Fail> {
+    let seen = looked(rt.alloc())?;
+    assert_eq!(rt; seen, (4, [[1, 2], [0, 2], [1, 2], [2, 4]]));
+    Ok(())
+}
+
+/// A directory of one page is looked at once for each name.
+fn looked_at_one(alloc: Global) -> Result<[[u32; 2]; 2], Fail> {
+    let mut set = empty_root(alloc, Vec::new(alloc))?;
+    add_wide(&mut set, alloc, ROOT, 31)?;
+    Ok([looks_for(&set, &wide_name(30)), looks_for(&set, b"x")])
+}
+
+#[test]
+fn a_page_without_an_index_is_looked_at_once(rt: HostRuntime) -> Result<(), Fail> {
+    let seen = looked_at_one(rt.alloc())?;
+    assert_eq!(rt; seen, [[1, 0], [1, 0]]);
     Ok(())
 }

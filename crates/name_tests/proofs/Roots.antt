@@ -1,0 +1,95 @@
+-- The root directory alone has the names of an empty fileset.
+use Rattle.std.proofs.Common.{◌≡◌, ◌≢◌, ◌∙◌, ℕ, ◌+◌, ◌^◌, ◌<◌, ◌==◌, true, false, cond, [], ◌∷◌, Option, Some, None, IsSomeAnd, refl, sym, ap, subst, arith}
+use Rattle.std.proofs.lemmas.Bool.{eq-eqb}
+use Rattle.std.specs.Cmp.{nat_cmp_total}
+use Rattle.std.specs.Option.{option_map}
+use Rattle.std.specs.FinMap as map
+use Rattle.domain_base.specs.declared.place.Kind.{Kind}
+use Rattle.domain_base.specs.declared.place.Kind.TheVariants.{Directory}
+use Rattle.domain_base.specs.declared.place.Tag.{Tag}
+use Rattle.page_store.specs.Bitfiles.{Bitfile, Bitfiles, IsDirectory, new_file, same_tag}
+use Rattle.memory_store.specs.Tags.{root_alone}
+use Rattle.dir_rows.specs.Directory.{IsWellFormed}
+use Rattle.dir_rows.proofs.Outside.{empty_is_well_formed_lem}
+use Rattle.fileset_model.specs.Apply.{empty_fileset}
+use Rattle.fileset_model.specs.Fileset.{Fileset}
+use Rattle.fileset_model.specs.Orders.{Path, path_cmp, path_cmp-total, path_cmp-IsAntisymmetric}
+use Rattle.fileset_model.specs.Paths.{paths_to}
+use Rattle.fileset_model.specs.declared.fileset.FilesetSlot.{FilesetSlot}
+use Rattle.fileset_model.specs.declared.fileset.Role.TheVariants.{Original}
+use Rattle.fileset_model.specs.declared.node.Node.TheVariants.{Directory as DirectoryNode}
+use Rattle.fileset_model.proofs.MapLemmas.{get-insert_other, get-insert_same}
+use Rattle.fileset_model.proofs.MoveLemmas.{entries-empty}
+use Rattle.fileset_laws.proofs.ValidLemmas.{some_inj, to_some_and}
+use Rattle.fileset_laws.proofs.ValidTreeLemmas.{empty_fileset-valid}
+use Rattle.name_space.specs.Changes.{HasOriginal, IsOriginal}
+use Rattle.name_space.specs.Names.{IsNodeOf, Names, led_to, number_of, root_tag}
+use Rattle.name_space.proofs.Created.{by_tag, led_as}
+use Rattle.name_space.proofs.Originals.{IsIn, original_names}
+use Rattle.name_space.proofs.PathCounts.{count-new, count_of}
+
+abbrev root_number : ℕ
+root_number = number_of root_tag
+
+abbrev tree : Fileset
+tree = empty_fileset root_number
+
+abbrev slot : FilesetSlot
+slot = record { tree = tree; role = Original }
+
+none≢some : {X : Type 0} {x : X} → (¬ None ≡ Some x)
+none≢some e = cc
+
+at_root : (t : Tag) → same_tag t root_tag ≡ false → root_alone t ≡ None
+at_root t other = ap (λ b. cond b (Some (new_file Directory 0 0)) None) other
+
+paths : (path : Path) → map.get tree.paths path ≡ option_map (λ (led : Tag × Kind). number_of led.0) (led_to root_alone path)
+paths [] = get-insert_same path_cmp-total path_cmp-IsAntisymmetric map.empty [] root_number
+paths (name ∷ path) = get-insert_other path_cmp-total path_cmp-IsAntisymmetric map.empty [] root_number (name ∷ path) (λ e. cc) ∙ map.get-empty path_cmp (name ∷ path)
+
+one_path : paths_to tree root_number ≡ 1
+one_path =
+    let more = count-new map.empty [] root_number root_number (map.get-empty path_cmp []) in
+    let none : count_of root_number (map.entries (map.empty {X = ℕ} {R = path_cmp})) ≡ 0 = ap (count_of root_number) (entries-empty path_cmp) in
+    omega (arith, more, none)
+
+root_in : IsIn root_alone tree root_tag Directory
+root_in = record {
+  file = new_file Directory 0 0;
+  there = refl;
+  kind = refl;
+  node = to_some_and (IsNodeOf (new_file Directory 0 0)) (map.get tree.nodes root_number) (DirectoryNode 0 0)
+      (get-insert_same nat_cmp_total map.nat_cmp-IsAntisymmetric map.empty root_number (DirectoryNode 0 0)) (refl, refl, refl);
+  links = sym one_path;
+}
+
+each : (path : Path) (tag : Tag) (of : Kind) → led_to root_alone path ≡ led_as tag of → IsIn root_alone tree tag of
+each [] tag of led = subst (λ (led : Tag × Kind). IsIn root_alone tree led.0 led.1) (some_inj led) root_in
+each (name ∷ path) tag of led = absurd (none≢some led)
+
+directories : (dir : Tag) → IsDirectory root_alone dir → IsWellFormed root_alone dir
+directories dir there = by_tag (IsWellFormed root_alone dir) dir root_tag
+    (λ same. subst (IsWellFormed root_alone) (sym same) (empty_is_well_formed_lem root_alone root_tag (new_file Directory 0 0) refl refl refl refl))
+    (λ other. absurd (subst (λ (o : Option Bitfile). IsSomeAnd o (λ f. f.kind ≡ Directory)) (at_root dir other) there))
+
+live : (tag : Tag) (file : Bitfile) → root_alone tag ≡ Some file → (path : Path) × (led_to root_alone path ≡ led_as tag file.kind)
+live tag file there = by_tag ((path : Path) × (led_to root_alone path ≡ led_as tag file.kind)) tag root_tag
+    (λ same.
+    let is : new_file Directory 0 0 ≡ file = some_inj (ap root_alone (sym same) ∙ there) in
+    ([], ap (λ t. led_as t Directory) (sym same) ∙ ap (λ (f : Bitfile). led_as tag f.kind) is))
+    (λ other. absurd (none≢some (sym (at_root tag other) ∙ there)))
+
+seq : (tag : Tag) (file : Bitfile) → root_alone tag ≡ Some file → tag.seq < 2 ^ 16
+seq tag file there = by_tag (tag.seq < 2 ^ 16) tag root_tag
+    (λ same. subst (λ (t : Tag). t.seq < 2 ^ 16) (sym same) (omega arith))
+    (λ other. absurd (none≢some (sym (at_root tag other) ∙ there)))
+
+pub root_has : HasOriginal root_alone
+root_has = (
+  slot,
+  record {
+    names = original_names root_alone slot refl paths each directories live seq;
+    role = refl;
+    valid = empty_fileset-valid root_number;
+  },
+)

@@ -1,0 +1,10 @@
+//! Tests of names over the set in memory, which answers as the plain filesets do.
+#![tactic(auto)]
+
+#[cfg(test)]
+mod many;
+mod reading;
+mod runs;
+mod steps;
+#[cfg(test)]
+mod tests;
