@@ -1,0 +1,9 @@
+pub mod Narrower
+pub mod Others
+pub mod ReadHomes
+pub mod Fits
+pub mod PagesGo
+pub mod FirstCells
+pub mod Ended
+pub mod Laws
+pub mod Fronts

@@ -1,0 +1,25 @@
+-- What letting go of the things of a list leaves as it was.
+use Rattle.std.specs.Prelude.{◌≡◌, ◌<◌, ℕ, List, Option, Some, Contains, IsSomeAnd}
+use Rattle.domain_base.specs.declared.place.CellAt.{CellAt}
+use Rattle.bmt_mcells.specs.Chain.{PlacedCell}
+use Rattle.bitfile_cells.specs.Files.{places_of}
+use Rattle.deferred_delete.specs.declared.list.Entry.{Entry}
+use Rattle.deferred_delete.specs.Listed.{stale_from}
+use Rattle.deferred_delete.specs.Listing.{Listing}
+use Rattle.deferred_delete.specs.Steps.{Now}
+
+-- no entry is the file's, and none gives it as the clone's file that reads through its own
+abbrev pub IsBeside : Listing → CellAt → Type 0
+IsBeside list at = (entry : Entry) → Contains list.entries entry
+    → (¬ entry.at ≡ at) × (¬ entry.clone ≡ Some at)
+
+-- a page of a file is none of those that go: where an entry is the file's, it stands in front of
+-- them
+abbrev pub Stays : Now → CellAt → ℕ → Type 0
+Stays now at page = (entry : Entry) → Contains now.list.entries entry → entry.at ≡ at
+    → (chain : List PlacedCell) → now.files at ≡ Some chain → page < stale_from chain
+
+-- a file is there, and its pages in front of those that go stand where they stood
+abbrev pub KeepsFront : List PlacedCell → Option (List PlacedCell) → Type 0
+KeepsFront chain now = IsSomeAnd now (λ after. (page : ℕ) → page < stale_from chain
+    → places_of after page ≡ places_of chain page)

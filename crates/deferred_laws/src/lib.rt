@@ -1,0 +1,6 @@
+//! Laws of the steps in which things are let go of, each the contract of a function without a body.
+#![tactic(auto)]
+
+mod steps;
+
+pub use steps::{others_stay, pages_are_read_as_before, trimmed_files_keep_their_front};

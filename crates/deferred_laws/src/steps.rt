@@ -1,0 +1,37 @@
+//! What steps leave as it was.
+ghost use Rattle.std.specs.Prelude.{◌≡◌, ℕ, List, Some, Contains};
+ghost use Rattle.domain_base.specs.declared.place.CellAt.{CellAt};
+ghost use Rattle.domain_base.specs.declared.version.Version.{Version};
+ghost use Rattle.record_table.specs.declared.record.Leftover.TheVariants.{Trim};
+ghost use Rattle.bmt_mcells.specs.Chain.{PlacedCell};
+ghost use Rattle.deferred_delete.specs.declared.list.Entry.{Entry};
+ghost use Rattle.deferred_delete.specs.Listed.{left_of};
+ghost use Rattle.deferred_delete.specs.Standing.{read_at};
+ghost use Rattle.deferred_delete.specs.Steps.{IsWell, Now, Steps};
+ghost use Rattle.deferred_laws.specs.Kept.{IsBeside, KeepsFront, Stays};
+
+/// A file that no entry is of, and that no entry gives as its clone's, has the same chain after.
+pub fn others_stay()
+    ensures { (group : ℕ) (version : Version) (first : Now) (count : ℕ) (last : Now)
+        → Steps group version first count last → (at : CellAt) → IsBeside first.list at
+        → last.files at ≡ first.files at }
+{}
+
+/// A file that is trimmed is there still, and each page in front of those that go stands where it
+/// stood.
+pub fn trimmed_files_keep_their_front()
+    ensures { (group : ℕ) (version : Version) (first : Now) (count : ℕ) (last : Now)
+        → IsWell first → Steps group version first count last
+        → (entry : Entry) → Contains first.list.entries entry
+        → (chain : List PlacedCell) → first.files entry.at ≡ Some chain
+        → left_of chain ≡ Some Trim → KeepsFront chain (last.files entry.at) }
+{}
+
+/// Each page of each file, but those that go, is read at the home at which it was read, or as zeros
+/// as before: so in clones too, which read pages through the files that go.
+pub fn pages_are_read_as_before()
+    ensures { (group : ℕ) (version : Version) (first : Now) (count : ℕ) (last : Now)
+        → IsWell first → Steps group version first count last
+        → (at : CellAt) (page : ℕ) → Stays first at page
+        → read_at last.files at page ≡ read_at first.files at page }
+{}
