@@ -171,16 +171,16 @@ module _ (group : ℕ) (version : Version) (old new : Now) (fits : Fits old) (s 
   file_in : Contains old.list.entries s.entry
   file_in = in_last old.list s.front s.entry s.last
 
-  file_once : AreEntriesOnce (s.front ++ s.entry ∷ [])
+  pub file_once : AreEntriesOnce (s.front ++ s.entry ∷ [])
   file_once = subst AreEntriesOnce s.last fits.once
 
-  file_front : (e : Entry) → Contains new.list.entries e → Contains s.front e
+  pub file_front : (e : Entry) → Contains new.list.entries e → Contains s.front e
   file_front e inside = inside_by (record { entries = s.front; tag_pages = old.list.tag_pages }) new.list e s.list inside
 
-  file_was : (e : Entry) → Contains new.list.entries e → Contains old.list.entries e
+  pub file_was : (e : Entry) → Contains new.list.entries e → Contains old.list.entries e
   file_was e inside = in_front old.list s.front s.entry e s.last (file_front e inside)
 
-  file_gone : new.files s.entry.at ≡ None
+  pub file_gone : new.files s.entry.at ≡ None
   file_gone = ap (λ (f : Files). f s.entry.at) s.files ∙ file_there s.entry.at None old.files
 
   pub ended_other : (a : CellAt) → ¬ a ≡ s.entry.at → new.files a ≡ old.files a

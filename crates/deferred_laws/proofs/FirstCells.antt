@@ -1,5 +1,5 @@
 -- The first cell of one file says something else, but not of pages.
-use Rattle.std.proofs.Common.{◌≡◌, ◌∙◌, ℕ, List, [], ◌∷◌, ◌++◌, Option, Some, None, refl, sym, ap, subst, arith, ⊎_elim}
+use Rattle.std.proofs.Common.{◌≡◌, ◌∙◌, ℕ, List, [], ◌∷◌, ◌++◌, Option, Some, IsSome, None, refl, sym, ap, subst, arith, ⊎_elim}
 use Rattle.std.proofs.lemmas.Grind.{flat_map-append}
 use Rattle.std.specs.Option.{option_and_then, option_map, option_map_or}
 use Rattle.domain_base.specs.declared.place.CellAt.{CellAt}
@@ -16,20 +16,24 @@ use Rattle.bitfile_cells.proofs.MapRecords.{runs_by_map, value_has_rows}
 use Rattle.bitfile_core.specs.Changes.{with_first}
 use Rattle.deferred_delete.specs.Standing.{Files, place_in, source_in, source_of, with_file}
 use Rattle.deferred_delete.specs.Steps.{Now, says_no_source, says_trimmed, without_source}
-use Rattle.deferred_delete.proofs.Records.{sourceless_maps, sourceless_there, trimmed_maps, trimmed_other}
+use Rattle.deferred_delete.proofs.Records.{sourceless_maps, sourceless_other, sourceless_there, trimmed_attributes, trimmed_maps, trimmed_other}
 use Rattle.deferred_delete.proofs.Spread.{some_same}
 use Rattle.deferred_delete.proofs.Standings.{file_other, file_there, place_by, same_or_not}
 use Rattle.deferred_laws.proofs.Fits.{Fits, HasOneMap}
 
 -- what a change of a cell leaves of the record that says where pages stand
 abbrev pub KeepsMap : (Cell → Cell) → Type 0
-KeepsMap says = (cell : Cell) (value : Record) → HasMap cell value → map_records (says cell).records ≡ value ∷ []
+KeepsMap says = (cell : Cell) (value : Record) → HasMap cell value → IsSome (record_of 1 cell.records)
+    → (map_records (says cell).records ≡ value ∷ []) × IsSome (record_of 1 (says cell).records)
 
 pub trimmed_keeps : KeepsMap says_trimmed
-trimmed_keeps cell value map = trimmed_maps cell value map.only (value_has_rows value map.is_map)
+trimmed_keeps cell value map some = (trimmed_maps cell value map.only (value_has_rows value map.is_map), trimmed_attributes cell some)
 
 pub sourceless_keeps : KeepsMap says_no_source
-sourceless_keeps cell value map = sourceless_maps cell value map.only (value_has_rows value map.is_map)
+sourceless_keeps cell value map some = (
+  sourceless_maps cell value map.only (value_has_rows value map.is_map),
+  subst IsSome (sym (sourceless_other cell 1 (λ e. omega (arith, e)))) some,
+)
 
 abbrev first_or : PlacedCell → List PlacedCell → PlacedCell
 first_or d [] = d
@@ -37,14 +41,14 @@ first_or d (c ∷ cs) = c
 
 module _ (says : Cell → Cell) (keeps : KeepsMap says) where
   map_now : (cell : Cell) → HasOneMap cell → HasOneMap (says cell)
-  map_now cell has = record { value = has.value; map = record { only = keeps cell has.value has.map; is_map = has.map.is_map } }
+  map_now cell has = record { value = has.value; map = record { only = (keeps cell has.value has.map has.attributes).0; is_map = has.map.is_map }; attributes = (keeps cell has.value has.map has.attributes).1 }
 
   maps_with : (cs : List PlacedCell) → ((first : PlacedCell) (rest : List PlacedCell) → cs ≡ first ∷ rest → HasOneMap first.cell) → (first : PlacedCell) (rest : List PlacedCell) → with_first says cs ≡ first ∷ rest → HasOneMap first.cell
   maps_with [] has first rest e = absurd (let it : [] ≡ first ∷ rest = e in absurd (cc))
   maps_with (c ∷ cs) has first rest e = subst (λ (x : PlacedCell). HasOneMap x.cell) (ap (first_or first) e) (map_now c.cell (has c cs refl))
 
   runs_now : (cell : Cell) → HasOneMap cell → runs_of (says cell).records ≡ runs_of cell.records
-  runs_now cell has = runs_by_map (says cell).records ∙ ap runs_of (keeps cell has.value has.map ∙ sym has.map.only) ∙ sym (runs_by_map cell.records)
+  runs_now cell has = runs_by_map (says cell).records ∙ ap runs_of ((keeps cell has.value has.map has.attributes).0 ∙ sym has.map.only) ∙ sym (runs_by_map cell.records)
 
   places_with : (cs : List PlacedCell) → ((first : PlacedCell) (rest : List PlacedCell) → cs ≡ first ∷ rest → HasOneMap first.cell) → (p : ℕ) → places_of (with_first says cs) p ≡ places_of cs p
   places_with [] has p = refl

@@ -1,10 +1,10 @@
 -- What steps keep of files and of the list of what is to be let go of.
-use Rattle.std.proofs.Common.{◌≡◌, ◌∙◌, ℕ, List, ◌∷◌, Some, Contains, sym, ap, subst, ⊎_elim}
+use Rattle.std.proofs.Common.{◌≡◌, ◌∙◌, ℕ, List, ◌∷◌, Some, IsSome, Contains, sym, ap, subst, ⊎_elim}
 use Rattle.domain_base.specs.declared.place.CellAt.{CellAt}
 use Rattle.domain_base.specs.declared.version.Version.{Version}
 use Rattle.page_store.specs.Pages.{Pages}
 use Rattle.record_table.specs.declared.record.Record.{Record}
-use Rattle.bmt_mcells.specs.Cell.{Cell}
+use Rattle.bmt_mcells.specs.Cell.{Cell, record_of}
 use Rattle.bmt_mcells.specs.Chain.{PlacedCell}
 use Rattle.bitfile_cells.specs.Files.{HasMap, IsFile}
 use Rattle.deferred_delete.specs.declared.list.Entry.{Entry}
@@ -18,6 +18,7 @@ use Rattle.deferred_laws.proofs.Narrower.{narrower_step}
 pub record HasOneMap (cell : Cell) : Type 0 where
   pub value : Record
   pub map : HasMap cell value
+  pub attributes : IsSome (record_of 1 cell.records)
 
 -- no file has two entries, and no clone that is given has one; the clones that are given are those
 -- that read through the files; what is read through reads through none; and first cells have maps
@@ -30,7 +31,7 @@ pub record Fits (now : Now) : Type 0 where
   pub maps : (a : CellAt) (first : PlacedCell) (rest : List PlacedCell) → now.files a ≡ Some (first ∷ rest) → HasOneMap first.cell
 
 pub map_in : (pages : Pages) (at : CellAt) (first : PlacedCell) (rest : List PlacedCell) → IsFile pages at (first ∷ rest) → HasOneMap first.cell
-map_in pages at first rest file = record { value = file.1.value; map = file.1.map }
+map_in pages at first rest file = record { value = file.1.value; map = file.1.map; attributes = file.1.attributes }
 
 pub well_fits : (now : Now) → IsWell now → Fits now
 well_fits now well = record {

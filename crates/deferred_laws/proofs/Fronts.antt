@@ -30,7 +30,7 @@ pub record IsTrimmed (chain : List PlacedCell) (now : Now) (a : CellAt) : Type 0
   pub no_clone : (e : Entry) → Contains now.list.entries e → ¬ e.clone ≡ Some a
   pub left : (e : Entry) → Contains now.list.entries e → e.at ≡ a → (left_of after ≡ Some Trim) × (stale_from after ≡ stale_from chain)
 
-not_both : (o : Option Leftover) → o ≡ Some Trim → o ≡ Some Remove → ⊥
+pub not_both : (o : Option Leftover) → o ≡ Some Trim → o ≡ Some Remove → ⊥
 not_both o trim remove = let e : Some Trim ≡ Some Remove = sym trim ∙ remove in absurd (cc)
 
 module _ (group : ℕ) (version : Version) (old new : Now) (chain : List PlacedCell) (a : CellAt) (k : IsTrimmed chain old a) where
@@ -97,7 +97,7 @@ module _ (group : ℕ) (version : Version) (old new : Now) (chain : List PlacedC
         let was : s.chain ≡ k.after = some_same s.chain k.after (sym s.is ∙ sym (ap old.files same) ∙ k.is) in
         not_both (left_of k.after) (k.left s.entry (in_last old.list s.front s.entry s.last) (sym same)).0 (sym (ap left_of was) ∙ s.removed)))
 
-    trimmed_step : Step group version old new → IsTrimmed chain new a
+    pub trimmed_step : Step group version old new → IsTrimmed chain new a
     trimmed_step (pages_go s) = lets_trimmed s
     trimmed_step (trim_ends s) = trim_trimmed s
     trimmed_step (reading_ends s) = reading_trimmed s

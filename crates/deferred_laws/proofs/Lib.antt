@@ -7,3 +7,5 @@ pub mod FirstCells
 pub mod Ended
 pub mod Laws
 pub mod Fronts
+pub mod Emptied
+pub mod AllKept

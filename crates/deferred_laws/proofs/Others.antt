@@ -18,7 +18,7 @@ clone_other (Some c) own files a other = file_other c (Some own) files a (λ sam
 not_itself : (a b : CellAt) → ¬ a ≡ b → ¬ b ≡ a
 not_itself a b other same = other (sym same)
 
-beside_same : (group : ℕ) (version : Version) (old new : Now) → Step group version old new → (at : CellAt) → IsBeside old.list at → new.files at ≡ old.files at
+pub beside_same : (group : ℕ) (version : Version) (old new : Now) → Step group version old new → (at : CellAt) → IsBeside old.list at → new.files at ≡ old.files at
 beside_same group version old new (pages_go s) at beside =
     let apart = beside s.entry (in_last old.list s.front s.entry s.last) in
     ap (λ (f : Files). f at) s.files
@@ -35,7 +35,7 @@ beside_same group version old new (file_ends s) at beside =
     ap (λ (f : Files). f at) s.files ∙ file_other s.entry.at None old.files at (not_itself s.entry.at at apart.0)
 beside_same group version old new (tag_page_goes s) at beside = ap (λ (f : Files). f at) s.same_files
 
-beside_still : (group : ℕ) (version : Version) (old new : Now) → Step group version old new → (at : CellAt) → IsBeside old.list at → IsBeside new.list at
+pub beside_still : (group : ℕ) (version : Version) (old new : Now) → Step group version old new → (at : CellAt) → IsBeside old.list at → IsBeside new.list at
 beside_still group version old new step at beside e inside =
     let n = narrower_step group version old new step e inside in
     let apart = beside n.was n.inside in (

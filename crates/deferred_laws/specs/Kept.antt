@@ -1,10 +1,11 @@
 -- What letting go of the things of a list leaves as it was.
-use Rattle.std.specs.Prelude.{◌≡◌, ◌<◌, ℕ, List, Option, Some, Contains, IsSomeAnd}
+use Rattle.std.specs.Prelude.{◌≡◌, ◌<◌, ℕ, List, Option, Some, None, Contains, IsSomeAnd}
 use Rattle.domain_base.specs.declared.place.CellAt.{CellAt}
 use Rattle.bmt_mcells.specs.Chain.{PlacedCell}
 use Rattle.bitfile_cells.specs.Files.{places_of}
+use Rattle.bitfile_core.specs.Files.{keep_of}
 use Rattle.deferred_delete.specs.declared.list.Entry.{Entry}
-use Rattle.deferred_delete.specs.Listed.{stale_from}
+use Rattle.deferred_delete.specs.Listed.{left_of, stale_from}
 use Rattle.deferred_delete.specs.Listing.{Listing}
 use Rattle.deferred_delete.specs.Steps.{Now}
 
@@ -23,3 +24,7 @@ Stays now at page = (entry : Entry) → Contains now.list.entries entry → entr
 abbrev pub KeepsFront : List PlacedCell → Option (List PlacedCell) → Type 0
 KeepsFront chain now = IsSomeAnd now (λ after. (page : ℕ) → page < stale_from chain
     → places_of after page ≡ places_of chain page)
+
+-- a file is there that keeps all of 65,536 pages, and of which nothing is left to be let go of
+abbrev pub KeepsAll : Option (List PlacedCell) → Type 0
+KeepsAll now = IsSomeAnd now (λ after. (keep_of after ≡ Some 65536) × (left_of after ≡ None))

@@ -3,4 +3,7 @@
 
 mod steps;
 
-pub use steps::{others_stay, pages_are_read_as_before, trimmed_files_keep_their_front};
+pub use steps::{
+    others_stay, pages_are_read_as_before, removed_files_are_gone, trimmed_files_keep_all,
+    trimmed_files_keep_their_front,
+};

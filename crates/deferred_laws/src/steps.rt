@@ -1,14 +1,14 @@
 //! What steps leave as it was.
-ghost use Rattle.std.specs.Prelude.{◌≡◌, ℕ, List, Some, Contains};
+ghost use Rattle.std.specs.Prelude.{◌≡◌, ℕ, List, [], Some, None, Contains};
 ghost use Rattle.domain_base.specs.declared.place.CellAt.{CellAt};
 ghost use Rattle.domain_base.specs.declared.version.Version.{Version};
-ghost use Rattle.record_table.specs.declared.record.Leftover.TheVariants.{Trim};
+ghost use Rattle.record_table.specs.declared.record.Leftover.TheVariants.{Remove, Trim};
 ghost use Rattle.bmt_mcells.specs.Chain.{PlacedCell};
 ghost use Rattle.deferred_delete.specs.declared.list.Entry.{Entry};
 ghost use Rattle.deferred_delete.specs.Listed.{left_of};
 ghost use Rattle.deferred_delete.specs.Standing.{read_at};
 ghost use Rattle.deferred_delete.specs.Steps.{IsWell, Now, Steps};
-ghost use Rattle.deferred_laws.specs.Kept.{IsBeside, KeepsFront, Stays};
+ghost use Rattle.deferred_laws.specs.Kept.{IsBeside, KeepsAll, KeepsFront, Stays};
 
 /// A file that no entry is of, and that no entry gives as its clone's, has the same chain after.
 pub fn others_stay()
@@ -34,4 +34,23 @@ pub fn pages_are_read_as_before()
         → IsWell first → Steps group version first count last
         → (at : CellAt) (page : ℕ) → Stays first at page
         → read_at last.files at page ≡ read_at first.files at page }
+{}
+
+/// A file that was to be removed is not there any more once no file is on the list.
+pub fn removed_files_are_gone()
+    ensures { (group : ℕ) (version : Version) (first : Now) (count : ℕ) (last : Now)
+        → IsWell first → Steps group version first count last → last.list.entries ≡ []
+        → (entry : Entry) → Contains first.list.entries entry
+        → (chain : List PlacedCell) → first.files entry.at ≡ Some chain
+        → left_of chain ≡ Some Remove → last.files entry.at ≡ None }
+{}
+
+/// A file that was to be trimmed keeps all of 65,536 pages once no file is on the list, and nothing
+/// of it is left to be let go of.
+pub fn trimmed_files_keep_all()
+    ensures { (group : ℕ) (version : Version) (first : Now) (count : ℕ) (last : Now)
+        → IsWell first → Steps group version first count last → last.list.entries ≡ []
+        → (entry : Entry) → Contains first.list.entries entry
+        → (chain : List PlacedCell) → first.files entry.at ≡ Some chain
+        → left_of chain ≡ Some Trim → KeepsAll (last.files entry.at) }
 {}
