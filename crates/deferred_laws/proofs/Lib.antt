@@ -9,3 +9,4 @@ pub mod Laws
 pub mod Fronts
 pub mod Emptied
 pub mod AllKept
+pub mod WaitOn

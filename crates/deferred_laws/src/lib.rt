@@ -2,8 +2,10 @@
 #![tactic(auto)]
 
 mod steps;
+mod waiting;
 
 pub use steps::{
     others_stay, pages_are_read_as_before, removed_files_are_gone, trimmed_files_keep_all,
     trimmed_files_keep_their_front,
 };
+pub use waiting::pages_wait_on;
