@@ -1,0 +1,171 @@
+-- Lists of one file, or of a page of a tag directory, that belong together with all else.
+use Rattle.std.proofs.Common.{◌≡◌, ◌∙◌, ℕ, ◌<◌, ◌≤◌, zero, suc, List, [], ◌∷◌, ◌++◌, Option, Some, None, Result, Ok, Err, IfOk, IfErr, IsSome, IsSomeAnd, Contains, get_or, length, arith, refl, sym, ap, subst, ⊎_elim}
+use Rattle.std.specs.Option.{option_and_then, option_map_or}
+use Rattle.domain_base.specs.declared.place.CellAt.{CellAt}
+use Rattle.domain_base.specs.declared.place.Home.{Home}
+use Rattle.domain_base.specs.declared.version.Version.{Version}
+use Rattle.page_store.specs.Pages.{Pages}
+use Rattle.page_store.specs.declared.fault.StoreFault.{StoreFault}
+use Rattle.bmt_mcells.specs.Chain.{PlacedCell}
+use Rattle.extent_maps.specs.declared.run.PagePlace.TheVariants.{Absent, At}
+use Rattle.free_cells.specs.Cells.{Cells}
+use Rattle.free_space.specs.Spaces.{Spaces}
+use Rattle.bitfile_cells.specs.Allocated.{AreAllocated}
+use Rattle.bitfile_cells.specs.Files.{places_of}
+use Rattle.bitfile_core.specs.Together.{IsHeldApart}
+use Rattle.chain_release.proofs.Once.{absent_not}
+use Rattle.deferred_delete.specs.declared.list.Entry.{Entry}
+use Rattle.deferred_delete.specs.Listed.{IsEntry, IsListed, left_of}
+use Rattle.deferred_delete.specs.Listing.{Adds, AddsEntry, Listing, SetsClone}
+use Rattle.deferred_delete.specs.Standing.{Files, IsStanding, ReadsThrough, Source, StandTogether, place_in, source_at, source_of, with_file}
+use Rattle.deferred_delete.specs.Steps.{IsWell, LeadsTo, Now, StopsAt, now_of}
+use Rattle.deferred_delete.proofs.Standings.{apart_from, each_from, file_other, file_there, place_by, same_or_not, source_by}
+use Rattle.release_tests.specs.Going.{IsGoing}
+
+abbrev listing : List Entry → List Home → Listing
+listing entries tag_pages = record { entries = entries; tag_pages = tag_pages }
+
+in_one : {X : Type 0} (x y : X) → Contains (x ∷ []) y → y ≡ x
+in_one x y (zero, within, is) = sym is
+in_one x y (suc k, within, is) = absurd (omega (arith, within))
+
+in_none : {X : Type 0} (y : X) → Contains {X = X} [] y → ⊥
+in_none y inside = omega (arith, inside.1)
+
+some_same : {X : Type 0} (x y : X) → Some x ≡ Some y → x ≡ y
+some_same x y is = cc
+
+none_some : {X : Type 0} (x : X) → None ≡ Some x → ⊥
+none_some x is = cc
+
+abbrev no_files : Files
+no_files = λ a. None
+
+module _ (space : Spaces) (cells : Cells) (pages : Pages) (at : CellAt) (chain : List PlacedCell) (going : IsGoing space cells pages at chain) (left : IsSome (left_of chain)) (alone : source_of chain ≡ None) where
+  abbrev files : Files
+  files = with_file at (Some chain) no_files
+
+  there : files at ≡ Some chain
+  there = file_there at (Some chain) no_files
+
+  nowhere : (a : CellAt) → ¬ a ≡ at → files a ≡ None
+  nowhere a other = file_other at (Some chain) no_files a other
+
+  only : (a : CellAt) (cs : List PlacedCell) → files a ≡ Some cs → (a ≡ at) × (cs ≡ chain)
+  only a cs is = ⊎_elim
+      (λ same. (same, some_same cs chain (sym is ∙ ap files same ∙ there)))
+      (λ other. absurd (none_some cs (sym (nowhere a other) ∙ is)))
+      (same_or_not a at)
+
+  place_only : (a : CellAt) (p : ℕ) (home : Home) → place_in files a p ≡ At home → (a ≡ at) × (places_of chain p ≡ At home)
+  place_only a p home is = ⊎_elim
+      (λ same. (same, sym (place_by files at chain p there) ∙ sym (ap (λ (b : CellAt). place_in files b p) same) ∙ is))
+      (λ other. absurd (absent_not home (sym (ap (λ o. option_map_or (λ cs. places_of cs p) o Absent) (nowhere a other)) ∙ is)))
+      (same_or_not a at)
+
+  no_source : (a : CellAt) → source_at files a ≡ None
+  no_source a = ⊎_elim
+      (λ same. ap (source_at files) same ∙ source_by files at chain there ∙ alone)
+      (λ other. ap (λ o. option_and_then source_of o) (nowhere a other))
+      (same_or_not a at)
+
+  reads_none : (a b : CellAt) → ReadsThrough files a b → ⊥
+  reads_none a b reads = subst (λ o. IsSomeAnd o (λ (source : Source). source.at ≡ b)) (no_source a) reads
+
+  together : StandTogether space cells pages files
+  together = record {
+    allocated = going.allocated;
+    each = each_from cells pages files (λ a cs is.
+        subst (λ (b : CellAt). IsStanding cells pages b cs) (sym (only a cs is).0)
+        (subst (IsStanding cells pages at) (sym (only a cs is).1) (record { file = going.file; on_tables = going.on_tables })));
+    apart = apart_from files (λ a b xs ys is_a is_b other. absurd (other ((only a xs is_a).0 ∙ sym (only b ys is_b).0)));
+    held = λ a p home is. going.held p home (place_only a p home is).1;
+    once = λ a b p q home is_a is_b.
+        let x = place_only a p home is_a in
+        let y = place_only b q home is_b in
+        (x.0 ∙ sym y.0, going.once p q home x.1 y.1);
+    one_deep = λ a b c reads. absurd (reads_none a b reads);
+  }
+
+  abbrev entry : Entry
+  entry = record { at = at; clone = None }
+
+  is_entry : IsEntry files entry
+  is_entry = record {
+    pending = subst (λ o. IsSome (option_and_then left_of o)) (sym there) left;
+    given = λ clone is. absurd (none_some clone is);
+    all = λ clone reads. absurd (reads_none clone at reads);
+  }
+
+  is_listed : IsListed space cells files (listing (entry ∷ []) [])
+  is_listed = record {
+    each = λ e inside. subst (IsEntry files) (sym (in_one entry e inside)) is_entry;
+    once = λ i j d less_i less_j same. omega (arith, less_i, less_j);
+    clones = λ a b in_a in_b is. none_some b.at (sym (ap (λ (e : Entry). e.clone) (in_one entry a in_a)) ∙ is);
+    pages_once = tt;
+    pages_low = λ home inside. absurd (in_none home inside);
+    pages_held = λ home inside. absurd (in_none home inside);
+    pages_apart = λ home inside. absurd (in_none home inside);
+  }
+
+  added : (entries : List Entry) → Adds at None [] entries → entries ≡ entry ∷ []
+  added entries adds = ⊎_elim (λ sets. absurd (omega (arith, sets.within))) (λ is. is.is) adds
+
+  pub one_well : (old new : Listing) → old.entries ≡ [] → old.tag_pages ≡ [] → Adds at None old.entries new.entries → new.tag_pages ≡ old.tag_pages → (fs : Files) × IsWell (now_of new fs space cells pages)
+  one_well old new no_entry no_page adds same =
+      let entries = added new.entries (subst (λ (es : List Entry). Adds at None es new.entries) no_entry adds) in (
+        files,
+        record {
+          together = together;
+          listed = subst (λ (es : List Entry). IsListed space cells files (listing es new.tag_pages)) (sym entries)
+              (subst (λ (hs : List Home). IsListed space cells files (listing (entry ∷ []) hs)) (sym (same ∙ no_page)) is_listed);
+        },
+      )
+
+-- ---- no file, and a page of a tag directory
+
+module _ (space : Spaces) (cells : Cells) (pages : Pages) (home : Home) (allocated : AreAllocated space cells pages) (low : 1 ≤ home.vol) (held : IsHeldApart space cells home) where
+  none_at : (a : CellAt) → no_files a ≡ None
+  none_at a = refl
+
+  none_there : (a : CellAt) (p : ℕ) (h : Home) → place_in no_files a p ≡ At h → ⊥
+  none_there a p h is = absent_not h (sym (ap (λ o. option_map_or (λ cs. places_of cs p) o Absent) (none_at a)) ∙ is)
+
+  page_together : StandTogether space cells pages no_files
+  page_together = record {
+    allocated = allocated;
+    each = each_from cells pages no_files (λ a cs is. absurd (none_some cs (sym (none_at a) ∙ is)));
+    apart = apart_from no_files (λ a b xs ys is_a is_b other. absurd (none_some xs (sym (none_at a) ∙ is_a)));
+    held = λ a p h is. absurd (none_there a p h is);
+    once = λ a b p q h is_a is_b. absurd (none_there a p h is_a);
+    one_deep = λ a b c reads. absurd (subst (λ o. IsSomeAnd o (λ (source : Source). source.at ≡ b)) (ap (λ o. option_and_then source_of o) (none_at a)) reads);
+  }
+
+  page_listed : IsListed space cells no_files (listing [] (home ∷ []))
+  page_listed = record {
+    each = λ e inside. absurd (in_none e inside);
+    once = λ i j d less_i less_j same. absurd (omega (arith, less_i));
+    clones = λ a b in_a in_b is. in_none a in_a;
+    pages_once = (λ inside. in_none home inside, tt);
+    pages_low = λ h inside. subst (λ (h : Home). 1 ≤ h.vol) (sym (in_one home h inside)) low;
+    pages_held = λ h inside. subst (IsHeldApart space cells) (sym (in_one home h inside)) held;
+    pages_apart = λ h inside a p is. none_there a p h is;
+  }
+
+  pub page_well : (old new : Listing) → old.entries ≡ [] → old.tag_pages ≡ [] → new.tag_pages ≡ old.tag_pages ++ home ∷ [] → new.entries ≡ old.entries → (fs : Files) × IsWell (now_of new fs space cells pages)
+  page_well old new no_entry no_page adds same =
+      let tags = adds ∙ ap (λ (hs : List Home). hs ++ home ∷ []) no_page in (
+        no_files,
+        record {
+          together = page_together;
+          listed = subst (λ (es : List Entry). IsListed space cells no_files (listing es new.tag_pages)) (sym (same ∙ no_entry))
+              (subst (λ (hs : List Home). IsListed space cells no_files (listing [] hs)) (sym tags) page_listed);
+        },
+      )
+
+-- ---- after a call, whatever it answered
+
+pub still_well : (group : ℕ) (version : Version) (first : Now) (list : Listing) (space : Spaces) (cells : Cells) (pages : Pages) (r : Result ℕ StoreFault) → IfOk r (λ count. LeadsTo group version first count list space cells pages) → IfErr r (StopsAt group version first list space cells pages)
+    → (fs : Files) × IsWell (now_of list fs space cells pages)
+still_well group version first list space cells pages (Ok count) leads stops = (leads.files, leads.well)
+still_well group version first list space cells pages (Err fault) leads stops = (stops.files, stops.well)

@@ -1,0 +1,110 @@
+//! Lists of files and pages that are let go of.
+ghost use Rattle.std.specs.Prelude.{◌≡◌, ◌≤◌, IfOk, IsSome, IsTrue, List, None};
+ghost use Rattle.memory_store.specs.Homes.{pages_of};
+ghost use Rattle.bmt_mcells.specs.Chain.{PlacedCell};
+ghost use Rattle.bitfile_cells.specs.Files.{IsFile};
+ghost use Rattle.deferred_delete.specs.Listed.{left_of};
+ghost use Rattle.deferred_delete.specs.Standing.{source_of};
+ghost use Rattle.file_tests.specs.Worlds.{IsWorld};
+ghost use Rattle.release_tests.specs.Going.{HasGoing, HasWell};
+
+use bmt_mcells::find_record;
+use deferred_delete::Deferred;
+use domain_base::{CellAt, Version};
+use file_tests::world::{World, volume};
+use page_store::StoreFault;
+use record_table::Record;
+use std::alloc::Global;
+use std::test::Fail;
+
+/// Whether a file's first cell says that something is left to be done.
+fn is_pending(world: &World, at: &CellAt) -> bool
+    ensures { (chain : List PlacedCell) → IsFile (pages_of world.now.pages.entries.items) at.now
+        chain → IsTrue result → IsSome (left_of chain) }
+{
+    match find_record(&world.pages, *at, 6) {
+        Some(Record::Pending { .. }) => true,
+        _ => false,
+    }
+}
+
+/// Whether a file is that of a clone.
+fn is_of_clone(world: &World, at: &CellAt) -> bool
+    ensures { (chain : List PlacedCell) → IsFile (pages_of world.now.pages.entries.items) at.now
+        chain → ¬ IsTrue result → source_of chain ≡ None }
+{
+    find_record(&world.pages, *at, 2).is_some()
+}
+
+/// Whether something is left to be done with a file, and it is of no clone.
+fn may_go(world: &World, at: &CellAt) -> bool
+    ensures { (chain : List PlacedCell) → IsFile (pages_of world.now.pages.entries.items) at.now
+        chain → IsTrue result → IsSome (left_of chain) × (source_of chain ≡ None) }
+{
+    if is_of_clone(world, at) {
+        return false;
+    }
+    is_pending(world, at)
+}
+
+/// A list of this file alone.
+pub fn listed(alloc: Global, world: &World, at: &CellAt) -> Result<Deferred, Fail>
+    requires { HasGoing world.now at.now }
+    ensures { IfOk result (HasWell world.now) }
+{
+    if !may_go(world, at) {
+        return Err(Fail::from("a file that goes and is of no clone"));
+    }
+    let mut list = Deferred::new(alloc);
+    list.add(*at, None)?;
+    Ok(list)
+}
+
+/// A list of a page of a tag directory, which is taken for it.
+pub fn listed_page(alloc: Global, world: &mut World) -> Result<Deferred, Fail>
+    requires { IsWorld world.old }
+    ensures { IfOk result (HasWell world.new) }
+{
+    let Some(home) = world.space.allocate(volume()) else {
+        return Err(Fail::from("a free page"));
+    };
+    let mut list = Deferred::new(alloc);
+    list.add_tag_page(home)?;
+    Ok(list)
+}
+
+/// Lets go of things of a list with group 5, in one call: how many steps were done.
+fn release(alloc: Global, world: &mut World, list: &mut Deferred) -> Result<u32, StoreFault>
+    requires { HasWell world.old list.old }
+    ensures most { IfOk result (λ count. count ≤ 16) }
+    ensures well { HasWell world.new list.new }
+{
+    list.release_some(
+        alloc,
+        &mut world.pages,
+        &mut world.space,
+        &mut world.cells,
+        5,
+        Version::Four,
+    )
+}
+
+/// The same in 20 calls.
+pub fn release_all(alloc: Global, world: &mut World, list: &mut Deferred) -> Result<u32, StoreFault>
+    requires { HasWell world.old list.old }
+    ensures { HasWell world.new list.new }
+{
+    let mut steps = 0;
+    for _ in 0..20_u32 {
+        match release(alloc, world, list) {
+            Ok(count) => steps += count,
+            Err(fault) => return Err(fault),
+        }
+    }
+    Ok(steps)
+}
+
+/// How many pages are free, and how many wait.
+pub fn counts(world: &World) -> [u32; 2] {
+    [world.space.free_now(), world.space.waiting()]
+}
