@@ -2,10 +2,11 @@
 //! map in memory both meet.
 #![tactic(auto)]
 
-ghost use Rattle.std.specs.Prelude.{◌≡◌, ◌↔◌, ◌<◌, ◌≤◌, ℕ, IfErr, IfOk, IsSome, None, OnErr, OnOk};
+ghost use Rattle.std.specs.Prelude.{◌≡◌, ◌↔◌, ◌<◌, ◌≤◌, ℕ, suc, IfErr, IfOk, IsSome, None, OnErr, OnOk};
 ghost use Rattle.std.specs.Option.{option_copied, option_map};
 ghost use Rattle.domain_base.specs.Limits.{file_pages, max_links};
 ghost use Rattle.domain_base.specs.declared.place.Tag.{Tag};
+ghost use Rattle.page_store.specs.declared.fault.StoreFault.TheVariants.{OutOfMemory as NoMemory};
 ghost use Rattle.page_store.specs.Bitfiles.{AreBitfiles, Bitfiles, IsCounted, IsDirectory, count_index, count_pages, index_at, insert_index, kind_at, linked, links_at, new_file, page_at, put_index, put_page, shown_index, with_change, with_file, without_file};
 
 use domain_base::{Kind, Page, Tag};
@@ -26,6 +27,12 @@ pub trait BitfileSet {
     /// All that a set holds beside the files that it shows is in another as it was.
     ghost leaves_rest: { Self → Self → Type 0 };
 
+    /// How many calls changed the set, or tried to.
+    ghost changes: { Self → ℕ };
+
+    /// What changes files and adds no page to a directory or its index needs no page that is free.
+    ghost writes_in_place: { Self → Type 0 };
+
     /// A tag that no new file gets, although it names nothing.
     ghost is_spent: { Self → Tag → Type 0 };
 
@@ -43,6 +50,7 @@ pub trait BitfileSet {
         ensures err { OnErr result (files self.new ≡ files self.old) }
         ensures no_page { IfErr result (IsCounted (missed self.old) (missed self.new)) }
         ensures count { missed self.old ≤ missed self.new }
+        ensures counted { changes self.new ≤ suc (changes self.old) }
         ensures rest { leaves_rest self.old self.new };
 
     /// Takes a tag's file or directory away, with all its pages.
@@ -51,7 +59,9 @@ pub trait BitfileSet {
         ensures ok { OnOk result (files self.new ≡ without_file tag (files self.old)) }
         ensures err { OnErr result (files self.new ≡ files self.old) }
         ensures no_page { IfErr result (IsCounted (missed self.old) (missed self.new)) }
+        ensures in_place { writes_in_place self.old → IfErr result (λ fault. fault ≡ NoMemory) }
         ensures count { missed self.old ≤ missed self.new }
+        ensures counted { changes self.new ≤ suc (changes self.old) }
         ensures rest { leaves_rest self.old self.new };
 
     /// How many pages a directory has; 0 where the tag names none.
@@ -77,7 +87,10 @@ pub trait BitfileSet {
             with_change tag (put_page page bytes) (files self.old)) }
         ensures err { OnErr result (files self.new ≡ files self.old) }
         ensures no_page { IfErr result (IsCounted (missed self.old) (missed self.new)) }
+        ensures in_place { writes_in_place self.old → page < count_pages (files self.old) tag
+            → IfErr result (λ fault. fault ≡ NoMemory) }
         ensures count { missed self.old ≤ missed self.new }
+        ensures counted { changes self.new ≤ suc (changes self.old) }
         ensures rest { leaves_rest self.old self.new };
 
     /// How many pages a directory's index has; 0 where the tag names no directory, or one without an
@@ -106,7 +119,10 @@ pub trait BitfileSet {
             with_change tag (put_index page (shown_index bytes)) (files self.old)) }
         ensures err { OnErr result (files self.new ≡ files self.old) }
         ensures no_page { IfErr result (IsCounted (missed self.old) (missed self.new)) }
+        ensures in_place { writes_in_place self.old → page < count_index (files self.old) tag
+            → IfErr result (λ fault. fault ≡ NoMemory) }
         ensures count { missed self.old ≤ missed self.new }
+        ensures counted { changes self.new ≤ suc (changes self.old) }
         ensures rest { leaves_rest self.old self.new };
 
     /// Puts a new index page at that number; the pages from there on count one more. Where the next
@@ -125,6 +141,7 @@ pub trait BitfileSet {
         ensures err { OnErr result (files self.new ≡ files self.old) }
         ensures no_page { IfErr result (IsCounted (missed self.old) (missed self.new)) }
         ensures count { missed self.old ≤ missed self.new }
+        ensures counted { changes self.new ≤ suc (changes self.old) }
         ensures rest { leaves_rest self.old self.new };
 
     /// How many rows name a file or a directory; 0 where the tag names nothing.
@@ -140,7 +157,9 @@ pub trait BitfileSet {
             with_change tag (linked links) (files self.old)) }
         ensures err { OnErr result (files self.new ≡ files self.old) }
         ensures no_page { IfErr result (IsCounted (missed self.old) (missed self.new)) }
+        ensures in_place { writes_in_place self.old → IfErr result (λ fault. fault ≡ NoMemory) }
         ensures count { missed self.old ≤ missed self.new }
+        ensures counted { changes self.new ≤ suc (changes self.old) }
         ensures rest { leaves_rest self.old self.new };
 
     /// How often no page was free. It never falls, and stays at its greatest value.
@@ -157,4 +176,6 @@ pub trait BitfileSet {
 
     ghost rest_spends: { (a b : Self) (tag : Tag) → leaves_rest a b
         → is_spent a tag ↔ is_spent b tag };
+
+    ghost rest_writes: { (a b : Self) → leaves_rest a b → writes_in_place a → writes_in_place b };
 }

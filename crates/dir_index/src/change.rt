@@ -1,9 +1,10 @@
 //! Changes of an index.
-ghost use Rattle.std.specs.Prelude.{◌≡◌, ◌<◌, ◌≤◌, [], true, is_some, length, IfErr, IfOk, OnErr, OnOk};
+ghost use Rattle.std.specs.Prelude.{◌≡◌, ◌+◌, ◌<◌, ◌≤◌, [], true, is_some, length, IfErr, IfOk, OnErr, OnOk};
+ghost use Rattle.page_store.specs.declared.fault.StoreFault.TheVariants.{OutOfMemory as NoMemory};
 ghost use Rattle.page_store.specs.Bitfiles.{IsCounted, IsDirectory, count_index};
 ghost use Rattle.dir_index.specs.Changes.{Adds, AddsEntry, Cuts, InsertsPage, OnlyIndex, PutsPage, RemovesEntry, SetsEntries, Spreads};
 ghost use Rattle.dir_index.specs.Entries.{Has, Rise, first_from};
-ghost use Rattle.dir_index.specs.Index.{IsIndex, IsIndexPage, all_entries, entries_of, index_pages};
+ghost use Rattle.dir_index.specs.Index.{IsIndex, IsIndexPage, all_entries, entries_of, index_pages, part_count};
 
 use crate::entry::IndexEntry;
 use crate::page::{ENTRIES, count_below, read_entries};
@@ -29,6 +30,9 @@ fn put_part<S: BitfileSet>(
     ensures err { OnErr result (S.files set.new ≡ S.files set.old) }
     ensures no_page { IfErr result (IsCounted (S.missed set.old) (S.missed set.new)) }
     ensures count { S.missed set.old ≤ S.missed set.new }
+    ensures changes { S.changes set.new ≤ 1 + S.changes set.old }
+    ensures in_place { S.writes_in_place set.old → number < count_index (S.files set.old) dir
+        → IfErr result (λ fault. fault ≡ NoMemory) }
     ensures rest { S.leaves_rest set.old set.new }
 {
     let Ok(place) = u32::try_from(number) else {
@@ -54,6 +58,7 @@ fn insert_part<S: BitfileSet>(
     ensures err { OnErr result (S.files set.new ≡ S.files set.old) }
     ensures no_page { IfErr result (IsCounted (S.missed set.old) (S.missed set.new)) }
     ensures count { S.missed set.old ≤ S.missed set.new }
+    ensures changes { S.changes set.new ≤ 1 + S.changes set.old }
     ensures rest { S.leaves_rest set.old set.new }
 {
     let Ok(place) = u32::try_from(number) else {
@@ -79,6 +84,7 @@ pub fn build<S: BitfileSet>(
     ensures directory { IsDirectory (S.files set.new) dir }
     ensures no_page { IfErr result (IsCounted (S.missed set.old) (S.missed set.new)) }
     ensures count { S.missed set.old ≤ S.missed set.new }
+    ensures changes { S.changes set.new ≤ part_count (length entries.now) + S.changes set.old }
     ensures rest { S.leaves_rest set.old set.new }
 {
     let pages = entries.len().div_ceil(ENTRIES).max(1);
@@ -123,6 +129,8 @@ pub fn remove_entry<S: BitfileSet>(
     ensures directory { IsDirectory (S.files set.new) dir }
     ensures no_page { IfErr result (IsCounted (S.missed set.old) (S.missed set.new)) }
     ensures count { S.missed set.old ≤ S.missed set.new }
+    ensures changes { S.changes set.new ≤ 1 + S.changes set.old }
+    ensures in_place { S.writes_in_place set.old → IfErr result (λ fault. fault ≡ NoMemory) }
     ensures rest { S.leaves_rest set.old set.new }
 {
     let pages = set.index_pages(dir);
@@ -168,6 +176,7 @@ fn spread<S: BitfileSet>(
     ensures err { OnErr result (OnlyIndex dir (S.files set.old) (S.files set.new)) }
     ensures no_page { IfErr result (IsCounted (S.missed set.old) (S.missed set.new)) }
     ensures count { S.missed set.old ≤ S.missed set.new }
+    ensures changes { S.changes set.new ≤ 2 + S.changes set.old }
     ensures rest { S.leaves_rest set.old set.new }
 {
     if list.len() <= ENTRIES {
@@ -193,6 +202,7 @@ pub fn add_entry<S: BitfileSet>(
     ensures directory { IsDirectory (S.files set.new) dir }
     ensures no_page { IfErr result (IsCounted (S.missed set.old) (S.missed set.new)) }
     ensures count { S.missed set.old ≤ S.missed set.new }
+    ensures changes { S.changes set.new ≤ 2 + S.changes set.old }
     ensures rest { S.leaves_rest set.old set.new }
 {
     let number = page_for(set, dir, &entry);

@@ -42,6 +42,10 @@ module _ (hash page : ℕ) where
       none true is = absurd (other (eqb-true number page is))
       none false is = and_right (has_hash hash row) (nat_eq number page) is
 
+pub entries_long : (number : ℕ) (rows : List Row) → length (entries_for number rows) ≡ length rows
+entries_long number [] = refl
+entries_long number (row ∷ rows) = ap suc (entries_long number rows)
+
 pub entries_on : (pages : List (List ℕ)) (number : ℕ) (old new : List IndexEntry) → AreEntriesBelow pages number old → new ≡ old ++ entries_for number (rows_at number pages) → AreEntriesBelow pages (number + 1) new
 entries_on pages number old new were are = record {
   below = λ hash page less. elim (cases_lt page number) [

@@ -1,5 +1,5 @@
 -- The pages of a directory and their rows.
-use Rattle.std.proofs.Common.{Result, Ok, Err, IfOk, ◌≡◌, ◌∙◌, ℕ, zero, suc, ◌+◌, ◌≤◌, Option, Some, None, List, [], ◌∷◌, ◌++◌, length, take, slice_get, refl, sym, ap, arith, append_assoc, length-append}
+use Rattle.std.proofs.Common.{Result, Ok, Err, IfOk, ◌≡◌, ◌∙◌, ℕ, zero, suc, ◌+◌, ◌*◌, ◌≤◌, Option, Some, None, List, [], ◌∷◌, ◌++◌, length, take, slice_get, refl, sym, ap, arith, append_assoc, length-append}
 use Rattle.std.proofs.lemmas.List.{append-nil, nil_from_length}
 use Rattle.std.specs.List.{AllByRecursion}
 use Rattle.std.specs.Option.{IfSome, option_and_then, option_map_or}
@@ -7,7 +7,9 @@ use Rattle.domain_base.specs.declared.place.Tag.{Tag}
 use Rattle.page_store.specs.Bitfiles.{Bitfile, Bitfiles, IsBitfile, count_pages, page_at}
 use Rattle.dir_pages.specs.declared.row.Row.{Row}
 use Rattle.dir_pages.specs.RowPage.{IsDirPage, rows_of}
-use Rattle.dir_pages.proofs.PageParts.{few}
+use Rattle.dir_pages.specs.Rows.{spelled_row, spelling}
+use Rattle.dir_pages.proofs.Again.{row_long}
+use Rattle.dir_pages.proofs.PageParts.{small}
 use Rattle.dir_rows.specs.Directory.{all_rows, row_pages, rows_at}
 
 pub at_past : {X : Type 0} (xs : List X) (k : ℕ) → length xs ≤ k → slice_get xs k ≡ None
@@ -66,10 +68,18 @@ copied_more pages k old new were are = are ∙ ap (λ (rs : List Row). rs ++ row
 pub none_more : (pages : List (List ℕ)) (k : ℕ) → all_rows (take k pages) ≡ [] → length (rows_at k pages) ≡ 0 → all_rows (take (k + 1) pages) ≡ []
 none_more pages k none here = rows_more pages k ∙ ap (λ (rs : List Row). rs ++ rows_at k pages) none ∙ nil_from_length (rows_at k pages) here
 
--- a page has at most 8,176 rows
-pub rows_at_few : (pages : List (List ℕ)) (k : ℕ) → AllByRecursion IsDirPage pages → length (rows_at k pages) ≤ 8176
+-- each row takes eight bytes and its name
+rows_long : (rows : List Row) → 8 * length rows ≤ length (spelling rows)
+rows_long [] = omega arith
+rows_long (row ∷ rows) = omega (arith, length-append (spelled_row row) (spelling rows), row_long row, rows_long rows)
+
+-- a page has at most 1,022 rows
+few : (page : List ℕ) → IsDirPage page → length (rows_of page) ≤ 1022
+few page is = omega (arith, rows_long (rows_of page), small page (rows_of page) is)
+
+pub rows_at_few : (pages : List (List ℕ)) (k : ℕ) → AllByRecursion IsDirPage pages → length (rows_at k pages) ≤ 1022
 rows_at_few [] k all = omega (arith, ap length (rows_past no_pages k (omega arith)))
-rows_at_few (page ∷ pages) zero all = few page (rows_of page) all.0
+rows_at_few (page ∷ pages) zero all = few page all.0
 rows_at_few (page ∷ pages) (suc k) all = rows_at_few pages k all.1
 
 -- the rows of one page are among all

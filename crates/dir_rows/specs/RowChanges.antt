@@ -76,3 +76,12 @@ pub record RemovesRow (dir : Tag) (name : List ℕ) (old new : Bitfiles) : Type 
   pub are : rows_in new dir ≡ front ++ back
   pub pages : count_pages new dir ≡ count_pages old dir
   pub kept : KeepsIndex dir old new
+
+-- how many changes of a set a row takes at most that comes: its page, and up to four pages of the
+-- index
+abbrev pub adding_changes : ℕ
+adding_changes = 5
+
+-- how many a row takes at most that goes: its page, and one page of the index
+abbrev pub removing_changes : ℕ
+removing_changes = 2

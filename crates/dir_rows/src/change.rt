@@ -1,9 +1,10 @@
 //! Rows added to a directory and removed from it.
-ghost use Rattle.std.specs.Prelude.{◌≡◌, ◌≤◌, true, false, IfErr, OnErr, OnOk};
+ghost use Rattle.std.specs.Prelude.{◌≡◌, ◌+◌, ◌≤◌, true, false, IfErr, OnErr, OnOk};
+ghost use Rattle.page_store.specs.declared.fault.StoreFault.TheVariants.{OutOfMemory as NoMemory};
 ghost use Rattle.page_store.specs.Bitfiles.{IsCounted};
 ghost use Rattle.dir_pages.specs.Rows.{is_named, is_row_name};
 ghost use Rattle.dir_rows.specs.Directory.{IsWellFormed, rows_in};
-ghost use Rattle.dir_rows.specs.RowChanges.{AddsRow, OnlyDirectory, RemovesRow};
+ghost use Rattle.dir_rows.specs.RowChanges.{AddsRow, OnlyDirectory, RemovesRow, adding_changes, removing_changes};
 
 use crate::index::{forget_row, index_row};
 use crate::look::place_of;
@@ -37,6 +38,7 @@ pub fn add_row<S: BitfileSet>(
     ensures err { OnErr result (OnlyDirectory dir (S.files set.old) (S.files set.new)) }
     ensures no_page { IfErr result (IsCounted (S.missed set.old) (S.missed set.new)) }
     ensures count { S.missed set.old ≤ S.missed set.new }
+    ensures changes { S.changes set.new ≤ adding_changes + S.changes set.old }
     ensures rest { S.leaves_rest set.old set.new }
 {
     let page = put_row(set, alloc, dir, tag, kind, name)?;
@@ -58,6 +60,8 @@ pub fn remove_row<S: BitfileSet>(
     ensures err { OnErr result (OnlyDirectory dir (S.files set.old) (S.files set.new)) }
     ensures no_page { IfErr result (IsCounted (S.missed set.old) (S.missed set.new)) }
     ensures count { S.missed set.old ≤ S.missed set.new }
+    ensures changes { S.changes set.new ≤ removing_changes + S.changes set.old }
+    ensures in_place { S.writes_in_place set.old → IfErr result (λ fault. fault ≡ NoMemory) }
     ensures rest { S.leaves_rest set.old set.new }
 {
     let Some(place) = place_of(set, dir, name) else {

@@ -1,7 +1,8 @@
 //! The index of a directory after a row was put on its pages or taken off them.
-ghost use Rattle.std.specs.Prelude.{◌≡◌, ◌⊎◌, ◌++◌, ◌≤◌, [], IfErr, IfOk, OnErr, OnOk, length};
+ghost use Rattle.std.specs.Prelude.{◌≡◌, ◌+◌, ◌*◌, ◌⊎◌, ◌++◌, ◌≤◌, [], IfErr, IfOk, OnErr, OnOk, length};
 ghost use Rattle.std.specs.List.{AllByRecursion};
-ghost use Rattle.page_store.specs.Bitfiles.{IsCounted, IsDirectory};
+ghost use Rattle.page_store.specs.declared.fault.StoreFault.TheVariants.{OutOfMemory as NoMemory};
+ghost use Rattle.page_store.specs.Bitfiles.{IsCounted, IsDirectory, count_pages};
 ghost use Rattle.dir_pages.specs.RowPage.{IsDirPage};
 ghost use Rattle.dir_index.specs.Changes.{OnlyIndex};
 ghost use Rattle.dir_index.specs.Entries.{Rise};
@@ -47,7 +48,10 @@ fn gather_entries<S: BitfileSet>(
     dir: Tag,
 ) -> Result<Vec<IndexEntry>, OutOfMemory>
     requires { AllByRecursion IsDirPage (row_pages (S.files set.now) dir) }
-    ensures { IfOk result (λ list. AreEntriesOf (row_pages (S.files set.now) dir) list.items) }
+    ensures exact { IfOk result (λ list. AreEntriesOf (row_pages (S.files set.now) dir)
+        list.items) }
+    ensures few { IfOk result (λ list. length list.items ≤ 1022 * count_pages (S.files set.now)
+        dir) }
 {
     let mut entries = Vec::new(alloc);
     for number in 0..set.dir_pages(dir) {
@@ -65,6 +69,8 @@ fn sorted_entries<S: BitfileSet>(
     requires { AllByRecursion IsDirPage (row_pages (S.files set.now) dir) }
     ensures exact { IfOk result (λ list. AreEntriesOf (row_pages (S.files set.now) dir)
         list.items) }
+    ensures few { IfOk result (λ list. length list.items ≤ 1022 * count_pages (S.files set.now)
+        dir) }
     ensures rise { IfOk result (λ list. Rise list.items) }
 {
     let mut entries = gather_entries(set, alloc, dir)?;
@@ -83,6 +89,7 @@ fn build_index<S: BitfileSet>(set: &mut S, alloc: Global, dir: Tag) -> Result<()
     ensures err { OnErr result (OnlyIndex dir (S.files set.old) (S.files set.new)) }
     ensures no_page { IfErr result (IsCounted (S.missed set.old) (S.missed set.new)) }
     ensures count { S.missed set.old ≤ S.missed set.new }
+    ensures changes { S.changes set.new ≤ 4 + S.changes set.old }
     ensures rest { S.leaves_rest set.old set.new }
 {
     let entries = sorted_entries(set, alloc, dir)?;
@@ -105,6 +112,7 @@ pub(crate) fn index_row<S: BitfileSet>(
     ensures err { OnErr result (OnlyIndex dir (S.files set.old) (S.files set.new)) }
     ensures no_page { IfErr result (IsCounted (S.missed set.old) (S.missed set.new)) }
     ensures count { S.missed set.old ≤ S.missed set.new }
+    ensures changes { S.changes set.new ≤ 4 + S.changes set.old }
     ensures rest { S.leaves_rest set.old set.new }
 {
     if has_index(set, dir) {
@@ -131,6 +139,8 @@ pub(crate) fn forget_row<S: BitfileSet>(
     ensures err { OnErr result (OnlyIndex dir (S.files set.old) (S.files set.new)) }
     ensures no_page { IfErr result (IsCounted (S.missed set.old) (S.missed set.new)) }
     ensures count { S.missed set.old ≤ S.missed set.new }
+    ensures changes { S.changes set.new ≤ 1 + S.changes set.old }
+    ensures in_place { S.writes_in_place set.old → IfErr result (λ fault. fault ≡ NoMemory) }
     ensures rest { S.leaves_rest set.old set.new }
 {
     if has_index(set, dir) {

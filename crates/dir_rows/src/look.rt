@@ -22,7 +22,7 @@ pub(crate) struct Place {
 fn rows_on<S: BitfileSet>(set: &S, dir: Tag, number: u32) -> u32
     requires { IsWellFormed (S.files set.now) dir }
     ensures count { result ≡ length (rows_at number (row_pages (S.files set.now) dir)) }
-    ensures few { result ≤ 8176 }
+    ensures few { result ≤ 1022 }
 {
     match set.dir_page(dir, number) {
         Some(page) => count_rows(page),
@@ -30,8 +30,8 @@ fn rows_on<S: BitfileSet>(set: &S, dir: Tag, number: u32) -> u32
     }
 }
 
-/// How many rows a directory has. They are fewer than 2^32: a page has fewer than 8,177 of them,
-/// and a directory at most 65,536 pages.
+/// How many rows a directory has. They are fewer than 2^32: a page has at most 1,022 of them, and a
+/// directory at most 65,536 pages.
 pub fn row_count<S: BitfileSet>(set: &S, dir: Tag) -> u32
     requires { IsWellFormed (S.files set.now) dir }
     ensures { result ≡ length (rows_in (S.files set.now) dir) }

@@ -1,6 +1,7 @@
 //! Pages of a directory with a row more or less.
-ghost use Rattle.std.specs.Prelude.{◌≡◌, [], true, IfErr, IfOk, OnErr, OnOk, ◌≤◌};
+ghost use Rattle.std.specs.Prelude.{◌≡◌, [], true, IfErr, IfOk, OnErr, OnOk, ◌≤◌, ◌+◌};
 ghost use Rattle.domain_base.specs.Page.{zero_bytes};
+ghost use Rattle.page_store.specs.declared.fault.StoreFault.TheVariants.{OutOfMemory as NoMemory};
 ghost use Rattle.page_store.specs.Bitfiles.{IsCounted};
 ghost use Rattle.dir_pages.specs.RowPage.{HasRows};
 ghost use Rattle.dir_pages.specs.Rows.{is_named, is_row_name};
@@ -88,6 +89,7 @@ pub(crate) fn put_row<S: BitfileSet>(
     ensures err { OnErr result (S.files set.new ≡ S.files set.old) }
     ensures no_page { IfErr result (IsCounted (S.missed set.old) (S.missed set.new)) }
     ensures count { S.missed set.old ≤ S.missed set.new }
+    ensures changes { S.changes set.new ≤ 1 + S.changes set.old }
     ensures rest { S.leaves_rest set.old set.new }
 {
     let number = page_with_room(set, dir, name);
@@ -114,6 +116,8 @@ pub(crate) fn take_row<S: BitfileSet>(
     ensures err { OnErr result (S.files set.new ≡ S.files set.old) }
     ensures no_page { IfErr result (IsCounted (S.missed set.old) (S.missed set.new)) }
     ensures count { S.missed set.old ≤ S.missed set.new }
+    ensures changes { S.changes set.new ≤ 1 + S.changes set.old }
+    ensures in_place { S.writes_in_place set.old → IfErr result (λ fault. fault ≡ NoMemory) }
     ensures rest { S.leaves_rest set.old set.new }
 {
     let mut page = page_copy(set, alloc, dir, number)?;

@@ -1,5 +1,6 @@
 //! Files and directories in memory.
-ghost use Rattle.std.specs.Prelude.{◌≡◌, ◌+◌, ◌^◌, ◌<◌, ◌≤◌, ⊤, IfOk, IsSome, IsSomeAnd, OnErr, OnOk, is_some, length};
+ghost use Rattle.std.specs.Prelude.{◌≡◌, ◌+◌, ◌^◌, ◌<◌, ◌≤◌, [], refl, IfOk, IsSome, IsSomeAnd, OnErr, OnOk, is_some, length};
+ghost use Rattle.std.proofs.Common.{◌∙◌};
 ghost use Rattle.std.specs.Option.{option_map, option_map_or};
 ghost use Rattle.domain_base.specs.Limits.{file_pages, max_links};
 ghost use Rattle.domain_base.specs.declared.place.Kind.TheVariants.{Directory as ADirectory};
@@ -18,7 +19,8 @@ use std::alloc::Global;
 
 /// Files and directories by their tags, in one list in the order of tags. Each new one takes the
 /// next slot, with sequence 1. It is told which of its changing calls answer NoPage, by their
-/// numbers, counted from 0: each of these raises its count of misses and changes nothing.
+/// numbers, counted from 0: each of these raises its count of misses and changes nothing. Where it is
+/// told none, none does.
 #[derive(Drop)]
 pub struct MemoryBitfiles {
     files: Vec<(u64, PagedFile)>,
@@ -36,6 +38,8 @@ impl MemoryBitfiles {
         ensures files { IfOk result (λ set.
             ⟦<MemoryBitfiles as BitfileSet>⟧.files set ≡ root_alone) }
         ensures misses { IfOk result (λ set. ⟦<MemoryBitfiles as BitfileSet>⟧.missed set ≡ 0) }
+        ensures in_place { IfOk result (λ set. misses.items ≡ []
+            → ⟦<MemoryBitfiles as BitfileSet>⟧.writes_in_place set) }
     {
         let mut files = Vec::new(alloc);
         let root = Tag { slot: 1, seq: 1 };
@@ -68,17 +72,23 @@ impl BitfileSet for MemoryBitfiles {
 
     ghost missed = { λ set. set.misses.count };
 
-    ghost leaves_rest = { λ _ _. ⊤ };
+    ghost changes = { λ set. set.misses.calls };
+
+    ghost writes_in_place = { λ set. set.misses.told.items ≡ [] };
+
+    ghost leaves_rest = { λ old new. new.misses.told.items ≡ old.misses.told.items };
 
     ghost is_spent = { λ _ _. ⊥ };
 
     ghost sound = { λ set. are_bitfiles set.files.items set.sound };
 
-    ghost rest_same = { λ _. tt };
+    ghost rest_same = { λ _. refl };
 
-    ghost rest_joins = { λ _ _ _ _ _. tt };
+    ghost rest_joins = { λ _ _ _ first then. then ∙ first };
 
     ghost rest_spends = { λ _ _ _ _. (λ none. none, λ none. none) };
+
+    ghost rest_writes = { λ _ _ same none. same ∙ none };
 
     fn kind_of(&self, tag: Tag) -> Option<Kind> {
         match find(&self.files, key_of(&tag)) {

@@ -17,7 +17,8 @@ pub(crate) struct Misses {
 impl Misses {
     /// No call yet.
     pub(crate) fn new(told: Vec<u64>) -> Misses
-        ensures { result.count ≡ 0 }
+        ensures count { result.count ≡ 0 }
+        ensures told { result.told.items ≡ told.items }
     {
         Misses {
             told,

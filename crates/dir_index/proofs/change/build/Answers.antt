@@ -14,6 +14,7 @@ loop-number-preserved g c =
     record {
       built = built_more c.args.dir list (take (c.min-end.result - from) (drop from list)) number from c.min-end.result old mid new c.requires.directory c.loop-number.invariant.built c.in_ok-put_part.ensures.ok refl within c.min-end.ensures refl;
       count = omega (arith, c.loop-number.invariant.count, c.in_ok-put_part.ensures.count);
+      changes = omega (arith, c.loop-number.invariant.changes, c.in_ok-put_part.ensures.changes);
       rest = g.met.S.BitfileSet.rest_joins c.args.set.now c.loop-number.set c.put_part.new.set c.loop-number.invariant.rest c.in_ok-put_part.ensures.rest;
     }
 

@@ -26,3 +26,8 @@ returns-clause-ok g c =
     let removed = c.remove_row.ensures.removed (c.remove_row.ensures.named ∙ ap (is_named name) copies.rows ∙ c.requires.there) in
     on_ok_weaker c.put_dir_page.result
     (takes_row c.args.dir c.args.number old c.requires.good.directory name c.in_ok-page.page c.remove_row.new.page _ new copies removed) c.put_dir_page.ensures.ok
+
+pub returns-clause-in_place : goal.returns-clause-in_place
+returns-clause-in_place g c = λ writes.
+    let old = g.S.BitfileSet.files c.args.set.now in
+    c.put_dir_page.ensures.in_place writes (omega (arith, named_within c.args.name.now (row_pages old c.args.dir) c.args.number c.requires.there, count_is old c.args.dir))
