@@ -12,7 +12,7 @@ use Rattle.page_store.specs.declared.fault.StoreFault.{StoreFault}
 use Rattle.page_store.specs.declared.fault.StoreFault.TheVariants as store
 use Rattle.dir_pages.specs.Rows.{found, is_row_name}
 use Rattle.dir_rows.specs.Directory.{rows_in}
-use Rattle.dir_rows.specs.RowChanges.{AddsRow, IsIndexedWhereSmall, RemovesRow}
+use Rattle.dir_rows.specs.RowChanges.{AddsRow, IsIndexedWhereSmall, RemovesRow, adding_changes, removing_changes}
 use Rattle.fileset_model.specs.Apply.{is_named_elsewhere, link_checks, linked as with_path, not_empty, path_taken, rename_checks, renamed, with_node, without}
 use Rattle.fileset_model.specs.Fileset.{Fileset}
 use Rattle.fileset_model.specs.Orders.{Name, Path}
@@ -219,3 +219,21 @@ pub record Renames (path to : Path) (slot : FilesetSlot) (new : Bitfiles) (answe
   pub replaced : option_map number_of answer.replaced ≡ replaced_number path to slot.tree
   pub makes : IsOriginal new (record slot { tree = renamed path to slot.tree })
   pub indexed : names_one slot.tree path to ≡ false → IsIndexedWhereSmall answer.dir new
+
+-- ---- how many changes of a set a call makes at most
+
+-- a new file or directory, and its row
+abbrev pub creating_changes : ℕ
+creating_changes = 1 + adding_changes
+
+-- a row that goes, and the link that it was
+abbrev pub unlinking_changes : ℕ
+unlinking_changes = removing_changes + 1
+
+-- a row that comes, and the link that it is
+abbrev pub linking_changes : ℕ
+linking_changes = adding_changes + 1
+
+-- a path that goes, and a row that goes and comes again
+abbrev pub renaming_changes : ℕ
+renaming_changes = unlinking_changes + removing_changes + adding_changes

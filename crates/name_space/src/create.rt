@@ -1,11 +1,11 @@
 //! New files and directories at paths.
-ghost use Rattle.std.specs.Prelude.{◌≡◌, ◌<◌, ◌≤◌, ◌^◌, false, true, None, IfErr, IfOk, OnErr, length};
+ghost use Rattle.std.specs.Prelude.{◌≡◌, ◌+◌, ◌<◌, ◌≤◌, ◌^◌, false, true, None, IfErr, IfOk, OnErr, length};
 ghost use Rattle.page_store.specs.Bitfiles.{IsCounted, new_file, with_file};
 ghost use Rattle.dir_pages.specs.Rows.{found, is_row_name};
 ghost use Rattle.dir_rows.specs.Directory.{IsWellFormed, rows_in};
 ghost use Rattle.dir_rows.specs.RowChanges.{AddsRow};
 ghost use Rattle.fileset_model.specs.declared.fileset.FilesetSlot.{FilesetSlot};
-ghost use Rattle.name_space.specs.Changes.{Creates, HasOriginal, IsFaultOf, IsFreePlace, IsMade, IsOriginal, free_checks, last_name, new_node};
+ghost use Rattle.name_space.specs.Changes.{Creates, HasOriginal, IsFaultOf, IsFreePlace, IsMade, IsOriginal, creating_changes, free_checks, last_name, new_node};
 ghost use Rattle.name_space.specs.Names.{HasNames, Names};
 
 use crate::fault::NameFault;
@@ -61,6 +61,7 @@ fn make_row<S: BitfileSet>(
     ensures unspent { IfOk result (λ tag. ¬ S.is_spent set.old tag) }
     ensures no_page { IfErr result (IsCounted (S.missed set.old) (S.missed set.new)) }
     ensures count { S.missed set.old ≤ S.missed set.new }
+    ensures changes { S.changes set.new ≤ creating_changes + S.changes set.old }
     ensures rest { S.leaves_rest set.old set.new }
 {
     let tag = match set.make(alloc, kind, uid, gid) {
@@ -93,6 +94,7 @@ pub fn create_at<S: BitfileSet>(
         (S.files set.new) (S.missed set.old) (S.missed set.new)) }
     ensures unspent { IfOk result (λ tag. ¬ S.is_spent set.old tag) }
     ensures count { S.missed set.old ≤ S.missed set.new }
+    ensures changes { S.changes set.new ≤ creating_changes + S.changes set.old }
     ensures rest { S.leaves_rest set.old set.new }
 {
     let dir = match free_place(set, path) {

@@ -1,12 +1,12 @@
 //! Further paths of files.
-ghost use Rattle.std.specs.Prelude.{◌≡◌, ◌<◌, ◌≤◌, true, None, IfErr, IfOk, IsSome, OnOk, length};
+ghost use Rattle.std.specs.Prelude.{◌≡◌, ◌+◌, ◌<◌, ◌≤◌, true, None, IfErr, IfOk, IsSome, OnOk, length};
 ghost use Rattle.domain_base.specs.Limits.{max_links};
 ghost use Rattle.page_store.specs.Bitfiles.{IsCounted, links_at};
 ghost use Rattle.dir_pages.specs.Rows.{found, is_row_name};
 ghost use Rattle.dir_rows.specs.Directory.{IsWellFormed, rows_in};
 ghost use Rattle.fileset_model.specs.Apply.{link_checks};
 ghost use Rattle.fileset_model.specs.declared.fileset.FilesetSlot.{FilesetSlot};
-ghost use Rattle.name_space.specs.Changes.{AddsLink, HasOriginal, IsFaultOf, IsLinkPlace, IsOriginal, Links, last_name};
+ghost use Rattle.name_space.specs.Changes.{AddsLink, HasOriginal, IsFaultOf, IsLinkPlace, IsOriginal, Links, last_name, linking_changes};
 
 use crate::create::{free_place, last_name};
 use crate::fault::NameFault;
@@ -65,6 +65,7 @@ fn add_link<S: BitfileSet>(
     ensures ok { OnOk result (AddsLink place name.now (S.files set.old) (S.files set.new)) }
     ensures no_page { IfErr result (IsCounted (S.missed set.old) (S.missed set.new)) }
     ensures count { S.missed set.old ≤ S.missed set.new }
+    ensures changes { S.changes set.new ≤ linking_changes + S.changes set.old }
     ensures rest { S.leaves_rest set.old set.new }
 {
     match add_row(set, alloc, place.dir, place.tag, Kind::File, name) {
@@ -93,6 +94,7 @@ pub fn link_at<S: BitfileSet>(
     ensures err { IfErr result (IsFaultOf (link_checks path.now to.now) (S.files set.old)
         (S.files set.new) (S.missed set.old) (S.missed set.new)) }
     ensures count { S.missed set.old ≤ S.missed set.new }
+    ensures changes { S.changes set.new ≤ linking_changes + S.changes set.old }
     ensures rest { S.leaves_rest set.old set.new }
 {
     let place = match link_place(set, path, to) {

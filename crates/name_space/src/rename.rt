@@ -1,13 +1,14 @@
 //! Paths that become others.
-ghost use Rattle.std.specs.Prelude.{◌≡◌, ◌≢◌, ◌≤◌, true, [], Some, None, IfErr, IfOk, OnOk, length};
+ghost use Rattle.std.specs.Prelude.{◌≡◌, ◌≢◌, ◌+◌, ◌≤◌, true, [], Some, None, IfErr, IfOk, OnOk, length};
 ghost use Rattle.page_store.specs.Bitfiles.{IsCounted};
 ghost use Rattle.dir_pages.specs.Rows.{found, is_row_name};
 ghost use Rattle.dir_rows.specs.Directory.{IsWellFormed, rows_in};
+ghost use Rattle.dir_rows.specs.RowChanges.{adding_changes, removing_changes};
 ghost use Rattle.fileset_model.specs.Apply.{move_checks, rename_checks};
 ghost use Rattle.fileset_model.specs.Paths.{first_refusal};
 ghost use Rattle.fileset_model.specs.declared.fileset.FilesetSlot.{FilesetSlot};
 ghost use Rattle.plain_filesets.specs.Stops.{Refuses};
-ghost use Rattle.name_space.specs.Changes.{AreLooked, HasOriginal, IsFaultOf, IsOriginal, MovesRow, Renames, last_name};
+ghost use Rattle.name_space.specs.Changes.{AreLooked, HasOriginal, IsFaultOf, IsOriginal, MovesRow, Renames, last_name, renaming_changes};
 
 use crate::create::last_name;
 use crate::fault::NameFault;
@@ -54,6 +55,8 @@ fn move_row<S: BitfileSet>(
         (S.files set.new)) }
     ensures no_page { IfErr result (IsCounted (S.missed set.old) (S.missed set.new)) }
     ensures count { S.missed set.old ≤ S.missed set.new }
+    ensures changes { S.changes set.new ≤ removing_changes + adding_changes
+        + S.changes set.old }
     ensures rest { S.leaves_rest set.old set.new }
 {
     match remove_row(set, alloc, spot.dir, name) {
@@ -78,6 +81,7 @@ fn rename_free<S: BitfileSet>(
     ensures err { IfErr result (IsFaultOf (rename_checks path.now to.now) (S.files set.old)
         (S.files set.new) (S.missed set.old) (S.missed set.new)) }
     ensures count { S.missed set.old ≤ S.missed set.new }
+    ensures changes { S.changes set.new ≤ renaming_changes + S.changes set.old }
     ensures rest { S.leaves_rest set.old set.new }
 {
     if to.as_slice().starts_with(path.as_slice()) {
@@ -135,6 +139,7 @@ fn replace<S: BitfileSet>(
         → Renames path.now to.now slot (S.files set.new) answer) }
     ensures no_page { IfErr result (IsCounted (S.missed set.old) (S.missed set.new)) }
     ensures count { S.missed set.old ≤ S.missed set.new }
+    ensures changes { S.changes set.new ≤ renaming_changes + S.changes set.old }
     ensures rest { S.leaves_rest set.old set.new }
 {
     let gone = match take_name(set, alloc, other, last_name(to)) {
@@ -169,6 +174,7 @@ fn rename_onto<S: BitfileSet>(
     ensures err { IfErr result (IsFaultOf (rename_checks path.now to.now) (S.files set.old)
         (S.files set.new) (S.missed set.old) (S.missed set.new)) }
     ensures count { S.missed set.old ≤ S.missed set.new }
+    ensures changes { S.changes set.new ≤ renaming_changes + S.changes set.old }
     ensures rest { S.leaves_rest set.old set.new }
 {
     if other.tag == spot.tag {
@@ -204,6 +210,7 @@ fn rename_into<S: BitfileSet>(
     ensures err { IfErr result (IsFaultOf (rename_checks path.now to.now) (S.files set.old)
         (S.files set.new) (S.missed set.old) (S.missed set.new)) }
     ensures count { S.missed set.old ≤ S.missed set.new }
+    ensures changes { S.changes set.new ≤ renaming_changes + S.changes set.old }
     ensures rest { S.leaves_rest set.old set.new }
 {
     match find_row(set, dir, last_name(to)) {
@@ -231,6 +238,7 @@ pub fn rename_at<S: BitfileSet>(
     ensures err { IfErr result (IsFaultOf (rename_checks path.now to.now) (S.files set.old)
         (S.files set.new) (S.missed set.old) (S.missed set.new)) }
     ensures count { S.missed set.old ≤ S.missed set.new }
+    ensures changes { S.changes set.new ≤ renaming_changes + S.changes set.old }
     ensures rest { S.leaves_rest set.old set.new }
 {
     let spot = match spot_of(set, path) {

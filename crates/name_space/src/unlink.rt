@@ -1,10 +1,12 @@
 //! Paths that go.
-ghost use Rattle.std.specs.Prelude.{◌≡◌, ◌≤◌, true, Some, IfErr, IfOk, IsSome, length};
+ghost use Rattle.std.specs.Prelude.{◌≡◌, ◌≢◌, ◌+◌, ◌≤◌, true, Some, IfErr, IfOk, IsSome, length};
+ghost use Rattle.page_store.specs.declared.fault.StoreFault.TheVariants.{OutOfMemory as NoMemory};
 ghost use Rattle.page_store.specs.Bitfiles.{IsCounted};
 ghost use Rattle.dir_pages.specs.Rows.{found};
 ghost use Rattle.dir_rows.specs.Directory.{IsWellFormed, rows_in};
 ghost use Rattle.fileset_model.specs.declared.fileset.FilesetSlot.{FilesetSlot};
-ghost use Rattle.name_space.specs.Changes.{DropsLink, HasOriginal, IsFaultOf, IsOriginal, Removes, TakesName, rmdir_checks, taking_checks, unlink_checks};
+ghost use Rattle.name_space.specs.declared.fault.NameFault.TheVariants.{NoPage as IsNoPage};
+ghost use Rattle.name_space.specs.Changes.{DropsLink, HasOriginal, IsFaultOf, IsOriginal, Removes, TakesName, rmdir_checks, taking_checks, unlink_checks, unlinking_changes};
 
 use crate::create::last_name;
 use crate::fault::NameFault;
@@ -32,6 +34,8 @@ fn drop_link<S: BitfileSet>(set: &mut S, alloc: Global, tag: Tag) -> Result<bool
     ensures ok { IfOk result (DropsLink tag (S.files set.old) (S.files set.new)) }
     ensures no_page { IfErr result (IsCounted (S.missed set.old) (S.missed set.new)) }
     ensures count { S.missed set.old ≤ S.missed set.new }
+    ensures changes { S.changes set.new ≤ 1 + S.changes set.old }
+    ensures in_place { S.writes_in_place set.old → IfErr result (λ fault. fault ≡ NoMemory) }
     ensures rest { S.leaves_rest set.old set.new }
 {
     let links = set.links(tag);
@@ -63,6 +67,8 @@ pub(crate) fn take_name<S: BitfileSet>(
         (S.files set.new)) }
     ensures no_page { IfErr result (IsCounted (S.missed set.old) (S.missed set.new)) }
     ensures count { S.missed set.old ≤ S.missed set.new }
+    ensures changes { S.changes set.new ≤ unlinking_changes + S.changes set.old }
+    ensures in_place { S.writes_in_place set.old → IfErr result (λ fault. fault ≡ NoMemory) }
     ensures rest { S.leaves_rest set.old set.new }
 {
     match remove_row(set, alloc, spot.dir, name) {
@@ -86,6 +92,8 @@ fn take_path<S: BitfileSet>(
     ensures err { IfErr result (IsFaultOf (taking_checks of path.now) (S.files set.old)
         (S.files set.new) (S.missed set.old) (S.missed set.new)) }
     ensures count { S.missed set.old ≤ S.missed set.new }
+    ensures changes { S.changes set.new ≤ unlinking_changes + S.changes set.old }
+    ensures in_place { S.writes_in_place set.old → IfErr result (λ fault. fault ≢ IsNoPage) }
     ensures rest { S.leaves_rest set.old set.new }
 {
     let spot = match leaf_spot(set, path, of) {
@@ -115,6 +123,8 @@ pub fn unlink_at<S: BitfileSet>(
     ensures err { IfErr result (IsFaultOf (unlink_checks path.now) (S.files set.old)
         (S.files set.new) (S.missed set.old) (S.missed set.new)) }
     ensures count { S.missed set.old ≤ S.missed set.new }
+    ensures changes { S.changes set.new ≤ unlinking_changes + S.changes set.old }
+    ensures in_place { S.writes_in_place set.old → IfErr result (λ fault. fault ≢ IsNoPage) }
     ensures rest { S.leaves_rest set.old set.new }
 {
     take_path(set, alloc, path, Kind::File)
@@ -130,6 +140,8 @@ pub fn rmdir_at<S: BitfileSet>(set: &mut S, alloc: Global, path: &Path) -> Resul
     ensures err { IfErr result (IsFaultOf (rmdir_checks path.now) (S.files set.old)
         (S.files set.new) (S.missed set.old) (S.missed set.new)) }
     ensures count { S.missed set.old ≤ S.missed set.new }
+    ensures changes { S.changes set.new ≤ unlinking_changes + S.changes set.old }
+    ensures in_place { S.writes_in_place set.old → IfErr result (λ fault. fault ≢ IsNoPage) }
     ensures rest { S.leaves_rest set.old set.new }
 {
     match take_path(set, alloc, path, Kind::Directory) {
