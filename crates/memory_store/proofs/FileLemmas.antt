@@ -5,9 +5,9 @@ use Rattle.std.proofs.lemmas.Bool.Decides.{nat_tests}
 use Rattle.std.specs.Option.{option_map, option_map_or}
 use Rattle.domain_base.specs.declared.place.Tag.{Tag}
 use Rattle.page_store.specs.Bitfiles.{Bitfile, IsBitfile, same_tag, with_change, with_file, without_file}
-use Rattle.memory_store.specs.Rising.{value_at, IsRising, IsPlaceOf, IsGapFor, Sets, Drops}
+use Rattle.numbered_values.specs.Rising.{value_at, IsRising, IsPlaceOf, IsGapFor, Sets, Drops}
 use Rattle.memory_store.specs.Tags.{AreSound, AreUnused, Changes, files_of, number_of}
-use Rattle.memory_store.proofs.Search.{value_at_place, value_in_gap, sets_at_place}
+use Rattle.numbered_values.proofs.Search.{value_at_place, value_in_gap, sets_at_place}
 
 -- what stands at a place is what the number has
 pub found_at_place : (es : List (ℕ × Bitfile)) (key at : ℕ) → IsPlaceOf es key at → IsRising es → (item : ℕ × Bitfile) → item ≡ get_or es at item → value_at es key ≡ Some item.1

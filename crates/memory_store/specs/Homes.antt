@@ -1,19 +1,14 @@
 -- Pages in memory, each under the number of its home.
-use Rattle.std.specs.Prelude.{◌≡◌, ◌+◌, ◌*◌, ◌^◌, ℕ, true, false, List, Option, Some, None, IfSome, length, nat_lt, refl, if◌then◌else◌}
+use Rattle.std.specs.Prelude.{◌≡◌, ◌^◌, ℕ, true, false, List, Option, Some, None, IfSome, length, nat_lt, refl, if◌then◌else◌}
 use Rattle.std.specs.Option.{ForSome}
 use Rattle.domain_base.specs.Limits.{page_bytes}
-use Rattle.domain_base.specs.declared.place.Home.{Home}
 use Rattle.page_store.specs.Pages.{Pages, AreWhole}
-use Rattle.memory_store.specs.Rising.{value_at}
-
--- a number for each home, in the order of homes
-abbrev pub number_of : Home → ℕ
-number_of home = home.vol * 2 ^ 32 + home.page
+use Rattle.numbered_values.specs.Homes.{found_at, number_of}
+use Rattle.numbered_values.specs.Rising.{value_at}
 
 -- what stands at each home
 abbrev pub pages_of : List (ℕ × List ℕ) → Pages
-pages_of entries home =
-    if nat_lt home.page (2 ^ 32) then value_at entries (number_of home) else None
+pages_of = found_at
 
 -- each page has all its bytes
 abbrev pub AreWholeValues : List (ℕ × List ℕ) → Type 0

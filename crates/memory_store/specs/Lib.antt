@@ -1,4 +1,3 @@
 pub mod Homes
 pub mod PageChanges
-pub mod Rising
 pub mod Tags

@@ -4,7 +4,7 @@ use Rattle.std.specs.Option.{ForSome, option_map}
 use Rattle.domain_base.specs.declared.place.Tag.{Tag}
 use Rattle.domain_base.specs.declared.place.Kind.TheVariants.{Directory}
 use Rattle.page_store.specs.Bitfiles.{Bitfile, Bitfiles, AreBitfiles, IsBitfile, new_file, same_tag}
-use Rattle.memory_store.specs.Rising.{value_at}
+use Rattle.numbered_values.specs.Rising.{value_at}
 
 -- a number for each tag, in the order of tags
 abbrev pub number_of : Tag → ℕ

@@ -6,7 +6,6 @@ mod memory_bitfiles;
 mod memory_pages;
 mod misses;
 mod paged_file;
-mod sorted;
 
 pub use memory_bitfiles::MemoryBitfiles;
 pub use memory_pages::MemoryPages;

@@ -6,14 +6,14 @@ ghost use Rattle.domain_base.specs.Limits.{file_pages, max_links};
 ghost use Rattle.domain_base.specs.declared.place.Kind.TheVariants.{Directory as ADirectory};
 ghost use Rattle.page_store.specs.Bitfiles.{Bitfile, insert_index, linked, new_file, put_index, put_page as with_page, shown_index};
 ghost use Rattle.memory_store.specs.PageChanges.{HasPlaceFor, changed};
-ghost use Rattle.memory_store.specs.Rising.{IsRising, value_at};
+ghost use Rattle.numbered_values.specs.Rising.{IsRising, value_at};
 ghost use Rattle.memory_store.specs.Tags.{AreSound, AreUnused, Changes, IsDirectoryAt, are_bitfiles, files_of, number_of, root_alone};
 
 use crate::misses::Misses;
 use crate::paged_file::{PageChange, PagedFile};
-use crate::sorted::{find, place_of, put, take};
 use bitfile_set::BitfileSet;
 use domain_base::{Kind, OutOfMemory, Page, Tag};
+use numbered_values::{find, place_of, put, take};
 use page_store::StoreFault;
 use std::alloc::Global;
 

@@ -1,13 +1,13 @@
 //! Pages of metadata in memory.
-ghost use Rattle.std.specs.Prelude.{◌≡◌, ◌+◌, ◌-◌, ◌^◌, ◌<◌, ◌≤◌, IsSome, IsSomeAnd, length, vec_capacity, vec_len};
+ghost use Rattle.std.specs.Prelude.{◌≡◌, ◌+◌, ◌-◌, ◌≤◌, IsSome, IsSomeAnd, length, vec_capacity, vec_len};
 ghost use Rattle.domain_base.specs.Page.{overwritten};
 ghost use Rattle.page_store.specs.Pages.{no_pages};
-ghost use Rattle.memory_store.specs.Homes.{AreWholeValues, are_whole, number_of, pages_of};
-ghost use Rattle.memory_store.specs.Rising.{IsRising, Sets, value_at};
+ghost use Rattle.memory_store.specs.Homes.{AreWholeValues, are_whole, pages_of};
+ghost use Rattle.numbered_values.specs.Rising.{IsRising, Sets, value_at};
 
-use crate::sorted::{find, place_of, put, take};
 use domain_base::limits::PAGE_BYTES;
 use domain_base::{Home, OutOfMemory, Page};
+use numbered_values::{find, home_number, place_of, put, take};
 use page_store::MetaPages;
 use std::alloc::Global;
 
@@ -18,15 +18,6 @@ pub struct MemoryPages {
     entries: Vec<(u64, Page)>,
     ghost rising: { IsRising entries.items },
     ghost whole: { AreWholeValues entries.items },
-}
-
-/// The number of a home, which is greater where the volume is, or the page on it.
-fn key_of(home: &Home) -> u64
-    ensures value { result ≡ number_of home.now }
-    ensures width { home.now.page < 2 ^ 32 }
-{
-    let page = home.page;
-    (u64::from(home.vol.number()) << 32) + u64::from(page)
 }
 
 /// Writes these bytes into the page of that number, from byte `at` on.
@@ -67,7 +58,7 @@ impl MetaPages for MemoryPages {
     ghost whole = { λ store. are_whole store.entries.items store.whole };
 
     fn get(&self, home: Home) -> Option<&Page> {
-        find(&self.entries, key_of(&home))
+        find(&self.entries, home_number(&home))
     }
 
     fn reserve(&mut self, _alloc: Global, more: usize) -> Result<(), OutOfMemory> {
@@ -80,14 +71,14 @@ impl MetaPages for MemoryPages {
 
     fn put(&mut self, home: Home, page: Page) {
         prove!(page.bytes().len() == PAGE_BYTES);
-        let _ = put(&mut self.entries, key_of(&home), page);
+        let _ = put(&mut self.entries, home_number(&home), page);
     }
 
     fn set(&mut self, home: Home, at: usize, bytes: &[u8]) {
-        set_bytes(&mut self.entries, key_of(&home), at, bytes);
+        set_bytes(&mut self.entries, home_number(&home), at, bytes);
     }
 
     fn forget(&mut self, home: Home) {
-        let _ = take(&mut self.entries, key_of(&home));
+        let _ = take(&mut self.entries, home_number(&home));
     }
 }

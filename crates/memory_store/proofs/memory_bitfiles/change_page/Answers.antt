@@ -1,6 +1,6 @@
 use Rattle.std.proofs.Common.{set, subst, sym}
 use Rattle.memory_store.specs.PageChanges.{changed}
-use Rattle.memory_store.specs.Rising.{IsGapFor, IsPlaceOf}
+use Rattle.numbered_values.specs.Rising.{IsGapFor, IsPlaceOf}
 use Rattle.memory_store.specs.Tags.{Changes}
 use Rattle.memory_store.proofs.FileLemmas.{changes_at_place, changes_in_gap, found_at_place, sound_at_place}
 use Rattle.memory_store.proofs.memory_bitfiles.change_page.Goals as goal

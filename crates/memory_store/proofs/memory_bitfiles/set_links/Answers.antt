@@ -1,6 +1,6 @@
 use Rattle.std.proofs.Common.{subst, sym, set}
 use Rattle.page_store.specs.Bitfiles.{linked}
-use Rattle.memory_store.specs.Rising.{IsGapFor, IsPlaceOf}
+use Rattle.numbered_values.specs.Rising.{IsGapFor, IsPlaceOf}
 use Rattle.memory_store.specs.Tags.{Changes}
 use Rattle.memory_store.proofs.FileLemmas.{changes_at_place, changes_in_gap, sound_at_place}
 use Rattle.memory_store.proofs.memory_bitfiles.set_links.Goals as goal

@@ -1,8 +1,8 @@
 use Rattle.std.proofs.Common.{◌≡◌, ℕ, Some, List, set, sym, ap, subst, ◌∙◌}
 use mathlib.Core.Bool.{false≢true}
 use Rattle.domain_base.specs.Page.{overwritten}
-use Rattle.memory_store.specs.Rising.{IsGapFor, IsPlaceOf, Sets, value_at}
-use Rattle.memory_store.proofs.Search.{sets_at_place, value_at_place, value_in_gap}
+use Rattle.numbered_values.specs.Rising.{IsGapFor, IsPlaceOf, Sets, value_at}
+use Rattle.numbered_values.proofs.Search.{sets_at_place, value_at_place, value_in_gap}
 use Rattle.memory_store.proofs.memory_pages.set_bytes.Goals as goal
 
 pub returns-in-Ok-clause-value : goal.returns-in-Ok-clause-value
