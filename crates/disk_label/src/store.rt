@@ -19,7 +19,7 @@ ghost use Rattle.domain_base.specs.Gate.{closed, opened};
 ghost use Rattle.volume_disk.specs.Disk.{HasVolume, Tells, volume_pages};
 ghost use Rattle.volume_disk.specs.Gate.{IsOpenAt};
 ghost use Rattle.volume_disk.specs.Run.{
-  IsLater,
+  IsLaterBy,
   NamesReadFault,
   NamesWriteFault,
   OnlyReads,
@@ -88,6 +88,7 @@ fn close_slot<R: Rack>(rack: &mut R, vol: VolIx, slot: u8) -> Result<(), VolIx>
     ensures writes { OnlyWrites (R.disk rack.old) (R.disk rack.new) (IsGate vol slot) }
     ensures settled { let old = R.disk rack.old in let new = R.disk rack.new in
         OnOk result (Tells old → Settles vol (gate_byte slot) closed old.now new.now) }
+    ensures later { OnOk result (IsLaterBy 2 (R.disk rack.old) (R.disk rack.new)) }
     ensures fault { NamesWriteFault (R.disk rack.old) (R.disk rack.new) result }
 {
     close_gate(rack, vol, gate_block(slot))
@@ -101,7 +102,7 @@ fn open_slot<R: Rack>(rack: &mut R, vol: VolIx, slot: u8) -> Result<(), VolIx>
     ensures writes { OnlyWrites (R.disk rack.old) (R.disk rack.new) (IsGate vol slot) }
     ensures settled { let old = R.disk rack.old in let new = R.disk rack.new in
         OnOk result (Tells old → Settles vol (gate_byte slot) opened old.now new.now) }
-    ensures later { OnOk result (IsLater (R.disk rack.old) (R.disk rack.new)) }
+    ensures later { OnOk result (IsLaterBy 2 (R.disk rack.old) (R.disk rack.new)) }
     ensures fault { NamesWriteFault (R.disk rack.old) (R.disk rack.new) result }
 {
     open_gate(rack, vol, gate_block(slot))
@@ -121,6 +122,7 @@ fn write_body<R: Rack>(
     ensures settled { let old = R.disk rack.old in let new = R.disk rack.new in
         let at = gate_byte slot + BLOCK_BYTES in
         OnOk result (Tells old → Settles vol at body.now old.now new.now) }
+    ensures later { OnOk result (IsLaterBy 2 (R.disk rack.old) (R.disk rack.new)) }
     ensures fault { NamesWriteFault (R.disk rack.old) (R.disk rack.new) result }
 {
     write_synced(rack, vol, gate_block(slot) + 1, body)
@@ -286,7 +288,7 @@ pub fn write_anchor<R: Rack>(rack: &mut R, anchor: &Anchor) -> Result<(), VolIx>
         × IsAnchor old.sizes old.now.contents before × IsNext before anchor.now }
     ensures writes { WritesAnchor (R.disk rack.old) (R.disk rack.new) anchor.now }
     ensures done { OnOk result (HasWritten (R.disk rack.old) (R.disk rack.new) anchor.now) }
-    ensures later { OnOk result (IsLater (R.disk rack.old) (R.disk rack.new)) }
+    ensures later { OnOk result (IsLaterBy 6 (R.disk rack.old) (R.disk rack.new)) }
     ensures fault { NamesWriteFault (R.disk rack.old) (R.disk rack.new) result }
 {
     let Some(vol) = VolIx::new(anchor.log_vol) else {

@@ -2,7 +2,7 @@
 //! them.
 ghost use Rattle.std.specs.Prelude.{OnOk, Some};
 ghost use Rattle.volume_disk.specs.Disk.{Tells};
-ghost use Rattle.volume_disk.specs.Run.{IsLater, NamesWriteFault};
+ghost use Rattle.volume_disk.specs.Run.{IsLaterBy, NamesWriteFault};
 ghost use Rattle.disk_label.specs.Anchor.{IsAnchor};
 ghost use Rattle.log_ring.specs.Settling.{BringsHome, HasBroughtHome};
 ghost use Rattle.log_recovery.specs.Outcome.{IsSound};
@@ -17,9 +17,9 @@ use volume_disk::Rack;
 /// Settles a log as it was recovered: brings its images home, and writes the next anchor, with
 /// which the log starts behind them (`Redone::settled_anchor`). It reads nothing. Each home is
 /// written once, with the last image of it, and each volume that was written is synced once, before
-/// the anchor. The anchor that was recovered has still to be the one that counts, and its number and
-/// the next group's not the last (`Redone::has_numbers_left`). The error is the volume, of which a
-/// write or a sync failed.
+/// the anchor. The anchor that was recovered has still to be the one that counts, and its number
+/// and the next group's not the last (`Redone::has_numbers_left`). The error is the volume, of
+/// which a write or a sync failed.
 ///
 /// What a stop may leave is said where the log stands as it was recovered on each image that a stop
 /// might leave at the start, and the slot of the next anchor is ready (`MaySettle`, of which
@@ -35,7 +35,7 @@ pub fn settle<R: Rack>(rack: &mut R, redone: &Redone) -> Result<(), VolIx>
     ensures done { OnOk result (HasBroughtHome (R.disk rack.old) (R.disk rack.new)
         redone.now.images (settled_anchor redone.now)) }
     ensures readable { SettlesReadably (R.disk rack.old) (R.disk rack.new) redone.now }
-    ensures later { OnOk result (IsLater (R.disk rack.old) (R.disk rack.new)) }
+    ensures later { OnOk result (IsLaterBy 6 (R.disk rack.old) (R.disk rack.new)) }
     ensures fault { NamesWriteFault (R.disk rack.old) (R.disk rack.new) result }
 {
     let next = redone.settled_anchor();

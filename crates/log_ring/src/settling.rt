@@ -14,7 +14,7 @@ ghost use Rattle.std.specs.Prelude.{
 ghost use Rattle.std.specs.List.{list_any};
 ghost use Rattle.volume_disk.specs.Disk.{Tells};
 ghost use Rattle.volume_disk.specs.Image.{NoPlace, page_at};
-ghost use Rattle.volume_disk.specs.Run.{IsLater, NamesWriteFault, OnlyWrites};
+ghost use Rattle.volume_disk.specs.Run.{IsLaterBy, NamesWriteFault, OnlyWrites};
 ghost use Rattle.disk_label.specs.Anchor.{IsAnchor, IsNext, IsWhole};
 ghost use Rattle.page_store.specs.Pages.{same_home};
 ghost use Rattle.page_change.specs.Images.{homes_of};
@@ -144,7 +144,7 @@ pub fn bring_home<R: Rack>(rack: &mut R, images: &[PageImage], next: &Anchor) ->
     ensures brings { BringsHome (R.disk rack.old) (R.disk rack.new) images.now next.now }
     ensures done { OnOk result
         (HasBroughtHome (R.disk rack.old) (R.disk rack.new) images.now next.now) }
-    ensures later { OnOk result (IsLater (R.disk rack.old) (R.disk rack.new)) }
+    ensures later { OnOk result (IsLaterBy 6 (R.disk rack.old) (R.disk rack.new)) }
     ensures fault { NamesWriteFault (R.disk rack.old) (R.disk rack.new) result }
 {
     write_images(rack, images)?;

@@ -63,6 +63,8 @@ impl Rack for CountRack {
 
     ghost holds_bytes = { λ counted told. Prim.cc };
 
+    ghost pends_within = { λ counted told. Prim.cc };
+
     fn volumes(&self) -> u32 {
         self.rack.volumes()
     }

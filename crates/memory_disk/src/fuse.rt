@@ -38,11 +38,13 @@ impl FuseRack {
 
 impl Rack for FuseRack {
     ghost use Rattle.memory_disk.specs.Fuse.{fuse_disk};
-    ghost use Rattle.memory_disk.specs.Bytes.{are_bytes};
+    ghost use Rattle.memory_disk.specs.Bytes.{are_bytes, are_within};
 
     ghost disk = { fuse_disk };
 
     ghost holds_bytes = { λ fuse told. are_bytes fuse.rack.volumes.items.items };
+
+    ghost pends_within = { λ fuse told. are_within fuse.rack.volumes };
 
     fn volumes(&self) -> u32 {
         self.rack.volumes()

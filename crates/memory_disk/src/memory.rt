@@ -236,11 +236,13 @@ impl MemoryRack {
 impl Rack for MemoryRack {
     ghost use Rattle.volume_disk.specs.Disk.{ReadDone, SyncDone, WriteDone};
     ghost use Rattle.memory_disk.specs.Memory.{memory_disk, IsTorn};
-    ghost use Rattle.memory_disk.specs.Bytes.{are_bytes};
+    ghost use Rattle.memory_disk.specs.Bytes.{are_bytes, are_within};
 
     ghost disk = { memory_disk };
 
     ghost holds_bytes = { λ rack told. are_bytes rack.volumes.items.items };
+
+    ghost pends_within = { λ rack told. are_within rack.volumes };
 
     fn volumes(&self) -> u32 {
         self.volumes.items.len() as u32

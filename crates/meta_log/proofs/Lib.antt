@@ -1,7 +1,8 @@
 pub mod Appending
-pub mod Forcing
 pub mod Bodies
 pub mod Checkpointing
+pub mod Forcing
 pub mod Joining
+pub mod Numbering
 pub mod Pending
 pub mod SlotLists

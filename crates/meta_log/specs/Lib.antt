@@ -2,3 +2,4 @@ pub mod Checkpoint
 pub mod Force
 pub mod Inside
 pub mod Log
+pub mod Numbers

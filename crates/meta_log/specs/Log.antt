@@ -79,4 +79,5 @@ IsFullFor log n = (group_images < n) ⊎ (log_pages < used log + n + 2)
 
 -- of how many images each change has a place
 abbrev pub room_of : Log → ℕ
-room_of log = min (group_images - length log.pending) (log_pages - 2 - used log - length log.pending)
+room_of log =
+    min (group_images - length log.pending) (log_pages - 2 - used log - length log.pending)

@@ -4,7 +4,7 @@ ghost use Rattle.domain_base.specs.Limits.{log_pages, page_bytes};
 ghost use Rattle.domain_base.specs.Gate.{opened};
 ghost use Rattle.volume_disk.specs.Disk.{Tells};
 ghost use Rattle.volume_disk.specs.Image.{IsIn};
-ghost use Rattle.volume_disk.specs.Run.{IsLater, NamesWriteFault, OnlyWrites, Settles};
+ghost use Rattle.volume_disk.specs.Run.{IsLaterBy, NamesWriteFault, OnlyWrites, Settles};
 ghost use Rattle.log_ring.specs.Groups.{AreImagesAt};
 ghost use Rattle.log_ring.specs.Ring.{IsGateOpen, IsOnPlaces, IsRing, place_at, ring_byte};
 ghost use Rattle.page_change.specs.Header.{IsSayable, header_for};
@@ -46,9 +46,11 @@ fn write_header_body<R: Rack>(
 ) -> Result<(), VolIx>
     requires ring { IsRing (R.disk rack.old).sizes anchor.now }
     requires vol { vol ≡ anchor.now.log_vol }
-    ensures writes { OnlyWrites (R.disk rack.old) (R.disk rack.new) (IsHeaderBody anchor.now place) }
+    ensures writes { let places = IsHeaderBody anchor.now place in
+        OnlyWrites (R.disk rack.old) (R.disk rack.new) places }
     ensures written { let new = R.disk rack.new in OnOk result (Tells (R.disk rack.old)
         → IsWrittenBody new.now.contents anchor.now place header.now) }
+    ensures later { OnOk result (IsLaterBy 1 (R.disk rack.old) (R.disk rack.new)) }
     ensures fault { NamesWriteFault (R.disk rack.old) (R.disk rack.new) result }
 {
     write_blocks(
@@ -109,6 +111,7 @@ fn close_gate<R: Rack>(rack: &mut R, vol: VolIx, anchor: &Anchor, place: u32) ->
     ensures writes { OnlyWrites (R.disk rack.old) (R.disk rack.new) (IsGateAt anchor.now place) }
     ensures closed { let new = R.disk rack.new in OnOk result (Tells (R.disk rack.old)
         → ¬ IsGateOpen new.now.contents anchor.now place) }
+    ensures later { OnOk result (IsLaterBy 1 (R.disk rack.old) (R.disk rack.new)) }
     ensures fault { NamesWriteFault (R.disk rack.old) (R.disk rack.new) result }
 {
     write_blocks(rack, vol, ring_block(anchor, place), &closed_block())
@@ -131,6 +134,7 @@ fn write_body<R: Rack>(
         OnlyWrites (R.disk rack.old) (R.disk rack.new) places }
     ensures ready { let new = R.disk rack.new in OnOk result (Tells (R.disk rack.old)
         → IsReadyToOpen new.now anchor.now place header.now images.now) }
+    ensures later { OnOk result (IsLaterBy 3 (R.disk rack.old) (R.disk rack.new)) }
     ensures fault { NamesWriteFault (R.disk rack.old) (R.disk rack.new) result }
 {
     write_header_body(rack, vol, anchor, place, header)?;
@@ -147,7 +151,7 @@ fn open_group<R: Rack>(rack: &mut R, vol: VolIx, anchor: &Anchor, place: u32) ->
     ensures settled { let old = R.disk rack.old in let new = R.disk rack.new in
         OnOk result (Tells old
         → Settles anchor.now.log_vol (ring_byte anchor.now place) opened old.now new.now) }
-    ensures later { OnOk result (IsLater (R.disk rack.old) (R.disk rack.new)) }
+    ensures later { OnOk result (IsLaterBy 2 (R.disk rack.old) (R.disk rack.new)) }
     ensures fault { NamesWriteFault (R.disk rack.old) (R.disk rack.new) result }
 {
     open_gate(rack, vol, ring_block(anchor, place))
@@ -172,7 +176,7 @@ pub fn write_group<R: Rack>(
         WritesGroup (R.disk rack.old) (R.disk rack.new) anchor.now place group }
     ensures done { let group = group_of number images.now in OnOk result
         (HasWrittenGroup (R.disk rack.old) (R.disk rack.new) anchor.now place group) }
-    ensures later { OnOk result (IsLater (R.disk rack.old) (R.disk rack.new)) }
+    ensures later { OnOk result (IsLaterBy 5 (R.disk rack.old) (R.disk rack.new)) }
     ensures fault { NamesWriteFault (R.disk rack.old) (R.disk rack.new) result }
 {
     let Some(vol) = VolIx::new(anchor.log_vol) else {

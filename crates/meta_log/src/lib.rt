@@ -3,8 +3,10 @@
 
 mod fault;
 mod group;
+mod laws;
 mod log;
 mod slots;
 
 pub use fault::LogFull;
+pub use laws::number_laws;
 pub use log::MetaLog;

@@ -21,7 +21,7 @@ ghost use Rattle.std.specs.Prelude.{
 };
 ghost use Rattle.domain_base.specs.Limits.{log_pages};
 ghost use Rattle.volume_disk.specs.Disk.{Tells};
-ghost use Rattle.volume_disk.specs.Run.{IsLater, NamesWriteFault};
+ghost use Rattle.volume_disk.specs.Run.{IsLaterBy, NamesWriteFault};
 ghost use Rattle.disk_label.specs.Anchor.{IsAnchor, IsWhole};
 ghost use Rattle.disk_label.specs.FirstPages.{anchors_page};
 ghost use Rattle.page_change.specs.Images.{IsChange, joined};
@@ -218,7 +218,7 @@ impl MetaLog {
         ensures forces { Forces (R.disk rack.old) (R.disk rack.new) self.old }
         ensures ok { OnOk result (self.new ≡ forced self.old) }
         ensures done { OnOk result (HasForced (R.disk rack.old) (R.disk rack.new) self.old) }
-        ensures later { OnOk result (IsLater (R.disk rack.old) (R.disk rack.new)) }
+        ensures later { OnOk result (IsLaterBy 5 (R.disk rack.old) (R.disk rack.new)) }
         ensures fault { NamesWriteFault (R.disk rack.old) (R.disk rack.new) result }
     {
         let place = self.anchor.start + self.used();
@@ -244,7 +244,7 @@ impl MetaLog {
         ensures number { IfOk result (λ number. number ≡ next_number self.new - 1) }
         ensures done { OnOk result (HasForced (R.disk rack.old) (R.disk rack.new) self.old) }
         ensures later { OnOk result (0 < length self.old.pending
-            → IsLater (R.disk rack.old) (R.disk rack.new)) }
+            → IsLaterBy 5 (R.disk rack.old) (R.disk rack.new)) }
         ensures fault { NamesWriteFault (R.disk rack.old) (R.disk rack.new) result }
     {
         if !self.is_pending() {
@@ -319,7 +319,7 @@ impl MetaLog {
         ensures number { IfOk result (λ number. number ≡ self.old.anchor.number + 1) }
         ensures done { let next = next_anchor self.old anchor.now in OnOk result
             (HasCheckpointed (R.disk rack.old) (R.disk rack.new) self.old next) }
-        ensures later { OnOk result (IsLater (R.disk rack.old) (R.disk rack.new)) }
+        ensures later { OnOk result (IsLaterBy 6 (R.disk rack.old) (R.disk rack.new)) }
         ensures fault { NamesWriteFault (R.disk rack.old) (R.disk rack.new) result }
     {
         let next = self.next_anchor(anchor);

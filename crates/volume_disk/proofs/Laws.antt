@@ -1,10 +1,10 @@
 -- How what a stop may leave goes on from call to call. Crates above cite these and look into no rack.
-use Rattle.std.proofs.Common.{◌≡◌, ◌⊎◌, ◌+◌, ◌==◌, ◌&&◌, ℕ, ◌-◌, ◌^◌, ◌<◌, ◌≤◌, nat_lt, Bool, true, false, cond, IsTrue, Result, Ok, Err, OnOk, OnErr, List, length, refl, sym, ◌∙◌, ap, subst, inl, inr, ⊎_elim, arith}
+use Rattle.std.proofs.Common.{◌≡◌, ◌⊎◌, ◌+◌, ◌==◌, ◌&&◌, ℕ, ◌-◌, ◌^◌, ◌<◌, ◌≤◌, nat_lt, Bool, true, false, cond, IsTrue, Result, Ok, Err, OnOk, OnErr, List, [], ◌∷◌, length, refl, sym, ◌∙◌, ap, subst, inl, inr, ⊎_elim, arith}
 use Rattle.std.proofs.lemmas.Bool.{cases_eq, eq-eqb, ne_eqb, lt-ltb, both_ways}
 use Rattle.domain_base.specs.Counts.{raised, HasRisen}
 use Rattle.volume_disk.specs.Disk.{Disk, Moment, MayLeave, Since, Tells, moment_at, Makes, MayTear, Writes, Syncs, ReadDone, ReadFailed, WriteDone, WriteFailed, SyncDone, SyncFailed, raised_at}
 use Rattle.volume_disk.specs.Image.{AreBytes, Image, IsIn, NoPlace, Places, SameOutside}
-use Rattle.volume_disk.specs.Run.{LeavesOnly, MayLeaveTorn, OnlyReads, OnlyWrites, Settles, Touches}
+use Rattle.volume_disk.specs.Run.{LeavesOnly, MayLeaveTorn, OnlyReads, OnlyWrites, Settles, Touches, TouchesEach, end_of}
 use Rattle.volume_disk.proofs.Places.{in_or_out, mixed, mixed-in, mixed-out, put_at-same, put_at-other}
 
 -- Time.
@@ -447,3 +447,8 @@ Settles-done vol at bytes old mid new writes syncs = record {
   here = syncs.here;
   elsewhere = λ v k other. syncs.elsewhere v k other ∙ writes.tears.unsynced v k (λ is_in. other is_in.0);
 }
+
+-- Runs one after the other, however many, are one run.
+pub touches-joined : (places : Places) (disk : Disk) (disks : List Disk) → TouchesEach places disk disks → Touches disk (end_of disk disks) places
+touches-joined places disk [] each = touches-none disk places
+touches-joined places disk (next ∷ more) each = touches-then disk next (end_of next more) places each.0 (touches-joined places next more each.1)

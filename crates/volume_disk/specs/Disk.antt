@@ -2,6 +2,7 @@
 -- changes both.
 use Rattle.std.specs.Prelude.{◌≡◌, ◌≢◌, ◌⊎◌, ◌==◌, ◌&&◌, ◌^◌, ℕ, zero, suc, ◌+◌, ◌-◌, ◌*◌, ◌%◌, ◌<◌, ◌≤◌, nat_lt, if◌then◌else◌, Bool, true, false, IsTrue, List, length, slice_index}
 use Rattle.domain_base.specs.Counts.{raised}
+use Rattle.domain_base.specs.Limits.{max_volumes}
 use Rattle.volume_disk.specs.Image.{Image, AreBytes, IsIn, SameOutside, HasBytes, bytes_at}
 
 -- what a read gives, and the places where a stop may leave any byte
@@ -69,6 +70,11 @@ moment_at disk t = if t == disk.calls then disk.now else disk.past t
 -- nothing is pending: a stop leaves what a read gives
 abbrev pub IsSettled : Moment → Type 0
 IsSettled moment = (v k : ℕ) → moment.unsynced v k ≡ false
+
+-- nothing is pending but on volumes of the rack that have a number
+abbrev pub PendsWithin : Disk → Type 0
+PendsWithin disk =
+    (v k : ℕ) → disk.now.unsynced v k ≡ true → HasVolume disk v × (v ≤ max_volumes)
 
 -- Counts.
 

@@ -1,5 +1,5 @@
 -- Runs of calls: what they have changed, and what a stop since their start may leave.
-use Rattle.std.specs.Prelude.{◌≡◌, ◌≢◌, ◌⊎◌, ℕ, ◌<◌, ◌≤◌, false, IsTrue, List, length, Result, Ok, Err}
+use Rattle.std.specs.Prelude.{◌≡◌, ◌≢◌, ◌⊎◌, ℕ, ◌+◌, ◌<◌, ◌≤◌, false, IsTrue, List, [], ◌∷◌, length, Result, Ok, Err}
 use Rattle.volume_disk.specs.Disk.{Disk, Moment, MayLeave, Since, Tells, raised_at}
 use Rattle.volume_disk.specs.Image.{Image, Places, AreBytes, HasBytes, IsIn, NoPlace, SameOutside}
 
@@ -16,9 +16,9 @@ pub record LeavesOnly (old new : Disk) (P : Image → Type 0) : Type 0 where
   pub before : (t : ℕ) (image : Image) → t ≤ old.calls → Since new t image
       → Since old t image ⊎ P image
 
--- calls were made: the clock has gone on
-abbrev pub IsLater : Disk → Disk → Type 0
-IsLater old new = old.calls < new.calls
+-- n calls were made, or more: the clock has gone on by them
+abbrev pub IsLaterBy : ℕ → Disk → Disk → Type 0
+IsLaterBy n old new = old.calls + n ≤ new.calls
 
 -- A run of calls that has changed nothing but these places. What a stop since its start may leave
 -- is what one at its start might have left, with any bytes there. It may have read anything, and
@@ -38,6 +38,16 @@ pub record Touches (old new : Disk) (places : Places) : Type 0 where
   pub keeps : Tells old → IsTrue old.kept
       → (t : ℕ) (image : Image) → Since old t image → Since new t image
 
+-- runs of calls, each of which begins where the one before it ended, and touches these places alone
+abbrev pub TouchesEach : Places → Disk → List Disk → Type 0
+TouchesEach places disk [] = Unit {0}
+TouchesEach places disk (next ∷ more) = Touches disk next places × TouchesEach places next more
+
+-- where they end
+abbrev pub end_of : Disk → List Disk → Disk
+end_of disk [] = disk
+end_of disk (next ∷ more) = end_of next more
+
 -- a run of calls that wrote and synced nothing
 pub record OnlyReads (old new : Disk) : Type 0 where
   pub touches : Touches old new NoPlace
@@ -55,6 +65,10 @@ pub record Settles (vol at : ℕ) (bytes : List ℕ) (old new : Moment) : Type 0
   pub outside : SameOutside (IsIn vol at (length bytes)) old.contents new.contents
   pub here : (k : ℕ) → new.unsynced vol k ≡ false
   pub elsewhere : (v k : ℕ) → v ≢ vol → new.unsynced v k ≡ old.unsynced v k
+
+-- nothing is pending on the volumes below this one
+abbrev pub IsSettledBelow : ℕ → Moment → Type 0
+IsSettledBelow vol moment = (v k : ℕ) → v < vol → moment.unsynced v k ≡ false
 
 -- at Ok no read has failed, and else one of the volume that the error names, and no other
 abbrev pub NamesReadFault : {T : Type 0} → Disk → Disk → Result T ℕ → Type 0

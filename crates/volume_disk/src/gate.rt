@@ -6,7 +6,7 @@ ghost use Rattle.volume_disk.specs.Disk.{AreBlocks, Tells};
 ghost use Rattle.volume_disk.specs.Gate.{IsOpenAt};
 ghost use Rattle.volume_disk.specs.Image.{IsIn};
 ghost use Rattle.volume_disk.specs.Run.{
-  IsLater,
+  IsLaterBy,
   NamesReadFault,
   NamesWriteFault,
   OnlyReads,
@@ -41,7 +41,7 @@ pub fn open_gate<R: Rack>(rack: &mut R, vol: VolIx, block: u32) -> Result<(), Vo
         OnlyWrites (R.disk rack.old) (R.disk rack.new) places }
     ensures settled { let old = R.disk rack.old in let new = R.disk rack.new in
         OnOk result (Tells old → Settles vol (512 * block) opened old.now new.now) }
-    ensures later { OnOk result (IsLater (R.disk rack.old) (R.disk rack.new)) }
+    ensures later { OnOk result (IsLaterBy 2 (R.disk rack.old) (R.disk rack.new)) }
     ensures fault { NamesWriteFault (R.disk rack.old) (R.disk rack.new) result }
 {
     write_synced(rack, vol, block, &open_block())
@@ -55,7 +55,7 @@ pub fn close_gate<R: Rack>(rack: &mut R, vol: VolIx, block: u32) -> Result<(), V
         OnlyWrites (R.disk rack.old) (R.disk rack.new) places }
     ensures settled { let old = R.disk rack.old in let new = R.disk rack.new in
         OnOk result (Tells old → Settles vol (512 * block) closed old.now new.now) }
-    ensures later { OnOk result (IsLater (R.disk rack.old) (R.disk rack.new)) }
+    ensures later { OnOk result (IsLaterBy 2 (R.disk rack.old) (R.disk rack.new)) }
     ensures fault { NamesWriteFault (R.disk rack.old) (R.disk rack.new) result }
 {
     write_synced(rack, vol, block, &closed_block())

@@ -8,4 +8,4 @@ mod synced;
 
 pub use gate::{close_gate, open_gate, read_gate};
 pub use rack::Rack;
-pub use synced::{read_blocks, sync_volume, write_blocks, write_synced};
+pub use synced::{read_blocks, sync_volume, sync_volumes, write_blocks, write_synced};

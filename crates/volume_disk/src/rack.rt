@@ -4,6 +4,7 @@ ghost use Rattle.volume_disk.specs.Disk.{
   Disk,
   AreBlocks,
   HasVolume,
+  PendsWithin,
   ReadDone,
   ReadFailed,
   SyncDone,
@@ -79,4 +80,8 @@ pub trait Rack {
 
     /// What a read gives are bytes.
     ghost holds_bytes: { (rack : Self) → Tells (disk rack) → AreBytes (disk rack).now.contents };
+
+    /// Nothing is pending but on its volumes, of which a domain has eight at most: so a rack on
+    /// which each of them was synced has nothing pending.
+    ghost pends_within: { (rack : Self) → Tells (disk rack) → PendsWithin (disk rack) };
 }

@@ -1,9 +1,10 @@
 //! Calls of a rack that name the volume of which they failed.
-ghost use Rattle.std.specs.Prelude.{◌≡◌, ◌*◌, length, OnOk};
-ghost use Rattle.volume_disk.specs.Disk.{AreBlocks, HasVolume, Syncs, Tells, Writes};
+ghost use Rattle.std.specs.Prelude.{◌≡◌, ◌*◌, ◌+◌, length, OnOk};
+ghost use Rattle.volume_disk.specs.Disk.{AreBlocks, HasVolume, IsSettled, Syncs, Tells, Writes};
 ghost use Rattle.volume_disk.specs.Image.{IsIn, NoPlace, bytes_at};
 ghost use Rattle.volume_disk.specs.Run.{
-  IsLater,
+  IsLaterBy,
+  IsSettledBelow,
   NamesReadFault,
   NamesWriteFault,
   OnlyReads,
@@ -13,6 +14,7 @@ ghost use Rattle.volume_disk.specs.Run.{
 
 use crate::Rack;
 use domain_base::VolIx;
+use domain_base::limits::MAX_VOLUMES;
 
 /// Reads whole blocks of 512 bytes of a volume, beginning at a block. The error is the volume, of
 /// which the read failed; `out` is then not to be used.
@@ -47,6 +49,7 @@ pub fn write_blocks<R: Rack>(
         OnlyWrites (R.disk rack.old) (R.disk rack.new) places }
     ensures written { let old = R.disk rack.old in let new = R.disk rack.new in
         OnOk result (Tells old → Writes vol (512 * block) bytes.now old.now new.now) }
+    ensures later { OnOk result (IsLaterBy 1 (R.disk rack.old) (R.disk rack.new)) }
     ensures fault { NamesWriteFault (R.disk rack.old) (R.disk rack.new) result }
 {
     match rack.write(vol, block, bytes) {
@@ -61,13 +64,44 @@ pub fn sync_volume<R: Rack>(rack: &mut R, vol: VolIx) -> Result<(), VolIx>
     ensures writes { OnlyWrites (R.disk rack.old) (R.disk rack.new) NoPlace }
     ensures synced { let old = R.disk rack.old in
         OnOk result (Tells old → Syncs vol old.now (R.disk rack.new).now) }
-    ensures later { OnOk result (IsLater (R.disk rack.old) (R.disk rack.new)) }
+    ensures later { OnOk result (IsLaterBy 1 (R.disk rack.old) (R.disk rack.new)) }
     ensures fault { NamesWriteFault (R.disk rack.old) (R.disk rack.new) result }
 {
     match rack.sync(vol) {
         Ok(()) => Ok(()),
         Err(_) => Err(vol),
     }
+}
+
+/// Syncs a volume if the rack has it.
+fn sync_there<R: Rack>(rack: &mut R, vol: VolIx) -> Result<(), VolIx>
+    ensures writes { OnlyWrites (R.disk rack.old) (R.disk rack.new) NoPlace }
+    ensures settled { let old = R.disk rack.old in let new = R.disk rack.new in
+        OnOk result (Tells old → IsSettledBelow vol old.now → IsSettledBelow (vol + 1) new.now) }
+    ensures fault { NamesWriteFault (R.disk rack.old) (R.disk rack.new) result }
+{
+    if vol.number() <= rack.volumes() {
+        sync_volume(rack, vol)
+    } else {
+        Ok(())
+    }
+}
+
+/// Syncs each volume of the rack, in their order, up to the eighth: then nothing is pending. It is
+/// for a rack on which a domain was stopped by a call that failed, before one is opened there
+/// again. The error is the first volume of which that failed.
+pub fn sync_volumes<R: Rack>(rack: &mut R) -> Result<(), VolIx>
+    ensures writes { OnlyWrites (R.disk rack.old) (R.disk rack.new) NoPlace }
+    ensures settled { OnOk result (Tells (R.disk rack.old) → IsSettled (R.disk rack.new).now) }
+    ensures fault { NamesWriteFault (R.disk rack.old) (R.disk rack.new) result }
+{
+    for number in 1..MAX_VOLUMES + 1 {
+        let Some(vol) = VolIx::new(number) else {
+            unreachable!()
+        };
+        sync_there(rack, vol)?;
+    }
+    Ok(())
 }
 
 /// Writes whole blocks of 512 bytes of a volume, beginning at a block, and syncs the volume. The
@@ -83,7 +117,7 @@ pub fn write_synced<R: Rack>(
         OnlyWrites (R.disk rack.old) (R.disk rack.new) places }
     ensures settled { let old = R.disk rack.old in let new = R.disk rack.new in
         OnOk result (Tells old → Settles vol (512 * block) bytes.now old.now new.now) }
-    ensures later { OnOk result (IsLater (R.disk rack.old) (R.disk rack.new)) }
+    ensures later { OnOk result (IsLaterBy 2 (R.disk rack.old) (R.disk rack.new)) }
     ensures fault { NamesWriteFault (R.disk rack.old) (R.disk rack.new) result }
 {
     match write_blocks(rack, vol, block, bytes) {

@@ -1,0 +1,25 @@
+//! What holds of the numbers of a log, for those who call this crate.
+ghost use Rattle.std.specs.Prelude.{ℕ};
+ghost use Rattle.volume_disk.specs.Disk.{Disk};
+ghost use Rattle.disk_label.specs.declared.anchor.Anchor.{Anchor};
+ghost use Rattle.meta_log.specs.Log.{Log};
+ghost use Rattle.meta_log.specs.Numbers.{
+  ForcesNumbers,
+  KeepsNumbers,
+  LeavesNumbers,
+  MovesNumbers,
+};
+
+/// Laws of the numbers of a log. Each of them is raised by one, in four calls of the rack or more;
+/// so they stay within a quarter of its calls of the higher one of those that a domain was opened
+/// with: through calls of others and `append` (`keeps`), `force` (`forced`) and `checkpoint`
+/// (`moved`). A clock of 64 bits makes fewer than 2^64 calls, so a log that was opened with numbers
+/// below 2^62 less 1 never comes to a number of 2^63: what `append` and `checkpoint` ask of its
+/// numbers is always met (`left`).
+pub fn number_laws()
+    ensures keeps { (first : ℕ) (old new : Disk) (log : Log) → KeepsNumbers first old new log }
+    ensures forced { (first : ℕ) (old new : Disk) (log : Log) → ForcesNumbers first old new log }
+    ensures moved { (first : ℕ) (old new : Disk) (log : Log) (given : Anchor)
+        → MovesNumbers first old new log given }
+    ensures left { (first : ℕ) (disk : Disk) (log : Log) → LeavesNumbers first disk log }
+{}
