@@ -250,7 +250,10 @@ fn homes_of_two_volumes_are_synced_before_the_anchor(rt: HostRuntime) -> Result<
 fn a_full_log_says_so(rt: HostRuntime) -> Result<(), Fail> {
     let full = LogFull;
     let text = format!(in rt.alloc(); "{full}")?;
-    assert_eq!(rt; text.as_str(), "the log has no place for the change");
+    assert_eq!(rt;
+        text.as_str(),
+        "the log is full until it is forced or brought home"
+    );
     Ok(())
 }
 

@@ -1,15 +1,16 @@
-//! Why a change may not be appended.
+//! Why a log takes no change now.
 
 use std::error::Error;
 use std::fmt;
 
-/// The group of a change would have more than 60 images, or the ring has no place for it.
+/// What is pending leaves no space for a change: together they are more than one group holds, or
+/// fill the ring past its next header. A force, or bringing the log home, makes space.
 #[derive(Clone, Copy, Debug, PartialEq, Eq)]
 pub struct LogFull;
 
 impl fmt::Display for LogFull {
     fn fmt<W: fmt::Write>(&self, f: &mut fmt::Formatter<W>) -> fmt::Result {
-        f.write_str("the log has no place for the change")
+        f.write_str("the log is full until it is forced or brought home")
     }
 }
 
