@@ -1,5 +1,6 @@
 pub mod Bodies
 pub mod Elsewhere
+pub mod Gates
 pub mod OtherSlots
 pub mod Slots
 pub mod Steps

@@ -2,9 +2,9 @@
 use Rattle.std.specs.Prelude.{◌≡◌, ℕ, false, List, Option}
 use Rattle.volume_disk.specs.Disk.{Disk, MayLeave, Tells}
 use Rattle.volume_disk.specs.Image.{Image, SameIn}
-use Rattle.volume_disk.specs.Run.{Touches}
+use Rattle.volume_disk.specs.Run.{LeavesOnly, Touches}
 use Rattle.disk_label.specs.Anchor.{IsAnchor}
-use Rattle.disk_label.specs.Slot.{HasAnchor, IsOnAnchors, IsReady}
+use Rattle.disk_label.specs.Slot.{HasAnchor, IsGateOf, IsOnAnchors, IsReady}
 use Rattle.disk_label.specs.declared.anchor.Anchor.{Anchor}
 
 -- images that agree on the pages of anchors have the same one
@@ -38,3 +38,15 @@ abbrev pub StaysReady : Disk → Disk → Option Anchor → ℕ → ℕ → Type
 StaysReady old new anchor vol slot =
     new.sizes ≡ old.sizes → KeepsAnchors old new
     → IsReady old anchor vol slot → IsReady new anchor vol slot
+
+-- calls that touch none of these pages leave the anchor that each image had, at each moment
+abbrev pub KeepsAnchor : Disk → Disk → Option Anchor → Type 0
+KeepsAnchor old new anchor =
+    Tells old → HasAnchor old anchor → Touches old new (λ v k. ¬ IsOnAnchors v k)
+    → LeavesOnly old new (λ image. IsAnchor old.sizes image anchor)
+
+-- so do calls that touch no more than the gates of a volume of which both slots are ready
+abbrev pub KeepsAnchorByGates : Disk → Disk → Option Anchor → ℕ → Type 0
+KeepsAnchorByGates old new anchor vol =
+    Tells old → IsReady old anchor vol 0 → IsReady old anchor vol 1 → Touches old new (IsGateOf vol)
+    → LeavesOnly old new (λ image. IsAnchor old.sizes image anchor)
