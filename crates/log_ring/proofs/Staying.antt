@@ -1,13 +1,15 @@
 -- What stands of a log stays while calls touch neither the pages of anchors nor the ring.
-use Rattle.std.proofs.Common.{◌≡◌, ℕ, List, Option, Some, subst, sym}
+use Rattle.std.proofs.Common.{◌≡◌, ℕ, List, Option, Some, inl, inr, subst, sym}
 use Rattle.volume_disk.specs.Disk.{Disk, MayLeave}
 use Rattle.volume_disk.specs.Image.{Image, SameIn}
-use Rattle.volume_disk.proofs.Laws.{leaves-now, touches-stays}
+use Rattle.volume_disk.specs.Run.{LeavesOnly, MayLeaveTorn, end_of}
+use Rattle.volume_disk.proofs.Laws.{both, leaves-now, touches-joined, touches-stays, weaker}
+use Rattle.disk_label.specs.Anchor.{IsAnchor}
 use Rattle.disk_label.specs.Slot.{IsOnAnchors}
 use Rattle.disk_label.specs.declared.anchor.Anchor.{Anchor}
 use Rattle.disk_label.proofs.Elsewhere.{IsAnchor-elsewhere}
 use Rattle.log_ring.specs.Groups.{Group, HasLog}
-use Rattle.log_ring.specs.Laws.{IsElsewhere, KeepsLog}
+use Rattle.log_ring.specs.Laws.{IsElsewhere, KeepsLog, KeepsLogAlong, KeepsLogBeside, LogStays}
 use Rattle.log_ring.specs.Ring.{IsOnLog}
 use Rattle.log_ring.proofs.OnImages.{groups-same, read_on_log}
 
@@ -19,11 +21,39 @@ log-same sizes anchor groups old new anchors ring has = record {
   fits = has.fits;
 }
 
+-- what each image since has, each image of now has
+stays_now : (old new : Disk) (anchor : Anchor) (groups : List Group) → new.sizes ≡ old.sizes → LeavesOnly old new (HasLog old.sizes anchor groups) → LogStays old new anchor groups
+stays_now old new anchor groups same any = record {
+  now = λ image left. subst (λ (sizes : List ℕ). HasLog sizes anchor groups image) (sym same) (leaves-now old new (HasLog old.sizes anchor groups) any image left);
+  any_moment = any;
+}
+
 pub log_stays : (old new : Disk) (anchor : Anchor) (groups : List Group) → KeepsLog old new anchor groups
 log_stays old new anchor groups told stands touches =
-    let any = touches-stays old new (IsElsewhere anchor) (HasLog old.sizes anchor groups) told touches
-    (λ before image same. log-same old.sizes anchor groups before image (λ v k is. same v k (λ out. out.0 is)) (λ v k is. same v k (λ out. out.1 is))) stands in
+    stays_now old new anchor groups touches.sizes
+    (touches-stays old new (IsElsewhere anchor) (HasLog old.sizes anchor groups) told touches
+    (λ before image same. log-same old.sizes anchor groups before image (λ v k is. same v k (λ out. out.0 is)) (λ v k is. same v k (λ out. out.1 is))) stands)
+
+pub log_along : (old : Disk) (disks : List Disk) (anchor : Anchor) (groups : List Group) → KeepsLogAlong old disks anchor groups
+log_along old disks anchor groups told stands each = log_stays old (end_of old disks) anchor groups told stands (touches-joined (IsElsewhere anchor) old disks each)
+
+-- where the anchor stays, the groups of the ring stay
+pub log_beside : (old new : Disk) (anchor : Anchor) (groups : List Group) → KeepsLogBeside old new anchor groups
+log_beside old new anchor groups told stands touches anchors =
+    stays_now old new anchor groups touches.sizes
+    (weaker old new (λ image. Torn image × Has image) (HasLog old.sizes anchor groups)
+    (λ image is.
+    let torn = is.0 in
+    let was = stands torn.0 torn.1 in
     record {
-      now = λ image left. subst (λ (sizes : List ℕ). HasLog sizes anchor groups image) (sym touches.sizes) (leaves-now old new (HasLog old.sizes anchor groups) any image left);
-      any_moment = any;
-    }
+      anchor_is = is.1;
+      groups_are = groups-same anchor anchor.start anchor.group groups torn.0 image (λ v k read. torn.2 v k (λ off. off (read_on_log anchor anchor.start groups v k read))) was.groups_are;
+      fits = was.fits;
+    })
+    (both old new Torn Has (touches.tears told) anchors))
+  where
+    Torn : Image → Type 0
+    Torn = MayLeaveTorn (λ v k. ¬ IsOnLog anchor v k) old.now
+
+    Has : Image → Type 0
+    Has image = IsAnchor old.sizes image (Some anchor)

@@ -13,6 +13,13 @@ use Rattle.page_change.specs.declared.image.PageImage.{PageImage}
 abbrev pub member_of : Anchor → ℕ → Member
 member_of anchor vol = slice_index_or anchor.members (vol - 1) no_member
 
+-- a volume is a member, open or closed
+pub record IsMember (anchor : Anchor) (vol : ℕ) : Type 0 where
+  pub first : 1 ≤ vol
+  pub last : vol ≤ max_volumes
+  pub some : 1 ≤ (member_of anchor vol).state
+  pub known : (member_of anchor vol).state ≤ 2
+
 -- the page is one of the log
 abbrev pub IsLogPage : Anchor → Home → Type 0
 IsLogPage anchor home =

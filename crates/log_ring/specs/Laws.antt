@@ -1,9 +1,10 @@
 -- What holds of logs, whatever calls are made.
-use Rattle.std.specs.Prelude.{◌≡◌, ◌⊎◌, ◌+◌, ◌++◌, ℕ, List, [], ◌∷◌, IfSome, IsSome}
+use Rattle.std.specs.Prelude.{◌≡◌, ◌⊎◌, ◌+◌, ◌++◌, ℕ, List, [], ◌∷◌, IfSome, IsSome, Some}
 use Rattle.domain_base.specs.declared.place.Home.{Home}
 use Rattle.volume_disk.specs.Disk.{Disk, Tells}
 use Rattle.volume_disk.specs.Image.{Image, Places, SameIn, page_at}
-use Rattle.volume_disk.specs.Run.{LeavesOnly, Touches}
+use Rattle.volume_disk.specs.Run.{LeavesOnly, Touches, TouchesEach, end_of}
+use Rattle.disk_label.specs.Anchor.{IsAnchor}
 use Rattle.disk_label.specs.Slot.{IsOnAnchors}
 use Rattle.disk_label.specs.declared.anchor.Anchor.{Anchor}
 use Rattle.page_change.specs.Images.{image_at, overlaid}
@@ -25,6 +26,19 @@ pub record LogStays (old new : Disk) (anchor : Anchor) (groups : List Group) : T
 abbrev pub KeepsLog : Disk → Disk → Anchor → List Group → Type 0
 KeepsLog old new anchor groups =
     Tells old → LogStands old anchor groups → Touches old new (IsElsewhere anchor)
+    → LogStays old new anchor groups
+
+-- so do runs of such calls, however many
+abbrev pub KeepsLogAlong : Disk → List Disk → Anchor → List Group → Type 0
+KeepsLogAlong old disks anchor groups =
+    Tells old → LogStands old anchor groups → TouchesEach (IsElsewhere anchor) old disks
+    → LogStays old (end_of old disks) anchor groups
+
+-- and calls on the pages of anchors that leave the anchor of each image
+abbrev pub KeepsLogBeside : Disk → Disk → Anchor → List Group → Type 0
+KeepsLogBeside old new anchor groups =
+    Tells old → LogStands old anchor groups → Touches old new (λ v k. ¬ IsOnLog anchor v k)
+    → LeavesOnly old new (λ image. IsAnchor old.sizes image (Some anchor))
     → LogStays old new anchor groups
 
 -- Groups.
@@ -72,10 +86,11 @@ RedoesAlike groups old new =
 -- each home has the last image of it
 abbrev pub AreHome : List PageImage → Image → Type 0
 AreHome images image =
-    (home : Home) → IfSome (image_at home images)
-    (λ page. page_at image home.vol home.page ≡ page)
+    (home : Home)
+    → IfSome (image_at home images) (λ page. page_at image home.vol home.page ≡ page)
 
 -- then redoing them changes nothing
 abbrev pub RedoesNothing : List Group → Image → Type 0
 RedoesNothing groups image =
-    AreHome (images_of groups) image → (home : Home) → redone groups image home ≡ pages_in image home
+    AreHome (images_of groups) image
+    → (home : Home) → redone groups image home ≡ pages_in image home

@@ -9,18 +9,27 @@ ghost use Rattle.log_ring.specs.Laws.{
   HaveOneWay,
   IsReadOnLog,
   KeepsLog,
+  KeepsLogAlong,
+  KeepsLogBeside,
   RedoesAlike,
   RedoesNothing,
   RedoesOneMore,
 };
 
 /// Laws of a log on images. Calls that touch neither the pages of anchors nor the ring leave what
-/// stands of the log (`stays`). From a place on an image has one list of groups at most
-/// (`one_way`), which depends on the pages of these groups and on the next gate alone (`depends`),
-/// and these lie on the ring (`on_ring`).
+/// stands of the log (`stays`), and so do runs of such calls, however many (`along`). Calls that
+/// touch no page of the ring leave it too where they leave the anchor of each image (`beside`): as
+/// making a slot ready does, and closing the gates of a volume of which both slots are ready.
+///
+/// From a place on an image has one list of groups at most (`one_way`), which depends on the pages
+/// of these groups and on the next gate alone (`depends`), and these lie on the ring (`on_ring`).
 pub fn log_laws()
     ensures stays { (old new : Disk) (anchor : Anchor) (groups : List Group)
         → KeepsLog old new anchor groups }
+    ensures along { (old : Disk) (disks : List Disk) (anchor : Anchor) (groups : List Group)
+        → KeepsLogAlong old disks anchor groups }
+    ensures beside { (old new : Disk) (anchor : Anchor) (groups : List Group)
+        → KeepsLogBeside old new anchor groups }
     ensures one_way { (anchor : Anchor) (place number : ℕ) (groups others : List Group)
         (image : Image) → HaveOneWay anchor place number groups others image }
     ensures depends { (anchor : Anchor) (place number : ℕ) (groups : List Group)

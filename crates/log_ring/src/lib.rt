@@ -4,9 +4,11 @@
 #![tactic(auto)]
 
 mod laws;
+mod member;
 mod ring;
 mod settling;
 
 pub use laws::{log_laws, redo_laws};
+pub use member::{is_member, member_of};
 pub use ring::ring_page;
 pub use settling::{bring_home, has_home_of};
