@@ -7,7 +7,8 @@ use Rattle.domain_base.specs.declared.version.Version.TheVariants.{Three}
 use Rattle.volume_disk.specs.Disk.{volume_pages}
 use Rattle.volume_disk.specs.Image.{Image}
 use Rattle.disk_label.specs.declared.anchor.Anchor.{Anchor}
-use Rattle.log_recovery.specs.Members.{AreLabelledBelow, AreThereBelow, AreVersionsBelow, IsLabelled, IsMember, IsThere, label_version}
+use Rattle.log_ring.specs.Homes.{IsMember}
+use Rattle.log_recovery.specs.Members.{AreLabelledBelow, AreThereBelow, AreVersionsBelow, IsLabelled, IsThere, label_version}
 
 -- a volume that has a page is one of the rack
 pub volume_there : (sizes : List ℕ) (vol : ℕ) → 1 ≤ volume_pages sizes vol → vol ≤ length sizes

@@ -9,9 +9,10 @@ use Rattle.page_change.proofs.HeaderPages.{one_header}
 use Rattle.log_ring.specs.Groups.{AreGroups, Group, HasGroup, HasLog, header_of, span}
 use Rattle.log_ring.specs.Ring.{IsGateOpen, place_at, ring_page}
 use Rattle.log_ring.proofs.OnImages.{images-once, one_way}
+use Rattle.log_ring.specs.Homes.{IsMember}
 use Rattle.log_recovery.specs.Groups.{AreInTurn, IsFirstNoGroup, IsNoGroup}
 use Rattle.log_recovery.specs.Laws.{HasNoFault, HasOneFault, HasOneLog}
-use Rattle.log_recovery.specs.Members.{AreLabelled, IsLabelled, IsMember, label_version}
+use Rattle.log_recovery.specs.Members.{AreLabelled, IsLabelled, label_version}
 use Rattle.log_recovery.specs.Outcome.{HasGoodAnchor, IsGroupFault, IsLabelFault, IsOutOfRange}
 use Rattle.log_recovery.specs.Range.{IsInRange}
 use Rattle.log_recovery.specs.declared.redone.Redone.{Redone}

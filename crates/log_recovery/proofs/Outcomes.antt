@@ -6,10 +6,10 @@ use Rattle.volume_disk.specs.Image.{Image}
 use Rattle.disk_label.specs.Anchor.{IsAnchor}
 use Rattle.disk_label.specs.declared.anchor.Anchor.{Anchor}
 use Rattle.log_ring.specs.Groups.{Group, HasLog, span}
-use Rattle.log_ring.specs.Homes.{member_of}
+use Rattle.log_ring.specs.Homes.{IsMember, member_of}
 use Rattle.log_ring.specs.Ring.{IsGateOpen}
 use Rattle.log_recovery.specs.Groups.{HasScannedAll, IsFirstNoGroup}
-use Rattle.log_recovery.specs.Members.{AreLabelled, AreLabelledBelow, AreVersionsBelow, IsFirstUnlabelled, IsMember, label_version, version_in}
+use Rattle.log_recovery.specs.Members.{AreLabelled, AreLabelledBelow, AreVersionsBelow, IsFirstUnlabelled, label_version, version_in}
 use Rattle.log_recovery.specs.Outcome.{HasGoodAnchor, HasRecovered, IsFirstFault}
 use Rattle.log_recovery.specs.Range.{IsInRange, IsLogInside, IsSized}
 use Rattle.log_recovery.specs.declared.redone.Redone.{Redone}

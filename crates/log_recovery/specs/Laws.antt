@@ -1,11 +1,12 @@
 -- What holds of recovery, whatever calls are made.
 use Rattle.std.specs.Prelude.{◌≡◌, ℕ, List, Some}
 use Rattle.volume_disk.specs.Disk.{Disk, IsSettled, Tells}
-use Rattle.volume_disk.specs.Image.{Image}
-use Rattle.volume_disk.specs.Run.{OnlyReads}
-use Rattle.disk_label.specs.Slot.{HasReadied, IsReadyFor, ReadiesSlot, StaysSynced}
+use Rattle.volume_disk.specs.Image.{Image, SameOutside}
+use Rattle.volume_disk.specs.Run.{LeavesOnly, OnlyReads}
+use Rattle.disk_label.specs.Slot.{HasReadied, IsBody, IsReadyFor, ReadiesSlot, StaysSynced}
 use Rattle.disk_label.specs.declared.anchor.Anchor.{Anchor}
 use Rattle.log_ring.specs.Groups.{Group, HasLog}
+use Rattle.log_ring.specs.Settling.{IsRedoneAs}
 use Rattle.log_recovery.specs.Outcome.{HasGoodAnchor, HasRecovered, IsFirstFault}
 use Rattle.log_recovery.specs.Readable.{IsGoodNow}
 use Rattle.log_recovery.specs.Settled.{MaySettle, settled_anchor}
@@ -36,6 +37,27 @@ MaySettleSynced disk groups redone =
     IsSettled disk.now → HasRecovered disk.sizes disk.now.contents groups redone
     → IsReadyFor disk (Some redone.anchor) (settled_anchor redone)
     → MaySettle disk groups redone
+
+-- an image has the anchor and the log that were recovered of contents, and all that stood there but
+-- in the body of the next anchor's slot; so it has the same pages once redone
+pub record IsAsRecovered (start : Disk) (groups : List Group) (redone : Redone) (image : Image)
+    : Type 0 where
+  pub good : HasGoodAnchor start.sizes image redone.anchor
+  pub log : HasLog start.sizes redone.anchor groups image
+  pub outside : let slot = (settled_anchor redone).slot in
+      SameOutside (IsBody redone.anchor.log_vol slot) start.now.contents image
+  pub same : IsRedoneAs groups start.now.contents groups image
+
+-- so has each image that is left since recovery began, where nothing was pending, until the slot
+-- was made ready or that was cut short
+abbrev pub StaysRecovered : Disk → Disk → Disk → List Group → Redone → Type 0
+StaysRecovered start found ready groups redone =
+    let vol = redone.anchor.log_vol in
+    let slot = (settled_anchor redone).slot in
+    Tells start → IsSettled start.now
+    → HasRecovered start.sizes start.now.contents groups redone → OnlyReads start found
+    → ReadiesSlot found ready vol slot
+    → LeavesOnly start ready (IsAsRecovered start groups redone)
 
 -- a log may be settled as it was recovered, its anchor is good, and nothing is pending
 pub record IsReadyToSettle (disk : Disk) (groups : List Group) (redone : Redone) : Type 0 where

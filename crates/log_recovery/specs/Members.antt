@@ -10,14 +10,7 @@ use Rattle.disk_label.specs.FirstPages.{label_page}
 use Rattle.disk_label.specs.Label.{IsLabel, label_block}
 use Rattle.disk_label.specs.declared.anchor.Anchor.{Anchor}
 use Rattle.disk_label.specs.declared.label.Label.{Label}
-use Rattle.log_ring.specs.Homes.{member_of}
-
--- a volume is a member of an anchor, open or closed
-pub record IsMember (anchor : Anchor) (vol : ℕ) : Type 0 where
-  pub first : 1 ≤ vol
-  pub last : vol ≤ max_volumes
-  pub some : 1 ≤ (member_of anchor vol).state
-  pub known : (member_of anchor vol).state ≤ 2
+use Rattle.log_ring.specs.Homes.{IsMember, member_of}
 
 -- the version that the label of a volume names, where it is a label
 abbrev pub label_version : Image → ℕ → Version

@@ -5,8 +5,7 @@ use Rattle.domain_base.specs.Version.{bitmap_pages, most_pages}
 use Rattle.domain_base.specs.declared.version.Version.{Version}
 use Rattle.disk_label.specs.Anchor.{IsWhole}
 use Rattle.disk_label.specs.declared.anchor.Anchor.{Anchor}
-use Rattle.log_ring.specs.Homes.{member_of}
-use Rattle.log_recovery.specs.Members.{IsMember}
+use Rattle.log_ring.specs.Homes.{IsMember, member_of}
 
 -- its number, the number of the group at its start, and that start
 pub record HasNumbers (anchor : Anchor) : Type 0 where

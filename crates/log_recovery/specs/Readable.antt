@@ -1,14 +1,15 @@
 -- Images of which recovery takes the log, and that calls leave no others.
-use Rattle.std.specs.Prelude.{ℕ, ◌+◌, ◌*◌, ◌≤◌, List}
-use Rattle.domain_base.specs.Limits.{page_bytes}
+use Rattle.std.specs.Prelude.{ℕ, ◌+◌, ◌*◌, ◌^◌, ◌<◌, ◌≤◌, List, Some}
+use Rattle.domain_base.specs.Limits.{block_bytes, log_pages, page_bytes}
 use Rattle.volume_disk.specs.Disk.{Disk, MayLeave, Tells}
 use Rattle.volume_disk.specs.Image.{Image, Places}
 use Rattle.volume_disk.specs.Run.{LeavesOnly, OnlyWrites, Touches}
+use Rattle.disk_label.specs.Anchor.{IsAnchor}
 use Rattle.disk_label.specs.FirstPages.{anchors_page}
 use Rattle.disk_label.specs.declared.anchor.Anchor.{Anchor}
 use Rattle.page_change.specs.declared.image.PageImage.{PageImage}
 use Rattle.log_ring.specs.Groups.{Group, HasLog}
-use Rattle.log_ring.specs.Homes.{HaveHomes}
+use Rattle.log_ring.specs.Homes.{HaveHomes, IsMember}
 use Rattle.log_ring.specs.Settling.{IsAtHomesOrSlot, MeansTheSame}
 use Rattle.log_recovery.specs.Members.{AreLabelled, label_version}
 use Rattle.log_recovery.specs.Outcome.{HasGoodAnchor}
@@ -37,6 +38,32 @@ WouldBeGoodNow disk anchor =
 abbrev pub IsGoodNow : Disk → Anchor → Type 0
 IsGoodNow disk anchor =
     (image : Image) → MayLeave disk.now image → HasGoodAnchor disk.sizes image anchor
+
+-- the same anchor, with another number, slot, start and first group
+abbrev pub restarted : Anchor → ℕ → ℕ → ℕ → ℕ → Anchor
+restarted anchor number slot start group = record anchor {
+  number = number;
+  slot = slot;
+  start = start;
+  group = group;
+}
+
+-- it would be good too, where these are in their ranges
+abbrev pub RestartsGood : Disk → Anchor → ℕ → ℕ → ℕ → ℕ → Type 0
+RestartsGood disk anchor number slot start group =
+    IsGoodNow disk anchor → 1 ≤ number → number < 2 ^ 63 → slot ≤ 1 → start < log_pages
+    → group < 2 ^ 63 → WouldBeGoodNow disk (restarted anchor number slot start group)
+
+-- the bytes of no label of a member
+abbrev pub IsBesideLabels : Anchor → Places
+IsBesideLabels anchor v k = ¬ (IsMember anchor v × (k < block_bytes))
+
+-- calls that touch none of these labels, and leave the anchor that each image had, leave it good
+abbrev pub KeepsGoodBeside : Disk → Disk → Anchor → Type 0
+KeepsGoodBeside old new anchor =
+    Tells old → IsGoodNow old anchor → Touches old new (IsBesideLabels anchor)
+    → LeavesOnly old new (λ image. IsAnchor old.sizes image (Some anchor))
+    → LeavesOnly old new (λ image. HasGoodAnchor old.sizes image anchor)
 
 -- the pages behind those of labels and anchors
 abbrev pub IsBehindAnchors : Places

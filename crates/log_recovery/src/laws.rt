@@ -11,28 +11,41 @@ ghost use Rattle.log_recovery.specs.Laws.{
   HasOneLog,
   MaySettleSynced,
   ReadiesToSettle,
+  StaysRecovered,
 };
-ghost use Rattle.log_recovery.specs.Readable.{KeepsGoodAnchor, LeavesReadable};
+ghost use Rattle.log_recovery.specs.Readable.{
+  KeepsGoodAnchor,
+  KeepsGoodBeside,
+  LeavesReadable,
+  RestartsGood,
+};
 ghost use Rattle.log_recovery.specs.Settled.{SettlesAsMoves};
 ghost use Rattle.log_recovery.specs.declared.redone.Redone.{Redone};
 
 /// Laws of recovery. What is recovered of contents may be settled, where nothing is pending and the
 /// next anchor's slot is ready (`synced`), as it is once `ready_slot` was called after `recover`
 /// (`readied`, which says too that the anchor is good on each image); and so a log that stands as
-/// it was recovered is brought home (`settles`).
+/// it was recovered is brought home (`settles`). From the start of `recover` until `ready_slot` has
+/// answered, whatever that is, each image that a stop may leave is recovered in the same way
+/// (`readying`): the slot's body alone is another, which no other page shows.
 ///
 /// An image that has a good anchor and a log has no place at which there is no domain (`sound`),
 /// any image has one first such place at most (`one`), and the log that an image has is the one
 /// that is recovered of it (`one_log`): so what `recover` answers is told by the image alone.
 ///
 /// A good anchor stays good in calls that touch only pages behind those of anchors (`keeps`), and
-/// recovery takes each image that is left while images are brought home and an anchor is written
-/// (`readable`): it refuses no log that was written so.
+/// in those that touch no label of a member and leave the anchor of each image (`beside`), as
+/// `write_label`, `ready_slot` and `close_gates` do of a volume that is no member. Recovery takes
+/// each image that is left while images are brought home and an anchor is written (`readable`): it
+/// refuses no log that was written so. That asks that the next anchor would be good; it would where
+/// only its number, slot, start and first group are others than those of a good one (`restarts`).
 pub fn recovery_laws()
     ensures synced { (disk : Disk) (groups : List Group) (redone : Redone)
         → MaySettleSynced disk groups redone }
     ensures readied { (start found ready : Disk) (groups : List Group) (redone : Redone)
         → ReadiesToSettle start found ready groups redone }
+    ensures readying { (start found ready : Disk) (groups : List Group) (redone : Redone)
+        → StaysRecovered start found ready groups redone }
     ensures settles { (disk : Disk) (groups : List Group) (redone : Redone)
         → SettlesAsMoves disk groups redone }
     ensures sound { (sizes : List ℕ) (image : Image) (anchor : Anchor) (groups : List Group)
@@ -43,6 +56,9 @@ pub fn recovery_laws()
         (groups others : List Group) (redone : Redone)
         → HasOneLog sizes image anchor groups others redone }
     ensures keeps { (old new : Disk) (anchor : Anchor) → KeepsGoodAnchor old new anchor }
+    ensures beside { (old new : Disk) (anchor : Anchor) → KeepsGoodBeside old new anchor }
+    ensures restarts { (disk : Disk) (anchor : Anchor) (number slot start group : ℕ)
+        → RestartsGood disk anchor number slot start group }
     ensures readable { (old new : Disk) (images : List PageImage) (anchor : Anchor)
         (groups : List Group) (next : Anchor)
         → LeavesReadable old new images anchor groups next }

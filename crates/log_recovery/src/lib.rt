@@ -13,6 +13,8 @@ mod settling;
 
 pub use fault::RecoverFault;
 pub use laws::recovery_laws;
+pub use range::is_whole;
 pub use recovery::recover;
 pub use redone::{ImageList, Redone};
+pub use scan::is_loggable;
 pub use settling::settle;

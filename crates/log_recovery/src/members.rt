@@ -17,41 +17,16 @@ ghost use Rattle.volume_disk.specs.Disk.{Tells, volume_pages};
 ghost use Rattle.volume_disk.specs.Image.{Image};
 ghost use Rattle.volume_disk.specs.Run.{NamesReadFault, OnlyReads};
 ghost use Rattle.disk_label.specs.FirstPages.{label_page};
-ghost use Rattle.log_ring.specs.Homes.{member_of as member_there};
+ghost use Rattle.log_ring.specs.Homes.{IsMember};
 ghost use Rattle.log_recovery.specs.Fault.{HasCause, IfNotADomain};
-ghost use Rattle.log_recovery.specs.Members.{
-  AreLabelledBelow,
-  AreThere,
-  AreVersionsBelow,
-  HasLabel,
-  IsFirstUnlabelled,
-  IsLabelled,
-  IsMember,
-  IsThere,
-  label_version,
-};
+ghost use Rattle.log_recovery.specs.Members.{AreLabelledBelow, AreThere, AreVersionsBelow, HasLabel, IsFirstUnlabelled, IsLabelled, IsThere, label_version};
 
 use crate::RecoverFault;
-use disk_label::{Anchor, LABEL_PAGE, Label, Member, read_label};
+use disk_label::{Anchor, LABEL_PAGE, Label, read_label};
 use domain_base::limits::MAX_VOLUMES;
 use domain_base::{Version, VolIx};
+use log_ring::{is_member, member_of};
 use volume_disk::Rack;
-
-/// A volume as an anchor has it.
-pub(crate) fn member_of(anchor: &Anchor, vol: VolIx) -> Member
-    ensures { result ≡ member_there anchor.now vol }
-{
-    anchor.members[vol.index()]
-}
-
-/// Whether a volume is a member of an anchor.
-pub(crate) fn is_member(anchor: &Anchor, vol: VolIx) -> bool
-    ensures { IsTrue result ↔ IsMember anchor.now vol }
-{
-    let member = member_of(anchor, vol);
-    prove!(1 <= vol.number() && vol.number() <= MAX_VOLUMES);
-    1 <= member.state && member.state <= 2
-}
 
 /// The version of a label, unless it says other pages than these, or has another version than an
 /// anchor of this one allows.

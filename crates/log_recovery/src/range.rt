@@ -11,20 +11,18 @@ ghost use Rattle.log_recovery.specs.Range.{
   IsTableInside,
 };
 
-use crate::members::{is_member, member_of};
 use disk_label::Anchor;
 use domain_base::limits::{LOG_PAGES, MAX_VOLUMES, MIN_VOLUME_PAGES};
 use domain_base::{Version, VolIx};
-
-/// The numbers of anchors and groups are below this one.
-pub(crate) const NUMBERS: u64 = 1 << 63;
+use log_ring::{is_member, member_of};
+use page_change::NUMBERS;
 
 /// The pages in front of a volume's bitmap.
 const FIRST_BITMAP_PAGE: u32 = 2;
 
 /// Whether an anchor may be written: its version is 3 or 4, its log stands on a member, and it has
 /// a table.
-fn is_whole(anchor: &Anchor) -> bool
+pub fn is_whole(anchor: &Anchor) -> bool
     ensures { IsTrue result ↔ IsWhole anchor.now }
 {
     let version = anchor.version == 3 || anchor.version == 4;

@@ -1,9 +1,8 @@
 //! What is recovered of a log.
 ghost use Rattle.std.specs.Prelude.{◌≡◌, ◌^◌, ◌<◌, ◌≤◌, ◌↔◌, IsTrue};
 
-use crate::range::NUMBERS;
 use disk_label::Anchor;
-use page_change::PageImage;
+use page_change::{NUMBERS, PageImage};
 use std::marker::Model;
 
 /// Images of pages in their order, which contracts see as their list.

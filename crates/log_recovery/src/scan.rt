@@ -39,11 +39,10 @@ ghost use Rattle.log_recovery.specs.Groups.{
 ghost use Rattle.log_recovery.specs.declared.fault.RecoverFault.TheVariants.{NotADomain};
 
 use crate::RecoverFault;
-use crate::members::{is_member, member_of};
 use disk_label::{ANCHORS_PAGE, Anchor};
 use domain_base::limits::{BLOCKS_PER_PAGE, LOG_PAGES, PAGE_BYTES};
 use domain_base::{Home, OutOfMemory, Page, VolIx};
-use log_ring::ring_page;
+use log_ring::{is_member, member_of, ring_page};
 use page_change::{Header, HeaderRead, PageImage, read_header};
 use std::alloc::Global;
 use volume_disk::{Rack, read_blocks};
@@ -100,8 +99,9 @@ fn read_place<R: Rack>(
     }
 }
 
-/// Whether a page may be logged.
-fn is_loggable(anchor: &Anchor, home: &Home) -> bool
+/// Whether a page may be logged under an anchor: one of a member, behind its label and anchors and
+/// outside of the log.
+pub fn is_loggable(anchor: &Anchor, home: &Home) -> bool
     ensures { IsTrue result ↔ IsLoggable anchor.now home.now }
 {
     let vol = home.vol;

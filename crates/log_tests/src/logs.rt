@@ -1,19 +1,18 @@
 //! Logs by plain numbers, on racks in memory, whose calls are made where their conditions hold.
 ghost use Rattle.std.specs.Prelude.{◌≡◌, ◌+◌, ◌^◌, ◌<◌, IsTrue};
 ghost use Rattle.volume_disk.specs.Disk.{Tells};
-ghost use Rattle.disk_label.specs.Anchor.{IsWhole};
-ghost use Rattle.log_ring.specs.Homes.{AreLoggable, HasMembers, IsLoggable};
+ghost use Rattle.log_ring.specs.Homes.{AreLoggable, HasMembers};
 ghost use Rattle.log_ring.specs.Ring.{IsRing};
 ghost use Rattle.meta_log.specs.Log.{next_number};
 ghost use Rattle.log_tests.specs.Calls.{HasMember, MayAppend, MayBringHome};
 
 use crate::counting::{CountRack, NO_CALLS};
-use disk_label::{ANCHORS_PAGE, Anchor, Member, write_anchor, write_label};
+use disk_label::{Anchor, Member, write_anchor, write_label};
 use domain_base::limits::{
     BLOCKS_PER_PAGE, LOG_PAGES, MAX_VOLUME_PAGES, MAX_VOLUME_PAGES_4, MAX_VOLUMES, PAGE_BYTES,
 };
 use domain_base::{Home, OutOfMemory, Page, Version, VolIx};
-use log_recovery::recover;
+use log_recovery::{is_loggable, is_whole, recover};
 use memory_disk::MemoryRack;
 use meta_log::{LogFull, MetaLog};
 use page_change::{Change, PageImage, image_of};
@@ -50,24 +49,11 @@ fn first_anchor(start: u32, pages: u32) -> Anchor
 
 // What the calls ask for.
 
-fn is_loggable(anchor: &Anchor, image: &PageImage) -> bool
-    ensures { IsTrue result → IsLoggable anchor.now image.now.home }
-{
-    let vol = image.home.vol;
-    let page = image.home.page;
-    let member = anchor.members[vol.index()];
-    let on_log = vol.number() == anchor.log_vol
-        && anchor.log_page <= page
-        && page - anchor.log_page < LOG_PAGES;
-    let inside = ANCHORS_PAGE < page && page < member.pages;
-    1 <= member.state && member.state <= 2 && inside && !on_log
-}
-
 fn are_loggable(anchor: &Anchor, images: &[PageImage]) -> bool
     ensures { IsTrue result → AreLoggable anchor.now images.now }
 {
     for image in images {
-        if !is_loggable(anchor, image) {
+        if !is_loggable(anchor, &image.home) {
             return false;
         }
     }
@@ -123,16 +109,6 @@ fn has_members<R: Rack>(rack: &R, anchor: &Anchor) -> bool
         }
     }
     true
-}
-
-fn is_whole(anchor: &Anchor) -> bool
-    ensures { IsTrue result → IsWhole anchor.now }
-{
-    if anchor.log_vol < 1 || anchor.log_vol > 8 {
-        return false;
-    }
-    let is_version = anchor.version == 3 || anchor.version == 4;
-    is_version && anchor.table.is_some() && anchor.slot <= 1 && anchor.has_log_member()
 }
 
 fn may_bring_home<R: Rack>(log: &MetaLog, rack: &R) -> bool

@@ -13,4 +13,4 @@ pub use change::Change;
 pub use header::{Header, HeaderRead, HomeList};
 pub use image::{PageImage, image_of, place_of};
 pub use laws::{header_laws, image_laws};
-pub use page::{read_header, write_header, write_header_of};
+pub use page::{NUMBERS, read_header, write_header, write_header_of};

@@ -5,7 +5,6 @@ ghost use Rattle.byteorder.specs.Endian.{little_bytes};
 ghost use Rattle.domain_base.specs.Limits.{block_bytes, group_images};
 ghost use Rattle.domain_base.specs.Page.{overwritten, zero_bytes};
 ghost use Rattle.domain_base.specs.declared.place.Home.{Home as AHome};
-ghost use Rattle.record_table.specs.Fields.{number_at};
 ghost use Rattle.page_change.specs.Header.{AreHomesAt, AreHomesOf, ArePlaces, IsHeader, IsHeaderOf, IsHomeAt, IsPlace, IsRead, IsSayable, begun, header_bytes, header_for, home_bytes as bytes_of_home};
 
 use crate::header::{Header, HeaderRead, HomeList};
@@ -15,6 +14,7 @@ use byteorder::{ByteOrder, LittleEndian};
 use domain_base::gate::is_open;
 use domain_base::limits::{BLOCK_BYTES, GROUP_IMAGES, PAGE_BYTES};
 use domain_base::{Home, OutOfMemory, Page, VolIx};
+use record_table::{u32_at, u64_at};
 use std::alloc::Global;
 
 /// The byte of the number of a group, that of how many images it has, and that of the first home.
@@ -29,27 +29,11 @@ const HOME_BYTES: usize = 8;
 
 const HEAD_BYTES: usize = 16;
 
-/// The numbers of groups are below this one.
-const NUMBERS: u64 = 1 << 63;
+/// The numbers of groups are below this one, and so are those of anchors.
+pub const NUMBERS: u64 = 1 << 63;
 
 /// The bytes behind the gate.
 const BODY_BYTES: usize = PAGE_BYTES - BLOCK_BYTES;
-
-#[tactic(auto, unfolding(record_table::specs::Fields::number_at))]
-fn u32_at(bytes: &[u8], at: usize) -> u32
-    requires { at + 4 ≤ length bytes.now }
-    ensures { result ≡ number_at 4 at bytes.now }
-{
-    LittleEndian::read_u32(&bytes[at..])
-}
-
-#[tactic(auto, unfolding(record_table::specs::Fields::number_at))]
-fn u64_at(bytes: &[u8], at: usize) -> u64
-    requires { at + 8 ≤ length bytes.now }
-    ensures { result ≡ number_at 8 at bytes.now }
-{
-    LittleEndian::read_u64(&bytes[at..])
-}
 
 /// The home at a byte, and None where none stands there.
 fn home_at(bytes: &[u8], at: usize) -> Option<Home>

@@ -1,7 +1,8 @@
 use Rattle.std.proofs.Common.{◌≡◌, ◌+◌, ℕ, List, length-set, subst, ◌∙◌, arith}
 use Rattle.volume_disk.specs.Disk.{Tells}
 use Rattle.volume_disk.proofs.Laws.{only_reads-then}
-use Rattle.log_recovery.specs.Members.{IsLabelled, IsMember, IsThere, label_version}
+use Rattle.log_ring.specs.Homes.{IsMember}
+use Rattle.log_recovery.specs.Members.{IsLabelled, IsThere, label_version}
 use Rattle.log_recovery.proofs.Labels.{labelled_more, there_more, versions_more}
 use Rattle.log_recovery.proofs.Reading.{held_before, told_on}
 use Rattle.log_recovery.proofs.members.read_labels.Goals as goal

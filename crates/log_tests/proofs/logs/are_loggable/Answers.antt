@@ -10,7 +10,7 @@ loop-image-preserved c =
     let anchor = c.args.anchor.now in
     let image : PageImage = c.image-item.result in
     All-more (λ (i : PageImage). IsLoggable anchor i.home) c.args.images.now c.loop-image.image-index image c.loop-image-test.true c.loop-image.invariant
-    (subst (λ (i : PageImage). IsLoggable anchor i.home) c.image-item.is (c.is_loggable.ensures c.if-not-is_loggable.false))
+    (subst (λ (i : PageImage). IsLoggable anchor i.home) c.image-item.is (c.is_loggable.ensures.0 c.if-not-is_loggable.false))
 
 pub returns : goal.returns
 returns c = λ yes. subst (λ (l : List PageImage). AreLoggable c.args.anchor.now l) (take_all c.loop-image.image-index c.args.images.now c.loop-image-test.false) c.loop-image.invariant
