@@ -1,2 +1,3 @@
 pub mod AtRest
+pub mod Meanings
 pub mod UntoldCalls

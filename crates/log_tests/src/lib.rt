@@ -7,7 +7,7 @@ mod changes;
 mod counting;
 mod openings;
 
-pub use openings::{close_log, log_change, open_log};
+pub use openings::{OpenFault, close_log, log_change, open_log};
 
 #[cfg(test)]
 mod forces;

@@ -1,55 +1,96 @@
 //! A caller of the whole order: a log is recovered and settled, goes on behind that, and is brought
-//! home. Each call's conditions are met by what the calls before it promise.
-ghost use Rattle.std.specs.Prelude.{◌≡◌, IfSome, IsTrue, []};
+//! home. Each call's conditions are met by what the calls before it promise, and so is what the
+//! order as a whole leaves.
+ghost use Rattle.std.specs.Prelude.{◌≡◌, ◌⊎◌, ◌^◌, ◌≤◌, IfErr, IfOk, IsFalse, IsTrue, [], length};
 ghost use Rattle.volume_disk.specs.Disk.{IsSettled, Tells};
+ghost use Rattle.meta_log.specs.Log.{IsFullFor, new_log};
 ghost use Rattle.log_tests.specs.Calls.{MayAppend};
-ghost use Rattle.log_tests.specs.Opened.{IsAtRest};
+ghost use Rattle.log_tests.specs.Opened.{
+  Adds,
+  AddsOrNot,
+  ComesHome,
+  HasFailed,
+  HasOpenCause,
+  IsAtRest,
+  ReadsAsBefore,
+  StandsAtHome,
+  StaysRead,
+};
 
-use disk_label::ready_slot;
+use disk_label::{SlotFault, ready_slot};
 use domain_base::VolIx;
-use log_recovery::{Redone, recover, settle};
+use log_recovery::{RecoverFault, recover, settle};
 use meta_log::MetaLog;
 use page_change::Change;
 use std::alloc::Global;
 use volume_disk::Rack;
 
+/// Why a log is not opened.
+#[derive(Clone, Copy, Debug, PartialEq, Eq)]
+pub enum OpenFault {
+    /// It was not recovered.
+    Recovering(RecoverFault),
+    /// The last numbers were given.
+    NoNumbers,
+    /// The slot of the next anchor was not made ready.
+    Readying(SlotFault),
+    /// A write or a sync of this volume failed while the log was settled.
+    Settling(VolIx),
+    /// No memory could be had.
+    OutOfMemory,
+}
+
 /// Opens the log of a rack on which nothing is pending: recovers it, makes the slot of the next
-/// anchor ready, and settles it. None where one of these fails, or no number is left.
-pub fn open_log<R: Rack>(alloc: Global, rack: &mut R) -> Option<MetaLog>
+/// anchor ready, and settles it. It has no group then, since all pages are home. Whatever it
+/// answers, recovery takes each image that a stop may leave, with the pages that the rack's had at
+/// the start once redone.
+pub fn open_log<R: Rack>(alloc: Global, rack: &mut R) -> Result<MetaLog, OpenFault>
     requires { Tells (R.disk rack.old) → IsSettled (R.disk rack.old).now }
-    ensures { IfSome result (λ log. IsAtRest (R.disk rack.new) log) }
+    ensures rests { IfOk result (λ log. IsAtRest (R.disk rack.new) log) }
+    ensures behind { IfOk result (λ log. log ≡ new_log log.anchor) }
+    ensures home { IfOk result (λ _. StandsAtHome (R.disk rack.old) (R.disk rack.new)) }
+    ensures any_moment { StaysRead (R.disk rack.old) (R.disk rack.new) }
+    ensures cause { IfErr result (HasOpenCause (R.disk rack.old) (R.disk rack.new)) }
 {
     let redone = match recover(alloc, rack) {
         Ok(redone) => redone,
-        Err(_) => return None,
+        Err(fault) => return Err(OpenFault::Recovering(fault)),
     };
     let Some(vol) = VolIx::new(redone.anchor.log_vol) else {
-        return None;
+        unreachable!()
     };
     if !redone.has_numbers_left() {
-        return None;
+        return Err(OpenFault::NoNumbers);
     }
     let next = redone.settled_anchor();
     match ready_slot(rack, vol, next.slot) {
         Ok(()) => {}
-        Err(_) => return None,
+        Err(fault) => return Err(OpenFault::Readying(fault)),
     }
     match settle(rack, &redone) {
         Ok(()) => {}
-        Err(_) => return None,
+        Err(vol) => return Err(OpenFault::Settling(vol)),
     }
     match MetaLog::new(alloc, &next) {
-        Ok(log) => Some(log),
-        Err(_) => None,
+        Ok(log) => Ok(log),
+        Err(_) => Err(OpenFault::OutOfMemory),
     }
 }
 
-/// Appends a change and forces it: whether that passes.
+/// Appends a change and forces it: whether that passes. Then the log has one group more, of that
+/// change; each image that a stop may leave meanwhile has it whole or not at all. It does not pass
+/// where the log has no place for it, or a write or a sync failed.
 pub fn log_change<R: Rack>(log: &mut MetaLog, rack: &mut R, change: &Change) -> bool
     requires may { MayAppend log.old change.now }
     requires rests { IsAtRest (R.disk rack.old) log.old }
-    ensures { IsTrue result → IsAtRest (R.disk rack.new) log.new }
+    ensures rests { IsTrue result → IsAtRest (R.disk rack.new) log.new }
+    ensures adds { IsTrue result
+        → Adds (R.disk rack.old) (R.disk rack.new) log.old log.new change.now }
+    ensures any_moment { AddsOrNot (R.disk rack.old) (R.disk rack.new) log.old change.now }
+    ensures refused { IsFalse result → IsFullFor log.old (length change.now)
+        ⊎ HasFailed (R.disk rack.old) (R.disk rack.new) }
 {
+    let _images = change.images();
     match log.append(change) {
         Ok(_) => {}
         Err(_) => return false,
@@ -60,11 +101,17 @@ pub fn log_change<R: Rack>(log: &mut MetaLog, rack: &mut R, change: &Change) -> 
     }
 }
 
-/// Brings a log home on its ring: whether that passes.
+/// Brings a log home on its ring: whether that passes. Then it has no group. Each image that a stop
+/// may leave meanwhile is taken by recovery, with the pages of one of the start. It does not pass
+/// where a write or a sync failed, or the anchor has a number of 2^60 or more.
 pub fn close_log<R: Rack>(log: &mut MetaLog, rack: &mut R) -> bool
     requires { IsAtRest (R.disk rack.old) log.old }
     ensures rests { IsTrue result → IsAtRest (R.disk rack.new) log.new }
-    ensures home { IsTrue result → log.new.logged ≡ [] }
+    ensures behind { IsTrue result → log.new ≡ new_log log.new.anchor }
+    ensures home { IsTrue result → ComesHome (R.disk rack.old) (R.disk rack.new) log.old }
+    ensures any_moment { ReadsAsBefore (R.disk rack.old) (R.disk rack.new) log.old }
+    ensures refused { IsFalse result → (2 ^ 60 ≤ log.old.anchor.number)
+        ⊎ HasFailed (R.disk rack.old) (R.disk rack.new) }
 {
     let _room = log.room();
     let anchor = *log.anchor();

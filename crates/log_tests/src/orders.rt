@@ -18,7 +18,7 @@ use volume_disk::Rack;
 fn steps_of(rack: &mut MemoryRack, alloc: Global) -> Result<u32, OutOfMemory>
     requires { IsSettled (memory_disk rack.old).now }
 {
-    let Some(mut log) = open_log(alloc, rack) else {
+    let Ok(mut log) = open_log(alloc, rack) else {
         return Ok(0);
     };
     let change = change_of(alloc, 2, &[(11, 9)])?;

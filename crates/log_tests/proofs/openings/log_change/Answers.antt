@@ -1,12 +1,39 @@
-use Rattle.std.proofs.Common.{subst}
+use Rattle.std.proofs.Common.{inl, refl, subst}
 use Rattle.meta_log.specs.Force.{Forces, HasForced}
 use Rattle.meta_log.specs.Log.{Log}
-use Rattle.log_tests.proofs.AtRest.{logged}
+use Rattle.log_tests.proofs.AtRest.{added, adds_or_not, full_alone, logged, nothing_logged}
 use Rattle.log_tests.proofs.openings.log_change.Goals as goal
 
-pub returns-in-Ok-force : goal.returns-in-Ok-force
-returns-in-Ok-force g c _ =
+pub returns-in-Err-clause-any_moment : goal.returns-in-Err-clause-any_moment
+returns-in-Err-clause-any_moment g c = let d0 = g.R.Rack.disk c.args.rack.now in nothing_logged d0 d0 c.args.log.now c.args.change.now c.requires.rests refl
+
+pub returns-in-Err-clause-refused : goal.returns-in-Err-clause-refused
+returns-in-Err-clause-refused g c _ = inl (full_alone c.args.log.now c.args.change.now c.requires.rests.forced c.images-images.ensures.sound.distinct c.in-Err.ensures.full)
+
+pub returns-in-Ok-force-clause-rests : goal.returns-in-Ok-force-clause-rests
+returns-in-Ok-force-clause-rests g c _ =
     let d0 = g.R.Rack.disk c.args.rack.now in
     let d1 = g.R.Rack.disk c.force.new.rack in
     let is = c.in-Ok.ensures.ok in
-    logged d0 d1 c.args.log.now c.args.change.now c.requires.rests (subst (λ (l : Log). Forces d0 d1 l) is c.force.ensures.forces) (subst (λ (l : Log). HasForced d0 d1 l) is c.in-Ok-force.ensures.done) c.append.new.self c.force.new.self is c.in-Ok-force.ensures.ok
+    logged d0 d1 c.args.log.now c.args.change.now c.requires.rests c.requires.may.some c.images-images.ensures.sound.distinct (subst (λ (l : Log). Forces d0 d1 l) is c.force.ensures.forces)
+    (subst (λ (l : Log). HasForced d0 d1 l) is c.in-Ok-force.ensures.done) c.append.new.self c.force.new.self is c.in-Ok-force.ensures.ok
+
+pub returns-in-Ok-force-clause-adds : goal.returns-in-Ok-force-clause-adds
+returns-in-Ok-force-clause-adds g c _ =
+    let d0 = g.R.Rack.disk c.args.rack.now in
+    let d1 = g.R.Rack.disk c.force.new.rack in
+    let is = c.in-Ok.ensures.ok in
+    added d0 d1 c.args.log.now c.args.change.now c.requires.rests c.requires.may.some c.images-images.ensures.sound.distinct (subst (λ (l : Log). Forces d0 d1 l) is c.force.ensures.forces)
+    (subst (λ (l : Log). HasForced d0 d1 l) is c.in-Ok-force.ensures.done) c.append.new.self c.force.new.self is c.in-Ok-force.ensures.ok
+
+pub returns-in-Ok-force-clause-any_moment : goal.returns-in-Ok-force-clause-any_moment
+returns-in-Ok-force-clause-any_moment g c =
+    let d0 = g.R.Rack.disk c.args.rack.now in
+    let d1 = g.R.Rack.disk c.force.new.rack in
+    adds_or_not d0 d1 c.args.log.now c.args.change.now c.requires.rests c.requires.may.some c.images-images.ensures.sound.distinct (subst (λ (l : Log). Forces d0 d1 l) c.in-Ok.ensures.ok c.force.ensures.forces)
+
+pub returns-in-Err-force-clause-any_moment : goal.returns-in-Err-force-clause-any_moment
+returns-in-Err-force-clause-any_moment g c =
+    let d0 = g.R.Rack.disk c.args.rack.now in
+    let d1 = g.R.Rack.disk c.force.new.rack in
+    adds_or_not d0 d1 c.args.log.now c.args.change.now c.requires.rests c.requires.may.some c.images-images.ensures.sound.distinct (subst (λ (l : Log). Forces d0 d1 l) c.in-Ok.ensures.ok c.force.ensures.forces)
