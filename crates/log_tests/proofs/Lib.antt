@@ -1,3 +1,4 @@
 pub mod AtRest
 pub mod Meanings
+pub mod Moving
 pub mod UntoldCalls

@@ -5,8 +5,10 @@
 #[cfg(test)]
 mod changes;
 mod counting;
+mod moves;
 mod openings;
 
+pub use moves::move_log;
 pub use openings::{OpenFault, close_log, log_change, open_log};
 
 #[cfg(test)]
