@@ -3,7 +3,7 @@ use Rattle.std.proofs.Common.{◌≡◌, ◌∙◌, ◌⊎◌, inl, inr, ℕ, �
 use Rattle.std.proofs.lemmas.List.{append-nil}
 use Rattle.std.specs.List.{AllByRecursion}
 use Rattle.domain_base.specs.declared.place.Tag.{Tag}
-use Rattle.page_store.specs.Bitfiles.{Bitfiles, IsDirectory, with_entry}
+use Rattle.page_store.specs.Bitfiles.{Bitfiles, IsDirectory, count_index, with_entry}
 use Rattle.dir_pages.specs.declared.row.Row.{Row}
 use Rattle.dir_pages.specs.RowPage.{IsDirPage}
 use Rattle.dir_pages.specs.Rows.{is_named}
@@ -12,10 +12,10 @@ use Rattle.dir_index.specs.Entries.{hash_of}
 use Rattle.dir_index.specs.Index.{IsIndex, all_entries, index_pages}
 use Rattle.dir_index.proofs.Removed.{count_is as index_long}
 use Rattle.dir_rows.specs.Directory.{AreEntriesOf, IndexesRows, IsWellFormed, NamesOnce, all_rows, row_pages, rows_at, rows_in}
-use Rattle.dir_rows.specs.RowChanges.{AddsRow, KeepsIndex, OnlyDirectory, PutsRow, RemovesRow}
-use Rattle.dir_rows.specs.Steps.{CompletesIndex, LacksEntry, OnlyPages, PutsRowIn, SetsIndex, SparesEntry, TakesRow}
+use Rattle.dir_rows.specs.RowChanges.{AddsRow, CutsRow, KeepsIndex, OnlyDirectory, PutsRow, RemovesRow}
+use Rattle.dir_rows.specs.Steps.{CompletesIndex, LacksEntry, OnlyPages, PutsRowIn, SetsIndex, SparesEntry, TakesRow, TrimsIndex}
 use Rattle.dir_rows.proofs.Counted.{OneMore, lacks_one, spares_one}
-use Rattle.dir_rows.proofs.Entered.{Named, all_put, long_put, long_replaced, named_within, once_with, once_without, parts_put, rows_at_other, rows_at_put, the_named, three_parts}
+use Rattle.dir_rows.proofs.Entered.{Named, all_put, long_most, long_put, long_replaced, named_within, once_with, once_without, parts_put, rows_at_other, rows_at_put, the_named, three_parts}
 use Rattle.dir_rows.proofs.Files.{directory_after, index_mid, only_both, pages_after}
 use Rattle.dir_rows.proofs.Parts.{count_is}
 
@@ -99,6 +99,9 @@ module _ (dir : Tag) (row : Row) (number : ℕ) (old mid : Bitfiles) (good : IsW
       ∙ ap (λ (rs : List Row). all_rows (take number pages) ++ rs) (append_assoc (rows_at number pages) (row ∷ []) back)
       ∙ sym (append_assoc (all_rows (take number pages)) (rows_at number pages) (row ∷ back))
 
+  index_stays : count_index mid dir ≡ count_index old dir
+  index_stays = omega (arith, index_long old dir, index_long mid dir, ap length (index_mid dir old mid good.directory puts.others))
+
   pub adds_row : (new : Bitfiles) → is_named row.name (rows_in old dir) ≡ false → CompletesIndex dir mid new → AddsRow dir row old new
   adds_row new fresh completes =
       let once = once_with front row back (subst NamesOnce were good.names) (ap (is_named row.name) (sym were) ∙ fresh) in
@@ -114,7 +117,12 @@ module _ (dir : Tag) (row : Row) (number : ℕ) (old mid : Bitfiles) (good : IsW
         are = ap all_rows same ∙ are;
         kept = index_kept dir old mid new good.directory puts.others completes.sets;
         indexed = completes.indexed;
-        bare = λ none outside. completes.bare (omega (arith, none, index_long old dir, index_long mid dir, ap length (index_mid dir old mid good.directory puts.others))) outside;
+        bare = λ none outside. completes.bare (omega (arith, none, index_stays)) outside;
+        pages = omega (arith, count_is new dir, count_is old dir, ap length same, ap length put, long_most number page pages within);
+        grown = (
+          λ none. completes.grown.0 (omega (arith, none, index_stays)),
+          λ some. omega (arith, completes.grown.1 (omega (arith, some, index_stays)), index_stays),
+        );
       }
 
 -- ---- a row less
@@ -133,15 +141,15 @@ module _ (dir : Tag) (name : List ℕ) (number : ℕ) (old mid : Bitfiles) (good
   upto = omega (arith, inside)
 
   take_pages : AllByRecursion IsDirPage (row_pages mid dir)
-  take_pages = subst (AllByRecursion IsDirPage) (sym takes.put) (all_put IsDirPage number takes.page had good.pages takes.good)
+  take_pages = subst (AllByRecursion IsDirPage) (sym takes.cut.put) (all_put IsDirPage number takes.cut.page had good.pages takes.cut.good)
 
   one_less : OneMore number the.row (row_pages mid dir) had
   one_less = record {
     front = the.front;
     back = the.back;
-    had = ap (rows_at number) takes.put ∙ rows_at_put number takes.page had upto ∙ takes.rows ∙ the.left;
+    had = ap (rows_at number) takes.cut.put ∙ rows_at_put number takes.cut.page had upto ∙ takes.cut.rows ∙ the.left;
     has = the.parts;
-    others = λ k other. sym (ap (rows_at k) takes.put ∙ rows_at_other k number takes.page had upto other);
+    others = λ k other. sym (ap (rows_at k) takes.cut.put ∙ rows_at_other k number takes.cut.page had upto other);
   }
 
   pub take_index : (hash : ℕ) → hash ≡ hash_of name → (index_pages mid dir ≡ []) ⊎ SparesEntry (entry_by number hash) (row_pages mid dir) (index_pages mid dir)
@@ -154,7 +162,7 @@ module _ (dir : Tag) (name : List ℕ) (number : ℕ) (old mid : Bitfiles) (good
       by_index (inl none) = inl (stays ∙ none)
       by_index (inr indexes) =
           let spares : SparesEntry (entry_by number (hash_of the.row.name)) (row_pages mid dir) (index_pages old dir) = record {
-            some = omega (arith, indexes.some, ap length takes.put, long_replaced number takes.page had inside);
+            some = omega (arith, indexes.some, ap length takes.cut.put, long_replaced number takes.cut.page had inside);
             good = indexes.good;
             exact = spares_one number the.row (row_pages mid dir) had one_less (all_entries (index_pages old dir)) indexes.exact;
           } in
@@ -174,24 +182,27 @@ module _ (dir : Tag) (name : List ℕ) (number : ℕ) (old mid : Bitfiles) (good
 
   rows_are : all_rows (row_pages mid dir) ≡ before ++ behind
   rows_are =
-      ap all_rows takes.put ∙ parts_put number takes.page had
-      ∙ ap (λ (rs : List Row). all_rows (take number had) ++ (rs ++ all_rows (drop (number + 1) had))) (takes.rows ∙ the.left)
+      ap all_rows takes.cut.put ∙ parts_put number takes.cut.page had
+      ∙ ap (λ (rs : List Row). all_rows (take number had) ++ (rs ++ all_rows (drop (number + 1) had))) (takes.cut.rows ∙ the.left)
       ∙ ap (λ (rs : List Row). all_rows (take number had) ++ rs) (append_assoc the.front the.back (all_rows (drop (number + 1) had)))
       ∙ sym (append_assoc (all_rows (take number had)) the.front behind)
 
-  pub removes_row : (new : Bitfiles) → SetsIndex dir mid new → RemovesRow dir name old new
-  removes_row new sets =
+  pub removes_row : (new : Bitfiles) → TrimsIndex dir mid new → RemovesRow dir name old new
+  removes_row new trims =
+      let sets = trims.sets in
       let once = once_without before the.row behind (subst NamesOnce rows_were good.names) in
       let same = pages_after dir old mid good.directory takes.others new sets.others in
       record {
         others = only_now dir old mid new good.directory takes.others sets;
         good = good_now dir old mid new good.directory takes.others sets take_pages (subst NamesOnce (sym rows_are) once);
+        number = number;
+        cut = subst (CutsRow name number had) (sym same) takes.cut;
         front = before;
         row = the.row;
         back = behind;
         named = the.named;
         were = rows_were;
         are = ap all_rows same ∙ rows_are;
-        pages = omega (arith, count_is new dir, count_is old dir, ap length same, ap length takes.put, long_replaced number takes.page had inside);
-        kept = index_kept dir old mid new good.directory takes.others sets;
+        pages = omega (arith, count_is new dir, count_is old dir, ap length same, ap length takes.cut.put, long_replaced number takes.cut.page had inside);
+        index = omega (arith, trims.count, index_long old dir, index_long mid dir, ap length (index_mid dir old mid good.directory takes.others));
       }

@@ -48,6 +48,12 @@ long_put zero page (first ∷ pages) within = omega arith
 long_put (suc number) page [] within = absurd (omega (arith, within))
 long_put (suc number) page (first ∷ pages) within = omega (arith, ap length (entry_later number page first pages), long_put number page pages (omega (arith, within)))
 
+pub long_most : (number : ℕ) (page : List ℕ) (pages : List (List ℕ)) → number ≤ length pages → length (with_entry number page pages) ≤ length pages + 1
+long_most zero page [] within = omega arith
+long_most zero page (first ∷ pages) within = omega arith
+long_most (suc number) page [] within = absurd (omega (arith, within))
+long_most (suc number) page (first ∷ pages) within = omega (arith, ap length (entry_later number page first pages), long_most number page pages (omega (arith, within)))
+
 pub long_replaced : (number : ℕ) (page : List ℕ) (pages : List (List ℕ)) → number < length pages → length (with_entry number page pages) ≡ length pages
 long_replaced number page [] below = absurd (omega (arith, below))
 long_replaced zero page (first ∷ pages) below = refl

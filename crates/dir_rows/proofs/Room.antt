@@ -1,5 +1,5 @@
 -- Pages with room for a row.
-use Rattle.std.proofs.Common.{◌≡◌, ◌∙◌, ℕ, ◌+◌, ◌≤◌, true, not, ◌&&◌, nat_le, None, List, [], ◌∷◌, ◌++◌, length, slice_get, sym, ap, arith}
+use Rattle.std.proofs.Common.{◌≡◌, ◌∙◌, ℕ, ◌+◌, ◌<◌, ◌≤◌, true, not, ◌&&◌, nat_le, None, List, [], ◌∷◌, ◌++◌, length, slice_get, sym, ap, arith}
 use Rattle.std.proofs.lemmas.Bool.{and_parts, le-leb, leb-true}
 use Rattle.std.specs.List.{list_all}
 use Rattle.domain_base.specs.Page.{zero_bytes}
@@ -45,11 +45,14 @@ module _ (dir : Tag) (number : ℕ) (old : Bitfiles) (directory : IsDirectory ol
     };
   }
 
-  pub takes_row : (name : List ℕ) (copy page behind : List ℕ) (new : Bitfiles) → IsCopyOf number (row_pages old dir) copy → HasRows (without name (rows_of copy)) behind page → new ≡ with_change dir (put_page number page) old → TakesRow dir name number old new
-  takes_row name copy page behind new copies has put = record {
+  pub takes_row : (name : List ℕ) (copy page behind : List ℕ) (new : Bitfiles) → number < length (row_pages old dir) → IsCopyOf number (row_pages old dir) copy → HasRows (without name (rows_of copy)) behind page → new ≡ with_change dir (put_page number page) old → TakesRow dir name number old new
+  takes_row name copy page behind new within copies has put = record {
     others = only_pages dir old new directory number page put;
-    page = page;
-    good = has.good;
-    rows = has.read ∙ ap (without name) copies.rows;
-    put = pages_put dir old new directory number page put;
+    cut = record {
+      page = page;
+      within = within;
+      good = has.good;
+      rows = has.read ∙ ap (without name) copies.rows;
+      put = pages_put dir old new directory number page put;
+    };
   }

@@ -1,10 +1,11 @@
 -- Changes of a directory's rows.
-use Rattle.std.specs.Prelude.{◌≡◌, ◌<◌, ◌≤◌, ◌⊎◌, ℕ, Bool, true, false, List, [], ◌∷◌, ◌++◌, length, slice_get}
+use Rattle.std.specs.Prelude.{◌≡◌, ◌+◌, ◌<◌, ◌≤◌, ◌⊎◌, ℕ, Bool, true, false, List, [], ◌∷◌, ◌++◌, length, slice_get}
 use Rattle.std.specs.Option.{option_map_or}
 use Rattle.domain_base.specs.declared.place.Tag.{Tag}
 use Rattle.page_store.specs.Bitfiles.{Bitfile, Bitfiles, count_index, count_pages, with_change, with_entry}
 use Rattle.dir_pages.specs.declared.row.Row.{Row}
 use Rattle.dir_pages.specs.RowPage.{IsDirPage, fits, rows_of}
+use Rattle.dir_pages.specs.Rows.{without}
 use Rattle.dir_index.specs.Index.{index_pages}
 use Rattle.dir_rows.specs.Directory.{IsWellFormed, row_pages, rows_at, rows_in}
 
@@ -35,6 +36,14 @@ pub record PutsRow (row : Row) (number : ℕ) (old new : List (List ℕ)) : Type
   pub rows : rows_of page ≡ rows_at number old ++ row ∷ []
   pub put : new ≡ with_entry number page old
 
+-- the row of a name left the page of a number, and every other page is as it was
+pub record CutsRow (name : List ℕ) (number : ℕ) (old new : List (List ℕ)) : Type 0 where
+  pub page : List ℕ
+  pub within : number < length old
+  pub good : IsDirPage page
+  pub rows : rows_of page ≡ without name (rows_at number old)
+  pub put : new ≡ with_entry number page old
+
 -- a directory that has an index keeps it
 abbrev pub KeepsIndex : Tag → Bitfiles → Bitfiles → Type 0
 KeepsIndex dir old new = 1 ≤ count_index old dir → 1 ≤ count_index new dir
@@ -50,7 +59,12 @@ GetsNoIndex dir old new =
     count_index old dir ≡ 0 → (count_pages new dir ≤ 1) ⊎ (5 ≤ count_pages new dir)
     → count_index new dir ≡ 0
 
--- a directory has one row more
+-- a directory's index gets one page more at most, and where it had none, it has four at most
+abbrev pub GrowsIndex : Tag → Bitfiles → Bitfiles → Type 0
+GrowsIndex dir old new = (count_index old dir ≡ 0 → count_index new dir ≤ 4)
+    × (1 ≤ count_index old dir → count_index new dir ≤ count_index old dir + 1)
+
+-- a directory has one row more, and at most one page more
 pub record AddsRow (dir : Tag) (row : Row) (old new : Bitfiles) : Type 0 where
   pub others : OnlyDirectory dir old new
   pub good : IsWellFormed new dir
@@ -63,11 +77,16 @@ pub record AddsRow (dir : Tag) (row : Row) (old new : Bitfiles) : Type 0 where
   pub kept : KeepsIndex dir old new
   pub indexed : IsIndexedWhereSmall dir new
   pub bare : GetsNoIndex dir old new
+  pub pages : count_pages new dir ≤ count_pages old dir + 1
+  pub grown : GrowsIndex dir old new
 
--- the row of a name left a directory, which keeps its pages
+-- the row of a name left one page of a directory, which has as many pages as before, and as many of
+-- its index
 pub record RemovesRow (dir : Tag) (name : List ℕ) (old new : Bitfiles) : Type 0 where
   pub others : OnlyDirectory dir old new
   pub good : IsWellFormed new dir
+  pub number : ℕ
+  pub cut : CutsRow name number (row_pages old dir) (row_pages new dir)
   pub front : List Row
   pub row : Row
   pub back : List Row
@@ -75,7 +94,7 @@ pub record RemovesRow (dir : Tag) (name : List ℕ) (old new : Bitfiles) : Type 
   pub were : rows_in old dir ≡ front ++ row ∷ back
   pub are : rows_in new dir ≡ front ++ back
   pub pages : count_pages new dir ≡ count_pages old dir
-  pub kept : KeepsIndex dir old new
+  pub index : count_index new dir ≡ count_index old dir
 
 -- how many changes of a set a row takes at most that comes: its page, and up to four pages of the
 -- index

@@ -1,16 +1,16 @@
 -- Steps of a change of a directory's rows: its pages first, then its index.
 use Rattle.std.specs.Prelude.{◌≡◌, ◌+◌, ◌≤◌, ◌⊎◌, ℕ, true, List, [], ◌∷◌, length, map}
 use Rattle.domain_base.specs.declared.place.Tag.{Tag}
-use Rattle.page_store.specs.Bitfiles.{Bitfile, Bitfiles, with_change, with_entry}
+use Rattle.page_store.specs.Bitfiles.{Bitfile, Bitfiles, count_index, with_change}
 use Rattle.dir_pages.specs.declared.row.Row.{Row}
 use Rattle.dir_pages.specs.RowPage.{IsDirPage, fits, rows_of}
-use Rattle.dir_pages.specs.Rows.{is_row_name, without}
+use Rattle.dir_pages.specs.Rows.{is_row_name}
 use Rattle.dir_index.specs.declared.entry.IndexEntry.{IndexEntry}
 use Rattle.dir_index.specs.Changes.{OnlyIndex}
 use Rattle.dir_index.specs.Entries.{hash_of}
 use Rattle.dir_index.specs.Index.{IsIndex, all_entries, index_pages}
 use Rattle.dir_rows.specs.Directory.{AreEntriesOf, IndexesRows, count_entries, count_hash, row_pages, rows_at}
-use Rattle.dir_rows.specs.RowChanges.{GetsNoIndex, IsIndexedWhereSmall, KeepsIndex, PutsRow, fits_at}
+use Rattle.dir_rows.specs.RowChanges.{CutsRow, GetsNoIndex, GrowsIndex, IsIndexedWhereSmall, KeepsIndex, PutsRow, fits_at}
 
 -- a file with other pages
 abbrev pub with_pages : List (List ℕ) → Bitfile → Bitfile
@@ -35,10 +35,7 @@ pub record PutsRowIn (dir : Tag) (row : Row) (number : ℕ) (old new : Bitfiles)
 -- the row of a name left the page of a number, and all else is as it was
 pub record TakesRow (dir : Tag) (name : List ℕ) (number : ℕ) (old new : Bitfiles) : Type 0 where
   pub others : OnlyPages dir old new
-  pub page : List ℕ
-  pub good : IsDirPage page
-  pub rows : rows_of page ≡ without name (rows_at number (row_pages old dir))
-  pub put : row_pages new dir ≡ with_entry number page (row_pages old dir)
+  pub cut : CutsRow name number (row_pages old dir) (row_pages new dir)
 
 -- an index that lacks one entry
 pub record LacksEntry (entry : IndexEntry) (pages index : List (List ℕ)) : Type 0 where
@@ -59,11 +56,18 @@ pub record SetsIndex (dir : Tag) (old new : Bitfiles) : Type 0 where
   pub index : (index_pages new dir ≡ []) ⊎ IndexesRows (row_pages old dir) (index_pages new dir)
   pub kept : KeepsIndex dir old new
 
--- the same, a small directory has one, and one of one page or of more than four gets none
+-- the same, on as many pages as before
+pub record TrimsIndex (dir : Tag) (old new : Bitfiles) : Type 0 where
+  pub sets : SetsIndex dir old new
+  pub count : count_index new dir ≡ count_index old dir
+
+-- a directory has the index of its rows, if it is small, and none where it had none and has one page
+-- or more than four
 pub record CompletesIndex (dir : Tag) (old new : Bitfiles) : Type 0 where
   pub sets : SetsIndex dir old new
   pub indexed : IsIndexedWhereSmall dir new
   pub bare : GetsNoIndex dir old new
+  pub grown : GrowsIndex dir old new
 
 -- the entries of rows on the page of that number
 abbrev pub entries_for : ℕ → List Row → List IndexEntry

@@ -8,7 +8,7 @@ ghost use Rattle.dir_index.specs.Changes.{OnlyIndex};
 ghost use Rattle.dir_index.specs.Entries.{Rise};
 ghost use Rattle.dir_index.specs.Index.{index_pages};
 ghost use Rattle.dir_rows.specs.Directory.{AreEntriesOf, row_pages, rows_at};
-ghost use Rattle.dir_rows.specs.Steps.{CompletesIndex, LacksEntry, SetsIndex, SparesEntry, entries_for};
+ghost use Rattle.dir_rows.specs.Steps.{CompletesIndex, LacksEntry, SparesEntry, TrimsIndex, entries_for};
 
 use crate::look::has_index;
 use bitfile_set::BitfileSet;
@@ -135,7 +135,7 @@ pub(crate) fn forget_row<S: BitfileSet>(
     requires directory { IsDirectory (S.files set.old) dir }
     requires index { (index_pages (S.files set.old) dir ≡ [])
         ⊎ SparesEntry entry (row_pages (S.files set.old) dir) (index_pages (S.files set.old) dir) }
-    ensures ok { OnOk result (SetsIndex dir (S.files set.old) (S.files set.new)) }
+    ensures ok { OnOk result (TrimsIndex dir (S.files set.old) (S.files set.new)) }
     ensures err { OnErr result (OnlyIndex dir (S.files set.old) (S.files set.new)) }
     ensures no_page { IfErr result (IsCounted (S.missed set.old) (S.missed set.new)) }
     ensures count { S.missed set.old ≤ S.missed set.new }

@@ -25,7 +25,7 @@ returns-clause-ok g c =
     let copies = c.in_ok-page.ensures in
     let removed = c.remove_row.ensures.removed (c.remove_row.ensures.named ∙ ap (is_named name) copies.rows ∙ c.requires.there) in
     on_ok_weaker c.put_dir_page.result
-    (takes_row c.args.dir c.args.number old c.requires.good.directory name c.in_ok-page.page c.remove_row.new.page _ new copies removed) c.put_dir_page.ensures.ok
+    (takes_row c.args.dir c.args.number old c.requires.good.directory name c.in_ok-page.page c.remove_row.new.page _ new (named_within name (row_pages old c.args.dir) c.args.number c.requires.there) copies removed) c.put_dir_page.ensures.ok
 
 pub returns-clause-in_place : goal.returns-clause-in_place
 returns-clause-in_place g c = λ writes.
