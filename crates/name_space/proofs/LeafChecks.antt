@@ -115,9 +115,9 @@ module _ (slot : FilesetSlot) (valid : IsValidFileset slot.tree) (path : Path) (
   ] refl
 
 -- a directory that was removed is gone
-pub directory_gone : (old new : Bitfiles) (slot : FilesetSlot) → IsOriginal old slot → (path : Path) (tag : Tag) (gone : Bool) → Removes (rmdir_checks path) path slot new tag gone → Removes (rmdir_checks path) path slot new tag true
+pub directory_gone : (old new : Bitfiles) (slot : FilesetSlot) → IsOriginal old slot → (path : Path) (tag : Tag) (gone : Bool) → Removes (rmdir_checks path) path slot old new tag gone → Removes (rmdir_checks path) path slot old new tag true
 directory_gone old new slot original path tag gone removes =
     let rest = (passed (target_refusal slot path) (file_here slot path ∷ not_empty slot path ∷ []) removes.allowed).1 in
     let none : file_here slot path ≡ None = (passed (file_here slot path) (not_empty slot path ∷ []) rest).0 in
-    subst (λ b. Removes (rmdir_checks path) path slot new tag b)
+    subst (λ b. Removes (rmdir_checks path) path slot old new tag b)
     (removes.last ∙ ap not (one_of_directory slot original.valid path (number_of tag) removes.was none)) removes

@@ -9,7 +9,7 @@ pub mod PathCounts
 pub mod Originals
 pub mod RowChanged
 pub mod Leaves
-pub mod Created
+pub mod CreatedNames
 pub mod Removed
 pub mod Spots
 pub mod Taken

@@ -7,10 +7,10 @@ use Rattle.domain_base.specs.Limits.{max_links}
 use Rattle.domain_base.specs.declared.place.Kind.{Kind}
 use Rattle.domain_base.specs.declared.place.Kind.TheVariants as kinds
 use Rattle.domain_base.specs.declared.place.Tag.{Tag}
-use Rattle.page_store.specs.Bitfiles.{Bitfile, Bitfiles, IsDirectory, linked, links_at, same_tag, with_change, with_file}
+use Rattle.page_store.specs.Bitfiles.{Bitfile, Bitfiles, IsDirectory, count_index, linked, links_at, same_tag, with_change, with_file}
 use Rattle.dir_pages.specs.Rows.{found}
 use Rattle.dir_rows.specs.Directory.{IsWellFormed, rows_in}
-use Rattle.dir_rows.specs.RowChanges.{AddsRow, IsIndexedWhereSmall}
+use Rattle.dir_rows.specs.RowChanges.{AddsRow, GetsNoIndex, IsIndexedWhereSmall, KeepsIndex}
 use Rattle.dir_rows.proofs.Outside.{others_stay_lem, rows_decide_lem}
 use Rattle.fileset_model.specs.Apply.{linked as with_path}
 use Rattle.fileset_model.specs.Orders.{Name, Path, path_cmp-total, path_cmp-IsAntisymmetric}
@@ -23,16 +23,29 @@ use Rattle.fileset_model.proofs.MapLemmas.{get-insert_other, get-insert_same}
 use Rattle.fileset_laws.specs.Valid.{IsDirectoryAt}
 use Rattle.fileset_laws.proofs.ValidLemmas.{from_some_and, some_inj, to_some_and}
 use Rattle.fileset_laws.proofs.ValidTreeLemmas.{linked-valid}
-use Rattle.name_space.specs.Changes.{AddsLink, IsLinkPlace, IsOriginal, Links, last_name}
+use Rattle.name_space.specs.Changes.{AddsLink, IndexesFollow, IsLinkPlace, IsOriginal, Links, last_name}
 use Rattle.name_space.specs.declared.link.LinkPlace.{LinkPlace}
 use Rattle.name_space.specs.Names.{IsNodeOf, Names, led_from, led_to, number_of}
-use Rattle.name_space.proofs.Created.{by_tag, fore, led_as, same_rows, whole_path}
+use Rattle.name_space.proofs.CreatedNames.{by_tag, fore, led_as, same_count, same_rows, whole_path}
 use Rattle.name_space.proofs.Leads.{led-name}
 use Rattle.name_space.proofs.Leaves.{LeafAt, leaf_changed, leaf_names, same_node}
 use Rattle.name_space.proofs.Originals.{IsIn, directory_at, is_in, number_at, one_tag, one_way, path_at, tag_itself}
 use Rattle.name_space.proofs.PathCounts.{count-new}
 use Rattle.name_space.proofs.RowFacts.{added_rest, added_row, before, good_kept, rows_kept, still}
 use Rattle.name_space.proofs.Spots.{directory_is}
+
+-- how many pages and index pages a directory has
+abbrev pages_in : Option Bitfile → ℕ
+pages_in o = option_map_or (λ (f : Bitfile). length f.pages) o 0
+
+abbrev index_in : Option Bitfile → ℕ
+index_in o = option_map_or (λ (f : Bitfile). length f.index) o 0
+
+-- what is said of the index of a directory that got a row, by what it had and is
+abbrev HasIndex : ℕ → Option Bitfile → Type 0
+HasIndex had o =
+    (2 ≤ pages_in o → pages_in o ≤ 4 → 1 ≤ index_in o) × (1 ≤ had → 1 ≤ index_in o)
+    × (had ≡ 0 → (pages_in o ≤ 1) ⊎ (5 ≤ pages_in o) → index_in o ≡ 0)
 
 module _ (old mid new : Bitfiles) (slot : FilesetSlot) (original : IsOriginal old slot) (source : Path) (tag : Tag) (source_led : led_to old source ≡ led_as tag kinds.File) (no_rows : rows_in old tag ≡ [])
     (dir : Tag) (place : Path) (name : Name) (led : led_to old place ≡ led_as dir kinds.Directory) (free : found name (rows_in old dir) ≡ None)
@@ -211,10 +224,18 @@ module _ (old mid new : Bitfiles) (slot : FilesetSlot) (original : IsOriginal ol
       (λ t of is. subst (λ (led : Tag × Kind). IsIn new after.tree led.0 led.1) (some_inj is) (in_tag kinds.File had.kind))
       in_old directories live seq)
 
-  pub linked_indexed : IsIndexedWhereSmall dir new
-  linked_indexed =
-      let small : Option Bitfile → Type 0 = λ o. 2 ≤ option_map_or (λ (f : Bitfile). length f.pages) o 0 → option_map_or (λ (f : Bitfile). length f.pages) o 0 ≤ 4 → 1 ≤ option_map_or (λ (f : Bitfile). length f.index) o 0 in
-      subst small (sym (others dir dir_apart)) adds.indexed
+  pub linked_indexes : IndexesFollow dir old new
+  linked_indexes = record {
+    indexed = is_now.0;
+    kept = is_now.1;
+    bare = is_now.2;
+    others = λ t away there. by_tag (count_index new t ≡ count_index old t) t tag
+        (λ same. same_count (new t) (Some now) (ap new same ∙ itself) ∙ sym (same_count (old t) (Some had.file) (ap old same ∙ had.there)))
+        (λ other. same_count (new t) (old t) (others t other ∙ (others_stay_lem dir old mid adds.others).others t away));
+  }
+    where
+      is_now : IsIndexedWhereSmall dir new × KeepsIndex dir old new × GetsNoIndex dir old new
+      is_now = subst (HasIndex (count_index old dir)) (sym (others dir dir_apart)) (adds.indexed, adds.kept, adds.bare)
 
   pub linked_original : paths_to slot.tree (number_of tag) < max_links → IsOriginal new (record slot { tree = with_path source path slot.tree })
   linked_original few = record {
@@ -228,7 +249,7 @@ module _ (old mid new : Bitfiles) (slot : FilesetSlot) (original : IsOriginal ol
 
 -- a path more leads to a file
 pub links : (old new : Bitfiles) (slot : FilesetSlot) → IsOriginal old slot → (path to : Path) → 1 ≤ length to → (place : LinkPlace) → IsLinkPlace old slot path to (Ok place) → AddsLink place (last_name to) old new
-    → Links path to slot new place.tag
+    → Links path to slot old new place.tag
 links old new slot original path to some place at adds =
     let had = is_in old slot original.names original.role path place.tag kinds.File at.1 in
     let count : links_at old place.tag ≡ paths_to slot.tree (number_of place.tag) = ap (λ (o : Option Bitfile). option_map_or (λ (f : Bitfile). f.links) o 0) had.there ∙ had.links in
@@ -238,9 +259,7 @@ links old new slot original path to some place at adds =
       makes = subst (λ p. IsOriginal new (record slot { tree = with_path path p slot.tree })) (whole_path to some)
           (linked_original old adds.mid new slot original path place.tag at.1 at.2 place.dir (take (length to - 1) to) (last_name to) at.4.led at.5 adds.adds adds.counted
           (subst (λ n. n < max_links) count at.3));
-      indexed = record {
-        dir = place.dir;
-        into = number_at old slot original.names original.role (take (length to - 1) to) place.dir kinds.Directory at.4.led;
-        indexed = linked_indexed old adds.mid new slot original path place.tag at.1 at.2 place.dir (take (length to - 1) to) (last_name to) at.4.led at.5 adds.adds adds.counted;
-      };
+      dir = place.dir;
+      into = number_at old slot original.names original.role (take (length to - 1) to) place.dir kinds.Directory at.4.led;
+      indexes = linked_indexes old adds.mid new slot original path place.tag at.1 at.2 place.dir (take (length to - 1) to) (last_name to) at.4.led at.5 adds.adds adds.counted;
     }

@@ -11,7 +11,7 @@ use Rattle.fileset_model.specs.Orders.{Name, Path}
 use Rattle.fileset_model.specs.Paths.{begins_with}
 use Rattle.fileset_laws.proofs.ValidMoveLemmas.{begins, begins_of}
 use Rattle.name_space.specs.Names.{led_from, led_to, root_tag}
-use Rattle.name_space.proofs.Created.{by_tag, led_as}
+use Rattle.name_space.proofs.CreatedNames.{by_tag, led_as}
 use Rattle.name_space.proofs.Leads.{led-append}
 use Rattle.name_space.proofs.MovedPaths.{fronts}
 use Rattle.name_space.proofs.RowChanged.{led_below, led_elsewhere}

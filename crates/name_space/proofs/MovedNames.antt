@@ -18,7 +18,7 @@ use Rattle.fileset_laws.proofs.ValidLemmas.{from_some_and, to_some_and}
 use Rattle.fileset_laws.proofs.ValidMoveLemmas.{begins}
 use Rattle.name_space.specs.Changes.{IsOriginal}
 use Rattle.name_space.specs.Names.{IsNodeOf, Names, led_to, number_of}
-use Rattle.name_space.proofs.Created.{led_as}
+use Rattle.name_space.proofs.CreatedNames.{led_as}
 use Rattle.name_space.proofs.Leads.{led-name}
 use Rattle.name_space.proofs.Leaves.{same_node}
 use Rattle.name_space.proofs.MovedLeads.{at_from, at_other, at_to, old_free}

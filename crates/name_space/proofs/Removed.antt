@@ -32,7 +32,7 @@ use Rattle.fileset_laws.specs.Valid.{IsValidFileset}
 use Rattle.fileset_laws.proofs.ValidCountLemmas.{another_path, named_by}
 use Rattle.fileset_laws.proofs.ValidLemmas.{from_some_and, some_inj, to_some_and}
 use Rattle.name_space.specs.Names.{IsNodeOf, Names, led_from, led_to, number_of}
-use Rattle.name_space.proofs.Created.{by_tag, led_as, same_rows}
+use Rattle.name_space.proofs.CreatedNames.{by_tag, led_as, same_rows}
 use Rattle.name_space.proofs.Leads.{led-name}
 use Rattle.name_space.proofs.Leaves.{LeafAt, found_past, leaf_changed, leaf_names, same_node}
 use Rattle.name_space.proofs.Originals.{IsIn, is_in, number_at, one_tag, one_way, path_at, tag_itself}

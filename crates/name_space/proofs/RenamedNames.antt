@@ -1,11 +1,11 @@
 -- What a rename makes of a set's names.
-use Rattle.std.proofs.Common.{◌≡◌, ◌≢◌, ◌∙◌, ◌-◌, ◌≤◌, Bool, true, false, cond, not, is_some, [], ◌∷◌, ◌++◌, Option, Some, None, IfSome, length, length-take, take, inl, inr, refl, sym, ap, subst, arith, true≢false}
+use Rattle.std.proofs.Common.{◌≡◌, ◌≢◌, ◌∙◌, ◌-◌, ◌≤◌, Bool, true, false, cond, not, is_some, [], ◌∷◌, ◌++◌, Option, Some, None, IfSome, IsSome, length, length-take, take, inl, inr, refl, sym, ap, subst, arith, true≢false}
 use Rattle.std.specs.Option.{option_and_then, option_map}
 use Rattle.std.specs.FinMap as map
 use Rattle.domain_base.specs.declared.place.Kind.{Kind}
 use Rattle.domain_base.specs.declared.place.Kind.TheVariants.{Directory}
 use Rattle.domain_base.specs.declared.place.Tag.{Tag}
-use Rattle.page_store.specs.Bitfiles.{Bitfile, Bitfiles, IsBitfile, IsDirectory}
+use Rattle.page_store.specs.Bitfiles.{Bitfile, Bitfiles, IsBitfile, IsDirectory, count_index}
 use Rattle.dir_pages.specs.Rows.{found, is_named}
 use Rattle.dir_rows.specs.Directory.{IsWellFormed, rows_in}
 use Rattle.dir_rows.specs.RowChanges.{RemovesRow}
@@ -20,19 +20,19 @@ use Rattle.fileset_laws.specs.Valid.{IsDirectoryAt}
 use Rattle.fileset_laws.proofs.ValidMoveLemmas.{moved-valid}
 use Rattle.fileset_laws.proofs.ValidLemmas.{from_some_and, some_inj, to_some_and}
 use Rattle.fileset_laws.proofs.ValidTreeLemmas.{nothing_below}
-use Rattle.name_space.specs.Changes.{AreLooked, Checks, IsOriginal, MovesRow, Removes, Renames, TakesName, last_name}
+use Rattle.name_space.specs.Changes.{AreLooked, Checks, IndexesFollow, IsOriginal, MovesRow, Removes, Renames, TakesName, last_name}
 use Rattle.name_space.specs.Names.{Names, led_to, number_of}
 use Rattle.name_space.specs.Walks.{IsWayTo}
 use Rattle.name_space.specs.declared.rename.Renamed.{Renamed}
 use Rattle.name_space.specs.declared.spot.Spot.{Spot}
-use Rattle.name_space.proofs.Created.{by_tag, fore, whole_path}
+use Rattle.name_space.proofs.CreatedNames.{by_tag, fore, row_indexes, same_count, whole_path}
 use Rattle.name_space.proofs.Leaves.{LeafAt}
 use Rattle.name_space.proofs.MovedNames.{moved_names}
 use Rattle.name_space.proofs.Originals.{directory_at, is_in, number_at, path_at}
 use Rattle.name_space.proofs.RenameChecks.{free_checks_are, free_not_one, from_led, from_number, kind_is, move_beside, one_checks_are, taken_led, taken_not_one, taken_number, taken_one, to_free, two_checks_are}
-use Rattle.name_space.proofs.RowFacts.{removed_none}
+use Rattle.name_space.proofs.RowFacts.{is_there, removed_index, removed_none, there_before}
 use Rattle.name_space.proofs.Spots.{led_path}
-use Rattle.name_space.proofs.Taken.{removes, taken_leads}
+use Rattle.name_space.proofs.Taken.{removes, taken_index, taken_leads}
 
 -- ---- the rows in front of a move and between its steps
 
@@ -84,6 +84,17 @@ module _ (old new : Bitfiles) (slot : FilesetSlot) (original : IsOriginal old sl
         (λ front name e. subst (IsDirectoryAt slot.tree) (ap (λ p. take (length p - 1) p) (sym e) ∙ fore front name) (directory_at old slot original.names original.role place_to dir way_to.led));
   }
 
+-- what is left has as many index pages, but for the directory that got the row
+moved_indexes : (first old new : Bitfiles) (spot : Spot) (dir : Tag) (name new_name : Name) → MovesRow spot name dir new_name old new → ((t : Tag) → IsSome (old t) → count_index old t ≡ count_index first t)
+    → IsDirectory old dir → IsDirectory old spot.dir → IndexesFollow dir first new
+moved_indexes first old new spot dir name new_name moves earlier into from =
+    row_indexes dir (record { tag = spot.tag; kind = spot.kind; name = new_name }) first moves.mid new moves.adds
+    (removed_index old moves.mid spot.dir name moves.removes dir ∙ earlier dir (is_there old dir into))
+    (λ t away left.
+    let now : new t ≡ moves.mid t = (others_stay_lem dir moves.mid new moves.adds.others).others t away in
+    let had : IsSome (old t) = there_before old moves.mid spot.dir moves.removes.others from t (ap is_some (sym now) ∙ left) in
+    same_count (new t) (moves.mid t) now ∙ removed_index old moves.mid spot.dir name moves.removes t ∙ earlier t had)
+
 -- ---- answers
 
 module _ (old new : Bitfiles) (path to : Path) (spot : Spot) (dir : Tag) (looked : AreLooked path to spot dir old) (slot : FilesetSlot) (original : IsOriginal old slot) where
@@ -94,7 +105,7 @@ module _ (old new : Bitfiles) (path to : Path) (spot : Spot) (dir : Tag) (looked
   into = number_at old slot original.names original.role (take (length to - 1) to) dir Directory (looked.dir_is slot original).1.led
 
   -- both paths lead to one number
-  pub renames_none : (tag : Tag) (of : Kind) → found (last_name to) (rows_in old dir) ≡ Some (tag, of) → tag ≡ spot.tag → new ≡ old → Renames path to slot new (answer None)
+  pub renames_none : (tag : Tag) (of : Kind) → found (last_name to) (rows_in old dir) ≡ Some (tag, of) → tag ≡ spot.tag → new ≡ old → Renames path to slot old new (answer None)
   renames_none tag of taken same unchanged =
       let one = taken_one old path to spot dir looked slot original tag of taken same in
       record {
@@ -105,11 +116,12 @@ module _ (old new : Bitfiles) (path to : Path) (spot : Spot) (dir : Tag) (looked
         replaced = sym (ap (λ b. cond b None (option_and_then (λ number. cond (is_named_elsewhere slot.tree to number) None (Some number)) (map.get slot.tree.paths to))) one);
         makes = subst (λ tree. IsOriginal new (record slot { tree = tree })) (sym (ap (λ b. cond b slot.tree (moved path to (without to slot.tree))) one))
             (subst (λ files. IsOriginal files slot) (sym unchanged) original);
-        indexed = λ differ. absurd (true≢false (sym one ∙ differ));
+        same = λ both. unchanged;
+        indexes = λ differ. absurd (true≢false (sym one ∙ differ));
       }
 
   -- nothing stands at the second path
-  pub renames_free : found (last_name to) (rows_in old dir) ≡ None → begins_with to path ≡ false → MovesRow spot (last_name path) dir (last_name to) old new → Renames path to slot new (answer None)
+  pub renames_free : found (last_name to) (rows_in old dir) ≡ None → begins_with to path ≡ false → MovesRow spot (last_name path) dir (last_name to) old new → Renames path to slot old new (answer None)
   renames_free free apart moves =
       let at = looked.spot_is slot original in
       let two = free_not_one old path to spot dir looked slot original free in
@@ -124,7 +136,8 @@ module _ (old new : Bitfiles) (path to : Path) (spot : Spot) (dir : Tag) (looked
         makes = subst (λ tree. IsOriginal new (record slot { tree = tree }))
             (ap (moved path to) (sym (without-missing slot.tree to none)) ∙ sym (ap (λ b. cond b slot.tree (moved path to (without to slot.tree))) two))
             (one_move old new slot original path to looked.some looked.some_to spot dir at.1 at.2 (looked.dir_is slot original).1 free apart moves);
-        indexed = λ differ. moves.adds.indexed;
+        same = λ both. absurd (true≢false (sym both ∙ two));
+        indexes = λ differ. moved_indexes old old new spot dir (last_name path) (last_name to) moves (λ t there. refl) (looked.dir_is slot original).1.there at.1.there;
       }
 
 -- ---- a path of which something else is taken away first
@@ -184,7 +197,7 @@ module _ (old mid : Bitfiles) (path to : Path) (spot other : Spot) (looked : Are
   front_to_differs : front_to ≢ to
   front_to_differs same = absurd (omega (arith, ap length same, length-take (length to - 1) to, looked.some_to))
 
-  taken_away : (checks : Checks) → first_refusal (checks slot) ≡ None → Removes checks to slot mid other.tag gone
+  taken_away : (checks : Checks) → first_refusal (checks slot) ≡ None → Removes checks to slot old mid other.tag gone
   taken_away = removes old mid slot original to looked.some_to other.dir way_was other.tag other.kind taken bare sound gone takes
 
   abbrev no_checks : Checks
@@ -217,7 +230,7 @@ module _ (old mid : Bitfiles) (path to : Path) (spot other : Spot) (looked : Are
   }
 
   pub renames_onto : (new : Bitfiles) → begins_with to path ≡ false → first_refusal (move_checks path to slot) ≡ None → MovesRow spot (last_name path) other.dir (last_name to) mid new
-      → (replaced : Option Tag) → replaced ≡ cond gone (Some other.tag) None → Renames path to slot new (record { moved = spot.tag; kind = spot.kind; dir = other.dir; replaced = replaced })
+      → (replaced : Option Tag) → replaced ≡ cond gone (Some other.tag) None → Renames path to slot old new (record { moved = spot.tag; kind = spot.kind; dir = other.dir; replaced = replaced })
   renames_onto new beside passes moves replaced is =
       let two = taken_not_one old path to spot other.dir looked slot original other.tag other.kind taken apart in
       let number = taken_number old path to spot other.dir looked slot original other.tag other.kind taken in
@@ -233,7 +246,8 @@ module _ (old mid : Bitfiles) (path to : Path) (spot other : Spot) (looked : Are
             ∙ ap (option_and_then (λ number. cond (is_named_elsewhere slot.tree to number) None (Some number))) number);
         makes = subst (λ tree. IsOriginal new (record slot { tree = tree })) (sym (ap (λ b. cond b slot.tree (moved path to (without to slot.tree))) two))
             (one_move mid new (record slot { tree = without to slot.tree }) mid_original path to looked.some looked.some_to spot other.dir way_now cleared.row way_to_now cleared.free beside moves);
-        indexed = λ differ. moves.adds.indexed;
+        same = λ both. absurd (true≢false (sym both ∙ two));
+        indexes = λ differ. moved_indexes old mid new spot other.dir (last_name path) (last_name to) moves (taken_index old mid slot original to looked.some_to other.dir way_was other.tag other.kind taken bare sound gone takes) way_to_now.there way_now.there;
       }
     where
       by_last : (elsewhere gone : Bool) → gone ≡ not elsewhere → option_map number_of (cond gone (Some other.tag) None) ≡ cond elsewhere None (Some (number_of other.tag))
@@ -258,7 +272,7 @@ module _ (old mid : Bitfiles) (path to : Path) (spot other : Spot) (looked : Are
 
   pub onto_of : (new : Bitfiles) (moved_name new_name : Name) → moved_name ≡ last_name path → new_name ≡ last_name to → MovesRow spot moved_name other.dir new_name mid new
       → ((slot : FilesetSlot) → IsOriginal old slot → first_refusal (move_checks path to slot) ≡ None) → (replaced : Option Tag) → replaced ≡ cond gone (Some other.tag) None
-      → (slot : FilesetSlot) → IsOriginal old slot → Renames path to slot new (record { moved = spot.tag; kind = spot.kind; dir = other.dir; replaced = replaced })
+      → (slot : FilesetSlot) → IsOriginal old slot → Renames path to slot old new (record { moved = spot.tag; kind = spot.kind; dir = other.dir; replaced = replaced })
   onto_of new moved_name new_name moved_is new_is moves allowed replaced replaced_is slot original =
       renames_onto old mid path to spot other looked taken apart bare sound gone takes_last slot original new
       (move_beside slot path to (allowed slot original)) (allowed slot original) (moves_of spot other.dir path to moved_name new_name mid new moved_is new_is moves) replaced replaced_is

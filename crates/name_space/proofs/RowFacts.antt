@@ -1,8 +1,8 @@
 -- What a row more or less leaves of a directory's rows, and of all files and directories.
-use Rattle.std.proofs.Common.{◌≡◌, ◌≢◌, ◌∙◌, false, ◌++◌, Option, Some, None, IsSomeAnd, refl, sym, ap, subst}
+use Rattle.std.proofs.Common.{◌≡◌, ◌≢◌, ◌∙◌, false, ◌++◌, Option, Some, None, IsSome, IsSomeAnd, is_some, refl, sym, ap, subst}
 use Rattle.domain_base.specs.declared.place.Kind.TheVariants as kinds
 use Rattle.domain_base.specs.declared.place.Tag.{Tag}
-use Rattle.page_store.specs.Bitfiles.{Bitfile, Bitfiles, IsDirectory, same_tag}
+use Rattle.page_store.specs.Bitfiles.{Bitfile, Bitfiles, IsDirectory, count_index, same_tag}
 use Rattle.dir_pages.specs.declared.row.Row.{Row}
 use Rattle.dir_pages.specs.Rows.{found}
 use Rattle.dir_rows.specs.Directory.{IsWellFormed, NamesOnce, rows_in}
@@ -11,7 +11,7 @@ use Rattle.dir_rows.specs.RowChanges.{AddsRow, OnlyDirectory, RemovesRow}
 use Rattle.dir_rows.proofs.Outside.{others_stay_lem, rows_decide_lem}
 use Rattle.fileset_model.specs.Orders.{Name}
 use Rattle.fileset_laws.proofs.ValidLemmas.{from_some_and, some_inj, to_some_and}
-use Rattle.name_space.proofs.Created.{by_tag, same_rows}
+use Rattle.name_space.proofs.CreatedNames.{by_tag, same_count, same_rows}
 use Rattle.name_space.proofs.Leaves.{found_new, found_past}
 use Rattle.name_space.proofs.Removed.{alone_here, not_named}
 
@@ -22,6 +22,9 @@ same_itself file = record { kind = refl; uid = refl; gid = refl; links = refl }
 
 pub same_twice : (a b c : Bitfile) → IsSameNode a b → IsSameNode b c → IsSameNode a c
 same_twice a b c x y = record { kind = x.kind ∙ y.kind; uid = x.uid ∙ y.uid; gid = x.gid ∙ y.gid; links = x.links ∙ y.links }
+
+pub is_there : (files : Bitfiles) (dir : Tag) → IsDirectory files dir → IsSome (files dir)
+is_there files dir directory = ap is_some (from_some_and (λ (f : Bitfile). f.kind ≡ kinds.Directory) (files dir) directory).1
 
 module _ (old new : Bitfiles) (dir : Tag) (only : OnlyDirectory dir old new) where
   stay : LeavesOthers dir old new
@@ -60,6 +63,18 @@ module _ (old new : Bitfiles) (dir : Tag) (only : OnlyDirectory dir old new) whe
       let was = from_some_and (λ (f : Bitfile). f.kind ≡ kinds.Directory) (old d) there in
       let now = still d was.0 was.1 in
       to_some_and (λ (f : Bitfile). f.kind ≡ kinds.Directory) (new d) now.0 now.1 (now.2.kind ∙ was.2)
+
+  -- what is there was there
+  pub there_before : IsDirectory old dir → (t : Tag) → IsSome (new t) → IsSome (old t)
+  there_before directory t there = by_tag (IsSome (old t)) t dir
+      (λ same. ap (λ t. is_some (old t)) same ∙ is_there old dir directory)
+      (λ other. ap is_some (sym (stay.others t other)) ∙ there)
+
+-- each has as many index pages where a row went
+pub removed_index : (old new : Bitfiles) (dir : Tag) (name : Name) → RemovesRow dir name old new → (t : Tag) → count_index new t ≡ count_index old t
+removed_index old new dir name removes t = by_tag (count_index new t ≡ count_index old t) t dir
+    (λ same. ap (count_index new) same ∙ removes.index ∙ sym (ap (count_index old) same))
+    (λ other. same_count (new t) (old t) ((others_stay_lem dir old new removes.others).others t other))
 
 -- ---- rows
 

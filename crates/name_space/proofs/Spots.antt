@@ -19,7 +19,7 @@ use Rattle.name_space.specs.Changes.{Checks, HasOriginal, IsOriginal, IsSpot, la
 use Rattle.name_space.specs.Names.{HasNames, is_directory_kind, led_to}
 use Rattle.name_space.specs.Walks.{IsWayTo}
 use Rattle.name_space.specs.declared.spot.Spot.{Spot}
-use Rattle.name_space.proofs.Created.{whole_path}
+use Rattle.name_space.proofs.CreatedNames.{whole_path}
 use Rattle.name_space.proofs.Leads.{led-name}
 use Rattle.name_space.proofs.Originals.{all_shown, is_in, number_at}
 use Rattle.name_space.proofs.Targets.{target_lost, target_there}

@@ -1,12 +1,12 @@
 -- What is left where a row went, and the link that it was.
-use Rattle.std.proofs.Common.{◌≡◌, ◌≢◌, ◌∙◌, ℕ, ◌+◌, ◌-◌, ◌≤◌, ◌==◌, Bool, true, false, not, cond, is_some, List, [], ◌∷◌, ◌++◌, Option, Some, None, IfSome, length, take, inl, inr, refl, sym, ap, subst, arith, eqb-true, true≢false}
+use Rattle.std.proofs.Common.{◌≡◌, ◌≢◌, ◌∙◌, ℕ, ◌+◌, ◌-◌, ◌≤◌, ◌==◌, Bool, true, false, not, cond, is_some, List, [], ◌∷◌, ◌++◌, Option, Some, None, IfSome, IsSome, length, take, inl, inr, refl, sym, ap, subst, arith, eqb-true, true≢false}
 use Rattle.std.proofs.lemmas.Bool.{cases_lt, eq-eqb}
 use Rattle.std.specs.Option.{option_and_then, option_map, option_map_or}
 use Rattle.std.specs.FinMap as map
 use Rattle.domain_base.specs.declared.place.Kind.{Kind}
 use Rattle.domain_base.specs.declared.place.Kind.TheVariants as kinds
 use Rattle.domain_base.specs.declared.place.Tag.{Tag}
-use Rattle.page_store.specs.Bitfiles.{Bitfile, Bitfiles, IsBitfile, linked, links_at, same_tag, with_file}
+use Rattle.page_store.specs.Bitfiles.{Bitfile, Bitfiles, IsBitfile, count_index, linked, links_at, same_tag, with_file}
 use Rattle.dir_pages.specs.Rows.{found}
 use Rattle.dir_rows.specs.Directory.{all_rows, rows_in}
 use Rattle.dir_rows.specs.Laws.{HasSameRows}
@@ -16,17 +16,18 @@ use Rattle.fileset_model.specs.Fileset.{Fileset}
 use Rattle.fileset_model.specs.Orders.{Name, Path}
 use Rattle.fileset_model.specs.Paths.{first_refusal, paths_to}
 use Rattle.fileset_model.specs.declared.fileset.FilesetSlot.{FilesetSlot}
-use Rattle.fileset_laws.proofs.ValidLemmas.{to_some_and}
+use Rattle.fileset_laws.proofs.ValidLemmas.{from_some_and, to_some_and}
 use Rattle.fileset_laws.proofs.ValidTreeLemmas.{without-valid}
 use Rattle.name_space.specs.Changes.{Checks, DropsLink, IsOriginal, Removes, TakesName, last_name}
 use Rattle.name_space.specs.Names.{led_to, number_of}
 use Rattle.name_space.specs.Walks.{IsWayTo}
-use Rattle.name_space.proofs.Created.{by_tag, same_rows, whole_path}
+use Rattle.name_space.proofs.CreatedNames.{by_tag, same_count, same_rows, whole_path}
 use Rattle.name_space.proofs.Leads.{led-name}
 use Rattle.name_space.proofs.Leaves.{LeafAt}
 use Rattle.name_space.proofs.Originals.{IsIn, is_in, number_at, path_at, tag_itself}
 use Rattle.name_space.proofs.PathCounts.{alone, among}
 use Rattle.name_space.proofs.Removed.{IsLeft, leads, removed_names}
+use Rattle.name_space.proofs.RowFacts.{removed_index}
 use Rattle.name_space.proofs.Spots.{led_path}
 
 -- a file has no rows
@@ -76,6 +77,18 @@ module _ (mid new : Bitfiles) (tag : Tag) (file : Bitfile) (there : mid tag ≡ 
       let fewer : 1 + (links_at mid tag - 1) ≡ file.links = omega (arith, count, named) in
       to_some_and (λ (f : Bitfile). HasSameRows f file × (f.uid ≡ file.uid) × (f.gid ≡ file.gid) × (1 + f.links ≡ file.links)) (new tag) now is
       (record { kind = refl; pages = refl; index = refl }, refl, refl, fewer)
+
+  -- what is left has as many index pages
+  pub dropped_index : (gone : Bool) → DropsLink tag mid new gone → (t : Tag) → IsSome (new t) → count_index new t ≡ count_index mid t
+  dropped_index gone drops t left = by_tag (count_index new t ≡ count_index mid t) t tag
+      (λ same. ap (count_index new) same ∙ here gone (dropped_itself gone drops) (sym (ap (λ t. is_some (new t)) same) ∙ left) ∙ sym (ap (count_index mid) same))
+      (λ other. same_count (new t) (mid t) (dropped_others gone drops t other))
+    where
+      here : (gone : Bool) → IsLeft (not gone) file (new tag) → IsSome (new tag) → count_index new tag ≡ count_index mid tag
+      here true none some = absurd (true≢false (sym some ∙ ap is_some none))
+      here false is some =
+          let now = from_some_and (λ (f : Bitfile). HasSameRows f file × (f.uid ≡ file.uid) × (f.gid ≡ file.gid) × (1 + f.links ≡ file.links)) (new tag) is in
+          same_count (new tag) (Some now.0) now.1 ∙ ap length now.2.0.index ∙ sym (same_count (mid tag) (Some file) there)
 
   -- it stays where another path leads to it
   pub dropped_stays : (tree : Fileset) (path : Path) (number : ℕ) → map.get tree.paths path ≡ Some number → file.links ≡ paths_to tree number → (gone : Bool) → gone ≡ (links_at mid tag == 1)
@@ -135,8 +148,13 @@ module _ (old new : Bitfiles) (slot : FilesetSlot) (original : IsOriginal old sl
       (dropped_others takes.mid new tag had.file at_mid named gone takes.drops)
       (subst (λ b. IsLeft b had.file (new tag)) (sym stays) (dropped_itself takes.mid new tag had.file at_mid named gone takes.drops)))
 
-  pub removes : (checks : Checks) → first_refusal (checks slot) ≡ None → Removes checks path slot new tag gone
-  removes checks allowed = subst (λ p. Removes checks p slot new tag gone) (whole_path path some) (record {
+  pub taken_index : (t : Tag) → IsSome (new t) → count_index new t ≡ count_index old t
+  taken_index t left =
+      dropped_index takes.mid new tag had.file at_mid named gone takes.drops t left
+      ∙ removed_index old takes.mid dir (last_name path) takes.removes t
+
+  pub removes : (checks : Checks) → first_refusal (checks slot) ≡ None → Removes checks path slot old new tag gone
+  removes checks allowed = subst (λ p. Removes checks p slot old new tag gone) (whole_path path some) (record {
     allowed = allowed;
     was = at_whole;
     last = sym (ap not stays ∙ twice gone);
@@ -147,6 +165,7 @@ module _ (old new : Bitfiles) (slot : FilesetSlot) (original : IsOriginal old sl
       role = original.role;
       valid = without-valid slot.tree whole original.valid no_root child_none;
     };
+    indexes = taken_index;
   })
     where
       twice : (b : Bool) → not (not b) ≡ b

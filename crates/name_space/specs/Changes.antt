@@ -1,5 +1,5 @@
 -- What the calls answer that change names.
-use Rattle.std.specs.Prelude.{◌≡◌, ◌==◌, ◌+◌, ◌-◌, ◌<◌, ◌≤◌, ℕ, Bool, true, false, not, List, [], ◌∷◌, Option, Some, None, Result, Ok, Err, length, get_or, take, if◌then◌else◌}
+use Rattle.std.specs.Prelude.{◌≡◌, ◌==◌, ◌+◌, ◌-◌, ◌<◌, ◌≤◌, ℕ, Bool, true, false, not, List, [], ◌∷◌, Option, Some, None, IsSome, Result, Ok, Err, length, get_or, take, if◌then◌else◌}
 use Rattle.std.specs.Option.{option_and_then, option_map}
 use Rattle.std.specs.FinMap.{get, empty}
 use Rattle.domain_base.specs.Limits.{max_links}
@@ -7,12 +7,12 @@ use Rattle.domain_base.specs.Counts.{HasRisen}
 use Rattle.domain_base.specs.declared.place.Kind.{Kind}
 use Rattle.domain_base.specs.declared.place.Kind.TheVariants as kind
 use Rattle.domain_base.specs.declared.place.Tag.{Tag}
-use Rattle.page_store.specs.Bitfiles.{Bitfile, Bitfiles, linked, links_at, with_change, with_file, without_file}
+use Rattle.page_store.specs.Bitfiles.{Bitfile, Bitfiles, count_index, linked, links_at, same_tag, with_change, with_file, without_file}
 use Rattle.page_store.specs.declared.fault.StoreFault.{StoreFault}
 use Rattle.page_store.specs.declared.fault.StoreFault.TheVariants as store
 use Rattle.dir_pages.specs.Rows.{found, is_row_name}
 use Rattle.dir_rows.specs.Directory.{rows_in}
-use Rattle.dir_rows.specs.RowChanges.{AddsRow, IsIndexedWhereSmall, RemovesRow, adding_changes, removing_changes}
+use Rattle.dir_rows.specs.RowChanges.{AddsRow, GetsNoIndex, IsIndexedWhereSmall, KeepsIndex, RemovesRow, adding_changes, removing_changes}
 use Rattle.fileset_model.specs.Apply.{is_named_elsewhere, link_checks, linked as with_path, not_empty, path_taken, rename_checks, renamed, with_node, without}
 use Rattle.fileset_model.specs.Fileset.{Fileset}
 use Rattle.fileset_model.specs.Orders.{Name, Path}
@@ -26,6 +26,7 @@ use Rattle.fileset_model.specs.declared.reply.Refusal.TheVariants.{IsDirectory, 
 use Rattle.fileset_laws.specs.Valid.{IsValidFileset}
 use Rattle.name_space.specs.Names.{Names, is_directory_kind, led_to, number_of}
 use Rattle.name_space.specs.Walks.{IsWalked, IsWayTo}
+use Rattle.name_space.specs.declared.create.Created.{Created}
 use Rattle.name_space.specs.declared.fault.NameFault.{NameFault}
 use Rattle.name_space.specs.declared.fault.NameFault.TheVariants.{Refused, NoPage, OutOfMemory}
 use Rattle.name_space.specs.declared.link.LinkPlace.{LinkPlace}
@@ -85,20 +86,24 @@ abbrev pub new_node : Kind → ℕ → ℕ → Node
 new_node kind.File uid gid = File uid gid 0 false empty
 new_node kind.Directory uid gid = Directory uid gid
 
--- the directory of a path's last name has an index where it has two to four pages
-pub record IsIndexedAbove (path : Path) (slot : FilesetSlot) (new : Bitfiles) : Type 0 where
-  pub dir : Tag
-  pub into : get slot.tree.paths (take (length path - 1) path) ≡ Some (number_of dir)
+-- a directory that got a row keeps its index, has one where it has two to four pages, and gets none
+-- where it has one page or more than four; each other that is left has as many index pages
+pub record IndexesFollow (dir : Tag) (old new : Bitfiles) : Type 0 where
   pub indexed : IsIndexedWhereSmall dir new
+  pub kept : KeepsIndex dir old new
+  pub bare : GetsNoIndex dir old new
+  pub others : (tag : Tag) → same_tag tag dir ≡ false → IsSome (new tag)
+      → count_index new tag ≡ count_index old tag
 
--- a new node stands at a path, under a number that no node had
-pub record Creates (path : Path) (node : Node) (slot : FilesetSlot) (new : Bitfiles) (tag : Tag)
-    : Type 0 where
+-- a new node stands at a path, under a number that no node had, and its row in the path's directory
+pub record Creates (path : Path) (node : Node) (slot : FilesetSlot) (old new : Bitfiles)
+    (made : Created) : Type 0 where
   pub allowed : first_refusal (free_checks path slot) ≡ None
-  pub fresh : get slot.tree.nodes (number_of tag) ≡ None
+  pub fresh : get slot.tree.nodes (number_of made.tag) ≡ None
+  pub into : get slot.tree.paths (take (length path - 1) path) ≡ Some (number_of made.dir)
   pub makes : IsOriginal new
-      (record slot { tree = with_node path (number_of tag) node slot.tree })
-  pub indexed : IsIndexedAbove path slot new
+      (record slot { tree = with_node path (number_of made.tag) node slot.tree })
+  pub indexes : IndexesFollow made.dir old new
 
 -- ---- names that go
 
@@ -149,13 +154,15 @@ pub record TakesName (dir : Tag) (name : Name) (tag : Tag) (old new : Bitfiles) 
   pub removes : RemovesRow dir name old mid
   pub drops : DropsLink tag mid new gone
 
--- a path is gone that led to a tag's number, and with its last path what stood there
-pub record Removes (checks : Checks) (path : Path) (slot : FilesetSlot) (new : Bitfiles) (tag : Tag)
-    (gone : Bool) : Type 0 where
+-- a path is gone that led to a tag's number, and with its last path what stood there; what is left
+-- has as many index pages as before
+pub record Removes (checks : Checks) (path : Path) (slot : FilesetSlot) (old new : Bitfiles)
+    (tag : Tag) (gone : Bool) : Type 0 where
   pub allowed : first_refusal (checks slot) ≡ None
   pub was : get slot.tree.paths path ≡ Some (number_of tag)
   pub last : gone ≡ not (is_named_elsewhere slot.tree path (number_of tag))
   pub makes : IsOriginal new (record slot { tree = without path slot.tree })
+  pub indexes : (left : Tag) → IsSome (new left) → count_index new left ≡ count_index old left
 
 -- ---- one path more
 
@@ -175,12 +182,15 @@ pub record AddsLink (place : LinkPlace) (name : Name) (old new : Bitfiles) : Typ
   pub adds : AddsRow place.dir (record { tag = place.tag; kind = kind.File; name = name }) old mid
   pub counted : new ≡ with_change place.tag (linked (links_at mid place.tag + 1)) mid
 
--- a second path leads to a file
-pub record Links (path to : Path) (slot : FilesetSlot) (new : Bitfiles) (tag : Tag) : Type 0 where
+-- a second path leads to a file, and its row stands in that path's directory
+pub record Links (path to : Path) (slot : FilesetSlot) (old new : Bitfiles) (tag : Tag)
+    : Type 0 where
   pub allowed : first_refusal (link_checks path to slot) ≡ None
   pub was : get slot.tree.paths path ≡ Some (number_of tag)
+  pub dir : Tag
+  pub into : get slot.tree.paths (take (length to - 1) to) ≡ Some (number_of dir)
   pub makes : IsOriginal new (record slot { tree = with_path path to slot.tree })
-  pub indexed : IsIndexedAbove to slot new
+  pub indexes : IndexesFollow dir old new
 
 -- ---- paths that move
 
@@ -209,8 +219,9 @@ replaced_number path to tree =
     (λ number. if is_named_elsewhere tree to number then None else Some number)
     (get tree.paths to)
 
--- what stood at a path, with all below it, stands at a second one
-pub record Renames (path to : Path) (slot : FilesetSlot) (new : Bitfiles) (answer : Renamed)
+-- what stood at a path, with all below it, stands at a second one; where both led to one file or
+-- directory the set is as it was
+pub record Renames (path to : Path) (slot : FilesetSlot) (old new : Bitfiles) (answer : Renamed)
     : Type 0 where
   pub allowed : first_refusal (rename_checks path to slot) ≡ None
   pub was : get slot.tree.paths path ≡ Some (number_of answer.moved)
@@ -218,7 +229,8 @@ pub record Renames (path to : Path) (slot : FilesetSlot) (new : Bitfiles) (answe
   pub into : get slot.tree.paths (take (length to - 1) to) ≡ Some (number_of answer.dir)
   pub replaced : option_map number_of answer.replaced ≡ replaced_number path to slot.tree
   pub makes : IsOriginal new (record slot { tree = renamed path to slot.tree })
-  pub indexed : names_one slot.tree path to ≡ false → IsIndexedWhereSmall answer.dir new
+  pub same : names_one slot.tree path to ≡ true → new ≡ old
+  pub indexes : names_one slot.tree path to ≡ false → IndexesFollow answer.dir old new
 
 -- ---- how many changes of a set a call makes at most
 

@@ -17,6 +17,15 @@ use fileset_model::{Path, Refusal};
 use page_store::StoreFault;
 use std::alloc::Global;
 
+/// A file or directory that was made.
+#[derive(Clone, Copy)]
+pub struct Created {
+    /// Its tag.
+    pub tag: Tag,
+    /// The directory that got its row, which is the Parent of a directory.
+    pub dir: Tag,
+}
+
 /// The last name of a path that has one.
 pub(crate) fn last_name(path: &Path) -> &[u8]
     requires { 1 ≤ length path.now }
@@ -74,9 +83,8 @@ fn make_row<S: BitfileSet>(
     }
 }
 
-/// Makes a file or a directory at a path, and answers its tag. Its Parent, where it is a directory,
-/// is the directory of the path, which the caller records. After NoPage or OutOfMemory the set may
-/// hold some of this.
+/// Makes a file or a directory at a path. The Parent of a directory is the answer's `dir`, which
+/// the caller records. After NoPage or OutOfMemory the set may hold some of this.
 pub fn create_at<S: BitfileSet>(
     set: &mut S,
     alloc: Global,
@@ -84,15 +92,15 @@ pub fn create_at<S: BitfileSet>(
     kind: Kind,
     uid: u32,
     gid: u32,
-) -> Result<Tag, NameFault>
+) -> Result<Created, NameFault>
     requires names { HasOriginal (S.files set.old) }
     requires some { 1 ≤ length path.now }
     requires name { is_row_name (last_name path.now) ≡ true }
-    ensures ok { IfOk result (λ tag. (slot : FilesetSlot) → IsOriginal (S.files set.old) slot
-        → Creates path.now (new_node kind uid gid) slot (S.files set.new) tag) }
+    ensures ok { IfOk result (λ made. (slot : FilesetSlot) → IsOriginal (S.files set.old) slot
+        → Creates path.now (new_node kind uid gid) slot (S.files set.old) (S.files set.new) made) }
     ensures err { IfErr result (IsFaultOf (free_checks path.now) (S.files set.old)
         (S.files set.new) (S.missed set.old) (S.missed set.new)) }
-    ensures unspent { IfOk result (λ tag. ¬ S.is_spent set.old tag) }
+    ensures unspent { IfOk result (λ made. ¬ S.is_spent set.old made.tag) }
     ensures count { S.missed set.old ≤ S.missed set.new }
     ensures changes { S.changes set.new ≤ creating_changes + S.changes set.old }
     ensures rest { S.leaves_rest set.old set.new }
@@ -102,7 +110,7 @@ pub fn create_at<S: BitfileSet>(
         Err(refusal) => return Err(NameFault::Refused(refusal)),
     };
     match make_row(set, alloc, dir, last_name(path), kind, uid, gid) {
-        Ok(tag) => Ok(tag),
+        Ok(tag) => Ok(Created { tag, dir }),
         Err(fault) => Err(NameFault::from(fault)),
     }
 }

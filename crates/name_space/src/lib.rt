@@ -10,7 +10,7 @@ mod spot;
 mod unlink;
 mod walking;
 
-pub use create::create_at;
+pub use create::{Created, create_at};
 pub use fault::NameFault;
 pub use link::link_at;
 pub use listing::{list_rows, row_count};

@@ -90,7 +90,7 @@ pub fn link_at<S: BitfileSet>(
     requires some_to { 1 ≤ length to.now }
     requires name { is_row_name (last_name to.now) ≡ true }
     ensures ok { IfOk result (λ tag. (slot : FilesetSlot) → IsOriginal (S.files set.old) slot
-        → Links path.now to.now slot (S.files set.new) tag) }
+        → Links path.now to.now slot (S.files set.old) (S.files set.new) tag) }
     ensures err { IfErr result (IsFaultOf (link_checks path.now to.now) (S.files set.old)
         (S.files set.new) (S.missed set.old) (S.missed set.new)) }
     ensures count { S.missed set.old ≤ S.missed set.new }

@@ -77,7 +77,7 @@ fn rename_free<S: BitfileSet>(
     requires looked { AreLooked path.now to.now spot dir (S.files set.old) }
     requires free { found (last_name to.now) (rows_in (S.files set.old) dir) ≡ None }
     ensures ok { IfOk result (λ answer. (slot : FilesetSlot) → IsOriginal (S.files set.old) slot
-        → Renames path.now to.now slot (S.files set.new) answer) }
+        → Renames path.now to.now slot (S.files set.old) (S.files set.new) answer) }
     ensures err { IfErr result (IsFaultOf (rename_checks path.now to.now) (S.files set.old)
         (S.files set.new) (S.missed set.old) (S.missed set.new)) }
     ensures count { S.missed set.old ≤ S.missed set.new }
@@ -136,7 +136,7 @@ fn replace<S: BitfileSet>(
     requires allowed { (slot : FilesetSlot) → IsOriginal (S.files set.old) slot
         → first_refusal (move_checks path.now to.now slot) ≡ None }
     ensures ok { IfOk result (λ answer. (slot : FilesetSlot) → IsOriginal (S.files set.old) slot
-        → Renames path.now to.now slot (S.files set.new) answer) }
+        → Renames path.now to.now slot (S.files set.old) (S.files set.new) answer) }
     ensures no_page { IfErr result (IsCounted (S.missed set.old) (S.missed set.new)) }
     ensures count { S.missed set.old ≤ S.missed set.new }
     ensures changes { S.changes set.new ≤ renaming_changes + S.changes set.old }
@@ -170,7 +170,7 @@ fn rename_onto<S: BitfileSet>(
     requires taken { found (last_name to.now) (rows_in (S.files set.old) other.dir)
         ≡ Some (other.tag, other.kind) }
     ensures ok { IfOk result (λ answer. (slot : FilesetSlot) → IsOriginal (S.files set.old) slot
-        → Renames path.now to.now slot (S.files set.new) answer) }
+        → Renames path.now to.now slot (S.files set.old) (S.files set.new) answer) }
     ensures err { IfErr result (IsFaultOf (rename_checks path.now to.now) (S.files set.old)
         (S.files set.new) (S.missed set.old) (S.missed set.new)) }
     ensures count { S.missed set.old ≤ S.missed set.new }
@@ -206,7 +206,7 @@ fn rename_into<S: BitfileSet>(
 ) -> Result<Renamed, NameFault>
     requires looked { AreLooked path.now to.now spot dir (S.files set.old) }
     ensures ok { IfOk result (λ answer. (slot : FilesetSlot) → IsOriginal (S.files set.old) slot
-        → Renames path.now to.now slot (S.files set.new) answer) }
+        → Renames path.now to.now slot (S.files set.old) (S.files set.new) answer) }
     ensures err { IfErr result (IsFaultOf (rename_checks path.now to.now) (S.files set.old)
         (S.files set.new) (S.missed set.old) (S.missed set.new)) }
     ensures count { S.missed set.old ≤ S.missed set.new }
@@ -234,7 +234,7 @@ pub fn rename_at<S: BitfileSet>(
     requires some_to { 1 ≤ length to.now }
     requires name { is_row_name (last_name to.now) ≡ true }
     ensures ok { IfOk result (λ answer. (slot : FilesetSlot) → IsOriginal (S.files set.old) slot
-        → Renames path.now to.now slot (S.files set.new) answer) }
+        → Renames path.now to.now slot (S.files set.old) (S.files set.new) answer) }
     ensures err { IfErr result (IsFaultOf (rename_checks path.now to.now) (S.files set.old)
         (S.files set.new) (S.missed set.old) (S.missed set.new)) }
     ensures count { S.missed set.old ≤ S.missed set.new }

@@ -87,8 +87,8 @@ fn take_path<S: BitfileSet>(
     requires names { HasOriginal (S.files set.old) }
     requires some { 1 ≤ length path.now }
     ensures ok { IfOk result (λ file. (slot : FilesetSlot) → IsOriginal (S.files set.old) slot
-        → Removes (taking_checks of path.now) path.now slot (S.files set.new) file.tag
-        file.gone) }
+        → Removes (taking_checks of path.now) path.now slot (S.files set.old) (S.files set.new)
+        file.tag file.gone) }
     ensures err { IfErr result (IsFaultOf (taking_checks of path.now) (S.files set.old)
         (S.files set.new) (S.missed set.old) (S.missed set.new)) }
     ensures count { S.missed set.old ≤ S.missed set.new }
@@ -119,7 +119,8 @@ pub fn unlink_at<S: BitfileSet>(
     requires names { HasOriginal (S.files set.old) }
     requires some { 1 ≤ length path.now }
     ensures ok { IfOk result (λ file. (slot : FilesetSlot) → IsOriginal (S.files set.old) slot
-        → Removes (unlink_checks path.now) path.now slot (S.files set.new) file.tag file.gone) }
+        → Removes (unlink_checks path.now) path.now slot (S.files set.old) (S.files set.new)
+        file.tag file.gone) }
     ensures err { IfErr result (IsFaultOf (unlink_checks path.now) (S.files set.old)
         (S.files set.new) (S.missed set.old) (S.missed set.new)) }
     ensures count { S.missed set.old ≤ S.missed set.new }
@@ -136,7 +137,8 @@ pub fn rmdir_at<S: BitfileSet>(set: &mut S, alloc: Global, path: &Path) -> Resul
     requires names { HasOriginal (S.files set.old) }
     requires some { 1 ≤ length path.now }
     ensures ok { IfOk result (λ tag. (slot : FilesetSlot) → IsOriginal (S.files set.old) slot
-        → Removes (rmdir_checks path.now) path.now slot (S.files set.new) tag true) }
+        → Removes (rmdir_checks path.now) path.now slot (S.files set.old) (S.files set.new) tag
+        true) }
     ensures err { IfErr result (IsFaultOf (rmdir_checks path.now) (S.files set.old)
         (S.files set.new) (S.missed set.old) (S.missed set.new)) }
     ensures count { S.missed set.old ≤ S.missed set.new }

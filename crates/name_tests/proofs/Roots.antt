@@ -24,7 +24,7 @@ use Rattle.fileset_laws.proofs.ValidLemmas.{some_inj, to_some_and}
 use Rattle.fileset_laws.proofs.ValidTreeLemmas.{empty_fileset-valid}
 use Rattle.name_space.specs.Changes.{HasOriginal, IsOriginal}
 use Rattle.name_space.specs.Names.{IsNodeOf, Names, led_to, number_of, root_tag}
-use Rattle.name_space.proofs.Created.{by_tag, led_as}
+use Rattle.name_space.proofs.CreatedNames.{by_tag, led_as}
 use Rattle.name_space.proofs.Originals.{IsIn, original_names}
 use Rattle.name_space.proofs.PathCounts.{count-new, count_of}
 

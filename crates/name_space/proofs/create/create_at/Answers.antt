@@ -1,7 +1,7 @@
 use Rattle.std.proofs.Common.{rules, ◌^◌, ◌<◌, subst}
 use Rattle.page_store.specs.Bitfiles.{new_file}
 use Rattle.name_space.specs.Changes.{IsMade, free_checks}
-use Rattle.name_space.proofs.Created.{creates}
+use Rattle.name_space.proofs.CreatedNames.{creates}
 use Rattle.name_space.proofs.Faults.{faulted}
 use Rattle.name_space.proofs.Spots.{has_names}
 use Rattle.name_space.proofs.create.create_at.Goals as goal

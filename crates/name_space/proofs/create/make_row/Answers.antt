@@ -2,7 +2,7 @@ use Rattle.std.proofs.Common.{◌≡◌, false, sym, subst}
 use Rattle.page_store.specs.Bitfiles.{new_file}
 use Rattle.dir_pages.specs.Rows.{is_named}
 use Rattle.dir_rows.specs.Directory.{rows_in}
-use Rattle.name_space.proofs.Created.{free_before}
+use Rattle.name_space.proofs.CreatedNames.{free_before}
 use Rattle.name_space.proofs.create.make_row.Goals as goal
 
 pub add_row-requires-clause-fresh : goal.add_row-requires-clause-fresh

@@ -1,5 +1,5 @@
 -- A new file or directory, and the row that names it.
-use Rattle.std.proofs.Common.{◌≡◌, ◌≢◌, ◌⊎◌, ◌∙◌, ℕ, ◌+◌, ◌-◌, ◌^◌, ◌<◌, ◌≤◌, length, length-append, take, take_all, List, ◌==◌, ◌&&◌, true, false, cond, is_some, eqb-true, [], ◌∷◌, ◌++◌, Option, Some, None, IsSomeAnd, inl, inr, refl, sym, ap, subst, arith, true≢false}
+use Rattle.std.proofs.Common.{◌≡◌, ◌≢◌, ◌⊎◌, ◌∙◌, ℕ, ◌+◌, ◌-◌, ◌^◌, ◌<◌, ◌≤◌, length, length-append, take, take_all, List, ◌==◌, ◌&&◌, true, false, cond, is_some, eqb-true, [], ◌∷◌, ◌++◌, Option, Some, None, IsSome, IsSomeAnd, inl, inr, refl, sym, ap, subst, arith, true≢false}
 use Rattle.std.proofs.lemmas.Bool.{eq-eqb}
 use Rattle.std.proofs.lemmas.List.{take_at, take_more}
 use Rattle.std.specs.Ordering.{nat_cmp}
@@ -9,7 +9,8 @@ use Rattle.std.specs.FinMap as map
 use Rattle.domain_base.specs.declared.place.Kind.{Kind}
 use Rattle.domain_base.specs.declared.place.Kind.TheVariants as kinds
 use Rattle.domain_base.specs.declared.place.Tag.{Tag}
-use Rattle.page_store.specs.Bitfiles.{Bitfile, Bitfiles, IsDirectory, new_file, same_tag, with_file}
+use Rattle.page_store.specs.Bitfiles.{Bitfile, Bitfiles, IsDirectory, count_index, new_file, same_tag, with_file}
+use Rattle.dir_pages.specs.declared.row.Row.{Row}
 use Rattle.dir_pages.specs.Rows.{found, is_named}
 use Rattle.dir_rows.proofs.Entered.{named_found}
 use Rattle.dir_rows.specs.Directory.{IsWellFormed, all_rows, rows_in}
@@ -26,7 +27,7 @@ use Rattle.fileset_laws.specs.Valid.{HasWholePages, IsDirectoryAt, IsValidFilese
 use Rattle.fileset_laws.proofs.ValidCountLemmas.{no_paths}
 use Rattle.fileset_laws.proofs.ValidLemmas.{from_some_and, some_inj, to_some_and}
 use Rattle.fileset_laws.proofs.ValidTreeLemmas.{with_node-valid}
-use Rattle.name_space.specs.Changes.{Creates, IsMade, IsOriginal, free_checks, last_name, new_node}
+use Rattle.name_space.specs.Changes.{Creates, IndexesFollow, IsMade, IsOriginal, free_checks, last_name, new_node}
 use Rattle.name_space.specs.Walks.{IsWayTo}
 use Rattle.name_space.specs.Names.{IsNodeOf, Names, led_from, led_to, number_of}
 use Rattle.name_space.proofs.Leads.{led-name}
@@ -47,6 +48,20 @@ led_as tag of = Some (tag, of)
 -- rows stand on a tag's pages alone
 pub same_rows : (a b : Option Bitfile) → a ≡ b → all_rows (option_map_or (λ (file : Bitfile). file.pages) a []) ≡ all_rows (option_map_or (λ (file : Bitfile). file.pages) b [])
 same_rows a b is = ap (λ (o : Option Bitfile). all_rows (option_map_or (λ (file : Bitfile). file.pages) o [])) is
+
+-- how many index pages a tag's file has
+pub same_count : (a b : Option Bitfile) → a ≡ b → option_map_or (λ (file : Bitfile). length file.index) a 0 ≡ option_map_or (λ (file : Bitfile). length file.index) b 0
+same_count a b is = ap (λ (o : Option Bitfile). option_map_or (λ (file : Bitfile). length file.index) o 0) is
+
+-- a row came to a directory whose index was as it had been
+pub row_indexes : (dir : Tag) (row : Row) (old mid new : Bitfiles) → AddsRow dir row mid new → count_index mid dir ≡ count_index old dir
+    → ((tag : Tag) → same_tag tag dir ≡ false → IsSome (new tag) → count_index new tag ≡ count_index old tag) → IndexesFollow dir old new
+row_indexes dir row old mid new adds same others = record {
+  indexed = adds.indexed;
+  kept = λ had. adds.kept (omega (arith, had, same));
+  bare = λ none outside. adds.bare (same ∙ none) outside;
+  others = others;
+}
 
 -- a directory is as it was where a file was made
 other_there : (old : Bitfiles) (dir tag : Tag) (file : Bitfile) → old tag ≡ None → IsDirectory old dir → with_file tag file old dir ≡ old dir
@@ -261,13 +276,21 @@ module _ (old new : Bitfiles) (slot : FilesetSlot) (names : Names old slot) (rol
       same_front : (front : Path) (n : Name) → front ++ n ∷ [] ≡ path → front ≡ place
       same_front front n e = sym (fore front n) ∙ ap (λ p. take (length p - 1) p) e ∙ fore place name
 
+  pub created_indexes : IndexesFollow dir old new
+  created_indexes = row_indexes dir (record { tag = tag; kind = kind; name = name }) old mid new adds
+      (same_count (mid dir) (old dir) (mid_old dir (not_fresh dir dir_file.0 dir_file.1)))
+      (λ t away there. same_count (new t) (mid t) (stay.others t away)
+      ∙ by_tag (count_index mid t ≡ count_index old t) t tag
+      (λ same. same_count (mid t) (Some (new_file kind uid gid)) (ap mid same ∙ mid_new) ∙ sym (same_count (old t) None (ap old same ∙ fresh)))
+      (λ other. same_count (mid t) (old t) (mid_old t other)))
+
   pub created_fresh : map.get slot.tree.nodes (number_of tag) ≡ None
   created_fresh = no_node
 
 -- a set with a file made and its row added has the names of the fileset with its node
 pub creates : (old new : Bitfiles) (slot : FilesetSlot) → IsOriginal old slot → (path : Path) → 1 ≤ length path → (dir : Tag) → IsWayTo old path (length path - 1) dir
     → found (last_name path) (rows_in old dir) ≡ None → first_refusal (free_checks path slot) ≡ None → (tag : Tag) (kind : Kind) (uid gid : ℕ) → tag.seq < 2 ^ 16
-    → IsMade dir (last_name path) (new_file kind uid gid) old new tag → Creates path (new_node kind uid gid) slot new tag
+    → IsMade dir (last_name path) (new_file kind uid gid) old new tag → Creates path (new_node kind uid gid) slot old new (record { tag = tag; dir = dir })
 creates old new slot original path some dir way free allowed tag kind uid gid low made =
     let place = take (length path - 1) path in
     record {
@@ -278,7 +301,8 @@ creates old new slot original path some dir way free allowed tag kind uid gid lo
         role = original.role;
         valid = created_valid old new slot original.names original.role original.valid dir place (last_name path) way.led free tag kind uid gid low made.fresh made.adds;
       });
-      indexed = record { dir = dir; into = number_at old slot original.names original.role place dir kinds.Directory way.led; indexed = made.adds.indexed };
+      into = number_at old slot original.names original.role place dir kinds.Directory way.led;
+      indexes = created_indexes old new slot original.names original.role original.valid dir place (last_name path) way.led free tag kind uid gid low made.fresh made.adds;
     }
 
 -- what a directory was before a file was made
