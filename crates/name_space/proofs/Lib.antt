@@ -22,3 +22,5 @@ pub mod LeafChecks
 pub mod RenameChecks
 pub mod RenamedNames
 pub mod LinkChecks
+pub mod Roots
+pub mod Likeness

@@ -2,3 +2,4 @@ pub mod Names
 pub mod Walks
 pub mod Lists
 pub mod Changes
+pub mod Laws

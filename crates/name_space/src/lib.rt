@@ -3,6 +3,7 @@
 
 mod create;
 mod fault;
+mod laws;
 mod link;
 mod listing;
 mod rename;
@@ -12,6 +13,7 @@ mod walking;
 
 pub use create::{Created, create_at};
 pub use fault::NameFault;
+pub use laws::{bytes_are_free, changes_are_like, clones_have_names, root_is_original};
 pub use link::link_at;
 pub use listing::{list_rows, row_count};
 pub use rename::{Renamed, rename_at};

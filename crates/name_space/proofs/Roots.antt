@@ -1,6 +1,5 @@
 -- The root directory alone has the names of an empty fileset.
-use Rattle.std.proofs.Common.{◌≡◌, ◌≢◌, ◌∙◌, ℕ, ◌+◌, ◌^◌, ◌<◌, ◌==◌, true, false, cond, [], ◌∷◌, Option, Some, None, IsSomeAnd, refl, sym, ap, subst, arith}
-use Rattle.std.proofs.lemmas.Bool.{eq-eqb}
+use Rattle.std.proofs.Common.{◌≡◌, ◌∙◌, ℕ, ◌^◌, ◌<◌, false, cond, [], ◌∷◌, Option, Some, None, IsSomeAnd, refl, sym, ap, subst, arith}
 use Rattle.std.specs.Cmp.{nat_cmp_total}
 use Rattle.std.specs.Option.{option_map}
 use Rattle.std.specs.FinMap as map
@@ -8,7 +7,6 @@ use Rattle.domain_base.specs.declared.place.Kind.{Kind}
 use Rattle.domain_base.specs.declared.place.Kind.TheVariants.{Directory}
 use Rattle.domain_base.specs.declared.place.Tag.{Tag}
 use Rattle.page_store.specs.Bitfiles.{Bitfile, Bitfiles, IsDirectory, new_file, same_tag}
-use Rattle.memory_store.specs.Tags.{root_alone}
 use Rattle.dir_rows.specs.Directory.{IsWellFormed}
 use Rattle.dir_rows.proofs.Outside.{empty_is_well_formed_lem}
 use Rattle.fileset_model.specs.Apply.{empty_fileset}
@@ -22,11 +20,15 @@ use Rattle.fileset_model.proofs.MapLemmas.{get-insert_other, get-insert_same}
 use Rattle.fileset_model.proofs.MoveLemmas.{entries-empty}
 use Rattle.fileset_laws.proofs.ValidLemmas.{some_inj, to_some_and}
 use Rattle.fileset_laws.proofs.ValidTreeLemmas.{empty_fileset-valid}
-use Rattle.name_space.specs.Changes.{HasOriginal, IsOriginal}
-use Rattle.name_space.specs.Names.{IsNodeOf, Names, led_to, number_of, root_tag}
+use Rattle.name_space.specs.Changes.{IsOriginal}
+use Rattle.name_space.specs.Laws.{RootIsOriginal}
+use Rattle.name_space.specs.Names.{IsNodeOf, led_to, number_of, root_tag}
 use Rattle.name_space.proofs.CreatedNames.{by_tag, led_as}
 use Rattle.name_space.proofs.Originals.{IsIn, original_names}
 use Rattle.name_space.proofs.PathCounts.{count-new, count_of}
+
+abbrev root_alone : Bitfiles
+root_alone tag = cond (same_tag tag root_tag) (Some (new_file Directory 0 0)) None
 
 abbrev root_number : ℕ
 root_number = number_of root_tag
@@ -84,12 +86,12 @@ seq tag file there = by_tag (tag.seq < 2 ^ 16) tag root_tag
     (λ same. subst (λ (t : Tag). t.seq < 2 ^ 16) (sym same) (omega arith))
     (λ other. absurd (none≢some (sym (at_root tag other) ∙ there)))
 
-pub root_has : HasOriginal root_alone
-root_has = (
-  slot,
-  record {
-    names = original_names root_alone slot refl paths each directories live seq;
-    role = refl;
-    valid = empty_fileset-valid root_number;
-  },
-)
+alone_original : IsOriginal root_alone slot
+alone_original = record {
+  names = original_names root_alone slot refl paths each directories live seq;
+  role = refl;
+  valid = empty_fileset-valid root_number;
+}
+
+pub root_original_lem : RootIsOriginal
+root_original_lem files alone = subst (λ (fs : Bitfiles). IsOriginal fs slot) (λ i tag. sym (alone tag) i) alone_original
