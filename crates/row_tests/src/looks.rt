@@ -44,6 +44,10 @@ impl<'a, S: BitfileSet> BitfileSet for Looks<'a, S> {
 
     ghost missed = { λ looks. S.missed looks.set.now };
 
+    ghost changes = { λ looks. S.changes looks.set.now };
+
+    ghost writes_in_place = { λ _. ⊤ };
+
     ghost leaves_rest = { λ _ _. ⊤ };
 
     ghost is_spent = { λ _ _. ⊥ };
@@ -55,6 +59,8 @@ impl<'a, S: BitfileSet> BitfileSet for Looks<'a, S> {
     ghost rest_joins = { λ _ _ _ _ _. tt };
 
     ghost rest_spends = { λ _ _ _ _. (λ none. none, λ none. none) };
+
+    ghost rest_writes = { λ _ _ _ _. tt };
 
     fn kind_of(&self, tag: Tag) -> Option<Kind> {
         self.set.kind_of(tag)
