@@ -150,10 +150,10 @@ changed_some change None some = some
 changed_some change (Some r) some = refl
 
 module _ (cell : Cell) where
-  kept_of : IfSome (option_map kept_all (record_of 1 cell.records)) (λ r. kind_of r ≡ 1)
+  pub kept_of : IfSome (option_map kept_all (record_of 1 cell.records)) (λ r. kind_of r ≡ 1)
   kept_of = changed_kind 1 kept_all kept_kind cell.records
 
-  source_of_kind : IfSome (option_map without_source (record_of 2 cell.records)) (λ r. kind_of r ≡ 2)
+  pub source_of_kind : IfSome (option_map without_source (record_of 2 cell.records)) (λ r. kind_of r ≡ 2)
   source_of_kind = changed_kind 2 without_source sourceless_kind cell.records
 
   pub trimmed_maps : (value : Record) → map_records cell.records ≡ value ∷ [] → has_rows value ≡ true → map_records (says_trimmed cell).records ≡ value ∷ []

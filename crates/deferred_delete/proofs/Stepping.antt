@@ -63,6 +63,7 @@ part_went group version list front files entry left from reader space space_now 
         releases = r;
         files = refl;
         same_list = refl;
+        allocated = allocated;
         others = others;
         elsewhere = elsewhere;
       });
@@ -73,11 +74,11 @@ part_went group version list front files entry left from reader space space_now 
     }
 
 -- the list of an entry that is its last
-listed_as : (space : Spaces) (cells : Cells) (files : Files) (list : Listing) (front : List Entry) (entry : Entry) → list.entries ≡ front ++ entry ∷ [] → IsListed space cells files list → IsListed space cells files (record { entries = front ++ entry ∷ []; tag_pages = list.tag_pages })
+pub listed_as : (space : Spaces) (cells : Cells) (files : Files) (list : Listing) (front : List Entry) (entry : Entry) → list.entries ≡ front ++ entry ∷ [] → IsListed space cells files list → IsListed space cells files (record { entries = front ++ entry ∷ []; tag_pages = list.tag_pages })
 listed_as space cells files list front entry last listed = subst (λ (es : List Entry). IsListed space cells files (record { entries = es; tag_pages = list.tag_pages })) last listed
 
 -- a first cell stands at its place
-first_stands : (pages : Pages) (at : CellAt) (first : PlacedCell) (rest : List PlacedCell) → IsFile pages at (first ∷ rest) → StandsAt pages at first.cell
+pub first_stands : (pages : Pages) (at : CellAt) (first : PlacedCell) (rest : List PlacedCell) → IsFile pages at (first ∷ rest) → StandsAt pages at first.cell
 first_stands pages at first rest is = subst (λ (a : CellAt). StandsAt pages a first.cell) is.0 is.1.links.stands
 
 -- a page on no table is none of a first cell's
@@ -108,6 +109,9 @@ trim_went group version list front files entry space cells old new ending stands
             list = refl;
             same_space = refl;
             same_cells = refl;
+            stands = stands;
+            well_formed = good;
+            headers = headers;
             others = leaves;
             elsewhere = λ h off. elsewhere h (off_first old cells entry.at (first ∷ rest) h (standing space cells old files ending.has.well.together entry.at (first ∷ rest) is) off);
           });
@@ -178,6 +182,9 @@ reading_went group version list front files entry space cells old new clone give
             list = refl;
             same_space = refl;
             same_cells = refl;
+            stands = stands;
+            well_formed = good;
+            headers = headers;
             others = leaves;
             elsewhere = λ h off. elsewhere h (off_first old cells clone (first ∷ rest) h (standing space cells old files ending.has.well.together clone (first ∷ rest) is) off);
           });
@@ -227,6 +234,7 @@ file_went group version list front files entry space cells cells_now old new alo
             list = refl;
             frees = frees;
             same_space = refl;
+            allocated = allocated;
             others = leaves;
             elsewhere = elsewhere;
           });

@@ -10,6 +10,7 @@ use Rattle.record_table.specs.declared.record.Leftover.TheVariants.{Remove, Trim
 use Rattle.record_table.specs.declared.record.Record.{Record}
 use Rattle.record_table.specs.declared.record.Record.TheVariants as written
 use Rattle.bmt_mcells.specs.Cell.{Cell, record_of}
+use Rattle.bmt_mcells.specs.CellPage.{KeepsHeaders, KeepsWellFormed}
 use Rattle.bmt_mcells.specs.Chain.{LeavesOthers, PlacedCell, StandsAt, is_at}
 use Rattle.page_store.specs.declared.fault.StoreFault.{StoreFault}
 use Rattle.page_store.specs.declared.fault.StoreFault.TheVariants.{NoPage}
@@ -17,7 +18,7 @@ use Rattle.free_cells.specs.Cells.{Cells, FreesCell}
 use Rattle.free_space.specs.declared.waiting.PageUse.TheVariants.{Metadata}
 use Rattle.free_space.specs.Spaces.{Spaces, change_volume}
 use Rattle.free_space.specs.VolumeSpace.{with_waiting}
-use Rattle.bitfile_cells.specs.Allocated.{FindsNone}
+use Rattle.bitfile_cells.specs.Allocated.{AreAllocated, FindsNone}
 use Rattle.bitfile_cells.specs.Changes.{with_record}
 use Rattle.bitfile_cells.specs.MapChanges.{LeavesOffTables}
 use Rattle.bitfile_core.specs.Changes.{with_first}
@@ -77,7 +78,7 @@ with_clone None own files = files
 with_clone (Some clone) own files = with_file clone (Some own) files
 
 -- pages of the last entry's file go that are stale, or a cell: what its clone reads of them is
--- handed to that, and all else is given back
+-- handed to that, and all else is given back; free cells, free space and pages belong together
 pub record LetsPages (group : ℕ) (version : Version) (old new : Now) : Type 0 where
   pub front : List Entry
   pub entry : Entry
@@ -93,6 +94,7 @@ pub record LetsPages (group : ℕ) (version : Version) (old new : Now) : Type 0 
   pub files : new.files ≡ with_file entry.at (Some releases.after)
       (with_clone entry.clone releases.own_now old.files)
   pub same_list : new.list ≡ old.list
+  pub allocated : AreAllocated new.space new.cells new.pages
   pub others : LeavesBoth old.cells chain own old.pages new.pages
   pub elsewhere : LeavesOffTables new.cells old.pages new.pages
 
@@ -107,7 +109,8 @@ abbrev pub says_trimmed : Cell → Cell
 says_trimmed cell =
     with_record 6 None (with_record 1 (option_map kept_all (record_of 1 cell.records)) cell)
 
--- no page of the last entry's file is stale any more: it keeps all from now on, and the entry goes
+-- no page of the last entry's file is stale any more: its first cell says so, it keeps all from
+-- now on, and the entry goes
 pub record EndsTrim (old new : Now) : Type 0 where
   pub front : List Entry
   pub entry : Entry
@@ -120,6 +123,10 @@ pub record EndsTrim (old new : Now) : Type 0 where
   pub list : new.list ≡ record { entries = front; tag_pages = old.list.tag_pages }
   pub same_space : new.space ≡ old.space
   pub same_cells : new.cells ≡ old.cells
+  pub stands : (cell : Cell) → StandsAt old.pages entry.at cell
+      → StandsAt new.pages entry.at (says_trimmed cell)
+  pub well_formed : KeepsWellFormed old.pages new.pages
+  pub headers : KeepsHeaders old.pages new.pages
   pub others : LeavesOthers (is_at entry.at) old.pages new.pages
   pub elsewhere : LeavesOffTables new.cells old.pages new.pages
 
@@ -131,7 +138,8 @@ without_source r = r
 abbrev pub says_no_source : Cell → Cell
 says_no_source cell = with_record 2 (option_map without_source (record_of 2 cell.records)) cell
 
--- the last entry's file goes and has no page left: its clone reads through it no more
+-- the last entry's file goes and has no page left: its clone reads through it no more, which the
+-- clone's first cell says
 pub record EndsReading (old new : Now) : Type 0 where
   pub front : List Entry
   pub entry : Entry
@@ -151,6 +159,10 @@ pub record EndsReading (old new : Now) : Type 0 where
   }
   pub same_space : new.space ≡ old.space
   pub same_cells : new.cells ≡ old.cells
+  pub stands : (cell : Cell) → StandsAt old.pages clone cell
+      → StandsAt new.pages clone (says_no_source cell)
+  pub well_formed : KeepsWellFormed old.pages new.pages
+  pub headers : KeepsHeaders old.pages new.pages
   pub others : LeavesOthers (is_at clone) old.pages new.pages
   pub elsewhere : LeavesOffTables new.cells old.pages new.pages
 
@@ -169,6 +181,7 @@ pub record EndsFile (old new : Now) : Type 0 where
   pub list : new.list ≡ record { entries = front; tag_pages = old.list.tag_pages }
   pub frees : FreesCell entry.at old.cells new.cells
   pub same_space : new.space ≡ old.space
+  pub allocated : AreAllocated new.space new.cells new.pages
   pub others : LeavesOthers (is_at entry.at) old.pages new.pages
   pub elsewhere : LeavesOffTables new.cells old.pages new.pages
 
