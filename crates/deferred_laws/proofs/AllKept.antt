@@ -57,14 +57,16 @@ module _ (cell : Cell) where
   keep_said None is some = absurd (true≢false (sym some))
   keep_said (Some r) is some = keeps_kept r (kind_found 1 cell.records r is)
 
-  keep_trimmed : IsSome (record_of 1 cell.records) → option_and_then keep_in (record_of 1 (says_trimmed cell).records) ≡ Some 65536
-  keep_trimmed some =
-      ap (option_and_then keep_in)
-      (find_other 6 1 None (with_kind 1 (option_map kept_all (record_of 1 cell.records)) cell.records) (λ same. omega (arith, same)) tt
-      ∙ find_put 1 (option_map kept_all (record_of 1 cell.records)) cell.records (of_kind (record_of 1 cell.records) refl))
-      ∙ keep_said (record_of 1 cell.records) refl some
+  -- the record of attributes that is said then
+  pub trimmed_first : record_of 1 (says_trimmed cell).records ≡ option_map kept_all (record_of 1 cell.records)
+  trimmed_first =
+      find_other 6 1 None (with_kind 1 (option_map kept_all (record_of 1 cell.records)) cell.records) (λ same. omega (arith, same)) tt
+      ∙ find_put 1 (option_map kept_all (record_of 1 cell.records)) cell.records (of_kind (record_of 1 cell.records) refl)
 
-  none_trimmed : record_of 6 (says_trimmed cell).records ≡ None
+  keep_trimmed : IsSome (record_of 1 cell.records) → option_and_then keep_in (record_of 1 (says_trimmed cell).records) ≡ Some 65536
+  keep_trimmed some = ap (option_and_then keep_in) trimmed_first ∙ keep_said (record_of 1 cell.records) refl some
+
+  pub none_trimmed : record_of 6 (says_trimmed cell).records ≡ None
   none_trimmed = find_put 6 None (with_kind 1 (option_map kept_all (record_of 1 cell.records)) cell.records) tt
 
 -- the file keeps all, and the list is not of it

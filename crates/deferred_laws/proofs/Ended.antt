@@ -91,7 +91,7 @@ module _ (group : ℕ) (version : Version) (old new : Now) (fits : Fits old) (s 
   reading_in : (e : Entry) → Contains new.list.entries e → IsIn s.front alone e
   reading_in e inside = is_in s.front alone e (inside_by (record { entries = s.front ++ alone ∷ []; tag_pages = old.list.tag_pages }) new.list e s.list inside)
 
-  reading_there : new.files s.clone ≡ Some (with_first says_no_source s.own)
+  pub reading_there : new.files s.clone ≡ Some (with_first says_no_source s.own)
   reading_there = first_there says_no_source sourceless_keeps old new fits s.clone s.own s.own_is s.files
 
   pub reading_other : (a : CellAt) → ¬ a ≡ s.clone → new.files a ≡ old.files a
@@ -143,7 +143,7 @@ module _ (group : ℕ) (version : Version) (old new : Now) (fits : Fits old) (s 
       let apart : ¬ a ≡ s.clone = (λ same. fits.clones s.entry n.was entry_in n.inside (s.given ∙ ap Some (sym same ∙ sym at ∙ sym n.at))) in
       stays n.was n.inside (n.at ∙ at) ds (sym (reading_other a apart) ∙ is)
 
-  reading_place : (b : CellAt) (p : ℕ) → place_in new.files b p ≡ place_in old.files b p
+  pub reading_place : (b : CellAt) (p : ℕ) → place_in new.files b p ≡ place_in old.files b p
   reading_place b p = first_place says_no_source sourceless_keeps old new fits s.clone s.own s.own_is s.files b p
 
   clone_read : (p : ℕ) (o : Option Source) → source_of s.own ≡ o → read_at new.files s.clone p ≡ read_at old.files s.clone p

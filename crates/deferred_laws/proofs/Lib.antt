@@ -10,3 +10,7 @@ pub mod Fronts
 pub mod Emptied
 pub mod AllKept
 pub mod WaitOn
+pub mod Wells
+pub mod Said
+pub mod Tags
+pub mod Gone

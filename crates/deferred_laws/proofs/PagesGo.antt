@@ -52,10 +52,10 @@ module _ (group : ℕ) (version : Version) (old new : Now) (fits : Fits old) (s 
   beside : (a : CellAt) → ¬ a ≡ s.entry.at → new.files a ≡ with_clone s.entry.clone s.releases.own_now old.files a
   beside a not_at = ap (λ (f : Files). f a) s.files ∙ file_other s.entry.at (Some s.releases.after) (with_clone s.entry.clone s.releases.own_now old.files) a not_at
 
-  clone_now : (a : CellAt) → s.entry.clone ≡ Some a → new.files a ≡ Some s.releases.own_now
+  pub clone_now : (a : CellAt) → s.entry.clone ≡ Some a → new.files a ≡ Some s.releases.own_now
   clone_now a some = beside a (λ same. not_clone (some ∙ ap Some same)) ∙ clone_there s.entry.clone s.releases.own_now old.files a some
 
-  clone_was : (a : CellAt) → s.entry.clone ≡ Some a → old.files a ≡ Some s.own
+  pub clone_was : (a : CellAt) → s.entry.clone ≡ Some a → old.files a ≡ Some s.own
   clone_was a some = let q = reads_at a some in subst (λ (b : CellAt). old.files b ≡ Some s.own) q.1 q.0.own_is
 
   pub at_other : (a : CellAt) → ¬ a ≡ s.entry.at → ¬ s.entry.clone ≡ Some a → new.files a ≡ old.files a

@@ -25,7 +25,7 @@ module _ (P : VolumeSpace → Type 0) where
   kept_by change keeps None has = has
   kept_by change keeps (Some v) has = keeps v has
 
-  changed : (change : VolumeSpace → VolumeSpace) → ((v : VolumeSpace) → P v → P (change v)) → (s : Spaces) (vol other : ℕ) → IsSomeAnd (volume_of s other) P → IsSomeAnd (volume_of (change_volume change s vol) other) P
+  pub changed : (change : VolumeSpace → VolumeSpace) → ((v : VolumeSpace) → P v → P (change v)) → (s : Spaces) (vol other : ℕ) → IsSomeAnd (volume_of s other) P → IsSomeAnd (volume_of (change_volume change s vol) other) P
   changed change keeps s vol other has = by_test (nat_eq (other - 1) (vol - 1)) refl
     where
       by_test : (b : Bool) → nat_eq (other - 1) (vol - 1) ≡ b → IsSomeAnd (volume_of (change_volume change s vol) other) P
@@ -38,11 +38,11 @@ module _ (P : VolumeSpace → Type 0) where
 
   -- pages that are used or wait from now on
   module _ (used : (p : ℕ) (v : VolumeSpace) → P v → P (with_page p v)) (waits : (w : Waiting) (v : VolumeSpace) → P v → P (with_waiting w v)) where
-    given_keeps : (kind : PageUse) (group : ℕ) (homes : List Home) (s : Spaces) (vol : ℕ) → IsSomeAnd (volume_of s vol) P → IsSomeAnd (volume_of (with_given kind group homes s) vol) P
+    pub given_keeps : (kind : PageUse) (group : ℕ) (homes : List Home) (s : Spaces) (vol : ℕ) → IsSomeAnd (volume_of s vol) P → IsSomeAnd (volume_of (with_given kind group homes s) vol) P
     given_keeps kind group [] s vol has = has
     given_keeps kind group (x ∷ xs) s vol has = changed (with_waiting (record { page = x.page; kind = kind; group = group })) (waits (record { page = x.page; kind = kind; group = group })) (with_given kind group xs s) x.vol vol (given_keeps kind group xs s vol has)
 
-    taken_keeps : (own : List PlacedCell) (own_now source : Places) (s t : Spaces) (cells cells_now : Cells) (old : Pages) → TakesForReader own own_now source s t cells cells_now old → (vol : ℕ) → IsSomeAnd (volume_of s vol) P → IsSomeAnd (volume_of t vol) P
+    pub taken_keeps : (own : List PlacedCell) (own_now source : Places) (s t : Spaces) (cells cells_now : Cells) (old : Pages) → TakesForReader own own_now source s t cells cells_now old → (vol : ℕ) → IsSomeAnd (volume_of s vol) P → IsSomeAnd (volume_of t vol) P
     taken_keeps own own_now source s t cells cells_now old taken vol has = ⊎_elim
         (λ same. subst (λ (x : Spaces). IsSomeAnd (volume_of x vol) P) (sym same.0) has)
         (λ one. ⊎_elim
@@ -54,7 +54,7 @@ module _ (P : VolumeSpace → Type 0) where
         one.taken)
         taken
 
-    step_keeps : (group : ℕ) (version : Version) (old new : Now) → Step group version old new → (vol : ℕ) → IsSomeAnd (volume_of old.space vol) P → IsSomeAnd (volume_of new.space vol) P
+    pub step_keeps : (group : ℕ) (version : Version) (old new : Now) → Step group version old new → (vol : ℕ) → IsSomeAnd (volume_of old.space vol) P → IsSomeAnd (volume_of new.space vol) P
     step_keeps group version old new (pages_go s) vol has =
         subst (λ (x : Spaces). IsSomeAnd (volume_of x vol) P) (sym s.releases.given.is)
         (given_keeps _ group s.releases.given.homes s.releases.space_between vol

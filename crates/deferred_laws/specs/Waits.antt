@@ -1,8 +1,35 @@
 -- Pages that wait.
-use Rattle.std.specs.Prelude.{ℕ, Contains, IsSomeAnd}
+use Rattle.std.specs.Prelude.{◌≡◌, ℕ, List, Contains, IsSomeAnd, Some}
+use Rattle.domain_base.specs.declared.place.CellAt.{CellAt}
+use Rattle.domain_base.specs.declared.place.Home.{Home}
+use Rattle.bmt_mcells.specs.Chain.{PlacedCell}
+use Rattle.extent_maps.specs.declared.run.PagePlace.TheVariants.{At}
+use Rattle.free_space.specs.declared.waiting.PageUse.{PageUse}
 use Rattle.free_space.specs.declared.waiting.Waiting.{Waiting}
 use Rattle.free_space.specs.Spaces.{Spaces, volume_of}
+use Rattle.bitfile_cells.specs.Files.{places_of}
+use Rattle.chain_release.specs.Releases.{use_of}
+use Rattle.deferred_delete.specs.Standing.{Files, place_in}
+use Rattle.deferred_delete.specs.Steps.{Now}
 
 -- a page of the volume waits, with that use and for that group
 abbrev pub Waits : Spaces → ℕ → Waiting → Type 0
 Waits space vol page = IsSomeAnd (volume_of space vol) (λ v. Contains v.waiting page)
+
+-- the page at a home, waiting with that use for that group
+abbrev pub waiting_at : Home → PageUse → ℕ → Waiting
+waiting_at home kind group = record { page = home.page; kind = kind; group = group }
+
+-- no file has a page at the home
+abbrev pub IsNowhere : Files → Home → Type 0
+IsNowhere files home = (at : CellAt) (page : ℕ) → ¬ place_in files at page ≡ At home
+
+-- a file had a page at the home, which was of that use, and no file has it any more
+pub record IsLetGo (first last : Now) (home : Home) (kind : PageUse) : Type 0 where
+  pub at : CellAt
+  pub page : ℕ
+  pub chain : List PlacedCell
+  pub was : first.files at ≡ Some chain
+  pub there : places_of chain page ≡ At home
+  pub of_use : use_of chain ≡ kind
+  pub nowhere : IsNowhere last.files home

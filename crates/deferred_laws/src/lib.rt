@@ -2,10 +2,12 @@
 #![tactic(auto)]
 
 mod steps;
+mod together;
 mod waiting;
 
 pub use steps::{
     others_stay, pages_are_read_as_before, removed_files_are_gone, trimmed_files_keep_all,
     trimmed_files_keep_their_front,
 };
-pub use waiting::pages_wait_on;
+pub use together::{all_stays_well, tags_stay_together};
+pub use waiting::{pages_let_go_wait, pages_wait_on};

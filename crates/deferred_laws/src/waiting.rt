@@ -1,13 +1,24 @@
-//! What of the free space steps leave as it was.
+//! What of the free space steps leave as it was, and what of it waits after them.
 ghost use Rattle.std.specs.Prelude.{ℕ};
+ghost use Rattle.domain_base.specs.declared.place.Home.{Home};
 ghost use Rattle.domain_base.specs.declared.version.Version.{Version};
+ghost use Rattle.free_space.specs.declared.waiting.PageUse.{PageUse};
 ghost use Rattle.free_space.specs.declared.waiting.Waiting.{Waiting};
-ghost use Rattle.deferred_delete.specs.Steps.{Now, Steps};
-ghost use Rattle.deferred_laws.specs.Waits.{Waits};
+ghost use Rattle.deferred_delete.specs.Steps.{IsWell, Now, Steps};
+ghost use Rattle.deferred_laws.specs.Waits.{IsLetGo, Waits, waiting_at};
 
 /// A page that waits goes on to wait, with the same use and for the same group.
 pub fn pages_wait_on()
     ensures { (group : ℕ) (version : Version) (first : Now) (count : ℕ) (last : Now)
         → Steps group version first count last → (vol : ℕ) (page : Waiting)
         → Waits first.space vol page → Waits last.space vol page }
+{}
+
+/// A page that a file had and no file has any more waits for the steps' group: as metadata where
+/// it was a directory's, or that of a file whose data is logged, and else as data.
+pub fn pages_let_go_wait()
+    ensures { (group : ℕ) (version : Version) (first : Now) (count : ℕ) (last : Now)
+        → IsWell first → Steps group version first count last → (home : Home) (kind : PageUse)
+        → IsLetGo first last home kind
+        → Waits last.space home.vol (waiting_at home kind group) }
 {}

@@ -1,0 +1,95 @@
+-- What the first cell of a chain says of its file goes on to be said where the chain is another.
+use Rattle.std.proofs.Common.{◌≡◌, ◌∙◌, ℕ, true, false, List, [], ◌∷◌, Option, Some, None, IfSome, refl, sym, ap, subst, arith}
+use Rattle.std.proofs.lemmas.Bool.{true≢false}
+use Rattle.std.specs.List.{AllByRecursion}
+use Rattle.std.specs.Option.{option_and_then, option_map, option_map_or}
+use Rattle.domain_base.specs.declared.place.Tag.{Tag}
+use Rattle.record_table.specs.declared.record.Record.{Record}
+use Rattle.record_table.specs.declared.record.Record.TheVariants as written
+use Rattle.record_table.specs.declared.record.Leftover.TheVariants.{Remove, Trim}
+use Rattle.record_table.specs.Records.{kind_of}
+use Rattle.bmt_mcells.specs.Cell.{Cell, record_of}
+use Rattle.bmt_mcells.specs.Chain.{PlacedCell}
+use Rattle.bitfile_cells.specs.Changes.{with_kind}
+use Rattle.bitfile_cells.specs.FileChanges.{SameFirst}
+use Rattle.bitfile_core.specs.Changes.{with_first}
+use Rattle.bitfile_core.specs.Files.{HasFirstKinds, IsOf, first_record, is_first_kind, is_removed, says_remove}
+use Rattle.bitfile_core.proofs.FirstRoom.{kinds_replaced}
+use Rattle.bitfile_core.proofs.OneChain.{kinds_same}
+use Rattle.deferred_delete.specs.Listed.{left_of, leftover_in}
+use Rattle.deferred_delete.specs.Steps.{kept_all, says_no_source, says_trimmed, without_source}
+use Rattle.deferred_delete.proofs.Firsts.{first_same}
+use Rattle.deferred_delete.proofs.Records.{kept_of, source_of_kind, sourceless_other}
+use Rattle.deferred_laws.specs.Tags.{start_of}
+use Rattle.deferred_laws.proofs.AllKept.{none_trimmed}
+
+-- it begins there, is of the same tag, has kinds of records that it may have, and is not to be
+-- removed, where that was so
+pub record SaysSame (cells after : List PlacedCell) : Type 0 where
+  pub start : start_of after ≡ start_of cells
+  pub is_of : (fileset : ℕ) (tag : Tag) → IsOf fileset tag cells → IsOf fileset tag after
+  pub kinds : HasFirstKinds cells → HasFirstKinds after
+  pub live : is_removed cells ≡ false → is_removed after ≡ false
+
+pub says_itself : (cells : List PlacedCell) → SaysSame cells cells
+says_itself cells = record { start = refl; is_of = λ fileset tag is. is; kinds = λ has. has; live = λ is. is }
+
+pub says_first : (cells after : List PlacedCell) → SameFirst cells after → SaysSame cells after
+says_first [] after same = absurd same
+says_first (a ∷ xs) [] same = absurd same
+says_first (a ∷ xs) (b ∷ ys) same = record {
+  start = ap Some same.0;
+  is_of = λ fileset tag is. (ap (λ h. h.slot) same.1 ∙ is.0, ap (λ h. h.seq) same.1 ∙ is.1, ap (λ h. h.fileset) same.1 ∙ is.2);
+  kinds = λ has. kinds_same (a ∷ xs) (b ∷ ys) same has;
+  live = λ is. ap (λ o. option_map_or says_remove o false) (first_same 6 refl (a ∷ xs) (b ∷ ys) same) ∙ is;
+}
+
+-- records of a kind that a first cell may have
+kinds_kept : (kind : ℕ) → is_first_kind kind ≡ true → (o : Option Record) → IfSome o (λ r. kind_of r ≡ kind) → IfSome o (λ r. is_first_kind (kind_of r) ≡ true)
+kinds_kept kind may None is = tt
+kinds_kept kind may (Some r) is = ap is_first_kind is ∙ may
+
+pub says_trim : (cells : List PlacedCell) → SaysSame cells (with_first says_trimmed cells)
+says_trim [] = says_itself []
+says_trim (first ∷ rest) = record {
+  start = refl;
+  is_of = λ fileset tag is. is;
+  kinds = λ has. kinds_replaced 6 None (with_kind 1 (option_map kept_all (record_of 1 first.cell.records)) first.cell.records)
+      (kinds_replaced 1 (option_map kept_all (record_of 1 first.cell.records)) first.cell.records has
+      (kinds_kept 1 refl (option_map kept_all (record_of 1 first.cell.records)) (kept_of first.cell)))
+      tt;
+  live = λ is. ap (λ o. option_map_or says_remove o false) (none_trimmed first.cell);
+}
+
+pub says_alone : (cells : List PlacedCell) → SaysSame cells (with_first says_no_source cells)
+says_alone [] = says_itself []
+says_alone (first ∷ rest) = record {
+  start = refl;
+  is_of = λ fileset tag is. is;
+  kinds = λ has. kinds_replaced 2 (option_map without_source (record_of 2 first.cell.records)) first.cell.records has
+      (kinds_kept 2 refl (option_map without_source (record_of 2 first.cell.records)) (source_of_kind first.cell));
+  live = λ is. ap (λ o. option_map_or says_remove o false) (sourceless_other first.cell 6 (λ e. omega (arith, e))) ∙ is;
+}
+
+-- ---- a file that is to be removed
+
+removed_by : (o : Option Record) → option_and_then leftover_in o ≡ Some Remove → option_map_or says_remove o false ≡ true
+removed_by None is = absurd (let e : None ≡ Some Remove = is in absurd (cc))
+removed_by (Some (written.Pending Remove)) is = refl
+removed_by (Some (written.Pending Trim)) is = absurd (let e : Some Trim ≡ Some Remove = is in absurd (cc))
+removed_by (Some (written.Attributes kind uid gid flags size keep links birth unsynced)) is = absurd (let e : None ≡ Some Remove = is in absurd (cc))
+removed_by (Some (written.CloneFile vol cell page frozen)) is = absurd (let e : None ≡ Some Remove = is in absurd (cc))
+removed_by (Some (written.Extents rows)) is = absurd (let e : None ≡ Some Remove = is in absurd (cc))
+removed_by (Some (written.ShortExtents rows)) is = absurd (let e : None ≡ Some Remove = is in absurd (cc))
+removed_by (Some (written.Holes rows)) is = absurd (let e : None ≡ Some Remove = is in absurd (cc))
+removed_by (Some (written.UserQuota id files blocks)) is = absurd (let e : None ≡ Some Remove = is in absurd (cc))
+removed_by (Some (written.GroupQuota id files blocks)) is = absurd (let e : None ≡ Some Remove = is in absurd (cc))
+removed_by (Some (written.DirIndex vol page entries)) is = absurd (let e : None ≡ Some Remove = is in absurd (cc))
+removed_by (Some (written.Parent slot seq)) is = absurd (let e : None ≡ Some Remove = is in absurd (cc))
+removed_by (Some (written.Stripe width mark vols)) is = absurd (let e : None ≡ Some Remove = is in absurd (cc))
+removed_by (Some (written.Volume vol pages bitmap_pages)) is = absurd (let e : None ≡ Some Remove = is in absurd (cc))
+removed_by (Some (written.DenseExtents rows)) is = absurd (let e : None ≡ Some Remove = is in absurd (cc))
+removed_by (Some (written.ShortDense rows)) is = absurd (let e : None ≡ Some Remove = is in absurd (cc))
+
+pub not_removed : (cells : List PlacedCell) → left_of cells ≡ Some Remove → is_removed cells ≡ false → ⊥
+not_removed cells left live = true≢false (sym (removed_by (first_record 6 cells) left) ∙ live)

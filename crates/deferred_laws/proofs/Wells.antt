@@ -1,0 +1,103 @@
+-- All belongs together after steps, and the list is one of the files.
+use Rattle.std.proofs.Common.{◌≡◌, ℕ, List, [], ◌∷◌, ◌++◌, None, Some, Contains, refl, sym, subst}
+use Rattle.domain_base.specs.declared.version.Version.{Version}
+use Rattle.bmt_mcells.specs.Cell.{Cell}
+use Rattle.bmt_mcells.specs.Chain.{PlacedCell}
+use Rattle.free_cells.specs.Cells.{Cells}
+use Rattle.free_space.specs.Spaces.{Spaces}
+use Rattle.bitfile_cells.specs.Allocated.{AreAllocated}
+use Rattle.bitfile_core.specs.Changes.{with_first}
+use Rattle.deferred_delete.specs.declared.list.Entry.{Entry}
+use Rattle.deferred_delete.specs.Listing.{Listing}
+use Rattle.deferred_delete.specs.Standing.{Files, with_file}
+use Rattle.deferred_delete.specs.Steps.{EndsFile, EndsReading, EndsTrim, GivesTagPage, IsWell, LetsPages, Now, Step, Steps, file_ends, more, none, now_of, pages_go, reading_ends, says_no_source, says_trimmed, tag_page_goes, trim_ends}
+use Rattle.deferred_delete.proofs.Ends.{alone_listed, alone_together, gone_listed, gone_together, trim_listed, trim_together}
+use Rattle.deferred_delete.proofs.Spread.{now, spread_listed, spread_together}
+use Rattle.deferred_delete.proofs.Standings.{standing}
+use Rattle.deferred_delete.proofs.Stepping.{first_stands, listed_as}
+use Rattle.deferred_delete.proofs.Well.{tag_page_well}
+use Rattle.deferred_laws.proofs.Narrower.{in_last}
+
+-- all is well by its parts
+well_by : (now : Now) (list : Listing) (files : Files) (space : Spaces) (cells : Cells) → now.list ≡ list → now.files ≡ files → now.space ≡ space → now.cells ≡ cells → IsWell (now_of list files space cells now.pages) → IsWell now
+well_by now list files space cells same_list same_files same_space same_cells well =
+    let l = subst (λ (l : Listing). IsWell (now_of l files space cells now.pages)) (sym same_list) well in
+    let f = subst (λ (f : Files). IsWell (now_of now.list f space cells now.pages)) (sym same_files) l in
+    let s = subst (λ (s : Spaces). IsWell (now_of now.list now.files s cells now.pages)) (sym same_space) f in
+    let c = subst (λ (c : Cells). IsWell (now_of now.list now.files now.space c now.pages)) (sym same_cells) s in
+    record { together = c.together; listed = c.listed }
+
+module _ (group : ℕ) (version : Version) (old new : Now) (well : IsWell old) where
+  lets_well : LetsPages group version old new → IsWell new
+  lets_well s =
+      let is_entry = well.listed.each s.entry (in_last old.list s.front s.entry s.last) in
+      well_by new old.list
+      (now old.space old.cells old.pages old.files well.together s.entry is_entry s.chain s.is s.reader s.own s.given group version new.space new.cells new.pages s.what s.releases s.others s.allocated)
+      new.space new.cells s.same_list s.files refl refl
+      (record {
+        together = spread_together old.space old.cells old.pages old.files well.together s.entry is_entry s.chain s.is s.reader s.own s.given group version new.space new.cells new.pages s.what s.releases s.others s.allocated;
+        listed = spread_listed old.space old.cells old.pages old.files well.together s.entry is_entry s.chain s.is s.reader s.own s.given group version new.space new.cells new.pages s.what s.releases s.others s.allocated old.list well.listed;
+      })
+
+  trim_well : EndsTrim old new → IsWell new
+  trim_well s = by_chain s.chain s.is s.files
+    where
+      by_chain : (chain : List PlacedCell) → old.files s.entry.at ≡ Some chain → new.files ≡ with_file s.entry.at (Some (with_first says_trimmed chain)) old.files → IsWell new
+      by_chain [] is files = absurd (standing old.space old.cells old.pages old.files well.together s.entry.at [] is).file
+      by_chain (first ∷ rest) is files =
+          let here = s.stands first.cell (first_stands old.pages s.entry.at first rest (standing old.space old.cells old.pages old.files well.together s.entry.at (first ∷ rest) is).file) in
+          well_by new (record { entries = s.front; tag_pages = old.list.tag_pages }) (with_file s.entry.at (Some (with_first says_trimmed (first ∷ rest))) old.files) old.space old.cells s.list files s.same_space s.same_cells
+          (record {
+            together = trim_together old.space old.cells old.pages new.pages old.files well.together s.front s.entry old.list.tag_pages first rest is s.others here s.well_formed s.headers;
+            listed = trim_listed old.space old.cells old.pages new.pages old.files well.together s.front s.entry old.list.tag_pages first rest is s.others here s.well_formed s.headers
+                (listed_as old.space old.cells old.files old.list s.front s.entry s.last well.listed);
+          })
+
+  reading_well : EndsReading old new → IsWell new
+  reading_well s = by_own s.own s.own_is s.files
+    where
+      by_own : (own : List PlacedCell) → old.files s.clone ≡ Some own → new.files ≡ with_file s.clone (Some (with_first says_no_source own)) old.files → IsWell new
+      by_own [] is files = absurd (standing old.space old.cells old.pages old.files well.together s.clone [] is).file
+      by_own (first ∷ rest) is files =
+          let here = s.stands first.cell (first_stands old.pages s.clone first rest (standing old.space old.cells old.pages old.files well.together s.clone (first ∷ rest) is).file) in
+          let listed = listed_as old.space old.cells old.files old.list s.front s.entry s.last well.listed in
+          well_by new (record { entries = s.front ++ record { at = s.entry.at; clone = None } ∷ []; tag_pages = old.list.tag_pages }) (with_file s.clone (Some (with_first says_no_source (first ∷ rest))) old.files) old.space old.cells s.list files s.same_space s.same_cells
+          (record {
+            together = alone_together old.space old.cells old.pages new.pages old.files well.together s.front s.entry old.list.tag_pages listed s.clone s.given first rest is s.others here s.well_formed s.headers;
+            listed = alone_listed old.space old.cells old.pages new.pages old.files well.together s.front s.entry old.list.tag_pages listed s.clone s.given first rest is s.others here s.well_formed s.headers;
+          })
+
+  file_well : EndsFile old new → IsWell new
+  file_well s = by_chain s.chain s.is
+    where
+      by_chain : (chain : List PlacedCell) → old.files s.entry.at ≡ Some chain → IsWell new
+      by_chain [] is = absurd (standing old.space old.cells old.pages old.files well.together s.entry.at [] is).file
+      by_chain (first ∷ rest) is =
+          let listed = listed_as old.space old.cells old.files old.list s.front s.entry s.last well.listed in
+          let allocated = subst (λ (space : Spaces). AreAllocated space new.cells new.pages) s.same_space s.allocated in
+          well_by new (record { entries = s.front; tag_pages = old.list.tag_pages }) (with_file s.entry.at None old.files) old.space new.cells s.list s.files s.same_space refl
+          (record {
+            together = gone_together old.space old.cells new.cells old.pages new.pages old.files well.together s.front s.entry old.list.tag_pages listed first rest is s.others s.frees allocated;
+            listed = gone_listed old.space old.cells new.cells old.pages new.pages old.files well.together s.front s.entry old.list.tag_pages listed first rest is s.others s.frees allocated;
+          })
+
+  tag_well : GivesTagPage group old new → IsWell new
+  tag_well s =
+      let was : IsWell (now_of old.list old.files old.space old.cells old.pages) = record { together = well.together; listed = well.listed } in
+      let is = tag_page_well group old.list new.list old.files old.space new.space old.cells old.pages was s.takes in
+      well_by new new.list old.files new.space old.cells refl s.same_files refl s.same_cells
+      (subst (λ pages. IsWell (now_of new.list old.files new.space old.cells pages)) (sym s.same_pages) is)
+
+  pub well_step : Step group version old new → IsWell new
+  well_step (pages_go s) = lets_well s
+  well_step (trim_ends s) = trim_well s
+  well_step (reading_ends s) = reading_well s
+  well_step (file_ends s) = file_well s
+  well_step (tag_page_goes s) = tag_well s
+
+pub wells_stay : (group : ℕ) (version : Version) (first : Now) (count : ℕ) (last : Now) → IsWell first → Steps group version first count last → IsWell last
+wells_stay group version first count last well steps =
+    elim steps as (λ count last steps. IsWell last) [
+      | none ↦ well
+      | more n between last (steps → was) step ↦ well_step group version between last was step
+    ]
