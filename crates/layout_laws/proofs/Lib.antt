@@ -10,3 +10,6 @@ pub mod OwnedOnce
 pub mod CellsAlike
 pub mod TagsAlike
 pub mod OneMeaning
+pub mod Named
+pub mod ChainsAlike
+pub mod ShapesAlike

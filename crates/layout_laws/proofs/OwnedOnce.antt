@@ -54,7 +54,7 @@ before_in (q ∷ ps) (suc k) p is = before_in ps k p is
 
 -- ---- owners that are the same or not
 
-same_number : (m n : ℕ) → (m ≡ n) ⊎ ¬ m ≡ n
+pub same_number : (m n : ℕ) → (m ≡ n) ⊎ ¬ m ≡ n
 same_number m n = ⊎_elim (λ same. inl same) (λ apart. inr (λ same. ⊎_elim (λ less. omega (arith, less, same)) (λ more. omega (arith, more, same)) apart)) (cases_order m n)
 
 same_cell : (a b : CellAt) → (a ≡ b) ⊎ ¬ a ≡ b
@@ -74,6 +74,19 @@ record Stands (pages : Pages) (layout : Layout) (magic : ℕ) (home : Home) : Ty
 one_magic : (pages : Pages) (layout : Layout) (m n : ℕ) (home : Home) → Stands pages layout m home → Stands pages layout n home → m ≡ n
 one_magic pages layout m n home a b = sym a.so ∙ ap (number_at 4 0) (some_same a.page b.page (sym a.there ∙ b.there)) ∙ b.so
 
+-- ---- the next page of tags or of an index
+
+pub on_a_volume : (page : List ℕ) (home : Home) → next_home page ≡ Some home → number_at 4 8 page ≤ 8 → on_volume (next_home page) ≡ Some home
+on_a_volume page home next small =
+    ap on_volume next ∙ ap (λ b. cond b (Some home) None) (le-leb home.vol 8 (by_test (nat_eq (number_at 4 8 page) 0) refl))
+  where
+    by_test : (b : Bool) → nat_eq (number_at 4 8 page) 0 ≡ b → home.vol ≤ 8
+    by_test true zero_there = absurd (let e : None ≡ Some home = sym (ap (λ b. cond b None (Some (record { vol = number_at 4 8 page; page = number_at 4 12 page }))) zero_there) ∙ next in absurd (cc))
+    by_test false some =
+        let same = some_same (record { vol = number_at 4 8 page; page = number_at 4 12 page }) home (sym (ap (λ b. cond b None (Some (record { vol = number_at 4 8 page; page = number_at 4 12 page }))) some) ∙ next) in
+        let vol : number_at 4 8 page ≡ home.vol = ap (λ (h : Home). h.vol) same in
+        omega (arith, vol, small)
+
 module _ (pages : Pages) (layout : Layout) (laid : IsLayout pages layout) (none : HasNoFault pages (frame_of layout)) where
   no_table : (home : Home) → ¬ IsTableFault pages (frame_of layout) home
   no_table home fault = none (record { code = 4; home = home }) (inl (refl, fault))
@@ -81,30 +94,33 @@ module _ (pages : Pages) (layout : Layout) (laid : IsLayout pages layout) (none 
   no_tables : (row : FaultRow) → ¬ IsTablesFault pages (frame_of layout) row
   no_tables row fault = none row (inr (inl (no_table, fault)))
 
-  no_files : (row : FaultRow) → ¬ IsFilesFault pages (frame_of layout) row
+  pub no_files : (row : FaultRow) → ¬ IsFilesFault pages (frame_of layout) row
   no_files row fault = none row (inr (inr (no_table, no_tables, fault)))
 
   table_one : HasOne layout.anchor.table (λ home. IsSomeAnd (pages home) (λ page. IsTablePage page layout.table))
   table_one = one_of layout.anchor.table (λ home. IsSomeAnd (pages home) (λ page. IsTablePage page layout.table)) laid.table
 
+  pub table_at : (home : Home) × (layout.anchor.table ≡ Some home)
+  table_at = (table_one.value, table_one.there)
+
   says : SaysTable pages (frame_of layout) layout.table
   says = record { home = table_one.value; at = table_one.there; there = table_one.is }
 
-  no_cells : (home : Home) → ¬ IsCellsFault pages (frame_of layout) layout.table home
+  pub no_cells : (home : Home) → ¬ IsCellsFault pages (frame_of layout) layout.table home
   no_cells home fault = no_tables (record { code = 5; home = home }) (layout.table, says, inl (refl, fault))
 
-  no_tags : (home : Home) → ¬ IsTagsFault pages (frame_of layout) layout.table home
+  pub no_tags : (home : Home) → ¬ IsTagsFault pages (frame_of layout) layout.table home
   no_tags home fault = no_tables (record { code = 6; home = home }) (layout.table, says, inr (refl, fault))
 
   no_extent : (home : Home) → ¬ IsExtentFault pages layout home
   no_extent home fault = no_files (record { code = 7; home = home }) (layout, refl, laid, inl (refl, fault))
 
-  no_index : (home : Home) → ¬ IsIndexFault pages (frame_of layout) layout.table home
+  pub no_index : (home : Home) → ¬ IsIndexFault pages (frame_of layout) layout.table home
   no_index home fault = no_files (record { code = 10; home = home }) (layout, refl, laid, inr (inr (inr (refl, fault))))
 
   -- ---- pages of cells
 
-  cells_read : (vol : ℕ) → IsMember layout.anchor vol → (home : Home) → ¬ IsUnread pages (frame_of layout) (cells_way (frame_of layout) vol) home
+  pub cells_read : (vol : ℕ) → IsMember layout.anchor vol → (home : Home) → ¬ IsUnread pages (frame_of layout) (cells_way (frame_of layout) vol) home
   cells_read vol member home unread = no_cells home (inl (record { vol = vol; member = member; unread = unread }))
 
   cell_home : ℕ → ℕ → Home
@@ -165,30 +181,19 @@ module _ (pages : Pages) (layout : Layout) (laid : IsLayout pages layout) (none 
 
   -- ---- pages of tags
 
-  tags_read : (number : ℕ) (first : Home) → HasTags layout.table number first → (home : Home) → ¬ IsUnread pages (frame_of layout) (tags_way first) home
+  pub tags_read : (number : ℕ) (first : Home) → HasTags layout.table number first → (home : Home) → ¬ IsUnread pages (frame_of layout) (tags_way first) home
   tags_read number first has home unread = no_tags home (inl (record { number = number; first = first; has = has; unread = unread }))
 
   module _ (number : ℕ) (first : Home) (has : HasTags layout.table number first) (places : List TagPlace) (stands : IsDirectoryAt pages first places) where
     begins_at : (p : TagPlace) → slice_get places 0 ≡ Some p → p.home ≡ first
     begins_at p is = subst (λ o. IsSomeAnd o (λ (place : TagPlace). place.home ≡ first)) is stands.begins
 
-    on_a_volume : (page : List ℕ) (home : Home) → next_home page ≡ Some home → number_at 4 8 page ≤ 8 → on_volume (next_home page) ≡ Some home
-    on_a_volume page home next small =
-        ap on_volume next ∙ ap (λ b. cond b (Some home) None) (le-leb home.vol 8 (by_test (nat_eq (number_at 4 8 page) 0) refl))
-      where
-        by_test : (b : Bool) → nat_eq (number_at 4 8 page) 0 ≡ b → home.vol ≤ 8
-        by_test true zero_there = absurd (let e : None ≡ Some home = sym (ap (λ b. cond b None (Some (record { vol = number_at 4 8 page; page = number_at 4 12 page }))) zero_there) ∙ next in absurd (cc))
-        by_test false some =
-            let same = some_same (record { vol = number_at 4 8 page; page = number_at 4 12 page }) home (sym (ap (λ b. cond b None (Some (record { vol = number_at 4 8 page; page = number_at 4 12 page }))) some) ∙ next) in
-            let vol : number_at 4 8 page ≡ home.vol = ap (λ (h : Home). h.vol) same in
-            omega (arith, vol, small)
+    pub record ComesToTags (k : ℕ) (home : Home) : Type 0 where
+      pub passed : List Home
+      pub reached : Reaches pages (frame_of layout) (tags_way first) passed home
+      pub behind : length passed ≡ k
 
-    record ComesToTags (k : ℕ) (home : Home) : Type 0 where
-      passed : List Home
-      reached : Reaches pages (frame_of layout) (tags_way first) passed home
-      behind : length passed ≡ k
-
-    tags_come : (k : ℕ) (p : TagPlace) → slice_get places k ≡ Some p → ComesToTags k p.home
+    pub tags_come : (k : ℕ) (p : TagPlace) → slice_get places k ≡ Some p → ComesToTags k p.home
     tags_come zero p is = record { passed = []; reached = subst (Reaches pages (frame_of layout) (tags_way first) []) (sym (begins_at p is)) begins; behind = refl }
     tags_come (suc k) p is =
         let before = before_in places k p is in
@@ -228,7 +233,7 @@ module _ (pages : Pages) (layout : Layout) (laid : IsLayout pages layout) (none 
   index_at : (at : CellAt) (number : ℕ) (home : Home) (has : HasIndexPage pages layout at number home) → HasIndexAt pages (frame_of layout) at has.first
   index_at at number home has = record { cell = has.cell; is = used_on at has.cell has.on; value = has.value; there = has.there; begins = has.begins }
 
-  index_read : (at : CellAt) (first : Home) → HasIndexAt pages (frame_of layout) at first → (home : Home) → ¬ IsUnread pages (frame_of layout) (index_way first) home
+  pub index_read : (at : CellAt) (first : Home) → HasIndexAt pages (frame_of layout) at first → (home : Home) → ¬ IsUnread pages (frame_of layout) (index_way first) home
   index_read at first has home unread = no_index home (inl (record { at = at; first = first; has = has; wrong = inl unread }))
 
   index_page : (at : CellAt) (number : ℕ) (home : Home) (has : HasIndexPage pages layout at number home) → (page : List ℕ) × IsRead pages (frame_of layout) (index_way has.first) (length has.passed) home page

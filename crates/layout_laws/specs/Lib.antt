@@ -1,3 +1,4 @@
 pub mod NewDomain
 pub mod Agreeing
 pub mod Alike
+pub mod Metadata
