@@ -1,0 +1,72 @@
+//! The anchor that counts, and which pages may be what.
+ghost use Rattle.std.specs.Prelude.{◌≡◌, ◌↔◌, ◌≤◌, IsTrue};
+ghost use Rattle.domain_layout.specs.Layout.{IsMember};
+ghost use Rattle.domain_layout.specs.Reached.{IsReserved, IsWithin, MayBe, first_cells};
+ghost use Rattle.log_ring.specs.Homes.{IsLogPage, member_of};
+ghost use Rattle.page_ways.specs.Frame.{frame_in};
+
+use disk_label::{Anchor, FirstPages, Member};
+use domain_base::limits::{LOG_PAGES, MAX_VOLUMES};
+use domain_base::{Home, Version, VolIx};
+
+/// The anchor that counts, and the version that it says.
+#[derive(Clone, Copy, Debug, PartialEq, Eq)]
+pub struct DomainFrame {
+    pub anchor: Anchor,
+    pub version: Version,
+}
+
+impl DomainFrame {
+    /// A volume as the anchor has it.
+    pub fn member(&self, vol: VolIx) -> Member
+        ensures { result ≡ member_of self.now.anchor vol }
+    {
+        self.anchor.members[vol.index()]
+    }
+
+    /// Whether a volume is a member, open or closed.
+    pub fn is_member(&self, vol: VolIx) -> bool
+        ensures { IsTrue result ↔ IsMember self.now.anchor vol }
+    {
+        let member = self.member(vol);
+        prove!(1 <= vol.number() && vol.number() <= MAX_VOLUMES);
+        1 <= member.state && member.state <= 2
+    }
+
+    /// The first page of cells of a volume: in front of it stand label, anchors and bitmap.
+    pub fn first_cells(&self, vol: VolIx) -> u32
+        ensures { result ≡ first_cells (frame_in self.now) vol }
+    {
+        FirstPages::of(self.version, self.member(vol).pages).cells
+    }
+
+    /// Whether a page is one of the log.
+    pub fn is_log_page(&self, home: &Home) -> bool
+        ensures { IsTrue result ↔ IsLogPage self.now.anchor home.now }
+    {
+        home.vol.number() == self.anchor.log_vol
+            && self.anchor.log_page <= home.page
+            && home.page - self.anchor.log_page < LOG_PAGES
+    }
+
+    /// Whether a page is one of a member's.
+    pub fn is_within(&self, home: &Home) -> bool
+        ensures { IsTrue result ↔ IsWithin (frame_in self.now) home.now }
+    {
+        self.is_member(home.vol) && home.page < self.member(home.vol).pages
+    }
+
+    /// Whether a page is one of label, anchors, bitmap or log.
+    pub fn is_reserved(&self, home: &Home) -> bool
+        ensures { IsTrue result ↔ IsReserved (frame_in self.now) home.now }
+    {
+        home.page < self.first_cells(home.vol) || self.is_log_page(home)
+    }
+
+    /// Whether a page may be one of a table, a directory, an index or a file.
+    pub fn may_be(&self, home: &Home) -> bool
+        ensures { IsTrue result ↔ MayBe (frame_in self.now) home.now }
+    {
+        self.is_within(home) && !self.is_reserved(home)
+    }
+}
