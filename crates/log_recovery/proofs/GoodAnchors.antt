@@ -1,5 +1,5 @@
 -- A good anchor stays good while the labels stay, and recovery takes the images left meanwhile.
-use Rattle.std.proofs.Common.{◌≡◌, ◌⊎◌, ◌==◌, ℕ, ◌+◌, ◌*◌, ◌-◌, ◌^◌, ◌<◌, ◌≤◌, List, [], Option, Some, None, IsSomeAnd, if◌then◌else◌, sym, ◌∙◌, ap, subst, inl, inr, arith}
+use Rattle.std.proofs.Common.{◌≡◌, ◌⊎◌, ◌==◌, ℕ, ◌+◌, ◌-◌, ◌^◌, ◌<◌, ◌≤◌, List, [], Option, Some, None, IsSomeAnd, if◌then◌else◌, sym, ◌∙◌, ap, subst, inl, inr, arith}
 use Rattle.std.proofs.lemmas.List.Elements.{All-weaker}
 use Rattle.domain_base.specs.declared.place.Home.{Home}
 use Rattle.domain_base.specs.declared.version.Version.TheVariants.{Three, Four}

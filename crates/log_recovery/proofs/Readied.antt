@@ -1,6 +1,6 @@
 -- A log that was recovered may be settled once the slot of its next anchor was made ready, and until
 -- then each image is recovered in the same way.
-use Rattle.std.proofs.Common.{◌≡◌, ◌+◌, ◌-◌, ◌*◌, ◌≤◌, ℕ, List, Some, inr, sym, ◌∙◌, ap, subst, arith}
+use Rattle.std.proofs.Common.{◌≡◌, ◌+◌, ◌-◌, ◌*◌, ℕ, List, Some, inr, sym, ◌∙◌, ap, subst, arith}
 use Rattle.volume_disk.specs.Disk.{Disk, IsSettled, MayLeave, Moment, Tells}
 use Rattle.volume_disk.specs.Image.{Image, SameOutside}
 use Rattle.volume_disk.specs.Run.{LeavesOnly, MayLeaveTorn, OnlyReads}
@@ -10,7 +10,7 @@ use Rattle.disk_label.specs.Slot.{HasAnchor, HasReadied, IsBody, IsGate, IsReady
 use Rattle.disk_label.proofs.Elsewhere.{shows_anchor}
 use Rattle.log_ring.specs.Groups.{Group, HasLog}
 use Rattle.log_ring.specs.Ring.{IsOnLog}
-use Rattle.log_ring.specs.Settling.{IsOnPage, IsRedoneAs}
+use Rattle.log_ring.specs.Settling.{IsRedoneAs}
 use Rattle.log_ring.proofs.HomePages.{page-same}
 use Rattle.log_ring.proofs.OnImages.{groups-same, read_on_log}
 use Rattle.log_ring.proofs.Redoing.{redoes_alike}

@@ -1,5 +1,5 @@
 -- What runs of reads leave as it was.
-use Rattle.std.proofs.Common.{◌≡◌, ℕ, ◌+◌, ◌*◌, ◌%◌, ◌++◌, List, length, take, drop, sym, ap, ◌∙◌, subst, arith}
+use Rattle.std.proofs.Common.{◌≡◌, ℕ, ◌*◌, ◌++◌, List, length, take, drop, sym, ap, ◌∙◌, subst, arith}
 use Rattle.std.proofs.lemmas.List.{take_at}
 use Rattle.volume_disk.specs.Disk.{Disk, Moment, Tells}
 use Rattle.volume_disk.specs.Image.{Image, bytes_at, bytes_from}

@@ -1,6 +1,5 @@
 -- The labels of the members of an anchor.
 use Rattle.std.specs.Prelude.{◌≡◌, ◌==◌, ◌-◌, ◌<◌, ◌≤◌, ℕ, List, Option, Some, None, if◌then◌else◌, length, slice_index_or}
-use Rattle.domain_base.specs.Limits.{max_volumes}
 use Rattle.domain_base.specs.declared.version.Version.{Version}
 use Rattle.domain_base.specs.declared.version.Version.TheVariants.{Three, Four}
 use Rattle.volume_disk.specs.Disk.{volume_pages}

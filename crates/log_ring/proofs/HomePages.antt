@@ -1,20 +1,20 @@
 -- Pages at homes, and what writing the last image of each leaves.
-use Rattle.std.proofs.Common.{◌≡◌, ◌⊎◌, ◌||◌, ℕ, zero, suc, ◌+◌, ◌-◌, ◌*◌, ◌<◌, ◌≤◌, Bool, true, false, cond, List, [], ◌∷◌, length, get_or, drop, Option, Some, None, is_some, IfSome, IsSome, refl, sym, ◌∙◌, ap, subst, inl, inr, add-one, arith}
+use Rattle.std.proofs.Common.{◌≡◌, ◌⊎◌, ℕ, zero, suc, ◌+◌, ◌*◌, ◌<◌, Bool, true, false, cond, List, [], ◌∷◌, length, get_or, drop, Option, Some, None, is_some, IfSome, IsSome, refl, sym, ◌∙◌, ap, subst, inl, inr, add-one, arith}
 use Rattle.std.proofs.Math.Seq.{drop-cons}
-use Rattle.std.proofs.lemmas.Bool.{and_from, both_ways, cases_Bool, cases_eq, eq-eqb}
+use Rattle.std.proofs.lemmas.Bool.{both_ways, cases_Bool}
 use Rattle.std.proofs.lemmas.List.Elements.{All-head, All-tail}
 use Rattle.std.proofs.lemmas.Grind.{same_number_lists}
-use Rattle.std.specs.List.{All, list_any}
+use Rattle.std.specs.List.{All}
 use Rattle.std.specs.Option.{option_or}
 use Rattle.domain_base.specs.declared.place.Home.{Home}
 use Rattle.page_store.specs.Pages.{same_home}
-use Rattle.volume_disk.specs.Image.{HasBytes, Image, IsIn, SameIn, SameOutside, bytes_at, page_at}
+use Rattle.volume_disk.specs.Image.{HasBytes, Image, SameIn, SameOutside, bytes_at, page_at}
 use Rattle.volume_disk.proofs.Bytes.{bytes_from-same, get_or-bytes_from, length-bytes_from}
 use Rattle.page_change.specs.Images.{image_at}
 use Rattle.page_change.specs.declared.image.PageImage.{PageImage}
 use Rattle.page_change.proofs.SameHomes.{homes_same, same_itself}
 use Rattle.log_ring.specs.Laws.{AreHome}
-use Rattle.log_ring.specs.Settling.{HasHome, IsAtHomes, IsOnPage}
+use Rattle.log_ring.specs.Settling.{HasHome, IsOnPage}
 
 -- pages that have a byte in common are one
 pub one_page : (a b : Home) (v k : ℕ) → IsOnPage a v k → IsOnPage b v k → a ≡ b

@@ -1,24 +1,22 @@
 -- The images of a log brought home: what each image of a stop has meanwhile.
-use Rattle.std.proofs.Common.{◌≡◌, ◌≢◌, ◌⊎◌, ℕ, ◌+◌, ◌-◌, ◌*◌, ◌%◌, ◌<◌, ◌≤◌, Bool, true, false, List, [], ◌∷◌, ◌++◌, length, Option, Some, None, is_some, IfSome, refl, sym, ◌∙◌, ap, subst, inl, inr, arith}
+use Rattle.std.proofs.Common.{◌≡◌, ◌≢◌, ◌⊎◌, ℕ, ◌+◌, ◌<◌, ◌≤◌, true, false, List, [], ◌∷◌, length, Option, Some, None, is_some, IfSome, refl, sym, ◌∙◌, ap, subst, inl, inr, arith}
 use Rattle.std.proofs.lemmas.Bool.{both_ways, cases_Bool}
 use Rattle.std.proofs.lemmas.List.Elements.{All-append, All-nil, All-weaker}
-use Rattle.std.specs.List.{All}
-use Rattle.std.specs.Option.{option_or}
 use Rattle.domain_base.specs.declared.place.Home.{Home}
 use Rattle.volume_disk.specs.Disk.{Disk, Moment, MayLeave, Tells}
 use Rattle.volume_disk.specs.Image.{Image, NoPlace, SameIn, SameOutside, page_at}
-use Rattle.volume_disk.specs.Run.{LeavesOnly, MayLeaveTorn, OnlyWrites, Touches}
+use Rattle.volume_disk.specs.Run.{MayLeaveTorn, OnlyWrites}
 use Rattle.volume_disk.proofs.Laws.{both, leaves-now, only_writes-then, only_writes-wider, then_on, touches-leaves, weaker}
-use Rattle.disk_label.specs.Anchor.{IsAnchor, IsNext}
-use Rattle.disk_label.specs.Slot.{HasWritten, IsOldOrNew, IsOnAnchors, IsReadyFor, IsReady, IsSlot, WritesAnchor}
+use Rattle.disk_label.specs.Anchor.{IsAnchor}
+use Rattle.disk_label.specs.Slot.{HasWritten, IsOldOrNew, IsOnAnchors, IsReady, IsSlot, WritesAnchor}
 use Rattle.disk_label.specs.declared.anchor.Anchor.{Anchor}
 use Rattle.disk_label.proofs.Elsewhere.{IsAnchor-elsewhere, ready_still}
 use Rattle.page_change.specs.Images.{image_at}
 use Rattle.page_change.specs.declared.image.PageImage.{PageImage}
-use Rattle.log_ring.specs.Groups.{AreGroups, Group, HasLog, LogStands, images_of, pages_in, redone}
+use Rattle.log_ring.specs.Groups.{AreGroups, Group, HasLog, images_of, pages_in, redone}
 use Rattle.log_ring.specs.Homes.{AreLoggable, AreOutside, HaveHomes, IsHomeOf, IsLogPage, IsLoggable}
 use Rattle.log_ring.specs.Laws.{AreHome, IsLogged}
-use Rattle.log_ring.specs.Ring.{IsGateOpen, IsOnLog, IsRing, ring_byte}
+use Rattle.log_ring.specs.Ring.{IsGateOpen, IsOnLog, ring_byte}
 use Rattle.log_ring.specs.Settling.{AreSyncedBelow, BringsHome, HasBroughtHome, HasHome, IsAtHomes, IsAtHomesOrSlot, IsOnPage, IsRedoneAs, MayMove, MeansTheSame}
 use Rattle.log_ring.proofs.HomePages.{each_home, one_page, page-same}
 use Rattle.log_ring.proofs.OnImages.{groups-same, read_on_log}

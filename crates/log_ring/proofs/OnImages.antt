@@ -1,7 +1,6 @@
 -- Groups on images: what they depend on, and that there is one list of them.
-use Rattle.std.proofs.Common.{◌≡◌, ℕ, ◌+◌, ◌*◌, ◌%◌, ◌<◌, ◌≤◌, List, [], ◌∷◌, ◌++◌, length, map, refl, sym, ◌∙◌, ap, subst, inl, inr, arith}
+use Rattle.std.proofs.Common.{◌≡◌, ℕ, ◌+◌, ◌<◌, ◌≤◌, List, [], ◌∷◌, ◌++◌, length, refl, sym, ◌∙◌, subst, inl, inr, arith}
 use Rattle.std.proofs.lemmas.List.{append-nil}
-use Rattle.domain_base.specs.declared.place.Home.{Home}
 use Rattle.volume_disk.specs.Image.{Image, SameIn}
 use Rattle.disk_label.specs.declared.anchor.Anchor.{Anchor}
 use Rattle.page_change.specs.Header.{IsHeader}
@@ -9,9 +8,9 @@ use Rattle.page_change.specs.Images.{homes_of}
 use Rattle.page_change.specs.Laws.{HasOneHeader}
 use Rattle.page_change.specs.declared.header.Header.{Header}
 use Rattle.page_change.specs.declared.image.PageImage.{PageImage}
-use Rattle.log_ring.specs.Groups.{AreGroups, AreImagesAt, Group, HasGroup, IsBehindGate, header_of, span}
-use Rattle.log_ring.specs.Laws.{HaveOneWay, IsRead, IsReadOnLog, DependsOnRead}
-use Rattle.log_ring.specs.Ring.{IsGateOpen, IsOnLog, IsOnPlaces, place_at, ring_byte, ring_page}
+use Rattle.log_ring.specs.Groups.{AreGroups, AreImagesAt, Group, HasGroup, header_of, span}
+use Rattle.log_ring.specs.Laws.{HaveOneWay, IsReadOnLog, DependsOnRead}
+use Rattle.log_ring.specs.Ring.{IsGateOpen, IsOnPlaces, place_at, ring_byte}
 use Rattle.log_ring.proofs.RingPlaces.{fewer_places, first_place, further_on, on_log, one_place, place-same}
 
 module _ (anchor : Anchor) (old new : Image) where

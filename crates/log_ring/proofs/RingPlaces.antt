@@ -1,10 +1,10 @@
 -- Places of a ring: where they stand, and that those of one turn are apart.
-use Rattle.std.proofs.Common.{◌≡◌, ℕ, ◌+◌, ◌-◌, ◌*◌, ◌/◌, ◌%◌, ◌<◌, ◌≤◌, refl, sym, ◌∙◌, ap, subst, arith}
-use Rattle.volume_disk.specs.Image.{Image, IsIn, SameIn, page_at}
+use Rattle.std.proofs.Common.{◌≡◌, ℕ, ◌+◌, ◌%◌, ◌<◌, ◌≤◌, refl, subst, arith}
+use Rattle.volume_disk.specs.Image.{Image, IsIn, SameIn}
 use Rattle.volume_disk.proofs.Bytes.{bytes_from-same}
 use Rattle.disk_label.specs.Slot.{IsOnAnchors}
 use Rattle.disk_label.specs.declared.anchor.Anchor.{Anchor}
-use Rattle.log_ring.specs.Ring.{IsOnLog, IsOnPlaces, place_at, ring_byte, ring_page}
+use Rattle.log_ring.specs.Ring.{IsOnLog, IsOnPlaces, place_at, ring_byte}
 
 -- two places of one turn have another rest
 pub apart_rest : (p q : ℕ) → p < q → q < p + 128 → p % 128 ≡ q % 128 → ⊥

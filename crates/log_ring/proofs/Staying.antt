@@ -1,6 +1,6 @@
 -- What stands of a log stays while calls touch neither the pages of anchors nor the ring.
-use Rattle.std.proofs.Common.{◌≡◌, ℕ, List, Option, Some, inl, inr, subst, sym}
-use Rattle.volume_disk.specs.Disk.{Disk, MayLeave}
+use Rattle.std.proofs.Common.{◌≡◌, ℕ, List, Some, subst, sym}
+use Rattle.volume_disk.specs.Disk.{Disk}
 use Rattle.volume_disk.specs.Image.{Image, SameIn}
 use Rattle.volume_disk.specs.Run.{LeavesOnly, MayLeaveTorn, end_of}
 use Rattle.volume_disk.proofs.Laws.{both, leaves-now, touches-joined, touches-stays, weaker}

@@ -1,8 +1,7 @@
 -- The groups of a log, what stands of them on an image, and an image's pages once they are redone.
 use Rattle.std.specs.List.{flat_map}
-use Rattle.std.specs.Prelude.{◌≡◌, ◌+◌, ◌≤◌, ℕ, List, [], ◌∷◌, Option, Some, length}
+use Rattle.std.specs.Prelude.{◌≡◌, ◌+◌, ◌≤◌, ℕ, List, [], ◌∷◌, Some, length}
 use Rattle.domain_base.specs.Limits.{log_pages}
-use Rattle.domain_base.specs.declared.place.Home.{Home}
 use Rattle.page_store.specs.Pages.{Pages}
 use Rattle.volume_disk.specs.Disk.{Disk, MayLeave}
 use Rattle.volume_disk.specs.Image.{Image, page_at}

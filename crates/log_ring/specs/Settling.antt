@@ -1,5 +1,5 @@
 -- The images of a log brought home, and its start moved behind them.
-use Rattle.std.specs.Prelude.{◌≡◌, ◌≢◌, ◌⊎◌, ◌*◌, ◌<◌, ◌≤◌, ℕ, false, List, [], Option, Some, IsSome}
+use Rattle.std.specs.Prelude.{◌≡◌, ◌≢◌, ◌⊎◌, ◌*◌, ◌<◌, ℕ, false, List, [], Option, Some, IsSome}
 use Rattle.domain_base.specs.Limits.{page_bytes}
 use Rattle.domain_base.specs.declared.place.Home.{Home}
 use Rattle.volume_disk.specs.Disk.{Disk, MayLeave, Moment, Tells}

@@ -1,21 +1,21 @@
 -- What stands at places of a ring once a group is written there behind its gate.
-use Rattle.std.proofs.Common.{◌≡◌, ℕ, ◌+◌, ◌-◌, ◌*◌, ◌%◌, ◌<◌, ◌≤◌, List, [], ◌∷◌, ◌++◌, length, get_or, take, drop, refl, sym, ◌∙◌, ap, subst, inl, inr, arith}
-use Rattle.std.proofs.lemmas.List.{get_or-drop, length-drop, length-replicate, take_more}
+use Rattle.std.proofs.Common.{◌≡◌, ℕ, ◌+◌, ◌-◌, ◌<◌, ◌≤◌, List, [], ◌∷◌, ◌++◌, length, take, drop, refl, sym, ◌∙◌, ap, subst, inl, inr, arith}
+use Rattle.std.proofs.lemmas.List.{get_or-drop, length-drop, length-replicate}
 use Rattle.std.proofs.lemmas.Slice.{between_to_end}
 use Rattle.std.proofs.lemmas.Grind.{same_number_lists}
 use Rattle.domain_base.specs.Gate.{closed}
-use Rattle.volume_disk.specs.Disk.{Disk, Moment, Syncs, Tells}
-use Rattle.volume_disk.specs.Image.{HasBytes, Image, IsIn, NoPlace, SameIn, SameOutside, bytes_at, bytes_from}
+use Rattle.volume_disk.specs.Disk.{Disk, Syncs, Tells}
+use Rattle.volume_disk.specs.Image.{HasBytes, Image, IsIn, NoPlace, bytes_at, bytes_from}
 use Rattle.volume_disk.specs.Run.{OnlyWrites}
 use Rattle.volume_disk.proofs.Bytes.{bytes_from-same, get_or-bytes_from, length-bytes_from}
 use Rattle.volume_disk.proofs.Laws.{only_writes-then, only_writes-wider}
 use Rattle.disk_label.specs.declared.anchor.Anchor.{Anchor}
 use Rattle.page_change.specs.declared.image.PageImage.{PageImage}
 use Rattle.log_ring.specs.Groups.{AreImagesAt}
-use Rattle.log_ring.specs.Ring.{IsGateOpen, IsOnPlaces, place_at, ring_byte, ring_page}
+use Rattle.log_ring.specs.Ring.{IsGateOpen, IsOnPlaces, place_at, ring_byte}
 use Rattle.log_ring.proofs.HomePages.{bytes_there}
 use Rattle.log_ring.proofs.OnImages.{images-same}
-use Rattle.log_ring.proofs.RingPlaces.{apart, one_place}
+use Rattle.log_ring.proofs.RingPlaces.{apart}
 use Rattle.meta_log.specs.Force.{IsGateAt, IsGroupBody, IsHeaderBody, IsReadyToOpen, IsWrittenBody}
 
 -- the bytes of a page behind its first block

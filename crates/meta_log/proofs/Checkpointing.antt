@@ -1,7 +1,7 @@
 -- A checkpoint, as the images of a log brought home.
-use Rattle.std.proofs.Common.{◌≡◌, ◌⊎◌, ◌&&◌, ◌==◌, ℕ, ◌+◌, ◌-◌, ◌*◌, ◌%◌, ◌<◌, ◌≤◌, Bool, true, false, cond, nat_eq, IsTrue, List, [], ◌∷◌, length, take, Option, Some, refl, sym, ◌∙◌, ap, subst, inl, inr, arith}
+use Rattle.std.proofs.Common.{◌≡◌, ◌⊎◌, ◌==◌, ◌+◌, ◌%◌, Bool, true, false, cond, List, Option, Some, refl, sym, ◌∙◌, ap, subst, inl, inr, arith}
 use Rattle.std.proofs.lemmas.Bool.{and_parts, both_ways, cases_Bool, eqb-true}
-use Rattle.volume_disk.specs.Disk.{Disk, MayLeave, Tells}
+use Rattle.volume_disk.specs.Disk.{Disk, MayLeave}
 use Rattle.volume_disk.specs.Image.{Image}
 use Rattle.disk_label.specs.Anchor.{IsAnchor, IsNext}
 use Rattle.disk_label.specs.declared.anchor.Anchor.{Anchor}
@@ -11,7 +11,7 @@ use Rattle.log_ring.specs.Ring.{IsGateOpen, ring_byte}
 use Rattle.log_ring.specs.Settling.{BringsHome, HasBroughtHome, MayMove}
 use Rattle.log_ring.proofs.OnImages.{next_closed}
 use Rattle.meta_log.specs.Checkpoint.{Checkpoints, HasCheckpointed, MayCheckpoint, next_anchor, same_ring}
-use Rattle.meta_log.specs.Log.{IsLog, Log, Stands, used}
+use Rattle.meta_log.specs.Log.{IsLog, Log, used}
 use Rattle.meta_log.proofs.Pending.{span_used}
 
 module _ (log : Log) (is : IsLog log) (given : Anchor) where

@@ -1,9 +1,9 @@
 -- A group written behind the durable ones: what each image of a stop has meanwhile.
-use Rattle.std.proofs.Common.{◌≡◌, ◌⊎◌, ℕ, ◌+◌, ◌-◌, ◌*◌, ◌%◌, ◌<◌, ◌≤◌, List, [], ◌∷◌, ◌++◌, length, get_or, drop, Some, refl, sym, ◌∙◌, ap, subst, inl, inr, arith}
+use Rattle.std.proofs.Common.{◌≡◌, ℕ, ◌+◌, ◌<◌, ◌≤◌, List, [], ◌∷◌, ◌++◌, length, drop, Some, refl, sym, ◌∙◌, ap, subst, inl, inr, arith}
 use Rattle.std.proofs.lemmas.Bool.{cases_eq}
 use Rattle.std.proofs.lemmas.List.{append-nil, length-replicate}
 use Rattle.domain_base.specs.Gate.{opened}
-use Rattle.volume_disk.specs.Disk.{Disk, Moment, MayLeave, Tells}
+use Rattle.volume_disk.specs.Disk.{Disk, MayLeave, Tells}
 use Rattle.volume_disk.specs.Image.{Image, IsIn, SameIn, SameOutside}
 use Rattle.volume_disk.specs.Run.{LeavesOnly, MayLeaveTorn, OnlyWrites, Settles}
 use Rattle.volume_disk.proofs.Bytes.{bytes_from-same}
@@ -13,12 +13,11 @@ use Rattle.disk_label.specs.declared.anchor.Anchor.{Anchor}
 use Rattle.disk_label.proofs.Elsewhere.{IsAnchor-elsewhere}
 use Rattle.page_change.specs.Header.{IsHeader}
 use Rattle.page_change.proofs.HeaderPages.{header-behind_gate}
-use Rattle.log_ring.specs.Groups.{AreGroups, FitsRing, Group, HasGroup, HasLog, IsBehindGate, LogStands, header_of, span}
-use Rattle.log_ring.specs.Laws.{IsRead}
-use Rattle.log_ring.specs.Ring.{IsGateOpen, IsOnLog, IsOnPlaces, place_at, ring_byte}
+use Rattle.log_ring.specs.Groups.{AreGroups, Group, HasLog, IsBehindGate, header_of, span}
+use Rattle.log_ring.specs.Ring.{IsGateOpen, IsOnPlaces, place_at, ring_byte}
 use Rattle.log_ring.proofs.OnImages.{groups_kept, images-same, next_closed}
-use Rattle.log_ring.proofs.RingPlaces.{apart, log_beside_anchors, on_log, one_place, place-same}
-use Rattle.meta_log.specs.Force.{HasEither, HasWrittenGroup, IsGateAt, IsGroupBody, IsHeaderBody, IsReadyToOpen, MayFollow, WritesGroup}
+use Rattle.log_ring.proofs.RingPlaces.{apart, log_beside_anchors, on_log, place-same}
+use Rattle.meta_log.specs.Force.{HasEither, HasWrittenGroup, IsGateAt, IsGroupBody, IsReadyToOpen, MayFollow, WritesGroup}
 use Rattle.meta_log.proofs.Bodies.{behind_gate, body_on_place, gate_on_place}
 
 -- What is written lies on the places of the group and on the next one.

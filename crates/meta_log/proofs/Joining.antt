@@ -1,5 +1,5 @@
 -- A change joined image by image.
-use Rattle.std.proofs.Common.{◌≡◌, ◌⊎◌, ◌||◌, ℕ, zero, suc, ◌+◌, ◌<◌, ◌≤◌, Bool, true, false, cond, List, [], ◌∷◌, ◌++◌, length, get_or, take, drop, refl, sym, ◌∙◌, ap, subst, inl, inr, arith}
+use Rattle.std.proofs.Common.{◌≡◌, ◌||◌, ℕ, zero, suc, ◌+◌, ◌<◌, ◌≤◌, Bool, true, false, cond, List, [], ◌∷◌, ◌++◌, length, get_or, take, refl, sym, ◌∙◌, ap, subst, arith}
 use Rattle.std.proofs.lemmas.Bool.{or_parts}
 use Rattle.std.proofs.lemmas.List.{take_more}
 use Rattle.std.specs.List.{list_any}
@@ -7,7 +7,7 @@ use Rattle.domain_base.specs.declared.place.Home.{Home}
 use Rattle.page_store.specs.Pages.{same_home}
 use Rattle.page_change.specs.Images.{AreDistinctHomes, homes_of, joined, with_image}
 use Rattle.page_change.specs.declared.image.PageImage.{PageImage}
-use Rattle.page_change.proofs.Overlays.{AreDistinctHomes-joined, JoinsWell-joined, has-with_image, length-with_image}
+use Rattle.page_change.proofs.Overlays.{JoinsWell-joined, has-with_image, length-with_image}
 use Rattle.page_change.proofs.SameHomes.{other_swapped}
 
 -- one change after another

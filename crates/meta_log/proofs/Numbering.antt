@@ -1,5 +1,5 @@
 -- Numbers go up by one, and each time the rack makes four calls or more.
-use Rattle.std.proofs.Common.{ℕ, ◌+◌, ◌-◌, ◌*◌, ◌^◌, ◌<◌, ◌≤◌, List, [], ◌∷◌, length, arith}
+use Rattle.std.proofs.Common.{ℕ, ◌+◌, ◌*◌, ◌<◌, ◌≤◌, List, [], ◌∷◌, length, arith}
 use Rattle.volume_disk.specs.Disk.{Disk}
 use Rattle.volume_disk.specs.Run.{IsLaterBy}
 use Rattle.disk_label.specs.declared.anchor.Anchor.{Anchor}

@@ -1,19 +1,17 @@
 -- What is pending, as a group behind the durable ones.
-use Rattle.std.proofs.Common.{◌≡◌, ℕ, suc, ◌+◌, ◌-◌, ◌<◌, ◌≤◌, List, [], ◌∷◌, ◌++◌, length, length-append, take, drop, refl, sym, ◌∙◌, ap, subst, inl, inr, arith}
+use Rattle.std.proofs.Common.{◌≡◌, ℕ, ◌+◌, ◌-◌, ◌<◌, ◌≤◌, List, [], ◌∷◌, ◌++◌, length, length-append, take, drop, refl, sym, ◌∙◌, ap, subst, arith}
 use Rattle.std.proofs.lemmas.Grind.{flat_map-append}
 use Rattle.std.proofs.lemmas.List.{append-nil, length-map}
 use Rattle.std.proofs.lemmas.List.Elements.{All-append, All-nil}
 use Rattle.std.proofs.lemmas.Slice.{between_is}
-use Rattle.domain_base.specs.declared.place.Home.{Home}
-use Rattle.volume_disk.specs.Disk.{Disk, Tells}
-use Rattle.volume_disk.specs.Image.{Image}
+use Rattle.volume_disk.specs.Disk.{Disk}
 use Rattle.volume_disk.specs.Run.{LeavesOnly, OnlyWrites}
 use Rattle.disk_label.specs.declared.anchor.Anchor.{Anchor}
 use Rattle.page_change.specs.Header.{IsSayable, header_for}
 use Rattle.page_change.specs.Images.{homes_of}
 use Rattle.page_change.specs.declared.image.PageImage.{PageImage}
-use Rattle.log_ring.specs.Groups.{FitsRing, Group, HasLog, LogStands, images_of, span}
-use Rattle.log_ring.specs.Homes.{AreLoggable, IsLoggable}
+use Rattle.log_ring.specs.Groups.{Group, LogStands, images_of, span}
+use Rattle.log_ring.specs.Homes.{IsLoggable}
 use Rattle.log_ring.specs.Ring.{IsOnPlaces}
 use Rattle.meta_log.specs.Force.{Forces, HasEither, HasForced, HasWrittenGroup, MayFollow, WritesGroup, forced}
 use Rattle.meta_log.proofs.SlotLists.{none_left, parts_joined}

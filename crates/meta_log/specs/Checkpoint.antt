@@ -1,5 +1,5 @@
 -- How the images of durable groups come home, and the log's start goes behind them.
-use Rattle.std.specs.Prelude.{◌≡◌, ◌==◌, ◌&&◌, ◌+◌, ◌-◌, ◌%◌, ℕ, Bool, IsTrue, List, [], Option, Some, if◌then◌else◌}
+use Rattle.std.specs.Prelude.{◌≡◌, ◌==◌, ◌&&◌, ◌+◌, ◌-◌, ◌%◌, ℕ, Bool, IsTrue, List, [], Some, if◌then◌else◌}
 use Rattle.domain_base.specs.Limits.{log_pages}
 use Rattle.volume_disk.specs.Disk.{Disk, MayLeave, Tells}
 use Rattle.volume_disk.specs.Image.{Image}

@@ -1,5 +1,5 @@
 -- What stands in a `MetaLog`.
-use Rattle.std.specs.Prelude.{◌≡◌, ◌≤◌, drop, length, take, vec_len}
+use Rattle.std.specs.Prelude.{◌≡◌, ◌≤◌, drop, take, vec_len}
 use Rattle.domain_base.specs.Limits.{log_pages}
 use Rattle.meta_log.specs.Log.{IsLog, Log}
 use Rattle.meta_log.specs.declared.log.MetaLog.TheInside.{Inside}

@@ -1,6 +1,6 @@
 -- The log as it is held in memory: what has been made durable since its start, and what was
 -- appended after that.
-use Rattle.std.specs.Prelude.{◌≡◌, ◌⊎◌, ◌==◌, ◌&&◌, ◌+◌, ◌-◌, ◌%◌, ◌^◌, ◌<◌, ◌≤◌, ℕ, Bool, IsTrue, List, [], ◌∷◌, length, min, if◌then◌else◌}
+use Rattle.std.specs.Prelude.{◌≡◌, ◌⊎◌, ◌+◌, ◌-◌, ◌^◌, ◌<◌, ◌≤◌, ℕ, List, [], ◌∷◌, length, min}
 use Rattle.domain_base.specs.Limits.{group_images, log_pages}
 use Rattle.volume_disk.specs.Disk.{Disk}
 use Rattle.disk_label.specs.FirstPages.{anchors_page}

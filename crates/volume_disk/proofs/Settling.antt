@@ -1,5 +1,5 @@
 -- Volumes synced one after the other, until nothing is pending.
-use Rattle.std.proofs.Common.{◌≡◌, ℕ, ◌+◌, ◌<◌, ◌≤◌, Bool, true, false, refl, ◌∙◌, ap, inl, inr, arith}
+use Rattle.std.proofs.Common.{◌≡◌, ℕ, ◌+◌, Bool, true, false, refl, ◌∙◌, ap, inl, inr, arith}
 use Rattle.std.proofs.lemmas.Bool.{cases_eq, cases_lt}
 use Rattle.volume_disk.specs.Disk.{Disk, HasVolume, IsSettled, Moment, PendsWithin, Syncs}
 use Rattle.volume_disk.specs.Run.{IsSettledBelow}

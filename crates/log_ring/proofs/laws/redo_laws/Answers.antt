@@ -1,4 +1,4 @@
-use Rattle.std.proofs.Common.{List, ◌∷◌, [], ◌++◌, ◌∙◌, ap, ◌≡◌}
+use Rattle.std.proofs.Common.{List, ◌∙◌, ap}
 use Rattle.page_change.specs.Images.{overlaid}
 use Rattle.page_change.proofs.Overlays.{overlaid-append}
 use Rattle.page_change.specs.declared.image.PageImage.{PageImage}

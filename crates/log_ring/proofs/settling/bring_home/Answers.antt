@@ -1,11 +1,7 @@
-use Rattle.std.proofs.Common.{◌≡◌, ◌≤◌, ◌<◌, sym, ◌∙◌}
+use Rattle.std.proofs.Common.{sym, ◌∙◌}
 use Rattle.std.proofs.lemmas.Result.{on_ok_weaker}
-use Rattle.volume_disk.specs.Disk.{Disk, Tells}
-use Rattle.volume_disk.specs.Image.{Image, NoPlace}
-use Rattle.volume_disk.specs.Run.{OnlyWrites}
+use Rattle.volume_disk.specs.Disk.{Tells}
 use Rattle.volume_disk.proofs.Laws.{only_writes-synced}
-use Rattle.page_change.specs.declared.image.PageImage.{PageImage}
-use Rattle.log_ring.specs.Laws.{AreHome}
 use Rattle.log_ring.specs.Settling.{IsAtHomes}
 use Rattle.log_ring.proofs.Homeward.{anchor_stays, anchor_written, brought_home, home_after_syncs, homes_written}
 use Rattle.log_ring.proofs.settling.bring_home.Goals as goal

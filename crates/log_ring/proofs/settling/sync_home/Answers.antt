@@ -1,4 +1,4 @@
-use Rattle.std.proofs.Common.{◌+◌, sym, ◌∙◌}
+use Rattle.std.proofs.Common.{sym, ◌∙◌}
 use Rattle.std.proofs.lemmas.Result.{on_ok_weaker}
 use Rattle.log_ring.proofs.Syncing.{none_to_sync, one_more_synced, volume_there}
 use Rattle.log_ring.proofs.settling.sync_home.Goals as goal

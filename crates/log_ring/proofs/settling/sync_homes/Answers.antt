@@ -1,5 +1,4 @@
-use Rattle.std.proofs.Common.{◌≡◌, ℕ, ◌+◌, ◌<◌, ◌≤◌, refl, sym, ◌∙◌, subst, arith}
-use Rattle.domain_base.specs.declared.place.Home.{Home}
+use Rattle.std.proofs.Common.{ℕ, ◌+◌, refl, sym, ◌∙◌, subst, arith}
 use Rattle.volume_disk.specs.Image.{NoPlace}
 use Rattle.volume_disk.proofs.Laws.{only_writes-then, touches-none}
 use Rattle.log_ring.specs.Homes.{IsHomeOf}

@@ -1,10 +1,9 @@
-use Rattle.std.proofs.Common.{◌≡◌, ℕ, ◌+◌, Bool, true, false, List, ◌∷◌, length, drop, get_or, sym, ◌∙◌, ap, subst, arith}
+use Rattle.std.proofs.Common.{◌≡◌, ◌+◌, true, false, List, length, drop, sym, ◌∙◌, ap, subst, arith}
 use Rattle.std.proofs.lemmas.Slice.{between_to_end}
 use Rattle.std.specs.List.{list_any}
 use Rattle.page_store.specs.Pages.{same_home}
 use Rattle.std.proofs.lemmas.Result.{on_ok_weaker}
 use Rattle.volume_disk.proofs.Laws.{only_writes-wider}
-use Rattle.domain_base.specs.declared.place.Home.{Home}
 use Rattle.page_change.specs.Images.{homes_of, image_at}
 use Rattle.page_change.proofs.Overlays.{is_some-image_at}
 use Rattle.page_change.specs.declared.image.PageImage.{PageImage}

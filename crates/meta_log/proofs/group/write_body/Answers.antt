@@ -3,7 +3,7 @@ use Rattle.std.proofs.lemmas.Result.{on_ok_weaker}
 use Rattle.volume_disk.specs.Disk.{Syncs}
 use Rattle.volume_disk.proofs.Laws.{only_writes-then, only_writes-wider}
 use Rattle.log_ring.specs.Ring.{IsOnPlaces}
-use Rattle.meta_log.specs.Force.{IsGateAt, IsGroupBody, IsHeaderBody}
+use Rattle.meta_log.specs.Force.{IsGroupBody, IsHeaderBody}
 use Rattle.meta_log.proofs.Bodies.{all_written, ready_to_open, three_written}
 use Rattle.meta_log.proofs.group.write_body.Goals as goal
 

@@ -1,4 +1,3 @@
-use Rattle.std.proofs.Common.{ℕ, subst}
 use Rattle.std.proofs.lemmas.Result.{on_ok_weaker}
 use Rattle.meta_log.specs.Log.{group_of}
 use Rattle.meta_log.proofs.Forcing.{body_written, group_done, group_written}

@@ -1,4 +1,4 @@
-use Rattle.std.proofs.Common.{◌≡◌, List, take, drop, false, subst}
+use Rattle.std.proofs.Common.{◌≡◌, List, false, subst}
 use Rattle.std.proofs.lemmas.Slice.{between_is}
 use Rattle.std.specs.List.{list_any}
 use Rattle.page_store.specs.Pages.{same_home}

@@ -1,8 +1,8 @@
-use Rattle.std.proofs.Common.{◌≡◌, ℕ, ◌+◌, refl, sym, ◌∙◌, subst}
+use Rattle.std.proofs.Common.{ℕ, ◌+◌, refl, sym, ◌∙◌, subst}
 use Rattle.volume_disk.specs.Image.{NoPlace}
 use Rattle.volume_disk.specs.Run.{IsSettledBelow}
 use Rattle.volume_disk.proofs.Laws.{only_writes-then, touches-none}
-use Rattle.volume_disk.proofs.Settling.{all_settled, none_before}
+use Rattle.volume_disk.proofs.Settling.{none_before}
 use Rattle.volume_disk.proofs.synced.sync_volumes.Goals as goal
 
 pub loop-number-init : goal.loop-number-init

@@ -1,5 +1,4 @@
-use Rattle.std.proofs.Common.{◌≡◌, ◌-◌, List, take, sym, ◌∙◌, ap, subst}
-use Rattle.std.proofs.lemmas.Result.{on_ok_weaker}
+use Rattle.std.proofs.Common.{◌≡◌, List, take, ◌∙◌, ap, subst}
 use Rattle.page_change.specs.declared.image.PageImage.{PageImage}
 use Rattle.meta_log.specs.Log.{IsLog, Log}
 use Rattle.meta_log.proofs.Checkpointing.{checkpointed, checkpoints, is_next}

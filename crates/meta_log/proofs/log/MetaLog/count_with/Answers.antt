@@ -1,4 +1,4 @@
-use Rattle.std.proofs.Common.{◌≡◌, List, take, drop, length, sym, ◌∙◌, ap, subst}
+use Rattle.std.proofs.Common.{List, length, sym, ◌∙◌, ap, subst}
 use Rattle.page_change.specs.Images.{AreDistinctHomes, joined}
 use Rattle.page_change.specs.declared.image.PageImage.{PageImage}
 use Rattle.meta_log.proofs.Pending.{images_between}

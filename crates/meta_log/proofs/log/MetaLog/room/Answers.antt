@@ -1,8 +1,7 @@
-use Rattle.std.proofs.Common.{◌≡◌, ◌+◌, ◌-◌, ◌<◌, ◌≤◌, length, take, drop, sym, ◌∙◌, arith}
+use Rattle.std.proofs.Common.{◌≡◌, ◌-◌, length, take, drop, arith}
 use Rattle.std.proofs.lemmas.List.{length-drop, length-take-le}
-use Rattle.page_change.specs.Images.{joined}
 use Rattle.page_change.proofs.Overlays.{JoinsWell-joined}
-use Rattle.meta_log.specs.Log.{HasPlaceFor, Log, used}
+use Rattle.meta_log.specs.Log.{Log, used}
 use Rattle.meta_log.proofs.log.MetaLog.room.Goals as goal
 
 pub returns-clause-place : goal.returns-clause-place

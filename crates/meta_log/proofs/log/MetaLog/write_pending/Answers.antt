@@ -1,12 +1,8 @@
-use Rattle.std.proofs.Common.{◌≡◌, ℕ, ◌+◌, ◌-◌, ◌<◌, ◌≤◌, List, [], ◌++◌, take, drop, length, vec_len, sym, ◌∙◌, ap, subst, arith}
-use Rattle.std.proofs.lemmas.List.{length-drop, length-take-le, take-append-drop}
-use Rattle.std.proofs.lemmas.Result.{on_ok_weaker}
-use Rattle.disk_label.specs.declared.anchor.Anchor.{Anchor}
-use Rattle.page_change.specs.Header.{IsSayable, header_for}
+use Rattle.std.proofs.Common.{◌≡◌, ◌+◌, ◌-◌, ◌<◌, List, take, drop, length, vec_len, sym, ◌∙◌, ap, subst, arith}
 use Rattle.page_change.specs.declared.image.PageImage.{PageImage}
-use Rattle.meta_log.specs.Force.{HasWrittenGroup, WritesGroup, forced}
+use Rattle.meta_log.specs.Force.{forced}
 use Rattle.meta_log.specs.Inside.{log_of}
-use Rattle.meta_log.specs.Log.{IsLog, Log, group_of, next_number, used}
+use Rattle.meta_log.specs.Log.{IsLog, Log}
 use Rattle.meta_log.proofs.Pending.{forced_images, forced_is, forces_images, images_between, sayable_images, view_forced}
 use Rattle.meta_log.proofs.log.MetaLog.write_pending.Goals as goal
 
