@@ -10,7 +10,7 @@ use std::cell::Cell;
 /// A set that shows another one, and counts how many pages of directories and of indexes were
 /// looked at. It changes nothing: each changing call answers OutOfMemory.
 #[derive(Drop)]
-pub(crate) struct Looks<'a, S> {
+pub struct Looks<'a, S> {
     set: &'a S,
     dir_looks: Cell<u32>,
     index_looks: Cell<u32>,
@@ -18,7 +18,7 @@ pub(crate) struct Looks<'a, S> {
 
 impl<'a, S: BitfileSet> Looks<'a, S> {
     /// A view of a set of which no page was looked at.
-    pub(crate) fn new(set: &'a S) -> Looks<'a, S>
+    pub fn new(set: &'a S) -> Looks<'a, S>
         ensures { ⟦<Looks<'a, S> as BitfileSet>⟧.files result ≡ S.files set.now }
     {
         Looks {
@@ -29,7 +29,7 @@ impl<'a, S: BitfileSet> Looks<'a, S> {
     }
 
     /// How many pages were looked at since this was last asked: of directories, and of indexes.
-    pub(crate) fn taken(&self) -> [u32; 2] {
+    pub fn taken(&self) -> [u32; 2] {
         [self.dir_looks.replace(0), self.index_looks.replace(0)]
     }
 }

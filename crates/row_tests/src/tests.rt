@@ -1,7 +1,8 @@
 //! Directories of one page and of several, filled, looked through and emptied.
-ghost use Rattle.std.specs.Prelude.{OnOk};
+ghost use Rattle.std.specs.Prelude.{◌<◌, OnOk};
 ghost use Rattle.dir_rows.specs.Directory.{IsWellFormed};
 
+use crate::bare::Bare;
 use crate::looks::Looks;
 use crate::steps::{
     ROOT, add, add_mixed, add_wide, count_long, count_wide, empty_root, first_four,
@@ -226,5 +227,63 @@ fn looked_at_one(alloc: Global) -> Result<[[u32; 2]; 2], Fail> {
 fn a_page_without_an_index_is_looked_at_once(rt: HostRuntime) -> Result<(), Fail> {
     let seen = looked_at_one(rt.alloc())?;
     assert_eq!(rt; seen, [[1, 0], [1, 0]]);
+    Ok(())
+}
+
+/// What looks at all rows of a directory looks at: to count them, to ask whether there is one, and
+/// to list them.
+fn looks_at_all<S: BitfileSet>(set: &S, alloc: Global) -> Result<[[u32; 2]; 3], Fail>
+    requires { IsWellFormed (S.files set.now) ROOT }
+{
+    let looks = Looks::new(set);
+    let _ = row_count(&looks, ROOT);
+    let counted = looks.taken();
+    let _ = is_empty(&looks, ROOT);
+    let asked = looks.taken();
+    listed_in_place(&looks, alloc, ROOT)?;
+    Ok([counted, asked, looks.taken()])
+}
+
+/// The same of a directory of five pages.
+fn looked_at_all(alloc: Global) -> Result<[[u32; 2]; 3], Fail> {
+    let mut set = empty_root(alloc, Vec::new(alloc))?;
+    add_wide(&mut set, alloc, ROOT, 125)?;
+    looks_at_all(&set, alloc)
+}
+
+/// Each page is looked at once, and the first alone where a row is all that is asked for.
+#[test]
+fn a_list_looks_at_each_page_once(rt: HostRuntime) -> Result<(), Fail> {
+    let seen = looked_at_all(rt.alloc())?;
+    assert_eq!(rt; seen, [[5, 0], [1, 0], [5, 0]]);
+    Ok(())
+}
+
+/// A directory of so many wide names as a clone shows it, which has no index: its shape, how many
+/// names are found, and what is looked at for the first name, the last one and one that is not
+/// there.
+fn scanned(alloc: Global, count: u32) -> Result<((u32, bool), u32, [[u32; 2]; 3]), Fail>
+    requires { 0 < count }
+{
+    let mut set = empty_root(alloc, Vec::new(alloc))?;
+    add_wide(&mut set, alloc, ROOT, count)?;
+    let bare = Bare::new(&set);
+    let looks = [
+        looks_for(&bare, &wide_name(0)),
+        looks_for(&bare, &wide_name(count - 1)),
+        looks_for(&bare, b"x"),
+    ];
+    Ok((shape(&bare), count_wide(&bare, ROOT, count), looks))
+}
+
+/// Directories of two pages and of five: a scan stops at the page that has the name.
+#[test]
+fn pages_without_an_index_are_scanned(rt: HostRuntime) -> Result<(), Fail> {
+    let seen = [scanned(rt.alloc(), 62)?, scanned(rt.alloc(), 125)?];
+    let want = [
+        ((2, false), 62, [[1, 0], [2, 0], [2, 0]]),
+        ((5, false), 125, [[1, 0], [5, 0], [5, 0]]),
+    ];
+    assert_eq!(rt; seen, want);
     Ok(())
 }
