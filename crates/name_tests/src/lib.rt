@@ -2,6 +2,10 @@
 #![tactic(auto)]
 
 #[cfg(test)]
+mod commands;
+#[cfg(test)]
+mod looking;
+#[cfg(test)]
 mod many;
 mod reading;
 mod runs;

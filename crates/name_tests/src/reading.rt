@@ -26,7 +26,7 @@ pub(crate) fn home(alloc: Global) -> Result<FilesetName, OutOfMemory> {
 }
 
 /// The path whose names stand behind a `/` each; `/` alone is the root's.
-fn path(alloc: Global, text: &str) -> Result<Path, OutOfMemory> {
+pub(crate) fn path(alloc: Global, text: &str) -> Result<Path, OutOfMemory> {
     let mut names = Vec::new(alloc);
     for name in text.split('/') {
         if !name.is_empty() {

@@ -106,8 +106,13 @@ fn is_answered<S: BitfileSet>(
 }
 
 /// Whether each row of a table is answered as it says.
-fn answers_all<S: BitfileSet>(set: &mut S, alloc: Global, table: &[Row]) -> Result<bool, StoreFault>
+pub(crate) fn answers_all<S: BitfileSet>(
+    set: &mut S,
+    alloc: Global,
+    table: &[Row],
+) -> Result<bool, StoreFault>
     requires { HasOriginal (S.files set.old) }
+    ensures { OnOk result (HasOriginal (S.files set.new)) }
 {
     let mut filesets = one_fileset(alloc)?;
     for row in table {

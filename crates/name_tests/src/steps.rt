@@ -26,7 +26,7 @@ pub(crate) fn empty_set(alloc: Global, misses: Vec<u64>) -> Result<MemoryBitfile
 
 /// Whether a path has a last name, and one that a row may have; the commands below answer an error
 /// to any other.
-fn is_good(path: &Path) -> bool
+pub(crate) fn is_good(path: &Path) -> bool
     ensures some { result ≡ true → 1 ≤ length path.now }
     ensures name { result ≡ true → is_row_name (last_name path.now) ≡ true }
 {

@@ -1,5 +1,9 @@
 //! Tables of commands on names, with their replies.
 
+use crate::commands::{
+    BELOW, CHILDREN, DIRECTORY_MOVES, FILE_MOVES, LINKING, MAKING, ORDERED, REMOVING, RENAMING,
+    SAME_PATHS, TWO_PATHS,
+};
 use crate::many::{linking, making, nested, nesting, numbered, wide};
 use crate::reading::{Row, Verb};
 use crate::runs::run;
@@ -136,6 +140,33 @@ fn a_set_answers_as_the_plain_filesets(rt: HostRuntime) -> Result<(), Fail> {
         passes(rt.alloc(), &RENAMED)?,
     ];
     assert_eq!(rt; seen, [true, true, true, true]);
+    Ok(())
+}
+
+#[test]
+fn refusals_come_in_the_order_of_the_plain_filesets(rt: HostRuntime) -> Result<(), Fail> {
+    let seen = [
+        passes(rt.alloc(), &MAKING)?,
+        passes(rt.alloc(), &REMOVING)?,
+        passes(rt.alloc(), &RENAMING)?,
+        passes(rt.alloc(), &LINKING)?,
+        passes(rt.alloc(), &ORDERED)?,
+    ];
+    assert_eq!(rt; seen, [true, true, true, true, true]);
+    Ok(())
+}
+
+#[test]
+fn names_move_as_those_of_the_plain_filesets(rt: HostRuntime) -> Result<(), Fail> {
+    let seen = [
+        passes(rt.alloc(), &FILE_MOVES)?,
+        passes(rt.alloc(), &DIRECTORY_MOVES)?,
+        passes(rt.alloc(), &CHILDREN)?,
+        passes(rt.alloc(), &SAME_PATHS)?,
+        passes(rt.alloc(), &TWO_PATHS)?,
+        passes(rt.alloc(), &BELOW)?,
+    ];
+    assert_eq!(rt; seen, [true, true, true, true, true, true]);
     Ok(())
 }
 
