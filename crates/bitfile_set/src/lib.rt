@@ -13,10 +13,10 @@ use domain_base::{Kind, Page, Tag};
 use page_store::StoreFault;
 use std::alloc::Global;
 
-/// A finite map from tag to file or directory, with a directory's pages and those of its index, and
-/// a count of misses. A call that changes it answers NoPage only where that count rose, OutOfMemory
-/// where no memory could be had, and has changed no file where it answers an Err. What a set holds
-/// beside the files that it shows is left by each call.
+/// What tags name: files, and directories with their pages and the pages of their indexes. Where a
+/// change finds no page it answers NoPage and counts a miss, where it finds no memory OutOfMemory;
+/// after either every file is as it was. Changes are counted, and leave what a set holds beside the
+/// files that it shows.
 pub trait BitfileSet {
     /// What each tag names.
     ghost files: { Self → Bitfiles };
@@ -125,8 +125,9 @@ pub trait BitfileSet {
         ensures counted { changes self.new ≤ suc (changes self.old) }
         ensures rest { leaves_rest self.old self.new };
 
-    /// Puts a new index page at that number; the pages from there on count one more. Where the next
-    /// page stands is the set's own. OutOfMemory also where the index would have 2^32 pages.
+    /// Puts a new index page in front of the one at that number, or behind the last one, so that the
+    /// index is longer by it. Where the next page stands is the set's own. OutOfMemory also where the
+    /// index would have 2^32 pages.
     fn insert_index_page(
         &mut self,
         alloc: Global,

@@ -74,8 +74,8 @@ fn first_entry<S: BitfileSet>(set: &S, dir: Tag, key: &IndexEntry) -> Option<Ind
     first_on(page, key)
 }
 
-/// The least page of a directory, from `from` on, that an entry of its index with the hash names.
-/// None exactly where there is none.
+/// Where a name of the hash may stand next: of the directory's pages at `from` and behind it, the
+/// first for which the index has an entry of that hash; None where it has no such entry.
 pub fn next_page<S: BitfileSet>(set: &S, dir: Tag, hash: u32, from: u32) -> Option<u32>
     requires { IsIndex (index_pages (S.files set.now) dir) }
     ensures some { IfSome result (IsNext hash from

@@ -174,9 +174,9 @@ fn place_of(page: &Page, name: &[u8]) -> Option<RowPlace>
     None
 }
 
-/// Removes the first row that has the name, and closes the gap: the rows behind it follow the ones
-/// before it, and as many zeros as it had bytes stand behind the last row. False exactly where no
-/// row has the name, and then the page is as before. It takes no memory.
+/// Takes the first row of a name off a page. The rows behind it move up to where it stood, and
+/// behind the last of them stand zeros, as many as it had bytes. Answers whether there was such a
+/// row; without one the page stays as it is. It takes no memory.
 pub fn remove_row(page: &mut Page, name: &[u8]) -> bool
     requires { IsDirPage page.old }
     ensures named { result ≡ is_named name.now (rows_of page.old) }

@@ -9,11 +9,11 @@ use std::fmt;
 /// Why a call that changes names failed.
 #[derive(Clone, Copy, Debug)]
 pub enum NameFault {
-    /// The command is refused, and nothing has changed.
+    /// The rules of names forbid it as things stand; the set is as it was.
     Refused(Refusal),
-    /// No page was free. The set may hold some of the call's changes.
+    /// The set ran out of pages on the way. What the call had changed so far may stand.
     NoPage,
-    /// No memory could be had. The set may hold some of the call's changes.
+    /// Memory ran out on the way. What the call had changed so far may stand.
     OutOfMemory,
 }
 
