@@ -148,7 +148,7 @@ says_directory (written.Attributes kind uid gid flags size keep links birth unsy
 says_directory _ = false
 
 -- both are true, or none is
-abbrev agree : Bool → Bool → Bool
+abbrev pub agree : Bool → Bool → Bool
 agree true b = b
 agree false b = not b
 

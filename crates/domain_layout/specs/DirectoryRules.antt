@@ -2,6 +2,7 @@
 use Rattle.std.specs.Prelude.{◌≡◌, ◌⊎◌, ◌*◌, ◌<◌, ◌≤◌, ◌↔◌, ℕ, true, false, List, [], ◌∷◌, length, Option, Some, None, IsSome, IsSomeAnd, Contains, nat_le, slice_get, if◌then◌else◌}
 use Rattle.std.specs.List.{AllByRecursion, flat_map}
 use Rattle.std.specs.Option.{option_and_then}
+use Rattle.domain_base.specs.Limits.{max_links}
 use Rattle.domain_base.specs.declared.place.CellAt.{CellAt}
 use Rattle.domain_base.specs.declared.place.Home.{Home}
 use Rattle.domain_base.specs.declared.place.Kind.{Kind}
@@ -188,6 +189,26 @@ pub record IsWrongRow (pages : Pages) (frame : Frame) (table : Table) (home : Ho
       × ¬ HasOfKind pages table number row.tag row.kind)
       ⊎ ((of : Kind) × HasOfKind pages table number row.tag of × ¬ of ≡ row.kind)
 
+-- another row leads to the tag to which this one does, and one of them is of a directory
+abbrev pub IsSecond : Pages → Frame → Table → ℕ → RowPlace → Row → Type 0
+IsSecond pages frame table number at row = (other : RowPlace) × (also : Row) × (home : Home)
+    × IsRow pages frame table number other also home × ¬ at ≡ other × (row.tag ≡ also.tag)
+    × ((row.kind ≡ Directory) ⊎ (also.kind ≡ Directory))
+
+-- more rows of its kind lead to its tag than to a file may
+abbrev pub IsOneOfMany : Pages → Frame → Table → ℕ → Row → Type 0
+IsOneOfMany pages frame table number row = (rows : List RowPlace)
+    × AreRowsTo pages frame table number row.tag row.kind rows × (max_links < length rows)
+
+-- a row leads to what a clone has lost, as more rows do than may
+pub record IsLostTwice (pages : Pages) (frame : Frame) (table : Table) (home : Home) : Type 0 where
+  pub number : ℕ
+  pub at : RowPlace
+  pub row : Row
+  pub is : IsRow pages frame table number at row home
+  pub lost : ¬ IsHere pages table number row.tag
+  pub wrong : IsSecond pages frame table number at row ⊎ IsOneOfMany pages frame table number row
+
 -- ** What files and directories break: at the page of their first cell
 
 -- its pages have a gap, or it has another size than they; or its cells have pages that it does not
@@ -253,7 +274,8 @@ pub record IsFileFault (pages : Pages) (frame : Frame) (table : Table) (home : H
 abbrev pub IsDirectoryFault : Pages → Frame → Table → Home → Type 0
 IsDirectoryFault pages frame table home =
     IsWrongRowPage pages frame table home ⊎ IsNameTwice pages frame table home
-    ⊎ IsWrongRow pages frame table home ⊎ IsFileFault pages frame table home
+    ⊎ IsWrongRow pages frame table home ⊎ IsLostTwice pages frame table home
+    ⊎ IsFileFault pages frame table home
 
 -- ** Indexes: code 10
 

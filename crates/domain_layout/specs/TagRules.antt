@@ -13,7 +13,7 @@ use Rattle.bmt_mcells.specs.Cell.{Cell, IsFileset, kind_number, record_of}
 use Rattle.bmt_mcells.specs.CellPage.{cell_at, home_of}
 use Rattle.bmt_mcells.specs.declared.head.CellKind.TheVariants.{Primary, Quota}
 use Rattle.tag_dirs.specs.TagPage.{IsTagPage, entry_of, index_of, slot_of}
-use Rattle.fileset_table.specs.Table.{Table, entry_of as fileset_of}
+use Rattle.fileset_table.specs.Table.{Table}
 use Rattle.fileset_table.specs.declared.slot.SlotItem.{SlotItem}
 use Rattle.fileset_table.specs.declared.slot.SlotItem.TheVariants as slot
 use Rattle.name_space.specs.Names.{root_tag}
@@ -194,12 +194,13 @@ pub record IsQuotaOf (pages : Pages) (frame : Frame) (number : ℕ) (at : CellAt
   pub kind : number_at 1 15 bytes ≡ kind_number Quota
   pub fileset : IsFileset (number_at 1 14 bytes) (Some number)
 
--- what a fileset has for its first quota cell is none of its
+-- what a slot has for its first quota cell is none of its fileset, or another leads to it
 pub record HasWrongQuota (pages : Pages) (frame : Frame) (number : ℕ) (item : SlotItem) : Type 0
   where
     pub at : CellAt
-    pub named : option_and_then (λ entry. entry.quota) (fileset_of item) ≡ Some at
+    pub named : quota_of item ≡ Some at
     pub wrong : ¬ IsQuotaOf pages frame number at
+        ⊎ ((other : CellAt) × LeadsTo pages frame other at)
 
 pub record IsWrongSlot (pages : Pages) (frame : Frame) (table : Table) : Type 0 where
   pub number : ℕ

@@ -22,12 +22,13 @@ use Rattle.fileset_model.specs.declared.fileset.Limits.{Limits}
 use Rattle.fileset_table.specs.Table.{entry_of as fileset_of}
 use Rattle.fileset_table.specs.declared.slot.FilesetEntry.{FilesetEntry}
 use Rattle.fileset_table.specs.declared.slot.SlotItem.{SlotItem}
+use Rattle.fileset_table.specs.declared.slot.SlotItem.TheVariants as slots
 use Rattle.domain_layout.specs.CellRules.{IsPlace}
 use Rattle.domain_layout.specs.Faults.{HasNoFault}
 use Rattle.domain_layout.specs.Layout.{IsLayout, Layout}
 use Rattle.domain_layout.specs.Owners.{frame_of}
 use Rattle.domain_layout.specs.Shape.{AreLimits, AreQuotas, HasChains}
-use Rattle.domain_layout.specs.TagRules.{HasTags, IsQuotaOf}
+use Rattle.domain_layout.specs.TagRules.{HasTags, IsQuotaOf, quota_of}
 use Rattle.layout_laws.specs.Alike.{AgreeOnCells, AgreeOnTags}
 use Rattle.layout_laws.proofs.Named.{InChain, begins_file, first_there, goes_along, holds_quotas, place_in}
 use Rattle.layout_laws.proofs.OnePage.{some_same}
@@ -54,6 +55,12 @@ same_page None None not = refl
 same_page None (Some y) not = absurd (not (λ (same : None ≡ Some y). absurd (cc)))
 same_page (Some x) None not = absurd (not (λ (same : Some x ≡ None). absurd (cc)))
 same_page (Some x) (Some y) not = ⊎_elim (λ same. ap Some same) (λ other. absurd (not (λ same. other (some_same x y same)))) (same_bytes x y)
+
+quota_is : (item : SlotItem) (entry : FilesetEntry) → fileset_of item ≡ Some entry → quota_of item ≡ entry.quota
+quota_is slots.Free entry is = absurd (let e : None ≡ Some entry = is in absurd (cc))
+quota_is (slots.Original found) entry is = ap (λ (e : FilesetEntry). e.quota) (some_same found entry is)
+quota_is (slots.Clone of number found) entry is = ap (λ (e : FilesetEntry). e.quota) (some_same found entry is)
+quota_is (slots.Removed first_tag quota) entry is = absurd (let e : None ≡ Some entry = is in absurd (cc))
 
 module _ (one other : Pages) (layout : Layout) (laid : IsLayout one layout) (none : HasNoFault one (frame_of layout)) (cells : AgreeOnCells one other (frame_of layout)) where
   -- ---- cells
@@ -121,9 +128,9 @@ module _ (one other : Pages) (layout : Layout) (laid : IsLayout one layout) (non
       right : (at : CellAt) → entry.quota ≡ Some at → ¬ ¬ IsQuotaOf one (frame_of layout) number at
       right at quota wrong =
           let home = table_at one layout laid none in
-          let named : option_and_then (λ (e : FilesetEntry). e.quota) (fileset_of item) ≡ Some at = ap (option_and_then (λ (e : FilesetEntry). e.quota)) is ∙ quota in
+          let named : quota_of item ≡ Some at = quota_is item entry is ∙ quota in
           no_tags one layout laid none home.0
-          (inr (inr (inr (inr (inr (inr (home.1, record { number = number; item = item; there = slot; wrong = inr (record { at = at; named = named; wrong = wrong }) })))))))
+          (inr (inr (inr (inr (inr (inr (home.1, record { number = number; item = item; there = slot; wrong = inr (record { at = at; named = named; wrong = inl wrong }) })))))))
 
       by_cells : (at : CellAt) → entry.quota ≡ Some at → AreQuotas one (Some at) are.records → AreQuotas other (Some at) are.records
       by_cells at quota ([], links, same) = absurd links

@@ -49,12 +49,12 @@ next_same bytes head size is = address_in (number_at 2 0 bytes) (number_at 1 2 b
 -- ---- entries of tags
 
 -- a used entry of a tag, on the page that has it
-record Entry (pages : Pages) (places : List TagPlace) (tag : Tag) (at : CellAt) : Type 0 where
-  home : Home
-  page : List ℕ
-  on : home_with places (tag.slot / 1022) ≡ Some home
-  there : pages home ≡ Some page
-  used : entry_of page (tag.slot % 1022) ≡ record { seq = tag.seq; at = Some at }
+pub record Entry (pages : Pages) (places : List TagPlace) (tag : Tag) (at : CellAt) : Type 0 where
+  pub home : Home
+  pub page : List ℕ
+  pub on : home_with places (tag.slot / 1022) ≡ Some home
+  pub there : pages home ≡ Some page
+  pub used : entry_of page (tag.slot % 1022) ≡ record { seq = tag.seq; at = Some at }
 
 used_by : (entry : TagEntry) (seq : ℕ) (at : CellAt) → cell_for seq entry ≡ Some at → entry ≡ record { seq = seq; at = Some at }
 used_by entry seq at is = by_test (nat_eq entry.seq seq) refl is
@@ -63,7 +63,7 @@ used_by entry seq at is = by_test (nat_eq entry.seq seq) refl is
     by_test true same is = (λ i. record { seq = eqb-true entry.seq seq same i; at = is i })
     by_test false other is = absurd (nowhere at is)
 
-entry_by : (pages : Pages) (places : List TagPlace) (tag : Tag) (at : CellAt) → cell_of pages places tag ≡ Some at → Entry pages places tag at
+pub entry_by : (pages : Pages) (places : List TagPlace) (tag : Tag) (at : CellAt) → cell_of pages places tag ≡ Some at → Entry pages places tag at
 entry_by pages places tag at is = by_home (home_with places (tag.slot / 1022)) refl is
   where
     by_page : (home : Home) → home_with places (tag.slot / 1022) ≡ Some home → (o : Option (List ℕ)) → pages home ≡ o

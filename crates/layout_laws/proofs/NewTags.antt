@@ -1,14 +1,13 @@
 -- The table of a domain that was just made: it has no fileset, so that no rule of tags and slots is broken, and none of directories and indexes.
 use Rattle.std.proofs.Common.{◌≡◌, ◌∙◌, ℕ, zero, suc, true, false, List, [], ◌∷◌, Some, None, slice_get, sym, ap, subst, ⊎_elim}
 use Rattle.std.specs.List.{AllByRecursion}
-use Rattle.std.specs.Option.{option_and_then}
 use Rattle.domain_base.specs.declared.place.CellAt.{CellAt}
 use Rattle.domain_base.specs.declared.place.Home.{Home}
 use Rattle.domain_base.specs.declared.place.Tag.{Tag}
 use Rattle.page_store.specs.Pages.{Pages}
 use Rattle.bmt_mcells.specs.declared.head.CellKind.TheVariants.{Primary, Quota, Volume}
 use Rattle.bmt_mcells.specs.Chain.{PlacedCell}
-use Rattle.fileset_table.specs.Table.{IsNewTable, Table, entry_of as fileset_of}
+use Rattle.fileset_table.specs.Table.{IsNewTable, Table}
 use Rattle.fileset_table.specs.declared.slot.SlotItem.{SlotItem}
 use Rattle.fileset_table.specs.declared.slot.SlotItem.TheVariants.{Free}
 use Rattle.domain_layout.specs.CellRules.{of_original}
@@ -16,7 +15,7 @@ use Rattle.domain_layout.specs.DirectoryRules.{Has, IsInItem, IsDirectoryFault}
 use Rattle.domain_layout.specs.Layout.{first_tag_of}
 use Rattle.domain_layout.specs.Reached.{Frame}
 use Rattle.domain_layout.specs.Seen.{SeenFile}
-use Rattle.domain_layout.specs.TagRules.{HasTags, HasWrongNumber, IsNamingFault, IsTagsFault, IsWrongSlot}
+use Rattle.domain_layout.specs.TagRules.{HasTags, HasWrongNumber, IsNamingFault, IsTagsFault, IsWrongSlot, quota_of}
 use Rattle.layout_laws.specs.NewDomain.{IsNewAnchor, IsNewCells, firsts, on_first}
 use Rattle.layout_laws.proofs.NewCells.{kind_is, link_is, used_is}
 use Rattle.layout_laws.proofs.OnePage.{some_same}
@@ -42,9 +41,9 @@ module _ (table : Table) (fresh : IsNewTable table) where
       absurd (cc)
 
   no_entry : (number : ℕ) (item : SlotItem) (at : CellAt) → slice_get table.slots number ≡ Some item
-      → ¬ option_and_then (λ entry. entry.quota) (fileset_of item) ≡ Some at
+      → ¬ quota_of item ≡ Some at
   no_entry number item at there named =
-      let none : None ≡ Some at = sym (ap (λ i. option_and_then (λ entry. entry.quota) (fileset_of i)) (all_free number item there)) ∙ named in
+      let none : None ≡ Some at = sym (ap quota_of (all_free number item there)) ∙ named in
       absurd (cc)
 
   no_wrong_slot : (pages : Pages) (frame : Frame) → ¬ IsWrongSlot pages frame table
@@ -84,5 +83,6 @@ module _ (table : Table) (fresh : IsNewTable table) where
         ⊎_elim (λ w. let dir = w.4 in has_none pages w.0 w.1 dir.cells dir.seen dir.has)
         (λ a. ⊎_elim (λ w. let dir = w.is_early.is in has_none pages w.number w.early.dir dir.cells dir.seen dir.has)
         (λ b. ⊎_elim (λ w. let dir = w.is.is in has_none pages w.number w.at.dir dir.cells dir.seen dir.has)
-        (λ w. has_none pages w.number w.tag w.cells w.seen w.has) b) a)
+        (λ c. ⊎_elim (λ w. let dir = w.is.is in has_none pages w.number w.at.dir dir.cells dir.seen dir.has)
+        (λ w. has_none pages w.number w.tag w.cells w.seen w.has) c) b) a)
         fault

@@ -57,7 +57,7 @@ before_in (q ∷ ps) (suc k) p is = before_in ps k p is
 pub same_number : (m n : ℕ) → (m ≡ n) ⊎ ¬ m ≡ n
 same_number m n = ⊎_elim (λ same. inl same) (λ apart. inr (λ same. ⊎_elim (λ less. omega (arith, less, same)) (λ more. omega (arith, more, same)) apart)) (cases_order m n)
 
-same_cell : (a b : CellAt) → (a ≡ b) ⊎ ¬ a ≡ b
+pub same_cell : (a b : CellAt) → (a ≡ b) ⊎ ¬ a ≡ b
 same_cell a b =
     ⊎_elim (λ vol. ⊎_elim (λ page. ⊎_elim (λ cell. inl (λ i. record { vol = vol i; page = page i; cell = cell i }))
     (λ other. inr (λ same. other (ap (λ (c : CellAt). c.cell) same))) (same_number a.cell b.cell))
@@ -112,7 +112,7 @@ module _ (pages : Pages) (layout : Layout) (laid : IsLayout pages layout) (none 
   pub no_tags : (home : Home) → ¬ IsTagsFault pages (frame_of layout) layout.table home
   no_tags home fault = no_tables (record { code = 6; home = home }) (layout.table, says, inr (refl, fault))
 
-  no_extent : (home : Home) → ¬ IsExtentFault pages layout home
+  pub no_extent : (home : Home) → ¬ IsExtentFault pages layout home
   no_extent home fault = no_files (record { code = 7; home = home }) (layout, refl, laid, inl (refl, fault))
 
   pub no_index : (home : Home) → ¬ IsIndexFault pages (frame_of layout) layout.table home

@@ -192,7 +192,7 @@ module _ (one other : Pages) (layout : Layout) (laid : IsLayout one layout) (non
           laid,
           inr (inr (inl (
             refl,
-            inr (inr (inr (record {
+            inr (inr (inr (inr (record {
               number = number;
               tag = tag;
               cells = first ∷ rest;
@@ -204,7 +204,7 @@ module _ (one other : Pages) (layout : Layout) (laid : IsLayout one layout) (non
               };
               at = refl;
               wrong = misses kept gone;
-            }))),
+            })))),
           ))),
         )) in
         let stands : kept.seen.homes page ≡ Some home = kept.homes page ∙ kept_home kept.keep (places_of (first ∷ rest)) page home at (λ gone. some (kept.homes page ∙ gone)) in

@@ -171,7 +171,8 @@ module _ (one other : Pages) (frame : Frame) (table : Table) (cells : AgreeOnCel
   quota_back number item w = record {
     at = w.at;
     named = w.named;
-    wrong = λ is. w.wrong (quota_alike other one frame table cells_back tags_back number w.at is);
+    wrong = ⊎_elim (λ none. inl (λ is. none (quota_alike other one frame table cells_back tags_back number w.at is)))
+        (λ led. inr (led.0, leads_alike one other frame cells led.0 w.at led.1)) w.wrong;
   }
 
   slot_alike : IsWrongSlot one frame table → IsWrongSlot other frame table

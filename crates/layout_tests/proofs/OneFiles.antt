@@ -137,7 +137,8 @@ module _ (pages : Pages) (cells_there : pages (on_first 3) ≡ Some cells_page) 
   no_directory_fault home fault =
       ⊎_elim (λ w. no_directory_page w.0 w.1 w.2 home w.3 w.4)
       (λ a. ⊎_elim (λ w. no_row w.number w.early w.one w.first_home w.is_early)
-      (λ b. ⊎_elim (λ w. no_row w.number w.at w.row home w.is) (no_file_fault home) b) a)
+      (λ b. ⊎_elim (λ w. no_row w.number w.at w.row home w.is)
+      (λ c. ⊎_elim (λ w. no_row w.number w.at w.row home w.is) (no_file_fault home) c) b) a)
       fault
 
   -- ---- indexes

@@ -1,7 +1,6 @@
 -- The domain with one fileset breaks no rule of cells and tags.
 use Rattle.std.proofs.Common.{◌≡◌, ◌∙◌, ◌⊎◌, inl, inr, ℕ, zero, suc, ◌<◌, true, false, nat_eq, List, [], length, Some, None, Contains, IsSomeAnd, slice_get, refl, sym, ap, subst, arith, ⊎_elim}
 use Rattle.std.proofs.lemmas.Bool.{eq-eqb, eqb-true}
-use Rattle.std.specs.Option.{option_and_then}
 use Rattle.domain_base.specs.declared.place.CellAt.{CellAt}
 use Rattle.domain_base.specs.declared.place.Home.{Home}
 use Rattle.domain_base.specs.declared.place.Tag.{Tag}
@@ -20,7 +19,6 @@ use Rattle.bmt_mcells.proofs.Unique.{one_cell}
 use Rattle.bmt_mcells.proofs.Walk.{one_kind}
 use Rattle.tag_dirs.specs.TagPage.{IsTagPage, entry_of, index_of, next_of, slot_of}
 use Rattle.tag_dirs.specs.declared.page.TagEntry.{TagEntry}
-use Rattle.fileset_table.specs.Table.{entry_of as fileset_of}
 use Rattle.fileset_table.specs.declared.slot.SlotItem.{SlotItem}
 use Rattle.fileset_table.specs.declared.slot.SlotItem.TheVariants.{Original}
 use Rattle.name_space.specs.Names.{root_tag}
@@ -28,7 +26,7 @@ use Rattle.domain_layout.specs.CellRules.{Follows, HasWrongCell, IsCellFault, Is
 use Rattle.domain_layout.specs.Layout.{first_tag_of}
 use Rattle.domain_layout.specs.Reached.{first_cells, on_volume, IsRead, IsUnread, MayBe, Reaches, tags_way}
 use Rattle.domain_layout.specs.Reached as reaching
-use Rattle.domain_layout.specs.TagRules.{HasEntry, HasTags, HasWrongNumber, IsFirstOf, IsLate, IsNamingFault, IsTagsFault, IsTagsPage, IsWrongSlot, original_slot}
+use Rattle.domain_layout.specs.TagRules.{HasEntry, HasTags, HasWrongNumber, IsFirstOf, IsLate, IsNamingFault, IsTagsFault, IsTagsPage, IsWrongSlot, original_slot, quota_of}
 use Rattle.layout_laws.specs.NewDomain.{IsNewAnchor, on_first}
 use Rattle.layout_laws.proofs.NewCells.{kind_some}
 use Rattle.layout_laws.proofs.OnePage.{IsFirst, at_first, bytes_are, cell_said, first_read, in_none, no_cells_page, no_wrong_header, some_same, that_page}
@@ -385,8 +383,8 @@ module _ (pages : Pages) (cells_there : pages (on_first 3) ≡ Some cells_page) 
     no_wrong_slot : ¬ IsWrongSlot pages (frame_of Three) one_table
     no_wrong_slot wrong =
         ⊎_elim (λ number. ⊎_elim (λ a. subst (HasWrongNumber one_table) a.1 number) (λ free. subst (HasWrongNumber one_table) free number) (item_is wrong.number wrong.item wrong.there))
-        (λ quota. ⊎_elim (λ a. none_named quota.at (subst (λ i. option_and_then (λ entry. entry.quota) (fileset_of i) ≡ Some quota.at) a.1 quota.named))
-        (λ free. none_named quota.at (subst (λ i. option_and_then (λ entry. entry.quota) (fileset_of i) ≡ Some quota.at) free quota.named)) (item_is wrong.number wrong.item wrong.there))
+        (λ quota. ⊎_elim (λ a. none_named quota.at (subst (λ i. quota_of i ≡ Some quota.at) a.1 quota.named))
+        (λ free. none_named quota.at (subst (λ i. quota_of i ≡ Some quota.at) free quota.named)) (item_is wrong.number wrong.item wrong.there))
         wrong.wrong
       where
         none_named : (at : CellAt) → None ≡ Some at → ⊥
