@@ -12,7 +12,7 @@ use Rattle.page_store.specs.Pages.{Pages, same_home}
 use Rattle.bmt_mcells.specs.CellPage.{next_of}
 use Rattle.bmt_mcells.proofs.Changed.{homes_same}
 use Rattle.tag_dirs.specs.declared.dir.TagPlace.{TagPlace}
-use Rattle.tag_dirs.specs.Directory.{AddsPage, cell_for, cell_of, entry_at}
+use Rattle.tag_dirs.specs.Directory.{AddsPage, cell_for, cell_of, entry_at, has_home}
 use Rattle.extent_maps.specs.declared.run.PagePlace.TheVariants.{Absent, At}
 use Rattle.free_cells.specs.Belong.{LeadsTo, home_at as table_home}
 use Rattle.free_cells.specs.Cells.{Cells, table_of}
@@ -21,8 +21,8 @@ use Rattle.free_space.specs.VolumeSpace.{IsFreePage, VolumeSpace}
 use Rattle.free_space.specs.Spaces.{CanTake, IsHeld, volume_of}
 use Rattle.bitfile_cells.specs.Allocated.{AreAllocated}
 use Rattle.bitfile_core.specs.Files.{Chains}
-use Rattle.bitfile_core.specs.Together.{HasTogether, IsHeldApart}
-use Rattle.file_tests.specs.First.{AreFirst, first_space, home_at}
+use Rattle.bitfile_core.specs.Together.{AreTogether, HasTogether, IsHeldApart}
+use Rattle.file_tests.specs.First.{AreFirst, IsEmpty, first_space, home_at}
 
 -- the only volume
 abbrev no_volume : Option VolumeSpace
@@ -149,18 +149,27 @@ module _ (count : ℕ) where
         not_two (zero, within, is) = omega (arith, is)
         not_two (suc k, within, is) = omega (arith, within)
 
-    pub first_together : (fileset : ℕ) → HasTogether fileset (place ∷ []) (first_space count) cells new
-    first_together fileset = (
-      no_files,
-      record {
-        files = record { directory = adds.directory; none = λ t is. no_cell t; some = λ t. tt; apart = λ s t other. tt };
-        allocated = allocated;
-        on_tables = λ t. tt;
-        tag_pages = λ h has. two_held h (⊎_elim (λ same. same) (λ later. absurd (true≢false (sym later))) (or_cases (same_home h place.home) false has));
-        file_pages = λ t p h at. absurd (not_at h at);
-        once = λ s t p q h at_s at_t. absurd (not_at h at_s);
-      },
-    )
+    at_two : (h : Home) → has_home (place ∷ []) h ≡ true → same_home h place.home ≡ true
+    at_two h has = ⊎_elim (λ same. same) (λ later. absurd (true≢false (sym later))) (or_cases (same_home h place.home) false has)
+
+    first_alone : (fileset : ℕ) → AreTogether fileset (place ∷ []) (first_space count) cells new no_files
+    first_alone fileset = record {
+      files = record { directory = adds.directory; none = λ t is. no_cell t; some = λ t. tt; apart = λ s t other. tt };
+      allocated = allocated;
+      on_tables = λ t. tt;
+      tag_pages = λ h has. two_held h (at_two h has);
+      file_pages = λ t p h at. absurd (not_at h at);
+      once = λ s t p q h at_s at_t. absurd (not_at h at_s);
+    }
       where
         not_at : (h : Home) → Absent ≡ At h → ⊥
         not_at h e = cc
+
+    pub first_empty : (fileset : ℕ) → IsEmpty fileset (place ∷ []) (first_space count) cells new
+    first_empty fileset = record {
+      together = first_alone fileset;
+      low = λ h has. subst (λ (x : Home). 1 ≤ x.vol) (sym (homes_same h place.home (at_two h has) ∙ ap (λ (p : TagPlace). p.home) there)) (omega arith);
+    }
+
+    pub first_together : (fileset : ℕ) → HasTogether fileset (place ∷ []) (first_space count) cells new
+    first_together fileset = (no_files, first_alone fileset)

@@ -1,13 +1,16 @@
 -- The pages of one volume with a page of cells and a page of tags, and no file.
-use Rattle.std.specs.Prelude.{◌≡◌, ℕ, false, [], ◌∷◌, Some}
+use Rattle.std.specs.Prelude.{◌≡◌, ◌≤◌, ℕ, true, false, List, [], ◌∷◌, Some, None}
 use Rattle.std.specs.FinSet.{empty, insert}
 use Rattle.domain_base.specs.declared.place.Home.{Home}
 use Rattle.page_store.specs.Pages.{Pages}
 use Rattle.storage_bitmap.specs.VolumePages.{VolumePages}
 use Rattle.free_cells.specs.Belong.{Belong, LeadsTo}
 use Rattle.free_cells.specs.Cells.{Cells, is_closed, table_of}
+use Rattle.tag_dirs.specs.declared.dir.TagPlace.{TagPlace}
+use Rattle.tag_dirs.specs.Directory.{has_home}
 use Rattle.free_space.specs.VolumeSpace.{added}
 use Rattle.free_space.specs.Spaces.{Spaces, no_spaces, with_volume}
+use Rattle.bitfile_core.specs.Together.{AreTogether}
 
 abbrev pub home_at : ℕ → Home
 home_at page = record { vol = 1; page = page }
@@ -27,3 +30,9 @@ pub record AreFirst (cells : Cells) (pages : Pages) : Type 0 where
   pub others : (vol : ℕ) → ¬ vol ≡ 1 → table_of cells vol ≡ []
   pub opened : (vol : ℕ) → is_closed cells vol ≡ false
   pub ends : LeadsTo cells 1 pages 0
+
+-- no tag names a file, and each page of the tag directory stands on a volume
+pub record IsEmpty (fileset : ℕ) (places : List TagPlace) (space : Spaces) (cells : Cells)
+    (pages : Pages) : Type 0 where
+  pub together : AreTogether fileset places space cells pages (λ tag. None)
+  pub low : (home : Home) → has_home places home ≡ true → 1 ≤ home.vol

@@ -1,5 +1,5 @@
 //! Files made where cells and pages of tags are added, and directories put into others.
-ghost use Rattle.std.specs.Prelude.{◌≤◌};
+ghost use Rattle.std.specs.Prelude.{◌≤◌, IfOk};
 ghost use Rattle.file_tests.specs.Worlds.{IsWorld};
 
 use crate::files::make;
@@ -60,6 +60,8 @@ fn cells_and_tags_are_added_where_none_is_free(rt: HostRuntime) -> Result<(), Fa
         last_made(alloc, 3, 28)?,
         last_made(alloc, 3, 29)?,
         last_made(alloc, 4, 29)?,
+        last_made(alloc, 39, 1_022)?,
+        last_made(alloc, 40, 1_022)?,
         last_made(alloc, 64, 1_021)?,
         last_made(alloc, 64, 1_022)?,
     ];
@@ -69,10 +71,54 @@ fn cells_and_tags_are_added_where_none_is_free(rt: HostRuntime) -> Result<(), Fa
             (28, 0, 0),
             (0, 0, 1),
             (29, 0, 0),
+            (0, 0, 1),
+            (1_022, 0, 0),
             (1_021, 25, 0),
             (1_022, 24, 0)
         ]
     );
+    Ok(())
+}
+
+/// Makes a file and, where that is wanted, takes its name again: its cell stays in use.
+fn make_or_spend(alloc: Global, world: &mut World, spend: bool) -> Result<(), Fail>
+    requires { IsWorld world.old }
+    ensures { IfOk result (λ _. IsWorld world.new) }
+{
+    let tag = make(alloc, world, Kind::File)?;
+    if !spend {
+        return Ok(());
+    }
+    if world.files.attributes(&world.pages, tag).is_none() {
+        return Err(Fail::from("a live tag"));
+    }
+    world.files.remove(alloc, &mut world.pages, tag)?;
+    Ok(())
+}
+
+/// On a volume of so many pages, all 1,021 tags of a page and all 1,036 cells of 37 pages are in
+/// use, and a file is made: the slot of its tag, the free pages that are left, and the misses.
+fn made_on_full(alloc: Global, count: u32) -> Result<(u32, u32, u64), Fail>
+    requires low { 3 ≤ count }
+    requires high { count ≤ 128 }
+{
+    let mut world = new_world(alloc, count)?;
+    for number in 0..1_036_u32 {
+        make_or_spend(alloc, &mut world, number < 15)?;
+    }
+    let slot = slot_of(&try_make(alloc, &mut world));
+    Ok((slot, world.space.free_now(), world.space.misses()))
+}
+
+#[test]
+fn a_page_for_tags_and_one_for_cells_are_wanted(rt: HostRuntime) -> Result<(), Fail> {
+    let alloc = rt.alloc();
+    let seen = [
+        made_on_full(alloc, 39)?,
+        made_on_full(alloc, 40)?,
+        made_on_full(alloc, 41)?,
+    ];
+    assert_eq!(rt; seen, [(0, 0, 1), (0, 1, 1), (1_022, 0, 0)]);
     Ok(())
 }
 

@@ -1,4 +1,4 @@
-//! Pages of files moved, and files made where no cell is free.
+//! Pages of files moved and given where no cell is free.
 ghost use Rattle.std.specs.Prelude.{◌≤◌, IfOk};
 ghost use Rattle.memory_store.specs.Homes.{pages_of};
 ghost use Rattle.bitfile_core.specs.Files.{HasFiles};
@@ -162,5 +162,32 @@ fn no_page_is_moved_where_no_cell_is_found(rt: HostRuntime) -> Result<(), Fail> 
     let one = moved(alloc, 17, 27, &[5])?;
     assert_eq!(rt; none, (0, 4, rows_with(alloc, &[])?, 1));
     assert_eq!(rt; one, (7, 6, rows_with(alloc, &[(5, 15)])?, 0));
+    Ok(())
+}
+
+/// On a volume of so many pages with 28 files, so that no cell is free, one of four rows is given a
+/// page that is in none of them: the number of its home, the free pages that are left, and the
+/// misses.
+fn given_fifth(alloc: Global, count: u32) -> Result<(u32, u32, u64), Fail>
+    requires low { 3 ≤ count }
+    requires high { count ≤ 128 }
+{
+    let mut world = new_world(alloc, count)?;
+    make_all(alloc, &mut world, 27)?;
+    let tag = make(alloc, &mut world, Kind::File)?;
+    give_rows(alloc, &mut world, tag)?;
+    let last = told(&give(alloc, &mut world, tag, 16)?);
+    Ok((last, world.space.free_now(), world.space.misses()))
+}
+
+#[test]
+fn no_page_is_given_where_no_cell_is_found(rt: HostRuntime) -> Result<(), Fail> {
+    let alloc = rt.alloc();
+    let seen = [
+        given_fifth(alloc, 15)?,
+        given_fifth(alloc, 16)?,
+        given_fifth(alloc, 17)?,
+    ];
+    assert_eq!(rt; seen, [(0, 0, 1), (0, 1, 1), (15, 0, 0)]);
     Ok(())
 }

@@ -5,7 +5,7 @@ ghost use Rattle.page_store.specs.Pages.{same_home};
 ghost use Rattle.memory_store.specs.Homes.{pages_of};
 ghost use Rattle.bmt_mcells.specs.CellPage.{IsEmptyPage};
 ghost use Rattle.bitfile_core.specs.Together.{HasTogether};
-ghost use Rattle.file_tests.specs.First.{AreFirst, first_map as first_map_of, first_space as first_space_of, home_at as home_there};
+ghost use Rattle.file_tests.specs.First.{AreFirst, IsEmpty, first_map as first_map_of, first_space as first_space_of, home_at as home_there};
 
 use bitfile_core::Bitfiles;
 use bmt_mcells::empty_page;
@@ -97,7 +97,9 @@ fn first_space(alloc: Global, count: u32) -> Result<FreeSpace, Fail>
 pub fn new_world(alloc: Global, count: u32) -> Result<World, Fail>
     requires low { 3 ≤ count }
     requires high { count ≤ 2 ^ 20 }
-    ensures { IfOk result (λ world. HasTogether world.files.fileset world.files.tags world.space
+    ensures together { IfOk result (λ world. HasTogether world.files.fileset world.files.tags
+        world.space world.cells (pages_of world.pages.entries.items)) }
+    ensures empty { IfOk result (λ world. IsEmpty world.files.fileset world.files.tags world.space
         world.cells (pages_of world.pages.entries.items)) }
 {
     let mut pages = first_pages(alloc)?;
