@@ -28,10 +28,10 @@ use Rattle.bitfile_core.proofs.OneChain.{chain_same, same_tag_itself}
 use Rattle.bitfile_core.proofs.RemovedTogether.{removed_keeps}
 use Rattle.release_tests.specs.Going.{IsGoing}
 
-placed : (chains : Chains) (tag : Tag) (chain : List PlacedCell) (p : ℕ) → chains tag ≡ Some chain → place_at chains tag p ≡ places_of chain p
+pub placed : (chains : Chains) (tag : Tag) (chain : List PlacedCell) (p : ℕ) → chains tag ≡ Some chain → place_at chains tag p ≡ places_of chain p
 placed chains tag chain p is = ap (λ o. option_map_or (λ cs. places_of cs p) o Absent) is
 
-file_in : (pages : Pages) (first : PlacedCell) (rest : List PlacedCell) (o : Option CellAt) → IsSomeAnd o (λ at. IsFile pages at (first ∷ rest)) → AreFile pages first rest
+pub file_in : (pages : Pages) (first : PlacedCell) (rest : List PlacedCell) (o : Option CellAt) → IsSomeAnd o (λ at. IsFile pages at (first ∷ rest)) → AreFile pages first rest
 file_in pages first rest None leads = absurd leads
 file_in pages first rest (Some at) leads = leads.1
 
@@ -45,13 +45,13 @@ file_at pages (first ∷ rest) o leads at is = (first_at (record_of 6 first.cell
     first_at (Some r) is = cc
 
 module _ (pages : Pages) (fileset : ℕ) (places : List TagPlace) (space : Spaces) (cells : Cells) (tag : Tag) (chains : Chains) (are : AreTogether fileset places space cells pages chains) where
-  led : (chain : List PlacedCell) → chains tag ≡ Some chain → LeadsToFile fileset places pages tag chain
+  pub led : (chain : List PlacedCell) → chains tag ≡ Some chain → LeadsToFile fileset places pages tag chain
   led chain is = subst (λ o. IfSome o (LeadsToFile fileset places pages tag)) is (are.files.some tag)
 
-  on_tables : (chain : List PlacedCell) → chains tag ≡ Some chain → AreOnTables cells chain
+  pub on_tables : (chain : List PlacedCell) → chains tag ≡ Some chain → AreOnTables cells chain
   on_tables chain is = subst (λ o. IfSome o (AreOnTables cells)) is (are.on_tables tag)
 
-  once : (chain : List PlacedCell) → chains tag ≡ Some chain → (p q : ℕ) (home : Home) → places_of chain p ≡ At home → places_of chain q ≡ At home → p ≡ q
+  pub once : (chain : List PlacedCell) → chains tag ≡ Some chain → (p q : ℕ) (home : Home) → places_of chain p ≡ At home → places_of chain q ≡ At home → p ≡ q
   once chain is p q home at_p at_q = (are.once tag tag p q home (placed chains tag chain p is ∙ at_p) (placed chains tag chain q is ∙ at_q)).1
 
   pub live_going : (at : CellAt) (chain : List PlacedCell) → chains tag ≡ Some chain → Some at ≡ pending_cell chain → IsGoing space cells pages at chain

@@ -1,2 +1,5 @@
 pub mod Goings
 pub mod Wells
+pub mod Pairs
+pub mod Removals
+pub mod Onlies

@@ -22,23 +22,23 @@ use Rattle.deferred_delete.specs.Steps.{IsWell, LeadsTo, Now, StopsAt, now_of}
 use Rattle.deferred_delete.proofs.Standings.{apart_from, each_from, file_other, file_there, place_by, same_or_not, source_by}
 use Rattle.release_tests.specs.Going.{IsGoing}
 
-abbrev listing : List Entry → List Home → Listing
+abbrev pub listing : List Entry → List Home → Listing
 listing entries tag_pages = record { entries = entries; tag_pages = tag_pages }
 
-in_one : {X : Type 0} (x y : X) → Contains (x ∷ []) y → y ≡ x
+pub in_one : {X : Type 0} (x y : X) → Contains (x ∷ []) y → y ≡ x
 in_one x y (zero, within, is) = sym is
 in_one x y (suc k, within, is) = absurd (omega (arith, within))
 
-in_none : {X : Type 0} (y : X) → Contains {X = X} [] y → ⊥
+pub in_none : {X : Type 0} (y : X) → Contains {X = X} [] y → ⊥
 in_none y inside = omega (arith, inside.1)
 
-some_same : {X : Type 0} (x y : X) → Some x ≡ Some y → x ≡ y
+pub some_same : {X : Type 0} (x y : X) → Some x ≡ Some y → x ≡ y
 some_same x y is = cc
 
-none_some : {X : Type 0} (x : X) → None ≡ Some x → ⊥
+pub none_some : {X : Type 0} (x : X) → None ≡ Some x → ⊥
 none_some x is = cc
 
-abbrev no_files : Files
+abbrev pub no_files : Files
 no_files = λ a. None
 
 module _ (space : Spaces) (cells : Cells) (pages : Pages) (at : CellAt) (chain : List PlacedCell) (going : IsGoing space cells pages at chain) (left : IsSome (left_of chain)) (alone : source_of chain ≡ None) where
@@ -57,7 +57,7 @@ module _ (space : Spaces) (cells : Cells) (pages : Pages) (at : CellAt) (chain :
       (λ other. absurd (none_some cs (sym (nowhere a other) ∙ is)))
       (same_or_not a at)
 
-  place_only : (a : CellAt) (p : ℕ) (home : Home) → place_in files a p ≡ At home → (a ≡ at) × (places_of chain p ≡ At home)
+  pub place_only : (a : CellAt) (p : ℕ) (home : Home) → place_in files a p ≡ At home → (a ≡ at) × (places_of chain p ≡ At home)
   place_only a p home is = ⊎_elim
       (λ same. (same, sym (place_by files at chain p there) ∙ sym (ap (λ (b : CellAt). place_in files b p) same) ∙ is))
       (λ other. absurd (absent_not home (sym (ap (λ o. option_map_or (λ cs. places_of cs p) o Absent) (nowhere a other)) ∙ is)))
@@ -111,16 +111,17 @@ module _ (space : Spaces) (cells : Cells) (pages : Pages) (at : CellAt) (chain :
   added : (entries : List Entry) → Adds at None [] entries → entries ≡ entry ∷ []
   added entries adds = ⊎_elim (λ sets. absurd (omega (arith, sets.within))) (λ is. is.is) adds
 
+  pub one_is_well : (old new : Listing) → old.entries ≡ [] → old.tag_pages ≡ [] → Adds at None old.entries new.entries → new.tag_pages ≡ old.tag_pages → IsWell (now_of new (with_file at (Some chain) no_files) space cells pages)
+  one_is_well old new no_entry no_page adds same =
+      let entries = added new.entries (subst (λ (es : List Entry). Adds at None es new.entries) no_entry adds) in
+      record {
+        together = together;
+        listed = subst (λ (es : List Entry). IsListed space cells files (listing es new.tag_pages)) (sym entries)
+            (subst (λ (hs : List Home). IsListed space cells files (listing (entry ∷ []) hs)) (sym (same ∙ no_page)) is_listed);
+      }
+
   pub one_well : (old new : Listing) → old.entries ≡ [] → old.tag_pages ≡ [] → Adds at None old.entries new.entries → new.tag_pages ≡ old.tag_pages → (fs : Files) × IsWell (now_of new fs space cells pages)
-  one_well old new no_entry no_page adds same =
-      let entries = added new.entries (subst (λ (es : List Entry). Adds at None es new.entries) no_entry adds) in (
-        files,
-        record {
-          together = together;
-          listed = subst (λ (es : List Entry). IsListed space cells files (listing es new.tag_pages)) (sym entries)
-              (subst (λ (hs : List Home). IsListed space cells files (listing (entry ∷ []) hs)) (sym (same ∙ no_page)) is_listed);
-        },
-      )
+  one_well old new no_entry no_page adds same = (_, one_is_well old new no_entry no_page adds same)
 
 -- ---- no file, and a page of a tag directory
 

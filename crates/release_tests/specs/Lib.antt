@@ -1,1 +1,3 @@
 pub mod Going
+pub mod Only
+pub mod Pairs

@@ -29,7 +29,7 @@ fn is_pending(world: &World, at: &CellAt) -> bool
 }
 
 /// Whether a file is that of a clone.
-fn is_of_clone(world: &World, at: &CellAt) -> bool
+pub fn is_of_clone(world: &World, at: &CellAt) -> bool
     ensures { (chain : List PlacedCell) → IsFile (pages_of world.now.pages.entries.items) at.now
         chain → ¬ IsTrue result → source_of chain ≡ None }
 {
@@ -37,7 +37,7 @@ fn is_of_clone(world: &World, at: &CellAt) -> bool
 }
 
 /// Whether something is left to be done with a file, and it is of no clone.
-fn may_go(world: &World, at: &CellAt) -> bool
+pub fn may_go(world: &World, at: &CellAt) -> bool
     ensures { (chain : List PlacedCell) → IsFile (pages_of world.now.pages.entries.items) at.now
         chain → IsTrue result → IsSome (left_of chain) × (source_of chain ≡ None) }
 {

@@ -1,6 +1,8 @@
 //! Tests of pages, cells and files that are let go of little by little.
 #![tactic(auto)]
 
+pub mod again;
+pub mod clones;
 pub mod going;
 pub mod making;
 pub mod seen;

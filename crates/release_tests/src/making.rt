@@ -2,6 +2,7 @@
 ghost use Rattle.std.specs.Prelude.{◌≤◌, IfOk, IfSome};
 ghost use Rattle.file_tests.specs.Worlds.{IsWorld};
 ghost use Rattle.release_tests.specs.Going.{HasGoing};
+ghost use Rattle.release_tests.specs.Only.{HasOnly, HasOnlyAt};
 
 use domain_base::limits::FILE_PAGES;
 use domain_base::{CellAt, Home, Kind, Tag, Version};
@@ -40,7 +41,8 @@ fn give(
     page: u32,
 ) -> Result<Result<Home, StoreFault>, Fail>
     requires { IsWorld world.old }
-    ensures { IfOk result (λ _. IsWorld world.new) }
+    ensures world { IfOk result (λ _. IsWorld world.new) }
+    ensures only { HasOnly world.old tag → IfOk result (λ _. HasOnly world.new tag) }
 {
     let keep = world.files.keep(&world.pages, tag).ok_or("a live tag")?;
     if keep <= page || FILE_PAGES <= page {
@@ -67,7 +69,8 @@ fn give(
 /// Gives a file these pages.
 pub fn give_pages(alloc: Global, world: &mut World, tag: Tag, pages: &[u32]) -> Result<(), Fail>
     requires { IsWorld world.old }
-    ensures { IfOk result (λ _. IsWorld world.new) }
+    ensures world { IfOk result (λ _. IsWorld world.new) }
+    ensures only { HasOnly world.old tag → IfOk result (λ _. HasOnly world.new tag) }
 {
     for page in pages {
         if give(alloc, world, tag, *page)?.is_err() {
@@ -93,6 +96,8 @@ pub fn cut(alloc: Global, world: &mut World, tag: Tag, size: u64) -> Result<Opti
     requires { IsWorld world.old }
     ensures world { IfOk result (λ _. IsWorld world.new) }
     ensures going { IfOk result (λ left. IfSome left (HasGoing world.new)) }
+    ensures only { HasOnly world.old tag
+        → IfOk result (λ left. IfSome left (HasOnlyAt world.new tag)) }
 {
     if world.files.attributes(&world.pages, tag).is_none() {
         return Err(Fail::from("a live tag"));

@@ -11,7 +11,7 @@ use std::alloc::Global;
 use std::test::Fail;
 
 /// How many of its first pages a file keeps, and whether something is left to be done with it.
-fn kept(world: &World, at: &CellAt) -> (u32, bool) {
+pub fn kept(world: &World, at: &CellAt) -> (u32, bool) {
     let keep = match find_record(&world.pages, *at, 1) {
         Some(Record::Attributes { keep, .. }) => keep,
         _ => 0,

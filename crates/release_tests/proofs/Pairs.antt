@@ -1,0 +1,238 @@
+-- A file that goes, and one that reads through it.
+use Rattle.std.proofs.Common.{◌≡◌, ◌∙◌, ◌⊎◌, inl, inr, ℕ, false, nat_le, List, [], ◌∷◌, Option, Some, None, IfSome, IsSome, IsSomeAnd, Contains, refl, sym, ap, subst, arith, ⊎_elim}
+use Rattle.std.specs.Option.{option_and_then, option_map_or}
+use Rattle.domain_base.specs.declared.place.CellAt.{CellAt}
+use Rattle.domain_base.specs.declared.place.Home.{Home}
+use Rattle.page_store.specs.Pages.{Pages}
+use Rattle.record_table.specs.declared.record.Record.{Record}
+use Rattle.record_table.specs.Records.{kind_of}
+use Rattle.bmt_mcells.specs.Cell.{Cell, record_of}
+use Rattle.bmt_mcells.specs.CellPage.{KeepsHeaders, KeepsWellFormed}
+use Rattle.bmt_mcells.specs.Chain.{LeavesOthers, PlacedCell, StandsAt, is_at, places as cell_places}
+use Rattle.extent_maps.specs.declared.run.PagePlace.TheVariants.{Absent, At}
+use Rattle.extent_maps.specs.Runs.{place_of}
+use Rattle.extent_records.specs.Writing.{most_rows}
+use Rattle.free_cells.specs.Cells.{Cells}
+use Rattle.free_space.specs.Spaces.{Spaces}
+use Rattle.bitfile_cells.specs.Allocated.{AreAllocated}
+use Rattle.bitfile_cells.specs.Changes.{HasRoom, with_kind, with_record}
+use Rattle.bitfile_cells.specs.Files.{AreFile, IsFile, has_rows, map_records, places_of}
+use Rattle.bitfile_cells.proofs.Added.{not_zeros}
+use Rattle.bitfile_cells.proofs.ChainChanges.{at_apart}
+use Rattle.bitfile_cells.proofs.Still.{allocated_still}
+use Rattle.bitfile_core.specs.Changes.{with_first}
+use Rattle.bitfile_core.specs.Files.{AreApart, HasFirstKinds, is_first_kind}
+use Rattle.bitfile_core.proofs.FirstCell.{file_now, find_other, find_put, map_stays}
+use Rattle.bitfile_core.proofs.FirstRoom.{first_room, kinds_replaced}
+use Rattle.bitfile_core.proofs.FirstTogether.{not_of, rows, runs_kept}
+use Rattle.chain_release.proofs.Once.{absent_not}
+use Rattle.deferred_delete.specs.declared.list.Entry.{Entry}
+use Rattle.deferred_delete.specs.Listed.{IsEntry, IsListed, left_of}
+use Rattle.deferred_delete.specs.Listing.{Adds, Listing}
+use Rattle.deferred_delete.specs.Standing.{Files, IsStanding, ReadsThrough, Source, StandTogether, place_in, source_at, source_in, source_of, with_file}
+use Rattle.deferred_delete.specs.Steps.{IsWell, now_of}
+use Rattle.deferred_delete.proofs.Spread.{Which, other, reading, source, which}
+use Rattle.deferred_delete.proofs.Standings.{apart_from, each_from, file_beside, file_other, file_there, place_by, source_by}
+use Rattle.release_tests.specs.Pairs.{AreTwo, IsCloneOf}
+use Rattle.release_tests.proofs.Wells.{in_none, in_one, listing, no_files, none_some, some_same}
+
+-- ---- files of two chains
+
+module _ (space : Spaces) (cells : Cells) (pages : Pages) (a b : CellAt) (chain own : List PlacedCell) (two : AreTwo space cells pages a b chain own) (frozen : ℕ) (alone : source_of chain ≡ None) (reads : source_of own ≡ Some (record { at = a; frozen = frozen }))
+    (left : IsSome (left_of chain)) where
+  in_chain : (cs : List PlacedCell) (at : CellAt) → IsFile pages at cs → Contains (cell_places cs) at
+  in_chain [] at is = absurd is
+  in_chain (c ∷ cs) at is = (0, omega arith, is.0)
+
+  differ : ¬ b ≡ a
+  differ same = two.apart a (in_chain chain a two.file.file) (subst (Contains (cell_places own)) same (in_chain own b two.reader.file))
+
+  abbrev files : Files
+  files = with_file a (Some chain) (with_file b (Some own) no_files)
+
+  at_a : files a ≡ Some chain
+  at_a = file_there a (Some chain) (with_file b (Some own) no_files)
+
+  at_b : files b ≡ Some own
+  at_b = file_other a (Some chain) (with_file b (Some own) no_files) b differ ∙ file_there b (Some own) no_files
+
+  nowhere : (x : CellAt) → ¬ x ≡ a → ¬ Some b ≡ Some x → files x ≡ None
+  nowhere x not_a not_b = file_other a (Some chain) (with_file b (Some own) no_files) x not_a ∙ file_other b (Some own) no_files x (λ same. not_b (ap Some (sym same)))
+
+  -- which of the two it is
+  one_of : (x : CellAt) (cs : List PlacedCell) → files x ≡ Some cs → ((x ≡ a) × (cs ≡ chain)) ⊎ ((x ≡ b) × (cs ≡ own))
+  one_of x cs is = by_which (which a (Some b) x)
+    where
+      by_which : Which a (Some b) x → ((x ≡ a) × (cs ≡ chain)) ⊎ ((x ≡ b) × (cs ≡ own))
+      by_which (source same) = inl (same, some_same cs chain (sym is ∙ ap files same ∙ at_a))
+      by_which (reading some) = let same = some_same b x some in inr (sym same, some_same cs own (sym is ∙ ap files (sym same) ∙ at_b))
+      by_which (other not_a not_b) = absurd (none_some cs (sym (nowhere x not_a not_b) ∙ is))
+
+  page_of : (x : CellAt) (p : ℕ) (home : Home) → place_in files x p ≡ At home → ((x ≡ a) × (places_of chain p ≡ At home)) ⊎ ((x ≡ b) × (places_of own p ≡ At home))
+  page_of x p home is = by_chain (files x) refl is
+    where
+      by_chain : (o : Option (List PlacedCell)) → files x ≡ o → option_map_or (λ cs. places_of cs p) o Absent ≡ At home → ((x ≡ a) × (places_of chain p ≡ At home)) ⊎ ((x ≡ b) × (places_of own p ≡ At home))
+      by_chain None is_x said = absurd (absent_not home said)
+      by_chain (Some cs) is_x said = ⊎_elim
+          (λ it. inl (it.0, sym (ap (λ (xs : List PlacedCell). places_of xs p) it.1) ∙ said))
+          (λ it. inr (it.0, sym (ap (λ (xs : List PlacedCell). places_of xs p) it.1) ∙ said))
+          (one_of x cs is_x)
+
+  reads_one : (x y : CellAt) → ReadsThrough files x y → (x ≡ b) × (a ≡ y)
+  reads_one x y is = by_chain (files x) refl is
+    where
+      by_chain : (o : Option (List PlacedCell)) → files x ≡ o → IsSomeAnd (option_and_then source_of o) (λ (s : Source). s.at ≡ y) → (x ≡ b) × (a ≡ y)
+      by_chain None is_x said = absurd said
+      by_chain (Some cs) is_x said = ⊎_elim
+          (λ it. absurd (subst (λ o. IsSomeAnd o (λ (s : Source). s.at ≡ y)) (ap source_of it.1 ∙ alone) said))
+          (λ it. (it.0, subst (λ o. IsSomeAnd o (λ (s : Source). s.at ≡ y)) (ap source_of it.1 ∙ reads) said))
+          (one_of x cs is_x)
+
+  apart_back : AreApart own chain
+  apart_back q in_own in_chain = two.apart q in_chain in_own
+
+  together : StandTogether space cells pages files
+  together = record {
+    allocated = two.file.allocated;
+    each = each_from cells pages files (λ x cs is. ⊎_elim
+        (λ it. subst (λ (q : CellAt). IsStanding cells pages q cs) (sym it.0) (subst (IsStanding cells pages a) (sym it.1) (record { file = two.file.file; on_tables = two.file.on_tables })))
+        (λ it. subst (λ (q : CellAt). IsStanding cells pages q cs) (sym it.0) (subst (IsStanding cells pages b) (sym it.1) (record { file = two.reader.file; on_tables = two.reader.on_tables })))
+        (one_of x cs is));
+    apart = apart_from files (λ x y xs ys is_x is_y not_same. ⊎_elim
+        (λ it. ⊎_elim
+        (λ jt. absurd (not_same (it.0 ∙ sym jt.0)))
+        (λ jt. subst (λ zs. AreApart zs ys) (sym it.1) (subst (AreApart chain) (sym jt.1) two.apart))
+        (one_of y ys is_y))
+        (λ it. ⊎_elim
+        (λ jt. subst (λ zs. AreApart zs ys) (sym it.1) (subst (AreApart own) (sym jt.1) apart_back))
+        (λ jt. absurd (not_same (it.0 ∙ sym jt.0)))
+        (one_of y ys is_y))
+        (one_of x xs is_x));
+    held = λ x p home is. ⊎_elim (λ it. two.file.held p home it.1) (λ it. two.reader.held p home it.1) (page_of x p home is);
+    once = λ x y p q home is_x is_y. ⊎_elim
+        (λ it. ⊎_elim
+        (λ jt. (it.0 ∙ sym jt.0, two.file.once p q home it.1 jt.1))
+        (λ jt. absurd (two.not_own p q home it.1 jt.1))
+        (page_of y q home is_y))
+        (λ it. ⊎_elim
+        (λ jt. absurd (two.not_own q p home jt.1 it.1))
+        (λ jt. (it.0 ∙ sym jt.0, two.reader.once p q home it.1 jt.1))
+        (page_of y q home is_y))
+        (page_of x p home is_x);
+    one_deep = λ x y z xy yz. differ (sym (reads_one y z yz).0 ∙ sym (reads_one x y xy).1);
+  }
+
+  abbrev entry : Entry
+  entry = record { at = a; clone = Some b }
+
+  is_entry : IsEntry files entry
+  is_entry = record {
+    pending = subst (λ o. IsSome (option_and_then left_of o)) (sym at_a) left;
+    given = λ c is. subst (λ (q : CellAt). ReadsThrough files q a) (some_same b c is) (subst (λ o. IsSomeAnd o (λ (s : Source). s.at ≡ a)) (sym (source_by files b own at_b ∙ reads)) refl);
+    all = λ c is. ap Some (sym (reads_one c a is).0);
+  }
+
+  pub pair_listed : IsWell (now_of (listing (entry ∷ []) []) files space cells pages)
+  pair_listed = record {
+    together = together;
+    listed = record {
+      each = λ e inside. subst (IsEntry files) (sym (in_one entry e inside)) is_entry;
+      once = λ i j d less_i less_j same. omega (arith, less_i, less_j);
+      clones = λ x y in_x in_y is. differ (some_same b a (sym (ap (λ (e : Entry). e.clone) (in_one entry x in_x)) ∙ is ∙ ap (λ (e : Entry). Some e.at) (in_one entry y in_y)));
+      pages_once = tt;
+      pages_low = λ home inside. absurd (in_none home inside);
+      pages_held = λ home inside. absurd (in_none home inside);
+      pages_apart = λ home inside. absurd (in_none home inside);
+    };
+  }
+
+-- ---- the second says that it reads through the first
+
+module _ (space : Spaces) (cells : Cells) (old new : Pages) (a b : CellAt) (chain : List PlacedCell) (first : PlacedCell) (rest : List PlacedCell) (two : AreTwo space cells old a b chain (first ∷ rest)) (frozen : ℕ) (value : Record) (is : IsCloneOf a frozen value)
+    (stands : StandsAt new b (with_record (kind_of value) (Some value) first.cell)) (leaves : LeavesOthers (is_at b) old new) (good : KeepsWellFormed old new) (headers : KeepsHeaders old new) where
+  abbrev says : Cell → Cell
+  says = with_record (kind_of value) (Some value)
+
+  abbrev own : List PlacedCell
+  own = with_first says (first ∷ rest)
+
+  file : AreFile old first rest
+  file = two.reader.file.1
+
+  first_at : first.at ≡ b
+  first_at = two.reader.file.0
+
+  no_rows : has_rows value ≡ false
+  no_rows = ap (λ k. nat_le 1 (most_rows k)) is.of_kind
+
+  other_kind : ¬ kind_of file.value ≡ kind_of value
+  other_kind same = not_of file.value 2 (rows old first rest file) refl (same ∙ is.of_kind)
+
+  not_first : ¬ 1 ≡ kind_of value
+  not_first same = omega (arith, same, is.of_kind)
+
+  stands_now : AreFile new (record { at = first.at; cell = says first.cell }) rest
+  stands_now = file_now old new first rest (kind_of value) (Some value) file
+      (subst (λ (q : CellAt). LeavesOthers (is_at q) old new) (sym first_at) leaves)
+      (subst (λ (q : CellAt). StandsAt new q (says first.cell)) (sym first_at) stands)
+      refl no_rows other_kind
+      (subst IsSome (sym (find_other (kind_of value) 1 (Some value) first.cell.records not_first refl)) file.attributes)
+
+  same : (p : ℕ) → places_of own p ≡ places_of (first ∷ rest) p
+  same p = ap (λ rs. place_of rs p) (runs_kept says first rest (map_stays (kind_of value) (Some value) first.cell.records file.value file.map.only other_kind no_rows ∙ sym file.map.only))
+
+  allocated : AreAllocated space cells new
+  allocated =
+      allocated_still space cells old new two.file.allocated good headers (is_at b) leaves
+      (λ q free. at_apart b q (λ same. not_zeros old q first.at first.cell (two.file.allocated.belong.zeros q free) file.links.stands (sym same ∙ sym first_at)))
+
+  out : ¬ Contains (cell_places chain) b
+  out inside = two.apart b inside (0, omega arith, first_at)
+
+  reads : source_of own ≡ Some (record { at = a; frozen = frozen })
+  reads =
+      ap (λ (k : ℕ). option_and_then source_in (record_of k (with_kind (kind_of value) (Some value) first.cell.records))) (sym is.of_kind)
+      ∙ ap (option_and_then source_in) (find_put (kind_of value) (Some value) first.cell.records refl) ∙ is.says
+
+  now : AreTwo space cells new a b chain own
+  now = record {
+    file = record {
+      allocated = allocated;
+      file = file_beside old new b a chain leaves out two.file.file;
+      on_tables = two.file.on_tables;
+      held = two.file.held;
+      once = two.file.once;
+    };
+    reader = record {
+      allocated = allocated;
+      file = (first_at, stands_now);
+      on_tables = two.reader.on_tables;
+      held = λ p home there. two.reader.held p home (sym (same p) ∙ there);
+      once = λ p q home x y. two.reader.once p q home (sym (same p) ∙ x) (sym (same q) ∙ y);
+    };
+    apart = two.apart;
+    not_own = λ p q home x y. two.not_own p q home x (sym (same q) ∙ y);
+    kinds = kinds_replaced (kind_of value) (Some value) first.cell.records two.kinds (ap is_first_kind is.of_kind);
+  }
+
+  pub now_listed : source_of chain ≡ None → IsSome (left_of chain) → (fs : Files) × IsWell (now_of (listing (record { at = a; clone = Some b } ∷ []) []) fs space cells new)
+  now_listed alone left = (_, pair_listed space cells new a b chain own now frozen alone reads left)
+
+-- room for the record
+pub pair_room : (space : Spaces) (cells : Cells) (pages : Pages) (a b : CellAt) (chain own : List PlacedCell) → AreTwo space cells pages a b chain own → (frozen : ℕ) (value : Record) → IsCloneOf a frozen value → HasRoom pages b (kind_of value) (Some value)
+pair_room space cells pages a b chain [] two frozen value is = absurd two.reader.file
+pair_room space cells pages a b chain (first ∷ rest) two frozen value is =
+    first_room pages b first.cell value (subst (λ (q : CellAt). StandsAt pages q first.cell) two.reader.file.0 two.reader.file.1.links.stands) two.kinds (ap is_first_kind is.of_kind) is.allowed
+
+pub pair_well : (space : Spaces) (cells : Cells) (old new : Pages) (a b : CellAt) (chain own : List PlacedCell) → AreTwo space cells old a b chain own → (frozen : ℕ) (value : Record) → IsCloneOf a frozen value
+    → ((cell : Cell) → StandsAt old b cell → StandsAt new b (with_record (kind_of value) (Some value) cell)) → LeavesOthers (is_at b) old new → KeepsWellFormed old new → KeepsHeaders old new → source_of chain ≡ None → IsSome (left_of chain)
+    → (before list : Listing) → before.entries ≡ [] → before.tag_pages ≡ [] → Adds a (Some b) before.entries list.entries → list.tag_pages ≡ before.tag_pages → (fs : Files) × IsWell (now_of list fs space cells new)
+pair_well space cells old new a b chain [] two frozen value is stands leaves good headers alone left before list no_entry no_page adds same = absurd two.reader.file
+pair_well space cells old new a b chain (first ∷ rest) two frozen value is stands leaves good headers alone left before list no_entry no_page adds same =
+    let here = stands first.cell (subst (λ (q : CellAt). StandsAt old q first.cell) two.reader.file.0 two.reader.file.1.links.stands) in
+    let well = now_listed space cells old new a b chain first rest two frozen value is here leaves good headers alone left in
+    let entries = added list.entries (subst (λ (es : List Entry). Adds a (Some b) es list.entries) no_entry adds) in
+    (well.0, subst (λ (l : Listing). IsWell (now_of l well.0 space cells new)) (λ i. listing (sym entries i) (sym (same ∙ no_page) i)) well.1)
+  where
+    added : (entries : List Entry) → Adds a (Some b) [] entries → entries ≡ record { at = a; clone = Some b } ∷ []
+    added entries adds = ⊎_elim (λ sets. absurd (omega (arith, sets.within))) (λ is. is.is) adds

@@ -1,0 +1,39 @@
+-- Two files of a world, of which the second may read through the first.
+use Rattle.std.specs.Prelude.{◌≡◌, ℕ, List, Some}
+use Rattle.domain_base.specs.declared.place.CellAt.{CellAt}
+use Rattle.domain_base.specs.declared.place.Home.{Home}
+use Rattle.page_store.specs.Pages.{Pages}
+use Rattle.record_table.specs.declared.record.Record.{Record}
+use Rattle.record_table.specs.Records.{Allowed, kind_of}
+use Rattle.bmt_mcells.specs.Chain.{PlacedCell}
+use Rattle.extent_maps.specs.declared.run.PagePlace.TheVariants.{At}
+use Rattle.memory_store.specs.Homes.{pages_of}
+use Rattle.free_cells.specs.Cells.{Cells}
+use Rattle.free_space.specs.Spaces.{Spaces}
+use Rattle.bitfile_cells.specs.Files.{places_of}
+use Rattle.bitfile_core.specs.Files.{AreApart, HasFirstKinds}
+use Rattle.deferred_delete.specs.Standing.{source_in}
+use Rattle.file_tests.specs.declared.world.World.{World}
+use Rattle.release_tests.specs.declared.clones.Pair.{Pair}
+use Rattle.release_tests.specs.Going.{IsGoing}
+
+-- the chains of both share no cell and no home, and the second's first cell has room
+pub record AreTwo (space : Spaces) (cells : Cells) (pages : Pages) (at clone : CellAt)
+    (chain own : List PlacedCell) : Type 0 where
+  pub file : IsGoing space cells pages at chain
+  pub reader : IsGoing space cells pages clone own
+  pub apart : AreApart chain own
+  pub not_own : (p q : ℕ) (home : Home) → places_of chain p ≡ At home
+      → ¬ places_of own q ≡ At home
+  pub kinds : HasFirstKinds own
+
+abbrev pub HasTwo : World → Pair → Type 0
+HasTwo world pair = (chain : List PlacedCell) × (own : List PlacedCell)
+    × AreTwo world.space world.cells (pages_of world.pages.entries.items) pair.at pair.clone chain
+    own
+
+-- the record says that its file reads through the one that begins there
+pub record IsCloneOf (at : CellAt) (frozen : ℕ) (value : Record) : Type 0 where
+  pub of_kind : kind_of value ≡ 2
+  pub allowed : Allowed value
+  pub says : source_in value ≡ Some (record { at = at; frozen = frozen })

@@ -1,0 +1,252 @@
+//! Files that a clone's file reads through, let go of.
+ghost use Rattle.std.specs.Prelude.{IfOk, IfSome};
+ghost use Rattle.file_tests.specs.Worlds.{IsWorld};
+ghost use Rattle.release_tests.specs.Going.{HasWell};
+ghost use Rattle.release_tests.specs.Pairs.{HasTwo, IsCloneOf};
+
+use crate::going::{counts, is_of_clone, may_go, release_all};
+use crate::making::{give_pages, make};
+use bitfile_cells::set_record;
+use bmt_mcells::find_record;
+use deferred_delete::Deferred;
+use domain_base::{CellAt, Kind, Tag};
+use file_tests::world::{World, new_world, volume};
+use page_store::StoreFault;
+use record_table::{ExtentField, Record};
+use std::alloc::Global;
+use std::test::Fail;
+
+/// The first cells of two files that no tag names.
+#[derive(Clone, Copy)]
+pub struct Pair {
+    pub at: CellAt,
+    pub clone: CellAt,
+}
+
+/// Takes the names of two files.
+fn remove_two(alloc: Global, world: &mut World, file: Tag, clone: Tag) -> Result<Pair, Fail>
+    requires { IsWorld world.old }
+    ensures { IfOk result (HasTwo world.new) }
+{
+    if file.slot == clone.slot {
+        return Err(Fail::from("two tags"));
+    }
+    if world.files.attributes(&world.pages, clone).is_none() {
+        return Err(Fail::from("a live tag"));
+    }
+    let clone_at = world.files.remove(alloc, &mut world.pages, clone)?;
+    if world.files.attributes(&world.pages, file).is_none() {
+        return Err(Fail::from("a live tag"));
+    }
+    let at = world.files.remove(alloc, &mut world.pages, file)?;
+    Ok(Pair {
+        at,
+        clone: clone_at,
+    })
+}
+
+/// The record of a clone's file that reads through the one that begins there, of which so many
+/// pages were frozen. None where no cell has that number.
+fn clone_record(at: CellAt, frozen: u32) -> Option<Record>
+    ensures { IfSome result (IsCloneOf at frozen) }
+{
+    if 28 <= at.cell {
+        return None;
+    }
+    Some(Record::CloneFile {
+        source_vol: at.vol.number() as u8,
+        source_cell: at.cell,
+        source_page: at.page,
+        frozen,
+    })
+}
+
+/// Says of the second file that it reads through the first, of which so many pages were frozen, and
+/// lists the first.
+fn listed_pair(alloc: Global, world: &mut World, pair: &Pair, frozen: u32) -> Result<Deferred, Fail>
+    requires { HasTwo world.old pair.now }
+    ensures { IfOk result (HasWell world.new) }
+{
+    if is_of_clone(world, &pair.clone) || !may_go(world, &pair.at) {
+        return Err(Fail::from("a file that goes, and two that are of no clone"));
+    }
+    let record = clone_record(pair.at, frozen).ok_or("a cell")?;
+    set_record(alloc, &mut world.pages, pair.clone, &record)?;
+    let mut list = Deferred::new(alloc);
+    list.add(pair.at, Some(pair.clone))?;
+    Ok(list)
+}
+
+/// A run of a file's pages: the first one, its home's number, and how many they are.
+pub type Row = [u32; 3];
+
+fn row(field: &ExtentField) -> Row {
+    [field.page, field.first, field.count]
+}
+
+/// The runs that a file's first cell names.
+pub fn rows(world: &World, at: &CellAt) -> [Row; 4] {
+    match find_record(&world.pages, *at, 14) {
+        Some(Record::ShortDense { rows }) => {
+            [row(&rows[0]), row(&rows[1]), row(&rows[2]), row(&rows[3])]
+        }
+        _ => [[0; 3]; 4],
+    }
+}
+
+/// The first runs that a record of a cell behind a file's first one names.
+fn rows_in(value: &Option<Record>) -> Option<[Row; 4]> {
+    match value {
+        Some(Record::DenseExtents { rows }) => {
+            Some([row(&rows[0]), row(&rows[1]), row(&rows[2]), row(&rows[3])])
+        }
+        _ => None,
+    }
+}
+
+/// The first runs that a cell of page 13 names, if one of them is a cell behind a file's first one.
+fn rows_behind(world: &World) -> [Row; 4] {
+    for cell in 0..28 {
+        let at = CellAt {
+            vol: volume(),
+            page: 13,
+            cell,
+        };
+        if let Some(found) = rows_in(&find_record(&world.pages, at, 13)) {
+            return found;
+        }
+    }
+    [[0; 3]; 4]
+}
+
+/// Whether a file reads through another.
+fn reads_through(world: &World, at: &CellAt) -> bool {
+    match find_record(&world.pages, *at, 2) {
+        Some(Record::CloneFile { source_vol, .. }) => source_vol != 0,
+        _ => false,
+    }
+}
+
+/// What was let go of: how many steps, if a page was found wherever one was wanted.
+fn told(answer: &Result<u32, StoreFault>) -> Option<u32> {
+    match answer {
+        Ok(steps) => Some(*steps),
+        Err(_) => None,
+    }
+}
+
+/// What is seen of a file of the pages 0 to 5, at homes from 3 on, that is let go of beside one
+/// that reads through it: the steps, the runs of both, whether the second still reads through the
+/// first, the free and waiting pages, and the misses.
+#[derive(Clone, Copy, Debug, PartialEq, Eq)]
+pub struct PairSeen {
+    pub steps: Option<u32>,
+    pub rows: [Row; 4],
+    pub own: [Row; 4],
+    pub reads: bool,
+    pub counts: [u32; 2],
+    pub misses: u64,
+}
+
+/// Makes so many files.
+fn make_all(alloc: Global, world: &mut World, count: u32) -> Result<(), Fail>
+    requires { IsWorld world.old }
+    ensures { IfOk result (λ _. IsWorld world.new) }
+{
+    for _ in 0..count {
+        make(alloc, world, Kind::File)?;
+    }
+    Ok(())
+}
+
+/// A volume of so many pages with so many other files, a file of the pages 0 to 5, and one of these
+/// that reads through it.
+#[derive(Clone, Copy)]
+struct Scene {
+    pages: u32,
+    others: u32,
+    frozen: u32,
+}
+
+/// The two files, whose names were taken.
+fn two_files(alloc: Global, scene: &Scene, own: &[u32]) -> Result<(World, Pair), Fail>
+    ensures { IfOk result (λ made. HasTwo made.0 made.1) }
+{
+    if scene.pages < 3 || 128 < scene.pages {
+        return Err(Fail::from("a volume of 3 to 128 pages"));
+    }
+    let mut world = new_world(alloc, scene.pages)?;
+    make_all(alloc, &mut world, scene.others)?;
+    let file = make(alloc, &mut world, Kind::File)?;
+    give_pages(alloc, &mut world, file, &[0, 1, 2, 3, 4, 5])?;
+    let clone = make(alloc, &mut world, Kind::File)?;
+    give_pages(alloc, &mut world, clone, own)?;
+    let pair = remove_two(alloc, &mut world, file, clone)?;
+    Ok((world, pair))
+}
+
+/// What is seen once the first file was let go of, and the runs that a cell of page 13 names.
+fn handed(alloc: Global, scene: &Scene, own: &[u32]) -> Result<(PairSeen, [Row; 4]), Fail> {
+    let (mut world, pair) = two_files(alloc, scene, own)?;
+    let mut list = listed_pair(alloc, &mut world, &pair, scene.frozen)?;
+    let answer = release_all(alloc, &mut world, &mut list);
+    if list.is_empty() != answer.is_ok() {
+        return Err(Fail::from("an empty list where all was let go of"));
+    }
+    let seen = PairSeen {
+        steps: told(&answer),
+        rows: rows(&world, &pair.at),
+        own: rows(&world, &pair.clone),
+        reads: reads_through(&world, &pair.clone),
+        counts: counts(&world),
+        misses: world.space.misses(),
+    };
+    Ok((seen, rows_behind(&world)))
+}
+
+/// The same on a volume of 64 pages, of which so many were frozen, beside a file of the pages 1 and
+/// 6.
+pub fn handed_frozen(alloc: Global, frozen: u32) -> Result<PairSeen, Fail> {
+    let scene = Scene {
+        pages: 64,
+        others: 0,
+        frozen,
+    };
+    Ok(handed(alloc, &scene, &[1, 6])?.0)
+}
+
+/// The same on a volume of so many pages with 26 other files, so that no cell is free, where all
+/// pages were frozen, beside a file of the pages 1, 3, 7 and 9.
+pub fn handed_full(alloc: Global, pages: u32) -> Result<(PairSeen, [Row; 4]), Fail> {
+    let scene = Scene {
+        pages,
+        others: 26,
+        frozen: 6,
+    };
+    handed(alloc, &scene, &[1, 3, 7, 9])
+}
+
+/// All of the first file is gone after so many steps, with so many free pages, and so many of its
+/// own that wait.
+pub fn all_gone(steps: u32, own: [Row; 4], counts: [u32; 2]) -> PairSeen {
+    PairSeen {
+        steps: Some(steps),
+        rows: [[0; 3]; 4],
+        own,
+        reads: false,
+        counts,
+        misses: 0,
+    }
+}
+
+/// Nothing is gone for want of a page, which was one miss.
+pub fn all_kept(rows: [Row; 4], own: [Row; 4]) -> PairSeen {
+    PairSeen {
+        steps: None,
+        rows,
+        own,
+        reads: true,
+        counts: [0, 0],
+        misses: 1,
+    }
+}
