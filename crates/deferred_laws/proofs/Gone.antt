@@ -1,5 +1,5 @@
 -- What no file has any more waits.
-use Rattle.std.proofs.Common.{◌≡◌, ◌∙◌, ◌⊎◌, ℕ, zero, suc, ◌<◌, true, false, List, [], ◌∷◌, get_or, Option, Some, None, IsSomeAnd, Contains, refl, sym, ap, subst, arith, ⊎_elim}
+use Rattle.std.proofs.Common.{◌≡◌, ◌∙◌, ℕ, zero, suc, ◌<◌, true, false, List, [], ◌∷◌, Option, Some, None, IsSomeAnd, Contains, refl, sym, ap, subst, arith, ⊎_elim}
 use Rattle.std.specs.FinSet.{contains}
 use Rattle.std.specs.Option.{option_map, option_map_or}
 use Rattle.domain_base.specs.declared.place.CellAt.{CellAt}
@@ -44,7 +44,7 @@ use Rattle.deferred_laws.proofs.Wells.{well_step}
 -- ---- what is given back waits
 
 module _ (s : Spaces) (vol : ℕ) (w : Waiting) where
-  waits_now : IsSomeAnd (volume_of s vol) (λ _. Unit {0}) → Waits (change_volume (with_waiting w) s vol) vol w
+  pub waits_now : IsSomeAnd (volume_of s vol) (λ _. Unit {0}) → Waits (change_volume (with_waiting w) s vol) vol w
   waits_now some = subst (λ o. IsSomeAnd o (λ (v : VolumeSpace). Contains v.waiting w)) (sym (volume_of-change_same (with_waiting w) s vol)) (by_volume (volume_of s vol) some)
     where
       by_volume : (o : Option VolumeSpace) → IsSomeAnd o (λ _. Unit {0}) → IsSomeAnd (option_map (with_waiting w) o) (λ (v : VolumeSpace). Contains v.waiting w)
@@ -66,7 +66,7 @@ given_waits kind group (x ∷ xs) s home (suc k, within, is) some =
     waits_more (with_given kind group xs s) x.vol (waiting_at x kind group) home.vol (waiting_at home kind group)
     (given_waits kind group xs s home (k, omega (arith, within), is) some)
 
-there_held : (s : Spaces) (vol p : ℕ) → IsHeld s vol p → IsSomeAnd (volume_of s vol) (λ _. Unit {0})
+pub there_held : (s : Spaces) (vol p : ℕ) → IsHeld s vol p → IsSomeAnd (volume_of s vol) (λ _. Unit {0})
 there_held s vol p held = by_volume (volume_of s vol) held
   where
     by_volume : (o : Option VolumeSpace) → IsSomeAnd o (λ v. (contains v.used p ≡ true) × (is_waiting v p ≡ false)) → IsSomeAnd o (λ _. Unit {0})

@@ -14,3 +14,4 @@ pub mod Wells
 pub mod Said
 pub mod Tags
 pub mod Gone
+pub mod TagPages

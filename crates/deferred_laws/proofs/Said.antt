@@ -1,14 +1,13 @@
 -- What the first cell of a chain says of its file goes on to be said where the chain is another.
-use Rattle.std.proofs.Common.{◌≡◌, ◌∙◌, ℕ, true, false, List, [], ◌∷◌, Option, Some, None, IfSome, refl, sym, ap, subst, arith}
+use Rattle.std.proofs.Common.{◌≡◌, ◌∙◌, ℕ, true, false, List, [], ◌∷◌, Option, Some, None, IfSome, refl, sym, ap, arith}
 use Rattle.std.proofs.lemmas.Bool.{true≢false}
-use Rattle.std.specs.List.{AllByRecursion}
 use Rattle.std.specs.Option.{option_and_then, option_map, option_map_or}
 use Rattle.domain_base.specs.declared.place.Tag.{Tag}
 use Rattle.record_table.specs.declared.record.Record.{Record}
 use Rattle.record_table.specs.declared.record.Record.TheVariants as written
 use Rattle.record_table.specs.declared.record.Leftover.TheVariants.{Remove, Trim}
 use Rattle.record_table.specs.Records.{kind_of}
-use Rattle.bmt_mcells.specs.Cell.{Cell, record_of}
+use Rattle.bmt_mcells.specs.Cell.{record_of}
 use Rattle.bmt_mcells.specs.Chain.{PlacedCell}
 use Rattle.bitfile_cells.specs.Changes.{with_kind}
 use Rattle.bitfile_cells.specs.FileChanges.{SameFirst}

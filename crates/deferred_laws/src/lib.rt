@@ -10,4 +10,4 @@ pub use steps::{
     trimmed_files_keep_their_front,
 };
 pub use together::{all_stays_well, tags_stay_together};
-pub use waiting::{pages_let_go_wait, pages_wait_on};
+pub use waiting::{pages_let_go_wait, pages_taken_off_wait, pages_wait_on};

@@ -1,8 +1,9 @@
 //! What of the free space steps leave as it was, and what of it waits after them.
-ghost use Rattle.std.specs.Prelude.{ℕ};
+ghost use Rattle.std.specs.Prelude.{ℕ, Contains};
 ghost use Rattle.domain_base.specs.declared.place.Home.{Home};
 ghost use Rattle.domain_base.specs.declared.version.Version.{Version};
 ghost use Rattle.free_space.specs.declared.waiting.PageUse.{PageUse};
+ghost use Rattle.free_space.specs.declared.waiting.PageUse.TheVariants.{Metadata};
 ghost use Rattle.free_space.specs.declared.waiting.Waiting.{Waiting};
 ghost use Rattle.deferred_delete.specs.Steps.{IsWell, Now, Steps};
 ghost use Rattle.deferred_laws.specs.Waits.{IsLetGo, Waits, waiting_at};
@@ -21,4 +22,13 @@ pub fn pages_let_go_wait()
         → IsWell first → Steps group version first count last → (home : Home) (kind : PageUse)
         → IsLetGo first last home kind
         → Waits last.space home.vol (waiting_at home kind group) }
+{}
+
+/// A page of a tag directory that was on the list and is not any more waits for the steps' group,
+/// as metadata.
+pub fn pages_taken_off_wait()
+    ensures { (group : ℕ) (version : Version) (first : Now) (count : ℕ) (last : Now)
+        → IsWell first → Steps group version first count last → (home : Home)
+        → Contains first.list.tag_pages home → ¬ Contains last.list.tag_pages home
+        → Waits last.space home.vol (waiting_at home Metadata group) }
 {}
