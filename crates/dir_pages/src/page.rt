@@ -1,5 +1,5 @@
 //! Directory pages: rows found, added and removed in place.
-ghost use Rattle.std.specs.Prelude.{◌≡◌, ◌+◌, ◌^◌, ◌<◌, ◌≤◌, ◌++◌, [], ◌∷◌, List, true, false, length, drop, IfOk, IfErr, IfSome, IfNone};
+ghost use Rattle.std.specs.Prelude.{◌≡◌, ◌+◌, ◌^◌, ◌<◌, ◌≤◌, ◌++◌, [], ◌∷◌, List, true, false, length, drop, IfOk, IfErr, IfSome, IfNone, OnOk};
 ghost use Rattle.domain_base.specs.Page.{overwritten, zero_bytes};
 ghost use Rattle.record_table.specs.Records.{spelled};
 ghost use Rattle.dir_pages.specs.declared.row.Row.{Row as RowItem};
@@ -195,21 +195,20 @@ pub fn remove_row(page: &mut Page, name: &[u8]) -> bool
     true
 }
 
-/// Copies of the rows of a page.
-fn copy_rows(alloc: Global, page: &Page) -> Result<RowList, OutOfMemory>
+/// Puts copies of the rows of a page behind other rows. After an error some of them may stand there.
+pub fn push_rows(alloc: Global, page: &Page, rows: &mut Vec<Row>) -> Result<(), OutOfMemory>
     requires { IsDirPage page.now }
-    ensures { IfOk result (λ list. list ≡ rows_of page.now) }
+    ensures { OnOk result (rows.new.items ≡ rows.old.items ++ rows_of page.now) }
 {
-    let mut list = Vec::new(alloc);
     for row in Rows::new(page) {
         let name = RowName::copy_of(alloc, row.name)?;
-        list.push(Row {
+        rows.push(Row {
             tag: row.tag,
             kind: row.kind,
             name,
         })?;
     }
-    Ok(RowList::from_vec(list))
+    Ok(())
 }
 
 /// The rows of a page, in their order. Bad exactly where the page is no directory page.
@@ -221,5 +220,7 @@ pub fn read_rows(alloc: Global, page: &Page) -> Result<RowList, RowsFault>
     if !is_row_page(page) {
         return Err(RowsFault::Bad);
     }
-    Ok(copy_rows(alloc, page)?)
+    let mut rows = Vec::new(alloc);
+    push_rows(alloc, page, &mut rows)?;
+    Ok(RowList::from_vec(rows))
 }

@@ -6,7 +6,7 @@ ghost use Rattle.dir_pages.specs.declared.row.Row.{Row as RowItem};
 ghost use Rattle.dir_rows.specs.Directory.{IsWellFormed, row_pages, rows_at, rows_in};
 
 use bitfile_set::BitfileSet;
-use dir_pages::{Row, RowList, RowName, Rows};
+use dir_pages::{Row, RowList, push_rows};
 use domain_base::{OutOfMemory, Tag};
 use std::alloc::Global;
 
@@ -22,18 +22,10 @@ fn copy_rows<S: BitfileSet>(
     ensures { OnOk result (rows.new.items ≡ rows.old.items ++ rows_at number (row_pages (S.files
         set.now) dir)) }
 {
-    let Some(page) = set.dir_page(dir, number) else {
-        return Ok(());
-    };
-    for row in Rows::new(page) {
-        let name = RowName::copy_of(alloc, row.name)?;
-        rows.push(Row {
-            tag: row.tag,
-            kind: row.kind,
-            name,
-        })?;
+    match set.dir_page(dir, number) {
+        Some(page) => push_rows(alloc, page, rows),
+        None => Ok(()),
     }
-    Ok(())
 }
 
 /// Copies of all rows, page after page.
