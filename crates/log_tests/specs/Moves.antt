@@ -1,12 +1,25 @@
 -- What moving a log to another volume leaves.
-use Rattle.std.specs.Prelude.{◌⊎◌, ◌*◌}
-use Rattle.domain_base.specs.Limits.{block_bytes, page_bytes}
+use Rattle.std.specs.Prelude.{◌≡◌, ◌≢◌, ◌⊎◌, ◌+◌, ◌*◌, ◌^◌, ◌<◌, ℕ, List}
+use Rattle.domain_base.specs.Limits.{block_bytes, log_pages, page_bytes}
 use Rattle.volume_disk.specs.Disk.{Disk, Tells}
 use Rattle.volume_disk.specs.Image.{IsIn, Places}
 use Rattle.volume_disk.specs.Run.{LeavesOnly}
+use Rattle.disk_label.specs.Anchor.{IsWhole}
 use Rattle.disk_label.specs.FirstPages.{anchors_page}
 use Rattle.disk_label.specs.declared.anchor.Anchor.{Anchor}
+use Rattle.log_ring.specs.Homes.{HasMembers}
+use Rattle.log_ring.specs.Ring.{IsRing}
 use Rattle.log_recovery.specs.Readable.{IsReadable, WouldBeGoodNow}
+use Rattle.meta_log.specs.Log.{Log}
+
+-- a log may be moved to the volume of an anchor, where the rack has its ring and its members
+pub record MayMoveTo (sizes : List ℕ) (log : Log) (anchor : Anchor) : Type 0 where
+  pub other : anchor.log_vol ≢ log.anchor.log_vol
+  pub whole : IsWhole anchor
+  pub pages : anchor.log_pages ≡ log_pages
+  pub ring : IsRing sizes anchor
+  pub members : HasMembers sizes anchor
+  pub number : log.anchor.number + 1 < 2 ^ 63
 
 -- the page of anchors of the volume that an anchor's log is on, and the first gate of its ring
 abbrev pub IsMoving : Anchor → Places

@@ -5,6 +5,7 @@ ghost use Rattle.log_ring.specs.Homes.{AreLoggable, HasMembers};
 ghost use Rattle.log_ring.specs.Ring.{IsRing};
 ghost use Rattle.meta_log.specs.Log.{next_number};
 ghost use Rattle.log_tests.specs.Calls.{HasMember, MayAppend, MayBringHome};
+ghost use Rattle.log_tests.specs.Moves.{MayMoveTo};
 
 use crate::counting::{CountRack, NO_CALLS};
 use disk_label::{Anchor, Member, write_anchor, write_label};
@@ -211,7 +212,7 @@ pub fn append_run(
 }
 
 /// The log's anchor with volume 3 as one more member, of so many pages, and the log on it.
-fn moved(old: &Anchor, pages: u32) -> Anchor {
+pub fn moved(old: &Anchor, pages: u32) -> Anchor {
     let [first, second, _third, ..] = old.members;
     let open = Member { pages, state: 1 };
     Anchor {
@@ -236,6 +237,19 @@ fn may_move<R: Rack>(log: &MetaLog, rack: &R, anchor: &Anchor) -> bool
         && is_whole(anchor)
         && has_ring(rack, anchor)
         && has_members(rack, log.anchor())
+}
+
+/// Whether a log may be moved to the volume of an anchor by the calls that leave what recovery
+/// takes.
+pub fn may_move_to<R: Rack>(log: &MetaLog, rack: &R, anchor: &Anchor) -> bool
+    ensures { IsTrue result → MayMoveTo (R.disk rack.now).sizes log.now anchor.now }
+{
+    anchor.log_vol != log.anchor().log_vol
+        && anchor.log_pages == LOG_PAGES
+        && log.anchor().number < 1 << 60
+        && is_whole(anchor)
+        && has_ring(rack, anchor)
+        && has_members(rack, anchor)
 }
 
 /// Brings a log home and moves it to volume 3: the number of the anchor, or the volume of which a

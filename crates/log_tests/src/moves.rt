@@ -1,16 +1,12 @@
 //! A caller that moves a log to another volume.
-ghost use Rattle.std.specs.Prelude.{◌≡◌, ◌≢◌, ◌+◌, ◌^◌, ◌<◌, IfErr, OnOk, []};
-ghost use Rattle.domain_base.specs.Limits.{log_pages};
+ghost use Rattle.std.specs.Prelude.{◌≡◌, IfErr, OnOk, []};
 ghost use Rattle.volume_disk.specs.Disk.{Tells};
 ghost use Rattle.volume_disk.specs.Run.{Touches};
-ghost use Rattle.disk_label.specs.Anchor.{IsWhole};
 ghost use Rattle.disk_label.specs.Fault.{HasSlotCause};
-ghost use Rattle.log_ring.specs.Homes.{HasMembers};
-ghost use Rattle.log_ring.specs.Ring.{IsRing};
 ghost use Rattle.log_recovery.specs.Readable.{WouldBeGoodNow};
 ghost use Rattle.meta_log.specs.Checkpoint.{next_anchor};
 ghost use Rattle.meta_log.specs.Log.{new_log};
-ghost use Rattle.log_tests.specs.Moves.{IsMoving, MovesReadably};
+ghost use Rattle.log_tests.specs.Moves.{IsMoving, MayMoveTo, MovesReadably};
 ghost use Rattle.log_tests.specs.Opened.{IsAtRest};
 
 use disk_label::{Anchor, SlotFault, ready_slot};
@@ -28,12 +24,7 @@ use volume_disk::{Rack, close_gate, sync_volumes};
 pub fn move_log<R: Rack>(log: &mut MetaLog, rack: &mut R, given: &Anchor) -> Result<(), SlotFault>
     requires rests { IsAtRest (R.disk rack.old) log.old }
     requires home { log.old.logged ≡ [] }
-    requires other { given.now.log_vol ≢ log.old.anchor.log_vol }
-    requires whole { IsWhole given.now }
-    requires pages { given.now.log_pages ≡ log_pages }
-    requires ring { IsRing (R.disk rack.old).sizes given.now }
-    requires members { HasMembers (R.disk rack.old).sizes given.now }
-    requires number { log.old.anchor.number + 1 < 2 ^ 63 }
+    requires may { MayMoveTo (R.disk rack.old).sizes log.old given.now }
     ensures touches { Touches (R.disk rack.old) (R.disk rack.new) (IsMoving given.now) }
     ensures any_moment { let next = next_anchor log.old given.now in
         MovesReadably (R.disk rack.old) (R.disk rack.new) next }
