@@ -1,0 +1,12 @@
+pub mod Ways
+pub mod CellTables
+pub mod TagPlaces
+pub mod Layouts
+pub mod FirstCells
+pub mod MapRecords
+pub mod OnTables
+pub mod ChainsThere
+pub mod ChainsApart
+pub mod Unbroken
+pub mod FilesThere
+pub mod EntryLinks

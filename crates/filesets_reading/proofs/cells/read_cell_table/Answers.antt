@@ -1,0 +1,38 @@
+use Rattle.std.proofs.Common.{◌≡◌, ◌∙◌, ◌++◌, ◌∷◌, [], List, ℕ, true, false, sym, ap, subst}
+use Rattle.disk_label.specs.FirstPages.{first_pages}
+use Rattle.disk_label.specs.declared.anchor.Member.{Member}
+use Rattle.disk_label.specs.declared.first_pages.FirstPages.{FirstPages}
+use Rattle.domain_layout.specs.Layout.{IsCellTable}
+use Rattle.domain_layout.specs.Reached.{first_cells}
+use Rattle.filesets_reading.specs.Good.{frame_at}
+use Rattle.filesets_reading.proofs.CellTables.{CellWalk, comes_there, walk_begins, walk_ends, walk_on}
+use Rattle.filesets_reading.proofs.cells.read_cell_table.Goals as goal
+
+pub loop-init : goal.loop-init
+loop-init g c =
+    let pages = g.M.MetaPages.pages c.args.pages.now in
+    let frame = frame_at c.args.anchor.now c.args.version in
+    let first : first_cells frame c.args.vol ≡ c.of-page.result.cells =
+    ap (λ (m : Member). (first_pages c.args.version m.pages).cells) (sym c.member_of.ensures) ∙ ap (λ (f : FirstPages). f.cells) (sym c.of-page.ensures) in
+    subst (λ (t : List ℕ). CellWalk pages frame c.args.vol t c.of-page.result.cells) (sym c.new-table.ensures.items)
+    (subst (CellWalk pages frame c.args.vol []) first (walk_begins pages frame c.requires.good c.args.vol c.requires.member))
+
+pub look_at_page-requires : goal.look_at_page-requires
+look_at_page-requires g c =
+    comes_there (g.M.MetaPages.pages c.args.pages.now) (frame_at c.args.anchor.now c.args.version) c.requires.good c.args.vol c.requires.member c.loop.table.items c.loop.page c.loop.invariant
+
+pub returns-then-next-eq0 : goal.returns-then-next-eq0
+returns-then-next-eq0 g c =
+    let pages = g.M.MetaPages.pages c.args.pages.now in
+    let frame = frame_at c.args.anchor.now c.args.version in
+    subst (IsCellTable pages c.args.vol (first_cells frame c.args.vol)) (sym c.in_ok-push.ensures.items)
+    (walk_ends pages frame c.requires.good c.args.vol c.requires.member c.loop.table.items c.loop.page c.in_ok-next.next c.loop.invariant c.in_ok-next.ensures.decided c.in_ok-next.ensures.next
+    c.if-next-eq0.true)
+
+pub loop-preserved : goal.loop-preserved
+loop-preserved g c =
+    let pages = g.M.MetaPages.pages c.args.pages.now in
+    let frame = frame_at c.args.anchor.now c.args.version in
+    subst (λ (t : List ℕ). CellWalk pages frame c.args.vol t c.in_ok-next.next) (sym c.in_ok-push.ensures.items)
+    (walk_on pages frame c.requires.good c.args.vol c.requires.member c.loop.table.items c.loop.page c.in_ok-next.next c.loop.invariant c.in_ok-next.ensures.decided c.in_ok-next.ensures.next
+    c.if-next-eq0.false)

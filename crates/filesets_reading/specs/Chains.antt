@@ -1,0 +1,52 @@
+-- The chains of a fileset's files, which are whole where no rule is broken.
+use Rattle.std.specs.Prelude.{◌≡◌, ◌/◌, ◌^◌, ◌≤◌, ℕ, List, Some, slice_get}
+use Rattle.domain_base.specs.declared.place.CellAt.{CellAt}
+use Rattle.domain_base.specs.declared.place.Home.{Home}
+use Rattle.domain_base.specs.declared.place.Tag.{Tag}
+use Rattle.page_store.specs.Pages.{Pages}
+use Rattle.log_ring.specs.Homes.{member_of}
+use Rattle.bmt_mcells.specs.Chain.{IsBroken, LinksFrom, PlacedCell}
+use Rattle.tag_dirs.specs.Directory.{IsDirectoryAt, cell_of}
+use Rattle.tag_dirs.specs.declared.dir.TagPlace.{TagPlace}
+use Rattle.domain_layout.specs.Faults.{HasNoFault}
+use Rattle.domain_layout.specs.Layout.{IsLayout, Layout}
+use Rattle.domain_layout.specs.Owners.{frame_of}
+use Rattle.domain_layout.specs.TagRules.{HasTags}
+
+-- a chain of cells begins there
+abbrev pub HasLinks : Pages → CellAt → Type 0
+HasLinks pages at = (cells : List PlacedCell) × LinksFrom pages at cells
+
+-- and so at each cell to which a tag leads
+abbrev pub HaveLinks : Pages → List TagPlace → Type 0
+HaveLinks pages places =
+    (tag : Tag) (at : CellAt) → cell_of pages places tag ≡ Some at → HasLinks pages at
+
+-- the same of the tags of a slot, and of all slots of a page
+abbrev pub HasLinksAt : Pages → List TagPlace → ℕ → Type 0
+HasLinksAt pages places slot = (tag : Tag) (at : CellAt) → tag.slot ≡ slot
+    → cell_of pages places tag ≡ Some at → HasLinks pages at
+
+abbrev pub HaveLinksOn : Pages → List TagPlace → TagPlace → Type 0
+HaveLinksOn pages places place = (tag : Tag) (at : CellAt) → tag.slot / 1022 ≡ place.index
+    → cell_of pages places tag ≡ Some at → HasLinks pages at
+
+-- a page of a directory
+abbrev pub IsPlaceOf : List TagPlace → TagPlace → Type 0
+IsPlaceOf places place = (k : ℕ) × (slice_get places k ≡ Some place)
+
+-- no chain to which a tag leads is broken
+abbrev pub IsUnbroken : Pages → List TagPlace → Type 0
+IsUnbroken pages places = (tag : Tag) (at broken : CellAt) → cell_of pages places tag ≡ Some at
+    → ¬ IsBroken pages at broken
+
+-- pages that are laid out as a domain's and break no rule; what is in a slot has this tag
+-- directory, and no volume has more pages than a number of four bytes says
+pub record MayHaveFiles (pages : Pages) (number : ℕ) (places : List TagPlace) : Type 0 where
+  pub layout : Layout
+  pub laid : IsLayout pages layout
+  pub no_fault : HasNoFault pages (frame_of layout)
+  pub small : (vol : ℕ) → (member_of layout.anchor vol).pages ≤ 2 ^ 32
+  pub first : Home
+  pub has : HasTags layout.table number first
+  pub directory : IsDirectoryAt pages first places

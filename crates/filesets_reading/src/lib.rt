@@ -1,0 +1,13 @@
+//! The plain reading of a domain's pages in which no rule is broken: slow, and by the definitions
+//! alone. What it reads is there, which no other proof of it gives.
+#![tactic(auto)]
+
+mod cells;
+mod chains;
+mod tables;
+mod tags;
+
+pub use cells::read_cell_table;
+pub use chains::look_at_files;
+pub use tables::{DomainTables, read_tables};
+pub use tags::read_tags;
