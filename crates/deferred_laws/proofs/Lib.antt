@@ -9,6 +9,7 @@ pub mod Laws
 pub mod Fronts
 pub mod Emptied
 pub mod AllKept
+pub mod TagCalls
 pub mod WaitOn
 pub mod Wells
 pub mod Said

@@ -1,10 +1,12 @@
 //! Laws of the steps in which things are let go of, each the contract of a function without a body.
 #![tactic(auto)]
 
+mod calls;
 mod steps;
 mod together;
 mod waiting;
 
+pub use calls::{files_stay_together, other_tags_stay};
 pub use steps::{
     others_stay, pages_are_read_as_before, removed_files_are_gone, trimmed_files_keep_all,
     trimmed_files_keep_their_front,

@@ -1,0 +1,26 @@
+//! What calls on one tag of a fileset leave as it was.
+ghost use Rattle.std.specs.Prelude.{◌≡◌, ℕ, false};
+ghost use Rattle.domain_base.specs.declared.place.Tag.{Tag};
+ghost use Rattle.domain_base.specs.declared.version.Version.{Version};
+ghost use Rattle.page_store.specs.Bitfiles.{same_tag};
+ghost use Rattle.bitfile_core.specs.Together.{AreTogether};
+ghost use Rattle.deferred_laws.specs.Calls.{Calls, FilesetNow};
+
+/// Every other tag has the chain that it had, if it had one, with all that its cells say: what its
+/// file is, and where its pages stand.
+pub fn other_tags_stay()
+    ensures { (fileset : ℕ) (version : Version) (tag : Tag) (first last : FilesetNow)
+        → Calls fileset version tag first last → (other : Tag) → same_tag other tag ≡ false
+        → last.chains other ≡ first.chains other }
+{}
+
+/// The fileset's files belong together with their tag directory, free cells, free space and pages,
+/// where they did so before the calls: no call undoes it, whatever it answers.
+pub fn files_stay_together()
+    ensures { (fileset : ℕ) (version : Version) (tag : Tag) (first last : FilesetNow)
+        → Calls fileset version tag first last
+        → AreTogether fileset first.places first.domain.space first.domain.cells
+        first.domain.pages first.chains
+        → AreTogether fileset last.places last.domain.space last.domain.cells last.domain.pages
+        last.chains }
+{}
