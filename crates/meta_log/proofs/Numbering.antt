@@ -1,4 +1,4 @@
--- Numbers go up by one, and each time the rack makes four calls or more.
+-- Numbers go up by one, and each time the rack makes five calls or more.
 use Rattle.std.proofs.Common.{ℕ, ◌+◌, ◌*◌, ◌<◌, ◌≤◌, List, [], ◌∷◌, length, arith}
 use Rattle.volume_disk.specs.Disk.{Disk}
 use Rattle.volume_disk.specs.Run.{IsLaterBy}
@@ -13,7 +13,7 @@ keeps_numbers first old new log later within = let anchor = within.anchor in let
 pub forces_numbers : (first : ℕ) (old new : Disk) (log : Log) → ForcesNumbers first old new log
 forces_numbers first old new log later more within = let anchor = within.anchor in record { anchor = omega arith; group = group log.pending more }
   where
-    group : (images : List PageImage) → (0 < length images → IsLaterBy 5 old new) → 4 * (log.anchor.group + (log.groups + length (groups_of (next_number log) images))) ≤ 4 * first + new.calls
+    group : (images : List PageImage) → (0 < length images → IsLaterBy 5 old new) → 5 * (log.anchor.group + (log.groups + length (groups_of (next_number log) images))) ≤ 5 * first + new.calls
     group [] none = let was = within.group in omega arith
     group (image ∷ images) some = let was = within.group in let by = some (omega arith) in omega arith
 

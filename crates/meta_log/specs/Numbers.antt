@@ -8,10 +8,10 @@ use Rattle.meta_log.specs.Force.{forced}
 use Rattle.meta_log.specs.Log.{Log, new_log, next_number}
 
 -- a log's anchor and its next group have numbers that are higher than this one by no more than a
--- quarter of the calls that the rack has made
+-- fifth of the calls that the rack has made
 pub record AreNumbersWithin (first : ℕ) (disk : Disk) (log : Log) : Type 0 where
-  pub anchor : 4 * log.anchor.number ≤ 4 * first + disk.calls
-  pub group : 4 * next_number log ≤ 4 * first + disk.calls
+  pub anchor : 5 * log.anchor.number ≤ 5 * first + disk.calls
+  pub group : 5 * next_number log ≤ 5 * first + disk.calls
 
 -- so they are after more calls
 abbrev pub KeepsNumbers : ℕ → Disk → Disk → Log → Type 0
@@ -30,8 +30,9 @@ MovesNumbers first old new log given =
     IsLaterBy 6 old new → AreNumbersWithin first old log
     → AreNumbersWithin first new (new_log (next_anchor log given))
 
--- a rack makes fewer than 2^64 calls: from a number below 2^62 less 1, the next ones are below 2^63
+-- a rack makes fewer than 2^64 calls: from a number that is higher than 2^62 by 64 at most, as that
+-- of the last group of a ring may be, the next ones are below 2^63
 abbrev pub LeavesNumbers : ℕ → Disk → Log → Type 0
 LeavesNumbers first disk log =
-    first < 2 ^ 62 - 1 → disk.calls < 2 ^ 64 → AreNumbersWithin first disk log
+    first ≤ 2 ^ 62 + 64 → disk.calls < 2 ^ 64 → AreNumbersWithin first disk log
     → (next_number log + 1 < 2 ^ 63) × (log.anchor.number + 1 < 2 ^ 63)
