@@ -1,29 +1,27 @@
 -- Pages of cells that are read one after the other are the table of a volume.
-use Rattle.std.proofs.Common.{◌≡◌, ◌∙◌, ◌⊎◌, inl, inr, ℕ, zero, suc, ◌+◌, ◌<◌, ◌≤◌, Bool, true, false, cond, nat_eq, nat_lt, ◌&&◌, List, [], ◌∷◌, ◌++◌, length, Option, Some, None, IfSome, IfNone, IsSomeAnd, slice_get, slice_index, refl, sym, ap, subst, arith, ⊎_elim}
+use Rattle.std.proofs.Common.{◌≡◌, ◌∙◌, inl, inr, ℕ, zero, suc, ◌+◌, ◌<◌, Bool, true, false, cond, nat_eq, nat_lt, ◌&&◌, List, [], ◌∷◌, ◌++◌, length, Option, Some, None, IfSome, IfNone, IsSomeAnd, slice_get, slice_index, refl, sym, ap, subst, arith, ⊎_elim}
 use Rattle.std.proofs.lemmas.Bool.{cases_Bool, eq-eqb, eqb-true, lt-ltb}
-use Rattle.std.proofs.lemmas.Option.{slice_get-get_or, slice_get_past}
+use Rattle.std.proofs.lemmas.Option.{slice_get-get_or}
 use Rattle.std.specs.Option.{option_and_then, option_map}
 use Rattle.std.specs.Prelude.{map, slice_index_or}
 use Rattle.domain_base.specs.declared.place.CellAt.{CellAt}
 use Rattle.domain_base.specs.declared.place.Home.{Home}
 use Rattle.domain_base.specs.Page.{zero_bytes}
-use Rattle.domain_base.specs.Version.{bitmap_pages}
-use Rattle.log_ring.specs.Homes.{member_of}
 use Rattle.page_store.specs.Pages.{Pages}
 use Rattle.record_table.specs.Fields.{number_at}
 use Rattle.bmt_mcells.specs.Cell.{Cell, IsCell, IsFreeOrUsed}
 use Rattle.bmt_mcells.specs.CellPage.{IsCellPage, cell_at, cell_of, free_cells, index_of, is_cell_page, next_of}
 use Rattle.bmt_mcells.specs.Chain.{StandsAt}
 use Rattle.bmt_mcells.specs.declared.used.UsedCell.{UsedCell}
-use Rattle.domain_layout.specs.CellRules.{HasWrongCell, HasWrongHeader, IsCellOf, IsCellsFault, IsCellsPage}
+use Rattle.domain_layout.specs.CellRules.{HasWrongHeader, IsCellsFault, IsCellsPage}
 use Rattle.domain_layout.specs.Faults.{IsTableFault, IsTablesFault, FaultRow}
 use Rattle.domain_layout.specs.Layout.{IsCellTable, IsMember, IsPageAt}
-use Rattle.domain_layout.specs.Reached.{Frame, IsRead, IsUnread, cells_way, first_cells}
+use Rattle.domain_layout.specs.Reached.{Frame, IsUnread, cells_way, first_cells}
 use Rattle.layout_laws.proofs.ChainsAlike.{same_bytes}
-use Rattle.layout_laws.proofs.OnePage.{HasOne, one_of, some_same}
+use Rattle.layout_laws.proofs.OnePage.{one_of, some_same}
 use Rattle.layout_laws.proofs.OwnedOnce.{same_number}
 use Rattle.filesets_reading.specs.Good.{AreDecided, AreGood, IsDecided}
-use Rattle.filesets_reading.proofs.Ways.{IsWayTo, IsWholeWay, comes_read, get_map, get_pushed, get_seam, map_pushed, way_begins, way_ends, way_on, within_of}
+use Rattle.filesets_reading.proofs.Ways.{IsWayTo, IsWholeWay, comes_read, get_map, get_pushed, map_pushed, way_begins, way_ends, way_on}
 
 -- ---- what no fault says
 

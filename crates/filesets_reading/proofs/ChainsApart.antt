@@ -1,19 +1,18 @@
 -- Where no rule is broken, the chains of two files share no cell.
-use Rattle.std.proofs.Common.{◌≡◌, ◌∙◌, ◌⊎◌, inl, inr, ℕ, zero, suc, ◌<◌, ◌≤◌, Bool, true, false, nat_eq, nat_lt, ◌&&◌, ◌||◌, List, [], ◌∷◌, ◌++◌, length, Option, Some, None, Contains, slice_get, refl, sym, ap, subst, arith, ⊎_elim}
+use Rattle.std.proofs.Common.{◌≡◌, ◌∙◌, ◌⊎◌, inl, inr, ℕ, zero, suc, ◌<◌, true, false, nat_eq, nat_lt, ◌&&◌, ◌||◌, List, [], ◌∷◌, ◌++◌, Some, None, Contains, slice_get, refl, sym, ap, subst, arith, ⊎_elim}
 use Rattle.std.proofs.lemmas.Bool.{cases_order, eq-eqb, lt-ltb, or_left, or_right}
 use Rattle.domain_base.specs.declared.place.CellAt.{CellAt}
 use Rattle.domain_base.specs.declared.place.Tag.{Tag}
 use Rattle.page_store.specs.Bitfiles.{same_tag}
 use Rattle.page_store.specs.Pages.{Pages}
 use Rattle.record_table.specs.Fields.{number_at}
-use Rattle.bmt_mcells.specs.Cell.{Cell, IsFileset}
+use Rattle.bmt_mcells.specs.Cell.{Cell}
 use Rattle.bmt_mcells.specs.Chain.{Follow, PlacedCell, StandsAt, may_follow, places}
-use Rattle.bmt_mcells.specs.declared.head.CellKind.{CellKind}
 use Rattle.bmt_mcells.specs.declared.head.CellKind.TheVariants as kinds
 use Rattle.bmt_mcells.proofs.Unique.{one_stands}
 use Rattle.bitfile_cells.specs.Files.{AreFile}
 use Rattle.bitfile_core.specs.Files.{AreApart}
-use Rattle.domain_layout.specs.CellRules.{Follows, IsChainHead, IsInChain, IsLink, IsPlace, Link, begins, is_before}
+use Rattle.domain_layout.specs.CellRules.{Follows, IsChainHead, IsInChain, IsLink, Link, begins, is_before}
 use Rattle.domain_layout.specs.Faults.{HasNoFault}
 use Rattle.domain_layout.specs.Layout.{IsLayout, Layout}
 use Rattle.domain_layout.specs.Owners.{frame_of}

@@ -1,10 +1,10 @@
 -- Where no rule is broken, the chain of cells from the first cell of a file is that file's.
-use Rattle.std.proofs.Common.{◌≡◌, ◌∙◌, ◌⊎◌, inl, inr, ℕ, zero, suc, ◌+◌, ◌^◌, ◌<◌, ◌≤◌, Bool, true, false, cond, not, nat_eq, ◌&&◌, ◌||◌, List, [], ◌∷◌, ◌++◌, length, Option, Some, None, IsSome, Contains, refl, sym, ap, subst, arith, ⊎_elim}
+use Rattle.std.proofs.Common.{◌≡◌, ◌∙◌, inl, inr, ℕ, zero, suc, ◌+◌, ◌^◌, ◌≤◌, Bool, true, false, cond, not, ◌&&◌, ◌||◌, List, [], ◌∷◌, ◌++◌, Option, Some, None, Contains, refl, sym, ap, subst, arith, ⊎_elim}
 use Rattle.std.proofs.lemmas.Bool.{and_parts, cases_Bool, cases_lt}
 use Rattle.std.proofs.lemmas.Bool.{le-leb}
 use Rattle.std.proofs.lemmas.Grind.{flat_map-append}
 use Rattle.std.proofs.lemmas.List.{append-nil}
-use Rattle.std.specs.List.{AllByRecursion, flat_map, list_all}
+use Rattle.std.specs.List.{AllByRecursion, list_all}
 use Rattle.domain_base.specs.declared.place.CellAt.{CellAt}
 use Rattle.domain_base.specs.declared.place.Home.{Home}
 use Rattle.domain_base.specs.declared.place.Tag.{Tag}
@@ -15,28 +15,28 @@ use Rattle.record_table.specs.Records.{Allowed, kind_of}
 use Rattle.record_table.specs.declared.record.Record.{Record}
 use Rattle.bmt_mcells.specs.Cell.{Cell, IsFileset, record_of}
 use Rattle.bmt_mcells.specs.CellPage.{home_of}
-use Rattle.bmt_mcells.specs.Chain.{AreLinked, Follow, LinksFrom, PlacedCell, StandsAt, may_follow, places, records_of}
+use Rattle.bmt_mcells.specs.Chain.{AreLinked, Follow, PlacedCell, StandsAt, may_follow, records_of}
 use Rattle.bmt_mcells.specs.declared.head.CellKind.{CellKind}
 use Rattle.bmt_mcells.specs.declared.head.CellKind.TheVariants as kinds
 use Rattle.bmt_mcells.proofs.Walk.{one_kind}
 use Rattle.extent_maps.specs.declared.run.PagePlace.TheVariants.{Absent, At}
-use Rattle.extent_records.specs.Rows.{AreOneMap, IsPlaced, NoPageTwice, runs_in, runs_of, times}
+use Rattle.extent_records.specs.Rows.{IsPlaced, NoPageTwice, runs_in, runs_of, times}
 use Rattle.extent_records.specs.Writing.{IsMapRecord, most_rows, places_in}
 use Rattle.extent_records.proofs.PutLemmas.{times_append}
-use Rattle.bitfile_cells.specs.Files.{AreFile, HasMap, IsFile, IsMapCell, has_rows, map_records}
+use Rattle.bitfile_cells.specs.Files.{AreFile, HasMap, IsMapCell, map_records}
 use Rattle.bitfile_cells.proofs.MapRecords.{runs_by_map}
 use Rattle.bitfile_core.specs.Files.{HasFirstKinds, IsOf, is_first_kind}
-use Rattle.domain_layout.specs.CellRules.{AreInChain, Follows, IsChainHead, IsLink, IsPlace, IsUsed, Link, agree, begins, has_first_records, has_its_kinds, has_kind, is_chain_records, is_good_first, item_of, keeps_well, of_clone, of_original, say_removed}
+use Rattle.domain_layout.specs.CellRules.{Follows, IsChainHead, IsUsed, Link, agree, begins, has_first_records, has_its_kinds, has_kind, is_chain_records, is_good_first, item_of, keeps_well, of_clone, of_original, say_removed}
 use Rattle.std.specs.Option.{option_map_or}
 use Rattle.fileset_table.specs.Table.{Table}
 use Rattle.domain_layout.specs.Faults.{HasNoFault}
-use Rattle.domain_layout.specs.Layout.{IsLayout, Layout}
+use Rattle.domain_layout.specs.Layout.{IsLayout, IsMember, Layout}
 use Rattle.domain_layout.specs.Owners.{frame_of}
 use Rattle.domain_layout.specs.Reached.{MayBe}
 use Rattle.domain_layout.specs.TagRules.{IsFirstOf}
-use Rattle.layout_laws.proofs.Named.{begins_file, follows_on, last_link, link_of, link_to, no_cell}
+use Rattle.layout_laws.proofs.Named.{follows_on, last_link, link_of, link_to, no_cell}
 use Rattle.layout_laws.proofs.OnePage.{some_same}
-use Rattle.layout_laws.proofs.OwnedOnce.{no_extent, same_number}
+use Rattle.layout_laws.proofs.OwnedOnce.{no_extent}
 use Rattle.layout_laws.proofs.Reached.{may_be_by}
 use Rattle.filesets_reading.proofs.FirstCells.{OneRecord, all_first, chain_record, one_record}
 use Rattle.filesets_reading.proofs.MapRecords.{map_record, some_times}
@@ -154,7 +154,7 @@ all_placed (c ∷ cs) maps =
 
 -- ---- the cells of a chain
 
-module _ (pages : Pages) (layout : Layout) (laid : IsLayout pages layout) (none : HasNoFault pages (frame_of layout)) (small : (vol : ℕ) → (member_of layout.anchor vol).pages ≤ 2 ^ 32) where
+module _ (pages : Pages) (layout : Layout) (laid : IsLayout pages layout) (none : HasNoFault pages (frame_of layout)) (small : (vol : ℕ) → IsMember layout.anchor vol → (member_of layout.anchor vol).pages ≤ 2 ^ 32) where
   -- what a cell in use says of pages
   may_stand : (at : CellAt) (cell : Cell) → ¬ ¬ IsUsed pages (frame_of layout) at cell → (value : Record) → Contains cell.records value → (p : ℕ) (home : Home) → places_in value p ≡ At home → MayBe (frame_of layout) home
   may_stand at cell used value among p home stands =

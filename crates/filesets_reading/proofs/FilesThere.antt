@@ -1,22 +1,18 @@
 -- Where no rule is broken, and the chains of its tags were read, a fileset has its files.
-use Rattle.std.proofs.Common.{◌≡◌, ◌∙◌, ℕ, ◌^◌, ◌≤◌, Bool, true, false, List, [], ◌∷◌, Option, Some, None, IfSome, IsSomeAnd, refl, sym, ap, subst}
+use Rattle.std.proofs.Common.{◌≡◌, ℕ, false, List, [], ◌∷◌, Option, Some, None, IfSome, IsSomeAnd, refl, sym, subst}
 use Rattle.domain_base.specs.declared.place.CellAt.{CellAt}
-use Rattle.domain_base.specs.declared.place.Home.{Home}
 use Rattle.domain_base.specs.declared.place.Tag.{Tag}
-use Rattle.log_ring.specs.Homes.{member_of}
 use Rattle.page_store.specs.Bitfiles.{same_tag}
 use Rattle.page_store.specs.Pages.{Pages}
-use Rattle.bmt_mcells.specs.Chain.{IsBroken, LinksFrom, PlacedCell}
+use Rattle.bmt_mcells.specs.Chain.{LinksFrom, PlacedCell}
 use Rattle.tag_dirs.specs.declared.dir.TagPlace.{TagPlace}
-use Rattle.tag_dirs.specs.Directory.{IsDirectoryAt, cell_of}
+use Rattle.tag_dirs.specs.Directory.{cell_of}
 use Rattle.bitfile_cells.specs.Files.{IsFile}
-use Rattle.bitfile_core.specs.Files.{AreApart, AreFiles, Chains, HasFiles, LeadsToFile}
-use Rattle.domain_layout.specs.Faults.{HasNoFault}
-use Rattle.domain_layout.specs.Layout.{IsLayout, Layout}
+use Rattle.bitfile_core.specs.Files.{AreApart, Chains, HasFiles, LeadsToFile}
 use Rattle.domain_layout.specs.Owners.{frame_of}
-use Rattle.domain_layout.specs.TagRules.{HasTags, IsFirstOf}
+use Rattle.domain_layout.specs.TagRules.{IsFirstOf}
 use Rattle.layout_laws.proofs.Named.{first_there}
-use Rattle.filesets_reading.specs.Chains.{HasLinks, HaveLinks, IsUnbroken, MayHaveFiles}
+use Rattle.filesets_reading.specs.Chains.{HaveLinks, IsUnbroken, MayHaveFiles}
 use Rattle.filesets_reading.proofs.ChainsApart.{files_apart}
 use Rattle.filesets_reading.proofs.ChainsThere.{FileThere, file_there}
 use Rattle.filesets_reading.proofs.Unbroken.{unbroken}

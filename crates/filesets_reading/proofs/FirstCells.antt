@@ -1,9 +1,9 @@
 -- Where no rule is broken, the first cell of a file has one record that says where pages stand, and
 -- so has each cell behind it.
-use Rattle.std.proofs.Common.{◌≡◌, ◌∙◌, ◌⊎◌, inl, inr, ℕ, zero, suc, ◌+◌, ◌*◌, ◌^◌, ◌<◌, ◌≤◌, Bool, true, false, cond, not, nat_eq, nat_le, ◌&&◌, ◌||◌, List, [], ◌∷◌, Option, Some, None, is_some, Contains, refl, sym, ap, subst, arith, ⊎_elim}
+use Rattle.std.proofs.Common.{◌≡◌, ◌∙◌, ◌⊎◌, inl, inr, ℕ, suc, ◌*◌, ◌^◌, ◌≤◌, Bool, true, false, cond, not, nat_eq, nat_le, ◌||◌, List, [], ◌∷◌, Some, None, is_some, Contains, refl, sym, ap, subst, arith, ⊎_elim}
 use Rattle.std.proofs.lemmas.Bool.{and_parts, cases_Bool, eq-eqb, eqb-true, or_cases}
-use Rattle.std.specs.List.{AllByRecursion, filter, list_all}
-use Rattle.record_table.specs.Records.{Allowed, kind_of}
+use Rattle.std.specs.List.{AllByRecursion, list_all}
+use Rattle.record_table.specs.Records.{kind_of}
 use Rattle.record_table.specs.declared.record.Record.{Record}
 use Rattle.record_table.specs.declared.record.Record.TheVariants as written
 use Rattle.bmt_mcells.specs.Cell.{AreRising, id_of, place_of, record_of}

@@ -1,5 +1,5 @@
 -- Pages that have their tables are laid out as a domain's.
-use Rattle.std.proofs.Common.{◌≡◌, ◌∙◌, ◌⊎◌, inl, inr, ℕ, ◌<◌, ◌≤◌, length, List, [], Option, Some, None, IsSome, IsSomeAnd, slice_get, refl, sym, ap, subst, arith, ⊎_elim}
+use Rattle.std.proofs.Common.{◌≡◌, ◌⊎◌, inl, inr, ℕ, ◌<◌, ◌≤◌, length, List, [], Option, Some, None, IsSomeAnd, slice_get, refl, sym, ap, subst, arith, ⊎_elim}
 use Rattle.std.proofs.lemmas.Bool.{cases_lt}
 use Rattle.std.proofs.lemmas.Option.{slice_get_within}
 use Rattle.std.specs.Option.{option_map_or}
@@ -14,8 +14,7 @@ use Rattle.fileset_table.specs.Page.{IsTablePage}
 use Rattle.fileset_table.specs.Table.{Table}
 use Rattle.fileset_table.specs.declared.slot.SlotItem.{SlotItem}
 use Rattle.domain_layout.specs.Faults.{HasNoFault, SaysTable}
-use Rattle.domain_layout.specs.Layout.{AreTagPlaces, IsCellTable, IsLayout, IsMember, Layout, first_tag_of}
-use Rattle.domain_layout.specs.Owners.{frame_of}
+use Rattle.domain_layout.specs.Layout.{AreTagPlaces, IsCellTable, IsMember, Layout, first_tag_of}
 use Rattle.domain_layout.specs.Reached.{Frame, first_cells}
 use Rattle.filesets_reading.specs.Good.{AreGood, IsNamed, frame_at}
 use Rattle.filesets_reading.specs.Tables.{AreTablesOf, AreTagsOf, HasCellTable, HasTagsOf, HaveCellTables}
@@ -33,13 +32,13 @@ member_or anchor vol =
     (cases_lt (member_of anchor vol).state 1)) (cases_lt 8 vol)) (cases_lt vol 1)
 
 cells_by : (pages : Pages) (frame : Frame) (vol : ℕ) → HasCellTable pages frame vol → (IsMember frame.anchor vol ⊎ ¬ IsMember frame.anchor vol) → List ℕ
-cells_by pages frame vol has (inl member) = (has member).0
+cells_by pages frame vol has (inl member) = (has member).1
 cells_by pages frame vol has (inr none) = []
 
 cells_are : (pages : Pages) (frame : Frame) (vol : ℕ) (has : HasCellTable pages frame vol) (known : IsMember frame.anchor vol ⊎ ¬ IsMember frame.anchor vol) → IsMember frame.anchor vol
     → IsCellTable pages vol (first_cells frame vol) (cells_by pages frame vol has known)
 unfolding cells_by
-cells_are pages frame vol has (inl is) member = (has is).1
+cells_are pages frame vol has (inl is) member = (has is).2
 cells_are pages frame vol has (inr none) member = absurd (none member)
 
 -- each volume has a table: one that is none of the 8 is no member
@@ -103,5 +102,10 @@ module _ (pages : Pages) (frame : Frame) (version : frame.anchor.version ≡ num
       tags = tag_places;
     };
     table = refl;
+    all = by_last (slice_get tables.tags.items 31) refl (tags 31 (omega arith));
+    small = λ vol member. (has_table pages frame cells vol member).0;
     tags = λ number places there. ap (λ o. option_map_or (λ places. places) o []) there;
-  }
+  } where
+    by_last : (o : Option (List TagPlace)) → slice_get tables.tags.items 31 ≡ o → IsSomeAnd o (HasTagsOf pages tables.filesets 31) → 32 ≤ length tables.tags.items
+    by_last None at is = absurd is
+    by_last (Some places) at is = let within = slice_get_within tables.tags.items 31 places at in omega (arith, within)

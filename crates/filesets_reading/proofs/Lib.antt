@@ -10,3 +10,4 @@ pub mod ChainsApart
 pub mod Unbroken
 pub mod FilesThere
 pub mod EntryLinks
+pub mod Domains

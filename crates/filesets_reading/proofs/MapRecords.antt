@@ -1,25 +1,24 @@
 -- Records that the format allows say each page once; where no rule is broken, they place each.
-use Rattle.std.proofs.Common.{◌≡◌, ◌∙◌, ◌⊎◌, inl, inr, ℕ, zero, suc, ◌+◌, ◌-◌, ◌^◌, ◌<◌, ◌≤◌, Bool, true, false, cond, nat_eq, nat_lt, List, [], ◌∷◌, ◌++◌, Option, Some, None, Contains, refl, sym, ap, subst, arith, ⊎_elim}
+use Rattle.std.proofs.Common.{◌≡◌, ◌∙◌, inl, inr, ℕ, zero, suc, ◌+◌, ◌-◌, ◌^◌, ◌<◌, ◌≤◌, Bool, true, false, cond, nat_eq, List, [], ◌∷◌, ◌++◌, refl, sym, ap, subst, arith, ⊎_elim}
 use Rattle.std.proofs.lemmas.Bool.{cases_Bool, cases_lt, eqb-true}
 use Rattle.std.specs.List.{AllByRecursion, flat_map}
-use Rattle.domain_base.specs.Limits.{file_pages, max_volumes}
 use Rattle.domain_base.specs.declared.place.Home.{Home}
 use Rattle.log_ring.specs.Homes.{member_of}
-use Rattle.record_table.specs.Records.{Allowed, AreDense, AreExtents, AreHoles, NoExtent, NoHole, kind_of}
+use Rattle.record_table.specs.Records.{Allowed, AreExtents, AreHoles, NoExtent, NoHole, kind_of}
 use Rattle.record_table.specs.declared.record.ExtentField.{ExtentField}
 use Rattle.record_table.specs.declared.record.HoleField.{HoleField}
 use Rattle.record_table.specs.declared.record.Record.{Record}
 use Rattle.record_table.specs.declared.record.Record.TheVariants as written
-use Rattle.extent_maps.specs.Runs.{FitsVolume, IsRun, behind, covers, end_of, place_of, placed}
-use Rattle.extent_maps.specs.declared.run.PagePlace.{PagePlace}
+use Rattle.extent_maps.specs.Runs.{FitsVolume, behind, covers, end_of, place_of, placed}
 use Rattle.extent_maps.specs.declared.run.PagePlace.TheVariants.{Absent, At, Hole}
 use Rattle.extent_maps.specs.declared.run.Run.{Run}
 use Rattle.extent_maps.specs.declared.run.RunPlace.{RunPlace}
 use Rattle.extent_maps.specs.declared.run.RunPlace.TheVariants as place
-use Rattle.extent_maps.proofs.EditLemmas.{covers_from, covers_is}
+use Rattle.extent_maps.proofs.EditLemmas.{covers_from}
 use Rattle.extent_maps.proofs.RunLemmas.{covers_not_before, covers_not_behind}
 use Rattle.extent_records.specs.Rows.{IsPlaced, NoPageTwice, OnVolume, holes_at, run_of, runs_at, runs_in, times}
 use Rattle.extent_records.specs.Writing.{IsMapRecord, most_rows, places_in}
+use Rattle.domain_layout.specs.Layout.{IsMember}
 use Rattle.domain_layout.specs.Reached.{Frame, MayBe}
 
 -- ---- runs that rise
@@ -98,7 +97,7 @@ some_times (r ∷ rs) p some absent = by_cover (covers r p) refl some absent (so
 
 -- ---- pages that stand where they may
 
-module _ (frame : Frame) (small : (vol : ℕ) → (member_of frame.anchor vol).pages ≤ 2 ^ 32) where
+module _ (frame : Frame) (small : (vol : ℕ) → IsMember frame.anchor vol → (member_of frame.anchor vol).pages ≤ 2 ^ 32) where
   -- what is said of a run that is in front
   first_page : (r : Run) (rs : List Run) → 1 ≤ r.count → place_of (r ∷ rs) r.page ≡ placed (behind 0 r.first)
   first_page r rs some =
@@ -119,8 +118,8 @@ module _ (frame : Frame) (small : (vol : ℕ) → (member_of frame.anchor vol).p
       by_count home at zero count = omega (arith, some, count)
       by_count home at (suc n) count =
           let stands : place_of (r ∷ rs) (r.page + n) ≡ At (record { vol = home.vol; page = home.page + n }) = last_page r rs n count ∙ ap (λ f. placed (behind n f)) at in
-          let inside = (may (r.page + n) (record { vol = home.vol; page = home.page + n }) stands).0.1 in
-          omega (arith, inside, small home.vol, count)
+          let within = (may (r.page + n) (record { vol = home.vol; page = home.page + n }) stands).0 in
+          omega (arith, within.1, small home.vol within.0, count)
 
       by_first : (first : RunPlace) → r.first ≡ first → IsPlaced r
       by_first place.Holes at = record {

@@ -1,7 +1,5 @@
 -- A cell that has a place stands on a page of its volume's table.
-use Rattle.std.proofs.Common.{◌≡◌, ◌∙◌, ◌⊎◌, inl, inr, ℕ, zero, suc, ◌+◌, ◌<◌, ◌≤◌, Bool, true, false, cond, nat_eq, List, [], ◌∷◌, ◌++◌, length, Option, Some, None, Contains, IsSomeAnd, slice_get, slice_index, refl, sym, ap, subst, arith, ⊎_elim}
-use Rattle.std.proofs.lemmas.Bool.{cases_Bool, cases_lt, eqb-true}
-use Rattle.std.proofs.lemmas.Option.{slice_get-get_or, slice_get_past}
+use Rattle.std.proofs.Common.{◌≡◌, ◌∙◌, ℕ, zero, suc, ◌+◌, Bool, true, false, cond, nat_eq, List, [], ◌∷◌, ◌++◌, length, Some, None, Contains, IsSomeAnd, slice_get, slice_index, refl, sym, ap, subst, arith}
 use Rattle.std.specs.Prelude.{slice_index_or}
 use Rattle.domain_base.specs.declared.place.CellAt.{CellAt}
 use Rattle.domain_base.specs.declared.place.Home.{Home}
@@ -14,7 +12,6 @@ use Rattle.domain_layout.specs.Layout.{IsLayout, IsMember, IsPageAt, Layout}
 use Rattle.domain_layout.specs.Owners.{IsOnTable, frame_of}
 use Rattle.domain_layout.specs.Reached.{Reaches, begins, cells_way, goes_on}
 use Rattle.layout_laws.proofs.OnePage.{some_same}
-use Rattle.filesets_reading.proofs.CellTables.{past_end}
 use Rattle.filesets_reading.proofs.Ways.{pushed, within_of}
 
 contains_at : (xs : List ℕ) (k x : ℕ) → slice_get xs k ≡ Some x → Contains xs x

@@ -1,7 +1,7 @@
 -- Pages of tags that are read one after the other are a directory.
-use Rattle.std.proofs.Common.{◌≡◌, ◌∙◌, ◌⊎◌, inl, inr, ℕ, zero, suc, ◌+◌, ◌*◌, ◌<◌, ◌≤◌, Bool, true, false, cond, nat_eq, List, [], ◌∷◌, ◌++◌, length, Option, Some, None, IfSome, IsSomeAnd, slice_get, refl, sym, ap, subst, arith, ⊎_elim}
+use Rattle.std.proofs.Common.{◌≡◌, ◌∙◌, inl, inr, ℕ, suc, ◌+◌, ◌*◌, ◌<◌, ◌≤◌, Bool, true, false, cond, nat_eq, List, [], ◌∷◌, ◌++◌, length, Option, Some, None, IfSome, IsSomeAnd, slice_get, refl, sym, ap, subst, arith, ⊎_elim}
 use Rattle.std.proofs.lemmas.Bool.{cases_lt, cases_order, eqb-true}
-use Rattle.std.specs.Option.{option_and_then, option_map}
+use Rattle.std.specs.Option.{option_map}
 use Rattle.std.specs.Prelude.{map}
 use Rattle.domain_base.specs.declared.place.CellAt.{CellAt}
 use Rattle.domain_base.specs.declared.place.Home.{Home}
@@ -11,15 +11,12 @@ use Rattle.bmt_mcells.specs.Cell.{IsAddress}
 use Rattle.tag_dirs.specs.declared.dir.TagPlace.{TagPlace}
 use Rattle.tag_dirs.specs.declared.page.TagEntry.{TagEntry}
 use Rattle.tag_dirs.specs.Directory.{IsDirectoryAt, IsPageOf, home_behind}
-use Rattle.tag_dirs.specs.TagPage.{IsAllowed, IsSpelled, IsTagPage, cell_in, entry_of, index_of, next_of, slot_of}
-use Rattle.domain_layout.specs.Faults.{FaultRow, IsTableFault, IsTablesFault}
+use Rattle.tag_dirs.specs.TagPage.{IsAllowed, IsTagPage, cell_in, entry_of, index_of, next_of, slot_of}
 use Rattle.domain_layout.specs.Reached.{Frame, IsRead, IsUnread, on_volume, tags_way}
 use Rattle.domain_layout.specs.TagRules.{HasTags, IsTagsFault, IsTagsPage}
 use Rattle.fileset_table.proofs.Unique.{table_unique}
 use Rattle.fileset_table.specs.Page.{IsTablePage}
-use Rattle.fileset_table.specs.Table.{Table}
-use Rattle.domain_layout.specs.Faults.{SaysTable}
-use Rattle.layout_laws.proofs.OnePage.{HasOne, one_of, some_same}
+use Rattle.layout_laws.proofs.OnePage.{one_of, some_same}
 use Rattle.layout_laws.proofs.OwnedOnce.{on_a_volume, same_number}
 use Rattle.filesets_reading.specs.Good.{AreGood, HasTagsAt}
 use Rattle.filesets_reading.proofs.CellTables.{no_tables}

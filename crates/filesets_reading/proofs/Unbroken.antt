@@ -1,16 +1,13 @@
 -- Where no rule is broken, the chain from the first cell of a file is whole.
-use Rattle.std.proofs.Common.{◌≡◌, ◌∙◌, inl, inr, ℕ, ◌<◌, ◌≤◌, Bool, true, false, List, [], ◌∷◌, ◌++◌, Option, Some, None, Contains, IsSomeAnd, refl, sym, ap, subst, arith, ⊎_elim}
+use Rattle.std.proofs.Common.{◌≡◌, ◌∙◌, inl, inr, ℕ, true, false, List, [], ◌∷◌, ◌++◌, Some, Contains, IsSomeAnd, refl, sym, ap, subst, arith, ⊎_elim}
 use Rattle.std.proofs.lemmas.Bool.{cases_Bool}
-use Rattle.domain_base.specs.Page.{zero_bytes}
 use Rattle.domain_base.specs.declared.place.CellAt.{CellAt}
-use Rattle.domain_base.specs.declared.place.Home.{Home}
 use Rattle.domain_base.specs.declared.place.Tag.{Tag}
 use Rattle.page_store.specs.Pages.{Pages}
 use Rattle.record_table.specs.Fields.{number_at}
-use Rattle.bmt_mcells.specs.Cell.{Cell, IsCell, IsFreeCell, kind_number}
+use Rattle.bmt_mcells.specs.Cell.{Cell, IsFreeCell, kind_number}
 use Rattle.bmt_mcells.specs.CellPage.{cell_at, cell_of, home_of}
 use Rattle.bmt_mcells.specs.Chain.{HasHeadAt, IsBroken, LeadsAstray, Path, PlacedCell, StandsAt, astray, bad_cell, begins, goes_on, may_follow, no_cell as nothing, places}
-use Rattle.bmt_mcells.specs.declared.head.CellHead.{CellHead}
 use Rattle.bmt_mcells.specs.declared.head.CellKind.{CellKind}
 use Rattle.bmt_mcells.specs.declared.head.CellKind.TheVariants as kinds
 use Rattle.bmt_mcells.proofs.CellKinds.{used_not_zeros}

@@ -9,7 +9,7 @@ use Rattle.bmt_mcells.specs.Chain.{IsBroken, LinksFrom, PlacedCell}
 use Rattle.tag_dirs.specs.Directory.{IsDirectoryAt, cell_of}
 use Rattle.tag_dirs.specs.declared.dir.TagPlace.{TagPlace}
 use Rattle.domain_layout.specs.Faults.{HasNoFault}
-use Rattle.domain_layout.specs.Layout.{IsLayout, Layout}
+use Rattle.domain_layout.specs.Layout.{IsLayout, IsMember, Layout}
 use Rattle.domain_layout.specs.Owners.{frame_of}
 use Rattle.domain_layout.specs.TagRules.{HasTags}
 
@@ -41,12 +41,12 @@ IsUnbroken pages places = (tag : Tag) (at broken : CellAt) → cell_of pages pla
     → ¬ IsBroken pages at broken
 
 -- pages that are laid out as a domain's and break no rule; what is in a slot has this tag
--- directory, and no volume has more pages than a number of four bytes says
+-- directory, and no member has more pages than a number of four bytes says
 pub record MayHaveFiles (pages : Pages) (number : ℕ) (places : List TagPlace) : Type 0 where
   pub layout : Layout
   pub laid : IsLayout pages layout
   pub no_fault : HasNoFault pages (frame_of layout)
-  pub small : (vol : ℕ) → (member_of layout.anchor vol).pages ≤ 2 ^ 32
+  pub small : (vol : ℕ) → IsMember layout.anchor vol → (member_of layout.anchor vol).pages ≤ 2 ^ 32
   pub first : Home
   pub has : HasTags layout.table number first
   pub directory : IsDirectoryAt pages first places

@@ -1,3 +1,4 @@
 pub mod Good
 pub mod Tables
 pub mod Chains
+pub mod Domain

@@ -1,6 +1,7 @@
 -- The tables that were read of a domain.
-use Rattle.std.specs.Prelude.{◌≡◌, ◌<◌, ◌≤◌, ℕ, List, Some, IsSomeAnd, slice_get}
+use Rattle.std.specs.Prelude.{◌≡◌, ◌^◌, ◌<◌, ◌≤◌, ℕ, List, Some, IsSomeAnd, length, slice_get}
 use Rattle.page_store.specs.Pages.{Pages}
+use Rattle.log_ring.specs.Homes.{member_of}
 use Rattle.tag_dirs.specs.declared.dir.TagPlace.{TagPlace}
 use Rattle.fileset_table.specs.Table.{Table}
 use Rattle.fileset_table.specs.declared.slot.SlotItem.{SlotItem}
@@ -9,10 +10,11 @@ use Rattle.domain_layout.specs.Owners.{frame_of}
 use Rattle.domain_layout.specs.Reached.{Frame, first_cells}
 use Rattle.filesets_reading.specs.declared.tables.DomainTables.{DomainTables}
 
--- a volume has a table of cells, if it is a member
+-- a volume has a table of cells, if it is a member, and no more pages than four bytes say
 abbrev pub HasCellTable : Pages → Frame → ℕ → Type 0
 HasCellTable pages frame vol = IsMember frame.anchor vol
-    → (table : List ℕ) × IsCellTable pages vol (first_cells frame vol) table
+    → ((member_of frame.anchor vol).pages ≤ 2 ^ 32) × (table : List ℕ)
+    × IsCellTable pages vol (first_cells frame vol) table
 
 -- and so has each volume below this one
 abbrev pub HaveCellTables : ℕ → Pages → Frame → Type 0
@@ -34,5 +36,7 @@ pub record AreTablesOf (pages : Pages) (frame : Frame) (tables : DomainTables) :
   pub is : frame_of layout ≡ frame
   pub laid : IsLayout pages layout
   pub table : layout.table ≡ tables.filesets
+  pub all : 32 ≤ length tables.tags.items
+  pub small : (vol : ℕ) → IsMember frame.anchor vol → (member_of frame.anchor vol).pages ≤ 2 ^ 32
   pub tags : (number : ℕ) (places : List TagPlace)
       → slice_get tables.tags.items number ≡ Some places → layout.tags number ≡ places

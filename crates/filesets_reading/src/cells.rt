@@ -1,5 +1,6 @@
 //! The table of cells of a volume.
-ghost use Rattle.std.specs.Prelude.{◌≡◌, true, IfOk, IsSomeAnd, OnOk};
+ghost use Rattle.std.specs.Prelude.{◌≡◌, ◌^◌, ◌≤◌, true, IfOk, IsSomeAnd, OnOk};
+ghost use Rattle.disk_label.specs.FirstPages.{first_pages};
 ghost use Rattle.log_ring.specs.Homes.{member_of as member_there};
 ghost use Rattle.bmt_mcells.specs.CellPage.{is_cell_page, next_of};
 ghost use Rattle.domain_layout.specs.Layout.{IsCellTable, IsMember};
@@ -17,6 +18,14 @@ pub(crate) fn member_of(anchor: &Anchor, vol: VolIx) -> Member
     ensures { result ≡ member_there anchor.now vol }
 {
     anchor.members[vol.index()]
+}
+
+/// The first page of cells of a volume with so many pages, which four bytes say.
+fn first_page(version: Version, pages: u32) -> u32
+    ensures page { result ≡ (first_pages version pages).cells }
+    ensures small { pages ≤ 2 ^ 32 }
+{
+    FirstPages::of(version, pages).cells
 }
 
 /// Looks at a cell, so that it is known whether one in use stands there.
@@ -55,11 +64,12 @@ pub fn read_cell_table<M: MetaPages>(
 ) -> Result<Vec<u32>, OutOfMemory>
     requires good { AreGood (M.pages pages.now) (frame_at anchor.now version) }
     requires member { IsMember anchor.now vol }
-    ensures { IfOk result (λ table. IsCellTable (M.pages pages.now) vol
+    ensures table { IfOk result (λ table. IsCellTable (M.pages pages.now) vol
         (first_cells (frame_at anchor.now version) vol) table.items) }
+    ensures small { OnOk result ((member_there anchor.now vol).pages ≤ 2 ^ 32) }
 {
     let mut table = Vec::new(alloc);
-    let mut page = FirstPages::of(version, member_of(anchor, vol).pages).cells;
+    let mut page = first_page(version, member_of(anchor, vol).pages);
     for _ in 0..u64::MAX {
         let next = look_at_page(alloc, pages, Home { vol, page })?;
         table.push(page)?;

@@ -1,6 +1,5 @@
 //! The tables of a domain: that of its filesets, those of cells, and the tag directories.
 ghost use Rattle.std.specs.Prelude.{◌≡◌, ◌↔◌, IfOk, IsTrue, OnOk};
-ghost use Rattle.tag_dirs.specs.Directory.{IsDirectoryAt};
 ghost use Rattle.domain_layout.specs.Faults.{HasNoFault, SaysTable};
 ghost use Rattle.domain_layout.specs.Layout.{IsMember, first_tag_of};
 ghost use Rattle.filesets_reading.specs.Good.{AreGood, HasTagsAt, IsNamed, frame_at};
@@ -92,7 +91,7 @@ fn read_filesets_table<M: MetaPages>(
 }
 
 /// The first page of the tag directory of what is in a slot.
-fn first_tag(item: &SlotItem) -> Option<Home>
+pub(crate) fn first_tag(item: &SlotItem) -> Option<Home>
     ensures { result ≡ first_tag_of item.now }
 {
     match item {

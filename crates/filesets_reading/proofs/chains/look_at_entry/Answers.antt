@@ -1,4 +1,4 @@
-use Rattle.std.proofs.Common.{◌≡◌, ◌∙◌, ◌+◌, ◌*◌, ℕ, List, Option, None, Some, IfSome, Result, sym, ap, subst, arith}
+use Rattle.std.proofs.Common.{◌≡◌, ◌∙◌, ◌+◌, ◌*◌, None, Some, sym, ap, arith}
 use Rattle.std.specs.Option.{option_copied}
 use Rattle.record_table.specs.Fields.{number_at}
 use Rattle.filesets_reading.specs.Chains.{HasLinks, HasLinksAt}
