@@ -35,10 +35,11 @@ ghost use Rattle.log_recovery.specs.declared.redone.Redone.{Redone};
 ///
 /// A good anchor stays good in calls that touch only pages behind those of anchors (`keeps`), and
 /// in those that touch no label of a member and leave the anchor of each image (`beside`), as
-/// `write_label`, `ready_slot` and `close_gates` do of a volume that is no member. Recovery takes
-/// each image that is left while images are brought home and an anchor is written (`readable`): it
-/// refuses no log that was written so. That asks that the next anchor would be good; it would where
-/// only its number, slot, start and first group are others than those of a good one (`restarts`).
+/// `write_label` and `ready_slot` do of a volume that is no member, and `close_gates` once both its
+/// slots are ready. Recovery takes each image that is left while images are brought home and an
+/// anchor is written (`readable`): it refuses no log that was written so. That asks that the next
+/// anchor would be good; it would where only its number, slot, start and first group are others
+/// than those of a good one (`restarts`).
 pub fn recovery_laws()
     ensures synced { (disk : Disk) (groups : List Group) (redone : Redone)
         → MaySettleSynced disk groups redone }
