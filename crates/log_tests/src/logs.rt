@@ -115,6 +115,7 @@ fn has_members<R: Rack>(rack: &R, anchor: &Anchor) -> bool
 fn may_bring_home<R: Rack>(log: &MetaLog, rack: &R) -> bool
     ensures { IsTrue result → MayBringHome (R.disk rack.now) log.now log.now.anchor }
 {
+    // called to learn what holds of every log
     let _room = log.room();
     let anchor = log.anchor();
     !log.is_pending()
@@ -226,6 +227,7 @@ pub fn moved(old: &Anchor, pages: u32) -> Anchor {
 fn may_move<R: Rack>(log: &MetaLog, rack: &R, anchor: &Anchor) -> bool
     ensures { IsTrue result → MayBringHome (R.disk rack.now) log.now anchor.now }
 {
+    // called to learn what holds of every log
     let _room = log.room();
     let Some(vol) = VolIx::new(anchor.log_vol) else {
         return false;
@@ -270,6 +272,7 @@ pub fn move_ring(
     alloc: Global,
     page: u32,
 ) -> Result<Option<MetaLog>, OutOfMemory> {
+    // called to learn what holds of every log
     let _room = log.room();
     let mut moving = MetaLog::new(alloc, log.anchor())?;
     let anchor = Anchor {

@@ -34,6 +34,7 @@ pub fn move_log<R: Rack>(log: &mut MetaLog, rack: &mut R, given: &Anchor) -> Res
     ensures moved { OnOk result (log.new ≡ new_log (next_anchor log.old given.now)) }
     ensures cause { IfErr result (HasSlotCause (R.disk rack.old) (R.disk rack.new)) }
 {
+    // called to learn what holds of every log
     let _room = log.room();
     let Some(vol) = VolIx::new(given.log_vol) else {
         unreachable!()

@@ -90,6 +90,7 @@ pub fn log_change<R: Rack>(log: &mut MetaLog, rack: &mut R, change: &Change) -> 
     ensures refused { IsFalse result → IsFullFor log.old (length change.now)
         ⊎ HasFailed (R.disk rack.old) (R.disk rack.new) }
 {
+    // called to learn what holds of every change
     let _images = change.images();
     match log.append(change) {
         Ok(_) => {}
@@ -113,6 +114,7 @@ pub fn close_log<R: Rack>(log: &mut MetaLog, rack: &mut R) -> bool
     ensures refused { IsFalse result → (2 ^ 60 ≤ log.old.anchor.number)
         ⊎ HasFailed (R.disk rack.old) (R.disk rack.new) }
 {
+    // called to learn what holds of every log
     let _room = log.room();
     let anchor = *log.anchor();
     if anchor.number >= 1 << 60 {
