@@ -1,4 +1,5 @@
 pub mod Narrower
+pub mod OneFile
 pub mod Others
 pub mod ReadHomes
 pub mod Fits
@@ -15,4 +16,10 @@ pub mod Wells
 pub mod Said
 pub mod Tags
 pub mod Gone
+pub mod StillAmong
+pub mod TagFile
+pub mod PutWell
+pub mod FirstWell
+pub mod MakeWell
+pub mod CallsWell
 pub mod TagPages

@@ -17,7 +17,7 @@ use Rattle.deferred_delete.proofs.Well.{tag_page_well}
 use Rattle.deferred_laws.proofs.Narrower.{in_last}
 
 -- all is well by its parts
-well_by : (now : Now) (list : Listing) (files : Files) (space : Spaces) (cells : Cells) → now.list ≡ list → now.files ≡ files → now.space ≡ space → now.cells ≡ cells → IsWell (now_of list files space cells now.pages) → IsWell now
+pub well_by : (now : Now) (list : Listing) (files : Files) (space : Spaces) (cells : Cells) → now.list ≡ list → now.files ≡ files → now.space ≡ space → now.cells ≡ cells → IsWell (now_of list files space cells now.pages) → IsWell now
 well_by now list files space cells same_list same_files same_space same_cells well =
     let l = subst (λ (l : Listing). IsWell (now_of l files space cells now.pages)) (sym same_list) well in
     let f = subst (λ (f : Files). IsWell (now_of now.list f space cells now.pages)) (sym same_files) l in

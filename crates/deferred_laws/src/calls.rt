@@ -4,7 +4,9 @@ ghost use Rattle.domain_base.specs.declared.place.Tag.{Tag};
 ghost use Rattle.domain_base.specs.declared.version.Version.{Version};
 ghost use Rattle.page_store.specs.Bitfiles.{same_tag};
 ghost use Rattle.bitfile_core.specs.Together.{AreTogether};
+ghost use Rattle.deferred_delete.specs.Steps.{IsWell};
 ghost use Rattle.deferred_laws.specs.Calls.{Calls, FilesetNow};
+ghost use Rattle.deferred_laws.specs.Tags.{AreAmong};
 
 /// Every other tag has the chain that it had, if it had one, with all that its cells say: what its
 /// file is, and where its pages stand.
@@ -23,4 +25,16 @@ pub fn files_stay_together()
         first.domain.pages first.chains
         → AreTogether fileset last.places last.domain.space last.domain.cells last.domain.pages
         last.chains }
+{}
+
+/// Before and after the calls what is left on the list may be let go of: all files of the domain
+/// belong together with free cells, free space and pages, the list is one of them, and the
+/// fileset's files are among them. So steps may follow on calls, and calls on steps.
+pub fn all_stays_well_over_calls()
+    ensures { (fileset : ℕ) (version : Version) (tag : Tag) (first last : FilesetNow)
+        → Calls fileset version tag first last
+        → AreTogether fileset first.places first.domain.space first.domain.cells
+        first.domain.pages first.chains
+        → IsWell first.domain → AreAmong first.domain first.places first.chains
+        → IsWell last.domain × AreAmong last.domain last.places last.chains }
 {}

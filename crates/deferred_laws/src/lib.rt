@@ -6,7 +6,7 @@ mod steps;
 mod together;
 mod waiting;
 
-pub use calls::{files_stay_together, other_tags_stay};
+pub use calls::{all_stays_well_over_calls, files_stay_together, other_tags_stay};
 pub use steps::{
     others_stay, pages_are_read_as_before, removed_files_are_gone, trimmed_files_keep_all,
     trimmed_files_keep_their_front,

@@ -1,0 +1,165 @@
+-- All goes on to belong together where a tag names a new file.
+use Rattle.std.proofs.Common.{◌≡◌, ◌∙◌, ◌||◌, ℕ, zero, suc, Bool, true, false, cond, List, [], ◌∷◌, ◌++◌, Option, Some, None, IfSome, IsSomeAnd, Contains, refl, sym, ap, subst, arith, ⊎_elim}
+use Rattle.std.proofs.lemmas.Bool.{cases_Bool, true≢false}
+use Rattle.std.proofs.lemmas.List.Folds.{list_any-append}
+use Rattle.std.specs.Option.{option_and_then, option_map_or}
+use Rattle.domain_base.specs.declared.place.CellAt.{CellAt}
+use Rattle.domain_base.specs.declared.place.Home.{Home}
+use Rattle.domain_base.specs.declared.place.Tag.{Tag}
+use Rattle.domain_base.specs.declared.version.Version.{Version}
+use Rattle.domain_base.specs.declared.version.Version.TheVariants.{Three, Four}
+use Rattle.page_store.specs.Pages.{Pages, same_home}
+use Rattle.bmt_mcells.specs.Chain.{PlacedCell, places as cell_places}
+use Rattle.bmt_mcells.proofs.Changed.{homes_same}
+use Rattle.tag_dirs.specs.declared.dir.TagPlace.{TagPlace}
+use Rattle.tag_dirs.specs.Directory.{cell_of, has_home}
+use Rattle.extent_records.specs.Writing.{short_kind}
+use Rattle.free_cells.specs.Cells.{table_of}
+use Rattle.bitfile_cells.specs.Changes.{IsInUse}
+use Rattle.bitfile_cells.specs.FileChanges.{AreOnTables}
+use Rattle.bitfile_cells.specs.Files.{IsFile}
+use Rattle.bitfile_cells.proofs.ChainChanges.{in_first, stand_file}
+use Rattle.bitfile_cells.proofs.Chosen.{all_at}
+use Rattle.bitfile_cells.proofs.Spaces.{not_held}
+use Rattle.bitfile_core.specs.Creation.{with_new}
+use Rattle.bitfile_core.specs.Files.{AreApart, Chains, LeadsToFile, is_removed, says_remove}
+use Rattle.bitfile_core.specs.Together.{IsHeldApart}
+use Rattle.bitfile_core.proofs.Grown.{apart_taken, one_apart, one_tables}
+use Rattle.bitfile_core.proofs.OneChain.{same_tag_itself}
+use Rattle.chain_release.proofs.Given.{absent_home}
+use Rattle.chain_release.proofs.Outcome.{on_at}
+use Rattle.deferred_delete.specs.Listed.{left_of}
+use Rattle.deferred_delete.specs.Standing.{Files, source_in, source_of, with_file}
+use Rattle.deferred_delete.specs.Steps.{IsWell}
+use Rattle.deferred_delete.proofs.Standings.{file_there, standing}
+use Rattle.deferred_laws.specs.Calls.{FilesetNow, Makes}
+use Rattle.deferred_laws.specs.Tags.{AreAmong, start_of}
+use Rattle.deferred_laws.proofs.FirstWell.{NoMore}
+use Rattle.deferred_laws.proofs.OneFile.{IsPut, put_listed, put_together}
+use Rattle.deferred_laws.proofs.PutWell.{StandsWell, among_by, in_use}
+use Rattle.deferred_laws.proofs.StillAmong.{still_among}
+use Rattle.deferred_laws.proofs.TagFile.{beside_left, no_other_start}
+use Rattle.deferred_laws.proofs.Wells.{well_by}
+
+not_two : (version : Version) → ¬ 2 ≡ short_kind version
+not_two Three is = omega (arith, is)
+not_two Four is = omega (arith, is)
+
+not_six : (version : Version) → ¬ 6 ≡ short_kind version
+not_six Three is = omega (arith, is)
+not_six Four is = omega (arith, is)
+
+-- a directory with one page more has no other home more
+no_home_more : (places : List TagPlace) (p : TagPlace) (h : Home) → ¬ h ≡ p.home → has_home places h ≡ false → has_home (places ++ p ∷ []) h ≡ false
+no_home_more places p h other none =
+    list_any-append (λ (q : TagPlace). same_home h q.home) places (p ∷ []) ∙ ap (λ (b : Bool). b || (same_home h p.home || false)) none
+    ∙ ⊎_elim (λ same. absurd (other (homes_same h p.home same))) (λ differ. ap (λ (b : Bool). b || false) differ) (cases_Bool (same_home h p.home))
+
+file_inside : (pages : Pages) (at : CellAt) (cs : List PlacedCell) → IsFile pages at cs → Contains (cell_places cs) at
+file_inside pages at [] is = absurd is
+file_inside pages at (first ∷ rest) is = in_first at first rest is.0
+
+module _ (fileset : ℕ) (version : Version) (tag : Tag) (old new : FilesetNow) (stood : StandsWell fileset old) (s : Makes fileset version tag old new) where
+  abbrev files : Files
+  files = old.domain.files
+
+  abbrev first : PlacedCell
+  first = s.creates.first
+
+  abbrev after : List PlacedCell
+  after = first ∷ []
+
+  -- no file had the cell
+  not_used : (a : CellAt) (cs : List PlacedCell) → files a ≡ Some cs → Contains (cell_places cs) first.at → ⊥
+  not_used a cs is inside =
+      let was = standing old.domain.space old.domain.cells old.domain.pages files stood.well.together a cs is in
+      let cell = all_at (IsInUse old.domain.pages) cs first.at (in_use old.domain.pages cs (stand_file old.domain.pages a cs was.file)) inside in
+      s.creates.was_free cell.0 cell.1 (on_at old.domain.cells cs first.at was.on_tables inside)
+
+  no_file : files first.at ≡ None
+  no_file = by_chain (files first.at) refl
+    where
+      by_chain : (o : Option (List PlacedCell)) → files first.at ≡ o → files first.at ≡ None
+      by_chain None is = is
+      by_chain (Some cs) is = absurd (not_used first.at cs is (file_inside old.domain.pages first.at cs (standing old.domain.space old.domain.cells old.domain.pages files stood.well.together first.at cs is).file))
+
+  apart : (a : CellAt) (cs : List PlacedCell) → files a ≡ Some cs → AreApart after cs
+  apart a cs is q (zero, within, here) in_cs = not_used a cs is (subst (Contains (cell_places cs)) (sym here) in_cs)
+  apart a cs is q (suc k, within, here) in_cs = omega (arith, within)
+
+  tables : (vol p : ℕ) → Contains (table_of old.domain.cells vol) p → Contains (table_of new.domain.cells vol) p
+  tables vol p on = ⊎_elim
+      (λ cell. one_tables s.prefer old.domain.space new.domain.space old.domain.cells new.domain.cells old.domain.pages cell.cell vol p on)
+      (λ page. one_tables s.prefer _ new.domain.space old.domain.cells new.domain.cells old.domain.pages page.cell vol p on)
+      s.taken
+
+  held : (h : Home) → IsHeldApart old.domain.space old.domain.cells h → IsHeldApart new.domain.space new.domain.cells h
+  held h is = ⊎_elim
+      (λ cell. one_apart s.prefer old.domain.space new.domain.space old.domain.cells new.domain.cells old.domain.pages cell.cell h is)
+      (λ page. one_apart s.prefer _ new.domain.space old.domain.cells new.domain.cells old.domain.pages page.cell h (apart_taken old.domain.space old.domain.cells page.home h is))
+      s.taken
+
+  tags : (h : Home) → IsHeldApart old.domain.space old.domain.cells h → has_home old.places h ≡ false → has_home new.places h ≡ false
+  tags h is none = ⊎_elim
+      (λ cell. ap (λ (ps : List TagPlace). has_home ps h) cell.same ∙ none)
+      (λ page.
+      ap (λ (ps : List TagPlace). has_home ps h) page.joins
+      ∙ no_home_more old.places (record { index = page.index; home = page.home }) h
+      (λ same. not_held old.domain.space page.home.vol page.home.page page.free (subst (IsHeldApart old.domain.space old.domain.cells) same is).held)
+      none)
+      s.taken
+
+  abbrev chains_now : Chains
+  chains_now = with_new tag after old.chains
+
+  tag_now : chains_now tag ≡ Some after
+  tag_now = ap (λ (b : Bool). cond b (Some after) (old.chains tag)) (same_tag_itself tag)
+
+  led : LeadsToFile fileset new.places new.domain.pages tag after
+  led = subst (λ o. IfSome o (LeadsToFile fileset new.places new.domain.pages tag)) tag_now (s.creates.together.files.some tag)
+
+  first_file : (o : Option CellAt) → IsSomeAnd o (λ at. IsFile new.domain.pages at after) → IsFile new.domain.pages first.at after
+  first_file None is = absurd is
+  first_file (Some at) is = (refl, is.1)
+
+  on_now : AreOnTables new.domain.cells after
+  on_now = subst (λ o. IfSome o (AreOnTables new.domain.cells)) tag_now (s.creates.together.on_tables tag)
+
+  put : IsPut old.domain.space new.domain.space old.domain.cells new.domain.cells new.domain.pages files first.at after NoMore
+  put = record {
+    allocated = s.creates.together.allocated;
+    stands = record { file = first_file (cell_of new.domain.pages new.places tag) led.leads; on_tables = on_now };
+    tables = tables;
+    held = held;
+    leaves = λ a cs is not_at. beside_left old.domain.space old.domain.cells old.domain.pages new.domain.pages files stood.well.together [] s.others a cs is (λ q inside none. omega (arith, none.1));
+    apart = λ a cs is not_at. apart a cs is;
+    pages = λ p home is. absurd (absent_home home (s.creates.no_page p) is);
+    nowhere = λ p home more. absurd more;
+    held_more = λ p home more. absurd more;
+    only_more = λ p q home more again. absurd more;
+    source = ap (option_and_then source_in) (s.creates.says.others 2 (λ e. omega (arith, e)) (λ e. omega (arith, e)) (not_two version)) ∙ sym (ap (option_and_then source_of) no_file);
+  }
+
+  pub made_well : IsWell new.domain
+  made_well = well_by new.domain old.domain.list (with_file first.at (Some after) files) new.domain.space new.domain.cells s.list s.files refl refl
+      (record {
+        together = put_together old.domain.space new.domain.space old.domain.cells new.domain.cells old.domain.pages new.domain.pages files stood.well.together first.at after NoMore put;
+        listed = put_listed old.domain.space new.domain.space old.domain.cells new.domain.cells old.domain.pages new.domain.pages files stood.well.together first.at after NoMore put old.domain.list stood.well.listed
+            (λ some. absurd (true≢false (sym some ∙ ap (λ o. is_there (option_and_then left_of o)) no_file)))
+            (λ home inside p more. more);
+      })
+    where
+      is_there : {X : Type 0} → Option X → Bool
+      is_there None = false
+      is_there (Some x) = true
+
+  pub made_among : AreAmong new.domain new.places new.chains
+  made_among = among_by new.domain new.places new.places chains_now new.chains old.domain.list (with_file first.at (Some after) files) new.domain.space new.domain.cells s.list s.files refl s.chains
+      (still_among old.domain.list old.domain.space new.domain.space old.domain.cells new.domain.cells old.domain.pages new.domain.pages files stood.well.together first.at after NoMore put
+      tag old.places new.places old.chains chains_now
+      (record { same = stood.among.same; live = stood.among.live; low = stood.among.low; no_tags = stood.among.no_tags; not_listed = stood.among.not_listed })
+      (λ t other. ap (λ (b : Bool). cond b (Some after) (old.chains t)) other)
+      (λ t a other start. no_other_start fileset old.places old.domain.pages old.chains stood.together.files files stood.among.same tag first.at no_file t a start)
+      (ap (λ o. option_and_then (with_file first.at (Some after) files) (option_and_then start_of o)) tag_now ∙ file_there first.at (Some after) files ∙ sym tag_now)
+      (subst (λ o. IfSome o (λ cs. is_removed cs ≡ false)) (sym tag_now) (ap (λ o. option_map_or says_remove o false) (s.creates.says.others 6 (λ e. omega (arith, e)) (λ e. omega (arith, e)) (not_six version))))
+      s.low tags (λ p h more. absurd more) stood.well.listed.pages_held)

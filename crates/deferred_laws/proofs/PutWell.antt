@@ -1,0 +1,195 @@
+-- All goes on to belong together where a tag's file has a page at a home.
+use Rattle.std.proofs.Common.{◌≡◌, ◌∙◌, ℕ, Bool, true, false, cond, nat_eq, List, [], ◌∷◌, Some, IfSome, IsSome, Contains, refl, sym, ap, subst, ⊎_elim, ◌⊎◌, inl, inr}
+use Rattle.std.proofs.lemmas.Bool.{eq-eqb, eqb-true}
+use Rattle.std.specs.List.{AllByRecursion}
+use Rattle.std.specs.Option.{option_and_then, option_map_or}
+use Rattle.domain_base.specs.declared.place.CellAt.{CellAt}
+use Rattle.domain_base.specs.declared.place.Home.{Home}
+use Rattle.domain_base.specs.declared.place.Tag.{Tag}
+use Rattle.domain_base.specs.declared.version.Version.{Version}
+use Rattle.page_store.specs.Pages.{Pages}
+use Rattle.bmt_mcells.specs.Chain.{PlacedCell, StandsAt, places as cell_places}
+use Rattle.tag_dirs.specs.declared.dir.TagPlace.{TagPlace}
+use Rattle.tag_dirs.specs.Directory.{has_home}
+use Rattle.extent_maps.specs.declared.run.PagePlace.TheVariants.{Absent, At}
+use Rattle.free_cells.specs.Cells.{Cells, table_of}
+use Rattle.free_space.specs.Spaces.{Spaces}
+use Rattle.bitfile_cells.specs.Files.{places_of}
+use Rattle.bitfile_cells.proofs.ChainChanges.{stand_file}
+use Rattle.bitfile_cells.proofs.Chosen.{all_at}
+use Rattle.bitfile_cells.specs.Changes.{IsInUse}
+use Rattle.bitfile_cells.proofs.Spaces.{not_held}
+use Rattle.bitfile_core.specs.Changes.{with_chain}
+use Rattle.bitfile_core.specs.Files.{AreApart, Chains, is_removed}
+use Rattle.bitfile_core.specs.Together.{AreTogether, IsFilePage, IsHeldApart}
+use Rattle.bitfile_core.proofs.Again.{one_home}
+use Rattle.bitfile_core.proofs.Grown.{apart_grows, apart_taken, one_apart, one_tables, tables_grow}
+use Rattle.bitfile_core.proofs.OneChain.{chain_other, placed_at, same_tag_itself, tag_after}
+use Rattle.chain_release.proofs.Outcome.{on_at}
+use Rattle.deferred_delete.specs.Listed.{left_of, leftover_in}
+use Rattle.deferred_delete.specs.Listing.{Listing}
+use Rattle.deferred_delete.specs.Standing.{Files, place_in, source_in, with_file}
+use Rattle.deferred_delete.specs.Steps.{IsWell, Now, now_of}
+use Rattle.deferred_delete.proofs.Firsts.{first_same}
+use Rattle.deferred_delete.proofs.Standings.{apart_by, file_there, place_by, source_by, standing}
+use Rattle.deferred_laws.specs.Calls.{FilesetNow, Gives, Moves, PutsPage}
+use Rattle.deferred_laws.specs.Tags.{AreAmong, start_of}
+use Rattle.deferred_laws.specs.Waits.{IsNowhere}
+use Rattle.deferred_laws.proofs.OneFile.{IsPut, put_listed, put_together}
+use Rattle.deferred_laws.proofs.Said.{says_first}
+use Rattle.deferred_laws.proofs.StillAmong.{still_among}
+use Rattle.deferred_laws.proofs.TagFile.{beside_left, file_is, other_starts, started}
+use Rattle.deferred_laws.proofs.Wells.{well_by}
+
+-- a fileset's files among those of a domain, where all belongs together
+pub record StandsWell (fileset : ℕ) (at : FilesetNow) : Type 0 where
+  pub well : IsWell at.domain
+  pub together : AreTogether fileset at.places at.domain.space at.domain.cells at.domain.pages at.chains
+  pub among : AreAmong at.domain at.places at.chains
+
+-- cells that stand are in use
+pub in_use : (pages : Pages) (cs : List PlacedCell) → AllByRecursion (λ (c : PlacedCell). StandsAt pages c.at c.cell) cs → AllByRecursion (λ (c : PlacedCell). IsInUse pages c.at) cs
+in_use pages [] stand = tt
+in_use pages (c ∷ cs) stand = ((c.cell, stand.0), in_use pages cs stand.1)
+
+-- so it is by its parts
+pub among_by : (now : Now) (places places_now : List TagPlace) (chains chains_now : Chains) (list : Listing) (files : Files) (space : Spaces) (cells : Cells) → now.list ≡ list → now.files ≡ files → places_now ≡ places → chains_now ≡ chains
+    → AreAmong (now_of list files space cells now.pages) places chains → AreAmong now places_now chains_now
+among_by now places places_now chains chains_now list files space cells same_list same_files same_places same_chains among =
+    let one = subst (λ (l : Listing). AreAmong (now_of l files space cells now.pages) places chains) (sym same_list) among in
+    let two = subst (λ (f : Files). AreAmong (now_of now.list f space cells now.pages) places chains) (sym same_files) one in
+    let three = subst (λ (ps : List TagPlace). AreAmong (now_of now.list now.files space cells now.pages) ps chains) (sym same_places) two in
+    let four = subst (λ (cs : Chains). AreAmong (now_of now.list now.files space cells now.pages) places_now cs) (sym same_chains) three in
+    record { same = four.same; live = four.live; low = four.low; no_tags = four.no_tags; not_listed = four.not_listed }
+
+module _ (fileset : ℕ) (version : Version) (tag : Tag) (old new : FilesetNow) (stood : StandsWell fileset old) (home : Home) (chain : List PlacedCell) (s : PutsPage fileset version tag home chain old new)
+    (tables : (vol p : ℕ) → Contains (table_of old.domain.cells vol) p → Contains (table_of new.domain.cells vol) p) (held : (h : Home) → IsHeldApart old.domain.space old.domain.cells h → IsHeldApart new.domain.space new.domain.cells h)
+    (nowhere : IsNowhere old.domain.files home) (not_listed : ¬ Contains old.domain.list.tag_pages home) where
+  abbrev after : List PlacedCell
+  after = s.change.change.changes.after
+
+  abbrev at : CellAt
+  at = s.change.start
+
+  abbrev files : Files
+  files = old.domain.files
+
+  begins : (start_of chain ≡ Some at) × (start_of after ≡ Some at)
+  begins = started new.domain.pages at chain after s.change.change.changes.first s.change.change.changes.is_file
+
+  there : files at ≡ Some chain
+  there = file_is fileset old.places old.domain.pages old.chains stood.together.files files stood.among.same tag chain s.is at begins.0
+
+  beside : (a : CellAt) (cs : List PlacedCell) → files a ≡ Some cs → ¬ a ≡ at → AreApart cs chain
+  beside a cs is not_at = apart_by old.domain.space old.domain.cells old.domain.pages files stood.well.together a at cs chain is there not_at
+
+  joined_apart : (a : CellAt) (cs : List PlacedCell) → files a ≡ Some cs → ¬ a ≡ at → AreApart after cs
+  joined_apart a cs is not_at q in_after in_cs =
+      let c = placed_at after q in_after in
+      let was = standing old.domain.space old.domain.cells old.domain.pages files stood.well.together a cs is in
+      let joins = s.change.change.joined c.0 c.1 (λ in_chain. beside a cs is not_at q in_cs (subst (Contains (cell_places chain)) c.2 in_chain)) in
+      let cell = all_at (IsInUse old.domain.pages) cs q (in_use old.domain.pages cs (stand_file old.domain.pages a cs was.file)) in_cs in
+      joins.was_free cell.0 (subst (λ (b : CellAt). StandsAt old.domain.pages b cell.0) (sym c.2) cell.1)
+      (subst (λ (b : CellAt). Contains (table_of old.domain.cells b.vol) b.page) (sym c.2) (on_at old.domain.cells cs q was.on_tables in_cs))
+
+  abbrev More : ℕ → Home → Type 0
+  More p h = (p ≡ s.page) × (h ≡ home)
+
+  chain_now : with_chain tag (λ _. after) old.chains tag ≡ Some after
+  chain_now = tag_after tag after old.chains chain s.is tag (same_tag_itself tag)
+
+  page_now : places_of after s.page ≡ At home → IsFilePage new.domain.space new.domain.cells old.places home
+  page_now is = s.change.together.file_pages tag s.page home (ap (λ o. option_map_or (λ cs. places_of cs s.page) o Absent) chain_now ∙ is)
+
+  at_page : places_of after s.page ≡ At home
+  at_page = s.change.change.changes.at s.page ∙ ap (λ (b : Bool). cond b (At home) (places_of chain s.page)) (eq-eqb s.page s.page refl)
+
+  pages : (p : ℕ) (h : Home) → places_of after p ≡ At h → (place_in files at p ≡ At h) ⊎ More p h
+  pages p h is = by_page (nat_eq p s.page) refl
+    where
+      by_page : (b : Bool) → nat_eq p s.page ≡ b → (place_in files at p ≡ At h) ⊎ More p h
+      by_page true same = inr (eqb-true p s.page same, sym (one_home home h (sym (ap (λ (b : Bool). cond b (At home) (places_of chain p)) same) ∙ sym (s.change.change.changes.at p) ∙ is)))
+      by_page false other = inl (place_by files at chain p there ∙ sym (ap (λ (b : Bool). cond b (At home) (places_of chain p)) other) ∙ sym (s.change.change.changes.at p) ∙ is)
+
+  put : IsPut old.domain.space new.domain.space old.domain.cells new.domain.cells new.domain.pages files at after More
+  put = record {
+    allocated = s.change.together.allocated;
+    stands = record { file = s.change.change.changes.is_file; on_tables = s.change.change.on_tables };
+    tables = tables;
+    held = held;
+    leaves = λ a cs is not_at. beside_left old.domain.space old.domain.cells old.domain.pages new.domain.pages files stood.well.together chain s.others a cs is (beside a cs is not_at);
+    apart = joined_apart;
+    pages = pages;
+    nowhere = λ p h more. subst (IsNowhere files) (sym more.1) nowhere;
+    held_more = λ p h more. subst (IsHeldApart new.domain.space new.domain.cells) (sym more.1) (page_now at_page).apart;
+    only_more = λ p q h x y. x.0 ∙ sym y.0;
+    source = ap (option_and_then source_in) (first_same 2 refl chain after s.change.change.changes.first) ∙ sym (source_by files at chain there);
+  }
+
+  left_same : IsSome (option_and_then left_of (files at)) → IsSome (left_of after)
+  left_same some = subst IsSome (ap (option_and_then left_of) there ∙ sym (ap (option_and_then leftover_in) (first_same 6 refl chain after s.change.change.changes.first))) some
+
+  pub puts_well : IsWell new.domain
+  puts_well = well_by new.domain old.domain.list (with_file at (Some after) files) new.domain.space new.domain.cells s.list s.files refl refl
+      (record {
+        together = put_together old.domain.space new.domain.space old.domain.cells new.domain.cells old.domain.pages new.domain.pages files stood.well.together at after More put;
+        listed = put_listed old.domain.space new.domain.space old.domain.cells new.domain.cells old.domain.pages new.domain.pages files stood.well.together at after More put old.domain.list stood.well.listed left_same
+            (λ h inside p more. not_listed (subst (Contains old.domain.list.tag_pages) more.1 inside));
+      })
+
+  live_now : IfSome (with_chain tag (λ _. after) old.chains tag) (λ cs. is_removed cs ≡ false)
+  live_now = subst (λ o. IfSome o (λ cs. is_removed cs ≡ false)) (sym chain_now)
+      ((says_first chain after s.change.change.changes.first).live (subst (λ o. IfSome o (λ cs. is_removed cs ≡ false)) s.is (stood.among.live tag)))
+
+  pub puts_among : AreAmong new.domain new.places new.chains
+  puts_among = among_by new.domain old.places new.places (with_chain tag (λ _. after) old.chains) new.chains old.domain.list (with_file at (Some after) files) new.domain.space new.domain.cells s.list s.files s.places s.chains
+      (still_among old.domain.list old.domain.space new.domain.space old.domain.cells new.domain.cells old.domain.pages new.domain.pages files stood.well.together at after More put
+      tag old.places old.places old.chains (with_chain tag (λ _. after) old.chains)
+      (record { same = stood.among.same; live = stood.among.live; low = stood.among.low; no_tags = stood.among.no_tags; not_listed = stood.among.not_listed })
+      (λ t other. chain_other tag (λ _. after) old.chains t other)
+      (other_starts fileset old.places old.domain.pages old.chains stood.together.files files stood.among.same tag chain s.is at begins.0)
+      (ap (λ o. option_and_then (with_file at (Some after) files) (option_and_then start_of o)) chain_now ∙ ap (option_and_then (with_file at (Some after) files)) begins.1 ∙ file_there at (Some after) files ∙ sym chain_now)
+      live_now stood.among.low (λ h is no. no)
+      (λ p h more. subst (λ (h : Home). has_home old.places h ≡ false) (sym more.1) (page_now at_page).no_tags)
+      stood.well.listed.pages_held)
+
+-- ---- the two calls
+
+module _ (fileset : ℕ) (version : Version) (tag : Tag) (old new : FilesetNow) (stood : StandsWell fileset old) where
+  module _ (s : Gives fileset version tag old new) where
+    given_tables : (vol p : ℕ) → Contains (table_of old.domain.cells vol) p → Contains (table_of new.domain.cells vol) p
+    given_tables vol p on = tables_grow s.puts.page (At s.home) s.chain s.prefer _ new.domain.space old.domain.cells new.domain.cells old.domain.pages s.taken.taken vol p on
+
+    given_held : (h : Home) → IsHeldApart old.domain.space old.domain.cells h → IsHeldApart new.domain.space new.domain.cells h
+    given_held h is = apart_grows s.puts.page (At s.home) s.chain s.prefer _ new.domain.space old.domain.cells new.domain.cells old.domain.pages s.taken.taken h (apart_taken old.domain.space old.domain.cells s.home h is)
+
+    not_free : (h : Home) → s.home ≡ h → IsHeldApart old.domain.space old.domain.cells h → ⊥
+    not_free h same is = not_held old.domain.space s.home.vol s.home.page s.taken.free (subst (IsHeldApart old.domain.space old.domain.cells) (sym same) is).held
+
+    nowhere : IsNowhere old.domain.files s.home
+    nowhere a p is = not_free s.home refl (stood.well.together.held a p s.home is)
+
+    pub given_well : IsWell new.domain
+    given_well = puts_well fileset version tag old new stood s.home s.chain s.puts given_tables given_held nowhere (λ inside. not_free s.home refl (stood.well.listed.pages_held s.home inside))
+
+    pub given_among : AreAmong new.domain new.places new.chains
+    given_among = puts_among fileset version tag old new stood s.home s.chain s.puts given_tables given_held nowhere (λ inside. not_free s.home refl (stood.well.listed.pages_held s.home inside))
+
+  module _ (s : Moves fileset version tag old new) where
+    moved_tables : (vol p : ℕ) → Contains (table_of old.domain.cells vol) p → Contains (table_of new.domain.cells vol) p
+    moved_tables vol p on = ⊎_elim
+        (λ same. subst (λ (c : Cells). Contains (table_of c vol) p) (sym same.1) on)
+        (λ one. one_tables s.home.vol old.domain.space new.domain.space old.domain.cells new.domain.cells old.domain.pages one.1 vol p on)
+        s.taken
+
+    moved_held : (h : Home) → IsHeldApart old.domain.space old.domain.cells h → IsHeldApart new.domain.space new.domain.cells h
+    moved_held h is = ⊎_elim
+        (λ same. subst (λ (sp : Spaces). IsHeldApart sp new.domain.cells h) (sym same.0) (subst (λ (c : Cells). IsHeldApart old.domain.space c h) (sym same.1) is))
+        (λ one. one_apart s.home.vol old.domain.space new.domain.space old.domain.cells new.domain.cells old.domain.pages one.1 h is)
+        s.taken
+
+    pub moved_well : IsWell new.domain
+    moved_well = puts_well fileset version tag old new stood s.home s.chain s.puts moved_tables moved_held s.nowhere s.not_listed
+
+    pub moved_among : AreAmong new.domain new.places new.chains
+    moved_among = puts_among fileset version tag old new stood s.home s.chain s.puts moved_tables moved_held s.nowhere s.not_listed
