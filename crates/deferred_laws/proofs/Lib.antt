@@ -20,6 +20,7 @@ pub mod StillAmong
 pub mod TagFile
 pub mod PutWell
 pub mod FirstWell
+pub mod Listing
 pub mod MakeWell
 pub mod CallsWell
 pub mod TagPages

@@ -1,4 +1,5 @@
 pub mod Calls
 pub mod Kept
+pub mod Lists
 pub mod Tags
 pub mod Waits

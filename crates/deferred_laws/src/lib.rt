@@ -1,11 +1,17 @@
-//! Laws of the steps in which things are let go of, each the contract of a function without a body.
+//! Laws of the steps in which things are let go of, and of calls on files between them, each the
+//! contract of a function without a body.
 #![tactic(auto)]
 
+mod adding;
 mod calls;
 mod steps;
 mod together;
 mod waiting;
 
+pub use adding::{
+    all_stays_well_where_a_file_is_listed, all_stays_well_where_a_page_is_listed,
+    cut_files_are_to_be_trimmed, dropped_files_are_to_be_removed,
+};
 pub use calls::{all_stays_well_over_calls, files_stay_together, other_tags_stay};
 pub use steps::{
     others_stay, pages_are_read_as_before, removed_files_are_gone, trimmed_files_keep_all,

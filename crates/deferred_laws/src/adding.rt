@@ -1,0 +1,41 @@
+//! What is put on the list leaves all as it was.
+ghost use Rattle.std.specs.Prelude.{◌≡◌, ◌++◌, ◌∷◌, [], ℕ, Option, Some};
+ghost use Rattle.std.specs.Option.{option_and_then};
+ghost use Rattle.domain_base.specs.declared.place.CellAt.{CellAt};
+ghost use Rattle.domain_base.specs.declared.place.Home.{Home};
+ghost use Rattle.domain_base.specs.declared.place.Tag.{Tag};
+ghost use Rattle.record_table.specs.declared.record.Leftover.TheVariants.{Remove, Trim};
+ghost use Rattle.bitfile_core.specs.Truncation.{says_truncated};
+ghost use Rattle.deferred_delete.specs.Listed.{left_of};
+ghost use Rattle.deferred_delete.specs.Listing.{Adds, Listing};
+ghost use Rattle.deferred_delete.specs.Steps.{IsWell, Now};
+ghost use Rattle.deferred_laws.specs.Calls.{Drops, FilesetNow, SetsFirst};
+ghost use Rattle.deferred_laws.specs.Lists.{MayList, MayListPage, with_list};
+
+/// A file that may be put on the list, or whose clone may be set anew there, may then be let go of
+/// with all else on the list.
+pub fn all_stays_well_where_a_file_is_listed()
+    ensures { (first : Now) (at : CellAt) (clone : Option CellAt) (list : Listing)
+        → IsWell first → MayList first at clone → Adds at clone first.list.entries list.entries
+        → list.tag_pages ≡ first.list.tag_pages → IsWell (with_list list first) }
+{}
+
+/// So may a page of a tag directory that may be put on the list.
+pub fn all_stays_well_where_a_page_is_listed()
+    ensures { (first : Now) (home : Home) (list : Listing) → IsWell first → MayListPage first home
+        → list.tag_pages ≡ first.list.tag_pages ++ home ∷ []
+        → list.entries ≡ first.list.entries → IsWell (with_list list first) }
+{}
+
+/// A file whose tag was taken out of use says that it is to be removed.
+pub fn dropped_files_are_to_be_removed()
+    ensures { (fileset : ℕ) (tag : Tag) (old new : FilesetNow) → (drops : Drops fileset tag old new)
+        → option_and_then left_of (new.domain.files drops.at) ≡ Some Remove }
+{}
+
+/// A file that was made shorter, and keeps fewer pages, says that stale ones are to be let go of.
+pub fn cut_files_are_to_be_trimmed()
+    ensures { (fileset : ℕ) (tag : Tag) (size keep : ℕ) (old new : FilesetNow)
+        → (cuts : SetsFirst fileset tag (says_truncated size (Some keep)) old new)
+        → option_and_then left_of (new.domain.files cuts.first.at) ≡ Some Trim }
+{}
