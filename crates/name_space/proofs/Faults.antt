@@ -5,7 +5,7 @@ use Rattle.page_store.specs.declared.fault.StoreFault.{StoreFault}
 use Rattle.page_store.specs.declared.fault.StoreFault.TheVariants as store
 use Rattle.fileset_model.specs.Paths.{first_refusal}
 use Rattle.fileset_model.specs.declared.fileset.FilesetSlot.{FilesetSlot}
-use Rattle.name_space.specs.Changes.{Checks, IsFaultOf, IsOriginal, fault_of}
+use Rattle.name_space.specs.Changes.{Checks, IfRefused, IsFaultOf, IsOriginal, fault_of}
 use Rattle.name_space.specs.declared.fault.NameFault.{NameFault}
 
 pub faulted : (checks : Checks) (old new : Bitfiles) (before after : ℕ) (fault : StoreFault) (answer : NameFault) → answer ≡ fault_of fault → IsCounted before after fault
@@ -15,3 +15,11 @@ faulted checks old new before after fault answer is counted allowed = subst (IsF
     by_fault : (fault : StoreFault) → IsCounted before after fault → IsFaultOf checks old new before after (fault_of fault)
     by_fault store.NoPage counted = (counted, allowed)
     by_fault store.OutOfMemory counted = tt
+
+-- a fault of a store is no refusal
+pub unrefused : (holds : Type 0) (fault : StoreFault) (answer : NameFault) → answer ≡ fault_of fault → IfRefused answer holds
+unrefused holds fault answer is = subst (λ a. IfRefused a holds) (sym is) (by_fault fault)
+  where
+    by_fault : (fault : StoreFault) → IfRefused (fault_of fault) holds
+    by_fault store.NoPage = tt
+    by_fault store.OutOfMemory = tt

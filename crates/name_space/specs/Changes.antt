@@ -46,14 +46,20 @@ HasOriginal files = (slot : FilesetSlot) × IsOriginal files slot
 abbrev pub Checks : Type 0
 Checks = FilesetSlot → List (Option Refusal)
 
--- what a fault tells: the first refusal of the checks, after which all is as it was; or that no page
--- was free, which the misses count, where the checks refuse nothing
+-- what a fault tells: the first refusal of the checks, after which all is as it was; or that no
+-- page was free, which the misses count, where the checks refuse nothing
 abbrev pub IsFaultOf : Checks → Bitfiles → Bitfiles → ℕ → ℕ → NameFault → Type 0
 IsFaultOf checks old new before after (Refused refusal) = (new ≡ old)
     × ((slot : FilesetSlot) → IsOriginal old slot → first_refusal (checks slot) ≡ Some refusal)
 IsFaultOf checks old new before after NoPage = HasRisen before after
     × ((slot : FilesetSlot) → IsOriginal old slot → first_refusal (checks slot) ≡ None)
 IsFaultOf checks old new before after OutOfMemory = Unit {0}
+
+-- what holds where a call was refused
+abbrev pub IfRefused : NameFault → Type 0 → Type 0
+IfRefused (Refused refusal) holds = holds
+IfRefused NoPage holds = Unit {0}
+IfRefused OutOfMemory holds = Unit {0}
 
 -- what a call answers whose store failed
 abbrev pub fault_of : StoreFault → NameFault

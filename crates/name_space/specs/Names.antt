@@ -47,9 +47,9 @@ IsNodeOf file (File uid gid size logged pages) =
 IsNodeOf file (Directory uid gid) =
     (file.kind ≡ kind.Directory) × (file.uid ≡ uid) × (file.gid ≡ gid)
 
--- what a tag of this kind, to which a path leads, is in the fileset: a node of the kind; it is out of
--- sync where the set does not have it, and else it is what the set has, under as many paths as that
--- has links
+-- what a tag of this kind, to which a path leads, is in the fileset: a node of the kind; it is out
+-- of sync where the set does not have it, and else it is what the set has, under as many paths as
+-- that has links
 pub record IsShownAs (files : Bitfiles) (slot : FilesetSlot) (tag : Tag) (of : Kind) : Type 0 where
   pub kind : IsSomeAnd (get slot.tree.nodes (number_of tag))
       (λ node. is_directory node ≡ is_directory_kind of)

@@ -5,7 +5,7 @@ ghost use Rattle.dir_pages.specs.Rows.{found, is_row_name};
 ghost use Rattle.dir_rows.specs.Directory.{IsWellFormed, rows_in};
 ghost use Rattle.dir_rows.specs.RowChanges.{AddsRow};
 ghost use Rattle.fileset_model.specs.declared.fileset.FilesetSlot.{FilesetSlot};
-ghost use Rattle.name_space.specs.Changes.{Creates, HasOriginal, IsFaultOf, IsFreePlace, IsMade, IsOriginal, creating_changes, free_checks, last_name, new_node};
+ghost use Rattle.name_space.specs.Changes.{Creates, HasOriginal, IfRefused, IsFaultOf, IsFreePlace, IsMade, IsOriginal, creating_changes, free_checks, last_name, new_node};
 ghost use Rattle.name_space.specs.Names.{HasNames, Names};
 
 use crate::fault::NameFault;
@@ -100,6 +100,7 @@ pub fn create_at<S: BitfileSet>(
         → Creates path.now (new_node kind uid gid) slot (S.files set.old) (S.files set.new) made) }
     ensures err { IfErr result (IsFaultOf (free_checks path.now) (S.files set.old)
         (S.files set.new) (S.missed set.old) (S.missed set.new)) }
+    ensures refused { IfErr result (λ fault. IfRefused fault (set.new ≡ set.old)) }
     ensures unspent { IfOk result (λ made. ¬ S.is_spent set.old made.tag) }
     ensures count { S.missed set.old ≤ S.missed set.new }
     ensures changes { S.changes set.new ≤ creating_changes + S.changes set.old }

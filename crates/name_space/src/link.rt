@@ -6,7 +6,7 @@ ghost use Rattle.dir_pages.specs.Rows.{found, is_row_name};
 ghost use Rattle.dir_rows.specs.Directory.{IsWellFormed, rows_in};
 ghost use Rattle.fileset_model.specs.Apply.{link_checks};
 ghost use Rattle.fileset_model.specs.declared.fileset.FilesetSlot.{FilesetSlot};
-ghost use Rattle.name_space.specs.Changes.{AddsLink, HasOriginal, IsFaultOf, IsLinkPlace, IsOriginal, Links, last_name, linking_changes};
+ghost use Rattle.name_space.specs.Changes.{AddsLink, HasOriginal, IfRefused, IsFaultOf, IsLinkPlace, IsOriginal, Links, last_name, linking_changes};
 
 use crate::create::{free_place, last_name};
 use crate::fault::NameFault;
@@ -93,6 +93,7 @@ pub fn link_at<S: BitfileSet>(
         → Links path.now to.now slot (S.files set.old) (S.files set.new) tag) }
     ensures err { IfErr result (IsFaultOf (link_checks path.now to.now) (S.files set.old)
         (S.files set.new) (S.missed set.old) (S.missed set.new)) }
+    ensures refused { IfErr result (λ fault. IfRefused fault (set.new ≡ set.old)) }
     ensures count { S.missed set.old ≤ S.missed set.new }
     ensures changes { S.changes set.new ≤ linking_changes + S.changes set.old }
     ensures rest { S.leaves_rest set.old set.new }

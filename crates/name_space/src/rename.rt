@@ -8,7 +8,7 @@ ghost use Rattle.fileset_model.specs.Apply.{move_checks, rename_checks};
 ghost use Rattle.fileset_model.specs.Paths.{first_refusal};
 ghost use Rattle.fileset_model.specs.declared.fileset.FilesetSlot.{FilesetSlot};
 ghost use Rattle.plain_filesets.specs.Stops.{Refuses};
-ghost use Rattle.name_space.specs.Changes.{AreLooked, HasOriginal, IsFaultOf, IsOriginal, MovesRow, Renames, last_name, renaming_changes};
+ghost use Rattle.name_space.specs.Changes.{AreLooked, HasOriginal, IfRefused, IsFaultOf, IsOriginal, MovesRow, Renames, last_name, renaming_changes};
 
 use crate::create::last_name;
 use crate::fault::NameFault;
@@ -80,6 +80,7 @@ fn rename_free<S: BitfileSet>(
         → Renames path.now to.now slot (S.files set.old) (S.files set.new) answer) }
     ensures err { IfErr result (IsFaultOf (rename_checks path.now to.now) (S.files set.old)
         (S.files set.new) (S.missed set.old) (S.missed set.new)) }
+    ensures refused { IfErr result (λ fault. IfRefused fault (set.new ≡ set.old)) }
     ensures count { S.missed set.old ≤ S.missed set.new }
     ensures changes { S.changes set.new ≤ renaming_changes + S.changes set.old }
     ensures rest { S.leaves_rest set.old set.new }
@@ -173,6 +174,7 @@ fn rename_onto<S: BitfileSet>(
         → Renames path.now to.now slot (S.files set.old) (S.files set.new) answer) }
     ensures err { IfErr result (IsFaultOf (rename_checks path.now to.now) (S.files set.old)
         (S.files set.new) (S.missed set.old) (S.missed set.new)) }
+    ensures refused { IfErr result (λ fault. IfRefused fault (set.new ≡ set.old)) }
     ensures count { S.missed set.old ≤ S.missed set.new }
     ensures changes { S.changes set.new ≤ renaming_changes + S.changes set.old }
     ensures rest { S.leaves_rest set.old set.new }
@@ -209,6 +211,7 @@ fn rename_into<S: BitfileSet>(
         → Renames path.now to.now slot (S.files set.old) (S.files set.new) answer) }
     ensures err { IfErr result (IsFaultOf (rename_checks path.now to.now) (S.files set.old)
         (S.files set.new) (S.missed set.old) (S.missed set.new)) }
+    ensures refused { IfErr result (λ fault. IfRefused fault (set.new ≡ set.old)) }
     ensures count { S.missed set.old ≤ S.missed set.new }
     ensures changes { S.changes set.new ≤ renaming_changes + S.changes set.old }
     ensures rest { S.leaves_rest set.old set.new }
@@ -237,6 +240,7 @@ pub fn rename_at<S: BitfileSet>(
         → Renames path.now to.now slot (S.files set.old) (S.files set.new) answer) }
     ensures err { IfErr result (IsFaultOf (rename_checks path.now to.now) (S.files set.old)
         (S.files set.new) (S.missed set.old) (S.missed set.new)) }
+    ensures refused { IfErr result (λ fault. IfRefused fault (set.new ≡ set.old)) }
     ensures count { S.missed set.old ≤ S.missed set.new }
     ensures changes { S.changes set.new ≤ renaming_changes + S.changes set.old }
     ensures rest { S.leaves_rest set.old set.new }

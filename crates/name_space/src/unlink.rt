@@ -6,7 +6,7 @@ ghost use Rattle.dir_pages.specs.Rows.{found};
 ghost use Rattle.dir_rows.specs.Directory.{IsWellFormed, rows_in};
 ghost use Rattle.fileset_model.specs.declared.fileset.FilesetSlot.{FilesetSlot};
 ghost use Rattle.name_space.specs.declared.fault.NameFault.TheVariants.{NoPage as IsNoPage};
-ghost use Rattle.name_space.specs.Changes.{DropsLink, HasOriginal, IsFaultOf, IsOriginal, Removes, TakesName, rmdir_checks, taking_checks, unlink_checks, unlinking_changes};
+ghost use Rattle.name_space.specs.Changes.{DropsLink, HasOriginal, IfRefused, IsFaultOf, IsOriginal, Removes, TakesName, rmdir_checks, taking_checks, unlink_checks, unlinking_changes};
 
 use crate::create::last_name;
 use crate::fault::NameFault;
@@ -91,6 +91,7 @@ fn take_path<S: BitfileSet>(
         file.tag file.gone) }
     ensures err { IfErr result (IsFaultOf (taking_checks of path.now) (S.files set.old)
         (S.files set.new) (S.missed set.old) (S.missed set.new)) }
+    ensures refused { IfErr result (λ fault. IfRefused fault (set.new ≡ set.old)) }
     ensures count { S.missed set.old ≤ S.missed set.new }
     ensures changes { S.changes set.new ≤ unlinking_changes + S.changes set.old }
     ensures in_place { S.writes_in_place set.old → IfErr result (λ fault. fault ≢ IsNoPage) }
@@ -123,6 +124,7 @@ pub fn unlink_at<S: BitfileSet>(
         file.tag file.gone) }
     ensures err { IfErr result (IsFaultOf (unlink_checks path.now) (S.files set.old)
         (S.files set.new) (S.missed set.old) (S.missed set.new)) }
+    ensures refused { IfErr result (λ fault. IfRefused fault (set.new ≡ set.old)) }
     ensures count { S.missed set.old ≤ S.missed set.new }
     ensures changes { S.changes set.new ≤ unlinking_changes + S.changes set.old }
     ensures in_place { S.writes_in_place set.old → IfErr result (λ fault. fault ≢ IsNoPage) }
@@ -141,6 +143,7 @@ pub fn rmdir_at<S: BitfileSet>(set: &mut S, alloc: Global, path: &Path) -> Resul
         true) }
     ensures err { IfErr result (IsFaultOf (rmdir_checks path.now) (S.files set.old)
         (S.files set.new) (S.missed set.old) (S.missed set.new)) }
+    ensures refused { IfErr result (λ fault. IfRefused fault (set.new ≡ set.old)) }
     ensures count { S.missed set.old ≤ S.missed set.new }
     ensures changes { S.changes set.new ≤ unlinking_changes + S.changes set.old }
     ensures in_place { S.writes_in_place set.old → IfErr result (λ fault. fault ≢ IsNoPage) }

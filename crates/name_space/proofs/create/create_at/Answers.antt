@@ -1,8 +1,8 @@
-use Rattle.std.proofs.Common.{rules, ◌^◌, ◌<◌, subst}
+use Rattle.std.proofs.Common.{◌≡◌, rules, ◌^◌, ◌<◌, subst}
 use Rattle.page_store.specs.Bitfiles.{new_file}
 use Rattle.name_space.specs.Changes.{IsMade, free_checks}
 use Rattle.name_space.proofs.CreatedNames.{creates}
-use Rattle.name_space.proofs.Faults.{faulted}
+use Rattle.name_space.proofs.Faults.{faulted, unrefused}
 use Rattle.name_space.proofs.Spots.{has_names}
 use Rattle.name_space.proofs.create.create_at.Goals as goal
 
@@ -24,3 +24,6 @@ pub returns-in-Err-make_row-clause-err : goal.returns-in-Err-make_row-clause-err
 returns-in-Err-make_row-clause-err g c =
     faulted (free_checks c.args.path.now) (g.S.BitfileSet.files c.args.set.now) (g.S.BitfileSet.files c.make_row.new.set) (g.S.BitfileSet.missed c.args.set.now) (g.S.BitfileSet.missed c.make_row.new.set) c.in-Err-make_row.fault c.from.result c.from.ensures c.in-Err-make_row.ensures.no_page
     (λ slot original. (c.in-Ok.ensures slot original.names).0)
+
+pub returns-in-Err-make_row-clause-refused : goal.returns-in-Err-make_row-clause-refused
+returns-in-Err-make_row-clause-refused g c = unrefused (c.make_row.new.set ≡ c.args.set.now) c.in-Err-make_row.fault c.from.result c.from.ensures

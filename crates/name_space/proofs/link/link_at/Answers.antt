@@ -1,8 +1,8 @@
-use Rattle.std.proofs.Common.{is_some, ap, subst}
+use Rattle.std.proofs.Common.{◌≡◌, is_some, ap, subst}
 use Rattle.domain_base.specs.declared.place.Kind.TheVariants.{File}
 use Rattle.fileset_model.specs.Apply.{link_checks}
 use Rattle.name_space.specs.Changes.{AddsLink}
-use Rattle.name_space.proofs.Faults.{faulted}
+use Rattle.name_space.proofs.Faults.{faulted, unrefused}
 use Rattle.name_space.proofs.LinkedNames.{links}
 use Rattle.name_space.proofs.Originals.{is_in}
 use Rattle.name_space.proofs.link.link_at.Goals as goal
@@ -25,3 +25,6 @@ pub returns-in-Err-add_link-clause-err : goal.returns-in-Err-add_link-clause-err
 returns-in-Err-add_link-clause-err g c =
     faulted (link_checks c.args.path.now c.args.to.now) (g.S.BitfileSet.files c.args.set.now) (g.S.BitfileSet.files c.add_link.new.set) (g.S.BitfileSet.missed c.args.set.now) (g.S.BitfileSet.missed c.add_link.new.set) c.in-Err-add_link.fault c.from.result c.from.ensures c.in-Err-add_link.ensures.no_page
     (λ slot original. (c.in-Ok.ensures slot original).0)
+
+pub returns-in-Err-add_link-clause-refused : goal.returns-in-Err-add_link-clause-refused
+returns-in-Err-add_link-clause-refused g c = unrefused (c.add_link.new.set ≡ c.args.set.now) c.in-Err-add_link.fault c.from.result c.from.ensures

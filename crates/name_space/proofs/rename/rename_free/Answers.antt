@@ -1,7 +1,7 @@
 use Rattle.std.proofs.Common.{◌≡◌, true, false, refl}
 use Rattle.fileset_model.specs.Apply.{rename_checks}
 use Rattle.fileset_model.specs.Paths.{begins_with}
-use Rattle.name_space.proofs.Faults.{faulted}
+use Rattle.name_space.proofs.Faults.{faulted, unrefused}
 use Rattle.name_space.proofs.RenameChecks.{begins_is, free_checks_are, free_into_itself}
 use Rattle.name_space.proofs.RenamedNames.{moves_of, renames_free}
 use Rattle.name_space.proofs.rename.rename_free.Goals as goal
@@ -36,3 +36,6 @@ returns-in-Err-clause-err g c =
     let beside : begins_with to path ≡ false = begins_is c.as_slice.result.now c.as_slice-2.result.now path to c.starts_with.result false c.starts_with.ensures.value c.as_slice.ensures c.as_slice-2.ensures c.if-starts_with.false in
     faulted (rename_checks path to) old new (g.S.BitfileSet.missed c.args.set.now) (g.S.BitfileSet.missed c.move_row.new.set) c.in-Err.fault c.from.result c.from.ensures c.in-Err.ensures.no_page
     (λ slot original. free_checks_are old path to c.args.spot c.args.dir c.requires.looked slot original c.requires.free beside)
+
+pub returns-in-Err-clause-refused : goal.returns-in-Err-clause-refused
+returns-in-Err-clause-refused g c = unrefused (c.move_row.new.set ≡ c.args.set.now) c.in-Err.fault c.from.result c.from.ensures

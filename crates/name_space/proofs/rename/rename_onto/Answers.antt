@@ -1,6 +1,6 @@
-use Rattle.std.proofs.Common.{rules, ◌∙◌, refl, sym}
+use Rattle.std.proofs.Common.{◌≡◌, rules, ◌∙◌, refl, sym}
 use Rattle.fileset_model.specs.Apply.{rename_checks}
-use Rattle.name_space.proofs.Faults.{faulted}
+use Rattle.name_space.proofs.Faults.{faulted, unrefused}
 use Rattle.name_space.proofs.Originals.{tags_differ}
 use Rattle.name_space.proofs.RenameChecks.{two_checks_are}
 use Rattle.name_space.proofs.RenamedNames.{renames_none}
@@ -30,3 +30,6 @@ returns-in-Err-replace-clause-err g c =
     let other = c.args.other in
     faulted (rename_checks path to) old new (g.S.BitfileSet.missed c.args.set.now) (g.S.BitfileSet.missed c.replace.new.set) c.in-Err-replace.fault c.from.result c.from.ensures c.in-Err-replace.ensures.no_page
     (λ slot original. two_checks_are old path to c.args.spot other.dir c.requires.looked slot original other.tag other.kind c.requires.taken (tags_differ other.tag c.args.spot.tag (sym c.if-eq.ensures)) ∙ c.in-Ok.ensures.checked slot original)
+
+pub returns-in-Err-replace-clause-refused : goal.returns-in-Err-replace-clause-refused
+returns-in-Err-replace-clause-refused g c = unrefused (c.replace.new.set ≡ c.args.set.now) c.in-Err-replace.fault c.from.result c.from.ensures

@@ -1,6 +1,6 @@
-use Rattle.std.proofs.Common.{subst}
+use Rattle.std.proofs.Common.{◌≡◌, subst}
 use Rattle.name_space.specs.Changes.{TakesName, taking_checks}
-use Rattle.name_space.proofs.Faults.{faulted}
+use Rattle.name_space.proofs.Faults.{faulted, unrefused}
 use Rattle.name_space.proofs.Spots.{spot_facts}
 use Rattle.name_space.proofs.Taken.{removes}
 use Rattle.name_space.proofs.unlink.take_path.Goals as goal
@@ -25,3 +25,6 @@ pub returns-in-Err-take_name-clause-err : goal.returns-in-Err-take_name-clause-e
 returns-in-Err-take_name-clause-err g c =
     faulted (taking_checks c.args.of c.args.path.now) (g.S.BitfileSet.files c.args.set.now) (g.S.BitfileSet.files c.take_name.new.set) (g.S.BitfileSet.missed c.args.set.now) (g.S.BitfileSet.missed c.take_name.new.set) c.in-Err-take_name.fault c.from.result c.from.ensures c.in-Err-take_name.ensures.no_page
     (λ slot original. (c.in-Ok.ensures.spot slot original).0)
+
+pub returns-in-Err-take_name-clause-refused : goal.returns-in-Err-take_name-clause-refused
+returns-in-Err-take_name-clause-refused g c = unrefused (c.take_name.new.set ≡ c.args.set.now) c.in-Err-take_name.fault c.from.result c.from.ensures
