@@ -8,7 +8,7 @@ use Rattle.domain_base.specs.declared.place.Home.{Home}
 use Rattle.page_store.specs.Pages.{same_home}
 use Rattle.volume_disk.specs.Disk.{Disk, IsSettled, MayLeave, Tells, volume_pages, HasVolume}
 use Rattle.volume_disk.specs.Image.{AreBytes, Image, Places}
-use Rattle.volume_disk.specs.Run.{LeavesOnly, OnlyReads}
+use Rattle.volume_disk.specs.Run.{LeavesOnly, OnlyReads, Touches}
 use Rattle.volume_disk.proofs.Laws.{both, leaves-now, started, touches-wider, weaker}
 use Rattle.disk_label.specs.Anchor.{IsAnchor}
 use Rattle.disk_label.specs.Slot.{HasReadied, IsOnAnchors, IsReadyFor, ReadiesSlot, StaysSynced}
@@ -195,6 +195,11 @@ module _ (d0 d1 : Disk) (log : Log) (change : List PageImage) (rests : IsAtRest 
 
     stands_now : (groups : List Group) → Stands d0 log groups → Stands d0 now groups
     stands_now groups stands = record { stands = stands.stands; images = stands.images; count = stands.count }
+
+    -- it touches the ring alone
+    pub touches_ring : Touches d0 d1 (IsOnLog log.anchor)
+    touches_ring =
+        touches-wider d0 d1 Written (IsOnLog log.anchor) (λ v k on. on_log log.anchor (log.anchor.start + used now + on.0) v k on.2) forces.writes.touches
 
     good_since : Tells d0 → LeavesOnly d0 d1 (λ image. HasGoodAnchor d0.sizes image log.anchor)
     good_since told = keeps_good_anchor d0 d1 log.anchor told (rests.good told) (touches-wider d0 d1 Written IsBehindAnchors behind forces.writes.touches)

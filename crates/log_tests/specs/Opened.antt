@@ -16,10 +16,10 @@ use Rattle.log_ring.specs.Settling.{IsRedoneAs}
 use Rattle.log_recovery.specs.Fault.{HasCause, IfNotADomain}
 use Rattle.log_recovery.specs.Outcome.{HasGoodAnchor, HasRecovered, IsFirstFault, IsUsable}
 use Rattle.log_recovery.specs.Readable.{IsGoodNow}
-use Rattle.log_recovery.specs.Settled.{HasNumbersLeft}
+use Rattle.log_recovery.specs.Settled.{HasNumbersLeft, settled_anchor}
 use Rattle.log_recovery.specs.declared.redone.Redone.{Redone}
 use Rattle.meta_log.specs.Force.{HasEither}
-use Rattle.meta_log.specs.Log.{Log, Stands, group_of, next_number}
+use Rattle.meta_log.specs.Log.{Log, Stands, group_of, new_log, next_number}
 use Rattle.log_tests.specs.declared.openings.OpenFault.{OpenFault}
 use Rattle.log_tests.specs.declared.openings.OpenFault.TheVariants.{Recovering, NoNumbers, Readying, Settling, OutOfMemory}
 
@@ -56,6 +56,12 @@ StandsAtHome old new =
     Tells old → (pages : Pages) → ReadsAs old.sizes pages old.now.contents
     → (image : Image) → MayLeave new.now image
     → (home : Home) → home.page ≢ anchors_page → pages_in image home ≡ pages home
+
+-- the log has no group, and the anchor that settling writes for what is recovered of the start
+abbrev pub GoesOnBehind : Disk → Log → Type 0
+GoesOnBehind old log =
+    Tells old → (groups : List Group) × (found : Redone)
+    × HasRecovered old.sizes old.now.contents groups found × (log ≡ new_log (settled_anchor found))
 
 -- a log was not opened: which call has failed, or what is there in its place
 abbrev pub HasOpenCause : Disk → Disk → OpenFault → Type 0

@@ -3,12 +3,16 @@
 //! order as a whole leaves.
 ghost use Rattle.std.specs.Prelude.{◌≡◌, ◌⊎◌, ◌^◌, ◌≤◌, IfErr, IfOk, IsFalse, IsTrue, [], length};
 ghost use Rattle.volume_disk.specs.Disk.{IsSettled, Tells};
+ghost use Rattle.volume_disk.specs.Run.{Touches};
+ghost use Rattle.log_ring.specs.Ring.{IsOnLog};
+ghost use Rattle.meta_log.specs.Checkpoint.{next_anchor};
 ghost use Rattle.meta_log.specs.Log.{IsFullFor, new_log};
 ghost use Rattle.log_tests.specs.Calls.{MayAppend};
 ghost use Rattle.log_tests.specs.Opened.{
   Adds,
   AddsOrNot,
   ComesHome,
+  GoesOnBehind,
   HasFailed,
   HasOpenCause,
   IsAtRest,
@@ -41,13 +45,14 @@ pub enum OpenFault {
 }
 
 /// Opens the log of a rack on which nothing is pending: recovers it, makes the slot of the next
-/// anchor ready, and settles it. It has no group then, since all pages are home. Whatever it
-/// answers, recovery takes each image that a stop may leave, with the pages that the rack's had at
-/// the start once redone.
+/// anchor ready, and settles it. It has no group then, since all pages are home, and its anchor is
+/// the one that settling writes for what was recovered. Whatever it answers, recovery takes each
+/// image that a stop may leave, with the pages that the rack's had at the start once redone.
 pub fn open_log<R: Rack>(alloc: Global, rack: &mut R) -> Result<MetaLog, OpenFault>
     requires { Tells (R.disk rack.old) → IsSettled (R.disk rack.old).now }
     ensures rests { IfOk result (λ log. IsAtRest (R.disk rack.new) log) }
     ensures behind { IfOk result (λ log. log ≡ new_log log.anchor) }
+    ensures settled { IfOk result (GoesOnBehind (R.disk rack.old)) }
     ensures home { IfOk result (λ _. StandsAtHome (R.disk rack.old) (R.disk rack.new)) }
     ensures any_moment { StaysRead (R.disk rack.old) (R.disk rack.new) }
     ensures cause { IfErr result (HasOpenCause (R.disk rack.old) (R.disk rack.new)) }
@@ -78,14 +83,16 @@ pub fn open_log<R: Rack>(alloc: Global, rack: &mut R) -> Result<MetaLog, OpenFau
 }
 
 /// Appends a change and forces it: whether that passes. Then the log has one group more, of that
-/// change; each image that a stop may leave meanwhile has it whole or not at all. It does not pass
-/// where the log has no place for it, or a write or a sync failed.
+/// change; each image that a stop may leave meanwhile has it whole or not at all. It touches no
+/// more than the ring. It does not pass where the log has no place for it, or a write or a sync
+/// failed.
 pub fn log_change<R: Rack>(log: &mut MetaLog, rack: &mut R, change: &Change) -> bool
     requires may { MayAppend log.old change.now }
     requires rests { IsAtRest (R.disk rack.old) log.old }
     ensures rests { IsTrue result → IsAtRest (R.disk rack.new) log.new }
     ensures adds { IsTrue result
         → Adds (R.disk rack.old) (R.disk rack.new) log.old log.new change.now }
+    ensures touches { Touches (R.disk rack.old) (R.disk rack.new) (IsOnLog log.old.anchor) }
     ensures any_moment { AddsOrNot (R.disk rack.old) (R.disk rack.new) log.old change.now }
     ensures refused { IsFalse result → IsFullFor log.old (length change.now)
         ⊎ HasFailed (R.disk rack.old) (R.disk rack.new) }
@@ -102,13 +109,14 @@ pub fn log_change<R: Rack>(log: &mut MetaLog, rack: &mut R, change: &Change) -> 
     }
 }
 
-/// Brings a log home on its ring: whether that passes. Then it has no group. Each image that a stop
+/// Brings a log home on its ring: whether that passes. Then it has no group, and the next anchor of
+/// its ring. Each image that a stop
 /// may leave meanwhile is taken by recovery, with the pages of one of the start. It does not pass
 /// where a write or a sync failed, or the anchor has a number of 2^60 or more.
 pub fn close_log<R: Rack>(log: &mut MetaLog, rack: &mut R) -> bool
     requires { IsAtRest (R.disk rack.old) log.old }
     ensures rests { IsTrue result → IsAtRest (R.disk rack.new) log.new }
-    ensures behind { IsTrue result → log.new ≡ new_log log.new.anchor }
+    ensures behind { IsTrue result → log.new ≡ new_log (next_anchor log.old log.old.anchor) }
     ensures home { IsTrue result → ComesHome (R.disk rack.old) (R.disk rack.new) log.old }
     ensures any_moment { ReadsAsBefore (R.disk rack.old) (R.disk rack.new) log.old }
     ensures refused { IsFalse result → (2 ^ 60 ≤ log.old.anchor.number)

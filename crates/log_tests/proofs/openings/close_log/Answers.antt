@@ -1,4 +1,7 @@
-use Rattle.std.proofs.Common.{arith}
+use Rattle.std.proofs.Common.{◌∙◌, ap, arith}
+use Rattle.disk_label.specs.declared.anchor.Anchor.{Anchor}
+use Rattle.meta_log.specs.Checkpoint.{next_anchor}
+use Rattle.meta_log.specs.Log.{new_log}
 use Rattle.log_tests.proofs.AtRest.{closed, closed_home, closing, nothing_closed}
 use Rattle.log_tests.proofs.openings.close_log.Goals as goal
 
@@ -24,3 +27,6 @@ pub returns-in-Err-clause-any_moment : goal.returns-in-Err-clause-any_moment
 returns-in-Err-clause-any_moment g c =
     closing (g.R.Rack.disk c.args.rack.now) (g.R.Rack.disk c.checkpoint.new.rack) c.args.log.now c.checkpoint.new.self c.anchor.result.now c.room-room.ensures.sound c.requires c.anchor.ensures
     (omega (arith, c.if-anchor.false)) c.checkpoint.ensures.checkpoints
+
+pub returns-in-Ok-clause-behind : goal.returns-in-Ok-clause-behind
+returns-in-Ok-clause-behind g c _ = c.in-Ok.ensures.ok ∙ ap (λ (a : Anchor). new_log (next_anchor c.args.log.now a)) c.anchor.ensures

@@ -1,7 +1,9 @@
 use Rattle.std.proofs.Common.{inl, refl, subst}
+use Rattle.volume_disk.proofs.Laws.{touches-none}
+use Rattle.log_ring.specs.Ring.{IsOnLog}
 use Rattle.meta_log.specs.Force.{Forces, HasForced}
 use Rattle.meta_log.specs.Log.{Log}
-use Rattle.log_tests.proofs.AtRest.{added, adds_or_not, full_alone, logged, nothing_logged}
+use Rattle.log_tests.proofs.AtRest.{added, adds_or_not, full_alone, logged, nothing_logged, touches_ring}
 use Rattle.log_tests.proofs.openings.log_change.Goals as goal
 
 pub returns-in-Err-clause-any_moment : goal.returns-in-Err-clause-any_moment
@@ -37,3 +39,18 @@ returns-in-Err-force-clause-any_moment g c =
     let d0 = g.R.Rack.disk c.args.rack.now in
     let d1 = g.R.Rack.disk c.force.new.rack in
     adds_or_not d0 d1 c.args.log.now c.args.change.now c.requires.rests c.requires.may.some c.images-images.ensures.sound.distinct (subst (λ (l : Log). Forces d0 d1 l) c.in-Ok.ensures.ok c.force.ensures.forces)
+
+pub returns-in-Err-clause-touches : goal.returns-in-Err-clause-touches
+returns-in-Err-clause-touches g c = touches-none (g.R.Rack.disk c.args.rack.now) (IsOnLog c.args.log.now.anchor)
+
+pub returns-in-Ok-force-clause-touches : goal.returns-in-Ok-force-clause-touches
+returns-in-Ok-force-clause-touches g c =
+    let d0 = g.R.Rack.disk c.args.rack.now in
+    let d1 = g.R.Rack.disk c.force.new.rack in
+    touches_ring d0 d1 c.args.log.now c.args.change.now c.requires.rests c.requires.may.some c.images-images.ensures.sound.distinct (subst (λ (l : Log). Forces d0 d1 l) c.in-Ok.ensures.ok c.force.ensures.forces)
+
+pub returns-in-Err-force-clause-touches : goal.returns-in-Err-force-clause-touches
+returns-in-Err-force-clause-touches g c =
+    let d0 = g.R.Rack.disk c.args.rack.now in
+    let d1 = g.R.Rack.disk c.force.new.rack in
+    touches_ring d0 d1 c.args.log.now c.args.change.now c.requires.rests c.requires.may.some c.images-images.ensures.sound.distinct (subst (λ (l : Log). Forces d0 d1 l) c.in-Ok.ensures.ok c.force.ensures.forces)

@@ -1,5 +1,6 @@
-use Rattle.std.proofs.Common.{ap}
+use Rattle.std.proofs.Common.{◌∙◌, ap}
 use Rattle.disk_label.specs.declared.anchor.Anchor.{Anchor}
+use Rattle.meta_log.specs.Log.{new_log}
 use Rattle.log_tests.proofs.AtRest.{opened, read_still, readied_still, settled_home, settled_still, still_counts}
 use Rattle.log_tests.proofs.openings.open_log.Goals as goal
 
@@ -50,3 +51,8 @@ returns-in-Ok-new-clause-rests g c =
     let slot_is = ap (λ (a : Anchor). a.slot) c.settled_anchor-next.ensures in
     opened (g.R.Rack.disk c.args.rack.now) (g.R.Rack.disk c.recover.new.rack) c.in-Ok.redone c.in-Ok.ensures.sound c.in-Ok.ensures.reads c.requires c.in-Ok.ensures.recovered (g.R.Rack.disk c.ready_slot.new.rack) c.in-Some.vol c.settled_anchor-next.result.slot
     c.in-Some.ensures.value slot_is c.ready_slot.ensures.readies c.in-Ok-ready_slot.ensures.ready c.in-Ok-ready_slot.ensures.synced (g.R.Rack.disk c.settle.new.rack) c.in-Ok-new.log c.settled_anchor-next.result (c.has_numbers_left.ensures.0 c.if-not-has_numbers_left.false) c.settle.ensures.brings c.in-Ok-settle.ensures.done c.settle.ensures.readable c.settled_anchor-next.ensures c.in-Ok-new.ensures
+
+pub returns-in-Ok-new-clause-settled : goal.returns-in-Ok-new-clause-settled
+returns-in-Ok-new-clause-settled g c told =
+    let was = c.in-Ok.ensures.recovered told in
+    (was.0, c.in-Ok.redone, was.1, c.in-Ok-new.ensures ∙ ap new_log c.settled_anchor-next.ensures)
