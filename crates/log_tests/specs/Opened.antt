@@ -19,7 +19,7 @@ use Rattle.log_recovery.specs.Readable.{IsGoodNow}
 use Rattle.log_recovery.specs.Settled.{HasNumbersLeft, settled_anchor}
 use Rattle.log_recovery.specs.declared.redone.Redone.{Redone}
 use Rattle.meta_log.specs.Force.{HasEither}
-use Rattle.meta_log.specs.Log.{Log, Stands, group_of, new_log, next_number}
+use Rattle.meta_log.specs.Log.{IsFullFor, Log, Stands, group_of, new_log, next_number}
 use Rattle.log_tests.specs.declared.openings.OpenFault.{OpenFault}
 use Rattle.log_tests.specs.declared.openings.OpenFault.TheVariants.{Recovering, NoNumbers, Readying, Settling, OutOfMemory}
 
@@ -113,6 +113,10 @@ ComesHome old new log =
     → (before : Image) × MayLeave old.now before × IsRedoneAs groups before [] image
 
 -- Refusals.
+
+-- a log was full for a change of n images, and nothing was done
+abbrev pub WasFull : Disk → Disk → Log → Log → ℕ → Type 0
+WasFull old new log after n = IsFullFor log n × (after ≡ log) × (new ≡ old)
 
 -- a write or a sync of some volume has failed
 abbrev pub HasFailed : Disk → Disk → Type 0

@@ -6,7 +6,7 @@ ghost use Rattle.volume_disk.specs.Disk.{IsSettled, Tells};
 ghost use Rattle.volume_disk.specs.Run.{Touches};
 ghost use Rattle.log_ring.specs.Ring.{IsOnLog};
 ghost use Rattle.meta_log.specs.Checkpoint.{next_anchor};
-ghost use Rattle.meta_log.specs.Log.{IsFullFor, new_log};
+ghost use Rattle.meta_log.specs.Log.{new_log};
 ghost use Rattle.log_tests.specs.Calls.{MayAppend};
 ghost use Rattle.log_tests.specs.Opened.{
   Adds,
@@ -19,6 +19,7 @@ ghost use Rattle.log_tests.specs.Opened.{
   ReadsAsBefore,
   StandsAtHome,
   StaysRead,
+  WasFull,
 };
 
 use disk_label::{SlotFault, ready_slot};
@@ -84,8 +85,8 @@ pub fn open_log<R: Rack>(alloc: Global, rack: &mut R) -> Result<MetaLog, OpenFau
 
 /// Appends a change and forces it: whether that passes. Then the log has one group more, of that
 /// change; each image that a stop may leave meanwhile has it whole or not at all. It touches no
-/// more than the ring. It does not pass where the log has no place for it, or a write or a sync
-/// failed.
+/// more than the ring. It does not pass where the log has no place for it, and then nothing was
+/// done, or where a write or a sync failed.
 pub fn log_change<R: Rack>(log: &mut MetaLog, rack: &mut R, change: &Change) -> bool
     requires may { MayAppend log.old change.now }
     requires rests { IsAtRest (R.disk rack.old) log.old }
@@ -94,8 +95,8 @@ pub fn log_change<R: Rack>(log: &mut MetaLog, rack: &mut R, change: &Change) -> 
         → Adds (R.disk rack.old) (R.disk rack.new) log.old log.new change.now }
     ensures touches { Touches (R.disk rack.old) (R.disk rack.new) (IsOnLog log.old.anchor) }
     ensures any_moment { AddsOrNot (R.disk rack.old) (R.disk rack.new) log.old change.now }
-    ensures refused { IsFalse result → IsFullFor log.old (length change.now)
-        ⊎ HasFailed (R.disk rack.old) (R.disk rack.new) }
+    ensures refused { let old = R.disk rack.old in let new = R.disk rack.new in
+        IsFalse result → WasFull old new log.old log.new (length change.now) ⊎ HasFailed old new }
 {
     // called to learn what holds of every change
     let _images = change.images();

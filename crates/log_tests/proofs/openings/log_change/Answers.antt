@@ -10,7 +10,7 @@ pub returns-in-Err-clause-any_moment : goal.returns-in-Err-clause-any_moment
 returns-in-Err-clause-any_moment g c = let d0 = g.R.Rack.disk c.args.rack.now in nothing_logged d0 d0 c.args.log.now c.args.change.now c.requires.rests refl
 
 pub returns-in-Err-clause-refused : goal.returns-in-Err-clause-refused
-returns-in-Err-clause-refused g c _ = inl (full_alone c.args.log.now c.args.change.now c.requires.rests.forced c.images-images.ensures.sound.distinct c.in-Err.ensures.full)
+returns-in-Err-clause-refused g c _ = inl (full_alone c.args.log.now c.args.change.now c.requires.rests.forced c.images-images.ensures.sound.distinct c.in-Err.ensures.full, c.in-Err.ensures.err, refl)
 
 pub returns-in-Ok-force-clause-rests : goal.returns-in-Ok-force-clause-rests
 returns-in-Ok-force-clause-rests g c _ =
