@@ -18,9 +18,11 @@ pub mod Tags
 pub mod Gone
 pub mod StillAmong
 pub mod TagFile
+pub mod CallTables
 pub mod PutWell
 pub mod FirstWell
 pub mod Listing
 pub mod MakeWell
 pub mod CallsWell
+pub mod HeldPages
 pub mod TagPages

@@ -14,7 +14,6 @@ use Rattle.bmt_mcells.proofs.Changed.{homes_same}
 use Rattle.tag_dirs.specs.declared.dir.TagPlace.{TagPlace}
 use Rattle.tag_dirs.specs.Directory.{cell_of, has_home}
 use Rattle.extent_records.specs.Writing.{short_kind}
-use Rattle.free_cells.specs.Cells.{table_of}
 use Rattle.bitfile_cells.specs.Changes.{IsInUse}
 use Rattle.bitfile_cells.specs.FileChanges.{AreOnTables}
 use Rattle.bitfile_cells.specs.Files.{IsFile}
@@ -24,7 +23,7 @@ use Rattle.bitfile_cells.proofs.Spaces.{not_held}
 use Rattle.bitfile_core.specs.Creation.{with_new}
 use Rattle.bitfile_core.specs.Files.{AreApart, Chains, LeadsToFile, is_removed, says_remove}
 use Rattle.bitfile_core.specs.Together.{IsHeldApart}
-use Rattle.bitfile_core.proofs.Grown.{apart_taken, one_apart, one_tables}
+use Rattle.bitfile_core.proofs.Grown.{apart_taken, one_apart}
 use Rattle.bitfile_core.proofs.OneChain.{same_tag_itself}
 use Rattle.chain_release.proofs.Given.{absent_home}
 use Rattle.chain_release.proofs.Outcome.{on_at}
@@ -34,6 +33,7 @@ use Rattle.deferred_delete.specs.Steps.{IsWell}
 use Rattle.deferred_delete.proofs.Standings.{file_there, standing}
 use Rattle.deferred_laws.specs.Calls.{FilesetNow, Makes}
 use Rattle.deferred_laws.specs.Tags.{AreAmong, start_of}
+use Rattle.deferred_laws.proofs.CallTables.{made_tables}
 use Rattle.deferred_laws.proofs.FirstWell.{NoMore}
 use Rattle.deferred_laws.proofs.OneFile.{IsPut, put_listed, put_together}
 use Rattle.deferred_laws.proofs.PutWell.{StandsWell, among_by, in_use}
@@ -87,12 +87,6 @@ module _ (fileset : ℕ) (version : Version) (tag : Tag) (old new : FilesetNow) 
   apart a cs is q (zero, within, here) in_cs = not_used a cs is (subst (Contains (cell_places cs)) (sym here) in_cs)
   apart a cs is q (suc k, within, here) in_cs = omega (arith, within)
 
-  tables : (vol p : ℕ) → Contains (table_of old.domain.cells vol) p → Contains (table_of new.domain.cells vol) p
-  tables vol p on = ⊎_elim
-      (λ cell. one_tables s.prefer old.domain.space new.domain.space old.domain.cells new.domain.cells old.domain.pages cell.cell vol p on)
-      (λ page. one_tables s.prefer _ new.domain.space old.domain.cells new.domain.cells old.domain.pages page.cell vol p on)
-      s.taken
-
   held : (h : Home) → IsHeldApart old.domain.space old.domain.cells h → IsHeldApart new.domain.space new.domain.cells h
   held h is = ⊎_elim
       (λ cell. one_apart s.prefer old.domain.space new.domain.space old.domain.cells new.domain.cells old.domain.pages cell.cell h is)
@@ -129,7 +123,7 @@ module _ (fileset : ℕ) (version : Version) (tag : Tag) (old new : FilesetNow) 
   put = record {
     allocated = s.creates.together.allocated;
     stands = record { file = first_file (cell_of new.domain.pages new.places tag) led.leads; on_tables = on_now };
-    tables = tables;
+    tables = made_tables fileset version tag old new s;
     held = held;
     leaves = λ a cs is not_at. beside_left old.domain.space old.domain.cells old.domain.pages new.domain.pages files stood.well.together [] s.others a cs is (λ q inside none. omega (arith, none.1));
     apart = λ a cs is not_at. apart a cs is;

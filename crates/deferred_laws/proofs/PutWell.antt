@@ -1,8 +1,8 @@
 -- All goes on to belong together where a tag's file has a page at a home.
 use Rattle.std.proofs.Common.{◌≡◌, ◌∙◌, ℕ, Bool, true, false, cond, nat_eq, List, [], ◌∷◌, Some, IfSome, IsSome, Contains, refl, sym, ap, subst, ⊎_elim, ◌⊎◌, inl, inr}
-use Rattle.std.proofs.lemmas.Bool.{eq-eqb, eqb-true}
+use Rattle.std.proofs.lemmas.Bool.{eqb-true}
 use Rattle.std.specs.List.{AllByRecursion}
-use Rattle.std.specs.Option.{option_and_then, option_map_or}
+use Rattle.std.specs.Option.{option_and_then}
 use Rattle.domain_base.specs.declared.place.CellAt.{CellAt}
 use Rattle.domain_base.specs.declared.place.Home.{Home}
 use Rattle.domain_base.specs.declared.place.Tag.{Tag}
@@ -11,7 +11,7 @@ use Rattle.page_store.specs.Pages.{Pages}
 use Rattle.bmt_mcells.specs.Chain.{PlacedCell, StandsAt, places as cell_places}
 use Rattle.tag_dirs.specs.declared.dir.TagPlace.{TagPlace}
 use Rattle.tag_dirs.specs.Directory.{has_home}
-use Rattle.extent_maps.specs.declared.run.PagePlace.TheVariants.{Absent, At}
+use Rattle.extent_maps.specs.declared.run.PagePlace.TheVariants.{At}
 use Rattle.free_cells.specs.Cells.{Cells, table_of}
 use Rattle.free_space.specs.Spaces.{Spaces}
 use Rattle.bitfile_cells.specs.Files.{places_of}
@@ -23,8 +23,8 @@ use Rattle.bitfile_core.specs.Changes.{with_chain}
 use Rattle.bitfile_core.specs.Files.{AreApart, Chains, is_removed}
 use Rattle.bitfile_core.specs.Together.{AreTogether, IsFilePage, IsHeldApart}
 use Rattle.bitfile_core.proofs.Again.{one_home}
-use Rattle.bitfile_core.proofs.Grown.{apart_grows, apart_taken, one_apart, one_tables, tables_grow}
-use Rattle.bitfile_core.proofs.OneChain.{chain_other, placed_at, same_tag_itself, tag_after}
+use Rattle.bitfile_core.proofs.Grown.{apart_grows, apart_taken, one_apart}
+use Rattle.bitfile_core.proofs.OneChain.{chain_other, placed_at}
 use Rattle.chain_release.proofs.Outcome.{on_at}
 use Rattle.deferred_delete.specs.Listed.{left_of, leftover_in}
 use Rattle.deferred_delete.specs.Listing.{Listing}
@@ -35,6 +35,7 @@ use Rattle.deferred_delete.proofs.Standings.{apart_by, file_there, place_by, sou
 use Rattle.deferred_laws.specs.Calls.{FilesetNow, Gives, Moves, PutsPage}
 use Rattle.deferred_laws.specs.Tags.{AreAmong, start_of}
 use Rattle.deferred_laws.specs.Waits.{IsNowhere}
+use Rattle.deferred_laws.proofs.CallTables.{chain_put, given_tables, moved_tables, page_put}
 use Rattle.deferred_laws.proofs.OneFile.{IsPut, put_listed, put_together}
 use Rattle.deferred_laws.proofs.Said.{says_first}
 use Rattle.deferred_laws.proofs.StillAmong.{still_among}
@@ -96,13 +97,10 @@ module _ (fileset : ℕ) (version : Version) (tag : Tag) (old new : FilesetNow) 
   More p h = (p ≡ s.page) × (h ≡ home)
 
   chain_now : with_chain tag (λ _. after) old.chains tag ≡ Some after
-  chain_now = tag_after tag after old.chains chain s.is tag (same_tag_itself tag)
+  chain_now = chain_put fileset version tag old new home chain s
 
-  page_now : places_of after s.page ≡ At home → IsFilePage new.domain.space new.domain.cells old.places home
-  page_now is = s.change.together.file_pages tag s.page home (ap (λ o. option_map_or (λ cs. places_of cs s.page) o Absent) chain_now ∙ is)
-
-  at_page : places_of after s.page ≡ At home
-  at_page = s.change.change.changes.at s.page ∙ ap (λ (b : Bool). cond b (At home) (places_of chain s.page)) (eq-eqb s.page s.page refl)
+  page_now : IsFilePage new.domain.space new.domain.cells old.places home
+  page_now = page_put fileset version tag old new home chain s
 
   pages : (p : ℕ) (h : Home) → places_of after p ≡ At h → (place_in files at p ≡ At h) ⊎ More p h
   pages p h is = by_page (nat_eq p s.page) refl
@@ -121,7 +119,7 @@ module _ (fileset : ℕ) (version : Version) (tag : Tag) (old new : FilesetNow) 
     apart = joined_apart;
     pages = pages;
     nowhere = λ p h more. subst (IsNowhere files) (sym more.1) nowhere;
-    held_more = λ p h more. subst (IsHeldApart new.domain.space new.domain.cells) (sym more.1) (page_now at_page).apart;
+    held_more = λ p h more. subst (IsHeldApart new.domain.space new.domain.cells) (sym more.1) page_now.apart;
     only_more = λ p q h x y. x.0 ∙ sym y.0;
     source = ap (option_and_then source_in) (first_same 2 refl chain after s.change.change.changes.first) ∙ sym (source_by files at chain there);
   }
@@ -150,16 +148,13 @@ module _ (fileset : ℕ) (version : Version) (tag : Tag) (old new : FilesetNow) 
       (other_starts fileset old.places old.domain.pages old.chains stood.together.files files stood.among.same tag chain s.is at begins.0)
       (ap (λ o. option_and_then (with_file at (Some after) files) (option_and_then start_of o)) chain_now ∙ ap (option_and_then (with_file at (Some after) files)) begins.1 ∙ file_there at (Some after) files ∙ sym chain_now)
       live_now stood.among.low (λ h is no. no)
-      (λ p h more. subst (λ (h : Home). has_home old.places h ≡ false) (sym more.1) (page_now at_page).no_tags)
+      (λ p h more. subst (λ (h : Home). has_home old.places h ≡ false) (sym more.1) page_now.no_tags)
       stood.well.listed.pages_held)
 
 -- ---- the two calls
 
 module _ (fileset : ℕ) (version : Version) (tag : Tag) (old new : FilesetNow) (stood : StandsWell fileset old) where
   module _ (s : Gives fileset version tag old new) where
-    given_tables : (vol p : ℕ) → Contains (table_of old.domain.cells vol) p → Contains (table_of new.domain.cells vol) p
-    given_tables vol p on = tables_grow s.puts.page (At s.home) s.chain s.prefer _ new.domain.space old.domain.cells new.domain.cells old.domain.pages s.taken.taken vol p on
-
     given_held : (h : Home) → IsHeldApart old.domain.space old.domain.cells h → IsHeldApart new.domain.space new.domain.cells h
     given_held h is = apart_grows s.puts.page (At s.home) s.chain s.prefer _ new.domain.space old.domain.cells new.domain.cells old.domain.pages s.taken.taken h (apart_taken old.domain.space old.domain.cells s.home h is)
 
@@ -170,18 +165,12 @@ module _ (fileset : ℕ) (version : Version) (tag : Tag) (old new : FilesetNow) 
     nowhere a p is = not_free s.home refl (stood.well.together.held a p s.home is)
 
     pub given_well : IsWell new.domain
-    given_well = puts_well fileset version tag old new stood s.home s.chain s.puts given_tables given_held nowhere (λ inside. not_free s.home refl (stood.well.listed.pages_held s.home inside))
+    given_well = puts_well fileset version tag old new stood s.home s.chain s.puts (given_tables fileset version tag old new s) given_held nowhere (λ inside. not_free s.home refl (stood.well.listed.pages_held s.home inside))
 
     pub given_among : AreAmong new.domain new.places new.chains
-    given_among = puts_among fileset version tag old new stood s.home s.chain s.puts given_tables given_held nowhere (λ inside. not_free s.home refl (stood.well.listed.pages_held s.home inside))
+    given_among = puts_among fileset version tag old new stood s.home s.chain s.puts (given_tables fileset version tag old new s) given_held nowhere (λ inside. not_free s.home refl (stood.well.listed.pages_held s.home inside))
 
   module _ (s : Moves fileset version tag old new) where
-    moved_tables : (vol p : ℕ) → Contains (table_of old.domain.cells vol) p → Contains (table_of new.domain.cells vol) p
-    moved_tables vol p on = ⊎_elim
-        (λ same. subst (λ (c : Cells). Contains (table_of c vol) p) (sym same.1) on)
-        (λ one. one_tables s.home.vol old.domain.space new.domain.space old.domain.cells new.domain.cells old.domain.pages one.1 vol p on)
-        s.taken
-
     moved_held : (h : Home) → IsHeldApart old.domain.space old.domain.cells h → IsHeldApart new.domain.space new.domain.cells h
     moved_held h is = ⊎_elim
         (λ same. subst (λ (sp : Spaces). IsHeldApart sp new.domain.cells h) (sym same.0) (subst (λ (c : Cells). IsHeldApart old.domain.space c h) (sym same.1) is))
@@ -189,7 +178,7 @@ module _ (fileset : ℕ) (version : Version) (tag : Tag) (old new : FilesetNow) 
         s.taken
 
     pub moved_well : IsWell new.domain
-    moved_well = puts_well fileset version tag old new stood s.home s.chain s.puts moved_tables moved_held s.nowhere s.not_listed
+    moved_well = puts_well fileset version tag old new stood s.home s.chain s.puts (moved_tables fileset version tag old new s) moved_held s.nowhere s.not_listed
 
     pub moved_among : AreAmong new.domain new.places new.chains
-    moved_among = puts_among fileset version tag old new stood s.home s.chain s.puts moved_tables moved_held s.nowhere s.not_listed
+    moved_among = puts_among fileset version tag old new stood s.home s.chain s.puts (moved_tables fileset version tag old new s) moved_held s.nowhere s.not_listed

@@ -1,5 +1,6 @@
 pub mod Calls
 pub mod Kept
 pub mod Lists
+pub mod Taken
 pub mod Tags
 pub mod Waits

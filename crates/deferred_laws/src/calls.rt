@@ -1,5 +1,6 @@
 //! What calls on one tag of a fileset leave as it was.
-ghost use Rattle.std.specs.Prelude.{◌≡◌, ℕ, false};
+ghost use Rattle.std.specs.Prelude.{◌≡◌, ◌≤◌, ◌⊎◌, ◌↔◌, ℕ, false};
+ghost use Rattle.domain_base.specs.declared.place.Home.{Home};
 ghost use Rattle.domain_base.specs.declared.place.Tag.{Tag};
 ghost use Rattle.domain_base.specs.declared.version.Version.{Version};
 ghost use Rattle.page_store.specs.Bitfiles.{same_tag};
@@ -7,6 +8,7 @@ ghost use Rattle.bitfile_core.specs.Together.{AreTogether};
 ghost use Rattle.deferred_delete.specs.Steps.{IsWell};
 ghost use Rattle.deferred_laws.specs.Calls.{Calls, FilesetNow};
 ghost use Rattle.deferred_laws.specs.Tags.{AreAmong};
+ghost use Rattle.deferred_laws.specs.Taken.{IsGiven, IsHeldAt, IsTaken};
 
 /// Every other tag has the chain that it had, if it had one, with all that its cells say: what its
 /// file is, and where its pages stand.
@@ -37,4 +39,23 @@ pub fn all_stays_well_over_calls()
         first.domain.pages first.chains
         → IsWell first.domain → AreAmong first.domain first.places first.chains
         → IsWell last.domain × AreAmong last.domain last.places last.chains }
+{}
+
+/// Exactly these pages are held after the calls: those that were before, those that were taken for
+/// a page of the tag's file, and those of cells and of the tag directory. So no call gives a page
+/// back: what a file lets go of is let go of by steps.
+pub fn pages_are_held_exactly()
+    ensures { (fileset : ℕ) (version : Version) (tag : Tag) (first last : FilesetNow)
+        → Calls fileset version tag first last
+        → AreTogether fileset first.places first.domain.space first.domain.cells
+        first.domain.pages first.chains
+        → (home : Home) → 1 ≤ home.vol
+        → IsHeldAt last home
+        ↔ (IsHeldAt first home ⊎ IsTaken fileset version tag first last home) }
+{}
+
+/// A page that was taken for a page of the tag's file was not held before the calls.
+pub fn given_pages_were_free()
+    ensures { (fileset : ℕ) (version : Version) (tag : Tag) (first last : FilesetNow) (home : Home)
+        → IsGiven fileset version tag first last home → ¬ IsHeldAt first home }
 {}

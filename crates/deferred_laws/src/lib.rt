@@ -12,7 +12,10 @@ pub use adding::{
     all_stays_well_where_a_file_is_listed, all_stays_well_where_a_page_is_listed,
     cut_files_are_to_be_trimmed, dropped_files_are_to_be_removed,
 };
-pub use calls::{all_stays_well_over_calls, files_stay_together, other_tags_stay};
+pub use calls::{
+    all_stays_well_over_calls, files_stay_together, given_pages_were_free, other_tags_stay,
+    pages_are_held_exactly,
+};
 pub use steps::{
     others_stay, pages_are_read_as_before, removed_files_are_gone, trimmed_files_keep_all,
     trimmed_files_keep_their_front,
