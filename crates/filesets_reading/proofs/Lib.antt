@@ -11,3 +11,4 @@ pub mod Unbroken
 pub mod FilesThere
 pub mod EntryLinks
 pub mod Domains
+pub mod Originals

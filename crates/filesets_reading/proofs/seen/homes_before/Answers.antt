@@ -1,0 +1,14 @@
+use Rattle.std.proofs.Common.{◌≡◌, List, subst, arith}
+use Rattle.extent_maps.specs.Runs.{place_of}
+use Rattle.extent_maps.specs.declared.run.PagePlace.TheVariants.{Absent}
+use Rattle.extent_maps.specs.declared.run.Run.{Run}
+use Rattle.filesets_reading.proofs.Originals.{list_ends, none_behind}
+use Rattle.filesets_reading.proofs.seen.homes_before.Goals as goal
+
+pub returns : goal.returns
+returns c =
+    list_ends (place_of c.args.map.now) c.loop-page.homes.items c.args.from c.loop-page.page c.loop-page.invariant
+    (λ p behind. none_behind (place_of c.args.map.now) c.args.from c.end_of.result p
+    (λ end. subst (λ (runs : List Run). place_of runs p ≡ Absent) c.runs.ensures.runs (c.end_of.ensures p end))
+    (λ low. omega (arith, behind, low, c.loop-page-test.false, c.min-end.ensures)))
+    (omega (arith, c.loop-page.auto.page-end, c.min-end.ensures))

@@ -1,0 +1,70 @@
+//! A file or directory as an original has it.
+ghost use Rattle.std.specs.Prelude.{◌≡◌, ◌≤◌, ℕ, IfOk};
+ghost use Rattle.std.specs.Option.{option_and_then};
+ghost use Rattle.extent_maps.specs.Runs.{AreRuns, place_of};
+ghost use Rattle.extent_maps.specs.declared.run.PagePlace.TheVariants.{Absent};
+ghost use Rattle.extent_records.specs.Writing.{places_before};
+ghost use Rattle.bitfile_core.specs.Files.{AreFiles, Chains, HasFiles};
+ghost use Rattle.domain_layout.specs.Seen.{seen_in};
+ghost use Rattle.filesets_reading.specs.Seen.{IsSeenThere, ListsHomes};
+
+use bitfile_core::{Attributes, Bitfiles};
+use domain_base::{Home, OutOfMemory, Tag};
+use extent_maps::{ExtentMap, Run};
+use page_store::MetaPages;
+use std::alloc::Global;
+
+/// What a file or directory is, and the home of each page from page 0 on, None where it does not
+/// have that page; behind the last it has none.
+#[derive(Drop)]
+pub struct SeenPages {
+    pub is: Attributes,
+    pub homes: Vec<Option<Home>>,
+}
+
+/// The page behind all runs.
+fn end_of(runs: &[Run]) -> u32
+    requires { AreRuns runs.now }
+    ensures { (page : ℕ) → result ≤ page → place_of runs.now page ≡ Absent }
+{
+    match runs.last() {
+        Some(run) => run.page + run.count,
+        None => 0,
+    }
+}
+
+/// The homes of the pages in front of one.
+fn homes_before(alloc: Global, map: &ExtentMap, from: u32) -> Result<Vec<Option<Home>>, OutOfMemory>
+    ensures { IfOk result (λ homes. ListsHomes (places_before from (place_of map.now)) homes.items) }
+{
+    let end = end_of(map.runs()).min(from);
+    let mut homes = Vec::new(alloc);
+    for page in 0..end {
+        homes.push(map.home_of(page).home())?;
+    }
+    Ok(homes)
+}
+
+/// The file or directory that a tag names in an original, with the pages that it keeps. None
+/// exactly where it names none, or one that is to be removed.
+pub fn read_original<M: MetaPages>(
+    alloc: Global,
+    pages: &M,
+    files: &Bitfiles,
+    tag: Tag,
+) -> Result<Option<SeenPages>, OutOfMemory>
+    requires { HasFiles files.now.fileset files.now.tags (M.pages pages.now) }
+    ensures { (chains : Chains)
+        → AreFiles files.now.fileset files.now.tags (M.pages pages.now) chains
+        → IfOk result (IsSeenThere (option_and_then seen_in (chains tag))) }
+{
+    let Some(is) = files.attributes(pages, tag) else {
+        return Ok(None);
+    };
+    let Some(keep) = files.keep(pages, tag) else {
+        unreachable!()
+    };
+    let map = files.read_map(alloc, pages, tag)?;
+    let homes = homes_before(alloc, &map, keep)?;
+    Ok(Some(SeenPages { is, homes }))
+}
