@@ -4,6 +4,7 @@ pub mod Others
 pub mod ReadHomes
 pub mod Fits
 pub mod PagesGo
+pub mod Fewer
 pub mod FirstCells
 pub mod Ended
 pub mod Laws

@@ -1,5 +1,6 @@
 -- A list of the files with one entry, or one page of a tag directory, more.
 use Rattle.std.proofs.Common.{◌≡◌, ◌∙◌, ◌⊎◌, ⊎_elim, inl, inr, ℕ, zero, suc, ◌<◌, ◌≤◌, List, [], ◌∷◌, ◌++◌, Option, Some, Contains, get_or, length, slice_set, refl, sym, ap, subst, arith}
+use Rattle.std.proofs.lemmas.List.{length-set}
 use Rattle.std.specs.Option.{option_and_then}
 use Rattle.domain_base.specs.declared.place.CellAt.{CellAt}
 use Rattle.domain_base.specs.declared.place.Home.{Home}
@@ -39,11 +40,6 @@ inside_set (x ∷ xs) (suc i) y e (zero, within, is) = inl (0, omega arith, is)
 inside_set (x ∷ xs) (suc i) y e (suc k, within, is) =
     ⊎_elim (λ was. inl (suc was.0, omega (arith, was.1), was.2)) (λ this. inr this) (inside_set xs i y e (k, omega (arith, within), is))
 
-length_set : {X : Type 0} (xs : List X) (i : ℕ) (y : X) → length (slice_set xs i y) ≡ length xs
-length_set [] i y = refl
-length_set (x ∷ xs) zero y = refl
-length_set (x ∷ xs) (suc i) y = ap suc (length_set xs i y)
-
 there : {X : Type 0} (xs : List X) (k : ℕ) (d : X) → k < length xs → Contains xs (get_or xs k d)
 there xs k d within = (k, within, there_is xs k (get_or xs k d) d within)
 
@@ -58,7 +54,7 @@ set_files (x ∷ xs) (suc i) y was (suc k) d = set_files xs i y was k d
 
 once_set : (xs : List Entry) (i : ℕ) (y : Entry) → ((d : Entry) → (get_or xs i d).at ≡ y.at) → AreEntriesOnce xs → AreEntriesOnce (slice_set xs i y)
 once_set xs i y was once j k d less_j less_k same =
-    once j k d (omega (arith, less_j, length_set xs i y)) (omega (arith, less_k, length_set xs i y))
+    once j k d (omega (arith, less_j, length-set xs i y)) (omega (arith, less_k, length-set xs i y))
     (sym (set_files xs i y was j d) ∙ same ∙ set_files xs i y was k d)
 
 data Place (n k : ℕ) : Type 0 where

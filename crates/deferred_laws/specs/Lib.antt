@@ -2,5 +2,6 @@ pub mod Calls
 pub mod Kept
 pub mod Lists
 pub mod Taken
+pub mod ToDo
 pub mod Tags
 pub mod Waits

@@ -17,8 +17,8 @@ pub use calls::{
     pages_are_held_exactly,
 };
 pub use steps::{
-    others_stay, pages_are_read_as_before, removed_files_are_gone, trimmed_files_keep_all,
-    trimmed_files_keep_their_front,
+    each_step_leaves_less, others_stay, pages_are_read_as_before, removed_files_are_gone,
+    trimmed_files_keep_all, trimmed_files_keep_their_front,
 };
 pub use together::{all_stays_well, tags_stay_together};
 pub use waiting::{pages_let_go_wait, pages_taken_off_wait, pages_wait_on};

@@ -1,5 +1,5 @@
 //! What steps leave as it was.
-ghost use Rattle.std.specs.Prelude.{◌≡◌, ℕ, List, [], Some, None, Contains};
+ghost use Rattle.std.specs.Prelude.{◌≡◌, ◌+◌, ◌≤◌, ℕ, List, [], Some, None, Contains};
 ghost use Rattle.domain_base.specs.declared.place.CellAt.{CellAt};
 ghost use Rattle.domain_base.specs.declared.version.Version.{Version};
 ghost use Rattle.record_table.specs.declared.record.Leftover.TheVariants.{Remove, Trim};
@@ -9,6 +9,7 @@ ghost use Rattle.deferred_delete.specs.Listed.{left_of};
 ghost use Rattle.deferred_delete.specs.Standing.{read_at};
 ghost use Rattle.deferred_delete.specs.Steps.{IsWell, Now, Steps};
 ghost use Rattle.deferred_laws.specs.Kept.{IsBeside, KeepsAll, KeepsFront, Stays};
+ghost use Rattle.deferred_laws.specs.ToDo.{left_to_do};
 
 /// A file that no entry is of, and that no entry gives as its clone's, has the same chain after.
 pub fn others_stay()
@@ -53,4 +54,13 @@ pub fn trimmed_files_keep_all()
         → (entry : Entry) → Contains first.list.entries entry
         → (chain : List PlacedCell) → first.files entry.at ≡ Some chain
         → left_of chain ≡ Some Trim → KeepsAll (last.files entry.at) }
+{}
+
+/// With each step less is left to be let go of: of the cells and pages of the entries' files that
+/// go, of the entries and their clones, and of the pages of tag directories. So there are no more
+/// steps than that, and letting go until nothing is left ends.
+pub fn each_step_leaves_less()
+    ensures { (group : ℕ) (version : Version) (first : Now) (count : ℕ) (last : Now)
+        → IsWell first → Steps group version first count last
+        → count + left_to_do last ≤ left_to_do first }
 {}

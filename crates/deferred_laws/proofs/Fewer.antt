@@ -1,0 +1,208 @@
+-- Each step leaves less to be let go of.
+use Rattle.std.proofs.Common.{◌≡◌, ◌∙◌, ◌+◌, ◌-◌, ◌&&◌, ⊎_elim, ℕ, zero, suc, ◌<◌, ◌≤◌, Bool, true, false, cond, nat_le, List, [], ◌∷◌, ◌++◌, Some, None, Contains, is_some, length, sum_by, refl, sym, ap, subst, arith}
+use Rattle.std.proofs.lemmas.Bool.{and_from, cases_eq, le-leb, true≢false}
+use Rattle.std.proofs.lemmas.List.{length-map}
+use Rattle.std.proofs.lemmas.List.Sums.{sum_by-cons, sum_by_push}
+use Rattle.std.specs.List.{AllByRecursion}
+use Rattle.std.specs.Option.{option_map_or}
+use Rattle.domain_base.specs.declared.place.CellAt.{CellAt}
+use Rattle.domain_base.specs.declared.place.Home.{Home}
+use Rattle.domain_base.specs.declared.version.Version.{Version}
+use Rattle.bmt_mcells.specs.Chain.{PlacedCell, records_of}
+use Rattle.extent_maps.specs.declared.run.PagePlace.{PagePlace}
+use Rattle.extent_maps.specs.declared.run.PagePlace.TheVariants.{Absent, At, Hole}
+use Rattle.extent_maps.specs.declared.run.Run.{Run}
+use Rattle.extent_maps.specs.Runs.{behind, covers, place_of, placed}
+use Rattle.extent_maps.proofs.EditLemmas.{covers_is}
+use Rattle.extent_records.specs.Rows.{IsPlaced, runs_of}
+use Rattle.free_cells.specs.Cells.{Cells}
+use Rattle.bitfile_cells.specs.Files.{places_of}
+use Rattle.chain_release.specs.declared.released.Released.{Released}
+use Rattle.chain_release.specs.declared.released.Released.TheVariants as released
+use Rattle.chain_release.specs.Releases.{Progresses}
+use Rattle.chain_release.proofs.Once.{file_map}
+use Rattle.deferred_delete.specs.declared.list.Entry.{Entry}
+use Rattle.deferred_delete.specs.Listed.{stale_from}
+use Rattle.deferred_delete.specs.Listing.{Listing}
+use Rattle.deferred_delete.specs.Steps.{EndsReading, GivesTagPage, IsWell, LetsPages, Now, Step, Steps, file_ends, more, none, pages_go, reading_ends, tag_page_goes, trim_ends}
+use Rattle.deferred_delete.proofs.Lists.{AreEntriesOnce, longer, not_last}
+use Rattle.deferred_delete.proofs.Standings.{standing}
+use Rattle.deferred_laws.specs.ToDo.{count_below, goes, is_there, left_in, left_of_entry, left_to_do}
+use Rattle.deferred_laws.proofs.Ended.{ended_other, reading_other, same_file, trim_other}
+use Rattle.deferred_laws.proofs.Fits.{Fits, well_fits}
+use Rattle.deferred_laws.proofs.Narrower.{in_front, in_last}
+use Rattle.deferred_laws.proofs.PagesGo.{after_stale, at_other, at_source}
+use Rattle.deferred_laws.proofs.Wells.{well_step}
+
+-- ---- counts
+
+abbrev bit : Bool → ℕ
+bit b = cond b 1 0
+
+bit_le : (a b : Bool) → (a ≡ true → b ≡ true) → bit a ≤ bit b
+bit_le false b has = omega arith
+bit_le true b has = let e : bit b ≡ 1 = ap bit (has refl) in omega (arith, e)
+
+count_le : (p q : ℕ → Bool) (n : ℕ) → ((k : ℕ) → q k ≡ true → p k ≡ true) → count_below q n ≤ count_below p n
+unfolding count_below
+count_le p q zero has = omega arith
+count_le p q (suc n) has =
+    let rest = count_le p q n has in
+    let here = bit_le (q n) (p n) (has n) in
+    omega (arith, rest, here)
+
+count_less : (p q : ℕ → Bool) (n k : ℕ) → k < n → ((k : ℕ) → q k ≡ true → p k ≡ true) → p k ≡ true → q k ≡ false → count_below q n + 1 ≤ count_below p n
+unfolding count_below
+count_less p q zero k less has was gone = absurd (omega (arith, less))
+count_less p q (suc n) k less has was gone = ⊎_elim
+    (λ same.
+    let rest = count_le p q n has in
+    let one : bit (p n) ≡ 1 = ap (λ (j : ℕ). bit (p j)) (sym same) ∙ ap bit was in
+    let no : bit (q n) ≡ 0 = ap (λ (j : ℕ). bit (q j)) (sym same) ∙ ap bit gone in
+    omega (arith, rest, one, no))
+    (λ other.
+    let rest = count_less p q n k (omega (arith, less, other)) has was gone in
+    let here = bit_le (q n) (p n) (has n) in
+    omega (arith, rest, here))
+    (cases_eq k n)
+
+sum_same : (f g : Entry → ℕ) (xs : List Entry) → ((e : Entry) → Contains xs e → g e ≡ f e) → sum_by g xs ≡ sum_by f xs
+sum_same f g [] same = refl
+sum_same f g (x ∷ xs) same =
+    sum_by-cons g x xs ∙ ap (λ (n : ℕ). n + sum_by g xs) (same x (0, omega arith, refl))
+    ∙ ap (λ (n : ℕ). f x + n) (sum_same f g xs (λ e inside. same e (suc inside.0, omega (arith, inside.1), inside.2))) ∙ sym (sum_by-cons f x xs)
+
+-- ---- pages
+
+small_page : (runs : List Run) → AllByRecursion IsPlaced runs → (page : ℕ) → ¬ place_of runs page ≡ Absent → page < 65536
+small_page [] all page there = absurd (there refl)
+small_page (run ∷ runs) all page there = by_cover (λ later. small_page runs all.1 page later) (covers run page) refl there
+  where
+    by_cover : (¬ place_of runs page ≡ Absent → page < 65536) → (b : Bool) → covers run page ≡ b → ¬ cond b (placed (behind (page - run.page) run.first)) (place_of runs page) ≡ Absent → page < 65536
+    by_cover rest true is there = let inside = covers_is run page is in omega (arith, inside.1, all.0.is_run.ends)
+    by_cover rest false is there = rest there
+
+there_is : (place : PagePlace) → ¬ place ≡ Absent → is_there place ≡ true
+there_is (At home) not = refl
+there_is Hole not = refl
+there_is Absent not = absurd (not refl)
+
+and_no : (b : Bool) → (b && false) ≡ false
+and_no true = refl
+and_no false = refl
+
+goes_not : (chain : List PlacedCell) (page : ℕ) → places_of chain page ≡ Absent → goes chain page ≡ false
+goes_not chain page gone = ap (λ x. nat_le (stale_from chain) page && is_there x) gone ∙ and_no (nat_le (stale_from chain) page)
+
+-- ---- the steps
+
+module _ (group : ℕ) (version : Version) (old new : Now) (well : IsWell old) where
+  fits : Fits old
+  fits = well_fits old well
+
+  abbrev f : Entry → ℕ
+  f = left_of_entry old.files
+
+  abbrev g : Entry → ℕ
+  g = left_of_entry new.files
+
+  same_entry : (e : Entry) → new.files e.at ≡ old.files e.at → g e ≡ f e
+  same_entry e same = ap (λ o. 1 + cond (is_some e.clone) 1 0 + option_map_or left_in o 0) same
+
+  once_by : (front : List Entry) (entry : Entry) → old.list.entries ≡ front ++ entry ∷ [] → AreEntriesOnce (front ++ entry ∷ [])
+  once_by front entry last = subst AreEntriesOnce last well.listed.once
+
+  module _ (s : LetsPages group version old new) where
+    still_goes : (k : ℕ) → goes s.releases.after k ≡ true → goes s.chain k ≡ true
+    still_goes k is = ⊎_elim
+        (λ kept.
+        sym (ap (λ n. nat_le n k && is_there (places_of s.releases.after k)) (after_stale group version old new fits s) ∙ ap (λ x. nat_le (stale_from s.chain) k && is_there x) kept) ∙ is)
+        (λ gone. absurd (true≢false (sym is ∙ goes_not s.releases.after k gone)))
+        (s.releases.pages.left k)
+
+    fewer : (what : Released) (between : Cells) → Progresses what (stale_from s.chain) s.chain s.releases.after between new.cells → left_in s.releases.after + 1 ≤ left_in s.chain
+    fewer released.Nothing between progress = absurd progress
+    fewer released.Pages between progress =
+        let file = (standing old.space old.cells old.pages old.files well.together s.entry.at s.chain s.is).file in
+        let small = small_page (runs_of (records_of s.chain)) (file_map old.pages s.entry.at s.chain file).placed progress.page progress.was in
+        let went = count_less (goes s.chain) (goes s.releases.after) 65536 progress.page small still_goes
+        (and_from (nat_le (stale_from s.chain) progress.page) (is_there (places_of s.chain progress.page)) (le-leb (stale_from s.chain) progress.page progress.begins) (there_is (places_of s.chain progress.page) progress.was))
+        (goes_not s.releases.after progress.page progress.gone) in
+        let long : length s.releases.after ≡ length s.chain =
+        sym (length-map s.releases.after (λ (c : PlacedCell). c.at)) ∙ ap length progress.same_places ∙ length-map s.chain (λ (c : PlacedCell). c.at) in
+        omega (arith, went, long)
+    fewer released.Cell between progress =
+        let went = count_le (goes s.chain) (goes s.releases.after) 65536 still_goes in
+        let long = progress.fewer in
+        omega (arith, went, long)
+
+    pages_fewer : left_to_do new + 1 ≤ left_to_do old
+    pages_fewer =
+        let inside = in_last old.list s.front s.entry s.last in
+        let front = sum_same f g s.front (λ e is. same_entry e (at_other group version old new fits s e.at (not_last s.front s.entry e (once_by s.front s.entry s.last) is)
+        (fits.clones s.entry e inside (in_front old.list s.front s.entry e s.last is)))) in
+        let was : f s.entry ≡ 1 + cond (is_some s.entry.clone) 1 0 + left_in s.chain = ap (λ o. 1 + cond (is_some s.entry.clone) 1 0 + option_map_or left_in o 0) s.is in
+        let is : g s.entry ≡ 1 + cond (is_some s.entry.clone) 1 0 + left_in s.releases.after = ap (λ o. 1 + cond (is_some s.entry.clone) 1 0 + option_map_or left_in o 0) (at_source group version old new fits s) in
+        let less = fewer s.what s.releases.cells_between s.releases.progress in
+        let all_old : sum_by f old.list.entries ≡ sum_by f s.front + f s.entry = ap (sum_by f) s.last ∙ sum_by_push f s.front s.entry in
+        let all_new : sum_by g new.list.entries ≡ sum_by g s.front + g s.entry = ap (λ (l : Listing). sum_by g l.entries) s.same_list ∙ ap (sum_by g) s.last ∙ sum_by_push g s.front s.entry in
+        let tags : length new.list.tag_pages ≡ length old.list.tag_pages = ap (λ (l : Listing). length l.tag_pages) s.same_list in
+        omega (arith, front, was, is, less, all_old, all_new, tags)
+
+  -- the last entry goes
+  entry_fewer : (front : List Entry) (entry : Entry) → old.list.entries ≡ front ++ entry ∷ [] → new.list ≡ record { entries = front; tag_pages = old.list.tag_pages } → ((a : CellAt) → ¬ a ≡ entry.at → new.files a ≡ old.files a) → left_to_do new + 1 ≤ left_to_do old
+  entry_fewer front entry last list other =
+      let same = sum_same f g front (λ e is. same_entry e (other e.at (not_last front entry e (once_by front entry last) is))) in
+      let all_old : sum_by f old.list.entries ≡ sum_by f front + f entry = ap (sum_by f) last ∙ sum_by_push f front entry in
+      let all_new : sum_by g new.list.entries ≡ sum_by g front = ap (λ (l : Listing). sum_by g l.entries) list in
+      let tags : length new.list.tag_pages ≡ length old.list.tag_pages = ap (λ (l : Listing). length l.tag_pages) list in
+      omega (arith, same, all_old, all_new, tags)
+
+  reading_fewer : EndsReading old new → left_to_do new + 1 ≤ left_to_do old
+  reading_fewer s =
+      let inside = in_last old.list s.front s.entry s.last in
+      let beside : (e : Entry) → Contains old.list.entries e → new.files e.at ≡ old.files e.at =
+      λ e is. reading_other group version old new fits s e.at (λ same. fits.clones s.entry e inside is (s.given ∙ ap Some (sym same))) in
+      let alone : Entry = record { at = s.entry.at; clone = None } in
+      let front = sum_same f g s.front (λ e is. same_entry e (beside e (in_front old.list s.front s.entry e s.last is))) in
+      let chain = beside s.entry inside in
+      let was : f s.entry ≡ 1 + 1 + option_map_or left_in (old.files s.entry.at) 0 = ap (λ o. 1 + cond (is_some o) 1 0 + option_map_or left_in (old.files s.entry.at) 0) s.given in
+      let is : g alone ≡ 1 + 0 + option_map_or left_in (old.files s.entry.at) 0 = ap (λ o. 1 + 0 + option_map_or left_in o 0) chain in
+      let all_old : sum_by f old.list.entries ≡ sum_by f s.front + f s.entry = ap (sum_by f) s.last ∙ sum_by_push f s.front s.entry in
+      let all_new : sum_by g new.list.entries ≡ sum_by g s.front + g alone = ap (λ (l : Listing). sum_by g l.entries) s.list ∙ sum_by_push g s.front alone in
+      let tags : length new.list.tag_pages ≡ length old.list.tag_pages = ap (λ (l : Listing). length l.tag_pages) s.list in
+      omega (arith, front, was, is, all_old, all_new, tags)
+
+  homes_longer : (xs : List Home) (x : Home) → length (xs ++ x ∷ []) ≡ suc (length xs)
+  homes_longer xs x = longer xs x
+
+  tag_fewer : GivesTagPage group old new → left_to_do new + 1 ≤ left_to_do old
+  tag_fewer s =
+      let same = sum_same f g old.list.entries (λ e is. same_entry e (same_file group version old new fits s e.at)) in
+      let all_new : sum_by g new.list.entries ≡ sum_by g old.list.entries = ap (λ (l : Listing). sum_by g l.entries) s.takes.is in
+      let now : length new.list.tag_pages ≡ length s.takes.front = ap (λ (l : Listing). length l.tag_pages) s.takes.is in
+      let was : length old.list.tag_pages ≡ suc (length s.takes.front) = ap length s.takes.last ∙ homes_longer s.takes.front s.takes.home in
+      omega (arith, same, all_new, now, was)
+
+  step_fewer : Step group version old new → left_to_do new + 1 ≤ left_to_do old
+  step_fewer (pages_go s) = pages_fewer s
+  step_fewer (trim_ends s) = entry_fewer s.front s.entry s.last s.list (trim_other group version old new fits s)
+  step_fewer (reading_ends s) = reading_fewer s
+  step_fewer (file_ends s) = entry_fewer s.front s.entry s.last s.list (ended_other group version old new fits s)
+  step_fewer (tag_page_goes s) = tag_fewer s
+
+record IsLess (first : Now) (count : ℕ) (last : Now) : Type 0 where
+  well : IsWell last
+  less : count + left_to_do last ≤ left_to_do first
+
+pub steps_fewer : (group : ℕ) (version : Version) (first : Now) (count : ℕ) (last : Now) → IsWell first → Steps group version first count last → count + left_to_do last ≤ left_to_do first
+steps_fewer group version first count last well steps = all.less
+  where
+    all : IsLess first count last
+    all = elim steps as (λ count last steps. IsLess first count last) [
+      | none ↦ record { well = well; less = omega arith }
+      | more n between last (steps → was) step ↦ record {
+        well = well_step group version between last was.well step;
+        less = omega (arith, was.less, step_fewer group version between last was.well step);
+      }
+    ]
