@@ -1,4 +1,6 @@
 //! Indexes made, looked through, and changed.
+ghost use Rattle.std.specs.Prelude.{◌<◌};
+ghost use Rattle.index_tests.specs.Steps.{HasIndex};
 
 use crate::steps::{
     ROOT, add, add_all, count_found, indexed, indexed_missing, page_of, remove, remove_odd, rising,
@@ -7,6 +9,7 @@ use bitfile_set::BitfileSet;
 use dir_index::{IndexEntry, name_hash};
 use hex::decode;
 use page_store::StoreFault;
+use row_tests::Looks;
 use std::alloc::Global;
 use std::test::Fail;
 
@@ -140,6 +143,40 @@ fn built(alloc: Global) -> Result<(u32, [u32; 5]), Fail> {
 fn an_index_is_made_of_several_pages(rt: HostRuntime) -> Result<(), Fail> {
     let seen = built(rt.alloc())?;
     assert_eq!(rt; seen, (3, [0, 0, 0, 0, 999]));
+    Ok(())
+}
+
+/// How many pages of the root's index are looked at to find an entry of a hash.
+fn looks_for<S: BitfileSet>(set: &S, hash: u32) -> u32
+    requires { HasIndex ROOT (S.files set.now) }
+{
+    let looks = Looks::new(set);
+    let _ = page_of(&looks, ROOT, hash, 0);
+    looks.taken()[1]
+}
+
+/// How many pages an index of so many entries has, and how many of them are looked at for the first
+/// hash, for the last one, and for one above all.
+fn halved(alloc: Global, count: u32) -> Result<(u32, [u32; 3]), Fail>
+    requires { 0 < count }
+{
+    let entries = rising(alloc, count)?;
+    let set = indexed(alloc, entries.as_slice())?;
+    let looks = [
+        looks_for(&set, 0),
+        looks_for(&set, count - 1),
+        looks_for(&set, count),
+    ];
+    Ok((set.index_pages(ROOT), looks))
+}
+
+/// Of 4 full pages those of numbers 2, 1, 0, then 2, 3, and then 2, 3 are looked at, and of 64
+/// those of 32, 16, 8, 4, 2, 1, 0, then 32, 48, 56, 60, 62, 63, and then the same; a page that was
+/// found is looked at once more for the entry.
+#[test]
+fn the_pages_of_an_index_are_halved(rt: HostRuntime) -> Result<(), Fail> {
+    let seen = [halved(rt.alloc(), 4_088)?, halved(rt.alloc(), 65_408)?];
+    assert_eq!(rt; seen, [(4, [4, 3, 2]), (64, [8, 7, 6])]);
     Ok(())
 }
 
