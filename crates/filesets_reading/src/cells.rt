@@ -1,24 +1,17 @@
 //! The table of cells of a volume.
 ghost use Rattle.std.specs.Prelude.{◌≡◌, ◌^◌, ◌≤◌, true, IfOk, IsSomeAnd, OnOk};
 ghost use Rattle.disk_label.specs.FirstPages.{first_pages};
-ghost use Rattle.log_ring.specs.Homes.{member_of as member_there};
 ghost use Rattle.bmt_mcells.specs.CellPage.{is_cell_page, next_of};
 ghost use Rattle.domain_layout.specs.Layout.{IsCellTable, IsMember};
 ghost use Rattle.domain_layout.specs.Reached.{first_cells};
 ghost use Rattle.filesets_reading.specs.Good.{AreDecided, AreGood, IsDecided, frame_at};
 
 use bmt_mcells::{read_page_head, read_used};
-use disk_label::{Anchor, FirstPages, Member};
+use disk_label::{Anchor, FirstPages};
 use domain_base::{CellAt, Home, OutOfMemory, Version, VolIx};
+use log_ring::member_of;
 use page_store::MetaPages;
 use std::alloc::Global;
-
-/// A volume as an anchor has it.
-pub(crate) fn member_of(anchor: &Anchor, vol: VolIx) -> Member
-    ensures { result ≡ member_there anchor.now vol }
-{
-    anchor.members[vol.index()]
-}
 
 /// The first page of cells of a volume with so many pages, which four bytes say.
 fn first_page(version: Version, pages: u32) -> u32

@@ -5,11 +5,12 @@ ghost use Rattle.domain_layout.specs.Layout.{IsMember, first_tag_of};
 ghost use Rattle.filesets_reading.specs.Good.{AreGood, HasTagsAt, IsNamed, frame_at};
 ghost use Rattle.filesets_reading.specs.Tables.{AreTablesOf, AreTagsOf, HasCellTable, HasTagsOf, HaveCellTables};
 
-use crate::cells::{member_of, read_cell_table};
+use crate::cells::read_cell_table;
 use crate::tags::read_tags;
 use disk_label::Anchor;
 use domain_base::{FilesetNo, Home, OutOfMemory, Version, VolIx};
 use fileset_table::{FilesetTable, SlotItem, TableFault};
+use log_ring::member_of;
 use page_store::MetaPages;
 use std::alloc::Global;
 use tag_dirs::TagDir;

@@ -2,12 +2,13 @@
 ghost use Rattle.std.specs.Prelude.{◌≡◌, ◌↔◌, ◌≤◌, IsTrue};
 ghost use Rattle.domain_layout.specs.Layout.{IsMember};
 ghost use Rattle.domain_layout.specs.Reached.{IsReserved, IsWithin, MayBe, first_cells};
-ghost use Rattle.log_ring.specs.Homes.{IsLogPage, member_of};
+ghost use Rattle.log_ring.specs.Homes.{IsLogPage, member_of as member_there};
 ghost use Rattle.page_ways.specs.Frame.{frame_in};
 
 use disk_label::{Anchor, FirstPages, Member};
 use domain_base::limits::{LOG_PAGES, MAX_VOLUMES};
 use domain_base::{Home, Version, VolIx};
+use log_ring::member_of;
 
 /// The anchor that counts, and the version that it says.
 #[derive(Clone, Copy, Debug, PartialEq, Eq)]
@@ -19,9 +20,9 @@ pub struct DomainFrame {
 impl DomainFrame {
     /// A volume as the anchor has it.
     pub fn member(&self, vol: VolIx) -> Member
-        ensures { result ≡ member_of self.now.anchor vol }
+        ensures { result ≡ member_there self.now.anchor vol }
     {
-        self.anchor.members[vol.index()]
+        member_of(&self.anchor, vol)
     }
 
     /// Whether a volume is a member, open or closed.
