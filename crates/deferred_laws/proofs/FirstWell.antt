@@ -182,10 +182,10 @@ module _ (fileset : ℕ) (tag : Tag) (old : FilesetNow) (stood : StandsWell file
 -- ---- the calls
 
 module _ (fileset : ℕ) (tag : Tag) (old new : FilesetNow) (stood : StandsWell fileset old) (says : Cell → Cell) (s : SetsFirst fileset tag says old new) where
-  abbrev chains_set : Chains
+  abbrev pub chains_set : Chains
   chains_set = with_chain tag (with_first says) old.chains
 
-  tag_now : chains_set tag ≡ Some (with_first says (s.first ∷ s.rest))
+  pub tag_now : chains_set tag ≡ Some (with_first says (s.first ∷ s.rest))
   tag_now = chain_same tag (with_first says) old.chains tag (same_tag_itself tag) ∙ ap (option_map (with_first says)) s.is
 
   led : LeadsToFile fileset old.places new.domain.pages tag (with_first says (s.first ∷ s.rest))
@@ -219,10 +219,10 @@ module _ (fileset : ℕ) (tag : Tag) (old new : FilesetNow) (stood : StandsWell 
         (subst (λ o. IfSome o (λ cs. is_removed cs ≡ false)) (sym tag_now) (live (subst (λ o. IfSome o (λ cs. is_removed cs ≡ false)) s.is (stood.among.live tag)))))
 
 module _ (fileset : ℕ) (tag : Tag) (old new : FilesetNow) (stood : StandsWell fileset old) (s : Drops fileset tag old new) where
-  abbrev chains_left : Chains
+  abbrev pub chains_left : Chains
   chains_left = without_chain tag old.chains
 
-  no_chain : chains_left tag ≡ None
+  pub no_chain : chains_left tag ≡ None
   no_chain = ap (λ (b : Bool). cond b None (old.chains tag)) (same_tag_itself tag)
 
   dropped_file : IsFile new.domain.pages s.at (with_first says_removed (s.first ∷ s.rest))
@@ -241,7 +241,7 @@ module _ (fileset : ℕ) (tag : Tag) (old new : FilesetNow) (stood : StandsWell 
   dropped_was = (standing old.domain.space old.domain.cells old.domain.pages old.domain.files stood.well.together s.first.at (s.first ∷ s.rest)
       (file_is fileset old.places old.domain.pages old.chains stood.together.files old.domain.files stood.among.same tag (s.first ∷ s.rest) s.is s.first.at refl)).file.1
 
-  files_left : new.domain.files ≡ with_file s.first.at (Some (with_first says_removed (s.first ∷ s.rest))) old.domain.files
+  pub files_left : new.domain.files ≡ with_file s.first.at (Some (with_first says_removed (s.first ∷ s.rest))) old.domain.files
   files_left = s.files ∙ ap (λ (a : CellAt). with_file a (Some (with_first says_removed (s.first ∷ s.rest))) old.domain.files) (sym dropped_file.0)
 
   pub dropped_well : IsWell new.domain

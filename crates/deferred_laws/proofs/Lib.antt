@@ -26,4 +26,5 @@ pub mod Listing
 pub mod MakeWell
 pub mod CallsWell
 pub mod HeldPages
+pub mod BesideCalls
 pub mod TagPages

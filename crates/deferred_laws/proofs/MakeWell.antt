@@ -60,13 +60,13 @@ file_inside pages at [] is = absurd is
 file_inside pages at (first ∷ rest) is = in_first at first rest is.0
 
 module _ (fileset : ℕ) (version : Version) (tag : Tag) (old new : FilesetNow) (stood : StandsWell fileset old) (s : Makes fileset version tag old new) where
-  abbrev files : Files
+  abbrev pub files : Files
   files = old.domain.files
 
-  abbrev first : PlacedCell
+  abbrev pub first : PlacedCell
   first = s.creates.first
 
-  abbrev after : List PlacedCell
+  abbrev pub after : List PlacedCell
   after = first ∷ []
 
   -- no file had the cell
@@ -76,7 +76,7 @@ module _ (fileset : ℕ) (version : Version) (tag : Tag) (old new : FilesetNow) 
       let cell = all_at (IsInUse old.domain.pages) cs first.at (in_use old.domain.pages cs (stand_file old.domain.pages a cs was.file)) inside in
       s.creates.was_free cell.0 cell.1 (on_at old.domain.cells cs first.at was.on_tables inside)
 
-  no_file : files first.at ≡ None
+  pub no_file : files first.at ≡ None
   no_file = by_chain (files first.at) refl
     where
       by_chain : (o : Option (List PlacedCell)) → files first.at ≡ o → files first.at ≡ None
@@ -103,10 +103,10 @@ module _ (fileset : ℕ) (version : Version) (tag : Tag) (old new : FilesetNow) 
       none)
       s.taken
 
-  abbrev chains_now : Chains
+  abbrev pub chains_now : Chains
   chains_now = with_new tag after old.chains
 
-  tag_now : chains_now tag ≡ Some after
+  pub tag_now : chains_now tag ≡ Some after
   tag_now = ap (λ (b : Bool). cond b (Some after) (old.chains tag)) (same_tag_itself tag)
 
   led : LeadsToFile fileset new.places new.domain.pages tag after

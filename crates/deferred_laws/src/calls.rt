@@ -1,5 +1,8 @@
 //! What calls on one tag of a fileset leave as it was.
-ghost use Rattle.std.specs.Prelude.{◌≡◌, ◌≤◌, ◌⊎◌, ◌↔◌, ℕ, false};
+ghost use Rattle.std.specs.Prelude.{◌≡◌, ◌≤◌, ◌⊎◌, ◌↔◌, ℕ, List, Some, false};
+ghost use Rattle.std.specs.Option.{option_and_then};
+ghost use Rattle.domain_base.specs.declared.place.CellAt.{CellAt};
+ghost use Rattle.bmt_mcells.specs.Chain.{PlacedCell};
 ghost use Rattle.domain_base.specs.declared.place.Home.{Home};
 ghost use Rattle.domain_base.specs.declared.place.Tag.{Tag};
 ghost use Rattle.domain_base.specs.declared.version.Version.{Version};
@@ -7,7 +10,7 @@ ghost use Rattle.page_store.specs.Bitfiles.{same_tag};
 ghost use Rattle.bitfile_core.specs.Together.{AreTogether};
 ghost use Rattle.deferred_delete.specs.Steps.{IsWell};
 ghost use Rattle.deferred_laws.specs.Calls.{Calls, FilesetNow};
-ghost use Rattle.deferred_laws.specs.Tags.{AreAmong};
+ghost use Rattle.deferred_laws.specs.Tags.{AreAmong, start_of};
 ghost use Rattle.deferred_laws.specs.Taken.{IsGiven, IsHeldAt, IsTaken};
 
 /// Every other tag has the chain that it had, if it had one, with all that its cells say: what its
@@ -58,4 +61,17 @@ pub fn pages_are_held_exactly()
 pub fn given_pages_were_free()
     ensures { (fileset : ℕ) (version : Version) (tag : Tag) (first last : FilesetNow) (home : Home)
         → IsGiven fileset version tag first last home → ¬ IsHeldAt first home }
+{}
+
+/// Every file of the domain but the tag's has the chain that it had: those of other filesets, of
+/// clones, and those that no tag names.
+pub fn other_files_stay()
+    ensures { (fileset : ℕ) (version : Version) (tag : Tag) (first last : FilesetNow)
+        → Calls fileset version tag first last
+        → AreTogether fileset first.places first.domain.space first.domain.cells
+        first.domain.pages first.chains
+        → IsWell first.domain → AreAmong first.domain first.places first.chains
+        → (at : CellAt) (chain : List PlacedCell) → first.domain.files at ≡ Some chain
+        → ¬ option_and_then start_of (first.chains tag) ≡ Some at
+        → last.domain.files at ≡ Some chain }
 {}

@@ -13,8 +13,8 @@ pub use adding::{
     cut_files_are_to_be_trimmed, dropped_files_are_to_be_removed,
 };
 pub use calls::{
-    all_stays_well_over_calls, files_stay_together, given_pages_were_free, other_tags_stay,
-    pages_are_held_exactly,
+    all_stays_well_over_calls, files_stay_together, given_pages_were_free, other_files_stay,
+    other_tags_stay, pages_are_held_exactly,
 };
 pub use steps::{
     each_step_leaves_less, others_stay, pages_are_read_as_before, removed_files_are_gone,
