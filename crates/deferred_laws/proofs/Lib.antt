@@ -26,5 +26,6 @@ pub mod Listing
 pub mod MakeWell
 pub mod CallsWell
 pub mod HeldPages
+pub mod StillWaits
 pub mod BesideCalls
 pub mod TagPages

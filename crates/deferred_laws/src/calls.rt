@@ -7,11 +7,13 @@ ghost use Rattle.domain_base.specs.declared.place.Home.{Home};
 ghost use Rattle.domain_base.specs.declared.place.Tag.{Tag};
 ghost use Rattle.domain_base.specs.declared.version.Version.{Version};
 ghost use Rattle.page_store.specs.Bitfiles.{same_tag};
+ghost use Rattle.free_space.specs.declared.waiting.Waiting.{Waiting};
 ghost use Rattle.bitfile_core.specs.Together.{AreTogether};
 ghost use Rattle.deferred_delete.specs.Steps.{IsWell};
 ghost use Rattle.deferred_laws.specs.Calls.{Calls, FilesetNow};
 ghost use Rattle.deferred_laws.specs.Tags.{AreAmong, start_of};
 ghost use Rattle.deferred_laws.specs.Taken.{IsGiven, IsHeldAt, IsTaken};
+ghost use Rattle.deferred_laws.specs.Waits.{Waits};
 
 /// Every other tag has the chain that it had, if it had one, with all that its cells say: what its
 /// file is, and where its pages stand.
@@ -74,4 +76,12 @@ pub fn other_files_stay()
         → (at : CellAt) (chain : List PlacedCell) → first.domain.files at ≡ Some chain
         → ¬ option_and_then start_of (first.chains tag) ≡ Some at
         → last.domain.files at ≡ Some chain }
+{}
+
+/// Exactly those pages wait after the calls that did before, with the same use and for the same
+/// group.
+pub fn what_waits_stays()
+    ensures { (fileset : ℕ) (version : Version) (tag : Tag) (first last : FilesetNow)
+        → Calls fileset version tag first last → (vol : ℕ) (page : Waiting)
+        → Waits last.domain.space vol page ↔ Waits first.domain.space vol page }
 {}

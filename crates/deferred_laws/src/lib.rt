@@ -14,7 +14,7 @@ pub use adding::{
 };
 pub use calls::{
     all_stays_well_over_calls, files_stay_together, given_pages_were_free, other_files_stay,
-    other_tags_stay, pages_are_held_exactly,
+    other_tags_stay, pages_are_held_exactly, what_waits_stays,
 };
 pub use steps::{
     each_step_leaves_less, others_stay, pages_are_read_as_before, removed_files_are_gone,
