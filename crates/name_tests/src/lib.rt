@@ -6,6 +6,8 @@ mod commands;
 #[cfg(test)]
 mod looking;
 #[cfg(test)]
+mod lost;
+#[cfg(test)]
 mod many;
 mod reading;
 mod runs;

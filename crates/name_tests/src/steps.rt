@@ -47,7 +47,7 @@ fn refused(fault: NameFault) -> Result<Reply, StoreFault>
     }
 }
 
-fn create<S: BitfileSet>(
+pub(crate) fn create<S: BitfileSet>(
     set: &mut S,
     alloc: Global,
     path: &Path,
