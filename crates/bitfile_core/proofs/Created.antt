@@ -1,6 +1,6 @@
 -- All belongs together where a file is made: after a cell was handed out, a page of tags was added,
 -- and a tag was made to lead to a file of one cell.
-use Rattle.std.proofs.Common.{◌≡◌, ◌∙◌, ℕ, ◌+◌, ◌*◌, ◌/◌, ◌%◌, ◌<◌, ◌≤◌, ◌&&◌, not, Bool, true, false, cond, nat_eq, nat_lt, List, [], ◌∷◌, ◌++◌, Option, Some, None, IfSome, IsSome, IsSomeAnd, is_some, Contains, length, refl, sym, ap, subst, arith, zero, suc, ⊎_elim, ◌⊎◌, inl, inr}
+use Rattle.std.proofs.Common.{◌≡◌, ◌∙◌, ℕ, ◌+◌, ◌*◌, ◌/◌, ◌%◌, ◌<◌, ◌≤◌, ◌&&◌, not, Bool, true, false, cond, nat_eq, nat_lt, List, [], ◌∷◌, ◌++◌, Option, Some, None, IfSome, IsSome, IsSomeAnd, is_some, unwrap_or, Contains, length, refl, sym, ap, subst, arith, zero, suc, ⊎_elim, ◌⊎◌, inl, inr}
 use Rattle.std.proofs.lemmas.Bool.{and_from, and_parts, both_ways, cases_Bool, cases_lt, eq-eqb, eqb-true, false_from_ne_true, or_cases, or_left, or_right, true≢false}
 use Rattle.std.proofs.lemmas.List.{append-nil}
 use Rattle.std.proofs.lemmas.Nat.{div-mul-add}
@@ -44,7 +44,7 @@ use Rattle.bitfile_cells.proofs.MapRecords.{runs_by_map}
 use Rattle.bitfile_cells.proofs.Spaces.{given_back, not_held}
 use Rattle.bitfile_cells.proofs.Still.{allocated_still}
 use Rattle.bitfile_core.specs.declared.new_cells.NewFile.{NewFile}
-use Rattle.bitfile_core.specs.Creation.{AreNew, Creates, CreatesNone, Enters, LeavesBeside, new_head, with_new}
+use Rattle.bitfile_core.specs.Creation.{AreNew, Creates, CreatesNone, Enters, LeavesBeside, TakesNext, last_sequence, new_head, with_new}
 use Rattle.bitfile_core.specs.Files.{AreApart, AreFiles, Chains, LeadsToFile, place_at}
 use Rattle.bitfile_core.specs.Together.{AreTagPages, AreTogether, IsHeldApart}
 use Rattle.bitfile_core.proofs.Again.{together_missed}
@@ -169,6 +169,15 @@ module _ (old new : Pages) (places : List TagPlace) (p : TagPlace) (unused : hom
           ∙ sym (ap (λ o. option_and_then (cell_for t.seq) (option_map (λ page. entry_of page (t.slot % 1022)) (option_and_then old o)))
           (ap (home_with places) (eqb-true (t.slot / 1022) p.index same) ∙ unused))
 
+  last_added : (s : ℕ) → last_sequence new (places ++ p ∷ []) s ≡ last_sequence old places s
+  last_added s = ap (λ o. unwrap_or (option_map (λ (e : TagEntry). e.seq) o) 0) (adds.entries s) ∙ by_index (nat_eq (s / 1022) p.index) refl
+    where
+      by_index : (b : Bool) → nat_eq (s / 1022) p.index ≡ b → unwrap_or (option_map (λ (e : TagEntry). e.seq) (cond b (Some (record { seq = 0; at = None })) (entry_at old places s))) 0 ≡ last_sequence old places s
+      by_index false other = refl
+      by_index true same =
+          sym (ap (λ o. unwrap_or (option_map (λ (e : TagEntry). e.seq) (option_map (λ page. entry_of page (s % 1022)) (option_and_then old o))) 0)
+          (ap (home_with places) (eqb-true (s / 1022) p.index same) ∙ unused))
+
   module _ (fileset : ℕ) (chains : Chains) (space : Spaces) (cells : Cells) (are : AreTogether fileset places space cells old chains) (apart : IsHeldApart space cells p.home) (nowhere : (t : Tag) (q : ℕ) → ¬ place_at chains t q ≡ At p.home) where
     on_same : (h : Home) → Contains (table_of cells h.vol) h.page → new h ≡ old h
     on_same h on = adds.elsewhere h
@@ -242,6 +251,9 @@ module _ (fileset : ℕ) (places : List TagPlace) (tag : Tag) (at : CellAt) (rec
 
   leads_mid : (t : Tag) → cell_of new places t ≡ cell_of mid places t
   leads_mid = cell_same mid new places enters.sets.directory (pages_same mid new places tag_page_same)
+
+  pub sequences_new : (s : ℕ) → sequence_of new places s ≡ cond (nat_eq s tag.slot) (Some tag.seq) (sequence_of old places s)
+  sequences_new s = ap (option_map (λ (e : TagEntry). e.seq)) (entry_same mid new places enters.sets.directory (pages_same mid new places tag_page_same) s) ∙ enters.sets.sequences s
 
   leads_other : (t : Tag) → same_tag t tag ≡ false → cell_of new places t ≡ cell_of old places t
   leads_other t other = leads_mid t ∙ enters.sets.cells t ∙ ap (λ (b : Bool). cond b (Some at) (cell_of old places t)) other
@@ -378,6 +390,14 @@ module _ (fileset : ℕ) (places : List TagPlace) (tag : Tag) (at : CellAt) (rec
     once = λ s t p q h a b. are.once s t p q h (was_there s p h a) (was_there t q h b);
   }
 
+-- a tag that can be taken has the sequence behind its slot's last
+next_behind : (pages : Pages) (places : List TagPlace) (tag : Tag) → CanTakeTag pages places tag → tag.seq ≡ last_sequence pages places tag.slot + 1
+next_behind pages places tag can = by_entry (entry_at pages places tag.slot) can.1
+  where
+    by_entry : (o : Option TagEntry) → IsSomeAnd o (RisesTo tag.seq) → tag.seq ≡ unwrap_or (option_map (λ (e : TagEntry). e.seq) o) 0 + 1
+    by_entry None rises = absurd rises
+    by_entry (Some e) rises = sym rises.1
+
 -- a tag that can be taken has its slot on a page
 pub entered_there : (old new : Pages) (places : List TagPlace) (tag : Tag) (at : CellAt) (done : Bool) → CanTakeTag old places tag → (done ≡ true → SetsTag tag (Some at) places old new) → (done ≡ false → sequence_of old places tag.slot ≡ None) → SetsTag tag (Some at) places old new
 entered_there old new places tag at true can sets none = sets refl
@@ -434,6 +454,18 @@ module _ (fileset : ℕ) (places : List TagPlace) (tag : Tag) (at : CellAt) (cha
       together = together_entered fileset places tag at records chains space cells_now between new prepared.together prepared.can enters prepared.on prepared.used prepared.zeros version what are_new;
     }
 
+    pub takes_next : (places_before : List TagPlace) → ((s : ℕ) → last_sequence between places s ≡ last_sequence old places_before s) → TakesNext tag places_before places old new
+    takes_next places_before last = record {
+      next = next_behind between places tag prepared.can ∙ ap (λ n. n + 1) (last tag.slot);
+      sequences = λ s.
+          ap (λ o. unwrap_or o 0) (sequences_new fileset places tag at records chains space cells_now between new prepared.together prepared.can enters prepared.on prepared.used prepared.zeros version what are_new s)
+          ∙ by_slot s (nat_eq s tag.slot);
+    }
+      where
+        by_slot : (s : ℕ) (b : Bool) → unwrap_or (cond b (Some tag.seq) (sequence_of between places s)) 0 ≡ cond b tag.seq (last_sequence old places_before s)
+        by_slot s true = refl
+        by_slot s false = last s
+
     pub others_created : LeavesOtherCells cells [] old new
     others_created q cell stands on apart =
         stay fileset places tag at records chains space cells_now between new prepared.together prepared.can enters prepared.on prepared.used prepared.zeros version what are_new q cell (prepared.stays q cell stands on) (prepared.tables q.vol q.page on)
@@ -451,6 +483,9 @@ module _ (prefer : ℕ) (at : CellAt) (old between : Pages) (fileset : ℕ) (pla
 
   cell_pages_same : (h : Home) → has_home places h ≡ true → between h ≡ old h
   cell_pages_same h has = taken_elsewhere prefer at space space_now cells cells_now old between low are.allocated takes h (after_cell.tag_pages h has).off_table
+
+  pub last_taken : (s : ℕ) → last_sequence between places s ≡ last_sequence old places s
+  last_taken s = ap (λ o. unwrap_or (option_map (λ (e : TagEntry). e.seq) o) 0) (entry_same old between places are.files.directory (pages_same old between places cell_pages_same) s)
 
   pub prepared_taken : (tag : Tag) → CanTakeTag old places tag → IsPrepared fileset places tag at chains space_now cells cells_now old between
   prepared_taken tag can = record {
@@ -504,6 +539,9 @@ module _ (prefer : ℕ) (at : CellAt) (old between : Pages) (fileset : ℕ) (pla
             (λ zero. let one : bit (nat_eq index 0) ≡ 1 = ap bit zero in omega (arith, is, none, one))
             (λ other. both_ways (nat_eq index 0) other (eq-eqb index 0 (let e : index ≡ 0 = omega (arith, is, none) in e)))
             (cases_Bool (nat_eq index 0))
+
+    pub last_put : (s : ℕ) → last_sequence put (places ++ place ∷ []) s ≡ last_sequence old places s
+    last_put s = last_added between put places place next.unused adds s ∙ last_taken s
 
     pub prepared_put : (tag : Tag) → tag.slot ≡ 1022 * index + cond (nat_eq index 0) 1 0 → tag.seq ≡ 1 → IsPrepared fileset (places ++ place ∷ []) tag at chains space_now cells cells_now old put
     prepared_put tag slot seq = record {

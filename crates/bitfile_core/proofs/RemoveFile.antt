@@ -1,5 +1,5 @@
 -- A tag's file is said to be removed, and the tag is taken out of use.
-use Rattle.std.proofs.Common.{◌≡◌, ◌∙◌, ℕ, ◌+◌, ◌&&◌, Bool, true, false, cond, nat_le, nat_lt, List, [], ◌∷◌, slice_get, Option, Some, None, IfSome, IsSome, IsSomeAnd, refl, sym, ap, subst, arith, ⊎_elim}
+use Rattle.std.proofs.Common.{◌≡◌, ◌∙◌, ℕ, ◌+◌, ◌&&◌, Bool, true, false, cond, nat_eq, nat_le, nat_lt, List, [], ◌∷◌, slice_get, Option, Some, None, IfSome, IsSome, IsSomeAnd, refl, sym, ap, subst, arith, ⊎_elim}
 use Rattle.std.proofs.lemmas.Bool.{cases_Bool, and_left, eqb-true, false_from_ne_true, or_cases, true≢false}
 use Rattle.std.specs.List.{AllByRecursion}
 use Rattle.std.specs.Option.{option_and_then, option_map}
@@ -16,19 +16,19 @@ use Rattle.bmt_mcells.specs.CellPage.{cell_at, cell_of as bytes_of, home_of, is_
 use Rattle.bmt_mcells.specs.Chain.{LeavesOthers, PlacedCell, StandsAt, is_at}
 use Rattle.bmt_mcells.proofs.Changed.{homes_same}
 use Rattle.tag_dirs.specs.declared.dir.TagPlace.{TagPlace}
-use Rattle.tag_dirs.specs.Directory.{IsDirectory, IsPageOf, SetsTag, cell_of, has_home}
+use Rattle.tag_dirs.specs.Directory.{IsDirectory, IsPageOf, SetsTag, cell_of, has_home, sequence_of}
 use Rattle.extent_records.specs.Writing.{most_rows}
 use Rattle.bitfile_cells.specs.Changes.{with_record}
 use Rattle.bitfile_cells.specs.Files.{AreFile, IsFile, has_rows}
 use Rattle.bitfile_cells.proofs.MapRecords.{value_has_rows}
 use Rattle.bitfile_core.specs.Files.{AreFiles, Chains, HasFirstKinds, IsLiveCell, LeadsToFile, attributes_of, is_first_kind}
-use Rattle.bitfile_core.specs.Changes.{ChangesBeside, ChangesFirst, HasFirstRoom, is_first, is_page_of_first, IsLive, Removes, says_removed, with_chain, with_first}
+use Rattle.bitfile_core.specs.Changes.{ChangesBeside, ChangesFirst, HasFirstRoom, is_first, is_page_of_first, IsLive, KeepsSequences, Removes, says_removed, with_chain, with_first}
 use Rattle.bitfile_core.proofs.FirstCell.{file_now, find_other}
 use Rattle.bitfile_core.proofs.FirstRoom.{kinds_replaced}
 use Rattle.bitfile_core.proofs.Live.{live_none, live_some}
 use Rattle.bitfile_core.proofs.OneFile.{files_now}
 use Rattle.bitfile_core.proofs.Removed.{files_without, is_file_kept}
-use Rattle.bitfile_core.proofs.Tags.{all_by_index, cell_stays}
+use Rattle.bitfile_core.proofs.Tags.{all_by_index, cell_stays, sequence_stays, used_sequence}
 
 -- ---- what stands on a page of tags is no cell
 
@@ -152,6 +152,18 @@ module _ (pages : Pages) (fileset : ℕ) (places : List TagPlace) (tag : Tag) (c
         pending = subst (λ o. IsSomeAnd o (λ cells. IsFile new at (with_first says_removed cells))) (sym the_first.is)
             (is_file_kept mid new places removed_files.directory sets.elsewhere at (record { at = the_first.first.at; cell = says_removed the_first.first.cell } ∷ the_first.rest) (the_first.is_at, removed_file));
       }
+
+      pub keeps_sequences : KeepsSequences places pages new
+      keeps_sequences s = sets.sequences s ∙ by_slot (nat_eq s tag.slot) refl ∙ sequence_mid s
+        where
+          sequence_mid : (s : ℕ) → sequence_of mid places s ≡ sequence_of pages places s
+          sequence_mid =
+              sequence_stays pages mid places the_first.first.at are.directory the_first.file.links.stands.bytes the_first.file.links.stands.there
+              (subst (λ (a : CellAt). (home : Home) → same_home home (home_of a) ≡ false → mid home ≡ pages home) (sym the_first.is_at) elsewhere)
+
+          by_slot : (b : Bool) → nat_eq s tag.slot ≡ b → cond b (Some tag.seq) (sequence_of mid places s) ≡ sequence_of mid places s
+          by_slot true same = sym (ap (sequence_of mid places) (eqb-true s tag.slot same) ∙ used_sequence mid places tag removed_used)
+          by_slot false other = refl
 
       pub beside : ChangesBeside places (chains tag) pages new
       beside = record {

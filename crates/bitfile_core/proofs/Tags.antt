@@ -1,6 +1,6 @@
 -- The files of a fileset after a change of one file's first cell.
-use Rattle.std.proofs.Common.{◌≡◌, ◌∙◌, ℕ, zero, suc, ◌+◌, ◌/◌, ◌%◌, ◌&&◌, Bool, true, false, cond, nat_eq, nat_lt, List, [], ◌∷◌, slice_get, Option, Some, None, IfSome, IsSomeAnd, Contains, refl, sym, ap, subst, arith, ⊎_elim}
-use Rattle.std.proofs.lemmas.Bool.{and_parts, cases_Bool, eqb-true, false_from_ne_true, or_left, or_right}
+use Rattle.std.proofs.Common.{◌≡◌, ◌∙◌, ℕ, zero, suc, ◌+◌, ◌/◌, ◌%◌, ◌&&◌, Bool, true, false, cond, nat_eq, nat_lt, List, [], ◌∷◌, slice_get, Option, Some, None, IfSome, IsSome, IsSomeAnd, Contains, refl, sym, ap, subst, arith, ⊎_elim}
+use Rattle.std.proofs.lemmas.Bool.{and_parts, cases_Bool, eqb-true, false_from_ne_true, or_left, or_right, true≢false}
 use Rattle.std.specs.List.{AllByRecursion}
 use Rattle.std.specs.Option.{option_and_then, option_map}
 use Rattle.domain_base.specs.declared.place.CellAt.{CellAt}
@@ -13,8 +13,9 @@ use Rattle.bmt_mcells.specs.Chain.{LeavesOthers, PlacedCell, is_at, places as pl
 use Rattle.bmt_mcells.proofs.Changed.{homes_same, same_itself}
 use Rattle.bmt_mcells.proofs.Frames.{stands_stays}
 use Rattle.tag_dirs.specs.declared.dir.TagPlace.{TagPlace}
+use Rattle.tag_dirs.specs.declared.page.TagEntry.{TagEntry}
 use Rattle.tag_dirs.specs.TagPage.{entry_of}
-use Rattle.tag_dirs.specs.Directory.{IsDirectory, IsPageOf, cell_for, cell_of, entry_at, has_home, home_with}
+use Rattle.tag_dirs.specs.Directory.{IsDirectory, IsPageOf, cell_for, cell_of, entry_at, has_home, home_with, sequence_of}
 use Rattle.bitfile_cells.specs.Files.{AreFile}
 use Rattle.bitfile_cells.proofs.ChainChanges.{at_apart, follow_apart}
 
@@ -86,6 +87,21 @@ module _ (old new : Pages) (places : List TagPlace) (at : CellAt) (directory : I
 
   pub cell_stays : (tag : Tag) → cell_of new places tag ≡ cell_of old places tag
   cell_stays = cell_same old new places directory page_same
+
+  pub sequence_stays : (slot : ℕ) → sequence_of new places slot ≡ sequence_of old places slot
+  sequence_stays slot = ap (option_map (λ (e : TagEntry). e.seq)) (entry_same old new places directory page_same slot)
+
+-- a tag that leads to a cell has its slot's last sequence
+pub used_sequence : (pages : Pages) (places : List TagPlace) (tag : Tag) → IsSome (cell_of pages places tag) → sequence_of pages places tag.slot ≡ Some tag.seq
+used_sequence pages places tag used = by_entry (entry_at pages places tag.slot) used
+  where
+    by_entry : (o : Option TagEntry) → IsSome (option_and_then (cell_for tag.seq) o) → option_map (λ (e : TagEntry). e.seq) o ≡ Some tag.seq
+    by_entry None used = absurd (true≢false (sym used))
+    by_entry (Some e) used = by_seq (nat_eq e.seq tag.seq) refl used
+      where
+        by_seq : (b : Bool) → nat_eq e.seq tag.seq ≡ b → IsSome (cond b e.at None) → Some e.seq ≡ Some tag.seq
+        by_seq true same used = ap Some (eqb-true e.seq tag.seq same)
+        by_seq false other used = absurd (true≢false (sym used))
 
 -- a page of the directory stands at each place
 pub home_there : (places : List TagPlace) (k : ℕ) → IfSome (slice_get places k) (λ place. has_home places place.home ≡ true)

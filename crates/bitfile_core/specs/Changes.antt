@@ -18,7 +18,7 @@ use Rattle.record_table.specs.declared.record.Leftover.TheVariants.{Remove}
 use Rattle.bmt_mcells.specs.CellPage.{cell_at, home_of}
 use Rattle.bmt_mcells.specs.Chain.{LeavesOthers, PlacedCell, StandsAt, is_at}
 use Rattle.tag_dirs.specs.declared.dir.TagPlace.{TagPlace}
-use Rattle.tag_dirs.specs.Directory.{has_home}
+use Rattle.tag_dirs.specs.Directory.{has_home, sequence_of}
 use Rattle.bitfile_cells.specs.Changes.{with_record}
 use Rattle.bitfile_cells.specs.Files.{IsFile}
 use Rattle.bitfile_core.specs.declared.attributes.Attributes.{Attributes}
@@ -89,6 +89,11 @@ pub record Removes (fileset : ℕ) (places : List TagPlace) (tag : Tag) (at : Ce
     (new : Pages) : Type 0 where
   pub files : AreFiles fileset places new (without_chain tag chains)
   pub pending : IsSomeAnd (chains tag) (λ cells. IsFile new at (with_first says_removed cells))
+
+-- each slot's last sequence stays
+abbrev pub KeepsSequences : List TagPlace → Pages → Pages → Type 0
+KeepsSequences places old new =
+    (slot : ℕ) → sequence_of new places slot ≡ sequence_of old places slot
 
 -- the place of a chain's first cell, and its page
 abbrev pub is_first : CellAt → List PlacedCell → Bool

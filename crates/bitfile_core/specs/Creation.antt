@@ -1,5 +1,5 @@
 -- A new file or directory.
-use Rattle.std.specs.Prelude.{◌≡◌, ◌⊎◌, ◌++◌, ℕ, true, false, List, [], ◌∷◌, Option, Some, None, Contains, if◌then◌else◌}
+use Rattle.std.specs.Prelude.{◌≡◌, ◌==◌, ◌+◌, ◌⊎◌, ◌++◌, ℕ, true, false, List, [], ◌∷◌, Option, Some, None, Contains, if◌then◌else◌, unwrap_or}
 use Rattle.std.specs.List.{AllByRecursion}
 use Rattle.domain_base.specs.declared.place.CellAt.{CellAt}
 use Rattle.domain_base.specs.declared.place.Home.{Home}
@@ -20,7 +20,7 @@ use Rattle.bmt_mcells.specs.declared.head.CellKind.TheVariants.{Primary}
 use Rattle.bmt_mcells.specs.CellPage.{KeepsHeaders, KeepsWellFormed, home_of}
 use Rattle.bmt_mcells.specs.Chain.{LeavesOthers, PlacedCell, StandsAt, is_at}
 use Rattle.tag_dirs.specs.declared.dir.TagPlace.{TagPlace}
-use Rattle.tag_dirs.specs.Directory.{CanTake as CanTakeTag, IsNextIndex, SetsTag, has_home}
+use Rattle.tag_dirs.specs.Directory.{CanTake as CanTakeTag, IsNextIndex, SetsTag, has_home, sequence_of}
 use Rattle.extent_maps.specs.declared.run.PagePlace.TheVariants.{Absent}
 use Rattle.extent_records.specs.Rows.{runs_in}
 use Rattle.extent_records.specs.Writing.{IsMapRecord, short_kind}
@@ -76,6 +76,16 @@ pub record Creates (fileset : ℕ) (places : List TagPlace) (tag : Tag) (version
       → ¬ Contains (table_of cells first.at.vol) first.at.page
   pub together : AreTogether fileset places space cells_now new
       (with_new tag (first ∷ []) chains)
+
+-- the last sequence that a tag of a slot had, and 0 where none had one
+abbrev pub last_sequence : Pages → List TagPlace → ℕ → ℕ
+last_sequence pages places slot = unwrap_or (sequence_of pages places slot) 0
+
+-- the tag has the sequence behind the last one of its slot, and no other slot's rises
+pub record TakesNext (tag : Tag) (places places_now : List TagPlace) (old new : Pages) : Type 0 where
+  pub next : tag.seq ≡ last_sequence old places tag.slot + 1
+  pub sequences : (slot : ℕ) → last_sequence new places_now slot
+      ≡ (if slot == tag.slot then tag.seq else last_sequence old places slot)
 
 -- a cell is handed out, and the directory's pages stay
 pub record TakesCellOnly (prefer : ℕ) (places places_now : List TagPlace) (space space_now : Spaces)

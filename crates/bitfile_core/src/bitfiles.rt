@@ -13,7 +13,7 @@ ghost use Rattle.bitfile_core.specs.Together.{AreTogether};
 ghost use Rattle.bitfile_cells.specs.Files.{HasFile, IsFile};
 ghost use Rattle.record_table.specs.Records.{Allowed, kind_of};
 ghost use Rattle.bitfile_cells.specs.Changes.{with_record};
-ghost use Rattle.bitfile_core.specs.Changes.{CanSay, ChangesBeside, ChangesFirst, HasFirstRoom, IsLive, Removes, says_attributes, says_parent, says_removed, with_chain, with_first, without_chain};
+ghost use Rattle.bitfile_core.specs.Changes.{CanSay, ChangesBeside, ChangesFirst, HasFirstRoom, IsLive, KeepsSequences, Removes, says_attributes, says_parent, says_removed, with_chain, with_first, without_chain};
 ghost use Rattle.bitfile_core.specs.Files.{AreFiles, Chains, HasFiles, IsLiveCell, attributes_of, first_record as first_there, is_first_kind, is_removed, keep_of, of_live, place_at};
 
 use crate::attributes::{Attributes, read_attributes, read_keep, says_remove, with_attributes};
@@ -302,8 +302,9 @@ impl Bitfiles {
     }
 
     /// Takes a live tag out of use: its file or directory is to be removed, which its first cell
-    /// says, and nothing of it goes yet. It answers that cell. Every other file stays. After an
-    /// error nothing has changed.
+    /// says, and nothing of it goes yet. It answers that cell. Its slot keeps the tag's sequence as
+    /// its last, so that the tag is not made again. Every other file stays. After an error nothing
+    /// has changed.
     pub fn remove<M: MetaPages>(
         &mut self,
         alloc: Global,
@@ -326,6 +327,8 @@ impl Bitfiles {
         ensures beside { (chains : Chains)
             → AreFiles self.old.fileset self.old.tags (M.pages pages.old) chains
             → ChangesBeside self.old.tags (chains tag) (M.pages pages.old) (M.pages pages.new) }
+        ensures sequences { OnOk result (KeepsSequences self.old.tags (M.pages pages.old)
+            (M.pages pages.new)) }
         ensures same { self.new ≡ self.old }
         ensures room { M.room pages.new ≡ M.room pages.old }
         ensures before { M.before pages.new ≡ M.before pages.old }

@@ -14,7 +14,7 @@ ghost use Rattle.free_space.specs.Spaces.{IsHeld, change_volume};
 ghost use Rattle.bitfile_cells.specs.Allocated.{AreAllocated, FindsNone, Takes};
 ghost use Rattle.bitfile_cells.specs.FileChanges.{LeavesOtherCells};
 ghost use Rattle.bitfile_cells.specs.MapChanges.{TakesOne};
-ghost use Rattle.bitfile_core.specs.Creation.{Creates, CreatesNone, Enters, LeavesBeside, TakesForFile, TakesTagPage, new_file};
+ghost use Rattle.bitfile_core.specs.Creation.{Creates, CreatesNone, Enters, LeavesBeside, TakesForFile, TakesNext, TakesTagPage, new_file};
 ghost use Rattle.domain_base.specs.declared.place.Tag.{Tag as TagOf};
 ghost use Rattle.extent_maps.specs.declared.run.PagePlace.TheVariants.{At};
 ghost use Rattle.bitfile_core.specs.Files.{Chains, place_at};
@@ -158,6 +158,8 @@ fn create_as<M: MetaPages>(
         → AreTogether fileset tags.old space.old cells.old (M.pages pages.old) chains
         → OnOk result (Creates fileset tags.new tag.now version what.now chains space.new
         cells.old cells.new (M.pages pages.old) (M.pages pages.new)) }
+    ensures next { OnOk result (TakesNext tag.now tags.old tags.new (M.pages pages.old)
+        (M.pages pages.new)) }
     ensures taken { OnOk result (TakesOne prefer space.old space.new cells.old cells.new
         (M.pages pages.old)) }
     ensures err { IfErr result (FindsNone space.old space.new cells.old) }
@@ -212,6 +214,8 @@ fn create_at<M: MetaPages>(
         → AreTogether fileset tags.old space.old cells.old (M.pages pages.old) chains
         → IfOk result (λ tag. Creates fileset tags.new tag version what.now chains space.new
         cells.old cells.new (M.pages pages.old) (M.pages pages.new)) }
+    ensures next { IfOk result (λ tag. TakesNext tag tags.old tags.new (M.pages pages.old)
+        (M.pages pages.new)) }
     ensures taken { OnOk result (TakesOne prefer space.old space.new cells.old cells.new
         (M.pages pages.old)) }
     ensures joins { OnOk result (tags.new ≡ tags.old ++ record {
@@ -258,6 +262,8 @@ fn create_on_new_page<M: MetaPages>(
         → AreTogether fileset tags.old space.old cells.old (M.pages pages.old) chains
         → IfOk result (λ tag. Creates fileset tags.new tag version what.now chains space.new
         cells.old cells.new (M.pages pages.old) (M.pages pages.new)) }
+    ensures next { IfOk result (λ tag. TakesNext tag tags.old tags.new (M.pages pages.old)
+        (M.pages pages.new)) }
     ensures taken { OnOk result (TakesTagPage prefer tags.old tags.new space.old space.new cells.old
         cells.new (M.pages pages.old)) }
     ensures err { IfErr result (CreatesNone tags.old space.old space.new cells.old
@@ -304,6 +310,8 @@ fn create_file<M: MetaPages>(
         → AreTogether fileset tags.old space.old cells.old (M.pages pages.old) chains
         → IfOk result (λ tag. Creates fileset tags.new tag version what.now chains space.new
         cells.old cells.new (M.pages pages.old) (M.pages pages.new)) }
+    ensures next { IfOk result (λ tag. TakesNext tag tags.old tags.new (M.pages pages.old)
+        (M.pages pages.new)) }
     ensures taken { OnOk result (TakesForFile prefer tags.old tags.new space.old space.new cells.old
         cells.new (M.pages pages.old)) }
     ensures err { IfErr result (CreatesNone tags.old space.old space.new cells.old
@@ -330,7 +338,8 @@ fn create_file<M: MetaPages>(
 }
 
 impl Bitfiles {
-    /// Makes a file or a directory of that owner, and answers its tag, which named nothing before.
+    /// Makes a file or a directory of that owner, and answers its tag, which named nothing before
+    /// and was never answered: its sequence is one more than its slot's last, or 1 if it had none.
     /// It has no byte, one link and no page, keeps all of its first 65,536 pages, and was born at
     /// that clone's number; a directory stands in itself until another is said. Its cell is taken
     /// of the preferred volume if that has one. Where no page of the tag directory has a tag to be
@@ -357,6 +366,8 @@ impl Bitfiles {
             cells.old (M.pages pages.old) chains → IfOk result (λ tag. Creates self.old.fileset
             self.new.tags tag version (new_file kind uid gid birth) chains space.new cells.old
             cells.new (M.pages pages.old) (M.pages pages.new)) }
+        ensures next { IfOk result (λ tag. TakesNext tag self.old.tags self.new.tags
+            (M.pages pages.old) (M.pages pages.new)) }
         ensures taken { OnOk result (TakesForFile prefer self.old.tags self.new.tags space.old
             space.new cells.old cells.new (M.pages pages.old)) }
         ensures err { IfErr result (CreatesNone self.old.tags space.old space.new cells.old

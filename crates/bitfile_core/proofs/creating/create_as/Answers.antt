@@ -1,7 +1,7 @@
 use Rattle.std.proofs.Common.{◌≤◌, List, rules, subst, sym}
 use Rattle.tag_dirs.specs.declared.dir.TagPlace.{TagPlace}
-use Rattle.bitfile_core.specs.Creation.{Creates, LeavesBeside}
-use Rattle.bitfile_core.proofs.Created.{apart_at, beside_created, creates, others_created, prepared_taken}
+use Rattle.bitfile_core.specs.Creation.{Creates, LeavesBeside, TakesNext}
+use Rattle.bitfile_core.proofs.Created.{apart_at, beside_created, creates, last_taken, others_created, prepared_taken, takes_next}
 use Rattle.bitfile_core.proofs.FirstRoom.{first_fits}
 use Rattle.bitfile_core.proofs.creating.create_as.Goals as goal
 
@@ -44,6 +44,17 @@ returns-clause-ok g c = λ chains are.
     let prepared = prepared_taken c.args.prefer at old between c.args.fileset c.args.tags.now chains c.args.space.now c.take_cell.new.space c.args.cells.now c.take_cell.new.cells low are c.in_ok-at.ensures.ok c.in_ok-at.ensures.allocated c.in_ok-at.ensures.zeros c.args.tag.now c.requires.tag in
     subst (λ (places : List TagPlace). Creates c.args.fileset places c.args.tag.now c.args.version c.args.what.now chains c.take_cell.new.space c.args.cells.now c.take_cell.new.cells old (g.M.MetaPages.pages c.enter_file.new.pages)) (sym c.enter_file.ensures.same)
     (creates c.args.fileset c.args.tags.now c.args.tag.now at chains c.take_cell.new.space c.args.cells.now c.take_cell.new.cells old between prepared c.in_ok-records.records (g.M.MetaPages.pages c.enter_file.new.pages) c.enter_file.ensures.entered c.args.version c.args.what.now c.in_ok-records.ensures)
+
+pub returns-clause-next : goal.returns-clause-next
+returns-clause-next g c =
+    let old = g.M.MetaPages.pages c.args.pages.now in
+    let between = g.M.MetaPages.pages c.take_cell.new.pages in
+    let at = c.in_ok-at.at in
+    let low : 1 ≤ at.vol = search rules in
+    let prepared = prepared_taken c.args.prefer at old between c.args.fileset c.args.tags.now c.requires.together.0 c.args.space.now c.take_cell.new.space c.args.cells.now c.take_cell.new.cells low c.requires.together.1 c.in_ok-at.ensures.ok c.in_ok-at.ensures.allocated c.in_ok-at.ensures.zeros c.args.tag.now c.requires.tag in
+    let last = last_taken c.args.prefer at old between c.args.fileset c.args.tags.now c.requires.together.0 c.args.space.now c.take_cell.new.space c.args.cells.now c.take_cell.new.cells low c.requires.together.1 c.in_ok-at.ensures.ok c.in_ok-at.ensures.allocated c.in_ok-at.ensures.zeros in
+    subst (λ (places : List TagPlace). TakesNext c.args.tag.now c.args.tags.now places old (g.M.MetaPages.pages c.enter_file.new.pages)) (sym c.enter_file.ensures.same)
+    (takes_next c.args.fileset c.args.tags.now c.args.tag.now at c.requires.together.0 c.take_cell.new.space c.args.cells.now c.take_cell.new.cells old between prepared c.in_ok-records.records (g.M.MetaPages.pages c.enter_file.new.pages) c.enter_file.ensures.entered c.args.version c.args.what.now c.in_ok-records.ensures c.args.tags.now last)
 
 pub returns-clause-others : goal.returns-clause-others
 returns-clause-others g c =

@@ -3,8 +3,8 @@ use Rattle.bmt_mcells.specs.CellPage.{home_of}
 use Rattle.tag_dirs.specs.declared.dir.TagPlace.{TagPlace}
 use Rattle.tag_dirs.specs.Directory.{CanTake, IsDirectory, has_home}
 use Rattle.tag_dirs.proofs.Added.{last_there}
-use Rattle.bitfile_core.specs.Creation.{Creates, Enters, LeavesBeside}
-use Rattle.bitfile_core.proofs.Created.{after_cell, apart_at, beside_created, creates, next_zero, others_created, place_put, prepared_put}
+use Rattle.bitfile_core.specs.Creation.{Creates, Enters, LeavesBeside, TakesNext}
+use Rattle.bitfile_core.proofs.Created.{after_cell, apart_at, beside_created, creates, last_put, next_zero, others_created, place_put, prepared_put, takes_next}
 use Rattle.bitfile_core.proofs.FirstRoom.{first_fits}
 use Rattle.bitfile_core.proofs.creating.create_at.Goals as goal
 
@@ -124,6 +124,28 @@ returns-in-Ok-clause-others g c =
     let new = g.M.MetaPages.pages c.enter_file.new.pages in
     others_created c.args.fileset all c.first_tag-tag.result at c.requires.together.0 c.take_for_page.new.space c.args.cells.now c.take_for_page.new.cells old put prepared c.in_ok-records.records new
     (subst (λ (places : List TagPlace). Enters c.args.fileset places c.first_tag-tag.result at c.in_ok-records.records put new) ensures.places c.enter_file.ensures.entered) c.args.version c.args.what.now c.in_ok-records.ensures
+
+pub returns-in-Ok-clause-next : goal.returns-in-Ok-clause-next
+returns-in-Ok-clause-next g c =
+    let old = g.M.MetaPages.pages c.args.pages.now in
+    let between = g.M.MetaPages.pages c.take_for_page.new.pages in
+    let at = c.in-Ok.field-0.at in
+    let low : 1 ≤ at.vol = search rules in
+    let ensures = c.in-Ok.ensures in
+    let are = c.requires.together.1 in
+    let before = after_cell c.args.prefer at old between c.args.fileset c.args.tags.now c.requires.together.0 c.args.space.now c.take_for_page.new.space c.args.cells.now c.take_for_page.new.cells low are ensures.ok ensures.allocated ensures.zeros in
+    let put = g.M.MetaPages.pages c.put_ready.new.pages in
+    let adds = c.put_ready.ensures.added c.args.tags.now c.args.index c.args.home.now before.files.directory ensures.ready (next_zero c.args.tags.now c.args.index c.requires.next) c.requires.next.unused c.requires.no_tags in
+    let prepared = prepared_put c.args.prefer at old between c.args.fileset c.args.tags.now c.requires.together.0 c.args.space.now c.take_for_page.new.space c.args.cells.now c.take_for_page.new.cells low are ensures.ok ensures.allocated ensures.zeros
+    c.args.index c.args.home.now c.requires.next c.requires.apart c.requires.no_tags (c.requires.nowhere c.requires.together.0 are) put adds c.first_tag-tag.result c.first_tag-tag.ensures.slot c.first_tag-tag.ensures.seq in
+    let all : List TagPlace = c.args.tags.now ++ record { index = c.args.index; home = c.args.home.now } ∷ [] in
+    let new = g.M.MetaPages.pages c.enter_file.new.pages in
+    let all_are = sym (c.enter_file.ensures.same ∙ ensures.places) in
+    let last = last_put c.args.prefer at old between c.args.fileset c.args.tags.now c.requires.together.0 c.args.space.now c.take_for_page.new.space c.args.cells.now c.take_for_page.new.cells low are ensures.ok ensures.allocated ensures.zeros
+    c.args.index c.args.home.now c.requires.next c.requires.apart c.requires.no_tags (c.requires.nowhere c.requires.together.0 are) put adds in
+    subst (λ (places : List TagPlace). TakesNext c.first_tag-tag.result c.args.tags.now places old new) all_are
+    (takes_next c.args.fileset all c.first_tag-tag.result at c.requires.together.0 c.take_for_page.new.space c.args.cells.now c.take_for_page.new.cells old put prepared c.in_ok-records.records new
+    (subst (λ (places : List TagPlace). Enters c.args.fileset places c.first_tag-tag.result at c.in_ok-records.records put new) ensures.places c.enter_file.ensures.entered) c.args.version c.args.what.now c.in_ok-records.ensures c.args.tags.now last)
 
 pub returns-in-Ok-clause-elsewhere : goal.returns-in-Ok-clause-elsewhere
 returns-in-Ok-clause-elsewhere g c =

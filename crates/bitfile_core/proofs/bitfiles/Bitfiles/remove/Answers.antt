@@ -2,7 +2,7 @@ use Rattle.std.proofs.Common.{List, subst, sym}
 use Rattle.domain_base.specs.declared.place.CellAt.{CellAt}
 use Rattle.bmt_mcells.specs.Chain.{LeavesOthers, StandsAt, is_at}
 use Rattle.bitfile_core.specs.Files.{IsLiveCell}
-use Rattle.bitfile_core.proofs.RemoveFile.{beside, removed_files, no_live, removes, room, the_first, removed_used}
+use Rattle.bitfile_core.proofs.RemoveFile.{beside, keeps_sequences, removed_files, no_live, removes, room, the_first, removed_used}
 use Rattle.tag_dirs.specs.declared.dir.TagPlace.{TagPlace}
 use Rattle.bitfile_core.specs.Changes.{says_removed, without_chain}
 use Rattle.bitfile_core.specs.Together.{AreTogether}
@@ -66,6 +66,18 @@ returns-clause-beside g c = λ chains are.
     let of = the_first pages fileset places c.args.tag chains c.in-Some.at are live in
     let stands = c.in_ok-set_pending.ensures.ok of.first.cell (subst (λ (a : CellAt). StandsAt pages a of.first.cell) of.is_at of.file.links.stands) in
     beside pages fileset places c.args.tag chains c.in-Some.at are live (g.M.MetaPages.pages c.set_pending.new.pages) stands c.set_pending.ensures.others c.set_pending.ensures.elsewhere (g.M.MetaPages.pages c.drop_tag.new.pages) c.drop_tag.ensures.value
+
+pub returns-clause-sequences : goal.returns-clause-sequences
+returns-clause-sequences g c =
+    let chains = c.requires.files.0 in
+    let are = c.requires.files.1 in
+    let pages = g.M.MetaPages.pages c.args.pages.now in
+    let fileset = c.args.self.now.fileset in
+    let places = c.args.self.now.tags in
+    let live = subst (IsLiveCell pages (chains c.args.tag)) c.in-Some.is (c.live_cell.ensures chains are) in
+    let of = the_first pages fileset places c.args.tag chains c.in-Some.at are live in
+    let stands = c.in_ok-set_pending.ensures.ok of.first.cell (subst (λ (a : CellAt). StandsAt pages a of.first.cell) of.is_at of.file.links.stands) in
+    keeps_sequences pages fileset places c.args.tag chains c.in-Some.at are live (g.M.MetaPages.pages c.set_pending.new.pages) stands c.set_pending.ensures.others c.set_pending.ensures.elsewhere (g.M.MetaPages.pages c.drop_tag.new.pages) c.drop_tag.ensures.value
 
 pub returns-clause-together : goal.returns-clause-together
 returns-clause-together g c = λ space cells chains are.
