@@ -1,5 +1,5 @@
 -- A new file or directory.
-use Rattle.std.specs.Prelude.{◌≡◌, ◌==◌, ◌+◌, ◌⊎◌, ◌++◌, ℕ, true, false, List, [], ◌∷◌, Option, Some, None, Contains, if◌then◌else◌, unwrap_or}
+use Rattle.std.specs.Prelude.{◌≡◌, ◌==◌, ◌≤◌, ◌+◌, ◌⊎◌, ◌++◌, ℕ, true, false, List, [], ◌∷◌, Option, Some, None, Contains, if◌then◌else◌, unwrap_or}
 use Rattle.std.specs.List.{AllByRecursion}
 use Rattle.domain_base.specs.declared.place.CellAt.{CellAt}
 use Rattle.domain_base.specs.declared.place.Home.{Home}
@@ -102,6 +102,7 @@ pub record TakesTagPage (prefer : ℕ) (places places_now : List TagPlace)
   pub home : Home
   pub next : IsNextIndex index places
   pub joins : places_now ≡ places ++ record { index = index; home = home } ∷ []
+  pub low : 1 ≤ home.vol
   pub free : CanTake space home.vol home.page
   pub preferred : (p : ℕ) → CanTake space prefer p → home.vol ≡ prefer
   pub cell : TakesOne prefer (change_volume (with_page home.page) space home.vol) space_now cells

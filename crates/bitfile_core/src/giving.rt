@@ -149,6 +149,7 @@ impl Bitfiles {
         ensures err { (chains : Chains) → AreTogether self.now.fileset self.now.tags space.old
             cells.old (M.pages pages.old) chains → IfErr result (λ fault. IsSomeAnd (chains tag)
             (λ chain. GetsNone page chain space.old space.new cells.old fault)) }
+        ensures volume { IfOk result (λ home. 1 ≤ home.vol) }
         ensures kept { (chains : Chains) → AreTogether self.now.fileset self.now.tags space.old
             cells.old (M.pages pages.old) chains → OnErr result (AreTogether self.now.fileset
             self.now.tags space.new cells.new (M.pages pages.new) chains) }
