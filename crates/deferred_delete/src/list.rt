@@ -1,5 +1,5 @@
 //! The list of what is to be let go of.
-ghost use Rattle.std.specs.Prelude.{◌≡◌, ◌<◌, ◌∷◌, ◌++◌, [], Contains, IfNone, IfSome, IsOk, OnErr, OnOk, false, get_or, length, true};
+ghost use Rattle.std.specs.Prelude.{◌≡◌, ◌<◌, ◌∷◌, ◌++◌, ◌-◌, [], Contains, IfNone, IfSome, IsOk, OnErr, OnOk, false, get_or, length, slice_get, true};
 ghost use Rattle.deferred_delete.specs.declared.list.Entry.{Entry as EntryOf};
 ghost use Rattle.deferred_delete.specs.Listing.{Adds, Listing};
 
@@ -83,6 +83,22 @@ impl Deferred {
     {
         self.tag_pages.push(home)?;
         Ok(())
+    }
+
+    /// The entry of whose file something is let go of next: the last one. None where no file is on
+    /// the list.
+    pub fn last(&self) -> Option<Entry>
+        ensures { result ≡ slice_get self.now.entries (length self.now.entries - 1) }
+    {
+        self.entries.last().copied()
+    }
+
+    /// The page of a tag directory that is given back next, once no file is on the list: the last
+    /// one. None where no such page is.
+    pub fn last_tag_page(&self) -> Option<Home>
+        ensures { result ≡ slice_get self.now.tag_pages (length self.now.tag_pages - 1) }
+    {
+        self.tag_pages.last().copied()
     }
 
     /// Whether nothing is to be let go of.
