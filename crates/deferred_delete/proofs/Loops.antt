@@ -1,5 +1,5 @@
 -- Steps one after the other.
-use Rattle.std.proofs.Common.{◌≡◌, ℕ, ◌+◌, ◌<◌, sym, subst}
+use Rattle.std.proofs.Common.{◌≡◌, ℕ, ◌+◌, ◌≤◌, sym, subst}
 use Rattle.domain_base.specs.declared.version.Version.{Version}
 use Rattle.page_store.specs.Pages.{Pages}
 use Rattle.page_store.specs.declared.fault.StoreFault.{StoreFault}
@@ -9,7 +9,7 @@ use Rattle.free_space.specs.Spaces.{Spaces}
 use Rattle.bitfile_cells.specs.Allocated.{FindsNone}
 use Rattle.deferred_delete.specs.Listing.{Listing}
 use Rattle.deferred_delete.specs.Standing.{Files}
-use Rattle.deferred_delete.specs.Steps.{IsWell, LacksRoom, LeadsTo, Leaves, Now, StopsAt, more, none, now_of}
+use Rattle.deferred_delete.specs.Steps.{IsWell, LacksRoom, LeadsTo, Leaves, Now, StopsAfter, more, none, now_of}
 use Rattle.deferred_delete.proofs.Well.{well_still}
 
 pub leads_none : (group : ℕ) (version : Version) (list : Listing) (files : Files) (space : Spaces) (cells : Cells) (pages : Pages) → IsWell (now_of list files space cells pages) → LeadsTo group version (now_of list files space cells pages) 0 list space cells pages
@@ -32,18 +32,26 @@ leads_same group version first count list list_now space space_now cells cells_n
     (subst (λ (c : Cells). LeadsTo group version first count list space c pages_now) (sym same_cells)
     (subst (λ (p : Pages). LeadsTo group version first count list space cells p) (sym same_pages) leads)))
 
+pub well_same : (list list_now : Listing) (files : Files) (space space_now : Spaces) (cells cells_now : Cells) (pages pages_now : Pages) → list_now ≡ list → space_now ≡ space → cells_now ≡ cells → pages_now ≡ pages
+    → IsWell (now_of list files space cells pages) → IsWell (now_of list_now files space_now cells_now pages_now)
+well_same list list_now files space space_now cells cells_now pages pages_now same_list same_space same_cells same_pages well =
+    subst (λ (l : Listing). IsWell (now_of l files space_now cells_now pages_now)) (sym same_list)
+    (subst (λ (s : Spaces). IsWell (now_of list files s cells_now pages_now)) (sym same_space)
+    (subst (λ (c : Cells). IsWell (now_of list files space c pages_now)) (sym same_cells)
+    (subst (λ (p : Pages). IsWell (now_of list files space cells p)) (sym same_pages) well)))
+
 pub stops : (group : ℕ) (version : Version) (first : Now) (count : ℕ) (list list_now : Listing) (space space_now : Spaces) (cells cells_now : Cells) (pages pages_now : Pages) (fault : StoreFault) → list_now ≡ list → cells_now ≡ cells → pages_now ≡ pages
-    → (leads : LeadsTo group version first count list space cells pages) → count < 16 → FindsNone space space_now cells fault → (fault ≡ NoPage → LacksRoom list leads.files) → StopsAt group version first list_now space_now cells_now pages_now fault
-stops group version first count list list_now space space_now cells cells_now pages pages_now fault same_list same_cells same_pages leads few finds lacks =
-    subst (λ (l : Listing). StopsAt group version first l space_now cells_now pages_now fault) (sym same_list)
-    (subst (λ (c : Cells). StopsAt group version first list space_now c pages_now fault) (sym same_cells)
-    (subst (λ (p : Pages). StopsAt group version first list space_now cells p fault) (sym same_pages)
+    → (leads : LeadsTo group version first count list space cells pages) → 1 ≤ count → FindsNone space space_now cells fault → (fault ≡ NoPage → LacksRoom list leads.files) → StopsAfter group version first count list_now space_now cells_now pages_now
+stops group version first count list list_now space space_now cells cells_now pages pages_now fault same_list same_cells same_pages leads some finds lacks =
+    subst (λ (l : Listing). StopsAfter group version first count l space_now cells_now pages_now) (sym same_list)
+    (subst (λ (c : Cells). StopsAfter group version first count list space_now c pages_now) (sym same_cells)
+    (subst (λ (p : Pages). StopsAfter group version first count list space_now cells p) (sym same_pages)
     (record {
-      count = count;
-      few = few;
+      some = some;
       files = leads.files;
       before = space;
       steps = leads.steps;
+      fault = fault;
       cause = finds;
       full = lacks;
       well = well_still fault list leads.files space space_now cells pages finds leads.well;

@@ -1,5 +1,5 @@
 -- The steps in which the things of a list are let go of.
-use Rattle.std.specs.Prelude.{◌≡◌, ◌++◌, ◌∷◌, ◌+◌, ◌<◌, ℕ, List, [], Option, Some, None, IsSomeAnd}
+use Rattle.std.specs.Prelude.{◌≡◌, ◌⊎◌, ◌++◌, ◌∷◌, ◌+◌, ◌≤◌, ℕ, List, [], Option, Some, None, IsSomeAnd}
 use Rattle.std.specs.Option.{option_map}
 use Rattle.domain_base.specs.declared.place.CellAt.{CellAt}
 use Rattle.domain_base.specs.declared.place.Home.{Home}
@@ -278,14 +278,20 @@ pub record LacksRoom (list : Listing) (files : Files) : Type 0 where
   pub given : IsGiven files entry.clone reader own
   pub lacks : LacksPlace (stale_from chain) (frozen_of reader) chain own
 
--- so many steps were done, and then one was not for want of a page or of memory
-pub record StopsAt (group : ℕ) (version : Version) (first : Now) (list : Listing) (space : Spaces)
-    (cells : Cells) (pages : Pages) (fault : StoreFault) : Type 0 where
-  pub count : ℕ
-  pub few : count < 16
+-- so many steps were done, at least one, and then one was not for want of a page or of memory
+pub record StopsAfter (group : ℕ) (version : Version) (first : Now) (count : ℕ) (list : Listing)
+    (space : Spaces) (cells : Cells) (pages : Pages) : Type 0 where
+  pub some : 1 ≤ count
   pub files : Files
   pub before : Spaces
   pub steps : Steps group version first count (now_of list files before cells pages)
+  pub fault : StoreFault
   pub cause : FindsNone before space cells fault
   pub full : fault ≡ NoPage → LacksRoom list files
   pub well : IsWell (now_of list files space cells pages)
+
+-- so many steps were done, and no other
+abbrev pub LetsGo : ℕ → Version → Now → ℕ → Listing → Spaces → Cells → Pages → Type 0
+LetsGo group version first count list space cells pages =
+    LeadsTo group version first count list space cells pages
+    ⊎ StopsAfter group version first count list space cells pages

@@ -7,7 +7,7 @@ ghost use Rattle.deferred_delete.specs.Listing.{IsEmpty};
 ghost use Rattle.page_store.specs.declared.fault.StoreFault.TheVariants.{NoPage};
 ghost use Rattle.bitfile_cells.specs.Allocated.{FindsNone};
 ghost use Rattle.deferred_delete.specs.Standing.{Files};
-ghost use Rattle.deferred_delete.specs.Steps.{IsLast, IsWell, LacksRoom, LeadsTo, Leaves, StopsAt, TakesTagPage, list_after, now_of};
+ghost use Rattle.deferred_delete.specs.Steps.{IsLast, IsWell, LacksRoom, Leaves, LetsGo, TakesTagPage, list_after, now_of};
 
 use crate::entries::release_entry;
 use crate::list::Deferred;
@@ -111,8 +111,10 @@ impl Deferred {
     /// cell; or a page of a tag directory. It answers how many steps were done, 0 exactly where
     /// the list is empty. What no file has any more waits for the group.
     ///
-    /// At an Err what was let go stays let go, and the list says what is left. NoPage comes only
-    /// where the last entry's clone reads a page through its file for which there is no room.
+    /// Where a step cannot be done, those in front of it are answered, if there is one, and the
+    /// next call says why. So at an Err nothing but room and the count of misses has changed.
+    /// NoPage comes only where the last entry's clone reads a page through its file for which there
+    /// is no room; that is a miss.
     ///
     /// Each step looks for a cell that has something to let go of from the chain's first one on. A
     /// file that goes is let go of from its second cell on, so that a step looks at two cells; a
@@ -130,15 +132,18 @@ impl Deferred {
         requires well { (files : Files) × IsWell (now_of self.old files space.old cells.old
             (M.pages pages.old)) }
         ensures ok { (files : Files) → IsWell (now_of self.old files space.old cells.old
-            (M.pages pages.old)) → IfOk result (λ count. LeadsTo group version
+            (M.pages pages.old)) → IfOk result (λ count. LetsGo group version
             (now_of self.old files space.old cells.old (M.pages pages.old)) count self.new space.new
             cells.new (M.pages pages.new)) }
         ensures some { IfOk result (λ count. (count ≡ 0) ↔ IsEmpty self.old) }
         ensures most { IfOk result (λ count. count ≤ 16) }
-        ensures err { (files : Files) → IsWell (now_of self.old files space.old cells.old
-            (M.pages pages.old)) → IfErr result (StopsAt group version
-            (now_of self.old files space.old cells.old (M.pages pages.old)) self.new space.new
-            cells.new (M.pages pages.new)) }
+        ensures err { IfErr result (FindsNone space.old space.new cells.old) }
+        ensures full { (files : Files) → IsWell (now_of self.old files space.old cells.old
+            (M.pages pages.old)) → IfErr result (λ fault. fault ≡ NoPage
+            → LacksRoom self.old files) }
+        ensures list { OnErr result (self.new ≡ self.old) }
+        ensures cells { OnErr result (cells.new ≡ cells.old) }
+        ensures pages { OnErr result (M.pages pages.new ≡ M.pages pages.old) }
         ensures room { M.room pages.old ≤ M.room pages.new + 16 }
         ensures before { M.before pages.new ≡ M.before pages.old }
     {
@@ -147,7 +152,8 @@ impl Deferred {
             match self.release_one(alloc, pages, space, cells, group, version) {
                 Ok(true) => count += 1,
                 Ok(false) => return Ok(count),
-                Err(fault) => return Err(fault),
+                Err(fault) if count == 0 => return Err(fault),
+                Err(_) => return Ok(count),
             }
         }
         Ok(count)

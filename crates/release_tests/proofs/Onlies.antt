@@ -9,6 +9,7 @@ use Rattle.domain_base.specs.declared.version.Version.{Version}
 use Rattle.page_store.specs.Bitfiles.{same_tag}
 use Rattle.page_store.specs.Pages.{Pages, same_home}
 use Rattle.page_store.specs.declared.fault.StoreFault.{StoreFault}
+use Rattle.page_store.specs.declared.fault.StoreFault.TheVariants.{NoPage, OutOfMemory}
 use Rattle.record_table.specs.declared.record.Record.{Record}
 use Rattle.bmt_mcells.specs.Cell.{record_of}
 use Rattle.bmt_mcells.specs.Chain.{PlacedCell}
@@ -18,6 +19,7 @@ use Rattle.tag_dirs.specs.Directory.{cell_of, has_home}
 use Rattle.extent_maps.specs.declared.run.PagePlace.TheVariants.{At}
 use Rattle.free_cells.specs.Cells.{Cells}
 use Rattle.free_space.specs.Spaces.{CanTake, Spaces}
+use Rattle.bitfile_cells.specs.Allocated.{FindsNone}
 use Rattle.bitfile_cells.specs.Files.{IsFile}
 use Rattle.bitfile_core.specs.Changes.{with_chain, with_first}
 use Rattle.bitfile_core.specs.Creation.{Creates, TakesForFile}
@@ -26,12 +28,13 @@ use Rattle.bitfile_core.specs.Files.{Chains, is_removed}
 use Rattle.bitfile_core.specs.Pages.{ChangesFile}
 use Rattle.bitfile_core.specs.Together.{AreTogether}
 use Rattle.bitfile_core.specs.Truncation.{Truncates, TruncatesTogether, pending_cell, says_truncated}
+use Rattle.bitfile_core.proofs.Again.{together_missed}
 use Rattle.bitfile_core.proofs.OneChain.{chain_other, chain_same, same_tag_itself}
 use Rattle.bitfile_core.proofs.OneFile.{tags_same}
 use Rattle.deferred_delete.specs.Listed.{left_of}
 use Rattle.deferred_delete.specs.Listing.{Adds, Listing}
 use Rattle.deferred_delete.specs.Standing.{source_of, with_file}
-use Rattle.deferred_delete.specs.Steps.{IsWell, LeadsTo, now_of}
+use Rattle.deferred_delete.specs.Steps.{IsWell, LetsGo, now_of}
 use Rattle.deferred_delete.proofs.Standings.{file_there}
 use Rattle.deferred_laws.specs.Tags.{AreAmong, chains_in, start_of}
 use Rattle.deferred_laws.proofs.Tags.{tags_stay_together}
@@ -172,12 +175,26 @@ module _ (fileset : ℕ) (places : List TagPlace) (space : Spaces) (cells : Cell
       not_listed = λ home inside. absurd (in_none home (subst (λ (hs : List Home). Contains hs home) (same_pages ∙ no_page) inside));
     }
 
+    still_together : (space_now before : Spaces) (cells_now : Cells) (new : Pages) (now : Chains) (fault : StoreFault) → FindsNone before space_now cells_now fault → AreTogether fileset places before cells_now new now → AreTogether fileset places space_now cells_now new now
+    still_together space_now before cells_now new now NoPage none are = subst (λ s. AreTogether fileset places s cells_now new now) (sym none.2) (together_missed new fileset places now before cells_now are)
+    still_together space_now before cells_now new now OutOfMemory none are = subst (λ s. AreTogether fileset places s cells_now new now) (sym none) are
+
     pub gone_only : (group : ℕ) (version : Version) (count : ℕ) (list_now : Listing) (space_now : Spaces) (cells_now : Cells) (new : Pages)
-        → LeadsTo group version (now_of list (with_file at (Some the_chain.chain) no_files) space cells pages) count list_now space_now cells_now new → (now : Chains) × AreOnly fileset places space_now cells_now new tag now
-    gone_only group version count list_now space_now cells_now new leads = (
-      chains_in leads.files chains,
-      record {
-        together = (tags_stay_together group version (now_of list (with_file at (Some the_chain.chain) no_files) space cells pages) count (now_of list_now leads.files space_now cells_now new) only_well leads.steps fileset places chains only.together among).0;
-        others = λ t differ. ap (λ o. option_and_then leads.files (option_and_then start_of o)) (only.others t differ);
-      },
-    )
+        → LetsGo group version (now_of list (with_file at (Some the_chain.chain) no_files) space cells pages) count list_now space_now cells_now new → (now : Chains) × AreOnly fileset places space_now cells_now new tag now
+    gone_only group version count list_now space_now cells_now new goes = ⊎_elim
+        (λ leads. (
+          chains_in leads.files chains,
+          record {
+            together = (tags_stay_together group version (now_of list (with_file at (Some the_chain.chain) no_files) space cells pages) count (now_of list_now leads.files space_now cells_now new) only_well leads.steps fileset places chains only.together among).0;
+            others = λ t differ. ap (λ o. option_and_then leads.files (option_and_then start_of o)) (only.others t differ);
+          },
+        ))
+        (λ stops. (
+          chains_in stops.files chains,
+          record {
+            together = still_together space_now stops.before cells_now new (chains_in stops.files chains) stops.fault stops.cause
+                (tags_stay_together group version (now_of list (with_file at (Some the_chain.chain) no_files) space cells pages) count (now_of list_now stops.files stops.before cells_now new) only_well stops.steps fileset places chains only.together among).0;
+            others = λ t differ. ap (λ o. option_and_then stops.files (option_and_then start_of o)) (only.others t differ);
+          },
+        ))
+        goes

@@ -1,5 +1,5 @@
 -- Lists of one file, or of a page of a tag directory, that belong together with all else.
-use Rattle.std.proofs.Common.{◌≡◌, ◌∙◌, ℕ, ◌<◌, ◌≤◌, zero, suc, List, [], ◌∷◌, ◌++◌, Option, Some, None, Result, Ok, Err, IfOk, IfErr, IsSome, IsSomeAnd, Contains, get_or, length, arith, refl, sym, ap, subst, ⊎_elim}
+use Rattle.std.proofs.Common.{◌≡◌, ◌∙◌, ℕ, ◌<◌, ◌≤◌, zero, suc, List, [], ◌∷◌, ◌++◌, Option, Some, None, Result, Ok, Err, IfOk, IfErr, OnErr, IsSome, IsSomeAnd, Contains, get_or, length, arith, refl, sym, ap, subst, ⊎_elim}
 use Rattle.std.specs.Option.{option_and_then, option_map_or}
 use Rattle.domain_base.specs.declared.place.CellAt.{CellAt}
 use Rattle.domain_base.specs.declared.place.Home.{Home}
@@ -10,7 +10,7 @@ use Rattle.bmt_mcells.specs.Chain.{PlacedCell}
 use Rattle.extent_maps.specs.declared.run.PagePlace.TheVariants.{Absent, At}
 use Rattle.free_cells.specs.Cells.{Cells}
 use Rattle.free_space.specs.Spaces.{Spaces}
-use Rattle.bitfile_cells.specs.Allocated.{AreAllocated}
+use Rattle.bitfile_cells.specs.Allocated.{AreAllocated, FindsNone}
 use Rattle.bitfile_cells.specs.Files.{places_of}
 use Rattle.bitfile_core.specs.Together.{IsHeldApart}
 use Rattle.chain_release.proofs.Once.{absent_not}
@@ -18,7 +18,9 @@ use Rattle.deferred_delete.specs.declared.list.Entry.{Entry}
 use Rattle.deferred_delete.specs.Listed.{IsEntry, IsListed, left_of}
 use Rattle.deferred_delete.specs.Listing.{Adds, AddsEntry, Listing, SetsClone}
 use Rattle.deferred_delete.specs.Standing.{Files, IsStanding, ReadsThrough, Source, StandTogether, place_in, source_at, source_of, with_file}
-use Rattle.deferred_delete.specs.Steps.{IsWell, LeadsTo, Now, StopsAt, now_of}
+use Rattle.deferred_delete.specs.Steps.{IsWell, LetsGo, now_of}
+use Rattle.deferred_delete.proofs.Loops.{well_same}
+use Rattle.deferred_delete.proofs.Well.{well_still}
 use Rattle.deferred_delete.proofs.Standings.{apart_from, each_from, file_other, file_there, place_by, same_or_not, source_by}
 use Rattle.release_tests.specs.Going.{IsGoing}
 
@@ -166,7 +168,10 @@ module _ (space : Spaces) (cells : Cells) (pages : Pages) (home : Home) (allocat
 
 -- ---- after a call, whatever it answered
 
-pub still_well : (group : ℕ) (version : Version) (first : Now) (list : Listing) (space : Spaces) (cells : Cells) (pages : Pages) (r : Result ℕ StoreFault) → IfOk r (λ count. LeadsTo group version first count list space cells pages) → IfErr r (StopsAt group version first list space cells pages)
-    → (fs : Files) × IsWell (now_of list fs space cells pages)
-still_well group version first list space cells pages (Ok count) leads stops = (leads.files, leads.well)
-still_well group version first list space cells pages (Err fault) leads stops = (stops.files, stops.well)
+pub still_well : (group : ℕ) (version : Version) (files : Files) (list list_now : Listing) (space space_now : Spaces) (cells cells_now : Cells) (pages pages_now : Pages) (r : Result ℕ StoreFault) → IsWell (now_of list files space cells pages)
+    → IfOk r (λ count. LetsGo group version (now_of list files space cells pages) count list_now space_now cells_now pages_now) → IfErr r (FindsNone space space_now cells) → OnErr r (list_now ≡ list) → OnErr r (cells_now ≡ cells) → OnErr r (pages_now ≡ pages)
+    → (fs : Files) × IsWell (now_of list_now fs space_now cells_now pages_now)
+still_well group version fs list list_now space space_now cells cells_now pages pages_now (Ok count) well goes none same_list same_cells same_pages =
+    ⊎_elim (λ leads. (leads.files, leads.well)) (λ stops. (stops.files, stops.well)) goes
+still_well group version fs list list_now space space_now cells cells_now pages pages_now (Err fault) well goes none same_list same_cells same_pages =
+    (fs, well_same list list_now fs space_now space_now cells cells_now pages pages_now same_list refl same_cells same_pages (well_still fault list fs space space_now cells pages none well))

@@ -8,6 +8,6 @@ abbrev pub invariant-loop : goal.invariant-loop
 invariant-loop g l =
     ((files : Files) → IsWell (now_of l.fn.self files l.fn.space l.fn.cells (g.M.MetaPages.pages l.fn.pages))
     → LeadsTo l.group l.version (now_of l.fn.self files l.fn.space l.fn.cells (g.M.MetaPages.pages l.fn.pages)) l.count l.self l.space l.cells (g.M.MetaPages.pages l.pages))
-    × (l.count ≡ l.counter) × (l.count ≡ 0 → l.self ≡ l.fn.self) × (1 ≤ l.count → IsEmpty l.fn.self → ⊥)
+    × (l.count ≡ l.counter) × (l.count ≡ 0 → l.self ≡ l.fn.self) × (l.count ≡ 0 → (l.space ≡ l.fn.space) × (l.cells ≡ l.fn.cells) × (g.M.MetaPages.pages l.pages ≡ g.M.MetaPages.pages l.fn.pages)) × (1 ≤ l.count → IsEmpty l.fn.self → ⊥)
     × (g.M.MetaPages.room l.fn.pages ≤ g.M.MetaPages.room l.pages + l.counter)
     × (g.M.MetaPages.before l.pages ≡ g.M.MetaPages.before l.fn.pages)
