@@ -1,0 +1,4 @@
+pub mod Joined
+pub mod NoCell
+pub mod Pushed
+pub mod WrongCell

@@ -1,0 +1,22 @@
+-- What is wrong with one page of cells.
+use Rattle.std.specs.Prelude.{◌≡◌, ◌⊎◌, ◌≤◌, ℕ, List}
+use Rattle.std.specs.List.{AllByRecursion}
+use Rattle.domain_base.specs.declared.place.CellAt.{CellAt}
+use Rattle.domain_base.specs.declared.version.Version.{Version}
+use Rattle.page_store.specs.Pages.{Pages}
+use Rattle.record_table.specs.Fields.{number_at}
+use Rattle.record_table.specs.Records.{kind_of, last_kind}
+use Rattle.bmt_mcells.specs.Cell.{Cell, IsFreeCell}
+use Rattle.bmt_mcells.specs.CellPage.{cell_of, free_cells, index_of}
+use Rattle.bmt_mcells.specs.Chain.{StandsAt}
+
+-- it has another index than its place, or another count of free cells than it has
+abbrev pub IsWrongHeader : List ℕ → ℕ → Type 0
+IsWrongHeader page place = ¬ index_of page ≡ place ⊎ ¬ number_at 2 12 page ≡ free_cells page
+    ⊎ ¬ number_at 2 14 page ≡ 0
+
+-- a cell of it is not free, and none that the version has stands there
+abbrev pub HasNoCell : Pages → Version → List ℕ → CellAt → Type 0
+HasNoCell pages version page at = ¬ IsFreeCell (cell_of page at.cell)
+    × ((cell : Cell) → StandsAt pages at cell
+    → ¬ AllByRecursion (λ r. kind_of r ≤ last_kind version) cell.records)

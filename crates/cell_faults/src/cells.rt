@@ -1,0 +1,94 @@
+//! Whether a cell is free or in use.
+ghost use Rattle.std.specs.Prelude.{◌≡◌, ◌==◌, ◌↔◌, ◌<◌, ◌≤◌, IfOk, IsTrue};
+ghost use Rattle.std.specs.List.{AllByRecursion, list_all};
+ghost use Rattle.record_table.specs.Records.{kind_of, last_kind};
+ghost use Rattle.bmt_mcells.specs.Cell.{IsFreeCell};
+ghost use Rattle.bmt_mcells.specs.CellPage.{cell_of};
+ghost use Rattle.domain_layout.specs.CellRules.{HasWrongCell};
+ghost use Rattle.page_ways.specs.Frame.{frame_in};
+ghost use Rattle.cell_faults.specs.Pages.{HasNoCell};
+ghost use Rattle.cell_faults.specs.Tables.{IsCellsHome};
+
+use bmt_mcells::{RecordList, read_used};
+use domain_base::{CellAt, Home, OutOfMemory, Page, Version};
+use page_store::MetaPages;
+use page_ways::DomainFrame;
+use std::alloc::Global;
+
+/// Whether all the bytes are zero.
+fn are_zeros(bytes: &[u8]) -> bool
+    ensures { result ≡ list_all (λ byte. byte == 0) bytes.now }
+{
+    bytes.iter().all(|byte| *byte == 0)
+}
+
+/// Whether a cell of a page is zeros.
+fn is_free(page: &Page, cell: u8) -> bool
+    requires { cell < 28 }
+    ensures { IsTrue result ↔ IsFreeCell (cell_of page.now cell) }
+{
+    let start = 16 + 292 * usize::from(cell);
+    are_zeros(&page.bytes()[start..start + 292])
+}
+
+/// Whether a version has all the kinds of the records: dense extents are none in version 3.
+fn are_known(records: &RecordList, version: Version) -> bool
+    ensures { IsTrue result ↔ AllByRecursion (λ r. kind_of r ≤ last_kind version) records.now }
+{
+    let last = match version {
+        Version::Three => 12,
+        Version::Four => 14,
+    };
+    records
+        .as_slice()
+        .iter()
+        .all(|record| record.kind() <= last)
+}
+
+/// Whether no cell that the version has stands at a place, free or in use.
+fn has_no_cell<M: MetaPages>(
+    alloc: Global,
+    pages: &M,
+    version: Version,
+    page: &Page,
+    at: CellAt,
+) -> Result<bool, OutOfMemory>
+    requires within { at.cell < 28 }
+    ensures { IfOk result (λ wrong. IsTrue wrong
+        ↔ HasNoCell (M.pages pages.now) version page.now at) }
+{
+    if is_free(page, at.cell) {
+        return Ok(false);
+    }
+    Ok(match read_used(alloc, pages, at)? {
+        Some(used) => !are_known(&used.records, version),
+        None => true,
+    })
+}
+
+/// Whether a cell of a page of cells is neither free nor one in use that the version has.
+pub fn has_wrong_cell<M: MetaPages>(
+    alloc: Global,
+    pages: &M,
+    frame: &DomainFrame,
+    home: &Home,
+) -> Result<bool, OutOfMemory>
+    requires { IsCellsHome (M.pages pages.now) (frame_in frame.now) home.now }
+    ensures { IfOk result (λ wrong. IsTrue wrong
+        ↔ HasWrongCell (M.pages pages.now) (frame_in frame.now) home.now) }
+{
+    let Some(bytes) = pages.get(*home) else {
+        unreachable!()
+    };
+    for cell in 0..28_u8 {
+        let at = CellAt {
+            vol: home.vol,
+            page: home.page,
+            cell,
+        };
+        if has_no_cell(alloc, pages, frame.version, bytes, at)? {
+            return Ok(true);
+        }
+    }
+    Ok(false)
+}
