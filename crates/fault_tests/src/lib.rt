@@ -1,0 +1,6 @@
+//! Tests of which pages are read and which rules of them are broken, on pages that were written by
+//! hand.
+#![tactic(auto)]
+
+#[cfg(test)]
+mod ways;
