@@ -1,6 +1,5 @@
 //! The records of a cell, read one after the other.
-ghost use Rattle.std.specs.Prelude.{◌≡◌, ◌==◌, List, length, IfOk};
-ghost use Rattle.std.specs.List.{list_all};
+ghost use Rattle.std.specs.Prelude.{◌≡◌, List, length, IfOk};
 ghost use Rattle.record_table.specs.declared.record.Record.{Record as RecordOf};
 ghost use Rattle.bmt_mcells.specs.Cell.{AreRecords, id_of as id_there, place_of as place_there, record_of, spellings};
 ghost use Rattle.bmt_mcells.specs.Reading.{ReadsRecords, ReadsCell};
@@ -8,7 +7,7 @@ ghost use Rattle.bmt_mcells.specs.Reading.{ReadsRecords, ReadsCell};
 use crate::head::CellHead;
 use crate::reading::head_of;
 use domain_base::{OutOfMemory, Version};
-use record_table::{Record, read_record};
+use record_table::{Record, are_zeros, read_record};
 
 /// The id of a quota's limits, and 0 for other records.
 fn id_of(record: &Record) -> u32
@@ -25,13 +24,6 @@ fn place_of(record: &Record) -> u64
     ensures { result ≡ place_there record.now }
 {
     (u64::from(record.kind()) << 32) + u64::from(id_of(record))
-}
-
-/// Whether all the bytes are zero.
-fn are_zeros(bytes: &[u8]) -> bool
-    ensures { result ≡ list_all (λ byte. byte == 0) bytes.now }
-{
-    bytes.iter().all(|byte| *byte == 0)
 }
 
 /// Reads the records that the bytes are, and appends them. Says whether the bytes are records that

@@ -6,11 +6,11 @@ use Rattle.domain_base.specs.declared.place.Home.{Home}
 use Rattle.page_store.specs.Pages.{Pages}
 use Rattle.bmt_mcells.specs.CellPage.{next_of}
 use Rattle.domain_layout.specs.CellRules.{IsNoCellsPage}
-use Rattle.domain_layout.specs.Layout.{IsMember}
 use Rattle.domain_layout.specs.Reached.{Frame, IsRead, IsUnread, Reaches, begins, cells_way, goes_on}
 use Rattle.page_ways.specs.Walk.{AreRead}
 use Rattle.cell_faults.specs.Tables.{AreTables, AreTablesBelow, IsNoneBelow, IsThere}
 use Rattle.cell_faults.specs.declared.tables.CellsPage.{CellsPage}
+use Rattle.log_ring.specs.Homes.{IsMember}
 
 next_vol : (b : Bool) (home onto : Home) (page : List ℕ) → (if b then None else Some (record { vol = home.vol; page = next_of page })) ≡ Some onto → onto.vol ≡ home.vol
 next_vol true home onto page leads = let e : None ≡ Some onto = leads in absurd (cc)

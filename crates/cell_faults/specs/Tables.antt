@@ -3,9 +3,9 @@ use Rattle.std.specs.Prelude.{◌↔◌, ◌+◌, ◌<◌, ℕ, List, Contains}
 use Rattle.domain_base.specs.declared.place.Home.{Home}
 use Rattle.page_store.specs.Pages.{Pages}
 use Rattle.domain_layout.specs.CellRules.{IsCellsPage, IsNoCellsPage}
-use Rattle.domain_layout.specs.Layout.{IsMember}
 use Rattle.domain_layout.specs.Reached.{Frame, IsUnread, cells_way}
 use Rattle.cell_faults.specs.declared.tables.CellsPage.{CellsPage}
+use Rattle.log_ring.specs.Homes.{IsMember}
 
 -- a page of cells is read at its place
 abbrev pub IsThere : Pages → Frame → CellsPage → Type 0

@@ -1,6 +1,6 @@
 //! Whether a cell is free or in use.
-ghost use Rattle.std.specs.Prelude.{◌≡◌, ◌==◌, ◌↔◌, ◌<◌, ◌≤◌, IfOk, IsTrue};
-ghost use Rattle.std.specs.List.{AllByRecursion, list_all};
+ghost use Rattle.std.specs.Prelude.{◌≡◌, ◌↔◌, ◌<◌, ◌≤◌, IfOk, IsTrue};
+ghost use Rattle.std.specs.List.{AllByRecursion};
 ghost use Rattle.record_table.specs.Records.{kind_of, last_kind};
 ghost use Rattle.bmt_mcells.specs.Cell.{IsFreeCell};
 ghost use Rattle.bmt_mcells.specs.CellPage.{cell_of};
@@ -13,14 +13,8 @@ use bmt_mcells::{RecordList, read_used};
 use domain_base::{CellAt, Home, OutOfMemory, Page, Version};
 use page_store::MetaPages;
 use page_ways::DomainFrame;
+use record_table::{are_zeros, last_kind_of};
 use std::alloc::Global;
-
-/// Whether all the bytes are zero.
-fn are_zeros(bytes: &[u8]) -> bool
-    ensures { result ≡ list_all (λ byte. byte == 0) bytes.now }
-{
-    bytes.iter().all(|byte| *byte == 0)
-}
 
 /// Whether a cell of a page is zeros.
 fn is_free(page: &Page, cell: u8) -> bool
@@ -35,10 +29,7 @@ fn is_free(page: &Page, cell: u8) -> bool
 fn are_known(records: &RecordList, version: Version) -> bool
     ensures { IsTrue result ↔ AllByRecursion (λ r. kind_of r ≤ last_kind version) records.now }
 {
-    let last = match version {
-        Version::Three => 12,
-        Version::Four => 14,
-    };
+    let last = last_kind_of(version);
     records
         .as_slice()
         .iter()

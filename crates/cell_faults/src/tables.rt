@@ -1,10 +1,10 @@
 //! The pages of cells of each member.
 ghost use Rattle.std.specs.Prelude.{◌≡◌, ◌⊎◌, ◌↔◌, IfOk, OnOk, Some, Contains, slice_get};
 ghost use Rattle.domain_base.specs.declared.place.Home.{Home};
-ghost use Rattle.domain_layout.specs.Layout.{IsMember};
 ghost use Rattle.cell_faults.specs.declared.tables.CellsPage.{CellsPage};
 ghost use Rattle.cell_faults.specs.Tables.{AreTables, AreTablesBelow, AreTablesUpTo};
 ghost use Rattle.page_ways.specs.Frame.{frame_in};
+ghost use Rattle.log_ring.specs.Homes.{IsMember};
 
 use domain_base::{Home, OutOfMemory, VolIx};
 use page_store::MetaPages;

@@ -11,7 +11,7 @@ use Rattle.record_table.specs.Fields.{number_at}
 use Rattle.record_table.specs.Records.{kind_of, last_kind}
 use Rattle.record_table.specs.declared.record.Record.{Record}
 use Rattle.record_table.specs.declared.record.Record.TheVariants as written
-use Rattle.log_ring.specs.Homes.{member_of}
+use Rattle.log_ring.specs.Homes.{IsMember, member_of}
 use Rattle.bmt_mcells.specs.Cell.{Cell, IsCell, IsFreeCell, id_of, kind_number, record_of}
 use Rattle.bmt_mcells.specs.CellPage.{cell_at, cell_of, free_cells, home_of, index_of}
 use Rattle.bmt_mcells.specs.Chain.{StandsAt, may_follow}
@@ -24,7 +24,6 @@ use Rattle.bitfile_core.specs.Files.{is_first_kind, says_remove}
 use Rattle.fileset_table.specs.Table.{Table, is_original}
 use Rattle.fileset_table.specs.declared.slot.SlotItem.{SlotItem}
 use Rattle.fileset_table.specs.declared.slot.SlotItem.TheVariants as slot
-use Rattle.domain_layout.specs.Layout.{IsMember}
 use Rattle.domain_layout.specs.Reached.{Frame, IsRead, IsUnread, cells_way, first_cells}
 
 -- ** Pages of cells

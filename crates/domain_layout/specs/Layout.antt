@@ -26,13 +26,6 @@ pub record Layout : Type 0 where
   pub cells : ℕ → List ℕ
   pub tags : ℕ → List TagPlace
 
--- a volume that is a member, open or closed
-pub record IsMember (anchor : Anchor) (vol : ℕ) : Type 0 where
-  pub first : 1 ≤ vol
-  pub last : vol ≤ max_volumes
-  pub there : 1 ≤ (member_of anchor vol).state
-  pub whole : (member_of anchor vol).state ≤ 2
-
 -- a page of a volume's table of cells at a place of it: well formed, with the place as its index,
 -- and the one behind it as its next page
 pub record IsPageAt (table : List ℕ) (place : ℕ) (page : List ℕ) : Type 0 where

@@ -5,7 +5,7 @@ use Rattle.domain_base.specs.declared.place.Home.{Home}
 use Rattle.page_store.specs.Pages.{Pages}
 use Rattle.record_table.specs.declared.record.Record.{Record}
 use Rattle.disk_label.specs.FirstPages.{first_pages}
-use Rattle.log_ring.specs.Homes.{IsLogPage, member_of}
+use Rattle.log_ring.specs.Homes.{IsLogPage, IsMember, member_of}
 use Rattle.bmt_mcells.specs.Cell.{Cell, record_of}
 use Rattle.bmt_mcells.specs.Chain.{StandsAt}
 use Rattle.tag_dirs.specs.Directory.{has_home}
@@ -13,7 +13,7 @@ use Rattle.extent_maps.specs.declared.run.PagePlace.TheVariants.{At}
 use Rattle.extent_records.specs.Writing.{places_in}
 use Rattle.bitfile_core.specs.Shown.{index_in}
 use Rattle.fileset_table.specs.declared.slot.SlotItem.{SlotItem}
-use Rattle.domain_layout.specs.Layout.{IsMember, Layout}
+use Rattle.domain_layout.specs.Layout.{Layout}
 use Rattle.domain_layout.specs.Reached.{Frame, Reaches, index_way}
 
 -- what a page may be of: the first pages of a volume, which are its label, anchors and bitmap; the

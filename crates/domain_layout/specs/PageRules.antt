@@ -5,9 +5,9 @@ use Rattle.domain_base.specs.declared.place.CellAt.{CellAt}
 use Rattle.domain_base.specs.declared.place.Home.{Home}
 use Rattle.page_store.specs.Pages.{Pages}
 use Rattle.storage_bitmap.specs.Bits.{is_set}
-use Rattle.log_ring.specs.Homes.{member_of}
+use Rattle.log_ring.specs.Homes.{IsMember, member_of}
 use Rattle.bmt_mcells.specs.CellPage.{home_of}
-use Rattle.domain_layout.specs.Layout.{IsMember, Layout}
+use Rattle.domain_layout.specs.Layout.{Layout}
 use Rattle.domain_layout.specs.Owners.{BelongsTo, HasExtent, IsOwned, Owner, frame_of}
 use Rattle.domain_layout.specs.Owners.Owner.{of_file}
 use Rattle.domain_layout.specs.Reached.{MayBe}

@@ -7,10 +7,9 @@ use Rattle.page_store.specs.Pages.{Pages}
 use Rattle.record_table.specs.Fields.{number_at}
 use Rattle.disk_label.specs.FirstPages.{first_pages}
 use Rattle.disk_label.specs.declared.anchor.Anchor.{Anchor}
-use Rattle.log_ring.specs.Homes.{IsLogPage, member_of}
+use Rattle.log_ring.specs.Homes.{IsLogPage, IsMember, member_of}
 use Rattle.bmt_mcells.specs.CellPage.{is_cell_page, next_of}
 use Rattle.tag_dirs.specs.TagPage.{next_of as next_home}
-use Rattle.domain_layout.specs.Layout.{IsMember}
 
 -- the anchor that counts, and the version that it says
 pub record Frame : Type 0 where

@@ -1,6 +1,5 @@
 //! Slots of the fileset table, read from their bytes.
-ghost use Rattle.std.specs.Prelude.{◌≡◌, ◌==◌, ◌↔◌, IsTrue, ℕ, true, length, IfSome, IfNone, Option, Some};
-ghost use Rattle.std.specs.List.{list_all};
+ghost use Rattle.std.specs.Prelude.{◌≡◌, ◌↔◌, IsTrue, ℕ, true, length, IfSome, IfNone, Option, Some};
 ghost use Rattle.domain_base.specs.declared.place.CellAt.{CellAt};
 ghost use Rattle.domain_base.specs.declared.place.Home.{Home};
 ghost use Rattle.record_table.specs.Fields.{number_at};
@@ -14,7 +13,7 @@ use crate::rules::are_slots;
 use crate::slot::{FilesetEntry, SlotItem, TableFault};
 use domain_base::{CellAt, FilesetNo, Home, VolIx};
 use fileset_model::FilesetName;
-use record_table::{u8_at, u16_at, u32_at, u64_at};
+use record_table::{are_zeros, u8_at, u16_at, u32_at, u64_at};
 use std::alloc::Global;
 use word_forms::{WordFault, fileset};
 
@@ -32,13 +31,6 @@ pub(crate) const MAGIC: u32 = 0x4254_5346;
 
 /// The most clones that can have been made, 2^63 less 1.
 const MOST_MADE: u64 = 0x7fff_ffff_ffff_ffff;
-
-/// Whether all the bytes are zero.
-fn are_zeros(bytes: &[u8]) -> bool
-    ensures { result ≡ list_all (λ byte. byte == 0) bytes.now }
-{
-    bytes.iter().all(|byte| *byte == 0)
-}
 
 /// The name of the form of fileset names that the bytes are.
 fn name_of(alloc: Global, bytes: &[u8]) -> Result<FilesetName, TableFault>

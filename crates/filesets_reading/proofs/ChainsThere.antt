@@ -8,7 +8,7 @@ use Rattle.std.specs.List.{AllByRecursion, list_all}
 use Rattle.domain_base.specs.declared.place.CellAt.{CellAt}
 use Rattle.domain_base.specs.declared.place.Home.{Home}
 use Rattle.domain_base.specs.declared.place.Tag.{Tag}
-use Rattle.log_ring.specs.Homes.{member_of}
+use Rattle.log_ring.specs.Homes.{IsMember, member_of}
 use Rattle.page_store.specs.Pages.{Pages}
 use Rattle.record_table.specs.Fields.{number_at}
 use Rattle.record_table.specs.Records.{Allowed, kind_of}
@@ -30,7 +30,7 @@ use Rattle.domain_layout.specs.CellRules.{Follows, IsChainHead, IsUsed, Link, ag
 use Rattle.std.specs.Option.{option_map_or}
 use Rattle.fileset_table.specs.Table.{Table}
 use Rattle.domain_layout.specs.Faults.{HasNoFault}
-use Rattle.domain_layout.specs.Layout.{IsLayout, IsMember, Layout}
+use Rattle.domain_layout.specs.Layout.{IsLayout, Layout}
 use Rattle.domain_layout.specs.Owners.{frame_of}
 use Rattle.domain_layout.specs.Reached.{MayBe}
 use Rattle.domain_layout.specs.TagRules.{IsFirstOf}

@@ -8,13 +8,13 @@ use Rattle.domain_base.specs.declared.place.Home.{Home}
 use Rattle.domain_base.specs.declared.version.Version.{Version}
 use Rattle.page_store.specs.Pages.{Pages}
 use Rattle.disk_label.specs.declared.anchor.Anchor.{Anchor}
-use Rattle.log_ring.specs.Homes.{member_of}
+use Rattle.log_ring.specs.Homes.{IsMember, member_of}
 use Rattle.tag_dirs.specs.declared.dir.TagPlace.{TagPlace}
 use Rattle.fileset_table.specs.Page.{IsTablePage}
 use Rattle.fileset_table.specs.Table.{Table}
 use Rattle.fileset_table.specs.declared.slot.SlotItem.{SlotItem}
 use Rattle.domain_layout.specs.Faults.{HasNoFault, SaysTable}
-use Rattle.domain_layout.specs.Layout.{AreTagPlaces, IsCellTable, IsMember, Layout, first_tag_of}
+use Rattle.domain_layout.specs.Layout.{AreTagPlaces, IsCellTable, Layout, first_tag_of}
 use Rattle.domain_layout.specs.Reached.{Frame, first_cells}
 use Rattle.filesets_reading.specs.Good.{AreGood, IsNamed, frame_at}
 use Rattle.filesets_reading.specs.Tables.{AreTablesOf, AreTagsOf, HasCellTable, HasTagsOf, HaveCellTables}

@@ -3,7 +3,7 @@ use Rattle.std.proofs.Common.{◌≡◌, ◌∙◌, inl, inr, ℕ, zero, suc, �
 use Rattle.std.proofs.lemmas.Bool.{cases_Bool, cases_lt, eqb-true}
 use Rattle.std.specs.List.{AllByRecursion, flat_map}
 use Rattle.domain_base.specs.declared.place.Home.{Home}
-use Rattle.log_ring.specs.Homes.{member_of}
+use Rattle.log_ring.specs.Homes.{IsMember, member_of}
 use Rattle.record_table.specs.Records.{Allowed, AreExtents, AreHoles, NoExtent, NoHole, kind_of}
 use Rattle.record_table.specs.declared.record.ExtentField.{ExtentField}
 use Rattle.record_table.specs.declared.record.HoleField.{HoleField}
@@ -18,7 +18,6 @@ use Rattle.extent_maps.proofs.EditLemmas.{covers_from}
 use Rattle.extent_maps.proofs.RunLemmas.{covers_not_before, covers_not_behind}
 use Rattle.extent_records.specs.Rows.{IsPlaced, NoPageTwice, OnVolume, holes_at, run_of, runs_at, runs_in, times}
 use Rattle.extent_records.specs.Writing.{IsMapRecord, most_rows, places_in}
-use Rattle.domain_layout.specs.Layout.{IsMember}
 use Rattle.domain_layout.specs.Reached.{Frame, MayBe}
 
 -- ---- runs that rise

@@ -8,11 +8,12 @@ use Rattle.bmt_mcells.specs.Cell.{Cell}
 use Rattle.bmt_mcells.specs.CellPage.{home_of, next_of}
 use Rattle.bmt_mcells.specs.Chain.{StandsAt}
 use Rattle.domain_layout.specs.CellRules.{IsPlace}
-use Rattle.domain_layout.specs.Layout.{IsLayout, IsMember, IsPageAt, Layout}
+use Rattle.domain_layout.specs.Layout.{IsLayout, IsPageAt, Layout}
 use Rattle.domain_layout.specs.Owners.{IsOnTable, frame_of}
 use Rattle.domain_layout.specs.Reached.{Reaches, begins, cells_way, goes_on}
 use Rattle.layout_laws.proofs.OnePage.{some_same}
 use Rattle.filesets_reading.proofs.Ways.{pushed, within_of}
+use Rattle.log_ring.specs.Homes.{IsMember}
 
 contains_at : (xs : List ℕ) (k x : ℕ) → slice_get xs k ≡ Some x → Contains xs x
 contains_at [] k x is = absurd (let e : None ≡ Some x = is in absurd (cc))

@@ -4,12 +4,12 @@ use Rattle.domain_base.specs.declared.place.CellAt.{CellAt}
 use Rattle.domain_base.specs.declared.place.Home.{Home}
 use Rattle.domain_base.specs.declared.place.Tag.{Tag}
 use Rattle.page_store.specs.Pages.{Pages}
-use Rattle.log_ring.specs.Homes.{member_of}
+use Rattle.log_ring.specs.Homes.{IsMember, member_of}
 use Rattle.bmt_mcells.specs.Chain.{IsBroken, LinksFrom, PlacedCell}
 use Rattle.tag_dirs.specs.Directory.{IsDirectoryAt, cell_of}
 use Rattle.tag_dirs.specs.declared.dir.TagPlace.{TagPlace}
 use Rattle.domain_layout.specs.Faults.{HasNoFault}
-use Rattle.domain_layout.specs.Layout.{IsLayout, IsMember, Layout}
+use Rattle.domain_layout.specs.Layout.{IsLayout, Layout}
 use Rattle.domain_layout.specs.Owners.{frame_of}
 use Rattle.domain_layout.specs.TagRules.{HasTags}
 

@@ -2,8 +2,8 @@
 ghost use Rattle.std.specs.Prelude.{◌≡◌, ◌^◌, ◌≤◌, true, IfOk, IsSomeAnd, OnOk};
 ghost use Rattle.disk_label.specs.FirstPages.{first_pages};
 ghost use Rattle.bmt_mcells.specs.CellPage.{is_cell_page, next_of};
-ghost use Rattle.log_ring.specs.Homes.{member_of as member_there};
-ghost use Rattle.domain_layout.specs.Layout.{IsCellTable, IsMember};
+ghost use Rattle.log_ring.specs.Homes.{IsMember, member_of as member_there};
+ghost use Rattle.domain_layout.specs.Layout.{IsCellTable};
 ghost use Rattle.domain_layout.specs.Reached.{first_cells};
 ghost use Rattle.filesets_reading.specs.Good.{AreDecided, AreGood, IsDecided, frame_at};
 

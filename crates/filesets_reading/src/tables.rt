@@ -1,7 +1,7 @@
 //! The tables of a domain: that of its filesets, those of cells, and the tag directories.
-ghost use Rattle.std.specs.Prelude.{◌≡◌, ◌↔◌, IfOk, IsTrue, OnOk};
+ghost use Rattle.std.specs.Prelude.{◌≡◌, ◌↔◌, IfOk, OnOk};
 ghost use Rattle.domain_layout.specs.Faults.{HasNoFault, SaysTable};
-ghost use Rattle.domain_layout.specs.Layout.{IsMember, first_tag_of};
+ghost use Rattle.domain_layout.specs.Layout.{first_tag_of};
 ghost use Rattle.filesets_reading.specs.Good.{AreGood, HasTagsAt, IsNamed, frame_at};
 ghost use Rattle.filesets_reading.specs.Tables.{AreTablesOf, AreTagsOf, HasCellTable, HasTagsOf, HaveCellTables};
 
@@ -10,7 +10,7 @@ use crate::tags::read_tags;
 use disk_label::Anchor;
 use domain_base::{FilesetNo, Home, OutOfMemory, Version, VolIx};
 use fileset_table::{FilesetTable, SlotItem, TableFault};
-use log_ring::member_of;
+use log_ring::is_member;
 use page_store::MetaPages;
 use std::alloc::Global;
 use tag_dirs::TagDir;
@@ -21,15 +21,6 @@ use tag_dirs::TagDir;
 pub struct DomainTables {
     pub filesets: FilesetTable,
     pub tags: Vec<TagDir>,
-}
-
-/// Whether a volume is a member of an anchor.
-fn is_member(anchor: &Anchor, vol: VolIx) -> bool
-    ensures { IsTrue result ↔ IsMember anchor.now vol }
-{
-    let member = member_of(anchor, vol);
-    prove!(1 <= vol.number() && vol.number() <= 8);
-    1 <= member.state && member.state <= 2
 }
 
 /// Reads the table of cells of a volume, if it is a member.

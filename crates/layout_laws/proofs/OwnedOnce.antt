@@ -20,7 +20,7 @@ use Rattle.fileset_table.specs.Page.{IsTablePage}
 use Rattle.domain_layout.specs.CellRules.{IsCellsFault, IsCellsPage, IsUsed}
 use Rattle.domain_layout.specs.DirectoryRules.{HasIndexAt, IsIndexFault}
 use Rattle.domain_layout.specs.Faults.{FaultRow, HasNoFault, IsFilesFault, IsTableFault, IsTablesFault, SaysTable}
-use Rattle.domain_layout.specs.Layout.{AreTagPlaces, IsLayout, IsMember, IsPageAt, Layout, first_tag_of}
+use Rattle.domain_layout.specs.Layout.{AreTagPlaces, IsLayout, IsPageAt, Layout, first_tag_of}
 use Rattle.domain_layout.specs.Owners.{BelongsTo, HasExtent, HasIndexPage, HasTagPage, IsOnTable, IsOwnedOnce, Owner, frame_of}
 use Rattle.domain_layout.specs.Owners.Owner.{of_cells, of_file, of_index, of_log, of_table, of_tags, of_volume}
 use Rattle.domain_layout.specs.PageRules.{IsExtentFault}
@@ -29,6 +29,7 @@ use Rattle.domain_layout.specs.TagRules.{HasTags, IsTagsFault, IsTagsPage}
 use Rattle.layout_laws.proofs.OnePage.{HasOne, one_of, some_same}
 use Rattle.layout_laws.proofs.OneTable.{within_page}
 use Rattle.layout_laws.proofs.Reached.{is_read, read_after, reached_once}
+use Rattle.log_ring.specs.Homes.{IsMember}
 
 -- ---- lists
 

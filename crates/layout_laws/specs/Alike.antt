@@ -3,9 +3,9 @@ use Rattle.std.specs.Prelude.{◌≡◌, ℕ, List}
 use Rattle.domain_base.specs.declared.place.Home.{Home}
 use Rattle.page_store.specs.Pages.{Pages}
 use Rattle.fileset_table.specs.Table.{Table}
-use Rattle.domain_layout.specs.Layout.{IsMember}
 use Rattle.domain_layout.specs.Reached.{Frame, Reaches, Way, cells_way, tags_way}
 use Rattle.domain_layout.specs.TagRules.{HasTags}
+use Rattle.log_ring.specs.Homes.{IsMember}
 
 -- the same stands at each page of a kind that is come to
 abbrev pub AgreeOnWay : Pages → Pages → Frame → Way → Type 0

@@ -7,13 +7,12 @@ use Rattle.page_store.specs.Pages.{Pages}
 use Rattle.storage_bitmap.specs.Bits.{is_set}
 use Rattle.disk_label.specs.FirstPages.{first_pages}
 use Rattle.disk_label.specs.declared.first_pages.FirstPages.{FirstPages}
-use Rattle.log_ring.specs.Homes.{member_of}
+use Rattle.log_ring.specs.Homes.{IsMember, member_of}
 use Rattle.bmt_mcells.specs.Cell.{Cell, IsCell, IsFreeCell}
 use Rattle.bmt_mcells.specs.CellPage.{IsCellPage, cell_of, index_of, next_of}
 use Rattle.fileset_table.specs.Page.{IsTablePage}
 use Rattle.fileset_table.specs.Table.{IsNewTable, Table}
 use Rattle.domain_layout.specs.CellRules.{SaysVolume}
-use Rattle.domain_layout.specs.Layout.{IsMember}
 use Rattle.domain_layout.specs.Reached.{Frame}
 
 -- the pages of volume 1, and which of them are for what

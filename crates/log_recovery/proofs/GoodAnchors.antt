@@ -122,10 +122,10 @@ module _ (anchor : Anchor) (number slot start group : ℕ) (some : 1 ≤ number)
   next = restarted anchor number slot start group
 
   member-back : (vol : ℕ) → IsMember next vol → IsMember anchor vol
-  member-back vol is = record { first = is.first; last = is.last; some = is.some; known = is.known }
+  member-back vol is = record { first = is.first; last = is.last; there = is.there; whole = is.whole }
 
   member-on : (vol : ℕ) → IsMember anchor vol → IsMember next vol
-  member-on vol is = record { first = is.first; last = is.last; some = is.some; known = is.known }
+  member-on vol is = record { first = is.first; last = is.last; there = is.there; whole = is.whole }
 
   pub restarted_would : WouldBeGood sizes image anchor → WouldBeGood sizes image next
   restarted_would was =

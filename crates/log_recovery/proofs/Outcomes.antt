@@ -28,7 +28,7 @@ member_or_not anchor vol = elim (cases_lt 8 vol) [
     | inl zero ↦ inr (λ member. omega (arith, zero, member.first))
     | inr some ↦ elim (cases_lt (member_of anchor vol).state 1) [
       | inl none ↦ inr (λ member. omega (arith, none, member.some))
-      | inr used ↦ elim (cases_lt 2 (member_of anchor vol).state) [ inl more ↦ inr (λ member. omega (arith, more, member.known)) | inr known ↦ inl (record { first = some; last = near; some = used; known = known }) ]
+      | inr used ↦ elim (cases_lt 2 (member_of anchor vol).state) [ inl more ↦ inr (λ member. omega (arith, more, member.whole)) | inr known ↦ inl (record { first = some; last = near; there = used; whole = known }) ]
     ]
   ]
 ]

@@ -17,8 +17,8 @@ member_of anchor vol = slice_index_or anchor.members (vol - 1) no_member
 pub record IsMember (anchor : Anchor) (vol : ℕ) : Type 0 where
   pub first : 1 ≤ vol
   pub last : vol ≤ max_volumes
-  pub some : 1 ≤ (member_of anchor vol).state
-  pub known : (member_of anchor vol).state ≤ 2
+  pub there : 1 ≤ (member_of anchor vol).state
+  pub whole : (member_of anchor vol).state ≤ 2
 
 -- the page is one of the log
 abbrev pub IsLogPage : Anchor → Home → Type 0

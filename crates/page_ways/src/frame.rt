@@ -1,14 +1,13 @@
 //! The anchor that counts, and which pages may be what.
 ghost use Rattle.std.specs.Prelude.{◌≡◌, ◌↔◌, ◌≤◌, IsTrue};
-ghost use Rattle.domain_layout.specs.Layout.{IsMember};
 ghost use Rattle.domain_layout.specs.Reached.{IsReserved, IsWithin, MayBe, first_cells};
-ghost use Rattle.log_ring.specs.Homes.{IsLogPage, member_of as member_there};
+ghost use Rattle.log_ring.specs.Homes.{IsLogPage, IsMember, member_of as member_there};
 ghost use Rattle.page_ways.specs.Frame.{frame_in};
 
 use disk_label::{Anchor, FirstPages, Member};
-use domain_base::limits::{LOG_PAGES, MAX_VOLUMES};
+use domain_base::limits::LOG_PAGES;
 use domain_base::{Home, Version, VolIx};
-use log_ring::member_of;
+use log_ring::{is_member, member_of};
 
 /// The anchor that counts, and the version that it says.
 #[derive(Clone, Copy, Debug, PartialEq, Eq)]
@@ -29,9 +28,7 @@ impl DomainFrame {
     pub fn is_member(&self, vol: VolIx) -> bool
         ensures { IsTrue result ↔ IsMember self.now.anchor vol }
     {
-        let member = self.member(vol);
-        prove!(1 <= vol.number() && vol.number() <= MAX_VOLUMES);
-        1 <= member.state && member.state <= 2
+        is_member(&self.anchor, vol)
     }
 
     /// The first page of cells of a volume: in front of it stand label, anchors and bitmap.

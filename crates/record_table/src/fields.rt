@@ -1,10 +1,19 @@
 //! Numbers and rows of numbers at a place of a record's bytes.
 
-ghost use Rattle.std.specs.Prelude.{◌≡◌, ◌+◌, ◌*◌, ◌≤◌, length};
+ghost use Rattle.std.specs.Prelude.{◌≡◌, ◌==◌, ◌+◌, ◌*◌, ◌≤◌, length};
+ghost use Rattle.std.specs.List.{list_all};
 ghost use Rattle.record_table.specs.Fields.{number_at, extent_at as extent_there, dense_at as dense_there, hole_at as hole_there, extents, dense_extents, holes, volumes, leftover_of};
 
 use crate::record::{ExtentField, HoleField, Leftover};
 use byteorder::{ByteOrder, LittleEndian};
+
+/// Whether all the bytes are zero.
+#[tactic(auto)]
+pub fn are_zeros(bytes: &[u8]) -> bool
+    ensures { result ≡ list_all (λ byte. byte == 0) bytes.now }
+{
+    bytes.iter().all(|byte| *byte == 0)
+}
 
 /// The byte at a place.
 #[tactic(auto, unfolding(crate::specs::Fields::number_at))]

@@ -20,14 +20,14 @@ mod table;
 mod writing;
 
 use domain_base::Version;
-pub use fields::{u8_at, u16_at, u32_at, u64_at};
+pub use fields::{are_zeros, u8_at, u16_at, u32_at, u64_at};
 pub use layout::Layout;
 pub use record::{Bad, ExtentField, HoleField, Leftover, Record};
 use table::{end_of, put_record, record_at};
 pub use writing::put;
 
 /// The greatest kind that is a record in a version: dense extents are none in version 3.
-fn last_kind_of(version: Version) -> u8
+pub fn last_kind_of(version: Version) -> u8
     ensures { result ≡ last_kind version }
 {
     match version {
