@@ -10,6 +10,7 @@ mod names;
 mod node;
 mod page_map;
 mod reply;
+mod told;
 
 pub use command::{Actor, Command, CommandList, Owner, Place};
 pub use entry::Entry;
@@ -23,3 +24,4 @@ pub use reply::{
     ExtentItem, ExtentList, FilesetItem, FilesetList, NameItem, NameList, Refusal, Reply,
     VolumeItem, VolumeList,
 };
+pub use told::Told;
