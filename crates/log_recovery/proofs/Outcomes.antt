@@ -27,7 +27,7 @@ member_or_not anchor vol = elim (cases_lt 8 vol) [
   | inr near ↦ elim (cases_lt vol 1) [
     | inl zero ↦ inr (λ member. omega (arith, zero, member.first))
     | inr some ↦ elim (cases_lt (member_of anchor vol).state 1) [
-      | inl none ↦ inr (λ member. omega (arith, none, member.some))
+      | inl none ↦ inr (λ member. omega (arith, none, member.there))
       | inr used ↦ elim (cases_lt 2 (member_of anchor vol).state) [ inl more ↦ inr (λ member. omega (arith, more, member.whole)) | inr known ↦ inl (record { first = some; last = near; there = used; whole = known }) ]
     ]
   ]
@@ -49,7 +49,7 @@ module _ (anchor : Anchor) (one other : ℕ → Version) (same : (vol : ℕ) →
       sized vol (inr none) is = record { state = is.state; least = is.least; most = λ member. absurd (none member) }
 
       log_member : IsMember anchor anchor.log_vol
-      log_member = record { first = was.whole.volume.0; last = was.whole.volume.1; some = was.whole.member.0; known = was.whole.member.1 }
+      log_member = record { first = was.whole.volume.0; last = was.whole.volume.1; there = was.whole.member.0; whole = was.whole.member.1 }
 
 -- an anchor with these labels is out of range
 pub out_of_range : (sizes : List ℕ) (image : Image) (anchor : Anchor) (versions : List Version) → AreLabelledBelow 9 sizes image anchor → AreVersionsBelow 9 image anchor versions → ¬ IsInRange (version_in versions) anchor → IsAnchor sizes image (Some anchor)
