@@ -8,7 +8,7 @@ use Rattle.domain_base.specs.declared.version.Version.{Version}
 use Rattle.page_store.specs.Pages.{Pages}
 use Rattle.disk_label.specs.FirstPages.{first_pages}
 use Rattle.disk_label.specs.declared.anchor.Anchor.{Anchor}
-use Rattle.log_ring.specs.Homes.{member_of}
+use Rattle.log_ring.specs.Homes.{IsMember, member_of}
 use Rattle.bmt_mcells.specs.CellPage.{IsCellPage, index_of, next_of}
 use Rattle.tag_dirs.specs.Directory.{IsDirectoryAt}
 use Rattle.tag_dirs.specs.declared.dir.TagPlace.{TagPlace}
