@@ -172,8 +172,8 @@ sized versions version vol low high =
     let e : (member_of (anchor_of version) vol).state ≡ 0 = ap (λ m. m.state) none in
     record {
       state = omega (arith, e);
-      least = λ member. absurd (omega (arith, e, member.some));
-      most = λ member. absurd (omega (arith, e, member.some));
+      least = λ member. absurd (omega (arith, e, member.there));
+      most = λ member. absurd (omega (arith, e, member.there));
     })
     (only_state vol version low (omega (arith, high)))
 
@@ -192,7 +192,7 @@ in_range versions version = record {
     within = omega arith;
     behind = let e = one_bitmap (versions 1) in omega (arith, e);
   };
-  table = (record { first = omega arith; last = omega arith; some = omega arith; known = omega arith }, omega arith);
+  table = (record { first = omega arith; last = omega arith; there = omega arith; whole = omega arith }, omega arith);
 }
 
 -- ---- no fault of the first codes
@@ -211,7 +211,7 @@ module _ (version : Version) (pages : ℕ → List ℕ) (zeroth : pages 0 ≡ la
 
   no_unlabelled : (vol at : ℕ) → ¬ IsFirstUnlabelled sizes (image_with pages) (anchor_of version) vol at
   no_unlabelled vol at wrong =
-      let same = only_member vol version wrong.member.first wrong.member.last wrong.member.some in
+      let same = only_member vol version wrong.member.first wrong.member.last wrong.member.there in
       wrong.wrong (subst (IsLabelled sizes (image_with pages) (anchor_of version)) (sym same) has_label)
 
   no_anchor_fault : ¬ IsAnchor sizes (image_with pages) None
