@@ -1,0 +1,4 @@
+pub mod Chains
+pub mod Links
+pub mod Members
+pub mod Order

@@ -1,0 +1,80 @@
+//! Cells in use and what each of them leads to, in the order of cells.
+ghost use Rattle.std.specs.Prelude.{◌≡◌, ◌+◌, ◌*◌, ◌^◌, ◌<◌};
+ghost use Rattle.bmt_mcells.specs.Chain.{key_of as key_there};
+ghost use Rattle.numbered_values.specs.Rising.{IsRising};
+ghost use Rattle.cell_links.specs.Order.{AreNumbered};
+
+use bmt_mcells::CellKind;
+use domain_base::{CellAt, OutOfMemory};
+use numbered_values::{find, put};
+use std::alloc::Global;
+
+/// What is read of a cell in use whatever else stands in it: its kind, and the cell that it leads
+/// to.
+#[derive(Clone, Copy, Debug, PartialEq, Eq)]
+pub struct CellLink {
+    pub kind: CellKind,
+    pub next: Option<CellAt>,
+}
+
+/// A number for each cell, greater for a later one.
+pub(crate) fn key_of(at: &CellAt) -> u64
+    ensures value { result ≡ key_there at.now }
+    ensures widths { (at.now.page < 2 ^ 32) × (at.now.cell < 256) }
+{
+    let page = at.page;
+    let cell = at.cell;
+    ((u64::from(at.vol.number()) << 32) + u64::from(page)) * 256 + u64::from(cell)
+}
+
+/// Cells in use, each with what is read of it, in the order of cells.
+#[derive(Drop)]
+pub struct CellLinks {
+    cells: Vec<(u64, (CellAt, CellLink))>,
+    ghost rising: { IsRising cells.items },
+    ghost numbered: { AreNumbered cells.items },
+}
+
+impl CellLinks {
+    ghost use Rattle.std.specs.Prelude.{◌↔◌, ◌⊎◌, IfNone, IfSome, IsTrue, OnErr, OnOk};
+    ghost use Rattle.domain_base.specs.declared.place.CellAt.{CellAt};
+    ghost use Rattle.cell_links.specs.declared.links.CellLink.{CellLink};
+    ghost use Rattle.cell_links.specs.Links.{HasLink, IsInUse, cells_of};
+
+    /// No cell is in use.
+    pub fn new(alloc: Global) -> CellLinks
+        ensures { (at : CellAt) (link : CellLink) → ¬ HasLink result at link }
+    {
+        CellLinks {
+            cells: Vec::new(alloc),
+        }
+    }
+
+    /// What is read of a cell. None exactly where it is not in use.
+    pub fn get(&self, at: &CellAt) -> Option<CellLink>
+        ensures some { IfSome result (HasLink self.now at.now) }
+        ensures none { IfNone result ((link : CellLink) → ¬ HasLink self.now at.now link) }
+    {
+        match find(&self.cells, key_of(at)) {
+            Some((_, link)) => Some(*link),
+            None => None,
+        }
+    }
+
+    /// Whether a cell is in use.
+    pub fn has(&self, at: &CellAt) -> bool
+        ensures { IsTrue result ↔ IsInUse self.now at.now }
+    {
+        self.get(at).is_some()
+    }
+
+    /// Says what is read of a cell. After an error all is as before.
+    pub fn insert(&mut self, at: &CellAt, link: &CellLink) -> Result<(), OutOfMemory>
+        ensures ok { OnOk result ((one : CellAt) (read : CellLink) → HasLink self.new one read
+            ↔ (((one ≡ at.now) × (read ≡ link.now))
+            ⊎ ((¬ one ≡ at.now) × HasLink self.old one read))) }
+        ensures err { OnErr result (cells_of self.new ≡ cells_of self.old) }
+    {
+        put(&mut self.cells, key_of(at), (*at, *link))
+    }
+}

@@ -1,0 +1,95 @@
+//! Chains of cells, walked from their first cell to their last.
+ghost use Rattle.std.specs.Prelude.{◌≡◌, ◌⊎◌, ◌↔◌, ◌++◌, ◌∷◌, [], IfNone, IfOk, IfSome, OnOk, Some, true, Contains};
+ghost use Rattle.domain_base.specs.declared.place.CellAt.{CellAt};
+ghost use Rattle.bmt_mcells.specs.Chain.{may_follow as follows};
+ghost use Rattle.cell_links.specs.Chains.{IsOnChain, ListsChain};
+ghost use Rattle.cell_links.specs.Links.{HasLink};
+ghost use Rattle.cell_links.specs.Members.{IsIn};
+ghost use Rattle.cell_links.specs.declared.links.CellLink.{CellLink};
+
+use crate::links::{CellLink, CellLinks};
+use crate::set::CellSet;
+use bmt_mcells::CellKind;
+use domain_base::{CellAt, OutOfMemory};
+use std::alloc::Global;
+
+/// Whether a cell of the second kind may be next to one of the first.
+fn may_follow(first: CellKind, next: CellKind) -> bool
+    ensures { result ≡ follows first next }
+{
+    match first {
+        CellKind::Primary | CellKind::Chain => matches!(next, CellKind::Chain),
+        CellKind::Quota => matches!(next, CellKind::Quota),
+        CellKind::Volume => false,
+    }
+}
+
+/// A cell that was come to, and what is read of it.
+#[derive(Clone, Copy)]
+struct Come {
+    at: CellAt,
+    link: CellLink,
+}
+
+/// The cell to which a chain goes on behind those that were seen: none of these, and one in use
+/// that may follow.
+fn next_of(links: &CellLinks, seen: &CellSet, link: &CellLink) -> Option<Come>
+    ensures some { IfSome result (λ come. (link.now.next ≡ Some come.at)
+        × (¬ IsIn seen.now come.at) × HasLink links.now come.at come.link
+        × (follows link.now.kind come.link.kind ≡ true)) }
+    ensures none { IfNone result ((onto : CellAt) (next : CellLink) → link.now.next ≡ Some onto
+        → ¬ IsIn seen.now onto → HasLink links.now onto next
+        → ¬ follows link.now.kind next.kind ≡ true) }
+{
+    let at = link.next?;
+    if seen.has(&at) {
+        return None;
+    }
+    let next = links.get(&at)?;
+    if may_follow(link.kind, next.kind) {
+        Some(Come { at, link: next })
+    } else {
+        None
+    }
+}
+
+/// The cells of a chain from a cell on, as far as it goes: up to one that leads to none, back, or to
+/// none in use that may follow. No cell where the first one is not in use.
+pub fn chain_of(
+    alloc: Global,
+    links: &CellLinks,
+    start: &CellAt,
+) -> Result<Vec<CellAt>, OutOfMemory>
+    ensures { IfOk result (λ cells. ListsChain links.now start.now cells.items) }
+{
+    let mut cells = Vec::new(alloc);
+    let mut seen = CellSet::new(alloc);
+    let Some(link) = links.get(start) else {
+        return Ok(cells);
+    };
+    let mut come = Come { at: *start, link };
+    for _ in 0..u64::MAX {
+        seen.insert(&come.at)?;
+        cells.push(come.at)?;
+        match next_of(links, &seen, &come.link) {
+            Some(next) => come = next,
+            None => return Ok(cells),
+        }
+    }
+    Err(OutOfMemory)
+}
+
+/// Puts the cells of the chain from a cell on into a set.
+pub fn mark_chain(
+    alloc: Global,
+    links: &CellLinks,
+    start: &CellAt,
+    marked: &mut CellSet,
+) -> Result<(), OutOfMemory>
+    ensures { OnOk result ((at : CellAt) → IsIn marked.new at
+        ↔ (IsIn marked.old at ⊎ IsOnChain links.now start.now at)) }
+{
+    let cells = chain_of(alloc, links, start)?;
+    marked.insert_all(&cells)?;
+    Ok(())
+}

@@ -1,0 +1,67 @@
+//! A set of homes.
+ghost use Rattle.std.specs.Prelude.{◌≡◌};
+ghost use Rattle.numbered_values.specs.Rising.{IsRising};
+ghost use Rattle.home_sets.specs.Order.{AreNumbered};
+
+use domain_base::{Home, OutOfMemory};
+use numbered_values::{find, home_number, put};
+use std::alloc::Global;
+
+/// Homes of pages, each once, in the order of their volumes and pages.
+#[derive(Drop)]
+pub struct HomeSet {
+    homes: Vec<(u64, Home)>,
+    ghost rising: { IsRising homes.items },
+    ghost numbered: { AreNumbered homes.items },
+}
+
+impl HomeSet {
+    ghost use Rattle.std.specs.Prelude.{◌↔◌, ◌⊎◌, Contains, IsTrue, OnErr, OnOk};
+    ghost use Rattle.domain_base.specs.declared.place.Home.{Home};
+    ghost use Rattle.home_sets.specs.Members.{IsIn, entries};
+
+    /// The set of no home.
+    pub fn new(alloc: Global) -> HomeSet
+        ensures { (home : Home) → ¬ IsIn result home }
+    {
+        HomeSet {
+            homes: Vec::new(alloc),
+        }
+    }
+
+    /// Whether a home is in the set.
+    pub fn has(&self, home: &Home) -> bool
+        ensures { IsTrue result ↔ IsIn self.now home.now }
+    {
+        find(&self.homes, home_number(home)).is_some()
+    }
+
+    /// Puts a home into the set. After an error the set is as before.
+    pub fn insert(&mut self, home: &Home) -> Result<(), OutOfMemory>
+        ensures ok { OnOk result ((other : Home) → IsIn self.new other
+            ↔ (IsIn self.old other ⊎ (other ≡ home.now))) }
+        ensures err { OnErr result (entries self.new ≡ entries self.old) }
+    {
+        put(&mut self.homes, home_number(home), *home)
+    }
+
+    /// Puts homes into the set. After an error some of them are in it.
+    pub fn insert_all(&mut self, homes: &[Home]) -> Result<(), OutOfMemory>
+        ensures { OnOk result ((other : Home) → IsIn self.new other
+            ↔ (IsIn self.old other ⊎ Contains homes.now other)) }
+    {
+        for home in homes {
+            self.insert(home)?;
+        }
+        Ok(())
+    }
+
+    /// Its homes in their order, each with its number.
+    pub fn as_slice(&self) -> &[(u64, Home)]
+        ensures value { result.now ≡ entries self.now }
+        ensures rising { IsRising result.now }
+        ensures numbered { AreNumbered result.now }
+    {
+        &self.homes
+    }
+}
