@@ -31,7 +31,7 @@ good_one pages version page home number are good cell below =
     (λ high. let same : number ≡ cell = omega (arith, below, high) in subst (λ k. ¬ HasNoCell pages version page (on home k)) same good) (cases_lt cell number)
 
 module _ (pages : Pages) (frame : Frame) (home : Home) (place : ℕ) (page : List ℕ) (is : IsCellsPage pages frame place home page) where
-  cell_said : (cell : ℕ) → cell < 28 → cell_at pages (on home cell) ≡ Some (cell_of page cell)
+  pub cell_said : (cell : ℕ) → cell < 28 → cell_at pages (on home cell) ≡ Some (cell_of page cell)
   cell_said cell within =
       let last : nat_lt cell 28 ≡ true = grind (arith, nat_tests) in
       ap (option_and_then (λ p. if is_cell_page p && nat_lt cell 28 then Some (cell_of p cell) else None)) is.read.there

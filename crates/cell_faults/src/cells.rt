@@ -1,6 +1,7 @@
 //! Whether a cell is free or in use.
-ghost use Rattle.std.specs.Prelude.{◌≡◌, ◌↔◌, ◌<◌, ◌≤◌, IfOk, IsTrue};
+ghost use Rattle.std.specs.Prelude.{◌≡◌, ◌↔◌, ◌<◌, ◌≤◌, IfOk, IsTrue, length};
 ghost use Rattle.std.specs.List.{AllByRecursion};
+ghost use Rattle.record_table.specs.Fields.{number_at};
 ghost use Rattle.record_table.specs.Records.{kind_of, last_kind};
 ghost use Rattle.bmt_mcells.specs.Cell.{IsFreeCell};
 ghost use Rattle.bmt_mcells.specs.CellPage.{cell_of};
@@ -13,16 +14,33 @@ use bmt_mcells::{RecordList, read_used};
 use domain_base::{CellAt, Home, OutOfMemory, Page, Version};
 use page_store::MetaPages;
 use page_ways::DomainFrame;
-use record_table::{are_zeros, last_kind_of};
+use record_table::{are_zeros, last_kind_of, u8_at};
 use std::alloc::Global;
+
+/// The bytes of a cell of a page.
+fn bytes_of(page: &Page, cell: u8) -> &[u8]
+    requires { cell < 28 }
+    ensures value { result.now ≡ cell_of page.now cell }
+    ensures len { length result.now ≡ 292 }
+{
+    let start = 16 + 292 * usize::from(cell);
+    &page.bytes()[start..start + 292]
+}
 
 /// Whether a cell of a page is zeros.
 fn is_free(page: &Page, cell: u8) -> bool
     requires { cell < 28 }
     ensures { IsTrue result ↔ IsFreeCell (cell_of page.now cell) }
 {
-    let start = 16 + 292 * usize::from(cell);
-    are_zeros(&page.bytes()[start..start + 292])
+    are_zeros(bytes_of(page, cell))
+}
+
+/// The number of a cell's kind.
+pub(crate) fn kind_number(page: &Page, cell: u8) -> u8
+    requires { cell < 28 }
+    ensures { result ≡ number_at 1 15 (cell_of page.now cell) }
+{
+    u8_at(bytes_of(page, cell), 15)
 }
 
 /// Whether a version has all the kinds of the records: dense extents are none in version 3.

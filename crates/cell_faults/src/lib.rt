@@ -3,8 +3,14 @@
 
 mod cells;
 mod headers;
+mod local;
+mod places;
+mod records;
+mod rules;
 mod tables;
 
 pub use cells::has_wrong_cell;
 pub use headers::has_wrong_header;
+pub use local::local_faults;
+pub use places::has_wrong_place;
 pub use tables::{CellTables, CellsPage, read_tables};

@@ -1,53 +1,11 @@
-//! Pages of one kind on a volume of 512 pages: its cells begin at page 3, and pages 4 to 131 are the
-//! log's.
-use bmt_mcells::empty_page;
+//! Pages of one kind on the volume.
+use crate::fixture::{cells_page, frame, home, put};
 use cell_faults::{CellTables, CellsPage, has_wrong_header, read_tables};
-use disk_label::{Anchor, Member};
-use domain_base::{Home, OutOfMemory, Page, Version, VolIx};
+use domain_base::{OutOfMemory, Page, VolIx};
 use memory_store::MemoryPages;
-use page_store::MetaPages;
-use page_ways::{CellsWay, DomainFrame, IndexWay, PageWay, ReadPages, TagsWay, read_pages};
+use page_ways::{CellsWay, IndexWay, PageWay, ReadPages, TagsWay, read_pages};
 use std::alloc::Global;
 use std::test::Fail;
-
-/// A page of volume 1.
-fn home(page: u32) -> Home {
-    Home {
-        vol: VolIx::new(1).unwrap(),
-        page,
-    }
-}
-
-/// The anchor of a domain of version 4 on that volume.
-fn frame() -> DomainFrame {
-    let none = Member { pages: 0, state: 0 };
-    let open = Member {
-        pages: 512,
-        state: 1,
-    };
-    DomainFrame {
-        anchor: Anchor {
-            number: 1,
-            version: 4,
-            log_vol: 1,
-            log_page: 4,
-            log_pages: 128,
-            start: 0,
-            group: 1,
-            table: Some(home(132)),
-            members: [open, none, none, none, none, none, none, none],
-            slot: 0,
-        },
-        version: Version::Four,
-    }
-}
-
-/// A page of free cells with an index and a next page.
-fn cells_page(alloc: Global, index: u32, next: u32) -> Result<Page, OutOfMemory> {
-    let mut page = empty_page(alloc, index)?;
-    page.set(8, &next.to_le_bytes());
-    Ok(page)
-}
 
 /// A page that begins with four bytes and leads to a page of volume 1, or to none for page 0.
 fn led_page(alloc: Global, magic: &[u8; 4], next: u32) -> Result<Page, OutOfMemory> {
@@ -58,13 +16,6 @@ fn led_page(alloc: Global, magic: &[u8; 4], next: u32) -> Result<Page, OutOfMemo
         page.set(12, &next.to_le_bytes());
     }
     Ok(page)
-}
-
-/// Puts a page at a page of volume 1.
-fn put(alloc: Global, pages: &mut MemoryPages, number: u32, page: Page) -> Result<(), OutOfMemory> {
-    pages.reserve(alloc, 1)?;
-    pages.put(home(number), page);
-    Ok(())
 }
 
 /// Pages of free cells: where each stands, its index, and its next page.
