@@ -17,8 +17,8 @@ use page_ways::DomainFrame;
 use record_table::{are_zeros, last_kind_of, u8_at};
 use std::alloc::Global;
 
-/// The bytes of a cell of a page.
-fn bytes_of(page: &Page, cell: u8) -> &[u8]
+/// The 292 bytes of a cell of a page.
+pub fn bytes_of(page: &Page, cell: u8) -> &[u8]
     requires { cell < 28 }
     ensures value { result.now ≡ cell_of page.now cell }
     ensures len { length result.now ≡ 292 }

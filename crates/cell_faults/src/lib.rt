@@ -9,7 +9,7 @@ mod records;
 mod rules;
 mod tables;
 
-pub use cells::has_wrong_cell;
+pub use cells::{bytes_of, has_wrong_cell};
 pub use headers::has_wrong_header;
 pub use local::local_faults;
 pub use places::has_wrong_place;

@@ -1,0 +1,6 @@
+//! Which rules of chains of cells are broken.
+#![tactic(auto)]
+
+mod reading;
+
+pub use reading::read_links;
