@@ -1,5 +1,5 @@
--- Where no rule is broken, the chain from the first cell of a file is whole.
-use Rattle.std.proofs.Common.{◌≡◌, ◌∙◌, inl, inr, ℕ, true, false, List, [], ◌∷◌, ◌++◌, Some, Contains, IsSomeAnd, refl, sym, ap, subst, arith, ⊎_elim}
+-- Where no rule is broken, the chain from the first cell of a file, or of quotas, is whole.
+use Rattle.std.proofs.Common.{◌≡◌, ◌∙◌, ◌⊎◌, inl, inr, ℕ, true, false, List, [], ◌∷◌, ◌++◌, Some, Contains, IsSomeAnd, refl, sym, ap, subst, arith, ⊎_elim}
 use Rattle.std.proofs.lemmas.Bool.{cases_Bool}
 use Rattle.domain_base.specs.declared.place.CellAt.{CellAt}
 use Rattle.domain_base.specs.declared.place.Tag.{Tag}
@@ -13,7 +13,7 @@ use Rattle.bmt_mcells.specs.declared.head.CellKind.TheVariants as kinds
 use Rattle.bmt_mcells.proofs.CellKinds.{used_not_zeros}
 use Rattle.bmt_mcells.proofs.Walk.{one_kind}
 use Rattle.domain_layout.specs.CellRules as rule
-use Rattle.domain_layout.specs.CellRules.{Follows, IsCellOf, IsChainHead, IsLink, IsPlace, Link}
+use Rattle.domain_layout.specs.CellRules.{Follows, IsCellOf, IsChainHead, IsLink, IsPlace, LeadsTo, Link}
 use Rattle.domain_layout.specs.Faults.{HasNoFault}
 use Rattle.domain_layout.specs.Layout.{IsLayout, Layout}
 use Rattle.domain_layout.specs.Owners.{frame_of}
@@ -54,7 +54,8 @@ module _ (pages : Pages) (layout : Layout) (laid : IsLayout pages layout) (none 
           (subst (λ o. IsSomeAnd o (λ bytes. ¬ number_at 1 15 bytes ≡ 0)) (sym is.there) (λ zero_there. kind_some link.kind (sym is.kind ∙ zero_there)))
           (there ∙ ap Some free)
 
-  module _ (number : ℕ) (tag : Tag) (start : CellAt) (named : ¬ ¬ IsFirstOf pages (frame_of layout) number tag start) where
+  -- a chain begins there, of a file or of quotas
+  module _ (start : CellAt) (begun : ¬ ¬ ((link : Link) × IsChainHead pages (frame_of layout) start link)) where
     -- a chain that begins there, and a cell behind these
     record Comes (passed : List CellAt) (at : CellAt) (cell : Cell) : Type 0 where
       first : Link
@@ -63,14 +64,19 @@ module _ (pages : Pages) (layout : Layout) (laid : IsLayout pages layout) (none 
 
     first_comes : (cell : Cell) → StandsAt pages start cell → ¬ ¬ Comes [] start cell
     first_comes cell stands away =
-        named (λ f.
-        let link = link_of pages layout laid none start cell f.place stands in
-        away (record { first = link_to cell; head = (link, inl (primary f)); follows = rule.begins (link_to cell) link }))
+        begun (λ b.
+        let link = link_of pages layout laid none start cell b.1.0.place stands in
+        let kind = kind_there b.0 b.1.0 in
+        away (record {
+          first = link_to cell;
+          head = (link, subst (λ k. (k ≡ kinds.Primary) ⊎ ((k ≡ kinds.Quota) × ((other : CellAt) → ¬ LeadsTo pages (frame_of layout) other start))) kind b.1.1);
+          follows = rule.begins (link_to cell) link;
+        }))
       where
-        primary : IsFirstOf pages (frame_of layout) number tag start → cell.head.kind ≡ kinds.Primary
-        primary f =
-            let bytes : stands.bytes ≡ f.bytes = some_same stands.bytes f.bytes (sym stands.there ∙ f.there) in
-            one_kind cell.head.kind kinds.Primary (sym stands.is.head.kind ∙ ap (number_at 1 15) bytes ∙ f.kind)
+        kind_there : (link : Link) → IsLink pages (frame_of layout) start link → link.kind ≡ cell.head.kind
+        kind_there link is =
+            let bytes : is.bytes ≡ stands.bytes = some_same is.bytes stands.bytes (sym is.there ∙ stands.there) in
+            one_kind link.kind cell.head.kind (sym is.kind ∙ ap (number_at 1 15) bytes ∙ stands.is.head.kind)
 
     next_comes : (passed : List CellAt) (at onto : CellAt) (cell next : Cell) → Comes passed at cell → cell.head.next ≡ Some onto → StandsAt pages onto next → ¬ ¬ Comes (passed ++ at ∷ []) onto next
     next_comes passed at onto cell next comes leads stands away =
@@ -125,10 +131,16 @@ module _ (pages : Pages) (layout : Layout) (laid : IsLayout pages layout) (none 
             let e : true ≡ false = sym may ∙ ap (may_follow last.cell.head.kind) kind ∙ wrong cell.head head in
             absurd (cc)
 
-    pub unbroken : (at : CellAt) → ¬ IsBroken pages start at
-    unbroken at broken = elim broken as (λ at broken. ⊥) [
-      | nothing missing ↦ named (λ f. stands_by start (record { kind = kinds.Primary; next = rule.next_in f.bytes }) (record { place = f.place; bytes = f.bytes; there = f.there; kind = f.kind; next = refl }) (λ found. missing found.0 found.1))
+    pub head_unbroken : (at : CellAt) → ¬ IsBroken pages start at
+    head_unbroken at broken = elim broken as (λ at broken. ⊥) [
+      | nothing missing ↦ begun (λ b. stands_by start b.0 b.1.0 (λ found. missing found.0 found.1))
       | astray passed last at path leads wrong ↦ goes_astray passed last at path leads wrong
       | bad_cell passed last at head path leads fresh has may missing ↦
           path_comes passed last path (λ comes. leads_right (places passed) last.at at last.cell comes leads (λ (link : Link) (is : IsLink pages (frame_of layout) at link). absurd (stands_by at link is (λ found. missing found.0 found.1))))
     ]
+
+  -- the chain of a file
+  pub unbroken : (number : ℕ) (tag : Tag) (start : CellAt) → ¬ ¬ IsFirstOf pages (frame_of layout) number tag start → (at : CellAt) → ¬ IsBroken pages start at
+  unbroken number tag start named =
+      head_unbroken start
+      (λ away. named (λ f. away (record { kind = kinds.Primary; next = rule.next_in f.bytes }, (record { place = f.place; bytes = f.bytes; there = f.there; kind = f.kind; next = refl }, inl refl))))

@@ -1,6 +1,7 @@
 -- A file or directory that was read.
-use Rattle.std.specs.Prelude.{◌≡◌, ℕ, List, Option, Some, None, IsSomeAnd, slice_get}
+use Rattle.std.specs.Prelude.{◌≡◌, ◌≤◌, ℕ, List, length, Option, Some, None, IsSomeAnd, slice_get}
 use Rattle.std.specs.Option.{option_and_then}
+use Rattle.domain_base.specs.Limits.{file_pages}
 use Rattle.domain_base.specs.declared.place.Home.{Home}
 use Rattle.extent_maps.specs.Runs.{Places, home_at}
 use Rattle.domain_layout.specs.Seen.{SeenFile}
@@ -13,6 +14,10 @@ home_in homes page = option_and_then (λ home. home) (slice_get homes page)
 -- the list has the home of each page
 abbrev pub ListsHomes : Places → List (Option Home) → Type 0
 ListsHomes places homes = (page : ℕ) → home_in homes page ≡ home_at (places page)
+
+-- no more homes than a file has pages
+abbrev pub HasFewHomes : SeenPages → Type 0
+HasFewHomes found = length found.homes.items ≤ file_pages
 
 -- it is that file, with the home of each of its pages
 pub record IsSeenAs (seen : SeenFile) (found : SeenPages) : Type 0 where

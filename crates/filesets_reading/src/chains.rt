@@ -15,7 +15,7 @@ use std::alloc::Global;
 use tag_dirs::{TagDir, TagPlace};
 
 /// Reads the chain that begins at a cell, so that it is known to be there.
-fn look_at_chain<M: MetaPages>(alloc: Global, pages: &M, at: CellAt) -> Result<(), OutOfMemory>
+pub fn look_at_chain<M: MetaPages>(alloc: Global, pages: &M, at: CellAt) -> Result<(), OutOfMemory>
     requires { (broken : CellOf) → ¬ IsBroken (M.pages pages.now) at broken }
     ensures { OnOk result (HasLinks (M.pages pages.now) at) }
 {

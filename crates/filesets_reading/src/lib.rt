@@ -10,8 +10,8 @@ mod tables;
 mod tags;
 
 pub use cells::read_cell_table;
-pub use chains::look_at_files;
+pub use chains::{look_at_chain, look_at_files};
 pub use domain::read_domain;
-pub use seen::{SeenPages, read_original};
+pub use seen::{SeenPages, end_of, read_original};
 pub use tables::{DomainTables, read_tables};
 pub use tags::read_tags;

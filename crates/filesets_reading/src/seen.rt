@@ -1,12 +1,13 @@
 //! A file or directory as an original has it.
-ghost use Rattle.std.specs.Prelude.{◌≡◌, ◌≤◌, ℕ, IfOk};
+ghost use Rattle.std.specs.Prelude.{◌≡◌, ◌≤◌, ℕ, IfOk, IfSome, length};
 ghost use Rattle.std.specs.Option.{option_and_then};
+ghost use Rattle.domain_base.specs.Limits.{file_pages};
 ghost use Rattle.extent_maps.specs.Runs.{AreRuns, place_of};
 ghost use Rattle.extent_maps.specs.declared.run.PagePlace.TheVariants.{Absent};
 ghost use Rattle.extent_records.specs.Writing.{places_before};
 ghost use Rattle.bitfile_core.specs.Files.{AreFiles, Chains, HasFiles};
 ghost use Rattle.domain_layout.specs.Seen.{seen_in};
-ghost use Rattle.filesets_reading.specs.Seen.{IsSeenThere, ListsHomes};
+ghost use Rattle.filesets_reading.specs.Seen.{HasFewHomes, IsSeenThere, ListsHomes};
 
 use bitfile_core::{Attributes, Bitfiles};
 use domain_base::{Home, OutOfMemory, Tag};
@@ -23,9 +24,10 @@ pub struct SeenPages {
 }
 
 /// The page behind all runs.
-fn end_of(runs: &[Run]) -> u32
+pub fn end_of(runs: &[Run]) -> u32
     requires { AreRuns runs.now }
-    ensures { (page : ℕ) → result ≤ page → place_of runs.now page ≡ Absent }
+    ensures behind { (page : ℕ) → result ≤ page → place_of runs.now page ≡ Absent }
+    ensures few { result ≤ file_pages }
 {
     match runs.last() {
         Some(run) => run.page + run.count,
@@ -35,7 +37,9 @@ fn end_of(runs: &[Run]) -> u32
 
 /// The homes of the pages in front of one.
 fn homes_before(alloc: Global, map: &ExtentMap, from: u32) -> Result<Vec<Option<Home>>, OutOfMemory>
-    ensures { IfOk result (λ homes. ListsHomes (places_before from (place_of map.now)) homes.items) }
+    ensures homes { IfOk result (λ homes. ListsHomes (places_before from (place_of map.now))
+        homes.items) }
+    ensures few { IfOk result (λ homes. length homes.items ≤ file_pages) }
 {
     let end = end_of(map.runs()).min(from);
     let mut homes = Vec::new(alloc);
@@ -54,9 +58,10 @@ pub fn read_original<M: MetaPages>(
     tag: Tag,
 ) -> Result<Option<SeenPages>, OutOfMemory>
     requires { HasFiles files.now.fileset files.now.tags (M.pages pages.now) }
-    ensures { (chains : Chains)
+    ensures seen { (chains : Chains)
         → AreFiles files.now.fileset files.now.tags (M.pages pages.now) chains
         → IfOk result (IsSeenThere (option_and_then seen_in (chains tag))) }
+    ensures few { IfOk result (λ found. IfSome found HasFewHomes) }
 {
     let Some(is) = files.attributes(pages, tag) else {
         return Ok(None);

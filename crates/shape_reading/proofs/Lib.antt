@@ -1,0 +1,4 @@
+pub mod Sources
+pub mod Own
+pub mod Quotas
+pub mod Said

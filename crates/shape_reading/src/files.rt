@@ -1,0 +1,10 @@
+//! The files of a fileset.
+use bitfile_core::Bitfiles;
+use tag_dirs::TagDir;
+
+/// The files of a fileset, and its tag directory, by which the first cell of each is found.
+#[derive(Drop)]
+pub struct FilesetFiles {
+    pub tags: TagDir,
+    pub files: Bitfiles,
+}

@@ -1,0 +1,90 @@
+//! The limits of a fileset's owners.
+ghost use Rattle.std.specs.Prelude.{◌≡◌, ℕ, IfOk, IfSome, OnErr, OnOk, Some};
+ghost use Rattle.std.specs.FinMap.{empty};
+ghost use Rattle.bmt_mcells.specs.Chain.{IsBroken};
+ghost use Rattle.domain_base.specs.declared.place.CellAt.{CellAt as CellOf};
+ghost use Rattle.domain_layout.specs.Shape.{AreQuotas};
+ghost use Rattle.quota_book.specs.QuotaCells.{TakesLimits, limits_said, said_by};
+ghost use Rattle.shape_reading.specs.Limits.{HasLimitsOf, HasSaid, IsInSlot, KeepsFiles, book_of};
+
+use bmt_mcells::{ChainFault, RecordList, read_chain};
+use domain_base::{CellAt, OutOfMemory};
+use fileset_model::{FilesetTree, Limits, Owner};
+use fileset_table::FilesetEntry;
+use page_store::MetaPages;
+use record_table::Record;
+use std::alloc::Global;
+
+/// The records of the quota cells of a fileset in a slot, none where it has no quota cell.
+pub fn read_quotas<M: MetaPages>(
+    alloc: Global,
+    pages: &M,
+    entry: &FilesetEntry,
+) -> Result<RecordList, OutOfMemory>
+    requires { IsInSlot (M.pages pages.now) entry.now }
+    ensures { IfOk result (AreQuotas (M.pages pages.now) entry.now.quota) }
+{
+    match &entry.quota {
+        Some(at) => match read_chain(alloc, pages, *at) {
+            Ok(records) => Ok(records),
+            Err(ChainFault::OutOfMemory) => Err(OutOfMemory),
+            Err(ChainFault::Broken { .. }) => unreachable!(),
+        },
+        None => Ok(RecordList::from_vec(Vec::new(alloc))),
+    }
+}
+
+/// Sets an owner's limits. After an error the tree is as before.
+fn take_limits(tree: &mut FilesetTree, who: Owner, files: u64, blocks: u64) -> Result<(), OutOfMemory>
+    ensures takes { OnOk result (TakesLimits (Some (who, record { files = files; blocks = blocks }))
+        (book_of tree.old) (book_of tree.new)) }
+    ensures kept { KeepsFiles tree.old tree.new }
+{
+    tree.limit(who, Limits { files, blocks })
+}
+
+/// Sets the limits that a record says, if it says any. After an error the tree is as before.
+fn take_said(tree: &mut FilesetTree, said: &Record) -> Result<(), OutOfMemory>
+    ensures takes { OnOk result (TakesLimits (limits_said said.now) (book_of tree.old)
+        (book_of tree.new)) }
+    ensures kept { KeepsFiles tree.old tree.new }
+{
+    match said {
+        Record::UserQuota { id, files, blocks } => {
+            take_limits(tree, Owner::User(*id), *files, *blocks)
+        }
+        Record::GroupQuota { id, files, blocks } => {
+            take_limits(tree, Owner::Group(*id), *files, *blocks)
+        }
+        _ => Ok(()),
+    }
+}
+
+/// Sets the limits that records say. Of an owner of whom two say some the first counts. After an
+/// error some are set.
+fn take_all(tree: &mut FilesetTree, records: &[Record]) -> Result<(), OutOfMemory>
+    requires { tree.old.limits ≡ empty }
+    ensures said { OnOk result (HasSaid (said_by records.now) tree.new) }
+    ensures kept { KeepsFiles tree.old tree.new }
+{
+    for i in (0..records.len()).rev() {
+        take_said(tree, &records[i])?;
+    }
+    Ok(())
+}
+
+/// Sets the limits of a fileset's owners, of whom none has limits yet: those of users and groups
+/// that the records of its quota cells say, and its own, which stand in its slot. After an error
+/// some are set.
+pub fn set_limits(
+    tree: &mut FilesetTree,
+    entry: &FilesetEntry,
+    records: &[Record],
+) -> Result<(), OutOfMemory>
+    requires { tree.old.limits ≡ empty }
+    ensures limits { OnOk result (HasLimitsOf entry.now records.now tree.new) }
+    ensures kept { KeepsFiles tree.old tree.new }
+{
+    take_all(tree, records)?;
+    take_limits(tree, Owner::Fileset, entry.files_limit, entry.blocks_limit)
+}
