@@ -1,4 +1,5 @@
-pub mod Sources
-pub mod Own
+pub mod Answered
+pub mod ReadHomes
+pub mod OwnFiles
 pub mod Quotas
 pub mod Said

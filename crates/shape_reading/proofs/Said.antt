@@ -1,5 +1,5 @@
 -- Limits that are set from the last record to the first.
-use Rattle.std.proofs.Common.{◌≡◌, ◌∙◌, ℕ, zero, suc, ◌+◌, ◌<◌, Bool, true, false, cond, List, [], ◌∷◌, Option, Some, None, drop, length, slice_get, refl, sym, ap, subst, arith}
+use Rattle.std.proofs.Common.{◌≡◌, ◌∙◌, ℕ, zero, suc, Bool, true, false, cond, List, [], ◌∷◌, Option, Some, None, drop, length, slice_get, refl, sym, ap, subst, arith}
 use Rattle.std.specs.Prelude.{unwrap_or}
 use Rattle.std.specs.List.{cons_option}
 use Rattle.std.specs.FinMap as map
@@ -7,12 +7,11 @@ use Rattle.std.specs.FinMap.Entries.{find}
 use Rattle.record_table.specs.declared.record.Record.{Record}
 use Rattle.fileset_model.specs.Fileset.{Fileset}
 use Rattle.fileset_model.specs.Orders.{owner_cmp}
-use Rattle.fileset_model.specs.Usage.{is_unlimited, limits_of}
+use Rattle.fileset_model.specs.Usage.{limits_of}
 use Rattle.fileset_model.specs.declared.command.Owner.{Owner}
 use Rattle.fileset_model.specs.declared.command.Owner.TheVariants as owner
 use Rattle.fileset_model.specs.declared.fileset.Limits.{Limits}
 use Rattle.fileset_table.specs.declared.slot.FilesetEntry.{FilesetEntry}
-use Rattle.quota_book.specs.Book.{HasBindingLimits}
 use Rattle.quota_book.specs.Owners.{same_owner}
 use Rattle.quota_book.specs.QuotaCells.{Said, TakesLimits, limits_after, limits_at, limits_said, said_by}
 use Rattle.domain_layout.specs.Shape.{limits_in}

@@ -22,7 +22,9 @@ fn is_in_sync(number: u64, value: &Record) -> bool
 {
     match value {
         Record::Attributes {
-            birth, unsynced, ..
+            birth,
+            unsynced,
+            ..
         } => *birth < number && *unsynced != number,
         _ => false,
     }

@@ -7,8 +7,8 @@ ghost use Rattle.filesets_reading.specs.Seen.{HasFewHomes, IsSeenAs};
 ghost use Rattle.page_filling.specs.Stored.{AreStored};
 
 use domain_base::{Kind, OutOfMemory};
-use filesets_reading::SeenPages;
 use fileset_model::Node;
+use filesets_reading::SeenPages;
 use page_filling::fill_pages;
 use page_store::MetaPages;
 use std::alloc::Global;

@@ -2,6 +2,7 @@
 ghost use Rattle.std.specs.Prelude.{◌≡◌, ℕ, IfOk, IfSome, OnErr, OnOk, Some};
 ghost use Rattle.std.specs.FinMap.{empty};
 ghost use Rattle.bmt_mcells.specs.Chain.{IsBroken};
+ghost use Rattle.bmt_mcells.specs.Reading.{ReadsChain};
 ghost use Rattle.domain_base.specs.declared.place.CellAt.{CellAt as CellOf};
 ghost use Rattle.domain_layout.specs.Shape.{AreQuotas};
 ghost use Rattle.quota_book.specs.QuotaCells.{TakesLimits, limits_said, said_by};
@@ -15,6 +16,22 @@ use page_store::MetaPages;
 use record_table::Record;
 use std::alloc::Global;
 
+/// The records of a chain that is whole.
+fn read_whole<M: MetaPages>(
+    alloc: Global,
+    pages: &M,
+    at: &CellAt,
+) -> Result<RecordList, OutOfMemory>
+    requires { (broken : CellOf) → ¬ IsBroken (M.pages pages.now) at.now broken }
+    ensures { IfOk result (ReadsChain (M.pages pages.now) at.now) }
+{
+    match read_chain(alloc, pages, *at) {
+        Ok(records) => Ok(records),
+        Err(ChainFault::OutOfMemory) => Err(OutOfMemory),
+        Err(ChainFault::Broken { .. }) => unreachable!(),
+    }
+}
+
 /// The records of the quota cells of a fileset in a slot, none where it has no quota cell.
 pub fn read_quotas<M: MetaPages>(
     alloc: Global,
@@ -25,17 +42,18 @@ pub fn read_quotas<M: MetaPages>(
     ensures { IfOk result (AreQuotas (M.pages pages.now) entry.now.quota) }
 {
     match &entry.quota {
-        Some(at) => match read_chain(alloc, pages, *at) {
-            Ok(records) => Ok(records),
-            Err(ChainFault::OutOfMemory) => Err(OutOfMemory),
-            Err(ChainFault::Broken { .. }) => unreachable!(),
-        },
+        Some(at) => read_whole(alloc, pages, at),
         None => Ok(RecordList::from_vec(Vec::new(alloc))),
     }
 }
 
 /// Sets an owner's limits. After an error the tree is as before.
-fn take_limits(tree: &mut FilesetTree, who: Owner, files: u64, blocks: u64) -> Result<(), OutOfMemory>
+fn take_limits(
+    tree: &mut FilesetTree,
+    who: Owner,
+    files: u64,
+    blocks: u64,
+) -> Result<(), OutOfMemory>
     ensures takes { OnOk result (TakesLimits (Some (who, record { files = files; blocks = blocks }))
         (book_of tree.old) (book_of tree.new)) }
     ensures kept { KeepsFiles tree.old tree.new }

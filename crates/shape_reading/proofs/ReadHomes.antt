@@ -1,5 +1,5 @@
 -- Cells through which a clone's file is read, and the homes of its pages.
-use Rattle.std.proofs.Common.{◌≡◌, ◌∙◌, ℕ, ◌<◌, ◌≤◌, Bool, true, false, cond, nat_lt, List, [], ◌∷◌, Option, Some, None, IfSome, IsSome, refl, sym, ap, subst, arith, ⊎_elim}
+use Rattle.std.proofs.Common.{◌≡◌, ◌∙◌, ℕ, ◌≤◌, Bool, true, false, cond, nat_lt, List, [], ◌∷◌, Option, Some, None, IfOk, IfSome, Result, refl, sym, ap, subst, arith, ⊎_elim}
 use Rattle.std.proofs.lemmas.Bool.{cases_lt}
 use Rattle.std.proofs.lemmas.Option.{slice_get_past}
 use Rattle.std.specs.Option.{option_and_then}
@@ -19,7 +19,14 @@ use Rattle.bitfile_core.proofs.Room.{allowed_found}
 use Rattle.chain_release.specs.Reading.{own_or, read_home}
 use Rattle.filesets_reading.specs.Seen.{home_in}
 use Rattle.filesets_reading.proofs.Originals.{ListsUpTo}
-use Rattle.shape_reading.specs.Clones.{HasVolume}
+use Rattle.extent_maps.specs.Runs.{SamePlaces}
+use Rattle.extent_maps.specs.declared.run.Run.{Run}
+use Rattle.extent_records.specs.Rows.{runs_of}
+use Rattle.bmt_mcells.specs.Chain.{records_of}
+use Rattle.domain_layout.specs.Seen.{IsSource}
+use Rattle.filesets_reading.specs.Chains.{HasLinks}
+use Rattle.shape_reading.specs.Clones.{HasVolume, MayBeSource}
+use Rattle.shape_reading.proofs.Answered.{if_ok}
 
 -- ---- a record of a clone's file
 
@@ -61,3 +68,13 @@ read_nowhere frozen own source page absent also =
     either : (b : Bool) → cond {A = Option Home} b None None ≡ None
     either true = refl
     either false = refl
+
+-- ---- the cell through which a file is read
+
+pub source_read : {E : Type 0} (pages : Pages) (source : Option CellAt) (at : CellAt) (r : Result (List Run) E) → source ≡ Some at → IfSome source (MayBeSource pages) → HasLinks pages at
+    → ((cells : List PlacedCell) → IsFile pages at cells → IfOk r (SamePlaces (runs_of (records_of cells)))) → IfOk r (λ map. IsSource pages source (place_of map))
+source_read pages source at r is may links read =
+    let source_is = subst (λ o. IfSome o (MayBeSource pages)) is may in
+    let file = source_is.file links in
+    subst (λ o. IfOk r (λ map. IsSource pages o (place_of map))) (sym is)
+    (if_ok r (SamePlaces (runs_of (records_of file.0))) (λ map. IsSource pages (Some at) (place_of map)) (λ map same. (file.0, file.1, same)) (read file.0 file.1))
