@@ -3,3 +3,4 @@ pub mod ReadHomes
 pub mod OwnFiles
 pub mod Quotas
 pub mod Said
+pub mod LedBy

@@ -5,6 +5,7 @@
 mod clones;
 mod files;
 mod filling;
+mod laws;
 mod limits;
 mod own;
 mod sources;
@@ -12,4 +13,5 @@ mod sources;
 pub use clones::read_of_clone;
 pub use files::FilesetFiles;
 pub use filling::read_node;
+pub use laws::rows_lead_as_names;
 pub use limits::{read_quotas, set_limits};
