@@ -1,0 +1,7 @@
+mod Changed
+mod Entries
+mod First
+mod Moves
+mod Places
+mod Standings
+mod Taken

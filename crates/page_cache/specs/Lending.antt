@@ -1,0 +1,12 @@
+-- What a cache is once the page that it showed is no longer looked at.
+use Rattle.std.specs.Prelude.{⊤}
+use Rattle.std.specs.Borrow.{Fml, MutBor, follows_so}
+use mathlib.Core.Option.{none}
+use Rattle.domain_base.specs.declared.place.Home.{Home}
+use Rattle.page_cache.specs.declared.cache.PageCache.{PageCache}
+use Rattle.page_cache.specs.contracts.cache.PageCache.{the_row}
+use Rattle.page_cache.specs.Cache.{IsUsed}
+
+-- it ends with the frame of the home used, and nothing else changed
+abbrev pub EndsUsed : MutBor PageCache → Home → Fml
+EndsUsed cache home = follows_so the_row the_row cache.ghost_name none (λ _ _. ⊤) (IsUsed home cache.now)
