@@ -1,5 +1,5 @@
 -- Changes of a cache one after the other.
-use Rattle.std.proofs.Common.{◌≡◌, ◌∙◌, ℕ, true, false, List, Option, Some, None, IsSome, if◌then◌else◌, refl, sym, ap, arith}
+use Rattle.std.proofs.Common.{◌≡◌, ◌∙◌, ℕ, true, false, List, Option, Some, None, IsNone, IsSome, if◌then◌else◌, refl, sym, ap, arith}
 use Rattle.std.specs.Option.{option_map}
 use mathlib.Core.Bool.{false≢true}
 use Rattle.domain_base.specs.Counts.{raised}
@@ -86,3 +86,7 @@ same_page home old new used =
       | None ↦ refl
       | Some f ↦ refl
     ])
+
+pub none_is : (frame : Option Frame) → IsNone frame → frame ≡ None
+none_is None none = refl
+none_is (Some f) none = absurd (false≢true (sym none))

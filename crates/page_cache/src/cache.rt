@@ -1,5 +1,5 @@
 //! The cache.
-ghost use Rattle.std.specs.Prelude.{◌≡◌, ◌≤◌, ◌<◌, ℕ, None, Some, IfOk, IsOk, IsSome, MatchOption, vec_capacity, vec_len};
+ghost use Rattle.std.specs.Prelude.{◌≡◌, ◌≤◌, ◌<◌, ℕ, None, Some, IfOk, IsNone, IsOk, IsSome, is_some, MatchOption, vec_capacity, vec_len};
 ghost use Rattle.std.specs.Borrow.{sem};
 ghost use Rattle.std.specs.Option.{option_copied, option_map};
 ghost use Rattle.domain_base.specs.Counts.{raised};
@@ -61,10 +61,17 @@ impl PageCache {
         self.page_at(&home)
     }
 
+    /// Whether a frame of a home is kept. That is no use of it.
+    pub fn is_kept(&self, home: Home) -> bool
+        ensures { result ≡ is_some (frames_of self.now home) }
+    {
+        self.page_at(&home).is_some()
+    }
+
     /// Keeps a page of a home of which no frame is kept, clean and used by that. Where 1,024 frames
     /// are kept, the least recently used clean one goes. The room is there, so it never fails.
     pub fn keep(&mut self, home: Home, page: Page) -> Result<(), (Page, OutOfMemory)>
-        requires new { frames_of self.old home ≡ None }
+        requires new { IsNone (frames_of self.old home) }
         requires clean { dirty_of self.old < 1024 }
         ensures ok { IsOk result }
         ensures replaces { kept_of self.old ≡ 1024 → Replaces home (record {

@@ -1,0 +1,10 @@
+//! Tests of pages that are kept in memory, by hand and beside a plain list.
+#![tactic(auto)]
+
+#[cfg(test)]
+mod calls;
+#[cfg(test)]
+mod pages;
+pub mod plain;
+#[cfg(test)]
+mod random;
