@@ -93,13 +93,15 @@ impl PlainCache {
         }
     }
 
-    /// Makes a home's frame clean.
+    /// Makes a home's frame clean, which is a use of it.
     pub fn written(&mut self, home: &Home) {
         let Some(index) = self.index_of(home) else {
             return;
         };
+        let used = self.next_use();
         if let Some(frame) = self.frames.get_mut(index) {
             frame.waits = None;
+            frame.used = used;
         }
     }
 

@@ -1,92 +1,111 @@
--- Changes of a cache one after the other.
-use Rattle.std.proofs.Common.{◌≡◌, ◌∙◌, ℕ, true, false, List, Option, Some, None, IsNone, IsSome, if◌then◌else◌, refl, sym, ap, arith}
+-- Changes of a cache, and one after the other.
+use Rattle.std.proofs.Common.{rules, Result, Ok, Err, OnOk, ◌≡◌, ◌==◌, ◌&&◌, ◌∙◌, ◌+◌, ◌^◌, ◌<◌, ℕ, Bool, true, false, List, Option, Some, None, length, nat_lt, if◌then◌else◌, eqb-true, refl, sym, ap, subst, arith}
 use Rattle.std.specs.Option.{option_map}
 use mathlib.Core.Bool.{false≢true}
-use Rattle.domain_base.specs.Counts.{raised}
+use Rattle.domain_base.specs.declared.page.Page.{Page}
 use Rattle.domain_base.specs.declared.place.Home.{Home}
 use Rattle.page_store.specs.Pages.{same_home}
+use Rattle.numbered_values.specs.Homes.{number_of}
 use Rattle.page_cache.specs.declared.cache.PageCache.{PageCache}
 use Rattle.page_cache.specs.declared.frame.Frame.{Frame}
-use Rattle.page_cache.specs.declared.frame.Standing.{Standing}
-use Rattle.page_cache.specs.Frames.{Frames, changed, clean_rank, dirty_rank, groups, rank_of, with_frame}
-use Rattle.page_cache.specs.Cache.{Changes, Evicts, IsUsed, KeepsAll, Replaces, frames_of, one_if, used_at, uses_of}
-use Rattle.page_cache.proofs.Moves.{some_none}
+use Rattle.page_cache.specs.Frames.{Frames, cleaned, group_of, groups, placed, with_frame, without_number}
+use Rattle.page_cache.specs.Entries.{Becomes, Displaces, Entries, clean_in, frame_at, frames_in, groups_in, one_for}
+use Rattle.page_cache.specs.Cache.{Changes, KeepsAll, Replaces, dirty_of, frames_of, kept_of}
+use Rattle.page_cache.specs.Queues.{Groups, IsQueueOf, Moves, with_group}
+use Rattle.page_cache.proofs.Entries.{clean_or_waits, not_in_order}
 
-abbrev pub with_standing : List ℕ → Standing → Frame
-with_standing page standing = record { page = page; standing = standing }
+-- what is found at a home is what its number has
+pub found : (entries : Entries) (home : Home) → home.page < 2 ^ 32 → frames_in entries home ≡ frame_at entries (number_of home)
+found entries home narrow = let t : nat_lt home.page (2 ^ 32) ≡ true = grind (arith, narrow) in rw t refl
 
--- a home without a frame has none once another frame has gone
-pub still_none : (home goes : Home) (frames : Frames) → frames home ≡ None → with_frame goes None frames home ≡ None
-still_none home goes frames none = elim (same_home home goes) as (λ b. (if b then None else frames home) ≡ None) [
-  | true ↦ refl
-  | false ↦ none
-]
+-- the queue of what waits the same
+pub same_queue : (one two : Groups) (queue : List (ℕ × Home)) → ((n : ℕ) → one n ≡ two n) → IsQueueOf one queue → IsQueueOf two queue
+same_queue one two queue same of = subst (λ g. IsQueueOf g queue) (λ i n. same n i) of
 
--- what is first among the clean ones is there, and is not dirty
-is_clean : (frame : Option Frame) (use_of_it : ℕ) → rank_of clean_rank frame ≡ Some use_of_it → (one_if frame ≡ 1) × (one_if (rank_of dirty_rank frame) ≡ 0)
-is_clean None r is = absurd (some_none _ is)
-is_clean (Some f) r is = (
-  refl,
-  (elim f.standing.waits as (λ w. f.standing.waits ≡ w → clean_rank f.standing ≡ Some r → one_if w ≡ 0) [
-    | None ↦ λ waits is. refl
-    | Some g ↦ λ waits is. absurd (some_none _ (rw waits at is))
-  ]) refl is,
-)
+-- the groups once a number has another frame
+pub groups_after : (old new : Entries) (number : ℕ) (frame : Option Frame) → Becomes number frame old new → (n : ℕ) → with_group number (group_of frame) (groups_in old) n ≡ groups_in new n
+groups_after old new number frame becomes n = (elim (number == n) as (λ b. frame_at new n ≡ (if b then frame else frame_at old n) → (if b then group_of frame else groups_in old n) ≡ groups_in new n) [
+  | true ↦ λ is. sym (ap group_of is)
+  | false ↦ λ is. sym (ap group_of is)
+]) (becomes.frames n)
+
+both : (a b : Bool) → (a && b) ≡ true → (a ≡ true) × (b ≡ true)
+both true b is = (refl, is)
+both false b is = absurd (false≢true is)
+
+same : (h home : Home) → same_home h home ≡ true → h ≡ home
+same h home is =
+    let parts = both (h.vol == home.vol) (h.page == home.page) is in
+    let vol = eqb-true h.vol home.vol parts.0 in
+    let page = eqb-true h.page home.page parts.1 in
+    λ i. record { vol = vol i; page = page i }
+
+-- the frames are the same with none at a home that has none
+pub with_none : (home : Home) (frames : Frames) → frames home ≡ None → frames ≡ with_frame home None frames
+with_none home frames none = λ i h. (elim (same_home h home) as (λ b. same_home h home ≡ b → frames h ≡ (if b then None else frames h)) [
+  | true ↦ λ t. ap frames (same h home t) ∙ none
+  | false ↦ λ t. refl
+] refl) i
+
+-- using a frame that is not kept changes nothing
+pub changes_nothing : (home : Home) (cache : PageCache) → home.page < 2 ^ 32 → frames_of cache home ≡ None → Changes home (frames_of cache home) cache cache
+changes_nothing home cache width none = rw none (record {
+  frames = with_none home (frames_of cache) none;
+  order = sym (not_in_order (number_of home) cache.frames.entries (sym (found cache.frames.entries home width) ∙ none));
+  kept = rw none refl;
+  dirty = rw none refl;
+})
 
 module _ (home : Home) (frame : Option Frame) (first next last : PageCache) where
   -- a change behind one of none
   pub after_same : KeepsAll first next → Changes home frame next last → Changes home frame first last
   after_same same changes = record {
     frames = changes.frames ∙ ap (with_frame home frame) same.frames;
-    kept = omega (arith, changes.kept, same.kept, ap (λ (f : Frames). one_if (f home)) same.frames);
-    dirty = omega (arith, changes.dirty, same.dirty, ap (λ (f : Frames). one_if (groups f home)) same.frames);
+    order = changes.order ∙ ap (placed (number_of home) frame) same.order;
+    kept = omega (arith, changes.kept, same.kept, ap (λ (f : Frames). one_for (f home)) same.frames);
+    dirty = omega (arith, changes.dirty, same.dirty, ap (λ (f : Frames). one_for (groups f home)) same.frames);
   }
-
--- a frame that is added after one that went
-pub replaces : (home : Home) (frame : Frame) (first next last : PageCache) → frame.standing.waits ≡ None → frames_of next home ≡ None → Evicts first next → Changes home (Some frame) next last → Replaces home frame first last
-replaces home frame first next last clean none evicts changes =
-    let gone = is_clean (frames_of first evicts.home) evicts.last_use evicts.first.has in
-    let new : one_if (frames_of next home) ≡ 0 = ap one_if none in
-    let not_dirty : one_if (groups (frames_of next) home) ≡ 0 = ap (λ (f : Option Frame). one_if (rank_of dirty_rank f)) none in
-    let is_clean_now : one_if frame.standing.waits ≡ 0 = ap one_if clean in
-    record {
-      goes = evicts.home;
-      last_use = evicts.last_use;
-      first = evicts.first;
-      frames = changes.frames ∙ ap (with_frame home (Some frame)) evicts.goes.frames;
-      kept = omega (arith, changes.kept, new, evicts.goes.kept, gone.0);
-      dirty = omega (arith, changes.dirty, not_dirty, is_clean_now, evicts.goes.dirty, gone.1);
-    }
-
--- a frame that stands as it stood, but for its last use
-pub touched : (latest : ℕ) (frame : Option Frame) (standing : Standing) → option_map (λ (f : Frame). f.standing) frame ≡ Some standing → option_map (changed None (record { waits = standing.waits; used = latest })) frame ≡ option_map (used_at latest) frame
-touched latest None standing is = refl
-touched latest (Some f) standing is =
-    let same : f.standing ≡ standing = cc in
-    ap (λ (s : Standing). Some (with_standing f.page (record { waits = s.waits; used = latest }))) (sym same)
-
--- a frame that is there, with other bytes and another standing
-pub rewritten : (frame : Option Frame) (page : List ℕ) (standing : Standing) → IsSome frame → option_map (changed (Some page) standing) frame ≡ Some (with_standing page standing)
-rewritten None page standing some = absurd (false≢true some)
-rewritten (Some f) page standing some = refl
-
-pub is_there : (frame : Option Frame) (standing : Standing) → option_map (λ (f : Frame). f.standing) frame ≡ Some standing → IsSome frame
-is_there None standing is = absurd (some_none _ is)
-is_there (Some f) standing is = refl
 
 same_home-same : (home : Home) → same_home home home ≡ true
 same_home-same home = grind arith
 
 -- a frame that is used has the bytes that it had
-pub same_page : (home : Home) (old new : PageCache) → IsUsed home old new → option_map (λ (f : Frame). f.page) (frames_of new home) ≡ option_map (λ (f : Frame). f.page) (frames_of old home)
+pub same_page : (home : Home) (old new : PageCache) → Changes home (frames_of old home) old new → option_map (λ (f : Frame). f.page) (frames_of new home) ≡ option_map (λ (f : Frame). f.page) (frames_of old home)
 same_page home old new used =
-    ap (λ (f : Frames). option_map (λ (f : Frame). f.page) (f home)) used.changes.frames
-    ∙ ap (λ b. option_map (λ (f : Frame). f.page) (if b then option_map (used_at (raised (uses_of old))) (frames_of old home) else frames_of old home)) (same_home-same home)
-    ∙ (elim (frames_of old home) as (λ o. option_map (λ (f : Frame). f.page) (option_map (used_at (raised (uses_of old))) o) ≡ option_map (λ (f : Frame). f.page) o) [
-      | None ↦ refl
-      | Some f ↦ refl
-    ])
+    ap (λ (f : Frames). option_map (λ (f : Frame). f.page) (f home)) used.frames
+    ∙ ap (λ b. option_map (λ (f : Frame). f.page) (if b then frames_of old home else frames_of old home)) (same_home-same home)
 
-pub none_is : (frame : Option Frame) → IsNone frame → frame ≡ None
-none_is None none = refl
-none_is (Some f) none = absurd (false≢true (sym none))
+-- the queue and the numbers of clean and dirty frames, once the frame of a home is another one
+module _ (home : Home) (frame : Option Frame) (old new : Entries) (becomes : Becomes (number_of home) frame old new) (queue moved : List (ℕ × Home)) (len moved_len : ℕ) (of : IsQueueOf (groups_in old) queue) (moves : Moves home (groups_in old (number_of home)) (group_of frame) queue moved len moved_len) where
+  pub queue_moved : IsQueueOf (groups_in new) moved
+  queue_moved = same_queue _ _ moved (groups_after old new (number_of home) frame becomes) (moves.queues (groups_in old) of refl)
+
+  pub parts_moved : length (clean_in old) + len ≡ length old → length (clean_in new) + moved_len ≡ length new
+  parts_moved parts = omega (arith, parts, becomes.kept, becomes.clean, moves.lens (groups_in old) of refl, clean_or_waits frame, clean_or_waits (frame_at old (number_of home)))
+
+pub cleaned_waits_not : (frame : Option Frame) → group_of (option_map cleaned frame) ≡ None
+cleaned_waits_not None = refl
+cleaned_waits_not (Some f) = refl
+
+-- the group that a home's frame waits for is that of its number
+pub its_group : (entries : Entries) (home : Home) (group : Option ℕ) → home.page < 2 ^ 32 → group ≡ groups (frames_in entries) home → group ≡ groups_in entries (number_of home)
+its_group entries home group width is = is ∙ ap group_of (found entries home width)
+
+-- a displaced frame is a replaced one
+pub displaced_frames : (home : Home) → home.page < 2 ^ 32 → (frame : Frame) (old new : Entries) (displaces : Displaces (number_of home) frame old new) → frames_in new ≡ with_frame home (Some frame) (without_number displaces.goes (frames_in old))
+displaced_frames home width frame old new displaces = let frames = displaces.frames in search rules
+
+-- where the last clean frame is displaced, it is replaced
+pub replaces : (home : Home) → home.page < 2 ^ 32 → (frame : Frame) (old new : PageCache) → dirty_of new ≡ dirty_of old → (number : ℕ) → number ≡ number_of home → (result : Result (Unit {0}) Page) → OnOk result (kept_of old ≡ 1024 → Displaces number frame old.frames.entries new.frames.entries) → OnOk result (kept_of old ≡ 1024 → Replaces home frame old new)
+replaces home width frame old new dirty number is (Ok u) displaces = λ full.
+    let its = subst (λ n. Displaces n frame old.frames.entries new.frames.entries) is (displaces full) in
+    record {
+      goes = its.goes;
+      earlier = its.earlier;
+      last = its.last;
+      frames = displaced_frames home width frame old.frames.entries new.frames.entries its;
+      order = its.order;
+      kept = its.kept;
+      dirty = dirty;
+    }
+replaces home width frame old new dirty number is (Err page) displaces = displaces

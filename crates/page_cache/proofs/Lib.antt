@@ -3,5 +3,3 @@ mod Entries
 mod First
 mod Moves
 mod Places
-mod Standings
-mod Taken

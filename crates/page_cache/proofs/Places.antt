@@ -12,24 +12,24 @@ none_some home is = grind arith
 
 module _ (old : List (ℕ × Home)) (rising : IsRising old) where
   -- a home that is put where something stood
-  pub enters_at : (home : Home) (rank index : ℕ) → IsPlaceOf old (place_at rank (number_of home)) index
-      → Enters old (set old index (place_at rank (number_of home), home)) home (Some rank)
-  enters_at home rank index place = sets_at_place old _ index place rising home (0, home)
+  pub enters_at : (home : Home) (group index : ℕ) → IsPlaceOf old (place_at group (number_of home)) index
+      → Enters old (set old index (place_at group (number_of home), home)) home (Some group)
+  enters_at home group index place = sets_at_place old _ index place rising home (0, home)
 
   -- nothing stands there
-  pub is_taken : (number rank index : ℕ) (home : Home) → IsPlaceOf old (place_at rank number) index
-      → value_at old (place_at rank number) ≡ None → ⊥
-  is_taken number rank index home place none =
+  pub is_taken : (number group index : ℕ) (home : Home) → IsPlaceOf old (place_at group number) index
+      → value_at old (place_at group number) ≡ None → ⊥
+  is_taken number group index home place none =
       none_some _ (sym none ∙ value_at_place old _ index place rising (0, home))
 
-  pub enters_in : (home : Home) (rank index : ℕ) → IsGapFor old (place_at rank (number_of home)) index
-      → Enters old (insert old index (place_at rank (number_of home), home)) home (Some rank)
-  enters_in home rank index gap = sets_in_gap old _ index gap home
+  pub enters_in : (home : Home) (group index : ℕ) → IsGapFor old (place_at group (number_of home)) index
+      → Enters old (insert old index (place_at group (number_of home), home)) home (Some group)
+  enters_in home group index gap = sets_in_gap old _ index gap home
 
-  pub leaves_at : (number rank index : ℕ) (home : Home) → IsPlaceOf old (place_at rank number) index
-      → Leaves old (remove old index) number (Some rank)
-  leaves_at number rank index home place = drops_at_place old _ index place rising (0, home)
+  pub leaves_at : (number group index : ℕ) (home : Home) → IsPlaceOf old (place_at group number) index
+      → Leaves old (remove old index) number (Some group)
+  leaves_at number group index home place = drops_at_place old _ index place rising (0, home)
 
-  pub leaves_none : (number rank index : ℕ) → IsGapFor old (place_at rank number) index
-      → Leaves old old number (Some rank)
-  leaves_none number rank index gap = drops_in_gap old _ index gap
+  pub leaves_none : (number group index : ℕ) → IsGapFor old (place_at group number) index
+      → Leaves old old number (Some group)
+  leaves_none number group index gap = drops_in_gap old _ index gap

@@ -1,11 +1,10 @@
 -- Frames by their homes, and which of them comes first.
-use Rattle.std.specs.Prelude.{◌≡◌, ◌<◌, ◌≤◌, ◌⊎◌, ℕ, List, Option, Some, None, is_some, if◌then◌else◌}
+use Rattle.std.specs.Prelude.{◌≡◌, ◌==◌, ◌<◌, ◌≤◌, ◌⊎◌, ℕ, Bool, List, [], ◌∷◌, Option, Some, None, false, is_none, if◌then◌else◌}
 use Rattle.std.specs.Option.{option_and_then, option_map_or}
 use Rattle.domain_base.specs.declared.place.Home.{Home}
 use Rattle.page_store.specs.Pages.{same_home}
 use Rattle.numbered_values.specs.Homes.{number_of}
 use Rattle.page_cache.specs.declared.frame.Frame.{Frame}
-use Rattle.page_cache.specs.declared.frame.Standing.{Standing}
 
 -- the frame of each home, if one is kept
 abbrev pub Frames : Type 0
@@ -18,32 +17,40 @@ no_frames home = None
 abbrev pub with_frame : Home → Option Frame → Frames → Frames
 with_frame home frame frames = λ h. if same_home h home then frame else frames h
 
--- a clean frame's last use
-abbrev pub clean_rank : Standing → Option ℕ
-clean_rank standing = if is_some standing.waits then None else Some standing.used
+-- the same with none at the home of this number
+abbrev pub without_number : ℕ → Frames → Frames
+without_number number frames = λ h. if number == number_of h then None else frames h
 
 -- the group that a dirty frame waits for
-abbrev pub dirty_rank : Standing → Option ℕ
-dirty_rank standing = standing.waits
+abbrev pub group_of : Option Frame → Option ℕ
+group_of frame = option_and_then (λ (f : Frame). f.waits) frame
 
--- what a frame of a kind is ordered by; none where there is no frame of the kind
-abbrev pub rank_of : (Standing → Option ℕ) → Option Frame → Option ℕ
-rank_of rank frame = option_and_then (λ (f : Frame). rank f.standing) frame
-
--- the last use of a clean frame at each home that has one
-abbrev pub last_uses : Frames → Home → Option ℕ
-last_uses frames home = rank_of clean_rank (frames home)
-
--- the group that a dirty frame waits for at each home that has one
+-- the same, at each home that has a dirty frame
 abbrev pub groups : Frames → Home → Option ℕ
-groups frames home = rank_of dirty_rank (frames home)
+groups frames home = group_of (frames home)
+
+abbrev pub is_clean : Option Frame → Bool
+is_clean frame = option_map_or (λ (f : Frame). is_none f.waits) frame false
+
+-- the same frame, clean
+abbrev pub cleaned : Frame → Frame
+cleaned frame = record { page = frame.page; waits = None }
+
+-- ---- the order of use: the numbers of the homes of clean frames, the latest use first
+
+-- the order without a number
+abbrev pub without : ℕ → List ℕ → List ℕ
+without number [] = []
+without number (n ∷ order) =
+    if number == n then without number order else n ∷ without number order
+
+-- the order once the frame of a number has been used, or gone, and is this one now or none
+abbrev pub placed : ℕ → Option Frame → List ℕ → List ℕ
+placed number frame order =
+    if is_clean frame then number ∷ without number order else without number order
 
 -- this home has the least number, and comes before all others that have it
 pub record IsFirst (numbers : Home → Option ℕ) (home : Home) (least : ℕ) : Type 0 where
   pub has : numbers home ≡ Some least
   pub first : (other : Home) (number : ℕ) → numbers other ≡ Some number
       → (least < number) ⊎ ((least ≡ number) × (number_of home ≤ number_of other))
-
--- the same frame standing so, with these bytes where some are given
-abbrev pub changed : Option (List ℕ) → Standing → Frame → Frame
-changed page standing frame = record { page = option_map_or (λ p. p) page frame.page; standing = standing }

@@ -5,8 +5,9 @@ use mathlib.Core.Option.{none}
 use Rattle.domain_base.specs.declared.place.Home.{Home}
 use Rattle.page_cache.specs.declared.cache.PageCache.{PageCache}
 use Rattle.page_cache.specs.contracts.cache.PageCache.{the_row}
-use Rattle.page_cache.specs.Cache.{IsUsed}
+use Rattle.page_cache.specs.Cache.{Changes, frames_of}
 
--- it ends with the frame of the home used, and nothing else changed
+-- it ends with the frame of the home used, if one is kept, and all others as they were
 abbrev pub EndsUsed : MutBor PageCache → Home → Fml
-EndsUsed cache home = follows_so the_row the_row cache.ghost_name none (λ _ _. ⊤) (IsUsed home cache.now)
+EndsUsed cache home = follows_so the_row the_row cache.ghost_name none (λ _ _. ⊤)
+    (Changes home (frames_of cache.now home) cache.now)

@@ -1,5 +1,5 @@
 pub mod Cache
+pub mod Entries
 pub mod Frames
 pub mod Lending
-pub mod Moves
 pub mod Queues

@@ -4,8 +4,8 @@
 
 mod cache;
 mod frame;
+mod frames;
 mod queue;
-mod queues;
 
 pub use cache::PageCache;
-pub use frame::{Frame, Standing};
+pub use frame::Frame;

@@ -1,18 +1,35 @@
-use Rattle.std.proofs.Common.{◌∙◌, IsSome, Some, sym, ap, subst}
-use Rattle.std.specs.Option.{option_map}
-use Rattle.page_cache.specs.declared.frame.Standing.{Standing}
-use Rattle.page_cache.specs.Frames.{Frames, changed}
-use Rattle.page_cache.specs.Cache.{Changes, frames_of}
-use Rattle.page_cache.proofs.Changed.{after_same, rewritten, with_standing}
+use Rattle.std.proofs.Common.{◌∙◌, Option, Some, subst, arith, vec_len}
+use Rattle.numbered_values.specs.Homes.{number_of}
+use Rattle.page_cache.specs.declared.frame.Frame.{Frame}
+use Rattle.page_cache.specs.Frames.{group_of}
+use Rattle.page_cache.specs.Entries.{Becomes, groups_in}
+use Rattle.page_cache.specs.Queues.{Moves}
+use Rattle.page_cache.proofs.Changed.{its_group, parts_moved, queue_moved}
 use Rattle.page_cache.proofs.cache.PageCache.write.Goals as goal
 
-pub change-requires : goal.change-requires
-change-requires c = subst (λ (f : Frames). IsSome (f c.args.home)) (sym c.next_use-used.ensures.frames.frames) c.requires
+pub move_home-requires : goal.move_home-requires
+move_home-requires c =
+    let room = c.args.self.now.room in
+    record { room = omega (arith, room.parts, room.fit, c.group_at-old.ensures.most) }
 
-pub returns-clause-changes : goal.returns-clause-changes
-returns-clause-changes c =
-    let old = c.args.self.now in
+pub invariant_of-self : goal.invariant_of-self
+invariant_of-self c =
+    let cache = c.args.self.now in
     let home = c.args.home in
-    let standing : Standing = record { waits = Some c.args.waits; used = c.next_use-used.result } in
-    let frame = ap (λ (f : Frames). option_map (changed (Some c.args.page) standing) (f home)) c.next_use-used.ensures.frames.frames ∙ rewritten (frames_of old home) c.args.page standing c.requires ∙ ap (λ n. Some (with_standing c.args.page (record { waits = Some c.args.waits; used = n }))) c.next_use-used.ensures.number in
-    subst (λ f. Changes home f old c.change.new.self) frame (after_same home _ old c.next_use-used.new.self c.change.new.self c.next_use-used.ensures.frames c.change.ensures.changes)
+    let old = cache.frames.entries in
+    let new = c.set_frame.new.frames.entries in
+    let queue = cache.dirty.places in
+    let moved = c.move_home.new.self.places in
+    let frame : Option Frame = Some (record { page = c.args.page; waits = Some c.args.waits }) in
+    let becomes : Becomes (number_of home) frame old new = subst (λ n. Becomes n frame old new) c.home_number-number.ensures.value c.set_frame.ensures.becomes in
+    let group = its_group old home c.group_at-old.result c.group_at-old.ensures.width c.group_at-old.ensures.value in
+    let moves : Moves home (groups_in old (number_of home)) (group_of frame) queue.items moved.items (vec_len queue) (vec_len moved) = subst (λ g. Moves home g (group_of frame) queue.items moved.items (vec_len queue) (vec_len moved)) group c.move_home.ensures.moves in
+    let room = cache.room in
+    record {
+      cap = c.set_frame.ensures.cap ∙ cache.cap;
+      queued = queue_moved home frame old new becomes queue.items moved.items (vec_len queue) (vec_len moved) cache.queued moves;
+      room = record {
+        parts = parts_moved home frame old new becomes queue.items moved.items (vec_len queue) (vec_len moved) cache.queued moves room.parts;
+        fit = omega (arith, room.fit, c.move_home.ensures.capacity);
+      };
+    }
