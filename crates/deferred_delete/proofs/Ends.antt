@@ -1,5 +1,5 @@
 -- A list and files that belong together, once the last of an entry is done.
-use Rattle.std.proofs.Common.{◌≡◌, ◌∙◌, ℕ, List, [], ◌∷◌, ◌++◌, Option, Some, None, IsSome, IsSomeAnd, Contains, refl, sym, ap, subst, arith, ⊎_elim}
+use Rattle.std.proofs.Common.{◌≡◌, ◌∙◌, ℕ, List, [], ◌∷◌, ◌++◌, Option, Some, None, IsSome, IsSomeAnd, is_some, Contains, refl, sym, ap, subst, arith, ⊎_elim}
 use Rattle.std.specs.Option.{option_and_then, option_map}
 use Rattle.domain_base.specs.declared.place.CellAt.{CellAt}
 use Rattle.domain_base.specs.declared.place.Home.{Home}
@@ -19,7 +19,7 @@ use Rattle.bitfile_cells.proofs.MapRecords.{value_has_rows}
 use Rattle.bitfile_core.specs.Together.{IsHeldApart}
 use Rattle.bitfile_core.proofs.Grown.{on_grown}
 use Rattle.deferred_delete.specs.declared.list.Entry.{Entry}
-use Rattle.deferred_delete.specs.Listed.{IsEntry, IsListed, left_of, leftover_in}
+use Rattle.deferred_delete.specs.Listed.{IsEntry, IsListed}
 use Rattle.deferred_delete.specs.Standing.{Files, ReadsThrough, Source, StandTogether, place_in, source_at, source_in, source_of, with_file}
 use Rattle.deferred_delete.specs.Steps.{says_no_source, says_trimmed, without_source}
 use Rattle.deferred_delete.proofs.Changed.{first_place, first_together}
@@ -33,7 +33,7 @@ use Rattle.deferred_delete.proofs.Standings.{AreNarrower, apart_by, file_beside,
 -- each earlier entry's file is as it was, and what reads through it
 module _ (space : Spaces) (cells cells_now : Cells) (files now : Files) (front : List Entry) (entry : Entry) (pages : List Home)
     (listed : IsListed space cells files (record { entries = front ++ entry ∷ []; tag_pages = pages }))
-    (same : (a : CellAt) → ¬ a ≡ entry.at → option_and_then left_of (now a) ≡ option_and_then left_of (files a))
+    (same : (a : CellAt) → ¬ a ≡ entry.at → is_some (now a) ≡ is_some (files a))
     (reads : (a b : CellAt) → ¬ b ≡ entry.at → ReadsThrough now a b → ReadsThrough files a b) (still : (a b : CellAt) → ¬ b ≡ entry.at → (e : Entry) → Contains front e → e.at ≡ b → ReadsThrough files a b → ReadsThrough now a b)
     (places : (a : CellAt) (p : ℕ) (home : Home) → place_in now a p ≡ At home → place_in files a p ≡ At home) (held : (home : Home) → IsHeldApart space cells home → IsHeldApart space cells_now home) where
   earlier_entry : (e : Entry) → Contains front e → IsEntry now e
@@ -41,7 +41,7 @@ module _ (space : Spaces) (cells cells_now : Cells) (files now : Files) (front :
       let not_at = not_last front entry e listed.once inside in
       let was = listed.each e (in_start front (entry ∷ []) e inside) in
       record {
-        pending = subst IsSome (sym (same e.at not_at)) was.pending;
+        there = same e.at not_at ∙ was.there;
         given = λ c some. still c e.at not_at e inside refl (was.given c some);
         all = λ c is. was.all c (reads c e.at not_at is);
       }
@@ -108,7 +108,7 @@ module _ (space : Spaces) (cells : Cells) (old new : Pages) (files : Files) (tog
 
   pub trim_listed : IsListed space cells files (record { entries = front ++ entry ∷ []; tag_pages = pages }) → IsListed space cells trimmed_now (record { entries = front; tag_pages = pages })
   trim_listed listed = listed_front space cells cells files trimmed_now front entry pages listed
-      (λ a not_at. ap (option_and_then left_of) (file_other entry.at (Some trimmed) files a not_at))
+      (λ a not_at. ap is_some (file_other entry.at (Some trimmed) files a not_at))
       (λ a b not_at x. reads_by files trimmed_now a b (trim_sources a) x)
       (λ a b not_at e inside same x. reads_by trimmed_now files a b (sym (trim_sources a)) x)
       (λ a p home there. sym (first_place space cells old new files together entry.at first rest is says_trimmed leaves stands good headers refl trim_maps trim_attributes a p) ∙ there)
@@ -179,18 +179,15 @@ module _ (space : Spaces) (cells : Cells) (old new : Pages) (files : Files) (tog
   pub alone_together : StandTogether space cells new alone_now
   alone_together = first_together space cells old new files together clone first rest is says_no_source leaves stands good headers refl alone_maps alone_attributes alone_reads
 
-  alone_left : (a : CellAt) → option_and_then left_of (alone_now a) ≡ option_and_then left_of (files a)
-  alone_left a = ⊎_elim
-      (λ same.
-      ap (option_and_then left_of) (ap alone_now same ∙ file_there clone (Some alone) files)
-      ∙ ap (option_and_then leftover_in) (sourceless_other first.cell 6 (λ e. omega (arith, e)))
-      ∙ sym (ap (option_and_then left_of) (ap files same ∙ is)))
-      (λ not_at. ap (option_and_then left_of) (file_other clone (Some alone) files a not_at))
+  alone_there : (a : CellAt) → is_some (alone_now a) ≡ is_some (files a)
+  alone_there a = ⊎_elim
+      (λ same. ap is_some (ap alone_now same ∙ file_there clone (Some alone) files) ∙ sym (ap is_some (ap files same ∙ is)))
+      (λ not_at. ap is_some (file_other clone (Some alone) files a not_at))
       (same_or_not a clone)
 
   pub alone_listed : IsListed space cells alone_now (record { entries = front ++ record { at = entry.at; clone = None } ∷ []; tag_pages = pages })
   alone_listed = listed_last space cells cells files alone_now front entry pages listed
-      (λ a not_at. alone_left a)
+      (λ a not_at. alone_there a)
       (λ a b not_at x. alone_reads a b x)
       (λ a b not_at e inside same x. ⊎_elim
       (λ is_clone. absurd (not_at (one_source (source_at files a) b entry.at x (subst (λ (q : CellAt). ReadsThrough files q entry.at) (sym is_clone) (is_last.given clone given)))))
@@ -200,7 +197,7 @@ module _ (space : Spaces) (cells : Cells) (old new : Pages) (files : Files) (tog
       (λ home held. held)
       (record { at = entry.at; clone = None }) refl refl
       (record {
-        pending = subst IsSome (sym (alone_left entry.at)) is_last.pending;
+        there = alone_there entry.at ∙ is_last.there;
         given = λ c some. absurd (none_not c some);
         all = λ c reads. absurd (none_reads entry.at (subst (λ (q : CellAt). ReadsThrough alone_now q entry.at) (some_same c clone (sym (is_last.all c (alone_reads c entry.at reads)) ∙ given)) reads));
       })
@@ -248,7 +245,7 @@ module _ (space : Spaces) (cells cells_now : Cells) (old new : Pages) (files : F
 
   pub gone_listed : IsListed space cells_now gone_now (record { entries = front; tag_pages = pages })
   gone_listed = listed_front space cells cells_now files gone_now front entry pages listed
-      (λ a not_at. ap (option_and_then left_of) (gone_other a not_at))
+      (λ a not_at. ap is_some (gone_other a not_at))
       (λ a b not_at x. gone_reads a b x)
       (λ a b not_at e inside same x. ⊎_elim
       (λ is_gone. absurd (listed.clones e entry (in_start front (entry ∷ []) e inside) (last_in front entry)

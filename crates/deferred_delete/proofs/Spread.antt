@@ -1,5 +1,5 @@
 -- Files stand together once pages of one were handed to its reader, or given back.
-use Rattle.std.proofs.Common.{◌≡◌, ◌∙◌, ℕ, zero, suc, ◌≤◌, false, nat_le, List, [], ◌∷◌, Option, Some, None, IsSome, IsSomeAnd, Contains, refl, sym, ap, subst, unwrap_or, arith, ⊎_elim, ◌⊎◌, inl, inr}
+use Rattle.std.proofs.Common.{◌≡◌, ◌∙◌, ℕ, zero, suc, ◌≤◌, false, nat_le, List, [], ◌∷◌, Option, Some, None, IsSome, is_some, IsSomeAnd, Contains, refl, sym, ap, subst, unwrap_or, arith, ⊎_elim, ◌⊎◌, inl, inr}
 use Rattle.std.specs.List.{AllByRecursion}
 use Rattle.std.specs.Option.{option_and_then, option_map_or}
 use Rattle.domain_base.specs.declared.place.CellAt.{CellAt}
@@ -32,7 +32,7 @@ use Rattle.chain_release.proofs.Given.{absent_home, held_given}
 use Rattle.chain_release.proofs.Once.{absent_not, file_map, good_page}
 use Rattle.chain_release.proofs.Outcome.{on_at}
 use Rattle.deferred_delete.specs.declared.list.Entry.{Entry}
-use Rattle.deferred_delete.specs.Listed.{IsEntry, IsListed, left_of, leftover_in, stale_from}
+use Rattle.deferred_delete.specs.Listed.{IsEntry, IsListed, stale_from}
 use Rattle.deferred_delete.specs.Listing.{Listing}
 use Rattle.deferred_delete.specs.Standing.{Files, IsStanding, StandTogether, place_in, source_at, source_in, source_of, with_file}
 use Rattle.deferred_delete.specs.Steps.{IsGiven, with_clone}
@@ -342,8 +342,13 @@ module _ (space : Spaces) (cells : Cells) (old : Pages) (files : Files) (togethe
     pub sources_now : (a : CellAt) → source_at now a ≡ source_at files a
     sources_now a = then_then source_in (first_record 2) (now a) ∙ ap (option_and_then source_in) (firsts 2 refl a) ∙ sym (then_then source_in (first_record 2) (files a))
 
-    left_now : (a : CellAt) → option_and_then left_of (now a) ≡ option_and_then left_of (files a)
-    left_now a = then_then leftover_in (first_record 6) (now a) ∙ ap (option_and_then leftover_in) (firsts 6 refl a) ∙ sym (then_then leftover_in (first_record 6) (files a))
+    there_now : (a : CellAt) → IsSome (files a) → IsSome (now a)
+    there_now a some = by_which (which entry.at entry.clone a)
+      where
+        by_which : Which entry.at entry.clone a → IsSome (now a)
+        by_which (source same) = ap is_some (ap now same ∙ at_source)
+        by_which (reading it) = ap is_some (clone_now a it)
+        by_which (other not_at not_it) = ap is_some (at_other a not_at not_it) ∙ some
 
     -- ---- all of it
 
@@ -360,7 +365,7 @@ module _ (space : Spaces) (cells : Cells) (old : Pages) (files : Files) (togethe
     pub spread_listed : (list : Listing) → IsListed space cells files list → IsListed space_now cells_now now list
     spread_listed list listed = record {
       each = λ e inside. let was = listed.each e inside in record {
-        pending = subst IsSome (sym (left_now e.at)) was.pending;
+        there = there_now e.at was.there;
         given = λ c some. reads_by now files c e.at (sym (sources_now c)) (was.given c some);
         all = λ c reads. was.all c (reads_by files now c e.at (sources_now c) reads);
       };

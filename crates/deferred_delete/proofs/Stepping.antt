@@ -31,10 +31,10 @@ use Rattle.chain_release.proofs.Found.{one_cell}
 use Rattle.chain_release.proofs.Once.{shown_value}
 use Rattle.deferred_delete.specs.declared.list.Entry.{Entry}
 use Rattle.deferred_delete.specs.declared.went.Went.TheVariants as went
-use Rattle.deferred_delete.specs.Listed.{IsListed, from_by, left_of}
+use Rattle.deferred_delete.specs.Listed.{GoesWhole, IsListed, from_by, left_of}
 use Rattle.deferred_delete.specs.Listing.{Listing}
 use Rattle.deferred_delete.specs.Standing.{Files, IsStanding, source_in, source_of, with_file}
-use Rattle.deferred_delete.specs.Steps.{HasEntry, HasRecord, IsEnding, IsWell, LacksRoom, Leaves, TakesTagPage, file_ends, list_after, now_of, pages_go, reading_ends, says_no_source, says_trimmed, tag_page_goes, trim_ends}
+use Rattle.deferred_delete.specs.Steps.{HasEntry, HasRecord, IsEnding, IsEndingWhole, IsWell, LacksRoom, Leaves, Now, TakesTagPage, file_ends, list_after, now_of, pages_go, reading_ends, says_no_source, says_trimmed, tag_page_goes, trim_ends}
 use Rattle.deferred_delete.proofs.Ends.{alone_listed, alone_together, gone_listed, gone_together, trim_listed, trim_together}
 use Rattle.deferred_delete.proofs.Lists.{last_in}
 use Rattle.deferred_delete.proofs.Spread.{now, spread_listed, spread_together}
@@ -76,6 +76,22 @@ part_went group version list front files entry left from reader space space_now 
 -- the list of an entry that is its last
 pub listed_as : (space : Spaces) (cells : Cells) (files : Files) (list : Listing) (front : List Entry) (entry : Entry) → list.entries ≡ front ++ entry ∷ [] → IsListed space cells files list → IsListed space cells files (record { entries = front ++ entry ∷ []; tag_pages = list.tag_pages })
 listed_as space cells files list front entry last listed = subst (λ (es : List Entry). IsListed space cells files (record { entries = es; tag_pages = list.tag_pages })) last listed
+
+-- ---- a file of which all goes
+
+pub whole_from : (o : Option Leftover) (chain : List PlacedCell) → ¬ o ≡ Some Trim → from_by o chain ≡ 0
+whole_from None chain whole = refl
+whole_from (Some Remove) chain whole = refl
+whole_from (Some Trim) chain whole = absurd (whole refl)
+
+pub ending_whole : (front : List Entry) (entry : Entry) (left : Option Leftover) (at : Now) → ¬ left ≡ Some Trim → IsEnding front entry left at → IsEndingWhole front entry at
+ending_whole front entry left at whole ending = record {
+  has = ending.has;
+  chain = ending.chain;
+  is = ending.is;
+  whole = λ trim. whole (sym ending.left_is ∙ trim);
+  done = subst (λ (n : ℕ). IsReleased n ending.chain) (whole_from left ending.chain whole) ending.done;
+}
 
 -- a first cell stands at its place
 pub first_stands : (pages : Pages) (at : CellAt) (first : PlacedCell) (rest : List PlacedCell) → IsFile pages at (first ∷ rest) → StandsAt pages at first.cell
@@ -122,9 +138,9 @@ trim_went group version list front files entry space cells old new ending stands
         }
 
 -- the clone's first cell says through which file it reads
-pub clone_record : (list : Listing) (front : List Entry) (files : Files) (entry : Entry) (left : Option Leftover) (space : Spaces) (cells : Cells) (old : Pages) (clone : CellAt) → entry.clone ≡ Some clone → IsEnding front entry left (now_of list files space cells old) → HasRecord 2 old clone
-clone_record list front files entry left space cells old clone given ending =
-    let entry_is = ending.has.well.listed.each entry (subst (λ (es : List Entry). Contains es entry) (sym ending.has.last) (last_in front entry)) in
+pub clone_record : (list : Listing) (front : List Entry) (files : Files) (entry : Entry) (space : Spaces) (cells : Cells) (old : Pages) (clone : CellAt) → entry.clone ≡ Some clone → HasEntry front entry (now_of list files space cells old) → HasRecord 2 old clone
+clone_record list front files entry space cells old clone given has =
+    let entry_is = has.well.listed.each entry (subst (λ (es : List Entry). Contains es entry) (sym has.last) (last_in front entry)) in
     let own = source_chain files clone entry.at (entry_is.given clone given) in
     by_own own.0 own.1 own.2
   where
@@ -134,7 +150,7 @@ clone_record list front files entry left space cells old clone given ending =
 
     by_own : (own : List PlacedCell) → files clone ≡ Some own → IsSome (source_of own) → HasRecord 2 old clone
     by_own [] is some = absurd (true≢false (sym some))
-    by_own (first ∷ rest) is some = by_value first (first_stands old clone first rest (standing space cells old files ending.has.well.together clone (first ∷ rest) is).file) (record_of 2 first.cell.records) refl some
+    by_own (first ∷ rest) is some = by_value first (first_stands old clone first rest (standing space cells old files has.well.together clone (first ∷ rest) is).file) (record_of 2 first.cell.records) refl some
 
 -- a file's first cell says its attributes
 pub entry_record : (list : Listing) (front : List Entry) (files : Files) (entry : Entry) (left : Option Leftover) (space : Spaces) (cells : Cells) (old : Pages) → IsEnding front entry left (now_of list files space cells old) → HasRecord 1 old entry.at
@@ -151,7 +167,7 @@ entry_record list front files entry left space cells old ending = by_chain endin
         by_value first (first_stands old entry.at first rest s.file) (record_of 1 first.cell.records) refl s.file.1.attributes
 
 -- a clone reads through its source no more
-pub reading_went : (group : ℕ) (version : Version) (list : Listing) (front : List Entry) (files : Files) (entry : Entry) (space : Spaces) (cells : Cells) (old new : Pages) (clone : CellAt) → entry.clone ≡ Some clone → IsEnding front entry (Some Remove) (now_of list files space cells old)
+pub reading_went : (group : ℕ) (version : Version) (list : Listing) (front : List Entry) (files : Files) (entry : Entry) (space : Spaces) (cells : Cells) (old new : Pages) (clone : CellAt) → entry.clone ≡ Some clone → IsEndingWhole front entry (now_of list files space cells old)
     → ((cell : Cell) → StandsAt old clone cell → StandsAt new clone (says_no_source cell)) → LeavesOthers (is_at clone) old new → KeepsWellFormed old new → KeepsHeaders old new → ((home : Home) → same_home home (home_of clone) ≡ false → new home ≡ old home)
     → Leaves group version (now_of list files space cells old) (list_after went.Reading front entry list) space cells new
 reading_went group version list front files entry space cells old new clone given ending stands leaves good headers elsewhere =
@@ -172,7 +188,7 @@ reading_went group version list front files entry space cells old new clone give
             last = ending.has.last;
             chain = ending.chain;
             is = ending.is;
-            removed = ending.left_is;
+            whole = ending.whole;
             done = ending.done;
             clone = clone;
             given = given;
@@ -195,7 +211,7 @@ reading_went group version list front files entry space cells old new clone give
         }
 
 -- a file that has let go of all has one cell
-pub only_cell : (list : Listing) (front : List Entry) (files : Files) (entry : Entry) (space : Spaces) (cells : Cells) (old : Pages) → IsEnding front entry (Some Remove) (now_of list files space cells old)
+pub only_cell : (list : Listing) (front : List Entry) (files : Files) (entry : Entry) (space : Spaces) (cells : Cells) (old : Pages) → IsEndingWhole front entry (now_of list files space cells old)
     → (first : PlacedCell) × IsFile old entry.at (first ∷ []) × ((page : ℕ) → places_of (first ∷ []) page ≡ Absent)
 only_cell list front files entry space cells old ending = by_chain ending.chain (standing space cells old files ending.has.well.together entry.at ending.chain ending.is).file ending.done
   where
@@ -210,12 +226,12 @@ only_cell list front files entry space cells old ending = by_chain ending.chain 
         absurd (there (sym (shown_value (first ∷ []) c rest map.value has file.1.one_map pages.page there) ∙ done.absent pages.page (omega arith)))
 
 -- a file's last cell goes
-pub file_went : (group : ℕ) (version : Version) (list : Listing) (front : List Entry) (files : Files) (entry : Entry) (space : Spaces) (cells cells_now : Cells) (old new : Pages) → entry.clone ≡ None → IsEnding front entry (Some Remove) (now_of list files space cells old)
+pub file_went : (group : ℕ) (version : Version) (list : Listing) (front : List Entry) (files : Files) (entry : Entry) (space : Spaces) (cells cells_now : Cells) (old new : Pages) → entry.clone ≡ None → IsEndingWhole front entry (now_of list files space cells old)
     → LeavesOthers (is_at entry.at) old new → FreesCell entry.at cells cells_now → AreAllocated space cells_now new → LeavesOffTables cells_now old new
     → Leaves group version (now_of list files space cells old) (list_after went.Last front entry list) space cells_now new
-file_went group version list front files entry space cells cells_now old new alone ending leaves frees allocated elsewhere = by_chain ending.chain ending.is ending.left_is ending.done
+file_went group version list front files entry space cells cells_now old new alone ending leaves frees allocated elsewhere = by_chain ending.chain ending.is ending.whole ending.done
   where
-    by_chain : (chain : List PlacedCell) → files entry.at ≡ Some chain → left_of chain ≡ Some Remove → IsReleased 0 chain → Leaves group version (now_of list files space cells old) (list_after went.Last front entry list) space cells_now new
+    by_chain : (chain : List PlacedCell) → files entry.at ≡ Some chain → GoesWhole chain → IsReleased 0 chain → Leaves group version (now_of list files space cells old) (list_after went.Last front entry list) space cells_now new
     by_chain [] is left done = absurd (standing space cells old files ending.has.well.together entry.at [] is).file
     by_chain (first ∷ rest) is left done =
         let listed = listed_as space cells files list front entry ending.has.last ending.has.well.listed in
@@ -227,7 +243,7 @@ file_went group version list front files entry space cells cells_now old new alo
             last = ending.has.last;
             chain = first ∷ rest;
             is = is;
-            removed = left;
+            whole = left;
             done = done;
             alone = alone;
             files = refl;

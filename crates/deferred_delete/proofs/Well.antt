@@ -124,19 +124,18 @@ pub record IsReady (files : Files) (entry : Entry) (left : Option Leftover) (fro
   pub is_entry : IsEntry files entry
   pub chain : List PlacedCell
   pub is : files entry.at ≡ Some chain
-  pub some : IsSome (left_of chain)
   pub left_is : left_of chain ≡ left
   pub from_is : from ≡ stale_from chain
   pub own : List PlacedCell
   pub given : IsGiven files entry.clone reader own
   pub shares : AreSharing entry.at reader space cells pages chain own
 
-chain_of : (files : Files) (at : CellAt) → IsSome (option_and_then left_of (files at)) → (chain : List PlacedCell) × (files at ≡ Some chain) × IsSome (left_of chain)
+chain_of : (files : Files) (at : CellAt) → IsSome (files at) → (chain : List PlacedCell) × (files at ≡ Some chain)
 chain_of files at some = by_chain (files at) refl some
   where
-    by_chain : (o : Option (List PlacedCell)) → files at ≡ o → IsSome (option_and_then left_of o) → (chain : List PlacedCell) × (files at ≡ Some chain) × IsSome (left_of chain)
+    by_chain : (o : Option (List PlacedCell)) → files at ≡ o → IsSome o → (chain : List PlacedCell) × (files at ≡ Some chain)
     by_chain None is some = absurd (true≢false (sym some))
-    by_chain (Some cs) is some = (cs, is, some)
+    by_chain (Some cs) is some = (cs, is)
 
 -- the chain of a file that reads through another
 pub source_chain : (files : Files) (clone at : CellAt) → ReadsThrough files clone at → (own : List PlacedCell) × (files clone ≡ Some own) × IsSome (source_of own)
@@ -169,14 +168,13 @@ pub ready : (list : Listing) (front : List Entry) (files : Files) (entry : Entry
     → ((at : CellAt) (own : List PlacedCell) → entry.clone ≡ Some at → IsFile pages at own → IsSome (source_of own) → ReadsFrozen at own reader) → IsReady files entry left from reader space cells pages
 ready list front files entry left from reader space cells pages has lefts froms none some =
     let is_entry = has.well.listed.each entry (subst (λ (es : List Entry). Contains es entry) (sym has.last) (last_in front entry)) in
-    let c = chain_of files entry.at is_entry.pending in
+    let c = chain_of files entry.at is_entry.there in
     let file = (standing space cells pages files has.well.together entry.at c.0 c.1).file in
     let given = given_of files entry reader space cells pages has.well.together is_entry none some in
     record {
       is_entry = is_entry;
       chain = c.0;
       is = c.1;
-      some = c.2;
       left_is = sym (lefts c.0 file);
       from_is = froms c.0 file ∙ ap (λ o. from_by o c.0) (lefts c.0 file);
       own = given.0;

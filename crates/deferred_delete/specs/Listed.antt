@@ -35,10 +35,14 @@ from_by None cells = 0
 abbrev pub stale_from : List PlacedCell → ℕ
 stale_from cells = from_by (left_of cells) cells
 
--- a file is there whose first cell says that something is left to be done; the clone's file is
--- given that reads through it, and none where none does
+-- all of a file goes that is on a list: its first cell says that it is to be removed, or nothing,
+-- where its fileset was removed as a whole
+abbrev pub GoesWhole : List PlacedCell → Type 0
+GoesWhole cells = ¬ left_of cells ≡ Some Trim
+
+-- a file is there; the clone's file is given that reads through it, and none where none does
 pub record IsEntry (files : Files) (entry : Entry) : Type 0 where
-  pub pending : IsSome (option_and_then left_of (files entry.at))
+  pub there : IsSome (files entry.at)
   pub given : (clone : CellAt) → entry.clone ≡ Some clone → ReadsThrough files clone entry.at
   pub all : (clone : CellAt) → ReadsThrough files clone entry.at → entry.clone ≡ Some clone
 

@@ -6,7 +6,7 @@ use Rattle.domain_base.specs.declared.place.Home.{Home}
 use Rattle.domain_base.specs.declared.version.Version.{Version}
 use Rattle.page_store.specs.Pages.{Pages}
 use Rattle.record_table.specs.declared.record.Leftover.{Leftover}
-use Rattle.record_table.specs.declared.record.Leftover.TheVariants.{Remove, Trim}
+use Rattle.record_table.specs.declared.record.Leftover.TheVariants.{Trim}
 use Rattle.record_table.specs.declared.record.Record.{Record}
 use Rattle.record_table.specs.declared.record.Record.TheVariants as written
 use Rattle.bmt_mcells.specs.Cell.{Cell, record_of}
@@ -29,7 +29,7 @@ use Rattle.chain_release.specs.Sharing.{IsReleased, frozen_of}
 use Rattle.deferred_delete.specs.declared.list.Entry.{Entry}
 use Rattle.deferred_delete.specs.declared.went.Went.{Went}
 use Rattle.deferred_delete.specs.declared.went.Went.TheVariants as went
-use Rattle.deferred_delete.specs.Listed.{IsListed, from_by, left_of, stale_from}
+use Rattle.deferred_delete.specs.Listed.{GoesWhole, IsListed, from_by, left_of, stale_from}
 use Rattle.deferred_delete.specs.Listing.{Listing}
 use Rattle.deferred_delete.specs.Standing.{Files, StandTogether, source_of, with_file}
 
@@ -146,7 +146,7 @@ pub record EndsReading (old new : Now) : Type 0 where
   pub last : IsLast front entry old.list
   pub chain : List PlacedCell
   pub is : old.files entry.at ≡ Some chain
-  pub removed : left_of chain ≡ Some Remove
+  pub whole : GoesWhole chain
   pub done : IsReleased 0 chain
   pub clone : CellAt
   pub given : entry.clone ≡ Some clone
@@ -174,7 +174,7 @@ pub record EndsFile (old new : Now) : Type 0 where
   pub last : IsLast front entry old.list
   pub chain : List PlacedCell
   pub is : old.files entry.at ≡ Some chain
-  pub removed : left_of chain ≡ Some Remove
+  pub whole : GoesWhole chain
   pub done : IsReleased 0 chain
   pub alone : entry.clone ≡ None
   pub files : new.files ≡ with_file entry.at None old.files
@@ -251,6 +251,14 @@ pub record IsEnding (front : List Entry) (entry : Entry) (left : Option Leftover
   pub is : now.files entry.at ≡ Some chain
   pub left_is : left_of chain ≡ left
   pub done : IsReleased (from_by left chain) chain
+
+-- the same of a file of which all goes
+pub record IsEndingWhole (front : List Entry) (entry : Entry) (now : Now) : Type 0 where
+  pub has : HasEntry front entry now
+  pub chain : List PlacedCell
+  pub is : now.files entry.at ≡ Some chain
+  pub whole : GoesWhole chain
+  pub done : IsReleased 0 chain
 
 -- a step leads to a list and files that belong together
 pub record Leaves (group : ℕ) (version : Version) (old : Now) (list : Listing) (space : Spaces)

@@ -1,14 +1,13 @@
 //! One step of letting go of an entry's file.
-ghost use Rattle.std.specs.Prelude.{◌≡◌, ◌≤◌, ◌+◌, ℕ, IfErr, IfOk, List, OnErr, Some};
+ghost use Rattle.std.specs.Prelude.{◌≡◌, ◌≤◌, ◌+◌, ℕ, IfErr, IfOk, List, OnErr};
 ghost use Rattle.domain_base.specs.declared.version.Version.{Version as VersionOf};
-ghost use Rattle.record_table.specs.declared.record.Leftover.TheVariants.{Remove};
 ghost use Rattle.page_store.specs.declared.fault.StoreFault.TheVariants.{NoPage};
 ghost use Rattle.free_space.specs.Spaces.{Spaces};
 ghost use Rattle.bitfile_cells.specs.Allocated.{FindsNone};
 ghost use Rattle.deferred_delete.specs.declared.list.Entry.{Entry as EntryOf};
 ghost use Rattle.deferred_delete.specs.Listing.{Listing};
 ghost use Rattle.deferred_delete.specs.Standing.{Files};
-ghost use Rattle.deferred_delete.specs.Steps.{HasEntry, IsEnding, LacksRoom, Leaves, list_after, now_of};
+ghost use Rattle.deferred_delete.specs.Steps.{HasEntry, IsEnding, IsEndingWhole, LacksRoom, Leaves, list_after, now_of};
 
 use crate::ending::{end_reading, end_trim};
 use crate::list::Entry;
@@ -22,19 +21,18 @@ use page_store::{MetaPages, StoreFault};
 use record_table::Leftover;
 use std::alloc::Global;
 
-/// Ends the reading of a removed file's clone through it or, where it has none, frees its last
-/// cell.
-fn end_removed<M: MetaPages>(
+/// Ends the reading of a clone through a file of which all goes or, where it has none, frees the
+/// file's last cell.
+fn end_whole<M: MetaPages>(
     alloc: Global,
     pages: &mut M,
     cells: &mut FreeCells,
     entry: &Entry,
 ) -> Result<Went, OutOfMemory>
     requires well { (list : Listing) × (front : List EntryOf) × (files : Files) × (space : Spaces)
-        × IsEnding front entry.now (Some Remove) (now_of list files space cells.old
-        (M.pages pages.old)) }
+        × IsEndingWhole front entry.now (now_of list files space cells.old (M.pages pages.old)) }
     ensures ok { (group : ℕ) (version : VersionOf) (list : Listing) (front : List EntryOf)
-        (files : Files) (space : Spaces) → IsEnding front entry.now (Some Remove) (now_of list files
+        (files : Files) (space : Spaces) → IsEndingWhole front entry.now (now_of list files
         space cells.old (M.pages pages.old)) → IfOk result (λ went. Leaves group version
         (now_of list files space cells.old (M.pages pages.old)) (list_after went front entry.now
         list) space cells.new (M.pages pages.new)) }
@@ -82,9 +80,9 @@ fn end_entry<M: MetaPages>(
                 end_trim(alloc, pages, &entry.at)?;
                 Ok(Went::Last)
             }
-            Leftover::Remove => end_removed(alloc, pages, cells, entry),
+            Leftover::Remove => end_whole(alloc, pages, cells, entry),
         },
-        None => Err(OutOfMemory),
+        None => end_whole(alloc, pages, cells, entry),
     }
 }
 

@@ -1,12 +1,10 @@
 use Rattle.deferred_delete.proofs.Stepping.{clone_record, file_went, only_cell, reading_went}
-use Rattle.std.proofs.Common.{Some}
-use Rattle.record_table.specs.declared.record.Leftover.TheVariants.{Remove}
-use Rattle.deferred_delete.proofs.entries.end_removed.Goals as goal
+use Rattle.deferred_delete.proofs.entries.end_whole.Goals as goal
 
 pub end_reading-requires : goal.end_reading-requires
 end_reading-requires g c =
     let w = c.requires.well in
-    clone_record w.0 w.1 w.2 c.args.entry.now (Some Remove) w.3 c.args.cells.now (g.M.MetaPages.pages c.args.pages.now) c.in-Some.clone c.in-Some.is w.4
+    clone_record w.0 w.1 w.2 c.args.entry.now w.3 c.args.cells.now (g.M.MetaPages.pages c.args.pages.now) c.in-Some.clone c.in-Some.is w.4.has
 
 pub release_last-requires-clause-file : goal.release_last-requires-clause-file
 release_last-requires-clause-file g c =
