@@ -24,7 +24,7 @@ use Rattle.deferred_laws.specs.Kept.{IsBeside, KeepsAll}
 use Rattle.deferred_laws.proofs.Emptied.{place_in_list, without_clone}
 use Rattle.deferred_laws.proofs.Ended.{trim_front, trim_once, trim_there}
 use Rattle.deferred_laws.proofs.Fits.{Fits, well_fits}
-use Rattle.deferred_laws.proofs.Fronts.{IsTrimmed, not_both, trimmed_step}
+use Rattle.deferred_laws.proofs.Fronts.{IsTrimmed, trimmed_step}
 use Rattle.deferred_laws.proofs.Laws.{fits_step}
 use Rattle.deferred_laws.proofs.Narrower.{in_last, inside_by}
 use Rattle.deferred_laws.proofs.Others.{beside_same, beside_still}
@@ -125,7 +125,7 @@ module _ (group : ℕ) (version : Version) (old new : Now) (fits : Fits old) (ch
       by_place (this same) =
           let at : s.entry.at ≡ a = sym (ap (λ (e : Entry). e.at) same) ∙ h.at in
           let was : s.chain ≡ k.after = some_same s.chain k.after (sym s.is ∙ ap old.files at ∙ k.is) in
-          absurd (not_both (left_of k.after) (k.left s.entry (in_last old.list s.front s.entry s.last) at).0 (sym (ap left_of was) ∙ s.removed))
+          absurd (s.whole (ap left_of was ∙ (k.left s.entry (in_last old.list s.front s.entry s.last) at).0))
 
   done_step : Step group version old new → HasEntryAt new a ⊎ IsDone new a
   done_step (pages_go s) = inl (has_now h.entry (inside_by new.list old.list h.entry (sym s.same_list) h.inside) h.at)

@@ -14,7 +14,7 @@ use Rattle.deferred_delete.specs.Standing.{Files, with_file}
 use Rattle.deferred_delete.specs.Steps.{IsWell}
 use Rattle.deferred_delete.proofs.Spread.{none_not, some_same}
 use Rattle.deferred_delete.proofs.Standings.{file_other}
-use Rattle.deferred_laws.specs.Calls.{Call, Calls, Drops, FilesetNow, Makes, PutsPage, SetsFirst, cut, described, dropped, given, made, moved, no_call, one_more, put_in, refused}
+use Rattle.deferred_laws.specs.Calls.{StandsWell, Call, Calls, Drops, FilesetNow, Makes, PutsPage, SetsFirst, cut, described, dropped, given, made, moved, no_call, one_more, put_in, refused}
 use Rattle.deferred_laws.specs.Tags.{AreAmong, start_of}
 use Rattle.deferred_laws.proofs.CallsWell.{stands_call}
 use Rattle.deferred_laws.proofs.CallTables.{chain_put}
@@ -22,7 +22,6 @@ use Rattle.deferred_laws.proofs.FirstWell.{files_left, no_chain}
 use Rattle.deferred_laws.proofs.FirstWell as set
 use Rattle.deferred_laws.proofs.MakeWell.{no_file}
 use Rattle.deferred_laws.proofs.MakeWell as make
-use Rattle.deferred_laws.proofs.PutWell.{StandsWell}
 use Rattle.deferred_laws.proofs.TagFile.{started}
 
 -- the file that begins at a cell is not the tag's

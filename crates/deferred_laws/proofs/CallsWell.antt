@@ -12,11 +12,11 @@ use Rattle.bitfile_core.specs.Together.{AreTogether, IsHeldApart}
 use Rattle.deferred_delete.specs.Listing.{Listing}
 use Rattle.deferred_delete.specs.Standing.{Files}
 use Rattle.deferred_delete.specs.Steps.{IsWell, now_of}
-use Rattle.deferred_laws.specs.Calls.{Call, Calls, FilesetNow, Refuses, cut, described, dropped, given, made, moved, no_call, one_more, put_in, refused}
+use Rattle.deferred_laws.specs.Calls.{StandsWell, Call, Calls, FilesetNow, Refuses, cut, described, dropped, given, made, moved, no_call, one_more, put_in, refused}
 use Rattle.deferred_laws.specs.Tags.{AreAmong}
 use Rattle.deferred_laws.proofs.FirstWell.{attributes_beside, attributes_live, dropped_among, dropped_well, first_among, first_well, parent_beside, parent_live, set_file, truncated_beside, truncated_live}
 use Rattle.deferred_laws.proofs.MakeWell.{made_among, made_well}
-use Rattle.deferred_laws.proofs.PutWell.{StandsWell, among_by, given_among, given_well, moved_among, moved_well}
+use Rattle.deferred_laws.proofs.PutWell.{among_by, given_among, given_well, moved_among, moved_well}
 use Rattle.deferred_laws.proofs.TagCalls.{together_call}
 use Rattle.deferred_laws.proofs.Wells.{well_by}
 
@@ -75,7 +75,7 @@ module _ (fileset : ℕ) (version : Version) (tag : Tag) (old new : FilesetNow) 
 
   among_call : Call fileset version tag old new → AreAmong new.domain new.places new.chains
   among_call (refused s) = among_by new.domain old.places new.places old.chains new.chains old.domain.list old.domain.files new.domain.space new.domain.cells s.list s.files s.places s.chains
-      (record { same = stood.among.same; live = stood.among.live; low = stood.among.low; no_tags = stood.among.no_tags; not_listed = stood.among.not_listed })
+      (record { same = stood.among.same; live = stood.among.live; trimmed = stood.among.trimmed; low = stood.among.low; no_tags = stood.among.no_tags; not_listed = stood.among.not_listed })
   among_call (given s) = given_among fileset version tag old new stood s
   among_call (moved s) = moved_among fileset version tag old new stood s
   among_call (described value s) = let file = set_file fileset tag old new stood _ s in first_among fileset tag old new stood _ s (attributes_beside old.domain.pages s.first s.rest file value) (attributes_live old.domain.pages s.first s.rest file value)

@@ -2,10 +2,9 @@
 use Rattle.std.proofs.Common.{◌≡◌, ◌∙◌, ◌⊎◌, inl, inr, ℕ, List, [], ◌∷◌, ◌++◌, Some, None, Contains, refl, sym, ap, subst, arith, ⊎_elim}
 use Rattle.domain_base.specs.declared.place.CellAt.{CellAt}
 use Rattle.domain_base.specs.declared.version.Version.{Version}
-use Rattle.record_table.specs.declared.record.Leftover.TheVariants.{Remove}
 use Rattle.bmt_mcells.specs.Chain.{PlacedCell}
 use Rattle.deferred_delete.specs.declared.list.Entry.{Entry}
-use Rattle.deferred_delete.specs.Listed.{left_of}
+use Rattle.deferred_delete.specs.Listed.{GoesWhole, left_of}
 use Rattle.deferred_delete.specs.Listing.{Listing}
 use Rattle.deferred_delete.specs.Steps.{EndsFile, EndsReading, EndsTrim, IsWell, LetsPages, Now, Step, Steps, file_ends, more, none, pages_go, reading_ends, tag_page_goes, trim_ends}
 use Rattle.deferred_delete.proofs.Lists.{IsIn, earlier, in_start, is_in, last_in, not_last, this}
@@ -13,7 +12,6 @@ use Rattle.deferred_delete.proofs.Spread.{Which, other, reading, some_same, sour
 use Rattle.deferred_laws.specs.Kept.{IsBeside}
 use Rattle.deferred_laws.proofs.Ended.{ended_other, file_front, file_gone, file_once, file_was, reading_other, same_file, trim_once, trim_other}
 use Rattle.deferred_laws.proofs.Fits.{Fits, well_fits}
-use Rattle.deferred_laws.proofs.Fronts.{not_both}
 use Rattle.deferred_laws.proofs.Laws.{fits_step}
 use Rattle.deferred_laws.proofs.Narrower.{in_last, inside_by}
 use Rattle.deferred_laws.proofs.Others.{beside_same, beside_still}
@@ -26,7 +24,7 @@ record IsLeaving (now : Now) (a : CellAt) : Type 0 where
   at : entry.at ≡ a
   chain : List PlacedCell
   is : now.files a ≡ Some chain
-  left : left_of chain ≡ Some Remove
+  left : GoesWhole chain
 
 record IsGone (now : Now) (a : CellAt) : Type 0 where
   gone : now.files a ≡ None
@@ -58,7 +56,7 @@ module _ (group : ℕ) (version : Version) (old new : Now) (fits : Fits old) (a 
             at = k.at;
             chain = s.releases.after;
             is = ap new.files same ∙ at_source group version old new fits s;
-            left = after_left group version old new fits s ∙ ap left_of was ∙ k.left;
+            left = λ trim. k.left (sym (ap left_of was) ∙ sym (after_left group version old new fits s) ∙ trim);
           }
       by_which (reading some) = absurd (fits.clones s.entry k.entry (in_last old.list s.front s.entry s.last) k.inside (some ∙ ap Some (sym k.at)))
       by_which (other not_at not_it) = still_leaving k.entry inside_now k.at (at_other group version old new fits s a not_at not_it)
@@ -72,7 +70,7 @@ module _ (group : ℕ) (version : Version) (old new : Now) (fits : Fits old) (a 
           (trim_other group version old new fits s a (λ same. not_last s.front s.entry k.entry (trim_once group version old new fits s) is (k.at ∙ same)))
       by_place (this same) =
           let was : s.chain ≡ k.chain = some_same s.chain k.chain (sym s.is ∙ ap old.files (sym (ap (λ (e : Entry). e.at) same) ∙ k.at) ∙ k.is) in
-          absurd (not_both (left_of k.chain) (sym (ap left_of was) ∙ s.trim) k.left)
+          absurd (k.left (sym (ap left_of was) ∙ s.trim))
 
   reading_leaving : EndsReading old new → IsLeaving new a
   reading_leaving s = by_place (place_in_list old.list s.front s.entry k.entry s.last k.inside)
@@ -129,7 +127,7 @@ leaves_still group version first count last well steps a leaving =
     ]
 
 pub removed_are_gone : (group : ℕ) (version : Version) (first : Now) (count : ℕ) (last : Now) → IsWell first → Steps group version first count last → last.list.entries ≡ []
-    → (entry : Entry) → Contains first.list.entries entry → (chain : List PlacedCell) → first.files entry.at ≡ Some chain → left_of chain ≡ Some Remove → last.files entry.at ≡ None
+    → (entry : Entry) → Contains first.list.entries entry → (chain : List PlacedCell) → first.files entry.at ≡ Some chain → GoesWhole chain → last.files entry.at ≡ None
 removed_are_gone group version first count last well steps empty entry inside chain is left =
     ⊎_elim
     (λ k. absurd (nothing k.entry (subst (λ (es : List Entry). Contains es k.entry) empty k.inside)))

@@ -9,13 +9,14 @@ use Rattle.bitfile_cells.specs.Files.{places_of}
 use Rattle.bitfile_core.specs.Changes.{with_first}
 use Rattle.chain_release.specs.Reading.{own_or}
 use Rattle.deferred_delete.specs.declared.list.Entry.{Entry}
-use Rattle.deferred_delete.specs.Listed.{from_by, stale_from}
+use Rattle.deferred_delete.specs.Listed.{stale_from, left_of}
 use Rattle.deferred_delete.specs.Listing.{Listing}
 use Rattle.deferred_delete.specs.Standing.{Files, ReadsThrough, Source, place_in, read_at, read_of, source_at, source_of}
 use Rattle.deferred_delete.specs.Steps.{EndsFile, EndsReading, EndsTrim, GivesTagPage, Now, file_ends, reading_ends, says_no_source, says_trimmed, tag_page_goes, trim_ends}
 use Rattle.deferred_delete.proofs.Lists.{AreEntriesOnce, IsIn, earlier, is_in, not_last, once_front, once_last, this}
 use Rattle.deferred_delete.proofs.Spread.{none_not, some_same}
 use Rattle.deferred_delete.proofs.Standings.{file_other, file_there, place_by, reads_by, same_or_not, source_by}
+use Rattle.deferred_delete.proofs.Stepping.{whole_from}
 use Rattle.deferred_laws.specs.Kept.{Stays}
 use Rattle.deferred_laws.proofs.FirstCells.{first_maps, first_other, first_place, first_places, first_there, sourceless_keeps, sourceless_source, trimmed_keeps, trimmed_source}
 use Rattle.deferred_laws.proofs.Fits.{Fits, fits_by}
@@ -210,7 +211,7 @@ module _ (group : ℕ) (version : Version) (old new : Now) (fits : Fits old) (s 
   ended_reads a p stays = ⊎_elim
       (λ same.
       let less : p < stale_from s.chain = stays s.entry file_in (sym same) s.chain (ap old.files same ∙ s.is) in
-      let none : stale_from s.chain ≡ 0 = ap (λ o. from_by o s.chain) s.removed in
+      let none : stale_from s.chain ≡ 0 = whole_from (left_of s.chain) s.chain s.whole in
       absurd (omega (arith, less, none)))
       (λ not_at. read_beside old.files new.files a p (ended_other a not_at) (λ x is_x.
       ap (λ o. option_map_or (λ cs. places_of cs p) o Absent) (ended_other x.at (λ it.

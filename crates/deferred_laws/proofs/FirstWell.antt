@@ -1,6 +1,6 @@
 -- All goes on to belong together where the first cell of a tag's file says something else, or the
 -- tag goes.
-use Rattle.std.proofs.Common.{◌≡◌, ◌∙◌, ℕ, Bool, false, cond, List, ◌∷◌, Option, Some, None, IfSome, IsSome, IsSomeAnd, Contains, refl, sym, ap, subst, arith, inl}
+use Rattle.std.proofs.Common.{◌≡◌, ◌∙◌, ℕ, Bool, false, cond, List, ◌∷◌, Option, Some, None, IfSome, IsSomeAnd, Contains, refl, sym, ap, subst, arith, inl}
 use Rattle.std.specs.Option.{option_and_then, option_map, option_map_or}
 use Rattle.domain_base.specs.declared.place.CellAt.{CellAt}
 use Rattle.domain_base.specs.declared.place.Home.{Home}
@@ -33,26 +33,27 @@ use Rattle.deferred_delete.specs.Listed.{left_of, leftover_in}
 use Rattle.deferred_delete.specs.Standing.{Files, IsStanding, source_in, with_file}
 use Rattle.deferred_delete.specs.Steps.{IsWell, now_of}
 use Rattle.deferred_delete.proofs.Standings.{apart_by, file_beside, file_there, place_by, source_by, standing}
-use Rattle.deferred_laws.specs.Calls.{Drops, FilesetNow, SetsFirst}
+use Rattle.deferred_laws.specs.Calls.{StandsWell, Drops, FilesetNow, SetsFirst}
 use Rattle.deferred_laws.specs.Tags.{AreAmong, chains_in, start_of}
 use Rattle.deferred_laws.proofs.OneFile.{IsPut, put_listed, put_together}
-use Rattle.deferred_laws.proofs.PutWell.{StandsWell, among_by}
+use Rattle.deferred_laws.proofs.PutWell.{among_by}
 use Rattle.deferred_laws.proofs.StillAmong.{still_among}
 use Rattle.deferred_laws.proofs.TagFile.{file_is, other_starts}
 use Rattle.deferred_laws.proofs.Wells.{well_by}
+use Rattle.deferred_delete.specs.declared.list.Entry.{Entry}
+use Rattle.deferred_delete.proofs.Spread.{none_not}
 
 -- ---- what the cell says then
 
--- where pages stand, and through which file it is read, is the same; and what is left to be done is
--- said where it was
+-- where pages stand, and through which file it is read, is the same
 pub record SaysBeside (says : Cell → Cell) (cell : Cell) : Type 0 where
   pub maps : map_records (says cell).records ≡ map_records cell.records
   pub source : record_of 2 (says cell).records ≡ record_of 2 cell.records
-  pub left : IsSome (option_and_then leftover_in (record_of 6 cell.records)) → IsSome (option_and_then leftover_in (record_of 6 (says cell).records))
 
--- and it is to be removed no more than it was
-abbrev pub StaysLive : (Cell → Cell) → Cell → Type 0
-StaysLive says cell = option_map_or says_remove (record_of 6 cell.records) false ≡ false → option_map_or says_remove (record_of 6 (says cell).records) false ≡ false
+-- and it is to be removed no more than it was, and to be trimmed where it was
+pub record StaysLive (says : Cell → Cell) (cell : Cell) : Type 0 where
+  pub live : option_map_or says_remove (record_of 6 cell.records) false ≡ false → option_map_or says_remove (record_of 6 (says cell).records) false ≡ false
+  pub trim : option_and_then leftover_in (record_of 6 cell.records) ≡ Some Trim → option_and_then leftover_in (record_of 6 (says cell).records) ≡ Some Trim
 
 changed_kind : (kind : ℕ) (change : Record → Record) → ((r : Record) → kind_of (change r) ≡ kind_of r) → (rs : List Record) → IfSome (option_map change (record_of kind rs)) (λ r. kind_of r ≡ kind)
 changed_kind kind change same rs = by_found (record_of kind rs) refl
@@ -61,11 +62,11 @@ changed_kind kind change same rs = by_found (record_of kind rs) refl
     by_found None is = tt
     by_found (Some r) is = same r ∙ kind_found kind rs r is
 
-by_same_left : (says : Cell → Cell) (cell : Cell) → record_of 6 (says cell).records ≡ record_of 6 cell.records → IsSome (option_and_then leftover_in (record_of 6 cell.records)) → IsSome (option_and_then leftover_in (record_of 6 (says cell).records))
-by_same_left says cell same some = subst (λ o. IsSome (option_and_then leftover_in o)) (sym same) some
-
 by_same_live : (says : Cell → Cell) (cell : Cell) → record_of 6 (says cell).records ≡ record_of 6 cell.records → StaysLive says cell
-by_same_live says cell same live = ap (λ o. option_map_or says_remove o false) same ∙ live
+by_same_live says cell same = record {
+  live = λ live. ap (λ o. option_map_or says_remove o false) same ∙ live;
+  trim = λ trim. ap (option_and_then leftover_in) same ∙ trim;
+}
 
 module _ (pages : Pages) (first : PlacedCell) (rest : List PlacedCell) (file : AreFile pages first rest) where
   attributes_other : (value : Attributes) (k : ℕ) → ¬ k ≡ 1 → record_of k (says_attributes value first.cell).records ≡ record_of k first.cell.records
@@ -75,7 +76,6 @@ module _ (pages : Pages) (first : PlacedCell) (rest : List PlacedCell) (file : A
   attributes_beside value = record {
     maps = attributes_keep pages first rest file value;
     source = attributes_other value 2 (λ e. omega (arith, e));
-    left = by_same_left (says_attributes value) first.cell (attributes_other value 6 (λ e. omega (arith, e)));
   }
 
   pub attributes_live : (value : Attributes) → StaysLive (says_attributes value) first.cell
@@ -88,7 +88,6 @@ module _ (pages : Pages) (first : PlacedCell) (rest : List PlacedCell) (file : A
   parent_beside parent = record {
     maps = parent_keeps pages first rest file parent;
     source = parent_other parent 2 (λ e. omega (arith, e));
-    left = by_same_left (says_parent parent) first.cell (parent_other parent 6 (λ e. omega (arith, e)));
   }
 
   pub parent_live : (parent : Tag) → StaysLive (says_parent parent) first.cell
@@ -104,23 +103,23 @@ module _ (pages : Pages) (first : PlacedCell) (rest : List PlacedCell) (file : A
   truncated_beside size None = record {
     maps = truncated_keeps pages first rest file size None;
     source = size_other size None 2 (λ e. omega (arith, e));
-    left = by_same_left (says_truncated size None) first.cell (size_other size None 6 (λ e. omega (arith, e)));
   }
   truncated_beside size (Some keep) = record {
     maps = truncated_keeps pages first rest file size (Some keep);
     source = find_other 6 2 (Some (written.Pending Trim)) (says_size size (Some keep) first.cell).records (λ e. omega (arith, e)) refl ∙ size_other size (Some keep) 2 (λ e. omega (arith, e));
-    left = λ some. subst (λ o. IsSome (option_and_then leftover_in o)) (sym (trim_there size keep)) refl;
   }
 
   pub truncated_live : (size : ℕ) (lowered : Option ℕ) → StaysLive (says_truncated size lowered) first.cell
-  truncated_live size None live = by_same_live (says_truncated size None) first.cell (size_other size None 6 (λ e. omega (arith, e))) live
-  truncated_live size (Some keep) live = ap (λ o. option_map_or says_remove o false) (trim_there size keep)
+  truncated_live size None = by_same_live (says_truncated size None) first.cell (size_other size None 6 (λ e. omega (arith, e)))
+  truncated_live size (Some keep) = record {
+    live = λ live. ap (λ o. option_map_or says_remove o false) (trim_there size keep);
+    trim = λ trim. ap (option_and_then leftover_in) (trim_there size keep);
+  }
 
   pub removed_beside : SaysBeside says_removed first.cell
   removed_beside = record {
     maps = removed_keeps pages first rest file;
     source = find_other 6 2 (Some (written.Pending Remove)) first.cell.records (λ e. omega (arith, e)) refl;
-    left = λ some. subst (λ o. IsSome (option_and_then leftover_in o)) (sym (find_put 6 (Some (written.Pending Remove)) first.cell.records refl)) refl;
   }
 
 -- ---- the file, and all others
@@ -165,19 +164,19 @@ module _ (fileset : ℕ) (tag : Tag) (old : FilesetNow) (stood : StandsWell file
   set_well = record {
     together = put_together old.domain.space old.domain.space old.domain.cells old.domain.cells old.domain.pages new files stood.well.together first.at after NoMore set_put;
     listed = put_listed old.domain.space old.domain.space old.domain.cells old.domain.cells old.domain.pages new files stood.well.together first.at after NoMore set_put old.domain.list stood.well.listed
-        (λ some. beside.left (subst IsSome (ap (option_and_then left_of) there) some))
         (λ home inside p more. more);
   }
 
   pub set_among : (chains_now : Chains) → ((t : Tag) → same_tag t tag ≡ false → chains_now t ≡ old.chains t) → chains_in (with_file first.at (Some after) files) chains_now tag ≡ chains_now tag → IfSome (chains_now tag) (λ cs. is_removed cs ≡ false)
+      → ((e : Entry) → Contains old.domain.list.entries e → option_and_then start_of (chains_now tag) ≡ Some e.at → option_and_then left_of (chains_now tag) ≡ Some Trim)
       → AreAmong (now_of old.domain.list (with_file first.at (Some after) files) old.domain.space old.domain.cells new) old.places chains_now
-  set_among chains_now others own live =
+  set_among chains_now others own live trim =
       still_among old.domain.list old.domain.space old.domain.space old.domain.cells old.domain.cells old.domain.pages new files stood.well.together first.at after NoMore set_put
       tag old.places old.places old.chains chains_now
-      (record { same = stood.among.same; live = stood.among.live; low = stood.among.low; no_tags = stood.among.no_tags; not_listed = stood.among.not_listed })
+      (record { same = stood.among.same; live = stood.among.live; trimmed = stood.among.trimmed; low = stood.among.low; no_tags = stood.among.no_tags; not_listed = stood.among.not_listed })
       others
       (other_starts fileset old.places old.domain.pages old.chains stood.together.files files stood.among.same tag (first ∷ rest) is first.at refl)
-      own live stood.among.low (λ h held no. no) (λ p h more. absurd more) stood.well.listed.pages_held
+      own live trim stood.among.low (λ h held no. no) (λ p h more. absurd more) stood.well.listed.pages_held
 
 -- ---- the calls
 
@@ -216,7 +215,9 @@ module _ (fileset : ℕ) (tag : Tag) (old new : FilesetNow) (stood : StandsWell 
         (λ t other. chain_other tag (with_first says) old.chains t other)
         (ap (λ o. option_and_then (with_file s.first.at (Some (with_first says (s.first ∷ s.rest))) old.domain.files) (option_and_then start_of o)) tag_now
         ∙ file_there s.first.at (Some (with_first says (s.first ∷ s.rest))) old.domain.files ∙ sym tag_now)
-        (subst (λ o. IfSome o (λ cs. is_removed cs ≡ false)) (sym tag_now) (live (subst (λ o. IfSome o (λ cs. is_removed cs ≡ false)) s.is (stood.among.live tag)))))
+        (subst (λ o. IfSome o (λ cs. is_removed cs ≡ false)) (sym tag_now) (live.live (subst (λ o. IfSome o (λ cs. is_removed cs ≡ false)) s.is (stood.among.live tag))))
+        (λ e inside is. ap (option_and_then left_of) tag_now
+        ∙ live.trim (ap (option_and_then left_of) (sym s.is) ∙ stood.among.trimmed e inside tag (ap (option_and_then start_of) s.is ∙ sym (ap (option_and_then start_of) tag_now) ∙ is))))
 
 module _ (fileset : ℕ) (tag : Tag) (old new : FilesetNow) (stood : StandsWell fileset old) (s : Drops fileset tag old new) where
   abbrev pub chains_left : Chains
@@ -237,7 +238,7 @@ module _ (fileset : ℕ) (tag : Tag) (old new : FilesetNow) (stood : StandsWell 
   dropped_beside : (a : CellAt) (cs : List PlacedCell) → old.domain.files a ≡ Some cs → ¬ Contains (cell_places cs) s.first.at → IsFile new.domain.pages a cs
   dropped_beside a cs is out = file_beside old.domain.pages new.domain.pages s.first.at a cs dropped_leaves out (standing old.domain.space old.domain.cells old.domain.pages old.domain.files stood.well.together a cs is).file
 
-  dropped_was : AreFile old.domain.pages s.first s.rest
+  pub dropped_was : AreFile old.domain.pages s.first s.rest
   dropped_was = (standing old.domain.space old.domain.cells old.domain.pages old.domain.files stood.well.together s.first.at (s.first ∷ s.rest)
       (file_is fileset old.places old.domain.pages old.chains stood.together.files old.domain.files stood.among.same tag (s.first ∷ s.rest) s.is s.first.at refl)).file.1
 
@@ -253,4 +254,5 @@ module _ (fileset : ℕ) (tag : Tag) (old new : FilesetNow) (stood : StandsWell 
       (set_among fileset tag old stood new.domain.pages s.first s.rest s.is says_removed s.together.allocated dropped_now dropped_beside (removed_beside old.domain.pages s.first s.rest dropped_was) chains_left
       (λ t other. ap (λ (b : Bool). cond b None (old.chains t)) other)
       (ap (λ o. option_and_then (with_file s.first.at (Some (with_first says_removed (s.first ∷ s.rest))) old.domain.files) (option_and_then start_of o)) no_chain ∙ sym no_chain)
-      (subst (λ o. IfSome o (λ cs. is_removed cs ≡ false)) (sym no_chain) tt))
+      (subst (λ o. IfSome o (λ cs. is_removed cs ≡ false)) (sym no_chain) tt)
+      (λ e inside is. absurd (none_not e.at (sym (ap (option_and_then start_of) no_chain) ∙ is))))

@@ -1,9 +1,8 @@
 -- A file that is trimmed keeps its pages in front of those that go.
-use Rattle.std.proofs.Common.{◌≡◌, ◌∙◌, ℕ, ◌<◌, List, Option, Some, Contains, refl, sym, ap, subst, ⊎_elim}
+use Rattle.std.proofs.Common.{◌≡◌, ◌∙◌, ℕ, ◌<◌, List, Some, Contains, refl, sym, ap, subst, ⊎_elim}
 use Rattle.domain_base.specs.declared.place.CellAt.{CellAt}
 use Rattle.domain_base.specs.declared.version.Version.{Version}
-use Rattle.record_table.specs.declared.record.Leftover.{Leftover}
-use Rattle.record_table.specs.declared.record.Leftover.TheVariants.{Remove, Trim}
+use Rattle.record_table.specs.declared.record.Leftover.TheVariants.{Trim}
 use Rattle.bmt_mcells.specs.Chain.{PlacedCell}
 use Rattle.bitfile_cells.specs.Files.{places_of}
 use Rattle.bitfile_core.specs.Changes.{with_first}
@@ -29,9 +28,6 @@ pub record IsTrimmed (chain : List PlacedCell) (now : Now) (a : CellAt) : Type 0
   pub places : (p : ℕ) → p < stale_from chain → places_of after p ≡ places_of chain p
   pub no_clone : (e : Entry) → Contains now.list.entries e → ¬ e.clone ≡ Some a
   pub left : (e : Entry) → Contains now.list.entries e → e.at ≡ a → (left_of after ≡ Some Trim) × (stale_from after ≡ stale_from chain)
-
-pub not_both : (o : Option Leftover) → o ≡ Some Trim → o ≡ Some Remove → ⊥
-not_both o trim remove = let e : Some Trim ≡ Some Remove = sym trim ∙ remove in absurd (cc)
 
 module _ (group : ℕ) (version : Version) (old new : Now) (chain : List PlacedCell) (a : CellAt) (k : IsTrimmed chain old a) where
   no_clone_now : Step group version old new → (e : Entry) → Contains new.list.entries e → ¬ e.clone ≡ Some a
@@ -95,7 +91,7 @@ module _ (group : ℕ) (version : Version) (old new : Now) (chain : List PlacedC
     file_trimmed s = still_trimmed (file_ends s)
         (ended_other group version old new fits s a (λ same.
         let was : s.chain ≡ k.after = some_same s.chain k.after (sym s.is ∙ sym (ap old.files same) ∙ k.is) in
-        not_both (left_of k.after) (k.left s.entry (in_last old.list s.front s.entry s.last) (sym same)).0 (sym (ap left_of was) ∙ s.removed)))
+        s.whole (ap left_of was ∙ (k.left s.entry (in_last old.list s.front s.entry s.last) (sym same)).0)))
 
     pub trimmed_step : Step group version old new → IsTrimmed chain new a
     trimmed_step (pages_go s) = lets_trimmed s

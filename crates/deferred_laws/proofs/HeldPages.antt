@@ -25,9 +25,9 @@ use Rattle.deferred_laws.proofs.CallTables.{call_places, call_tables, low_put, p
 use Rattle.deferred_laws.proofs.TagCalls.{StandsTogether, together_still}
 
 -- what is held stays so, and what is so then was, or is one of these
-record Grows (space space_now : Spaces) (taken : Home → Type 0) : Type 0 where
-  stays : (h : Home) → IsHeld space h.vol h.page → IsHeld space_now h.vol h.page
-  only : (h : Home) → 1 ≤ h.vol → IsHeld space_now h.vol h.page → IsHeld space h.vol h.page ⊎ taken h
+pub record Grows (space space_now : Spaces) (taken : Home → Type 0) : Type 0 where
+  pub stays : (h : Home) → IsHeld space h.vol h.page → IsHeld space_now h.vol h.page
+  pub only : (h : Home) → 1 ≤ h.vol → IsHeld space_now h.vol h.page → IsHeld space h.vol h.page ⊎ taken h
 
 grows_same : (space space_now : Spaces) (taken : Home → Type 0) → space_now ≡ space → Grows space space_now taken
 grows_same space space_now taken same = record {
@@ -106,7 +106,7 @@ module _ (prefer : ℕ) (space space_now : Spaces) (cells cells_now : Cells) (ol
       subst (λ (t : List ℕ). Contains t home.page) (sym (same home.vol ∙ joins.tables home.vol ∙ ap (λ (b : Bool). cond b (table_of cells home.vol ++ home.page ∷ []) (table_of cells home.vol)) (eq-eqb home.vol home.vol refl)))
       (in_end (table_of cells home.vol) home.page)
 
-  one_grows : Grows space space_now OnTable
+  pub one_grows : Grows space space_now OnTable
   one_grows = ⊎_elim
       (λ had. grows_same space space_now OnTable had.same_space)
       (λ none.
@@ -159,7 +159,7 @@ module _ (fileset : ℕ) (version : Version) (tag : Tag) (old new : FilesetNow) 
       grows_then old.domain.space middle new.domain.space (λ h. h ≡ page.home) _ New
       (λ h is. inr (inr (ap (has_home new.places) is ∙ has)))
       (λ h is. inr (inl is))
-      (grows_page old.domain.space page.home (s.low page.home has))
+      (grows_page old.domain.space page.home page.low)
       (one_grows s.prefer middle new.domain.space old.domain.cells new.domain.cells old.domain.pages page.cell))
       s.taken
 

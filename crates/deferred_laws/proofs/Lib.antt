@@ -29,3 +29,7 @@ pub mod HeldPages
 pub mod StillWaits
 pub mod BesideCalls
 pub mod TagPages
+pub mod HeldSteps
+pub mod SourcesStay
+pub mod TagsBeside
+pub mod SaysStill

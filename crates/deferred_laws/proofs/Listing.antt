@@ -1,10 +1,11 @@
 -- A list of the files with one entry, or one page of a tag directory, more.
-use Rattle.std.proofs.Common.{◌≡◌, ◌∙◌, ◌⊎◌, ⊎_elim, inl, inr, ℕ, zero, suc, ◌<◌, ◌≤◌, List, [], ◌∷◌, ◌++◌, Option, Some, Contains, get_or, length, slice_set, refl, sym, ap, subst, arith}
+use Rattle.std.proofs.Common.{◌≡◌, ◌∙◌, ◌⊎◌, ⊎_elim, inl, inr, ℕ, zero, suc, ◌<◌, ◌≤◌, List, [], ◌∷◌, ◌++◌, Option, Some, Contains, get_or, length, slice_set, refl, sym, ap, subst, arith, false}
 use Rattle.std.proofs.lemmas.List.{length-set}
 use Rattle.std.specs.Option.{option_and_then}
 use Rattle.domain_base.specs.declared.place.CellAt.{CellAt}
 use Rattle.domain_base.specs.declared.place.Home.{Home}
 use Rattle.domain_base.specs.declared.place.Tag.{Tag}
+use Rattle.domain_base.specs.declared.version.Version.{Version}
 use Rattle.record_table.specs.declared.record.Leftover.TheVariants.{Remove, Trim}
 use Rattle.record_table.specs.declared.record.Record.TheVariants as written
 use Rattle.bitfile_cells.proofs.Allocated.{there_is}
@@ -19,9 +20,13 @@ use Rattle.deferred_delete.specs.Listing.{Adds, AddsEntry, Listing, SetsClone}
 use Rattle.deferred_delete.specs.Steps.{IsWell, Now}
 use Rattle.deferred_delete.proofs.Lists.{AreEntriesOnce, get_front, get_last, longer}
 use Rattle.deferred_delete.proofs.Standings.{file_there}
-use Rattle.deferred_laws.specs.Calls.{Drops, FilesetNow, SetsFirst}
+use Rattle.deferred_laws.specs.Calls.{Call, Calls, Drops, FilesetNow, SetsFirst, cut, described, dropped, given, made, moved, no_call, one_more, put_in, refused}
 use Rattle.deferred_laws.specs.Lists.{MayList, MayListPage, with_list}
 use Rattle.deferred_laws.specs.Waits.{IsNowhere}
+use Rattle.tag_dirs.specs.declared.dir.TagPlace.{TagPlace}
+use Rattle.tag_dirs.specs.Directory.{has_home}
+use Rattle.bitfile_core.specs.Files.{Chains}
+use Rattle.deferred_laws.specs.Tags.{AreAmong, start_of}
 
 -- ---- what is in a list
 
@@ -42,6 +47,13 @@ inside_set (x ∷ xs) (suc i) y e (suc k, within, is) =
 
 there : {X : Type 0} (xs : List X) (k : ℕ) (d : X) → k < length xs → Contains xs (get_or xs k d)
 there xs k d within = (k, within, there_is xs k (get_or xs k d) d within)
+
+-- an entry was there, or is the one that was added
+pub which_entry : (old new : List Entry) (at : CellAt) (clone : Option CellAt) → Adds at clone old new → (e : Entry) → Contains new e → Contains old e ⊎ (e ≡ record { at = at; clone = clone })
+which_entry old new at clone adds e inside = ⊎_elim
+    (λ s. inside_set old s.place (record { at = at; clone = clone }) e (subst (λ (es : List Entry). Contains es e) s.is inside))
+    (λ s. inside_last old (record { at = at; clone = clone }) e (subst (λ (es : List Entry). Contains es e) s.is inside))
+    adds
 
 -- ---- no file has two entries
 
@@ -162,6 +174,25 @@ page_listed now home list well may adds same = record {
     which : (h : Home) → Contains list.tag_pages h → Contains now.list.tag_pages h ⊎ (h ≡ home)
     which h is = inside_last now.list.tag_pages home h (subst (λ (hs : List Home). Contains hs h) adds is)
 
+-- ---- calls change no list
+
+list_call : (fileset : ℕ) (version : Version) (tag : Tag) (old new : FilesetNow) → Call fileset version tag old new → new.domain.list ≡ old.domain.list
+list_call fileset version tag old new (refused s) = s.list
+list_call fileset version tag old new (given s) = s.puts.list
+list_call fileset version tag old new (moved s) = s.puts.list
+list_call fileset version tag old new (described value s) = s.list
+list_call fileset version tag old new (put_in parent s) = s.list
+list_call fileset version tag old new (cut size lowered s) = s.list
+list_call fileset version tag old new (dropped s) = s.list
+list_call fileset version tag old new (made s) = s.list
+
+pub list_stays : (fileset : ℕ) (version : Version) (tag : Tag) (first last : FilesetNow) → Calls fileset version tag first last → last.domain.list ≡ first.domain.list
+list_stays fileset version tag first last calls =
+    elim calls as (λ last calls. last.domain.list ≡ first.domain.list) [
+      | no_call ↦ refl
+      | one_more between last (calls → was) call ↦ list_call fileset version tag between last call ∙ was
+    ]
+
 -- ---- what calls leave to be done
 
 pub dropped_left : (fileset : ℕ) (tag : Tag) (old new : FilesetNow) → (s : Drops fileset tag old new) → option_and_then left_of (new.domain.files s.at) ≡ Some Remove
@@ -175,3 +206,27 @@ cut_left fileset tag size keep old new s =
     ap (λ files. option_and_then left_of (files s.first.at)) s.files
     ∙ ap (option_and_then left_of) (file_there s.first.at (Some (with_first (says_truncated size (Some keep)) (s.first ∷ s.rest))) old.domain.files)
     ∙ ap (option_and_then leftover_in) (find_put 6 (Some (written.Pending Trim)) (says_size size (Some keep) s.first.cell).records refl)
+
+-- ---- the files of a fileset
+
+module _ (now : Now) (list : Listing) (places : List TagPlace) (chains : Chains) (among : AreAmong now places chains) where
+  among_list : ((e : Entry) → Contains list.entries e → (tag : Tag) → option_and_then start_of (chains tag) ≡ Some e.at → option_and_then left_of (chains tag) ≡ Some Trim) → ((home : Home) → Contains list.tag_pages home → has_home places home ≡ false)
+      → AreAmong (with_list list now) places chains
+  among_list trimmed not_listed = record { same = among.same; live = among.live; trimmed = trimmed; low = among.low; no_tags = among.no_tags; not_listed = not_listed }
+
+  pub entry_among : (at : CellAt) (clone : Option CellAt) → Adds at clone now.list.entries list.entries → list.tag_pages ≡ now.list.tag_pages
+      → ((tag : Tag) → option_and_then start_of (chains tag) ≡ Some at → option_and_then left_of (chains tag) ≡ Some Trim) → AreAmong (with_list list now) places chains
+  entry_among at clone adds same trim = among_list
+      (λ e inside tag starts. ⊎_elim
+      (λ was. among.trimmed e was tag starts)
+      (λ this. trim tag (starts ∙ ap (λ (x : Entry). Some x.at) this))
+      (which_entry now.list.entries list.entries at clone adds e inside))
+      (λ home inside. among.not_listed home (subst (λ (hs : List Home). Contains hs home) same inside))
+
+  pub page_among : (home : Home) → list.tag_pages ≡ now.list.tag_pages ++ home ∷ [] → list.entries ≡ now.list.entries → has_home places home ≡ false → AreAmong (with_list list now) places chains
+  page_among home adds same none = among_list
+      (λ e inside tag starts. among.trimmed e (subst (λ (es : List Entry). Contains es e) same inside) tag starts)
+      (λ h inside. ⊎_elim
+      (λ was. among.not_listed h was)
+      (λ this. ap (has_home places) this ∙ none)
+      (inside_last now.list.tag_pages home h (subst (λ (hs : List Home). Contains hs h) adds inside)))

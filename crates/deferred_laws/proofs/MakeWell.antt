@@ -1,6 +1,6 @@
 -- All goes on to belong together where a tag names a new file.
-use Rattle.std.proofs.Common.{◌≡◌, ◌∙◌, ◌||◌, ℕ, zero, suc, Bool, true, false, cond, List, [], ◌∷◌, ◌++◌, Option, Some, None, IfSome, IsSomeAnd, Contains, refl, sym, ap, subst, arith, ⊎_elim}
-use Rattle.std.proofs.lemmas.Bool.{cases_Bool, true≢false}
+use Rattle.std.proofs.Common.{◌≡◌, ◌∙◌, ◌||◌, ◌⊎◌, ◌≤◌, inl, inr, ℕ, zero, suc, Bool, true, false, cond, List, [], ◌∷◌, ◌++◌, Option, Some, None, IfSome, IsSomeAnd, Contains, refl, sym, ap, subst, arith, ⊎_elim, is_some}
+use Rattle.std.proofs.lemmas.Bool.{cases_Bool, or_cases, true≢false}
 use Rattle.std.proofs.lemmas.List.Folds.{list_any-append}
 use Rattle.std.specs.Option.{option_and_then, option_map_or}
 use Rattle.domain_base.specs.declared.place.CellAt.{CellAt}
@@ -27,19 +27,20 @@ use Rattle.bitfile_core.proofs.Grown.{apart_taken, one_apart}
 use Rattle.bitfile_core.proofs.OneChain.{same_tag_itself}
 use Rattle.chain_release.proofs.Given.{absent_home}
 use Rattle.chain_release.proofs.Outcome.{on_at}
-use Rattle.deferred_delete.specs.Listed.{left_of}
 use Rattle.deferred_delete.specs.Standing.{Files, source_in, source_of, with_file}
 use Rattle.deferred_delete.specs.Steps.{IsWell}
 use Rattle.deferred_delete.proofs.Standings.{file_there, standing}
-use Rattle.deferred_laws.specs.Calls.{FilesetNow, Makes}
+use Rattle.deferred_laws.specs.Calls.{StandsWell, FilesetNow, Makes}
 use Rattle.deferred_laws.specs.Tags.{AreAmong, start_of}
 use Rattle.deferred_laws.proofs.CallTables.{made_tables}
 use Rattle.deferred_laws.proofs.FirstWell.{NoMore}
 use Rattle.deferred_laws.proofs.OneFile.{IsPut, put_listed, put_together}
-use Rattle.deferred_laws.proofs.PutWell.{StandsWell, among_by, in_use}
+use Rattle.deferred_laws.proofs.PutWell.{among_by, in_use}
 use Rattle.deferred_laws.proofs.StillAmong.{still_among}
 use Rattle.deferred_laws.proofs.TagFile.{beside_left, no_other_start}
 use Rattle.deferred_laws.proofs.Wells.{well_by}
+use Rattle.deferred_delete.specs.declared.list.Entry.{Entry}
+use Rattle.deferred_delete.proofs.Spread.{some_same}
 
 not_two : (version : Version) → ¬ 2 ≡ short_kind version
 not_two Three is = omega (arith, is)
@@ -54,6 +55,13 @@ no_home_more : (places : List TagPlace) (p : TagPlace) (h : Home) → ¬ h ≡ p
 no_home_more places p h other none =
     list_any-append (λ (q : TagPlace). same_home h q.home) places (p ∷ []) ∙ ap (λ (b : Bool). b || (same_home h p.home || false)) none
     ∙ ⊎_elim (λ same. absurd (other (homes_same h p.home same))) (λ differ. ap (λ (b : Bool). b || false) differ) (cases_Bool (same_home h p.home))
+
+-- what it has was there, or is the home of that page
+one_home_more : (places : List TagPlace) (p : TagPlace) (h : Home) → has_home (places ++ p ∷ []) h ≡ true → (has_home places h ≡ true) ⊎ (h ≡ p.home)
+one_home_more places p h has = ⊎_elim
+    (λ was. inl was)
+    (λ this. ⊎_elim (λ same. inr (homes_same h p.home same)) (λ none. absurd (true≢false (sym none))) (or_cases (same_home h p.home) false this))
+    (or_cases (has_home places h) (same_home h p.home || false) (sym (list_any-append (λ (q : TagPlace). same_home h q.home) places (p ∷ [])) ∙ has))
 
 file_inside : (pages : Pages) (at : CellAt) (cs : List PlacedCell) → IsFile pages at cs → Contains (cell_places cs) at
 file_inside pages at [] is = absurd is
@@ -103,6 +111,19 @@ module _ (fileset : ℕ) (version : Version) (tag : Tag) (old new : FilesetNow) 
       none)
       s.taken
 
+  -- no entry is of it yet
+  not_listed_yet : (e : Entry) → Contains old.domain.list.entries e → first.at ≡ e.at → ⊥
+  not_listed_yet e inside same = true≢false (sym (stood.well.listed.each e inside).there ∙ ap (λ (a : CellAt). is_some (files a)) (sym same) ∙ ap is_some no_file)
+
+  low : (h : Home) → has_home new.places h ≡ true → 1 ≤ h.vol
+  low h has = ⊎_elim
+      (λ cell. stood.among.low h (sym (ap (λ (ps : List TagPlace). has_home ps h) cell.same) ∙ has))
+      (λ page. ⊎_elim
+      (λ was. stood.among.low h was)
+      (λ same. subst (λ (x : Home). 1 ≤ x.vol) (sym same) page.low)
+      (one_home_more old.places (record { index = page.index; home = page.home }) h (sym (ap (λ (ps : List TagPlace). has_home ps h) page.joins) ∙ has)))
+      s.taken
+
   abbrev pub chains_now : Chains
   chains_now = with_new tag after old.chains
 
@@ -119,7 +140,7 @@ module _ (fileset : ℕ) (version : Version) (tag : Tag) (old new : FilesetNow) 
   on_now : AreOnTables new.domain.cells after
   on_now = subst (λ o. IfSome o (AreOnTables new.domain.cells)) tag_now (s.creates.together.on_tables tag)
 
-  put : IsPut old.domain.space new.domain.space old.domain.cells new.domain.cells new.domain.pages files first.at after NoMore
+  pub put : IsPut old.domain.space new.domain.space old.domain.cells new.domain.cells new.domain.pages files first.at after NoMore
   put = record {
     allocated = s.creates.together.allocated;
     stands = record { file = first_file (cell_of new.domain.pages new.places tag) led.leads; on_tables = on_now };
@@ -139,21 +160,17 @@ module _ (fileset : ℕ) (version : Version) (tag : Tag) (old new : FilesetNow) 
       (record {
         together = put_together old.domain.space new.domain.space old.domain.cells new.domain.cells old.domain.pages new.domain.pages files stood.well.together first.at after NoMore put;
         listed = put_listed old.domain.space new.domain.space old.domain.cells new.domain.cells old.domain.pages new.domain.pages files stood.well.together first.at after NoMore put old.domain.list stood.well.listed
-            (λ some. absurd (true≢false (sym some ∙ ap (λ o. is_there (option_and_then left_of o)) no_file)))
             (λ home inside p more. more);
       })
-    where
-      is_there : {X : Type 0} → Option X → Bool
-      is_there None = false
-      is_there (Some x) = true
 
   pub made_among : AreAmong new.domain new.places new.chains
   made_among = among_by new.domain new.places new.places chains_now new.chains old.domain.list (with_file first.at (Some after) files) new.domain.space new.domain.cells s.list s.files refl s.chains
       (still_among old.domain.list old.domain.space new.domain.space old.domain.cells new.domain.cells old.domain.pages new.domain.pages files stood.well.together first.at after NoMore put
       tag old.places new.places old.chains chains_now
-      (record { same = stood.among.same; live = stood.among.live; low = stood.among.low; no_tags = stood.among.no_tags; not_listed = stood.among.not_listed })
+      (record { same = stood.among.same; live = stood.among.live; trimmed = stood.among.trimmed; low = stood.among.low; no_tags = stood.among.no_tags; not_listed = stood.among.not_listed })
       (λ t other. ap (λ (b : Bool). cond b (Some after) (old.chains t)) other)
       (λ t a other start. no_other_start fileset old.places old.domain.pages old.chains stood.together.files files stood.among.same tag first.at no_file t a start)
       (ap (λ o. option_and_then (with_file first.at (Some after) files) (option_and_then start_of o)) tag_now ∙ file_there first.at (Some after) files ∙ sym tag_now)
       (subst (λ o. IfSome o (λ cs. is_removed cs ≡ false)) (sym tag_now) (ap (λ o. option_map_or says_remove o false) (s.creates.says.others 6 (λ e. omega (arith, e)) (λ e. omega (arith, e)) (not_six version))))
-      s.low tags (λ p h more. absurd more) stood.well.listed.pages_held)
+      (λ e inside is. absurd (not_listed_yet e inside (some_same first.at e.at (sym (ap (option_and_then start_of) tag_now) ∙ is))))
+      low tags (λ p h more. absurd more) stood.well.listed.pages_held)

@@ -1,5 +1,5 @@
 -- Files stand together once one of them is another, or new.
-use Rattle.std.proofs.Common.{◌≡◌, ◌∙◌, ℕ, List, Some, IsSome, Contains, sym, ap, subst, ⊎_elim, ◌⊎◌, inl, inr}
+use Rattle.std.proofs.Common.{◌≡◌, ◌∙◌, ℕ, List, Some, is_some, Contains, sym, ap, subst, ⊎_elim, ◌⊎◌, inl, inr}
 use Rattle.std.specs.Option.{option_and_then, option_map_or}
 use Rattle.domain_base.specs.declared.place.CellAt.{CellAt}
 use Rattle.domain_base.specs.declared.place.Home.{Home}
@@ -13,7 +13,7 @@ use Rattle.bitfile_cells.specs.Files.{IsFile, places_of}
 use Rattle.bitfile_core.specs.Files.{AreApart}
 use Rattle.bitfile_core.specs.Together.{IsHeldApart}
 use Rattle.bitfile_core.proofs.Grown.{on_grown}
-use Rattle.deferred_delete.specs.Listed.{IsListed, left_of}
+use Rattle.deferred_delete.specs.Listed.{IsListed}
 use Rattle.deferred_delete.specs.Listing.{Listing}
 use Rattle.deferred_delete.specs.Standing.{Files, IsStanding, StandTogether, place_in, source_at, source_of, with_file}
 use Rattle.deferred_delete.proofs.Spread.{some_same}
@@ -111,13 +111,13 @@ module _ (space space_now : Spaces) (cells cells_now : Cells) (old new : Pages) 
     one_deep = λ a b c x y. together.one_deep a b c (reads_by files now a b (sources_now a) x) (reads_by files now b c (sources_now b) y);
   }
 
-  pub put_listed : (list : Listing) → IsListed space cells files list → (IsSome (option_and_then left_of (files at)) → IsSome (left_of after)) → ((home : Home) → Contains list.tag_pages home → (p : ℕ) → ¬ more p home)
+  pub put_listed : (list : Listing) → IsListed space cells files list → ((home : Home) → Contains list.tag_pages home → (p : ℕ) → ¬ more p home)
       → IsListed space_now cells_now now list
-  put_listed list listed left apart = record {
+  put_listed list listed apart = record {
     each = λ e inside. let was = listed.each e inside in record {
-      pending = ⊎_elim
-          (λ same. subst IsSome (sym (ap (option_and_then left_of) (ap now same ∙ there))) (left (subst (λ (a : CellAt). IsSome (option_and_then left_of (files a))) same was.pending)))
-          (λ not_at. subst IsSome (sym (ap (option_and_then left_of) (other e.at not_at))) was.pending)
+      there = ⊎_elim
+          (λ same. ap is_some (ap now same ∙ there))
+          (λ not_at. ap is_some (other e.at not_at) ∙ was.there)
           (same_or_not e.at at);
       given = λ c some. reads_by now files c e.at (sym (sources_now c)) (was.given c some);
       all = λ c reads. was.all c (reads_by files now c e.at (sources_now c) reads);

@@ -1,5 +1,5 @@
 -- All goes on to belong together where a tag's file has a page at a home.
-use Rattle.std.proofs.Common.{◌≡◌, ◌∙◌, ℕ, Bool, true, false, cond, nat_eq, List, [], ◌∷◌, Some, IfSome, IsSome, Contains, refl, sym, ap, subst, ⊎_elim, ◌⊎◌, inl, inr}
+use Rattle.std.proofs.Common.{◌≡◌, ◌∙◌, ℕ, Bool, true, false, cond, nat_eq, List, [], ◌∷◌, Some, IfSome, Contains, refl, sym, ap, subst, ⊎_elim, ◌⊎◌, inl, inr}
 use Rattle.std.proofs.lemmas.Bool.{eqb-true}
 use Rattle.std.specs.List.{AllByRecursion}
 use Rattle.std.specs.Option.{option_and_then}
@@ -21,7 +21,7 @@ use Rattle.bitfile_cells.specs.Changes.{IsInUse}
 use Rattle.bitfile_cells.proofs.Spaces.{not_held}
 use Rattle.bitfile_core.specs.Changes.{with_chain}
 use Rattle.bitfile_core.specs.Files.{AreApart, Chains, is_removed}
-use Rattle.bitfile_core.specs.Together.{AreTogether, IsFilePage, IsHeldApart}
+use Rattle.bitfile_core.specs.Together.{IsFilePage, IsHeldApart}
 use Rattle.bitfile_core.proofs.Again.{one_home}
 use Rattle.bitfile_core.proofs.Grown.{apart_grows, apart_taken, one_apart}
 use Rattle.bitfile_core.proofs.OneChain.{chain_other, placed_at}
@@ -32,7 +32,7 @@ use Rattle.deferred_delete.specs.Standing.{Files, place_in, source_in, with_file
 use Rattle.deferred_delete.specs.Steps.{IsWell, Now, now_of}
 use Rattle.deferred_delete.proofs.Firsts.{first_same}
 use Rattle.deferred_delete.proofs.Standings.{apart_by, file_there, place_by, source_by, standing}
-use Rattle.deferred_laws.specs.Calls.{FilesetNow, Gives, Moves, PutsPage}
+use Rattle.deferred_laws.specs.Calls.{StandsWell, FilesetNow, Gives, Moves, PutsPage}
 use Rattle.deferred_laws.specs.Tags.{AreAmong, start_of}
 use Rattle.deferred_laws.specs.Waits.{IsNowhere}
 use Rattle.deferred_laws.proofs.CallTables.{chain_put, given_tables, moved_tables, page_put}
@@ -41,12 +41,7 @@ use Rattle.deferred_laws.proofs.Said.{says_first}
 use Rattle.deferred_laws.proofs.StillAmong.{still_among}
 use Rattle.deferred_laws.proofs.TagFile.{beside_left, file_is, other_starts, started}
 use Rattle.deferred_laws.proofs.Wells.{well_by}
-
--- a fileset's files among those of a domain, where all belongs together
-pub record StandsWell (fileset : ℕ) (at : FilesetNow) : Type 0 where
-  pub well : IsWell at.domain
-  pub together : AreTogether fileset at.places at.domain.space at.domain.cells at.domain.pages at.chains
-  pub among : AreAmong at.domain at.places at.chains
+use Rattle.deferred_delete.specs.declared.list.Entry.{Entry}
 
 -- cells that stand are in use
 pub in_use : (pages : Pages) (cs : List PlacedCell) → AllByRecursion (λ (c : PlacedCell). StandsAt pages c.at c.cell) cs → AllByRecursion (λ (c : PlacedCell). IsInUse pages c.at) cs
@@ -61,7 +56,7 @@ among_by now places places_now chains chains_now list files space cells same_lis
     let two = subst (λ (f : Files). AreAmong (now_of now.list f space cells now.pages) places chains) (sym same_files) one in
     let three = subst (λ (ps : List TagPlace). AreAmong (now_of now.list now.files space cells now.pages) ps chains) (sym same_places) two in
     let four = subst (λ (cs : Chains). AreAmong (now_of now.list now.files space cells now.pages) places_now cs) (sym same_chains) three in
-    record { same = four.same; live = four.live; low = four.low; no_tags = four.no_tags; not_listed = four.not_listed }
+    record { same = four.same; live = four.live; trimmed = four.trimmed; low = four.low; no_tags = four.no_tags; not_listed = four.not_listed }
 
 module _ (fileset : ℕ) (version : Version) (tag : Tag) (old new : FilesetNow) (stood : StandsWell fileset old) (home : Home) (chain : List PlacedCell) (s : PutsPage fileset version tag home chain old new)
     (tables : (vol p : ℕ) → Contains (table_of old.domain.cells vol) p → Contains (table_of new.domain.cells vol) p) (held : (h : Home) → IsHeldApart old.domain.space old.domain.cells h → IsHeldApart new.domain.space new.domain.cells h)
@@ -124,14 +119,17 @@ module _ (fileset : ℕ) (version : Version) (tag : Tag) (old new : FilesetNow) 
     source = ap (option_and_then source_in) (first_same 2 refl chain after s.change.change.changes.first) ∙ sym (source_by files at chain there);
   }
 
-  left_same : IsSome (option_and_then left_of (files at)) → IsSome (left_of after)
-  left_same some = subst IsSome (ap (option_and_then left_of) there ∙ sym (ap (option_and_then leftover_in) (first_same 6 refl chain after s.change.change.changes.first))) some
+  begins_same : (e : Entry) → option_and_then start_of (with_chain tag (λ _. after) old.chains tag) ≡ Some e.at → option_and_then start_of (old.chains tag) ≡ Some e.at
+  begins_same e is = ap (option_and_then start_of) s.is ∙ begins.0 ∙ sym begins.1 ∙ sym (ap (option_and_then start_of) chain_now) ∙ is
+
+  left_same : option_and_then left_of (with_chain tag (λ _. after) old.chains tag) ≡ option_and_then left_of (old.chains tag)
+  left_same = ap (option_and_then left_of) chain_now ∙ ap (option_and_then leftover_in) (first_same 6 refl chain after s.change.change.changes.first) ∙ sym (ap (option_and_then left_of) s.is)
 
   pub puts_well : IsWell new.domain
   puts_well = well_by new.domain old.domain.list (with_file at (Some after) files) new.domain.space new.domain.cells s.list s.files refl refl
       (record {
         together = put_together old.domain.space new.domain.space old.domain.cells new.domain.cells old.domain.pages new.domain.pages files stood.well.together at after More put;
-        listed = put_listed old.domain.space new.domain.space old.domain.cells new.domain.cells old.domain.pages new.domain.pages files stood.well.together at after More put old.domain.list stood.well.listed left_same
+        listed = put_listed old.domain.space new.domain.space old.domain.cells new.domain.cells old.domain.pages new.domain.pages files stood.well.together at after More put old.domain.list stood.well.listed
             (λ h inside p more. not_listed (subst (Contains old.domain.list.tag_pages) more.1 inside));
       })
 
@@ -143,11 +141,12 @@ module _ (fileset : ℕ) (version : Version) (tag : Tag) (old new : FilesetNow) 
   puts_among = among_by new.domain old.places new.places (with_chain tag (λ _. after) old.chains) new.chains old.domain.list (with_file at (Some after) files) new.domain.space new.domain.cells s.list s.files s.places s.chains
       (still_among old.domain.list old.domain.space new.domain.space old.domain.cells new.domain.cells old.domain.pages new.domain.pages files stood.well.together at after More put
       tag old.places old.places old.chains (with_chain tag (λ _. after) old.chains)
-      (record { same = stood.among.same; live = stood.among.live; low = stood.among.low; no_tags = stood.among.no_tags; not_listed = stood.among.not_listed })
+      (record { same = stood.among.same; live = stood.among.live; trimmed = stood.among.trimmed; low = stood.among.low; no_tags = stood.among.no_tags; not_listed = stood.among.not_listed })
       (λ t other. chain_other tag (λ _. after) old.chains t other)
       (other_starts fileset old.places old.domain.pages old.chains stood.together.files files stood.among.same tag chain s.is at begins.0)
       (ap (λ o. option_and_then (with_file at (Some after) files) (option_and_then start_of o)) chain_now ∙ ap (option_and_then (with_file at (Some after) files)) begins.1 ∙ file_there at (Some after) files ∙ sym chain_now)
-      live_now stood.among.low (λ h is no. no)
+      live_now (λ e inside is. left_same ∙ stood.among.trimmed e inside tag (begins_same e is))
+      stood.among.low (λ h is no. no)
       (λ p h more. subst (λ (h : Home). has_home old.places h ≡ false) (sym more.1) page_now.no_tags)
       stood.well.listed.pages_held)
 

@@ -1,18 +1,15 @@
 -- What the first cell of a chain says of its file goes on to be said where the chain is another.
-use Rattle.std.proofs.Common.{◌≡◌, ◌∙◌, ℕ, true, false, List, [], ◌∷◌, Option, Some, None, IfSome, refl, sym, ap, arith}
-use Rattle.std.proofs.lemmas.Bool.{true≢false}
+use Rattle.std.proofs.Common.{◌≡◌, ◌∙◌, ℕ, true, false, List, [], ◌∷◌, Option, Some, None, IfSome, refl, ap, arith}
 use Rattle.std.specs.Option.{option_and_then, option_map, option_map_or}
 use Rattle.domain_base.specs.declared.place.Tag.{Tag}
 use Rattle.record_table.specs.declared.record.Record.{Record}
-use Rattle.record_table.specs.declared.record.Record.TheVariants as written
-use Rattle.record_table.specs.declared.record.Leftover.TheVariants.{Remove, Trim}
 use Rattle.record_table.specs.Records.{kind_of}
 use Rattle.bmt_mcells.specs.Cell.{record_of}
 use Rattle.bmt_mcells.specs.Chain.{PlacedCell}
 use Rattle.bitfile_cells.specs.Changes.{with_kind}
 use Rattle.bitfile_cells.specs.FileChanges.{SameFirst}
 use Rattle.bitfile_core.specs.Changes.{with_first}
-use Rattle.bitfile_core.specs.Files.{HasFirstKinds, IsOf, first_record, is_first_kind, is_removed, says_remove}
+use Rattle.bitfile_core.specs.Files.{HasFirstKinds, IsOf, is_first_kind, is_removed, says_remove}
 use Rattle.bitfile_core.proofs.FirstRoom.{kinds_replaced}
 use Rattle.bitfile_core.proofs.OneChain.{kinds_same}
 use Rattle.deferred_delete.specs.Listed.{left_of, leftover_in}
@@ -70,25 +67,13 @@ says_alone (first ∷ rest) = record {
   live = λ is. ap (λ o. option_map_or says_remove o false) (sourceless_other first.cell 6 (λ e. omega (arith, e))) ∙ is;
 }
 
--- ---- a file that is to be removed
+-- ---- what is left to be done
 
-removed_by : (o : Option Record) → option_and_then leftover_in o ≡ Some Remove → option_map_or says_remove o false ≡ true
-removed_by None is = absurd (let e : None ≡ Some Remove = is in absurd (cc))
-removed_by (Some (written.Pending Remove)) is = refl
-removed_by (Some (written.Pending Trim)) is = absurd (let e : Some Trim ≡ Some Remove = is in absurd (cc))
-removed_by (Some (written.Attributes kind uid gid flags size keep links birth unsynced)) is = absurd (let e : None ≡ Some Remove = is in absurd (cc))
-removed_by (Some (written.CloneFile vol cell page frozen)) is = absurd (let e : None ≡ Some Remove = is in absurd (cc))
-removed_by (Some (written.Extents rows)) is = absurd (let e : None ≡ Some Remove = is in absurd (cc))
-removed_by (Some (written.ShortExtents rows)) is = absurd (let e : None ≡ Some Remove = is in absurd (cc))
-removed_by (Some (written.Holes rows)) is = absurd (let e : None ≡ Some Remove = is in absurd (cc))
-removed_by (Some (written.UserQuota id files blocks)) is = absurd (let e : None ≡ Some Remove = is in absurd (cc))
-removed_by (Some (written.GroupQuota id files blocks)) is = absurd (let e : None ≡ Some Remove = is in absurd (cc))
-removed_by (Some (written.DirIndex vol page entries)) is = absurd (let e : None ≡ Some Remove = is in absurd (cc))
-removed_by (Some (written.Parent slot seq)) is = absurd (let e : None ≡ Some Remove = is in absurd (cc))
-removed_by (Some (written.Stripe width mark vols)) is = absurd (let e : None ≡ Some Remove = is in absurd (cc))
-removed_by (Some (written.Volume vol pages bitmap_pages)) is = absurd (let e : None ≡ Some Remove = is in absurd (cc))
-removed_by (Some (written.DenseExtents rows)) is = absurd (let e : None ≡ Some Remove = is in absurd (cc))
-removed_by (Some (written.ShortDense rows)) is = absurd (let e : None ≡ Some Remove = is in absurd (cc))
+pub left_first : (cells after : List PlacedCell) → SameFirst cells after → left_of after ≡ left_of cells
+left_first [] after same = absurd same
+left_first (a ∷ xs) [] same = absurd same
+left_first (a ∷ xs) (b ∷ ys) same = ap (option_and_then leftover_in) (first_same 6 refl (a ∷ xs) (b ∷ ys) same)
 
-pub not_removed : (cells : List PlacedCell) → left_of cells ≡ Some Remove → is_removed cells ≡ false → ⊥
-not_removed cells left live = true≢false (sym (removed_by (first_record 6 cells) left) ∙ live)
+pub left_alone : (cells : List PlacedCell) → left_of (with_first says_no_source cells) ≡ left_of cells
+left_alone [] = refl
+left_alone (first ∷ rest) = ap (option_and_then leftover_in) (sourceless_other first.cell 6 (λ e. omega (arith, e)))

@@ -26,43 +26,48 @@ use Rattle.chain_release.proofs.Given.{held_given}
 use Rattle.chain_release.proofs.Once.{absent_not}
 use Rattle.deferred_delete.specs.Standing.{Files, IsStanding, place_in}
 use Rattle.deferred_delete.specs.Steps.{IsWell, Now, Step, Steps, file_ends, more, none, pages_go, reading_ends, says_no_source, says_trimmed, tag_page_goes, trim_ends}
-use Rattle.deferred_delete.proofs.Lists.{in_start, last_in}
+use Rattle.deferred_delete.proofs.Lists.{in_start, last_in, not_last}
 use Rattle.deferred_delete.proofs.Spread.{Which, held_still, none_not, other, reading, some_same, source, was_there, which}
 use Rattle.deferred_delete.proofs.Standings.{apart_by, place_by, same_or_not, standing}
 use Rattle.deferred_laws.specs.Tags.{AreAmong, chains_in, start_of}
-use Rattle.deferred_laws.proofs.Ended.{ended_other, file_gone, reading_other, reading_place, reading_there, same_file, trim_other, trim_there}
+use Rattle.deferred_laws.proofs.Ended.{ended_other, file_gone, reading_other, reading_place, reading_there, same_file, trim_front, trim_once, trim_other, trim_there}
 use Rattle.deferred_laws.proofs.FirstCells.{first_place, trimmed_keeps}
 use Rattle.deferred_laws.proofs.Fits.{Fits, well_fits}
-use Rattle.deferred_laws.proofs.Narrower.{in_last}
+use Rattle.deferred_laws.proofs.Narrower.{in_last, narrower_step}
 use Rattle.deferred_laws.proofs.PagesGo.{at_other, at_source, clone_now, clone_was}
-use Rattle.deferred_laws.proofs.Said.{SaysSame, not_removed, says_alone, says_first, says_itself, says_trim}
+use Rattle.deferred_laws.proofs.Said.{SaysSame, left_alone, left_first, says_alone, says_first, says_itself, says_trim}
 use Rattle.deferred_laws.proofs.Wells.{well_step}
+use Rattle.deferred_delete.specs.declared.list.Entry.{Entry}
+use Rattle.deferred_delete.specs.Listed.{left_of}
+use Rattle.record_table.specs.declared.record.Leftover.TheVariants.{Trim}
 
 -- ---- what one step does to each file
 
 -- the file is there, and what its first cell says of it is the same
-record IsStill (files : Files) (a : CellAt) (cells : List PlacedCell) : Type 0 where
+record IsStill (now : Now) (a : CellAt) (cells : List PlacedCell) : Type 0 where
   after : List PlacedCell
-  is : files a ≡ Some after
+  is : now.files a ≡ Some after
   says : SaysSame cells after
+  left : (e : Entry) → Contains now.list.entries e → e.at ≡ a → left_of after ≡ left_of cells
 
 module _ (group : ℕ) (version : Version) (old new : Now) (well : IsWell old) where
   fits : Fits old
   fits = well_fits old well
 
-  as_it_was : (a : CellAt) (cells : List PlacedCell) → old.files a ≡ Some cells → new.files a ≡ old.files a → IsStill new.files a cells
-  as_it_was a cells was same = record { after = cells; is = same ∙ was; says = says_itself cells }
+  as_it_was : (a : CellAt) (cells : List PlacedCell) → old.files a ≡ Some cells → new.files a ≡ old.files a → IsStill new a cells
+  as_it_was a cells was same = record { after = cells; is = same ∙ was; says = says_itself cells; left = λ e inside at. refl }
 
-  still : Step group version old new → (a : CellAt) (cells : List PlacedCell) → old.files a ≡ Some cells → is_removed cells ≡ false → IsStill new.files a cells
-  still (pages_go s) a cells was live = by_which (which s.entry.at s.entry.clone a)
+  still : Step group version old new → (a : CellAt) (cells : List PlacedCell) → old.files a ≡ Some cells → ((e : Entry) → Contains old.list.entries e → e.at ≡ a → left_of cells ≡ Some Trim) → IsStill new a cells
+  still (pages_go s) a cells was trims = by_which (which s.entry.at s.entry.clone a)
     where
-      by_which : Which s.entry.at s.entry.clone a → IsStill new.files a cells
+      by_which : Which s.entry.at s.entry.clone a → IsStill new a cells
       by_which (source same) =
           let it : s.chain ≡ cells = some_same s.chain cells (sym s.is ∙ sym (ap old.files same) ∙ was) in
           record {
             after = s.releases.after;
             is = ap new.files same ∙ at_source group version old new fits s;
             says = subst (λ (cs : List PlacedCell). SaysSame cs s.releases.after) it (says_first s.chain s.releases.after s.releases.first);
+            left = λ e inside at. left_first s.chain s.releases.after s.releases.first ∙ ap left_of it;
           }
       by_which (reading some) =
           let it : s.own ≡ cells = some_same s.own cells (sym (clone_was group version old new fits s a some) ∙ was) in
@@ -71,35 +76,38 @@ module _ (group : ℕ) (version : Version) (old new : Now) (well : IsWell old) w
             is = clone_now group version old new fits s a some;
             says = subst (λ (cs : List PlacedCell). SaysSame cs s.releases.own_now) it
                 (⊎_elim (λ same. subst (SaysSame s.own) (sym same) (says_itself s.own)) (λ first. says_first s.own s.releases.own_now first) s.releases.own_first);
+            left = λ e inside at. ⊎_elim (λ same. ap left_of same) (λ first. left_first s.own s.releases.own_now first) s.releases.own_first ∙ ap left_of it;
           }
       by_which (other not_at not_it) = as_it_was a cells was (at_other group version old new fits s a not_at not_it)
-  still (trim_ends s) a cells was live = ⊎_elim
+  still (trim_ends s) a cells was trims = ⊎_elim
       (λ same.
       let it : s.chain ≡ cells = some_same s.chain cells (sym s.is ∙ sym (ap old.files same) ∙ was) in
       record {
         after = with_first says_trimmed s.chain;
         is = ap new.files same ∙ trim_there group version old new fits s;
         says = subst (λ (cs : List PlacedCell). SaysSame cs (with_first says_trimmed s.chain)) it (says_trim s.chain);
+        left = λ e inside at. absurd (not_last s.front s.entry e (trim_once group version old new fits s) (trim_front group version old new fits s e inside) (at ∙ same));
       })
       (λ not_at. as_it_was a cells was (trim_other group version old new fits s a not_at))
       (same_or_not a s.entry.at)
-  still (reading_ends s) a cells was live = ⊎_elim
+  still (reading_ends s) a cells was trims = ⊎_elim
       (λ same.
       let it : s.own ≡ cells = some_same s.own cells (sym s.own_is ∙ sym (ap old.files same) ∙ was) in
       record {
         after = with_first says_no_source s.own;
         is = ap new.files same ∙ reading_there group version old new fits s;
         says = subst (λ (cs : List PlacedCell). SaysSame cs (with_first says_no_source s.own)) it (says_alone s.own);
+        left = λ e inside at. left_alone s.own ∙ ap left_of it;
       })
       (λ not_at. as_it_was a cells was (reading_other group version old new fits s a not_at))
       (same_or_not a s.clone)
-  still (file_ends s) a cells was live = ⊎_elim
+  still (file_ends s) a cells was trims = ⊎_elim
       (λ same.
       let it : s.chain ≡ cells = some_same s.chain cells (sym s.is ∙ sym (ap old.files same) ∙ was) in
-      absurd (not_removed s.chain s.removed (ap is_removed it ∙ live)))
+      absurd (s.whole (ap left_of it ∙ trims s.entry (in_last old.list s.front s.entry s.last) (sym same))))
       (λ not_at. as_it_was a cells was (ended_other group version old new fits s a not_at))
       (same_or_not a s.entry.at)
-  still (tag_page_goes s) a cells was live = as_it_was a cells was (same_file group version old new fits s a)
+  still (tag_page_goes s) a cells was trims = as_it_was a cells was (same_file group version old new fits s a)
 
   -- ---- pages
 
@@ -107,7 +115,7 @@ module _ (group : ℕ) (version : Version) (old new : Now) (well : IsWell old) w
   abbrev HadPage : Home → Type 0
   HadPage home = (b : CellAt) × (q : ℕ) × (place_in old.files b q ≡ At home)
 
-  had_page : Step group version old new → (a : CellAt) (p : ℕ) (home : Home) → place_in new.files a p ≡ At home → HadPage home
+  pub had_page : Step group version old new → (a : CellAt) (p : ℕ) (home : Home) → place_in new.files a p ≡ At home → HadPage home
   had_page (pages_go s) a p home there =
       let is_entry = well.listed.each s.entry (in_last old.list s.front s.entry s.last) in
       let now_there = sym (ap (λ (f : Files). place_in f a p) s.files) ∙ there in
@@ -123,7 +131,7 @@ module _ (group : ℕ) (version : Version) (old new : Now) (well : IsWell old) w
       (same_or_not a s.entry.at)
   had_page (tag_page_goes s) a p home there = (a, p, sym (ap (λ (f : Files). place_in f a p) s.same_files) ∙ there)
 
-  was_listed : Step group version old new → (home : Home) → Contains new.list.tag_pages home → Contains old.list.tag_pages home
+  pub was_listed : Step group version old new → (home : Home) → Contains new.list.tag_pages home → Contains old.list.tag_pages home
   was_listed (pages_go s) home inside = subst (λ l. Contains l.tag_pages home) s.same_list inside
   was_listed (trim_ends s) home inside = subst (λ l. Contains l.tag_pages home) s.list inside
   was_listed (reading_ends s) home inside = subst (λ l. Contains l.tag_pages home) s.list inside
@@ -132,7 +140,7 @@ module _ (group : ℕ) (version : Version) (old new : Now) (well : IsWell old) w
       subst (λ (hs : List Home). Contains hs home) (sym s.takes.last) (in_start s.takes.front (s.takes.home ∷ []) home (subst (λ l. Contains l.tag_pages home) s.takes.is inside))
 
   -- a page that is held, no file's and not on the list stays so
-  held_on : (home : Home) → 1 ≤ home.vol → ((a : CellAt) (p : ℕ) → ¬ place_in old.files a p ≡ At home) → ¬ Contains old.list.tag_pages home → IsHeldApart old.space old.cells home
+  pub held_on : (home : Home) → 1 ≤ home.vol → ((a : CellAt) (p : ℕ) → ¬ place_in old.files a p ≡ At home) → ¬ Contains old.list.tag_pages home → IsHeldApart old.space old.cells home
       → Step group version old new → IsHeldApart new.space new.cells home
   held_on home low no_file not_listed held (pages_go s) =
       let is_entry = well.listed.each s.entry (in_last old.list s.front s.entry s.last) in
@@ -191,7 +199,7 @@ file_start pages a at [] file start = absurd file
 file_start pages a at (first ∷ rest) file start = sym file.0 ∙ some_same first.at at start
 
 module _ (fileset : ℕ) (places : List TagPlace) (space : Spaces) (cells : Cells) (pages : Pages) (chains : Chains) (are : AreTogether fileset places space cells pages chains) where
-  starts_differ : (s t : Tag) (xs ys : List PlacedCell) (a b : CellAt) → same_tag s t ≡ false → chains s ≡ Some xs → chains t ≡ Some ys → start_of xs ≡ Some a → start_of ys ≡ Some b → ¬ a ≡ b
+  pub starts_differ : (s t : Tag) (xs ys : List PlacedCell) (a b : CellAt) → same_tag s t ≡ false → chains s ≡ Some xs → chains t ≡ Some ys → start_of xs ≡ Some a → start_of ys ≡ Some b → ¬ a ≡ b
   starts_differ s t xs ys a b differ is_s is_t start_s start_t same =
       let apart = subst (λ o. IfSome o (AreApart xs)) is_t (subst (λ o. IfSome o (λ xs. IfSome (chains t) (AreApart xs))) is_s (are.files.apart s t differ)) in
       apart a (start_in xs a start_s) (subst (Contains (cell_places ys)) (sym same) (start_in ys b start_t))
@@ -218,12 +226,13 @@ module _ (group : ℕ) (version : Version) (old new : Now) (well : IsWell old) (
     says : SaysSame cells after
     is : now t ≡ Some after
     live : is_removed after ≡ false
+    left : (e : Entry) → Contains new.list.entries e → e.at ≡ at → left_of after ≡ left_of cells
 
   goes : (t : Tag) (cells : List PlacedCell) → chains t ≡ Some cells → Goes t cells
   goes t cells is =
       let n = named old.files chains t cells is (was.among.same t) in
       let live = subst (λ o. IfSome o (λ cs. is_removed cs ≡ false)) is (was.among.live t) in
-      let s = still group version old new well step n.at cells n.is live in
+      let s = still group version old new well step n.at cells n.is (λ e inside at. ap (option_and_then left_of) (sym is) ∙ was.among.trimmed e inside t (ap (option_and_then start_of) is ∙ n.start ∙ ap Some (sym at))) in
       record {
         at = n.at;
         start = n.start;
@@ -232,6 +241,7 @@ module _ (group : ℕ) (version : Version) (old new : Now) (well : IsWell old) (
         says = s.says;
         is = ap (λ o. option_and_then new.files (option_and_then start_of o)) is ∙ ap (option_and_then new.files) n.start ∙ s.is;
         live = s.says.live live;
+        left = s.left;
       }
 
   gone : (t : Tag) → chains t ≡ None → now t ≡ None
@@ -343,6 +353,12 @@ module _ (group : ℕ) (version : Version) (old new : Now) (well : IsWell old) (
       same = λ t. all_now t (λ o. option_and_then new.files (option_and_then start_of o) ≡ o) refl
           (λ cells is g. ap (option_and_then new.files) (g.says.start ∙ g.start) ∙ g.there);
       live = λ t. all_now t (λ o. IfSome o (λ cells. is_removed cells ≡ false)) tt (λ cells is g. g.live);
+      trimmed = λ e inside t. all_now t (λ o. option_and_then start_of o ≡ Some e.at → option_and_then left_of o ≡ Some Trim)
+          (λ start. absurd (none_not e.at start))
+          (λ cells is g start.
+          let n = narrower_step group version old new step e inside in
+          let at : g.at ≡ e.at = some_same g.at e.at (sym (g.says.start ∙ g.start) ∙ start) in
+          g.left e inside (sym at) ∙ ap (option_and_then left_of) (sym is) ∙ was.among.trimmed n.was n.inside t (ap (option_and_then start_of) is ∙ g.start ∙ ap Some (at ∙ sym n.at)));
       low = was.among.low;
       no_tags = no_tags_now;
       not_listed = λ home inside. was.among.not_listed home (was_listed group version old new well step home inside);

@@ -1,5 +1,5 @@
 -- Calls on one tag of a fileset whose files are among those of a domain.
-use Rattle.std.specs.Prelude.{◌≡◌, ◌⊎◌, ◌∷◌, ◌≤◌, ℕ, List, [], Option, Some, Contains, true}
+use Rattle.std.specs.Prelude.{◌≡◌, ◌⊎◌, ◌∷◌, ℕ, List, [], Option, Some, Contains}
 use Rattle.domain_base.specs.declared.place.CellAt.{CellAt}
 use Rattle.domain_base.specs.declared.place.Home.{Home}
 use Rattle.domain_base.specs.declared.place.Tag.{Tag}
@@ -7,7 +7,6 @@ use Rattle.domain_base.specs.declared.version.Version.{Version}
 use Rattle.bmt_mcells.specs.Cell.{Cell}
 use Rattle.bmt_mcells.specs.Chain.{PlacedCell}
 use Rattle.tag_dirs.specs.declared.dir.TagPlace.{TagPlace}
-use Rattle.tag_dirs.specs.Directory.{has_home}
 use Rattle.extent_maps.specs.declared.run.PagePlace.TheVariants.{At}
 use Rattle.free_space.specs.Spaces.{missed}
 use Rattle.bitfile_cells.specs.FileChanges.{LeavesOtherCells}
@@ -21,7 +20,8 @@ use Rattle.bitfile_core.specs.Pages.{ChangesFile, TakesHome}
 use Rattle.bitfile_core.specs.Together.{AreTogether}
 use Rattle.bitfile_core.specs.Truncation.{says_truncated}
 use Rattle.deferred_delete.specs.Standing.{with_file}
-use Rattle.deferred_delete.specs.Steps.{Now}
+use Rattle.deferred_delete.specs.Steps.{IsWell, Now}
+use Rattle.deferred_laws.specs.Tags.{AreAmong}
 use Rattle.deferred_laws.specs.Waits.{IsNowhere}
 
 -- a fileset's tag directory and the file of each of its tags, and the domain that they are in
@@ -29,6 +29,14 @@ pub record FilesetNow : Type 0 where
   pub places : List TagPlace
   pub chains : Chains
   pub domain : Now
+
+-- a fileset's files belong together with all that they share with the domain's other files, and all
+-- of these do with what is left on the list
+pub record StandsWell (fileset : ℕ) (now : FilesetNow) : Type 0 where
+  pub well : IsWell now.domain
+  pub together : AreTogether fileset now.places now.domain.space now.domain.cells now.domain.pages
+      now.chains
+  pub among : AreAmong now.domain now.places now.chains
 
 -- a call was refused: the count of misses may be another, and all else is as it was
 pub record Refuses (old new : FilesetNow) : Type 0 where
@@ -109,7 +117,7 @@ pub record Drops (fileset : ℕ) (tag : Tag) (old new : FilesetNow) : Type 0 whe
   pub space : new.domain.space ≡ old.domain.space
   pub cells : new.domain.cells ≡ old.domain.cells
 
--- the tag names a new file; the pages of the tag directory stand on volumes
+-- the tag names a new file
 pub record Makes (fileset : ℕ) (version : Version) (tag : Tag) (old new : FilesetNow) : Type 0 where
   pub what : NewFile
   pub creates : Creates fileset new.places tag version what old.chains new.domain.space
@@ -119,7 +127,6 @@ pub record Makes (fileset : ℕ) (version : Version) (tag : Tag) (old new : File
       old.domain.cells new.domain.cells old.domain.pages
   pub others : LeavesOtherCells old.domain.cells [] old.domain.pages new.domain.pages
   pub elsewhere : LeavesBeside new.domain.cells new.places old.domain.pages new.domain.pages
-  pub low : (home : Home) → has_home new.places home ≡ true → 1 ≤ home.vol
   pub chains : new.chains ≡ with_new tag (creates.first ∷ []) old.chains
   pub list : new.domain.list ≡ old.domain.list
   pub files : new.domain.files

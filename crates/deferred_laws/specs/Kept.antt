@@ -1,13 +1,16 @@
 -- What letting go of the things of a list leaves as it was.
 use Rattle.std.specs.Prelude.{◌≡◌, ◌<◌, ℕ, List, Option, Some, None, Contains, IsSomeAnd}
+use Rattle.std.specs.Option.{option_map}
 use Rattle.domain_base.specs.declared.place.CellAt.{CellAt}
 use Rattle.bmt_mcells.specs.Chain.{PlacedCell}
+use Rattle.extent_records.specs.Writing.{most_rows}
 use Rattle.bitfile_cells.specs.Files.{places_of}
-use Rattle.bitfile_core.specs.Files.{keep_of}
+use Rattle.bitfile_core.specs.Files.{attributes_of, first_record, keep_of}
 use Rattle.deferred_delete.specs.declared.list.Entry.{Entry}
 use Rattle.deferred_delete.specs.Listed.{left_of, stale_from}
 use Rattle.deferred_delete.specs.Listing.{Listing}
-use Rattle.deferred_delete.specs.Steps.{Now}
+use Rattle.deferred_delete.specs.Steps.{Now, kept_all, without_source}
+use Rattle.deferred_laws.specs.Tags.{start_of}
 
 -- no entry is the file's, and none gives it as the clone's file that reads through its own
 abbrev pub IsBeside : Listing → CellAt → Type 0
@@ -28,3 +31,14 @@ KeepsFront chain now = IsSomeAnd now (λ after. (page : ℕ) → page < stale_fr
 -- a file is there that keeps all of 65,536 pages, and of which nothing is left to be let go of
 abbrev pub KeepsAll : Option (List PlacedCell) → Type 0
 KeepsAll now = IsSomeAnd now (λ after. (keep_of after ≡ Some 65536) × (left_of after ≡ None))
+
+-- the first cell of a file says the same, but for how many pages the file keeps, through which file
+-- it reads, what is left to be done with it, and where its pages stand
+pub record SaysTheSame (chain after : List PlacedCell) : Type 0 where
+  pub start : start_of after ≡ start_of chain
+  pub what : attributes_of after ≡ attributes_of chain
+  pub born : option_map kept_all (first_record 1 after) ≡ option_map kept_all (first_record 1 chain)
+  pub frozen : option_map without_source (first_record 2 after)
+      ≡ option_map without_source (first_record 2 chain)
+  pub others : (kind : ℕ) → ¬ kind ≡ 1 → ¬ kind ≡ 2 → ¬ kind ≡ 6 → most_rows kind ≡ 0
+      → first_record kind after ≡ first_record kind chain

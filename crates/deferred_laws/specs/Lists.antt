@@ -13,8 +13,8 @@ use Rattle.deferred_laws.specs.Waits.{IsNowhere}
 abbrev pub with_list : Listing → Now → Now
 with_list list now = record now { list = list }
 
--- something is left to be done with the file, the clone is the one whose file reads through it, and
--- of a file and the clone's file that reads through it one alone is on the list
+-- a file is there, the clone is the one whose file reads through it, and of a file and the clone's
+-- file that reads through it one alone is on the list
 pub record MayList (now : Now) (at : CellAt) (clone : Option CellAt) : Type 0 where
   pub entry : IsEntry now.files (record { at = at; clone = clone })
   pub not_read : (e : Entry) → Contains now.list.entries e → ¬ e.clone ≡ Some at

@@ -1,5 +1,5 @@
 -- Pages that wait.
-use Rattle.std.specs.Prelude.{◌≡◌, ℕ, List, Contains, IsSomeAnd, Some}
+use Rattle.std.specs.Prelude.{◌≡◌, ◌⊎◌, ℕ, List, Contains, IsSomeAnd, Some}
 use Rattle.domain_base.specs.declared.place.CellAt.{CellAt}
 use Rattle.domain_base.specs.declared.place.Home.{Home}
 use Rattle.bmt_mcells.specs.Chain.{PlacedCell}
@@ -33,3 +33,15 @@ pub record IsLetGo (first last : Now) (home : Home) (kind : PageUse) : Type 0 wh
   pub there : places_of chain page ≡ At home
   pub of_use : use_of chain ≡ kind
   pub nowhere : IsNowhere last.files home
+
+-- a file had a page at the home, and none has one there any more
+pub record IsLost (first last : Now) (home : Home) : Type 0 where
+  pub at : CellAt
+  pub page : ℕ
+  pub was : place_in first.files at page ≡ At home
+  pub nowhere : IsNowhere last.files home
+
+-- so it is, or the home is that of a page of a tag directory which is on the list no more
+abbrev pub IsGivenUp : Now → Now → Home → Type 0
+IsGivenUp first last home = IsLost first last home
+    ⊎ (Contains first.list.tag_pages home × ¬ Contains last.list.tag_pages home)

@@ -1,16 +1,20 @@
 //! What is put on the list leaves all as it was.
-ghost use Rattle.std.specs.Prelude.{◌≡◌, ◌++◌, ◌∷◌, [], ℕ, Option, Some};
+ghost use Rattle.std.specs.Prelude.{◌≡◌, ◌++◌, ◌∷◌, [], ℕ, List, Option, Some, false};
 ghost use Rattle.std.specs.Option.{option_and_then};
 ghost use Rattle.domain_base.specs.declared.place.CellAt.{CellAt};
 ghost use Rattle.domain_base.specs.declared.place.Home.{Home};
 ghost use Rattle.domain_base.specs.declared.place.Tag.{Tag};
 ghost use Rattle.record_table.specs.declared.record.Leftover.TheVariants.{Remove, Trim};
+ghost use Rattle.tag_dirs.specs.declared.dir.TagPlace.{TagPlace};
+ghost use Rattle.tag_dirs.specs.Directory.{has_home};
+ghost use Rattle.bitfile_core.specs.Files.{Chains};
 ghost use Rattle.bitfile_core.specs.Truncation.{says_truncated};
 ghost use Rattle.deferred_delete.specs.Listed.{left_of};
 ghost use Rattle.deferred_delete.specs.Listing.{Adds, Listing};
 ghost use Rattle.deferred_delete.specs.Steps.{IsWell, Now};
 ghost use Rattle.deferred_laws.specs.Calls.{Drops, FilesetNow, SetsFirst};
 ghost use Rattle.deferred_laws.specs.Lists.{MayList, MayListPage, with_list};
+ghost use Rattle.deferred_laws.specs.Tags.{AreAmong, start_of};
 
 /// A file that may be put on the list, or whose clone may be set anew there, may then be let go of
 /// with all else on the list.
@@ -25,6 +29,26 @@ pub fn all_stays_well_where_a_page_is_listed()
     ensures { (first : Now) (home : Home) (list : Listing) → IsWell first → MayListPage first home
         → list.tag_pages ≡ first.list.tag_pages ++ home ∷ []
         → list.entries ≡ first.list.entries → IsWell (with_list list first) }
+{}
+
+/// The files of a fileset are among the domain's once a file is listed, where one that a tag names
+/// was made shorter.
+pub fn tags_stay_among_where_a_file_is_listed()
+    ensures { (first : Now) (list : Listing) (places : List TagPlace) (chains : Chains)
+        → AreAmong first places chains → (at : CellAt) (clone : Option CellAt)
+        → Adds at clone first.list.entries list.entries → list.tag_pages ≡ first.list.tag_pages
+        → ((tag : Tag) → option_and_then start_of (chains tag) ≡ Some at
+        → option_and_then left_of (chains tag) ≡ Some Trim)
+        → AreAmong (with_list list first) places chains }
+{}
+
+/// So they are once a page of a tag directory is listed that is not the fileset's.
+pub fn tags_stay_among_where_a_page_is_listed()
+    ensures { (first : Now) (list : Listing) (places : List TagPlace) (chains : Chains)
+        → AreAmong first places chains → (home : Home)
+        → list.tag_pages ≡ first.list.tag_pages ++ home ∷ []
+        → list.entries ≡ first.list.entries → has_home places home ≡ false
+        → AreAmong (with_list list first) places chains }
 {}
 
 /// A file whose tag was taken out of use says that it is to be removed.

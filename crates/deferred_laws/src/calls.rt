@@ -9,8 +9,9 @@ ghost use Rattle.domain_base.specs.declared.version.Version.{Version};
 ghost use Rattle.page_store.specs.Bitfiles.{same_tag};
 ghost use Rattle.free_space.specs.declared.waiting.Waiting.{Waiting};
 ghost use Rattle.bitfile_core.specs.Together.{AreTogether};
+ghost use Rattle.deferred_delete.specs.Standing.{source_at};
 ghost use Rattle.deferred_delete.specs.Steps.{IsWell};
-ghost use Rattle.deferred_laws.specs.Calls.{Calls, FilesetNow};
+ghost use Rattle.deferred_laws.specs.Calls.{Calls, FilesetNow, StandsWell};
 ghost use Rattle.deferred_laws.specs.Tags.{AreAmong, start_of};
 ghost use Rattle.deferred_laws.specs.Taken.{IsGiven, IsHeldAt, IsTaken};
 ghost use Rattle.deferred_laws.specs.Waits.{Waits};
@@ -84,4 +85,17 @@ pub fn what_waits_stays()
     ensures { (fileset : ℕ) (version : Version) (tag : Tag) (first last : FilesetNow)
         → Calls fileset version tag first last → (vol : ℕ) (page : Waiting)
         → Waits last.domain.space vol page ↔ Waits first.domain.space vol page }
+{}
+
+/// Each file is read through the one through which it was, and one that was made through none.
+pub fn what_is_read_through_stays()
+    ensures { (fileset : ℕ) (version : Version) (tag : Tag) (first last : FilesetNow)
+        → Calls fileset version tag first last → StandsWell fileset first → (at : CellAt)
+        → source_at last.domain.files at ≡ source_at first.domain.files at }
+{}
+
+/// No call changes the list.
+pub fn the_list_stays()
+    ensures { (fileset : ℕ) (version : Version) (tag : Tag) (first last : FilesetNow)
+        → Calls fileset version tag first last → last.domain.list ≡ first.domain.list }
 {}

@@ -11,14 +11,19 @@ mod waiting;
 pub use adding::{
     all_stays_well_where_a_file_is_listed, all_stays_well_where_a_page_is_listed,
     cut_files_are_to_be_trimmed, dropped_files_are_to_be_removed,
+    tags_stay_among_where_a_file_is_listed, tags_stay_among_where_a_page_is_listed,
 };
 pub use calls::{
     all_stays_well_over_calls, files_stay_together, given_pages_were_free, other_files_stay,
-    other_tags_stay, pages_are_held_exactly, what_waits_stays,
+    other_tags_stay, pages_are_held_exactly, the_list_stays, what_is_read_through_stays,
+    what_waits_stays,
 };
 pub use steps::{
-    each_step_leaves_less, others_stay, pages_are_read_as_before, removed_files_are_gone,
-    trimmed_files_keep_all, trimmed_files_keep_their_front,
+    each_step_leaves_less, others_stay, pages_are_held_exactly_over_steps,
+    pages_are_read_as_before, removed_files_are_gone, trimmed_files_keep_all,
+    trimmed_files_keep_their_front,
 };
-pub use together::{all_stays_well, tags_stay_together};
+pub use together::{
+    all_stays_well, files_of_tags_begin_apart, tags_beside_the_list_stay, tags_stay_together,
+};
 pub use waiting::{pages_let_go_wait, pages_taken_off_wait, pages_wait_on};

@@ -1,15 +1,19 @@
 //! What steps leave as it was.
-ghost use Rattle.std.specs.Prelude.{◌≡◌, ◌+◌, ◌≤◌, ℕ, List, [], Some, None, Contains};
+ghost use Rattle.std.specs.Prelude.{◌≡◌, ◌+◌, ◌≤◌, ◌⊎◌, ◌↔◌, ℕ, List, [], Some, None, Contains};
 ghost use Rattle.domain_base.specs.declared.place.CellAt.{CellAt};
+ghost use Rattle.domain_base.specs.declared.place.Home.{Home};
 ghost use Rattle.domain_base.specs.declared.version.Version.{Version};
-ghost use Rattle.record_table.specs.declared.record.Leftover.TheVariants.{Remove, Trim};
+ghost use Rattle.record_table.specs.declared.record.Leftover.TheVariants.{Trim};
 ghost use Rattle.bmt_mcells.specs.Chain.{PlacedCell};
+ghost use Rattle.free_cells.specs.Cells.{table_of};
+ghost use Rattle.free_space.specs.Spaces.{IsHeld};
 ghost use Rattle.deferred_delete.specs.declared.list.Entry.{Entry};
-ghost use Rattle.deferred_delete.specs.Listed.{left_of};
+ghost use Rattle.deferred_delete.specs.Listed.{GoesWhole, left_of};
 ghost use Rattle.deferred_delete.specs.Standing.{read_at};
 ghost use Rattle.deferred_delete.specs.Steps.{IsWell, Now, Steps};
-ghost use Rattle.deferred_laws.specs.Kept.{IsBeside, KeepsAll, KeepsFront, Stays};
+ghost use Rattle.deferred_laws.specs.Kept.{IsBeside, KeepsAll, KeepsFront, SaysTheSame, Stays};
 ghost use Rattle.deferred_laws.specs.ToDo.{left_to_do};
+ghost use Rattle.deferred_laws.specs.Waits.{IsGivenUp};
 
 /// A file that no entry is of, and that no entry gives as its clone's, has the same chain after.
 pub fn others_stay()
@@ -37,13 +41,13 @@ pub fn pages_are_read_as_before()
         → read_at last.files at page ≡ read_at first.files at page }
 {}
 
-/// A file that was to be removed is not there any more once no file is on the list.
+/// A file of which all goes is not there any more once no file is on the list.
 pub fn removed_files_are_gone()
     ensures { (group : ℕ) (version : Version) (first : Now) (count : ℕ) (last : Now)
         → IsWell first → Steps group version first count last → last.list.entries ≡ []
         → (entry : Entry) → Contains first.list.entries entry
         → (chain : List PlacedCell) → first.files entry.at ≡ Some chain
-        → left_of chain ≡ Some Remove → last.files entry.at ≡ None }
+        → GoesWhole chain → last.files entry.at ≡ None }
 {}
 
 /// A file that was to be trimmed keeps all of 65,536 pages once no file is on the list, and nothing
@@ -63,4 +67,25 @@ pub fn each_step_leaves_less()
     ensures { (group : ℕ) (version : Version) (first : Now) (count : ℕ) (last : Now)
         → IsWell first → Steps group version first count last
         → count + left_to_do last ≤ left_to_do first }
+{}
+
+/// Exactly these pages are held after the steps: those that were before and were not given up, and
+/// those of cells. So beside what files and the list let go of, steps take pages of cells alone.
+pub fn pages_are_held_exactly_over_steps()
+    ensures { (group : ℕ) (version : Version) (first : Now) (count : ℕ) (last : Now)
+        → IsWell first → Steps group version first count last → (home : Home) → 1 ≤ home.vol
+        → IsHeld last.space home.vol home.page
+        ↔ ((IsHeld first.space home.vol home.page × ¬ IsGivenUp first last home)
+        ⊎ Contains (table_of last.cells home.vol) home.page) }
+{}
+
+/// A file that is there after the steps was there before, and its first cell said the same: what
+/// it is, when it was born, where it stands, where its index begins, and of a clone's file how many
+/// pages were frozen; all but how many pages it keeps, through which file it reads, what is left to
+/// be done with it, and where its pages stand.
+pub fn what_files_say_stays()
+    ensures { (group : ℕ) (version : Version) (first : Now) (count : ℕ) (last : Now)
+        → IsWell first → Steps group version first count last
+        → (at : CellAt) (after : List PlacedCell) → last.files at ≡ Some after
+        → (chain : List PlacedCell) × (first.files at ≡ Some chain) × SaysTheSame chain after }
 {}

@@ -1,11 +1,19 @@
 //! What belongs together before steps does so after them.
-ghost use Rattle.std.specs.Prelude.{ℕ, List};
+ghost use Rattle.std.specs.Prelude.{◌≡◌, ℕ, List, Some, false};
+ghost use Rattle.std.specs.Option.{option_and_then};
+ghost use Rattle.domain_base.specs.declared.place.CellAt.{CellAt};
+ghost use Rattle.domain_base.specs.declared.place.Tag.{Tag};
 ghost use Rattle.domain_base.specs.declared.version.Version.{Version};
 ghost use Rattle.tag_dirs.specs.declared.dir.TagPlace.{TagPlace};
+ghost use Rattle.page_store.specs.Bitfiles.{same_tag};
+ghost use Rattle.page_store.specs.Pages.{Pages};
+ghost use Rattle.free_cells.specs.Cells.{Cells};
+ghost use Rattle.free_space.specs.Spaces.{Spaces};
 ghost use Rattle.bitfile_core.specs.Files.{Chains};
 ghost use Rattle.bitfile_core.specs.Together.{AreTogether};
 ghost use Rattle.deferred_delete.specs.Steps.{IsWell, Now, Steps};
-ghost use Rattle.deferred_laws.specs.Tags.{AreAmong, chains_in};
+ghost use Rattle.deferred_laws.specs.Kept.{IsBeside};
+ghost use Rattle.deferred_laws.specs.Tags.{AreAmong, chains_in, start_of};
 
 /// All files of the domain, free cells, free space and pages belong together, and what is left on
 /// the list is of these files.
@@ -26,4 +34,22 @@ pub fn tags_stay_together()
         → AreTogether fileset places last.space last.cells last.pages
         (chains_in last.files chains)
         × AreAmong last places (chains_in last.files chains) }
+{}
+
+/// A tag's file of which no entry is, and that none gives as its clone's, has the chain that it had.
+pub fn tags_beside_the_list_stay()
+    ensures { (group : ℕ) (version : Version) (first : Now) (count : ℕ) (last : Now)
+        → Steps group version first count last → (places : List TagPlace) (chains : Chains)
+        → AreAmong first places chains → (tag : Tag) → ((at : CellAt)
+        → option_and_then start_of (chains tag) ≡ Some at → IsBeside first.list at)
+        → chains_in last.files chains tag ≡ chains tag }
+{}
+
+/// The files of two tags begin at two cells.
+pub fn files_of_tags_begin_apart()
+    ensures { (fileset : ℕ) (places : List TagPlace) (space : Spaces) (cells : Cells)
+        (pages : Pages) (chains : Chains) → AreTogether fileset places space cells pages chains
+        → (one other : Tag) → same_tag one other ≡ false → (at : CellAt)
+        → option_and_then start_of (chains one) ≡ Some at
+        → ¬ option_and_then start_of (chains other) ≡ Some at }
 {}
