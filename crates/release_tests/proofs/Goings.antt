@@ -1,10 +1,9 @@
 -- Files of which something is to be let go of, once they were cut or removed.
-use Rattle.std.proofs.Common.{◌≡◌, ◌∙◌, ℕ, List, [], ◌∷◌, Option, Some, None, IfSome, IsSomeAnd, Result, Ok, Err, IfOk, refl, sym, ap, subst}
+use Rattle.std.proofs.Common.{◌≡◌, ◌∙◌, ℕ, List, [], ◌∷◌, Option, Some, None, IfSome, IsSomeAnd, refl, sym, ap, subst}
 use Rattle.std.specs.Option.{option_map, option_map_or}
 use Rattle.domain_base.specs.declared.place.CellAt.{CellAt}
 use Rattle.domain_base.specs.declared.place.Home.{Home}
 use Rattle.domain_base.specs.declared.place.Tag.{Tag}
-use Rattle.page_store.specs.Bitfiles.{same_tag}
 use Rattle.page_store.specs.Pages.{Pages}
 use Rattle.record_table.specs.declared.record.Record.{Record}
 use Rattle.bmt_mcells.specs.Cell.{record_of}
@@ -19,7 +18,7 @@ use Rattle.bitfile_cells.specs.Allocated.{AreAllocated}
 use Rattle.bitfile_cells.specs.FileChanges.{AreOnTables}
 use Rattle.bitfile_cells.specs.Files.{AreFile, IsFile, places_of}
 use Rattle.bitfile_core.specs.Changes.{says_removed, with_chain, with_first}
-use Rattle.bitfile_core.specs.Files.{AreFiles, Chains, LeadsToFile, place_at}
+use Rattle.bitfile_core.specs.Files.{Chains, LeadsToFile, place_at}
 use Rattle.bitfile_core.specs.Together.{AreTogether}
 use Rattle.bitfile_core.specs.Truncation.{Truncates, TruncatesTogether, pending_cell, says_truncated}
 use Rattle.bitfile_core.proofs.Created.{one_chains}

@@ -2,4 +2,5 @@ pub mod Goings
 pub mod Wells
 pub mod Pairs
 pub mod Removals
-pub mod Onlies
+pub mod Callings
+pub mod Agains

@@ -1,5 +1,5 @@
 -- A file that goes, and one that reads through it.
-use Rattle.std.proofs.Common.{◌≡◌, ◌∙◌, ◌⊎◌, inl, inr, ℕ, false, nat_le, List, [], ◌∷◌, Option, Some, None, IfSome, IsSome, IsSomeAnd, Contains, refl, sym, ap, subst, arith, ⊎_elim}
+use Rattle.std.proofs.Common.{◌≡◌, ◌∙◌, ◌⊎◌, inl, inr, ℕ, false, nat_le, List, [], ◌∷◌, Option, Some, is_some, None, IsSome, IsSomeAnd, Contains, refl, sym, ap, subst, arith, ⊎_elim}
 use Rattle.std.specs.Option.{option_and_then, option_map_or}
 use Rattle.domain_base.specs.declared.place.CellAt.{CellAt}
 use Rattle.domain_base.specs.declared.place.Home.{Home}
@@ -16,30 +16,29 @@ use Rattle.free_cells.specs.Cells.{Cells}
 use Rattle.free_space.specs.Spaces.{Spaces}
 use Rattle.bitfile_cells.specs.Allocated.{AreAllocated}
 use Rattle.bitfile_cells.specs.Changes.{HasRoom, with_kind, with_record}
-use Rattle.bitfile_cells.specs.Files.{AreFile, IsFile, has_rows, map_records, places_of}
+use Rattle.bitfile_cells.specs.Files.{AreFile, IsFile, has_rows, places_of}
 use Rattle.bitfile_cells.proofs.Added.{not_zeros}
 use Rattle.bitfile_cells.proofs.ChainChanges.{at_apart}
 use Rattle.bitfile_cells.proofs.Still.{allocated_still}
 use Rattle.bitfile_core.specs.Changes.{with_first}
-use Rattle.bitfile_core.specs.Files.{AreApart, HasFirstKinds, is_first_kind}
+use Rattle.bitfile_core.specs.Files.{AreApart, is_first_kind}
 use Rattle.bitfile_core.proofs.FirstCell.{file_now, find_other, find_put, map_stays}
 use Rattle.bitfile_core.proofs.FirstRoom.{first_room, kinds_replaced}
 use Rattle.bitfile_core.proofs.FirstTogether.{not_of, rows, runs_kept}
 use Rattle.chain_release.proofs.Once.{absent_not}
 use Rattle.deferred_delete.specs.declared.list.Entry.{Entry}
-use Rattle.deferred_delete.specs.Listed.{IsEntry, IsListed, left_of}
+use Rattle.deferred_delete.specs.Listed.{IsEntry}
 use Rattle.deferred_delete.specs.Listing.{Adds, Listing}
-use Rattle.deferred_delete.specs.Standing.{Files, IsStanding, ReadsThrough, Source, StandTogether, place_in, source_at, source_in, source_of, with_file}
+use Rattle.deferred_delete.specs.Standing.{Files, IsStanding, ReadsThrough, Source, StandTogether, place_in, source_in, source_of, with_file}
 use Rattle.deferred_delete.specs.Steps.{IsWell, now_of}
 use Rattle.deferred_delete.proofs.Spread.{Which, other, reading, source, which}
-use Rattle.deferred_delete.proofs.Standings.{apart_from, each_from, file_beside, file_other, file_there, place_by, source_by}
+use Rattle.deferred_delete.proofs.Standings.{apart_from, each_from, file_beside, file_other, file_there, source_by}
 use Rattle.release_tests.specs.Pairs.{AreTwo, IsCloneOf}
 use Rattle.release_tests.proofs.Wells.{in_none, in_one, listing, no_files, none_some, some_same}
 
 -- ---- files of two chains
 
-module _ (space : Spaces) (cells : Cells) (pages : Pages) (a b : CellAt) (chain own : List PlacedCell) (two : AreTwo space cells pages a b chain own) (frozen : ℕ) (alone : source_of chain ≡ None) (reads : source_of own ≡ Some (record { at = a; frozen = frozen }))
-    (left : IsSome (left_of chain)) where
+module _ (space : Spaces) (cells : Cells) (pages : Pages) (a b : CellAt) (chain own : List PlacedCell) (two : AreTwo space cells pages a b chain own) (frozen : ℕ) (alone : source_of chain ≡ None) (reads : source_of own ≡ Some (record { at = a; frozen = frozen })) where
   in_chain : (cs : List PlacedCell) (at : CellAt) → IsFile pages at cs → Contains (cell_places cs) at
   in_chain [] at is = absurd is
   in_chain (c ∷ cs) at is = (0, omega arith, is.0)
@@ -127,7 +126,7 @@ module _ (space : Spaces) (cells : Cells) (pages : Pages) (a b : CellAt) (chain 
 
   is_entry : IsEntry files entry
   is_entry = record {
-    pending = subst (λ o. IsSome (option_and_then left_of o)) (sym at_a) left;
+    there = ap is_some at_a;
     given = λ c is. subst (λ (q : CellAt). ReadsThrough files q a) (some_same b c is) (subst (λ o. IsSomeAnd o (λ (s : Source). s.at ≡ a)) (sym (source_by files b own at_b ∙ reads)) refl);
     all = λ c is. ap Some (sym (reads_one c a is).0);
   }
@@ -215,8 +214,8 @@ module _ (space : Spaces) (cells : Cells) (old new : Pages) (a b : CellAt) (chai
     kinds = kinds_replaced (kind_of value) (Some value) first.cell.records two.kinds (ap is_first_kind is.of_kind);
   }
 
-  pub now_listed : source_of chain ≡ None → IsSome (left_of chain) → (fs : Files) × IsWell (now_of (listing (record { at = a; clone = Some b } ∷ []) []) fs space cells new)
-  now_listed alone left = (_, pair_listed space cells new a b chain own now frozen alone reads left)
+  pub now_listed : source_of chain ≡ None → (fs : Files) × IsWell (now_of (listing (record { at = a; clone = Some b } ∷ []) []) fs space cells new)
+  now_listed alone = (_, pair_listed space cells new a b chain own now frozen alone reads)
 
 -- room for the record
 pub pair_room : (space : Spaces) (cells : Cells) (pages : Pages) (a b : CellAt) (chain own : List PlacedCell) → AreTwo space cells pages a b chain own → (frozen : ℕ) (value : Record) → IsCloneOf a frozen value → HasRoom pages b (kind_of value) (Some value)
@@ -225,12 +224,12 @@ pair_room space cells pages a b chain (first ∷ rest) two frozen value is =
     first_room pages b first.cell value (subst (λ (q : CellAt). StandsAt pages q first.cell) two.reader.file.0 two.reader.file.1.links.stands) two.kinds (ap is_first_kind is.of_kind) is.allowed
 
 pub pair_well : (space : Spaces) (cells : Cells) (old new : Pages) (a b : CellAt) (chain own : List PlacedCell) → AreTwo space cells old a b chain own → (frozen : ℕ) (value : Record) → IsCloneOf a frozen value
-    → ((cell : Cell) → StandsAt old b cell → StandsAt new b (with_record (kind_of value) (Some value) cell)) → LeavesOthers (is_at b) old new → KeepsWellFormed old new → KeepsHeaders old new → source_of chain ≡ None → IsSome (left_of chain)
+    → ((cell : Cell) → StandsAt old b cell → StandsAt new b (with_record (kind_of value) (Some value) cell)) → LeavesOthers (is_at b) old new → KeepsWellFormed old new → KeepsHeaders old new → source_of chain ≡ None
     → (before list : Listing) → before.entries ≡ [] → before.tag_pages ≡ [] → Adds a (Some b) before.entries list.entries → list.tag_pages ≡ before.tag_pages → (fs : Files) × IsWell (now_of list fs space cells new)
-pair_well space cells old new a b chain [] two frozen value is stands leaves good headers alone left before list no_entry no_page adds same = absurd two.reader.file
-pair_well space cells old new a b chain (first ∷ rest) two frozen value is stands leaves good headers alone left before list no_entry no_page adds same =
+pair_well space cells old new a b chain [] two frozen value is stands leaves good headers alone before list no_entry no_page adds same = absurd two.reader.file
+pair_well space cells old new a b chain (first ∷ rest) two frozen value is stands leaves good headers alone before list no_entry no_page adds same =
     let here = stands first.cell (subst (λ (q : CellAt). StandsAt old q first.cell) two.reader.file.0 two.reader.file.1.links.stands) in
-    let well = now_listed space cells old new a b chain first rest two frozen value is here leaves good headers alone left in
+    let well = now_listed space cells old new a b chain first rest two frozen value is here leaves good headers alone in
     let entries = added list.entries (subst (λ (es : List Entry). Adds a (Some b) es list.entries) no_entry adds) in
     (well.0, subst (λ (l : Listing). IsWell (now_of l well.0 space cells new)) (λ i. listing (sym entries i) (sym (same ∙ no_page) i)) well.1)
   where

@@ -1,5 +1,5 @@
 -- Two files whose names were taken.
-use Rattle.std.proofs.Common.{◌≡◌, ◌∙◌, ℕ, Bool, false, cond, List, [], ◌∷◌, Option, Some, None, IfSome, IsSomeAnd, Contains, refl, sym, ap, subst, arith}
+use Rattle.std.proofs.Common.{◌≡◌, ◌∙◌, ℕ, Bool, false, cond, List, [], ◌∷◌, Option, Some, None, IfSome, IsSomeAnd, refl, sym, ap, subst, arith}
 use Rattle.domain_base.specs.declared.place.CellAt.{CellAt}
 use Rattle.domain_base.specs.declared.place.Home.{Home}
 use Rattle.domain_base.specs.declared.place.Tag.{Tag}
@@ -8,7 +8,7 @@ use Rattle.page_store.specs.Pages.{Pages}
 use Rattle.record_table.specs.declared.record.Record.TheVariants as written
 use Rattle.record_table.specs.declared.record.Leftover.TheVariants.{Remove}
 use Rattle.bmt_mcells.specs.CellPage.{cell_at}
-use Rattle.bmt_mcells.specs.Chain.{LeavesOthers, PlacedCell, is_at, places as cell_places}
+use Rattle.bmt_mcells.specs.Chain.{LeavesOthers, PlacedCell, is_at}
 use Rattle.tag_dirs.specs.declared.dir.TagPlace.{TagPlace}
 use Rattle.tag_dirs.specs.Directory.{cell_of}
 use Rattle.extent_maps.specs.declared.run.PagePlace.TheVariants.{At}
@@ -22,7 +22,6 @@ use Rattle.bitfile_core.specs.Files.{AreApart, Chains, HasFirstKinds}
 use Rattle.bitfile_core.specs.Together.{AreTogether}
 use Rattle.bitfile_core.proofs.FirstRoom.{kinds_replaced}
 use Rattle.bitfile_core.proofs.FirstTogether.{runs_kept}
-use Rattle.bitfile_core.proofs.OneFile.{tags_same}
 use Rattle.bitfile_core.proofs.RemovedTogether.{removed_keeps}
 use Rattle.std.proofs.lemmas.Bool.{true≢false}
 use Rattle.bitfile_core.proofs.OneChain.{same_tag_itself}

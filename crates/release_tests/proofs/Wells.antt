@@ -1,5 +1,5 @@
 -- Lists of one file, or of a page of a tag directory, that belong together with all else.
-use Rattle.std.proofs.Common.{◌≡◌, ◌∙◌, ℕ, ◌<◌, ◌≤◌, zero, suc, List, [], ◌∷◌, ◌++◌, Option, Some, None, Result, Ok, Err, IfOk, IfErr, OnErr, IsSome, IsSomeAnd, Contains, get_or, length, arith, refl, sym, ap, subst, ⊎_elim}
+use Rattle.std.proofs.Common.{◌≡◌, ◌∙◌, ℕ, ◌≤◌, zero, suc, List, [], ◌∷◌, ◌++◌, Some, None, Result, Ok, Err, IfOk, IfErr, OnErr, is_some, IsSomeAnd, Contains, arith, refl, sym, ap, subst, ⊎_elim}
 use Rattle.std.specs.Option.{option_and_then, option_map_or}
 use Rattle.domain_base.specs.declared.place.CellAt.{CellAt}
 use Rattle.domain_base.specs.declared.place.Home.{Home}
@@ -15,14 +15,18 @@ use Rattle.bitfile_cells.specs.Files.{places_of}
 use Rattle.bitfile_core.specs.Together.{IsHeldApart}
 use Rattle.chain_release.proofs.Once.{absent_not}
 use Rattle.deferred_delete.specs.declared.list.Entry.{Entry}
-use Rattle.deferred_delete.specs.Listed.{IsEntry, IsListed, left_of}
-use Rattle.deferred_delete.specs.Listing.{Adds, AddsEntry, Listing, SetsClone}
+use Rattle.deferred_delete.specs.Listed.{IsEntry, IsListed}
+use Rattle.deferred_delete.specs.Listing.{Adds, Listing}
 use Rattle.deferred_delete.specs.Standing.{Files, IsStanding, ReadsThrough, Source, StandTogether, place_in, source_at, source_of, with_file}
 use Rattle.deferred_delete.specs.Steps.{IsWell, LetsGo, now_of}
 use Rattle.deferred_delete.proofs.Loops.{well_same}
 use Rattle.deferred_delete.proofs.Well.{well_still}
 use Rattle.deferred_delete.proofs.Standings.{apart_from, each_from, file_other, file_there, place_by, same_or_not, source_by}
 use Rattle.release_tests.specs.Going.{IsGoing}
+use Rattle.tag_dirs.specs.declared.dir.TagPlace.{TagPlace}
+use Rattle.deferred_laws.specs.Calls.{StandsWell}
+use Rattle.file_tests.specs.First.{IsEmpty}
+use Rattle.release_tests.specs.Called.{fileset_in}
 
 abbrev pub listing : List Entry → List Home → Listing
 listing entries tag_pages = record { entries = entries; tag_pages = tag_pages }
@@ -43,7 +47,7 @@ none_some x is = cc
 abbrev pub no_files : Files
 no_files = λ a. None
 
-module _ (space : Spaces) (cells : Cells) (pages : Pages) (at : CellAt) (chain : List PlacedCell) (going : IsGoing space cells pages at chain) (left : IsSome (left_of chain)) (alone : source_of chain ≡ None) where
+module _ (space : Spaces) (cells : Cells) (pages : Pages) (at : CellAt) (chain : List PlacedCell) (going : IsGoing space cells pages at chain) (alone : source_of chain ≡ None) where
   abbrev files : Files
   files = with_file at (Some chain) no_files
 
@@ -94,7 +98,7 @@ module _ (space : Spaces) (cells : Cells) (pages : Pages) (at : CellAt) (chain :
 
   is_entry : IsEntry files entry
   is_entry = record {
-    pending = subst (λ o. IsSome (option_and_then left_of o)) (sym there) left;
+    there = ap is_some there;
     given = λ clone is. absurd (none_some clone is);
     all = λ clone reads. absurd (reads_none clone at reads);
   }
@@ -125,17 +129,17 @@ module _ (space : Spaces) (cells : Cells) (pages : Pages) (at : CellAt) (chain :
   pub one_well : (old new : Listing) → old.entries ≡ [] → old.tag_pages ≡ [] → Adds at None old.entries new.entries → new.tag_pages ≡ old.tag_pages → (fs : Files) × IsWell (now_of new fs space cells pages)
   one_well old new no_entry no_page adds same = (_, one_is_well old new no_entry no_page adds same)
 
--- ---- no file, and a page of a tag directory
+-- ---- no file
 
-module _ (space : Spaces) (cells : Cells) (pages : Pages) (home : Home) (allocated : AreAllocated space cells pages) (low : 1 ≤ home.vol) (held : IsHeldApart space cells home) where
+module _ (space : Spaces) (cells : Cells) (pages : Pages) (allocated : AreAllocated space cells pages) where
   none_at : (a : CellAt) → no_files a ≡ None
   none_at a = refl
 
   none_there : (a : CellAt) (p : ℕ) (h : Home) → place_in no_files a p ≡ At h → ⊥
   none_there a p h is = absent_not h (sym (ap (λ o. option_map_or (λ cs. places_of cs p) o Absent) (none_at a)) ∙ is)
 
-  page_together : StandTogether space cells pages no_files
-  page_together = record {
+  none_together : StandTogether space cells pages no_files
+  none_together = record {
     allocated = allocated;
     each = each_from cells pages no_files (λ a cs is. absurd (none_some cs (sym (none_at a) ∙ is)));
     apart = apart_from no_files (λ a b xs ys is_a is_b other. absurd (none_some xs (sym (none_at a) ∙ is_a)));
@@ -144,6 +148,39 @@ module _ (space : Spaces) (cells : Cells) (pages : Pages) (home : Home) (allocat
     one_deep = λ a b c reads. absurd (subst (λ o. IsSomeAnd o (λ (source : Source). source.at ≡ b)) (ap (λ o. option_and_then source_of o) (none_at a)) reads);
   }
 
+-- and no entry
+none_listed : (space : Spaces) (cells : Cells) → IsListed space cells no_files (listing [] [])
+none_listed space cells = record {
+  each = λ e inside. absurd (in_none e inside);
+  once = λ i j d less_i less_j same. absurd (omega (arith, less_i));
+  clones = λ a b in_a in_b is. in_none a in_a;
+  pages_once = tt;
+  pages_low = λ h inside. absurd (in_none h inside);
+  pages_held = λ h inside. absurd (in_none h inside);
+  pages_apart = λ h inside. absurd (in_none h inside);
+}
+
+pub none_stands : (fileset : ℕ) (places : List TagPlace) (space : Spaces) (cells : Cells) (pages : Pages) → IsEmpty fileset places space cells pages → (list : Listing) → list.entries ≡ [] → list.tag_pages ≡ []
+    → StandsWell fileset (fileset_in (record { places = places; list = list; space = space; cells = cells; pages = pages }) no_files (λ t. None))
+none_stands fileset places space cells pages empty list no_entry no_page = record {
+  well = record {
+    together = none_together space cells pages empty.together.allocated;
+    listed = subst (λ (es : List Entry). IsListed space cells no_files (listing es list.tag_pages)) (sym no_entry) (subst (λ (hs : List Home). IsListed space cells no_files (listing [] hs)) (sym no_page) (none_listed space cells));
+  };
+  together = empty.together;
+  among = record {
+    same = λ t. refl;
+    live = λ t. tt;
+    trimmed = λ e inside. absurd (in_none e (subst (λ (es : List Entry). Contains es e) no_entry inside));
+    low = empty.low;
+    no_tags = λ a p h there. absurd (none_there space cells pages empty.together.allocated a p h there);
+    not_listed = λ h inside. absurd (in_none h (subst (λ (hs : List Home). Contains hs h) no_page inside));
+  };
+}
+
+-- ---- no file, and a page of a tag directory
+
+module _ (space : Spaces) (cells : Cells) (pages : Pages) (home : Home) (allocated : AreAllocated space cells pages) (low : 1 ≤ home.vol) (held : IsHeldApart space cells home) where
   page_listed : IsListed space cells no_files (listing [] (home ∷ []))
   page_listed = record {
     each = λ e inside. absurd (in_none e inside);
@@ -152,7 +189,7 @@ module _ (space : Spaces) (cells : Cells) (pages : Pages) (home : Home) (allocat
     pages_once = (λ inside. in_none home inside, tt);
     pages_low = λ h inside. subst (λ (h : Home). 1 ≤ h.vol) (sym (in_one home h inside)) low;
     pages_held = λ h inside. subst (IsHeldApart space cells) (sym (in_one home h inside)) held;
-    pages_apart = λ h inside a p is. none_there a p h is;
+    pages_apart = λ h inside a p is. none_there space cells pages allocated a p h is;
   }
 
   pub page_well : (old new : Listing) → old.entries ≡ [] → old.tag_pages ≡ [] → new.tag_pages ≡ old.tag_pages ++ home ∷ [] → new.entries ≡ old.entries → (fs : Files) × IsWell (now_of new fs space cells pages)
@@ -160,7 +197,7 @@ module _ (space : Spaces) (cells : Cells) (pages : Pages) (home : Home) (allocat
       let tags = adds ∙ ap (λ (hs : List Home). hs ++ home ∷ []) no_page in (
         no_files,
         record {
-          together = page_together;
+          together = none_together space cells pages allocated;
           listed = subst (λ (es : List Entry). IsListed space cells no_files (listing es new.tag_pages)) (sym (same ∙ no_entry))
               (subst (λ (hs : List Home). IsListed space cells no_files (listing [] hs)) (sym tags) page_listed);
         },

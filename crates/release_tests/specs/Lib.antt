@@ -1,3 +1,3 @@
+pub mod Called
 pub mod Going
-pub mod Only
 pub mod Pairs

@@ -4,12 +4,12 @@ ghost use Rattle.file_tests.specs.Worlds.{IsWorld};
 ghost use Rattle.release_tests.specs.Going.{HasWell};
 ghost use Rattle.release_tests.specs.Pairs.{HasTwo, IsCloneOf};
 
-use crate::going::{counts, is_of_clone, may_go, release_all};
-use crate::making::{give_pages, make};
+use crate::going::{counts, is_of_clone, may_go, release, release_all};
+use crate::making::{first_pages, give_pages, make};
 use bitfile_cells::set_record;
 use bmt_mcells::find_record;
-use deferred_delete::Deferred;
-use domain_base::{CellAt, Kind, Tag};
+use deferred_delete::{Deferred, Entry};
+use domain_base::{CellAt, Kind, Tag, Version};
 use file_tests::world::{World, new_world, volume};
 use page_store::StoreFault;
 use record_table::{ExtentField, Record};
@@ -154,17 +154,18 @@ fn make_all(alloc: Global, world: &mut World, count: u32) -> Result<(), Fail>
     ensures { IfOk result (λ _. IsWorld world.new) }
 {
     for _ in 0..count {
-        make(alloc, world, Kind::File)?;
+        make(alloc, world, Kind::File, Version::Four)?;
     }
     Ok(())
 }
 
-/// A volume of so many pages with so many other files, a file of the pages 0 to 5, and one of these
-/// that reads through it.
+/// A volume of so many pages with so many other files, a file of so many pages, and one that reads
+/// those of them through it that were frozen.
 #[derive(Clone, Copy)]
 struct Scene {
     pages: u32,
     others: u32,
+    own: u32,
     frozen: u32,
 }
 
@@ -177,10 +178,11 @@ fn two_files(alloc: Global, scene: &Scene, own: &[u32]) -> Result<(World, Pair),
     }
     let mut world = new_world(alloc, scene.pages)?;
     make_all(alloc, &mut world, scene.others)?;
-    let file = make(alloc, &mut world, Kind::File)?;
-    give_pages(alloc, &mut world, file, &[0, 1, 2, 3, 4, 5])?;
-    let clone = make(alloc, &mut world, Kind::File)?;
-    give_pages(alloc, &mut world, clone, own)?;
+    let file = make(alloc, &mut world, Kind::File, Version::Four)?;
+    let pages = first_pages(alloc, scene.own)?;
+    give_pages(alloc, &mut world, file, pages.as_slice(), Version::Four)?;
+    let clone = make(alloc, &mut world, Kind::File, Version::Four)?;
+    give_pages(alloc, &mut world, clone, own, Version::Four)?;
     let pair = remove_two(alloc, &mut world, file, clone)?;
     Ok((world, pair))
 }
@@ -189,7 +191,7 @@ fn two_files(alloc: Global, scene: &Scene, own: &[u32]) -> Result<(World, Pair),
 fn handed(alloc: Global, scene: &Scene, own: &[u32]) -> Result<(PairSeen, [Row; 4]), Fail> {
     let (mut world, pair) = two_files(alloc, scene, own)?;
     let mut list = listed_pair(alloc, &mut world, &pair, scene.frozen)?;
-    let answer = release_all(alloc, &mut world, &mut list);
+    let answer = release_all(alloc, &mut world, &mut list, Version::Four);
     if list.is_empty() != answer.is_ok() {
         return Err(Fail::from("an empty list where all was let go of"));
     }
@@ -210,6 +212,7 @@ pub fn handed_frozen(alloc: Global, frozen: u32) -> Result<PairSeen, Fail> {
     let scene = Scene {
         pages: 64,
         others: 0,
+        own: 6,
         frozen,
     };
     Ok(handed(alloc, &scene, &[1, 6])?.0)
@@ -221,9 +224,56 @@ pub fn handed_full(alloc: Global, pages: u32) -> Result<(PairSeen, [Row; 4]), Fa
     let scene = Scene {
         pages,
         others: 26,
+        own: 6,
         frozen: 6,
     };
     handed(alloc, &scene, &[1, 3, 7, 9])
+}
+
+/// A file of which a clone reads 100 pages, all frozen: what was let go of.
+pub fn handed_many(alloc: Global) -> Result<PairSeen, Fail> {
+    let scene = Scene {
+        pages: 128,
+        others: 0,
+        own: 100,
+        frozen: 100,
+    };
+    Ok(handed(alloc, &scene, &[])?.0)
+}
+
+/// What is seen of two calls of which the first has no room for its second step: the steps of the
+/// first, whether the entry is left, the runs of its file, whether the second call is told that no
+/// page is free, the free and waiting pages, and the misses.
+pub type Stopped = (u32, bool, [Row; 4], bool, [u32; 2], u64);
+
+/// The same of a file whose last page goes, and of the one before it a clone finds no room.
+pub fn stopped(alloc: Global) -> Result<Stopped, Fail> {
+    let scene = Scene {
+        pages: 13,
+        others: 26,
+        own: 6,
+        frozen: 5,
+    };
+    let (mut world, pair) = two_files(alloc, &scene, &[1, 3, 7, 9])?;
+    let mut list = listed_pair(alloc, &mut world, &pair, scene.frozen)?;
+    let steps = release(alloc, &mut world, &mut list, Version::Four)?;
+    let left = list.last()
+        == Some(Entry {
+            at: pair.at,
+            clone: Some(pair.clone),
+        });
+    let refused = match release(alloc, &mut world, &mut list, Version::Four) {
+        Err(StoreFault::NoPage) => true,
+        _ => false,
+    };
+    Ok((
+        steps,
+        left,
+        rows(&world, &pair.at),
+        refused,
+        counts(&world),
+        world.space.misses(),
+    ))
 }
 
 /// All of the first file is gone after so many steps, with so many free pages, and so many of its

@@ -1,9 +1,8 @@
 //! Lists of files and pages that are let go of.
-ghost use Rattle.std.specs.Prelude.{◌≡◌, ◌≤◌, IfOk, IsSome, IsTrue, List, None};
+ghost use Rattle.std.specs.Prelude.{◌≡◌, ◌≤◌, IfOk, IsTrue, List, None};
 ghost use Rattle.memory_store.specs.Homes.{pages_of};
 ghost use Rattle.bmt_mcells.specs.Chain.{PlacedCell};
 ghost use Rattle.bitfile_cells.specs.Files.{IsFile};
-ghost use Rattle.deferred_delete.specs.Listed.{left_of};
 ghost use Rattle.deferred_delete.specs.Standing.{source_of};
 ghost use Rattle.file_tests.specs.Worlds.{IsWorld};
 ghost use Rattle.release_tests.specs.Going.{HasGoing, HasWell};
@@ -18,10 +17,7 @@ use std::alloc::Global;
 use std::test::Fail;
 
 /// Whether a file's first cell says that something is left to be done.
-fn is_pending(world: &World, at: &CellAt) -> bool
-    ensures { (chain : List PlacedCell) → IsFile (pages_of world.now.pages.entries.items) at.now
-        chain → IsTrue result → IsSome (left_of chain) }
-{
+fn is_pending(world: &World, at: &CellAt) -> bool {
     match find_record(&world.pages, *at, 6) {
         Some(Record::Pending { .. }) => true,
         _ => false,
@@ -39,7 +35,7 @@ pub fn is_of_clone(world: &World, at: &CellAt) -> bool
 /// Whether something is left to be done with a file, and it is of no clone.
 pub fn may_go(world: &World, at: &CellAt) -> bool
     ensures { (chain : List PlacedCell) → IsFile (pages_of world.now.pages.entries.items) at.now
-        chain → IsTrue result → IsSome (left_of chain) × (source_of chain ≡ None) }
+        chain → IsTrue result → source_of chain ≡ None }
 {
     if is_of_clone(world, at) {
         return false;
@@ -74,7 +70,12 @@ pub fn listed_page(alloc: Global, world: &mut World) -> Result<Deferred, Fail>
 }
 
 /// Lets go of things of a list with group 5, in one call: how many steps were done.
-fn release(alloc: Global, world: &mut World, list: &mut Deferred) -> Result<u32, StoreFault>
+pub fn release(
+    alloc: Global,
+    world: &mut World,
+    list: &mut Deferred,
+    version: Version,
+) -> Result<u32, StoreFault>
     requires { HasWell world.old list.old }
     ensures most { IfOk result (λ count. count ≤ 16) }
     ensures well { HasWell world.new list.new }
@@ -85,18 +86,23 @@ fn release(alloc: Global, world: &mut World, list: &mut Deferred) -> Result<u32,
         &mut world.space,
         &mut world.cells,
         5,
-        Version::Four,
+        version,
     )
 }
 
 /// The same in 20 calls.
-pub fn release_all(alloc: Global, world: &mut World, list: &mut Deferred) -> Result<u32, StoreFault>
+pub fn release_all(
+    alloc: Global,
+    world: &mut World,
+    list: &mut Deferred,
+    version: Version,
+) -> Result<u32, StoreFault>
     requires { HasWell world.old list.old }
     ensures { HasWell world.new list.new }
 {
     let mut steps = 0;
     for _ in 0..20_u32 {
-        match release(alloc, world, list) {
+        match release(alloc, world, list, version) {
             Ok(count) => steps += count,
             Err(fault) => return Err(fault),
         }

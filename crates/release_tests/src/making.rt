@@ -1,8 +1,13 @@
 //! Files that are made, given pages, cut and removed.
-ghost use Rattle.std.specs.Prelude.{◌≤◌, IfOk, IfSome};
+ghost use Rattle.std.specs.Prelude.{◌≡◌, ◌≤◌, IfOk, IfSome};
+ghost use Rattle.domain_base.specs.declared.version.Version.{Version as VersionOf};
+ghost use Rattle.bitfile_core.specs.Files.{Chains};
+ghost use Rattle.deferred_delete.specs.Listing.{Listing};
+ghost use Rattle.deferred_delete.specs.Standing.{Files};
+ghost use Rattle.deferred_laws.specs.Calls.{FilesetNow, StandsWell};
 ghost use Rattle.file_tests.specs.Worlds.{IsWorld};
+ghost use Rattle.release_tests.specs.Called.{HasCalled, HasCut, fileset_in, parts_of};
 ghost use Rattle.release_tests.specs.Going.{HasGoing};
-ghost use Rattle.release_tests.specs.Only.{HasOnly, HasOnlyAt};
 
 use domain_base::limits::FILE_PAGES;
 use domain_base::{CellAt, Home, Kind, Tag, Version};
@@ -13,9 +18,14 @@ use std::alloc::Global;
 use std::test::Fail;
 
 /// Makes a file or a directory, born at clone 7.
-pub fn make(alloc: Global, world: &mut World, kind: Kind) -> Result<Tag, Fail>
+pub fn make(alloc: Global, world: &mut World, kind: Kind, version: Version) -> Result<Tag, Fail>
     requires { IsWorld world.old }
-    ensures { IfOk result (λ _. IsWorld world.new) }
+    ensures world { IfOk result (λ _. IsWorld world.new) }
+    ensures fileset { world.new.files.fileset ≡ world.old.files.fileset }
+    ensures calls { (list : Listing) (files : Files) (chains : Chains)
+        → StandsWell world.old.files.fileset (fileset_in (parts_of world.old list) files chains)
+        → IfOk result (λ tag. HasCalled world.old.files.fileset version tag
+        (fileset_in (parts_of world.old list) files chains) (parts_of world.new list)) }
 {
     Ok(
         world.files.create(
@@ -27,7 +37,7 @@ pub fn make(alloc: Global, world: &mut World, kind: Kind) -> Result<Tag, Fail>
             11,
             12,
             7,
-            Version::Four,
+            version,
             volume(),
         )?,
     )
@@ -39,10 +49,15 @@ fn give(
     world: &mut World,
     tag: Tag,
     page: u32,
+    version: Version,
 ) -> Result<Result<Home, StoreFault>, Fail>
     requires { IsWorld world.old }
     ensures world { IfOk result (λ _. IsWorld world.new) }
-    ensures only { HasOnly world.old tag → IfOk result (λ _. HasOnly world.new tag) }
+    ensures fileset { world.new.files.fileset ≡ world.old.files.fileset }
+    ensures calls { (first : FilesetNow) (list : Listing)
+        → StandsWell world.old.files.fileset first
+        → HasCalled world.old.files.fileset version tag first (parts_of world.old list)
+        → IfOk result (λ _. HasCalled world.new.files.fileset version tag first (parts_of world.new list)) }
 {
     let keep = world.files.keep(&world.pages, tag).ok_or("a live tag")?;
     if keep <= page || FILE_PAGES <= page {
@@ -61,23 +76,42 @@ fn give(
             tag,
             page,
             volume(),
-            Version::Four,
+            version,
         ),
     )
 }
 
 /// Gives a file these pages.
-pub fn give_pages(alloc: Global, world: &mut World, tag: Tag, pages: &[u32]) -> Result<(), Fail>
+pub fn give_pages(
+    alloc: Global,
+    world: &mut World,
+    tag: Tag,
+    pages: &[u32],
+    version: Version,
+) -> Result<(), Fail>
     requires { IsWorld world.old }
     ensures world { IfOk result (λ _. IsWorld world.new) }
-    ensures only { HasOnly world.old tag → IfOk result (λ _. HasOnly world.new tag) }
+    ensures fileset { world.new.files.fileset ≡ world.old.files.fileset }
+    ensures calls { (first : FilesetNow) (list : Listing)
+        → StandsWell world.old.files.fileset first
+        → HasCalled world.old.files.fileset version tag first (parts_of world.old list)
+        → IfOk result (λ _. HasCalled world.new.files.fileset version tag first (parts_of world.new list)) }
 {
     for page in pages {
-        if give(alloc, world, tag, *page)?.is_err() {
+        if give(alloc, world, tag, *page, version)?.is_err() {
             return Err(Fail::from("a free page"));
         }
     }
     Ok(())
+}
+
+/// The first pages, so many.
+pub fn first_pages(alloc: Global, count: u32) -> Result<Vec<u32>, Fail> {
+    let mut pages = Vec::new(alloc);
+    for page in 0..count {
+        pages.push(page)?;
+    }
+    Ok(pages)
 }
 
 /// Every second page, so many.
@@ -95,9 +129,12 @@ pub fn second_pages(alloc: Global, count: u32) -> Result<Vec<u32>, Fail>
 pub fn cut(alloc: Global, world: &mut World, tag: Tag, size: u64) -> Result<Option<CellAt>, Fail>
     requires { IsWorld world.old }
     ensures world { IfOk result (λ _. IsWorld world.new) }
+    ensures fileset { world.new.files.fileset ≡ world.old.files.fileset }
     ensures going { IfOk result (λ left. IfSome left (HasGoing world.new)) }
-    ensures only { HasOnly world.old tag
-        → IfOk result (λ left. IfSome left (HasOnlyAt world.new tag)) }
+    ensures calls { (version : VersionOf) (first : FilesetNow) (list : Listing)
+        → StandsWell world.old.files.fileset first
+        → HasCalled world.old.files.fileset version tag first (parts_of world.old list)
+        → IfOk result (HasCut world.new.files.fileset version tag first (parts_of world.new list)) }
 {
     if world.files.attributes(&world.pages, tag).is_none() {
         return Err(Fail::from("a live tag"));

@@ -1,31 +1,69 @@
 //! Files and pages that are let go of, step by step.
 
 use crate::again::rewritten;
-use crate::clones::{all_gone, all_kept, handed_frozen, handed_full};
-use crate::seen::{many_extents, removed, tag_page, trim};
-use domain_base::Kind;
+use crate::clones::{all_gone, all_kept, handed_frozen, handed_full, handed_many, stopped};
+use crate::seen::{TrimSeen, many_extents, many_removed, removed, tag_page, trim};
+use domain_base::{Kind, Version};
+use std::alloc::Global;
 use std::test::Fail;
+
+/// The trims to 0, 1, 16, 17 and 69 extents of 70.
+fn trims(alloc: Global, version: Version) -> Result<[TrimSeen; 5], Fail> {
+    Ok([
+        many_extents(alloc, 0, version)?,
+        many_extents(alloc, 1, version)?,
+        many_extents(alloc, 16, version)?,
+        many_extents(alloc, 17, version)?,
+        many_extents(alloc, 69, version)?,
+    ])
+}
+
+/// The same with these steps.
+fn trims_in(steps: [u32; 5]) -> [TrimSeen; 5] {
+    [
+        trim(steps[0], 0, 70),
+        trim(steps[1], 2, 69),
+        trim(steps[2], 32, 54),
+        trim(steps[3], 34, 53),
+        trim(steps[4], 138, 1),
+    ]
+}
 
 #[test]
 fn a_file_of_many_extents_lets_go_of_what_is_cut(rt: HostRuntime) -> Result<(), Fail> {
+    // rows of cells: 4, 22, 22, 22; one step a cell of which something goes, and one for the record
+    let seen = trims(rt.alloc(), Version::Four)?;
+    assert_eq!(rt; seen, trims_in([5, 5, 4, 4, 2]));
+    Ok(())
+}
+
+#[test]
+fn so_it_does_with_records_of_version_three(rt: HostRuntime) -> Result<(), Fail> {
+    // rows of cells: 4, 16, 16, 16, 16, 2
+    let seen = trims(rt.alloc(), Version::Three)?;
+    assert_eq!(rt; seen, trims_in([7, 7, 6, 6, 2]));
+    Ok(())
+}
+
+#[test]
+fn steps_are_as_many_as_cells_and_pages_handed_over(rt: HostRuntime) -> Result<(), Fail> {
     let alloc = rt.alloc();
-    let seen = [
-        many_extents(alloc, 0)?,
-        many_extents(alloc, 1)?,
-        many_extents(alloc, 16)?,
-        many_extents(alloc, 17)?,
-        many_extents(alloc, 69)?,
-    ];
-    assert_eq!(rt;
-        seen,
-        [
-            trim(0, 70),
-            trim(2, 69),
-            trim(32, 54),
-            trim(34, 53),
-            trim(138, 1)
-        ]
-    );
+    // the first cell's pages, each cell behind it, and the first cell
+    let four = many_removed(alloc, Version::Four)?;
+    let three = many_removed(alloc, Version::Three)?;
+    assert_eq!(rt; [four, three], [(5, [55, 70]), (7, [55, 70])]);
+    // 100 pages one by one, the reading and the last cell; 25 of 128 pages are free beside them
+    let many = handed_many(alloc)?;
+    let own = [[0, 3, 100], [0; 3], [0; 3], [0; 3]];
+    assert_eq!(rt; many, all_gone(102, own, [25, 0]));
+    Ok(())
+}
+
+#[test]
+fn a_call_stops_in_front_of_a_step_that_finds_no_room(rt: HostRuntime) -> Result<(), Fail> {
+    let seen = stopped(rt.alloc())?;
+    let rows = [[0, 3, 5], [0; 3], [0; 3], [0; 3]];
+    assert_eq!(rt; seen, (1, true, rows, true, [0, 1], 2));
     Ok(())
 }
 

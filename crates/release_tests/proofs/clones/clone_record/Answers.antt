@@ -1,9 +1,6 @@
-use Rattle.std.proofs.Common.{rules, ◌≡◌, ◌∙◌, Bool, false, cond, nat_eq, None, Some, inr, ap, arith, refl, sym}
+use Rattle.std.proofs.Common.{rules, ◌∙◌, Bool, cond, nat_eq, None, Some, inr, ap, arith, refl}
 use Rattle.std.proofs.lemmas.Bool.{eqb-true, false_from_ne_true}
-use Rattle.domain_base.specs.declared.place.CellAt.{CellAt}
-use Rattle.record_table.specs.declared.record.Record.TheVariants as written
 use Rattle.record_table.specs.Records.{Allowed}
-use Rattle.deferred_delete.specs.Standing.{Source, source_in}
 use Rattle.release_tests.proofs.clones.clone_record.Goals as goal
 
 pub returns : goal.returns

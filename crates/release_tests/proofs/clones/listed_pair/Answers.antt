@@ -20,4 +20,4 @@ returns c =
     let may = c.may_go.ensures r.0 two.file.file c.if-not-may_go.false in
     pair_well world.space world.cells (pages_of world.pages.entries.items) (pages_of c.set_record.new.pages.entries.items) c.args.pair.now.at c.args.pair.now.clone r.0 r.1 two c.args.frozen c.in_ok-record.record
     (subst (λ o. IfSome o (IsCloneOf c.args.pair.now.at c.args.frozen)) c.in_ok-record.ensures.ok_part c.clone_record.ensures)
-    sets.ok sets.others sets.well_formed sets.headers may.1 may.0 c.new-list.result c.add.new.self c.new-list.ensures.entries c.new-list.ensures.tag_pages c.in_ok-add.ensures.ok c.in_ok-add.ensures.tag_pages
+    sets.ok sets.others sets.well_formed sets.headers may c.new-list.result c.add.new.self c.new-list.ensures.entries c.new-list.ensures.tag_pages c.in_ok-add.ensures.ok c.in_ok-add.ensures.tag_pages

@@ -1,4 +1,3 @@
-use Rattle.domain_base.specs.declared.version.Version.TheVariants.{Four}
 use Rattle.memory_store.specs.Homes.{pages_of}
 use Rattle.release_tests.proofs.Wells.{still_well}
 use Rattle.release_tests.proofs.going.release.Goals as goal
@@ -8,5 +7,5 @@ returns-clause-well c =
     let world = c.args.world.now in
     let new = c.release_some.new in
     let e = c.release_some.ensures in
-    still_well 5 Four c.requires.0 c.args.list.now new.self world.space new.space world.cells new.cells (pages_of world.pages.entries.items) (pages_of new.pages.entries.items) c.release_some.result c.requires.1
+    still_well 5 c.args.version c.requires.0 c.args.list.now new.self world.space new.space world.cells new.cells (pages_of world.pages.entries.items) (pages_of new.pages.entries.items) c.release_some.result c.requires.1
     (e.ok c.requires.0 c.requires.1) e.err e.list e.cells e.pages

@@ -1,4 +1,4 @@
 use Rattle.release_tests.proofs.making.give_pages.Goals as goal
 
-pub returns-clause-only : goal.returns-clause-only
-returns-clause-only c = c.loop-page.invariant.1
+pub returns-clause-calls : goal.returns-clause-calls
+returns-clause-calls c = c.loop-page.invariant.2
