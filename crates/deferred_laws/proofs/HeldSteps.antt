@@ -18,13 +18,13 @@ use Rattle.free_space.proofs.Apart.{among_at}
 use Rattle.free_space.proofs.Places.{volume_of-change_other, volume_of-change_same}
 use Rattle.bitfile_cells.proofs.Allocated.{there_is}
 use Rattle.bitfile_cells.specs.Files.{places_of}
-use Rattle.bitfile_core.specs.Together.{IsHeldApart}
 use Rattle.chain_release.specs.declared.released.Released.{Released}
 use Rattle.chain_release.specs.declared.released.Released.TheVariants as released
 use Rattle.chain_release.specs.Releases.{Progresses, use_of, with_given}
 use Rattle.chain_release.proofs.Once.{absent_not}
 use Rattle.deferred_delete.specs.Steps.{IsWell, LetsPages, Now, Step, Steps, file_ends, more, none, pages_go, reading_ends, tag_page_goes, trim_ends}
 use Rattle.deferred_delete.proofs.Spread.{tables}
+use Rattle.deferred_laws.specs.Shown.{StandsApart}
 use Rattle.deferred_laws.specs.Waits.{IsGivenUp, IsLost, IsNowhere, Waits, waiting_at}
 use Rattle.deferred_laws.proofs.Gone.{gone_waits}
 use Rattle.deferred_laws.proofs.HeldPages.{one_grows}
@@ -106,7 +106,7 @@ module _ (group : ℕ) (version : Version) (old new : Now) (well : IsWell old) w
   same_tables : new.cells ≡ old.cells → (vol p : ℕ) → Contains (table_of old.cells vol) p → Contains (table_of new.cells vol) p
   same_tables same vol p on = subst (λ (c : Cells). Contains (table_of c vol) p) (sym same) on
 
-  tables_on : Step group version old new → (vol p : ℕ) → Contains (table_of old.cells vol) p → Contains (table_of new.cells vol) p
+  pub tables_on : Step group version old new → (vol p : ℕ) → Contains (table_of old.cells vol) p → Contains (table_of new.cells vol) p
   tables_on (pages_go s) vol p on =
       let is_entry = well.listed.each s.entry (in_last old.list s.front s.entry s.last) in
       tables old.space old.cells old.pages old.files well.together s.entry is_entry s.chain s.is s.reader s.own s.given group version new.space new.cells new.pages s.what s.releases s.others s.allocated vol p on
@@ -145,19 +145,13 @@ module _ (group : ℕ) (version : Version) (old new : Now) (well : IsWell old) w
 
 -- ---- any number
 
--- a page is held and none of cells, of a file or of the list
-record IsFreeStanding (now : Now) (h : Home) : Type 0 where
-  nowhere : IsNowhere now.files h
-  not_listed : ¬ Contains now.list.tag_pages h
-  apart : IsHeldApart now.space now.cells h
+pub record HeldStill (first now : Now) (h : Home) : Type 0 where
+  pub well : IsWell now
+  pub tables : IsOnTable first.cells h → IsOnTable now.cells h
+  pub before : IsHeld now.space h.vol h.page → IsHeld first.space h.vol h.page ⊎ IsOnTable now.cells h
+  pub stands : StandsApart first h → StandsApart now h
 
-record HeldStill (first now : Now) (h : Home) : Type 0 where
-  well : IsWell now
-  tables : IsOnTable first.cells h → IsOnTable now.cells h
-  before : IsHeld now.space h.vol h.page → IsHeld first.space h.vol h.page ⊎ IsOnTable now.cells h
-  stands : IsFreeStanding first h → IsFreeStanding now h
-
-held_still : (group : ℕ) (version : Version) (first : Now) (count : ℕ) (last : Now) → IsWell first → Steps group version first count last → (h : Home) → 1 ≤ h.vol → HeldStill first last h
+pub held_still : (group : ℕ) (version : Version) (first : Now) (count : ℕ) (last : Now) → IsWell first → Steps group version first count last → (h : Home) → 1 ≤ h.vol → HeldStill first last h
 held_still group version first count last well steps h low =
     elim steps as (λ count last steps. HeldStill first last h) [
       | none ↦ record { well = well; tables = λ on. on; before = λ held. inl held; stands = λ is. is }
@@ -169,6 +163,7 @@ held_still group version first count last well steps h low =
             (λ on. inr on)
             (before_step group version between last was.well step h low held);
         stands = λ is. let it = was.stands is in record {
+          low = low;
           nowhere = λ a p there. let had = had_page group version between last was.well step a p h there in it.nowhere had.0 had.1 had.2;
           not_listed = λ inside. it.not_listed (was_listed group version between last was.well step h inside);
           apart = held_on group version between last was.well h low it.nowhere it.not_listed it.apart step;
@@ -203,6 +198,7 @@ module _ (group : ℕ) (version : Version) (first : Now) (count : ℕ) (last : N
       let nowhere : IsNowhere last.files h = (λ a p there. lost (still.well.together.held a p h there).held) in
       let unlisted : ¬ Contains last.list.tag_pages h = (λ inside. lost (still.well.listed.pages_held h inside).held) in
       lost (still.stands (record {
+        low = low;
         nowhere = λ a p there. stays (inl (record { at = a; page = p; was = there; nowhere = nowhere }));
         not_listed = λ inside. stays (inr (inside, unlisted));
         apart = record { held = was; off_table = λ on. lost (on_held (still.tables on)) };

@@ -33,3 +33,4 @@ pub mod HeldSteps
 pub mod SourcesStay
 pub mod TagsBeside
 pub mod SaysStill
+pub mod ShownStill

@@ -168,7 +168,7 @@ module _ (group : ℕ) (version : Version) (old new : Now) (well : IsWell old) w
       only h (zero, within, is) = is
       only h (suc k, within, is) = absurd (omega (arith, within))
 
-  page_stays : Step group version old new → (home : Home) → ¬ Contains (table_of new.cells home.vol) home.page → new.pages home ≡ old.pages home
+  pub page_stays : Step group version old new → (home : Home) → ¬ Contains (table_of new.cells home.vol) home.page → new.pages home ≡ old.pages home
   page_stays (pages_go s) home off = s.elsewhere home off
   page_stays (trim_ends s) home off = s.elsewhere home off
   page_stays (reading_ends s) home off = s.elsewhere home off

@@ -1,6 +1,7 @@
 pub mod Calls
 pub mod Kept
 pub mod Lists
+pub mod Shown
 pub mod Taken
 pub mod ToDo
 pub mod Tags

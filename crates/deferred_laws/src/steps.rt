@@ -2,16 +2,23 @@
 ghost use Rattle.std.specs.Prelude.{◌≡◌, ◌+◌, ◌≤◌, ◌⊎◌, ◌↔◌, ℕ, List, [], Some, None, Contains};
 ghost use Rattle.domain_base.specs.declared.place.CellAt.{CellAt};
 ghost use Rattle.domain_base.specs.declared.place.Home.{Home};
+ghost use Rattle.domain_base.specs.declared.place.Tag.{Tag};
 ghost use Rattle.domain_base.specs.declared.version.Version.{Version};
 ghost use Rattle.record_table.specs.declared.record.Leftover.TheVariants.{Trim};
 ghost use Rattle.bmt_mcells.specs.Chain.{PlacedCell};
+ghost use Rattle.page_store.specs.Bitfiles.{Bitfile};
+ghost use Rattle.tag_dirs.specs.declared.dir.TagPlace.{TagPlace};
 ghost use Rattle.free_cells.specs.Cells.{table_of};
 ghost use Rattle.free_space.specs.Spaces.{IsHeld};
+ghost use Rattle.bitfile_core.specs.Files.{Chains};
+ghost use Rattle.bitfile_core.specs.Shown.{ShowsFile};
 ghost use Rattle.deferred_delete.specs.declared.list.Entry.{Entry};
 ghost use Rattle.deferred_delete.specs.Listed.{GoesWhole, left_of};
 ghost use Rattle.deferred_delete.specs.Standing.{read_at};
 ghost use Rattle.deferred_delete.specs.Steps.{IsWell, Now, Steps};
 ghost use Rattle.deferred_laws.specs.Kept.{IsBeside, KeepsAll, KeepsFront, SaysTheSame, Stays};
+ghost use Rattle.deferred_laws.specs.Shown.{StaysShown};
+ghost use Rattle.deferred_laws.specs.Tags.{AreAmong, chains_in};
 ghost use Rattle.deferred_laws.specs.ToDo.{left_to_do};
 ghost use Rattle.deferred_laws.specs.Waits.{IsGivenUp};
 
@@ -88,4 +95,17 @@ pub fn what_files_say_stays()
         → IsWell first → Steps group version first count last
         → (at : CellAt) (after : List PlacedCell) → last.files at ≡ Some after
         → (chain : List PlacedCell) × (first.files at ≡ Some chain) × SaysTheSame chain after }
+{}
+
+/// What a set of files shows of a tag's file is the same after the steps: of a file each, and of a
+/// directory of which no entry is, with its pages and those of its index, where these are held and
+/// none of cells, of a file or of the list.
+pub fn what_is_shown_stays()
+    ensures { (group : ℕ) (version : Version) (first : Now) (count : ℕ) (last : Now)
+        → IsWell first → Steps group version first count last
+        → (places : List TagPlace) (chains : Chains) → AreAmong first places chains
+        → (tag : Tag) (cells : List PlacedCell) → chains tag ≡ Some cells
+        → (after : List PlacedCell) → chains_in last.files chains tag ≡ Some after
+        → (file : Bitfile) → StaysShown first cells file
+        → ShowsFile first.pages cells file → ShowsFile last.pages after file }
 {}
