@@ -1,0 +1,43 @@
+//! What a seat at the turn knows, for the proofs alone.
+use fileset_model::{Command, Entry};
+use std::collections::LinkedList;
+use std::snapshot::Snapshot;
+
+/// What goes with the number of a pass. No value of it is made.
+pub struct Share {
+    pub number: u64,
+    /// The history as it was when the passes were made.
+    pub start: LinkedList<Entry>,
+    /// The history as it was when it was seen last.
+    pub seen: LinkedList<Entry>,
+    /// The entries of this pass, in order.
+    pub mine: LinkedList<Entry>,
+    /// How many entries it may still add.
+    pub left: u64,
+    /// The command of the job that runs; only the mover's tells.
+    pub begun: Option<Command>,
+    /// How much lasted of the value that was in hand last.
+    pub lasting: u64,
+    /// The greatest length that a front told.
+    pub committed: u64,
+    /// The greatest lasting length that a front told.
+    pub durable: u64,
+    /// The greatest number of ended passes that was told.
+    pub ends: u64,
+    pub ended: bool,
+}
+
+/// What a seat knows: the shares of its numbers, its place in the queue, and the value that it has,
+/// as it stands for all. No value of it is made.
+pub struct View<T> {
+    pub shares: LinkedList<Share>,
+    pub ticket: Option<u64>,
+    pub holds: Option<T>,
+}
+
+/// The value with which a turn begins, and how many entries each pass may add.
+#[derive(Drop)]
+pub struct Start<T> {
+    pub value: Snapshot<T>,
+    pub lefts: Vec<u32>,
+}
