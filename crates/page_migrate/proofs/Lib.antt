@@ -1,0 +1,7 @@
+mod Alike
+mod HomeTests
+mod OneMove
+mod StayApart
+mod Stepping
+mod PartChanged
+mod Writing
