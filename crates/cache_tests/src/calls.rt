@@ -130,12 +130,15 @@ fn first_five(cache: &PageCache) -> Result<[bool; 5], Fail> {
     Ok(kept)
 }
 
-/// A full cache of the pages of a volume.
-fn full(alloc: Global) -> Result<PageCache, Fail> {
+/// A full cache of the pages of a volume, of which the first so many were written once they were kept.
+fn full(alloc: Global, written: u32) -> Result<PageCache, Fail> {
     let mut cache = PageCache::new(alloc)?;
     for page in 0..1_024 {
         let home = home_at(1, page)?;
         keep(alloc, &mut cache, &home, 1)?;
+        if page < written {
+            write(alloc, &mut cache, &home, 2, 1)?;
+        }
     }
     Ok(cache)
 }
@@ -151,7 +154,7 @@ fn five_after(alloc: Global, cache: &mut PageCache, page: u32) -> Result<[bool; 
 /// fourth. The third was used after the fifth, which goes before it once it is clean.
 #[test]
 fn the_least_recently_used_clean_frame_goes(rt: HostRuntime) -> Result<(), Fail> {
-    let mut cache = full(rt.alloc())?;
+    let mut cache = full(rt.alloc(), 0)?;
     let _ = shown(&mut cache, &home_at(1, 0)?);
     write(rt.alloc(), &mut cache, &home_at(1, 2)?, 2, 1)?;
     let one = five_after(rt.alloc(), &mut cache, 0)?;
@@ -164,5 +167,22 @@ fn the_least_recently_used_clean_frame_goes(rt: HostRuntime) -> Result<(), Fail>
         [true, false, true, false, false],
     );
     assert_eq!(rt; (one, two, three), want);
+    Ok(())
+}
+
+/// The first two are dirty and were used least lately: the third goes in their place, and once the
+/// first is clean, which is a use of it, the fourth.
+#[test]
+fn dirty_frames_stay(rt: HostRuntime) -> Result<(), Fail> {
+    let mut cache = full(rt.alloc(), 2)?;
+    let one = five_after(rt.alloc(), &mut cache, 0)?;
+    let flushed = flush(&mut cache, 1);
+    let two = five_after(rt.alloc(), &mut cache, 1)?;
+    let want = (
+        [true, true, false, true, true],
+        Some((1, 0)),
+        [true, true, false, false, true],
+    );
+    assert_eq!(rt; (one, flushed, two), want);
     Ok(())
 }
