@@ -12,7 +12,7 @@ use Rattle.page_cache.specs.Frames.{Frames, cleaned, group_of, groups, placed, w
 use Rattle.page_cache.specs.Entries.{Becomes, Displaces, Entries, clean_in, frame_at, frames_in, groups_in, one_for}
 use Rattle.page_cache.specs.Cache.{Changes, KeepsAll, Replaces, dirty_of, frames_of, kept_of}
 use Rattle.page_cache.specs.Queues.{Groups, IsQueueOf, Moves, with_group}
-use Rattle.page_cache.proofs.Entries.{clean_or_waits, not_in_order}
+use Rattle.page_cache.proofs.Entries.{clean_or_waits, not_in_order, waits_not}
 
 -- what is found at a home is what its number has
 pub found : (entries : Entries) (home : Home) → home.page < 2 ^ 32 → frames_in entries home ≡ frame_at entries (number_of home)
@@ -66,6 +66,19 @@ module _ (home : Home) (frame : Option Frame) (first next last : PageCache) wher
     dirty = omega (arith, changes.dirty, same.dirty, ap (λ (f : Frames). one_for (groups f home)) same.frames);
   }
 
+-- so of a frame that is replaced
+pub replaces_after : (home : Home) (frame : Frame) (first next last : PageCache) → KeepsAll first next → Replaces home frame next last → Replaces home frame first last
+replaces_after home frame first next last same replaces = record {
+  goes = replaces.goes;
+  earlier = replaces.earlier;
+  last = sym same.order ∙ replaces.last;
+  was_clean = λ other at. ap (λ (f : Frames). groups f other) (sym same.frames) ∙ replaces.was_clean other at;
+  frames = replaces.frames ∙ ap (λ (f : Frames). with_frame home (Some frame) (without_number replaces.goes f)) same.frames;
+  order = replaces.order;
+  kept = replaces.kept ∙ same.kept;
+  dirty = replaces.dirty ∙ same.dirty;
+}
+
 same_home-same : (home : Home) → same_home home home ≡ true
 same_home-same home = grind arith
 
@@ -103,6 +116,10 @@ replaces home width frame old new dirty number is (Ok u) displaces = λ full.
       goes = its.goes;
       earlier = its.earlier;
       last = its.last;
+      was_clean = λ other at. elim (nat_lt other.page (2 ^ 32)) as (λ b. group_of (if b then frame_at old.frames.entries (number_of other) else None) ≡ None) [
+        | true ↦ rw at (waits_not (frame_at old.frames.entries its.goes) its.was_clean)
+        | false ↦ refl
+      ];
       frames = displaced_frames home width frame old.frames.entries new.frames.entries its;
       order = its.order;
       kept = its.kept;

@@ -1,5 +1,5 @@
 -- What a cache keeps, and what a call makes of it.
-use Rattle.std.specs.Prelude.{◌≡◌, ◌+◌, ◌++◌, ℕ, List, [], ◌∷◌, Option, Some, length, vec_len}
+use Rattle.std.specs.Prelude.{◌≡◌, ◌+◌, ◌++◌, ℕ, List, [], ◌∷◌, Option, Some, None, length, vec_len}
 use Rattle.domain_base.specs.declared.place.Home.{Home}
 use Rattle.numbered_values.specs.Homes.{number_of}
 use Rattle.page_cache.specs.declared.cache.PageCache.{PageCache}
@@ -44,6 +44,7 @@ pub record Replaces (home : Home) (frame : Frame) (old new : PageCache) : Type 0
   pub goes : ℕ
   pub earlier : List ℕ
   pub last : order_of old ≡ earlier ++ goes ∷ []
+  pub was_clean : (other : Home) → number_of other ≡ goes → groups (frames_of old) other ≡ None
   pub frames : frames_of new ≡ with_frame home (Some frame) (without_number goes (frames_of old))
   pub order : order_of new ≡ placed (number_of home) (Some frame) earlier
   pub kept : kept_of new ≡ kept_of old

@@ -122,8 +122,7 @@ impl PageCache {
         self.dirty.move_home(&home, old, None);
     }
 
-    /// The law that it keeps 1,024 frames at most, and that those that are not dirty are in the order
-    /// of use.
+    /// The law that it keeps 1,024 frames at most, and as many as are in the order of use or dirty.
     pub fn is_bounded(&self)
         ensures kept { kept_of self.now ≤ 1024 }
         ensures dirty { length (order_of self.now) + dirty_of self.now ≡ kept_of self.now }
