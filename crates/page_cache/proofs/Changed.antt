@@ -1,5 +1,5 @@
 -- Changes of a cache, and one after the other.
-use Rattle.std.proofs.Common.{rules, Result, Ok, Err, OnOk, ◌≡◌, ◌==◌, ◌&&◌, ◌∙◌, ◌+◌, ◌^◌, ◌<◌, ℕ, Bool, true, false, List, Option, Some, None, length, nat_lt, if◌then◌else◌, eqb-true, refl, sym, ap, subst, arith}
+use Rattle.std.proofs.Common.{rules, Result, Ok, Err, OnOk, ◌≡◌, ◌==◌, ◌&&◌, ◌∙◌, ◌^◌, ◌<◌, ◌≤◌, ℕ, Bool, true, false, List, Option, Some, None, length, nat_lt, if◌then◌else◌, eqb-true, refl, sym, ap, subst, arith}
 use Rattle.std.specs.Option.{option_map}
 use mathlib.Core.Bool.{false≢true}
 use Rattle.domain_base.specs.declared.page.Page.{Page}
@@ -9,9 +9,9 @@ use Rattle.numbered_values.specs.Homes.{number_of}
 use Rattle.page_cache.specs.declared.cache.PageCache.{PageCache}
 use Rattle.page_cache.specs.declared.frame.Frame.{Frame}
 use Rattle.page_cache.specs.Frames.{Frames, cleaned, group_of, groups, placed, with_frame, without_number}
-use Rattle.page_cache.specs.Entries.{Becomes, Displaces, Entries, clean_in, frame_at, frames_in, groups_in, one_for}
+use Rattle.page_cache.specs.Entries.{Becomes, Displaces, Entries, frame_at, frames_in, groups_in, one_for}
 use Rattle.page_cache.specs.Cache.{Changes, KeepsAll, Replaces, dirty_of, frames_of, kept_of}
-use Rattle.page_cache.specs.Queues.{Groups, IsQueueOf, Moves, with_group}
+use Rattle.page_cache.specs.Queues.{Groups, IsQueueOf, IsSound, Moves, with_group}
 use Rattle.page_cache.proofs.Entries.{clean_or_waits, not_in_order, waits_not}
 
 -- what is found at a home is what its number has
@@ -88,21 +88,25 @@ same_page home old new used =
     ap (λ (f : Frames). option_map (λ (f : Frame). f.page) (f home)) used.frames
     ∙ ap (λ b. option_map (λ (f : Frame). f.page) (if b then frames_of old home else frames_of old home)) (same_home-same home)
 
--- the queue and the numbers of clean and dirty frames, once the frame of a home is another one
-module _ (home : Home) (frame : Option Frame) (old new : Entries) (becomes : Becomes (number_of home) frame old new) (queue moved : List (ℕ × Home)) (len moved_len : ℕ) (of : IsQueueOf (groups_in old) queue) (moves : Moves home (groups_in old (number_of home)) (group_of frame) queue moved len moved_len) where
-  pub queue_moved : IsQueueOf (groups_in new) moved
-  queue_moved = same_queue _ _ moved (groups_after old new (number_of home) frame becomes) (moves.queues (groups_in old) of refl)
-
-  pub parts_moved : length (clean_in old) + len ≡ length old → length (clean_in new) + moved_len ≡ length new
-  parts_moved parts = omega (arith, parts, becomes.kept, becomes.clean, moves.lens (groups_in old) of refl, clean_or_waits frame, clean_or_waits (frame_at old (number_of home)))
-
 pub cleaned_waits_not : (frame : Option Frame) → group_of (option_map cleaned frame) ≡ None
 cleaned_waits_not None = refl
 cleaned_waits_not (Some f) = refl
 
--- the group that a home's frame waits for is that of its number
-pub its_group : (entries : Entries) (home : Home) (group : Option ℕ) → home.page < 2 ^ 32 → group ≡ groups (frames_in entries) home → group ≡ groups_in entries (number_of home)
-its_group entries home group width is = is ∙ ap group_of (found entries home width)
+-- the queue has room for one home more
+pub has_room : (entries : Entries) (queue : List (ℕ × Home)) (len room : ℕ) → IsSound entries queue len room → length entries ≤ 1024 → len < room
+has_room entries queue len room sound most = omega (arith, sound.parts, sound.fit, most)
+
+-- the queue is that of the frames, once the frame of a home is another one and its home has moved
+pub sound_after : (home : Home) → home.page < 2 ^ 32 → (frame : Option Frame) (old new : Entries) (queue moved : List (ℕ × Home)) (len moved_len room new_room : ℕ) (number : ℕ) (group to : Option ℕ) → number ≡ number_of home → Becomes number frame old new → group ≡ groups (frames_in old) home → to ≡ group_of frame → Moves home group to queue moved len moved_len → new_room ≡ room → IsSound old queue len room → IsSound new moved moved_len new_room
+sound_after home width frame old new queue moved len moved_len room new_room number group to is becomes waits waits_now moves same sound =
+    let here = subst (λ n. Becomes n frame old new) is becomes in
+    let at = waits ∙ ap group_of (found old home width) in
+    let moves_here = subst (λ g. Moves home (groups_in old (number_of home)) g queue moved len moved_len) waits_now (subst (λ g. Moves home g to queue moved len moved_len) at moves) in
+    record {
+      queued = same_queue _ _ moved (groups_after old new (number_of home) frame here) (moves_here.queues (groups_in old) sound.queued refl);
+      parts = omega (arith, sound.parts, here.kept, here.clean, moves_here.lens (groups_in old) sound.queued refl, clean_or_waits frame, clean_or_waits (frame_at old (number_of home)));
+      fit = omega (arith, sound.fit, same);
+    }
 
 -- a displaced frame is a replaced one
 pub displaced_frames : (home : Home) → home.page < 2 ^ 32 → (frame : Frame) (old new : Entries) (displaces : Displaces (number_of home) frame old new) → frames_in new ≡ with_frame home (Some frame) (without_number displaces.goes (frames_in old))

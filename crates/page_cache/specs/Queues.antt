@@ -1,10 +1,10 @@
 -- The queue of dirty frames: their homes in the order in which they are written home.
-use Rattle.std.specs.Prelude.{◌≡◌, ◌==◌, ◌+◌, ◌*◌, ◌^◌, ◌<◌, ℕ, Bool, false, List, Option, Some, None, IsSome, if◌then◌else◌}
+use Rattle.std.specs.Prelude.{◌≡◌, ◌==◌, ◌+◌, ◌*◌, ◌^◌, ◌<◌, ℕ, Bool, false, List, Option, Some, None, IsSome, length, if◌then◌else◌}
 use Rattle.std.specs.Option.{ForSome, option_map, option_map_or}
 use Rattle.domain_base.specs.declared.place.Home.{Home}
 use Rattle.numbered_values.specs.Homes.{number_of}
 use Rattle.numbered_values.specs.Rising.{value_at}
-use Rattle.page_cache.specs.Entries.{one_for}
+use Rattle.page_cache.specs.Entries.{Entries, clean_in, groups_in, one_for}
 
 -- the place of a home's number behind those of older groups
 abbrev pub place_at : ℕ → ℕ → ℕ
@@ -50,8 +50,9 @@ pub record Moves (home : Home) (old new : Option ℕ) (queue moved : List (ℕ �
   pub lens : (groups : Groups) → IsQueueOf groups queue → groups (number_of home) ≡ old
       → moved_len + one_for old ≡ len + one_for new
 
--- a cache keeps at most so many frames, each of them clean or dirty, and its queue has room for one
--- more
-pub record HaveRoom (kept clean dirty room : ℕ) : Type 0 where
-  pub parts : clean + dirty ≡ kept
+-- the queue of these frames, in which each that is not clean waits, and which has room for one more
+-- than a cache keeps
+pub record IsSound (entries : Entries) (queue : List (ℕ × Home)) (len room : ℕ) : Type 0 where
+  pub queued : IsQueueOf (groups_in entries) queue
+  pub parts : length (clean_in entries) + len ≡ length entries
   pub fit : 1024 < room

@@ -2,9 +2,9 @@
 ghost use Rattle.std.specs.Prelude.{◌≡◌, ◌+◌, ◌^◌, ◌≤◌, ◌<◌, ℕ, None, Some, [], IfErr, IfOk, IsNone, IsSome, MatchOption, OnErr, OnOk, is_some, length, vec_capacity, vec_len};
 ghost use Rattle.std.specs.Borrow.{sem};
 ghost use Rattle.std.specs.Option.{option_copied, option_map};
-ghost use Rattle.page_cache.specs.Entries.{clean_in, groups_in, last_dirty};
+ghost use Rattle.page_cache.specs.Entries.{last_dirty};
 ghost use Rattle.page_cache.specs.Frames.{IsFirst, cleaned, groups, no_frames};
-ghost use Rattle.page_cache.specs.Queues.{HaveRoom, IsQueueOf};
+ghost use Rattle.page_cache.specs.Queues.{IsSound};
 
 use crate::frame::Frame;
 use crate::frames::{
@@ -23,9 +23,8 @@ pub struct PageCache {
     frames: Kept,
     dirty: Queue,
     ghost cap: { frames.cap ≡ 1024 },
-    ghost queued: { IsQueueOf (groups_in frames.entries) dirty.places.items },
-    ghost room: { HaveRoom (length frames.entries) (length (clean_in frames.entries))
-        (vec_len dirty.places) (vec_capacity dirty.places) },
+    ghost sound: { IsSound frames.entries dirty.places.items (vec_len dirty.places)
+        (vec_capacity dirty.places) },
 }
 
 impl PageCache {

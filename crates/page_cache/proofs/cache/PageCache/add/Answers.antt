@@ -9,8 +9,11 @@ invariant_of-self c =
     let new = c.add_frame.new.frames.entries in
     record {
       cap = c.add_frame.ensures.cap ∙ cache.cap;
-      queued = same_queue (groups_in cache.frames.entries) (groups_in new) _ (λ q. sym (c.add_frame.ensures.groups q)) cache.queued;
-      room = record { parts = omega (arith, c.add_frame.ensures.parts, cache.room.parts); fit = cache.room.fit };
+      sound = record {
+        queued = same_queue (groups_in cache.frames.entries) (groups_in new) _ (λ q. sym (c.add_frame.ensures.groups q)) cache.sound.queued;
+        parts = omega (arith, c.add_frame.ensures.parts, cache.sound.parts);
+        fit = cache.sound.fit;
+      };
     }
 
 pub returns-clause-replaces : goal.returns-clause-replaces

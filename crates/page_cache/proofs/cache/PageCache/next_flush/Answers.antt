@@ -9,13 +9,13 @@ pub returns-in_err-home : goal.returns-in_err-home
 returns-in_err-home c = rw c.from_residual.ensures (λ home group is.
     let cache = c.args.self.now in
     let none = sym c.first.ensures.value ∙ c.in_err-home.was in
-    absurd (none_waits cache.frames.entries cache.dirty.places.items cache.queued none home group is))
+    absurd (none_waits cache.frames.entries cache.dirty.places.items cache.sound.queued none home group is))
 
 pub returns-in-Some : goal.returns-in-Some
 returns-in-Some c =
     let cache = c.args.self.now in
     let is = sym c.first.ensures.value ∙ c.in_ok-home.was in
-    let first = waits_first cache.frames.entries cache.dirty.places.items cache.queued cache.dirty.rising c.in_ok-home.home c.in_ok-home.ensures.width is in
+    let first = waits_first cache.frames.entries cache.dirty.places.items cache.sound.queued cache.dirty.rising c.in_ok-home.home c.in_ok-home.ensures.width is in
     let same : first.0 ≡ c.in-Some.group = same_Some _ _ (sym first.1.has ∙ sym c.in-Some.ensures.value) in
     (first.0, first.1, omega (arith, same, c.if-group-durable.true))
 
@@ -23,7 +23,7 @@ pub returns-in_default : goal.returns-in_default
 returns-in_default c home group is =
     let cache = c.args.self.now in
     let front = sym c.first.ensures.value ∙ c.in_ok-home.was in
-    let first = waits_first cache.frames.entries cache.dirty.places.items cache.queued cache.dirty.rising c.in_ok-home.home c.in_ok-home.ensures.width front in
+    let first = waits_first cache.frames.entries cache.dirty.places.items cache.sound.queued cache.dirty.rising c.in_ok-home.home c.in_ok-home.ensures.width front in
     let later = first.1.first home group is in
     elim c.in_default.branch [
       | in_default-via-in-Some+else-group-durable w ↦

@@ -1,36 +1,17 @@
-use Rattle.std.proofs.Common.{◌∙◌, Option, sym, subst, arith, vec_len}
+use Rattle.std.proofs.Common.{◌∙◌, sym}
 use Rattle.std.specs.Option.{option_map}
-use Rattle.numbered_values.specs.Homes.{number_of}
-use Rattle.page_cache.specs.declared.frame.Frame.{Frame}
-use Rattle.page_cache.specs.Frames.{cleaned, group_of}
-use Rattle.page_cache.specs.Entries.{Becomes, frame_at, groups_in}
-use Rattle.page_cache.specs.Queues.{Moves}
-use Rattle.page_cache.proofs.Changed.{cleaned_waits_not, its_group, parts_moved, queue_moved}
+use Rattle.page_cache.specs.Entries.{frame_at}
+use Rattle.page_cache.specs.Frames.{cleaned}
+use Rattle.page_cache.proofs.Changed.{cleaned_waits_not, has_room, sound_after}
 use Rattle.page_cache.proofs.cache.PageCache.written.Goals as goal
 
 pub move_home-requires : goal.move_home-requires
-move_home-requires c =
-    let room = c.args.self.now.room in
-    record { room = omega (arith, room.parts, room.fit, c.group_at-old.ensures.most) }
+move_home-requires c = record { room = has_room _ _ _ _ c.args.self.now.sound c.group_at-old.ensures.most }
 
 pub invariant_of-self : goal.invariant_of-self
 invariant_of-self c =
-    let cache = c.args.self.now in
-    let home = c.args.home in
-    let old = cache.frames.entries in
-    let new = c.clean_frame.new.frames.entries in
-    let queue = cache.dirty.places in
-    let moved = c.move_home.new.self.places in
-    let frame : Option Frame = option_map cleaned (frame_at old (number_of home)) in
-    let becomes : Becomes (number_of home) frame old new = subst (λ n. Becomes n (option_map cleaned (frame_at old n)) old new) c.home_number-number.ensures.value c.clean_frame.ensures.becomes in
-    let group = its_group old home c.group_at-old.result c.group_at-old.ensures.width c.group_at-old.ensures.value in
-    let moves : Moves home (groups_in old (number_of home)) (group_of frame) queue.items moved.items (vec_len queue) (vec_len moved) = subst (λ g. Moves home g (group_of frame) queue.items moved.items (vec_len queue) (vec_len moved)) group (subst (λ g. Moves home c.group_at-old.result g queue.items moved.items (vec_len queue) (vec_len moved)) (sym (cleaned_waits_not (frame_at old (number_of home)))) c.move_home.ensures.moves) in
-    let room = cache.room in
+    let was = frame_at c.args.self.now.frames.entries c.home_number-number.result in
     record {
-      cap = c.clean_frame.ensures.cap ∙ cache.cap;
-      queued = queue_moved home frame old new becomes queue.items moved.items (vec_len queue) (vec_len moved) cache.queued moves;
-      room = record {
-        parts = parts_moved home frame old new becomes queue.items moved.items (vec_len queue) (vec_len moved) cache.queued moves room.parts;
-        fit = omega (arith, room.fit, c.move_home.ensures.capacity);
-      };
+      cap = c.clean_frame.ensures.cap ∙ c.args.self.now.cap;
+      sound = sound_after c.args.home c.group_at-old.ensures.width (option_map cleaned was) _ _ _ _ _ _ _ _ _ _ _ c.home_number-number.ensures.value c.clean_frame.ensures.becomes c.group_at-old.ensures.value (sym (cleaned_waits_not was)) c.move_home.ensures.moves c.move_home.ensures.capacity c.args.self.now.sound;
     }
