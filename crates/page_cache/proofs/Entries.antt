@@ -1,17 +1,17 @@
 -- What the calls on an order of use make of the frames in it.
-use Rattle.std.proofs.Common.{◌≡◌, ◌==◌, ◌∙◌, ◌+◌, ◌-◌, ◌<◌, ℕ, true, false, cond, [], ◌∷◌, ◌++◌, Option, Some, None, IsNone, IsSome, is_none, length, take, nat_eq, nat_lt, if◌then◌else◌, eqb-true, refl, sym, ap, subst, arith, append-nil, length-append}
+use Rattle.std.proofs.Common.{List, ◌≡◌, ◌==◌, ◌∙◌, ◌+◌, ◌-◌, ◌<◌, ℕ, true, false, cond, [], ◌∷◌, ◌++◌, Option, Some, None, IsNone, IsSome, is_none, is_some, length, take, nat_eq, nat_lt, if◌then◌else◌, eqb-true, refl, sym, ap, subst, arith, append-nil, length-append}
 use Rattle.std.specs.Cmp.{nat_eq_equiv}
 use Rattle.std.specs.List.{AllByRecursion, IsDistinct}
 use Rattle.std.specs.Map.{keys_of, lookup, lookup_entry, remove_entry, set_value}
-use Rattle.std.specs.Option.{option_and_then, option_map_or}
+use Rattle.std.specs.Option.{option_and_then, option_map, option_map_or}
 use Rattle.std.proofs.lemmas.List.{take_all}
 use Rattle.std.proofs.lemmas.Map.{lookup-remove_entry}
 use mathlib.Core.Bool.{false≢true}
 use Rattle.std.proofs.lemmas.Option.{same_Some}
 use Rattle.lru.proofs.Pairs.{cut_end, last_of_push}
-use Rattle.lru.specs.LruCache.{last_entry, lru_cache, promoted, put_entries}
+use Rattle.lru.specs.LruCache.{demoted, last_entry, lru_cache, promoted, put_entries}
 use Rattle.page_cache.specs.declared.frame.Frame.{Frame}
-use Rattle.page_cache.specs.Frames.{group_of, is_clean, without}
+use Rattle.page_cache.specs.Frames.{cleaned, group_of, is_clean, without}
 use Rattle.page_cache.specs.Entries.{Becomes, Displaces, Entries, KeepsOrder, behind, clean_in, frame_at, groups_in, last_dirty, one_for, one_if}
 use Rattle.page_cache.proofs.Moves.{some_none}
 
@@ -382,3 +382,81 @@ module _ (number : ℕ) (frame : Frame) (old new : Entries) (clean : frame.waits
 
   pub displaced_parts : Displaces number frame old new → length (clean_in new) + length old ≡ length (clean_in old) + length new
   displaced_parts displaces = omega (arith, displaces.clean, displaces.kept, ap one_if (clean_waits_not frame clean))
+
+-- ---- the only clean one, behind all others
+
+frame_behind : (entries : Entries) (e : ℕ × Frame) (q : ℕ) → frame_at (entries ++ e ∷ []) q ≡ (if is_some (frame_at entries q) then frame_at entries q else if nat_eq q e.0 then Some e.1 else None)
+frame_behind [] e q = refl
+frame_behind (x ∷ entries) e q = elim (nat_eq q x.0) as (λ b. cond b (Some x.1) (frame_at (entries ++ e ∷ []) q) ≡ (if is_some (cond b (Some x.1) (frame_at entries q)) then cond b (Some x.1) (frame_at entries q) else if nat_eq q e.0 then Some e.1 else None)) [
+  | true ↦ refl
+  | false ↦ frame_behind entries e q
+]
+
+clean_there : (frame : Option Frame) → one_if (is_clean frame) ≡ 1 → (f : Frame) × (frame ≡ Some f) × (is_clean (Some f) ≡ true)
+clean_there None is = absurd (omega (arith, is))
+clean_there (Some f) is = (
+  f,
+  refl,
+  (elim (is_clean (Some f)) as (λ b. one_if b ≡ 1 → b ≡ true) [
+    | true ↦ λ is. refl
+    | false ↦ λ is. absurd (omega (arith, is))
+  ]) is,
+)
+
+or_none : (o : Option Frame) → (if is_some o then o else None) ≡ o
+or_none None = refl
+or_none (Some f) = refl
+
+module _ (number : ℕ) (entries : Entries) (distinct : IsDistinct nat_eq (keys_of entries)) (alone : clean_in entries ≡ number ∷ []) where
+  no_others : clean_in (remove_entry (nat_eq number) entries) ≡ []
+  no_others = clean_remove number entries distinct ∙ ap (without number) alone ∙ rw (nat_eq_equiv.refl number) refl
+
+  -- it is there, and clean
+  its_frame : (f : Frame) × (frame_at entries number ≡ Some f) × (is_clean (Some f) ≡ true)
+  its_frame =
+      let lens : one_if (is_clean (frame_at entries number)) ≡ 1 = omega (arith, len_clean number entries, ap length no_others, ap length alone) in
+      clean_there (frame_at entries number) lens
+
+  behind_all : Entries
+  behind_all = remove_entry (nat_eq number) entries ++ (number, its_frame.0) ∷ []
+
+  behind_frames : (q : ℕ) → frame_at behind_all q ≡ frame_at entries q
+  unfolding behind_all
+  behind_frames q =
+      let gone = (removed number entries distinct).frames q in
+      frame_behind (remove_entry (nat_eq number) entries) (number, its_frame.0) q
+      ∙ rw (gone, nat_eq_equiv.symm q number) ((elim (nat_eq number q) as (λ b. nat_eq number q ≡ b → (if is_some (if b then None else frame_at entries q) then (if b then None else frame_at entries q) else if b then Some its_frame.0 else None) ≡ frame_at entries q) [
+        | true ↦ λ t. sym its_frame.1 ∙ ap (frame_at entries) (eqb-true number q t)
+        | false ↦ λ t. or_none (frame_at entries q)
+      ]) refl)
+
+  behind_keeps : KeepsOrder entries behind_all
+  unfolding behind_all
+  behind_keeps =
+      let clean = its_frame.2 in
+      let last : clean_in ((number, its_frame.0) ∷ []) ≡ number ∷ [] = rw clean refl in
+      record {
+        frames = behind_frames;
+        order = clean_push (remove_entry (nat_eq number) entries) (number, its_frame.0) ∙ ap (λ l. l ++ clean_in ((number, its_frame.0) ∷ [])) no_others ∙ last ∙ sym alone;
+        kept = omega (arith, len_remove number entries, length-append (remove_entry (nat_eq number) entries) ((number, its_frame.0) ∷ []), ap (λ (f : Option Frame). one_for f) its_frame.1);
+      }
+
+  -- the only clean one is put behind all others
+  pub demoted_keeps : KeepsOrder entries (demoted (nat_eq number) entries)
+  unfolding behind_all
+  demoted_keeps = subst (KeepsOrder entries) (sym (ap (λ o. option_map_or (λ (e : ℕ × Frame). remove_entry (nat_eq number) entries ++ e ∷ []) o entries) (entry_there number entries its_frame.0 its_frame.1))) behind_keeps
+
+-- a frame has become another one, and stays so where nothing but the place of a dirty one changes
+pub becomes_still : (number : ℕ) (frame : Option Frame) (old next new : Entries) → Becomes number frame old next → KeepsOrder next new → Becomes number frame old new
+becomes_still number frame old next new becomes keeps = record {
+  frames = λ q. keeps.frames q ∙ becomes.frames q;
+  order = keeps.order ∙ becomes.order;
+  kept = omega (arith, becomes.kept, keeps.kept);
+  clean = omega (arith, becomes.clean, ap length keeps.order);
+}
+
+-- where none was clean, one that is made so is alone
+pub alone_now : (number : ℕ) (old new : Entries) → IsSome (frame_at old number) → clean_in old ≡ [] → Becomes number (option_map cleaned (frame_at old number)) old new → clean_in new ≡ number ∷ []
+alone_now number old new some none becomes =
+    let there = some_is (frame_at old number) some in
+    becomes.order ∙ rw (there.1, none) refl

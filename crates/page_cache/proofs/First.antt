@@ -1,5 +1,5 @@
 -- What comes first in the queue.
-use Rattle.std.proofs.Common.{◌≡◌, ◌==◌, ◌∙◌, ◌⊎◌, ◌^◌, ◌<◌, ◌≤◌, ℕ, suc, true, false, List, [], ◌∷◌, Option, Some, None, IsSome, slice_get, nat_lt, if◌then◌else◌, eqb-true, refl, sym, ap, subst, arith}
+use Rattle.std.proofs.Common.{◌≡◌, ◌==◌, ◌∙◌, ◌⊎◌, ◌^◌, ◌<◌, ◌≤◌, ℕ, suc, true, false, List, [], ◌∷◌, Option, Some, None, IfSome, IsSome, slice_get, nat_lt, if◌then◌else◌, eqb-true, refl, sym, ap, subst, arith}
 use Rattle.std.specs.Option.{option_map}
 use mathlib.Core.Bool.{false≢true}
 use Rattle.domain_base.specs.declared.place.Home.{Home}
@@ -87,3 +87,15 @@ module _ (entries : Entries) (queue : List (ℕ × Home)) (of : IsQueueOf (group
               in_order at.0 number (number_of home) (number_of other) (narrow_home home at.0 waits) (narrow_home other number there) (subst (λ p. p ≤ place_at number (number_of other)) at.1 le);
         },
       )
+
+pub some_home : (home : Option Home) → IsSome home → (h : Home) × (home ≡ Some h)
+some_home None some = absurd (false≢true some)
+some_home (Some h) some = (h, refl)
+
+pub if_some_is : (o : Option Home) (home : Home) → o ≡ Some home → IfSome o (λ h. h.page < 2 ^ 32) → home.page < 2 ^ 32
+if_some_is o home is width = subst (λ o. IfSome o (λ h. h.page < 2 ^ 32)) is width
+
+-- what no number is given for has none
+pub no_number : (group : Option ℕ) → ((g : ℕ) → group ≡ Some g → ⊥) → group ≡ None
+no_number None never = refl
+no_number (Some g) never = absurd (never g refl)

@@ -50,8 +50,8 @@ pub record Moves (home : Home) (old new : Option ℕ) (queue moved : List (ℕ �
   pub lens : (groups : Groups) → IsQueueOf groups queue → groups (number_of home) ≡ old
       → moved_len + one_for old ≡ len + one_for new
 
--- the queue of these frames, in which each that is not clean waits, and which has room for one more
--- than a cache keeps
+-- the queue is that of these frames, each of which is clean or dirty, and it has room for more than
+-- 1,024
 pub record IsSound (entries : Entries) (queue : List (ℕ × Home)) (len room : ℕ) : Type 0 where
   pub queued : IsQueueOf (groups_in entries) queue
   pub parts : length (clean_in entries) + len ≡ length entries

@@ -85,8 +85,8 @@ impl PageCache {
         }
     }
 
-    /// Gives the frame of a home these bytes, and makes it dirty, waiting for a group of the log. That
-    /// is a use of it.
+    /// Gives the frame of a home these bytes, and makes it dirty, waiting for a group of the log; one
+    /// that waits for group 0 waits for none. That is a use of it.
     pub fn write(&mut self, home: Home, page: Page, waits: u64)
         requires { IsSome (frames_of self.old home) }
         ensures { Changes home (Some (record { page = page; waits = Some waits })) self.old
@@ -106,7 +106,8 @@ impl PageCache {
     {
         let number = home_number(&home);
         let old = self.group_at(&home);
-        clean_frame(&mut self.frames, number);
+        let alone = self.dirty.places.len() == self.frames.len();
+        clean_frame(&mut self.frames, number, alone);
         self.dirty.move_home(&home, old, None);
     }
 
@@ -121,12 +122,18 @@ impl PageCache {
         self.dirty.move_home(&home, old, None);
     }
 
-    /// The law that it keeps 1,024 frames at most, and as many as are in the order of use or dirty.
-    pub fn is_bounded(&self)
+    /// The law that it keeps 1,024 frames at most, and as many as are in the order of use or dirty; and
+    /// that some home has a dirty frame exactly where it counts one.
+    pub fn frames_are_counted(&self)
         ensures kept { kept_of self.now ≤ 1024 }
         ensures dirty { length (order_of self.now) + dirty_of self.now ≡ kept_of self.now }
+        ensures none { dirty_of self.now ≡ 0
+            → (home : Home) → groups (frames_of self.now) home ≡ None }
+        ensures some { 0 < dirty_of self.now
+            → (home : Home) × IsSome (groups (frames_of self.now) home) }
     {
         prove!(self.frames.len() <= FRAMES);
+        prove!(self.dirty.first().is_some() || self.dirty.places.is_empty());
     }
 
     /// How many frames are dirty.

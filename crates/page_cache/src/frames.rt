@@ -1,5 +1,5 @@
 //! Frames in the order of their use, each under the number of its home.
-ghost use Rattle.std.specs.Prelude.{◌≡◌, ◌+◌, ◌-◌, ◌<◌, ◌≤◌, ℕ, None, Some, [], IsErr, IsNone, IsSome, OnErr, OnOk, IfErr, length};
+ghost use Rattle.std.specs.Prelude.{◌≡◌, ◌+◌, ◌-◌, ◌<◌, ◌≤◌, ℕ, None, Some, [], ◌∷◌, IsErr, IsNone, IsSome, IsTrue, OnErr, OnOk, IfErr, length};
 ghost use Rattle.std.specs.Option.{option_copied, option_map};
 ghost use Rattle.page_cache.specs.Entries.{Becomes, Displaces, KeepsOrder, behind, clean_in, frame_at, groups_in, last_dirty};
 ghost use Rattle.page_cache.specs.Frames.{cleaned};
@@ -36,7 +36,7 @@ pub(crate) fn set_frame(frames: &mut Kept, number: u64, frame: Frame)
 }
 
 /// Makes the frame of a number clean, which is a use of it.
-pub(crate) fn clean_frame(frames: &mut Kept, number: u64)
+fn set_clean(frames: &mut Kept, number: u64)
     requires { IsSome (frame_at frames.old.entries number) }
     ensures becomes { Becomes number (option_map cleaned (frame_at frames.old.entries number))
         frames.old.entries frames.new.entries }
@@ -45,6 +45,31 @@ pub(crate) fn clean_frame(frames: &mut Kept, number: u64)
     prove!(frames.len() < usize::MAX);
     if let Some(frame) = frames.get_mut(&number) {
         frame.waits = None;
+    }
+}
+
+/// Puts the only clean frame behind the dirty ones, so that it is found at once.
+fn put_last(frames: &mut Kept, number: u64)
+    requires { clean_in frames.old.entries ≡ number ∷ [] }
+    ensures keeps { KeepsOrder frames.old.entries frames.new.entries }
+    ensures cap { frames.new.cap ≡ frames.old.cap }
+{
+    prove!(frames.len() < usize::MAX);
+    frames.demote(&number);
+}
+
+/// Makes the frame of a number clean, which is a use of it, and takes it behind the dirty ones where
+/// no other is clean.
+pub(crate) fn clean_frame(frames: &mut Kept, number: u64, alone: bool)
+    requires there { IsSome (frame_at frames.old.entries number) }
+    requires alone { IsTrue alone → clean_in frames.old.entries ≡ [] }
+    ensures becomes { Becomes number (option_map cleaned (frame_at frames.old.entries number))
+        frames.old.entries frames.new.entries }
+    ensures cap { frames.new.cap ≡ frames.old.cap }
+{
+    set_clean(frames, number);
+    if alone {
+        put_last(frames, number);
     }
 }
 

@@ -104,6 +104,7 @@ impl Queue {
         ensures value { result ≡ option_map (λ entry. entry.1) (slice_get self.now.places.items 0) }
         ensures width { IfSome result (λ home. home.page < 2 ^ 32) }
         ensures some { 0 < vec_len self.now.places → IsSome result }
+        ensures none { vec_len self.now.places ≡ 0 → result ≡ None }
     {
         if self.places.is_empty() {
             return None;

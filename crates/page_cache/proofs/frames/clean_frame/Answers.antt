@@ -1,11 +1,8 @@
-use Rattle.std.proofs.Common.{sym}
-use Rattle.page_cache.specs.Frames.{cleaned}
-use Rattle.page_cache.proofs.Entries.{used_and_set}
+use Rattle.page_cache.proofs.Entries.{alone_now, becomes_still}
 use Rattle.page_cache.proofs.frames.clean_frame.Goals as goal
 
-pub returns-in-Some-clause-becomes : goal.returns-in-Some-clause-becomes
-returns-in-Some-clause-becomes c =
-    let old = c.args.frames.now.entries in
-    let frame = c.in-Some.frame.now in
-    let there = sym c.in-Some.ensures.value in
-    rw there (used_and_set c.args.number old c.len.ensures.valid.0 frame (cleaned frame) there)
+pub put_last-requires : goal.put_last-requires
+put_last-requires c = alone_now c.args.number _ _ c.requires.there (c.requires.alone c.if-alone.true) c.set_clean.ensures.becomes
+
+pub returns-then-alone-clause-becomes : goal.returns-then-alone-clause-becomes
+returns-then-alone-clause-becomes c = becomes_still c.args.number _ _ _ _ c.set_clean.ensures.becomes c.put_last.ensures.keeps
