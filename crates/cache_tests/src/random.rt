@@ -7,8 +7,8 @@ use page_cache::PageCache;
 use std::alloc::Global;
 use std::test::Fail;
 
-/// How many homes the calls name. Some more than a cache keeps frames.
-const HOMES: u32 = 1_100;
+/// How many homes the calls name, about twice as many as a cache keeps frames.
+const HOMES: u32 = 2_000;
 
 /// A home of that number; they go round the volumes.
 fn home_of(number: u32) -> Result<Home, Fail> {
@@ -50,6 +50,13 @@ impl Pair {
         }
     }
 
+    /// Writes home what the list would write next.
+    fn flush(&mut self, durable: u64) {
+        if let Some(home) = self.plain.next_flush(durable) {
+            self.end(&home, false);
+        }
+    }
+
     /// Whether both show the same of a home.
     fn show_alike(&mut self, home: &Home) -> bool {
         let mark = self.cache.frame(*home).map(mark_of);
@@ -69,7 +76,7 @@ impl Pair {
         let group = u64::from(drawn / 64 % 32);
         match drawn % 16 {
             0..=7 => self.put(alloc, &home, mark, group)?,
-            8..=10 => self.end(&home, false),
+            8..=10 => self.flush(group),
             11 => self.end(&home, true),
             _ => return Ok(self.show_alike(&home)),
         }
@@ -78,13 +85,17 @@ impl Pair {
 }
 
 /// The first call after which they differ, or how many there were, where some home shows it
-/// afterwards.
+/// afterwards. Both are full from the start, and half of their frames are dirty then, which are the
+/// oldest.
 fn first_wrong(alloc: Global, calls: u32) -> Result<Option<u32>, Fail> {
     let cache = PageCache::new(alloc)?;
     let plain = PlainCache::new(alloc, 1_024);
     let mut pair = Pair { cache, plain };
-    for number in 0..1_050 {
+    for number in 0..1_024 {
         pair.put(alloc, &home_of(number)?, 1, 1)?;
+        if number < 512 {
+            pair.put(alloc, &home_of(number)?, 2, u64::from(number % 32))?;
+        }
     }
     let mut drawn = 1u32;
     for number in 0..calls {
