@@ -1,0 +1,3 @@
+pub mod Even
+pub mod Found
+pub mod Shares

@@ -1,0 +1,40 @@
+use Rattle.std.proofs.Common.{◌+◌, arith, sym, subst}
+use Rattle.mover_plans.proofs.Found.{IsFound, found_all, found_before, found_behind, found_closed, none_found}
+use Rattle.mover_plans.proofs.balance.first_open.Goals as goal
+use Rattle.mover_plans.proofs.balance.first_open.Goals.{then-not-count+then-precedes_all, else-not-count, else-not-count-via-then-not-count+else-precedes_all, else-not-count-via-else-not-count}
+
+pub loop-count-preserved : goal.loop-count-preserved
+loop-count-preserved c =
+    let next = c.loop-count.count-index + 1 in
+    let found = IsFound c.args.end c.args.counts.now next in
+    elim c.if-not-count.branch [
+    | then-not-count+then-precedes_all w ↦
+        subst found (sym w.first-is)
+        (found_before c.args.end c.args.counts.now c.loop-count.count-index c.count-item.result
+        c.loop-count.first c.requires c.loop-count-test.true c.count-item.is
+        c.loop-count.invariant w.if-not-count.true
+        (w.precedes_all.ensures.before w.if-precedes_all.true))
+    | else-not-count w ↦
+        subst found (sym w.first-is)
+        elim w.else-not-count.branch [
+        | else-not-count-via-then-not-count+else-precedes_all w' ↦
+            found_behind c.args.end c.args.counts.now c.loop-count.count-index c.count-item.result
+            c.loop-count.first c.loop-count-test.true c.count-item.is
+            c.loop-count.invariant (w'.precedes_all.ensures.behind w'.if-precedes_all.false)
+            w'.precedes_all.result w'.if-precedes_all.false w'.precedes_all.ensures.any
+        | else-not-count-via-else-not-count w' ↦
+            found_closed c.args.end c.args.counts.now c.loop-count.count-index c.count-item.result
+            c.loop-count.first c.loop-count-test.true c.count-item.is
+            c.loop-count.invariant w'.if-not-count.false
+        ]
+    ]
+
+pub returns-clause-first : goal.returns-clause-first
+returns-clause-first c =
+    found_all c.args.end c.args.counts.now c.loop-count.count-index c.loop-count.first (omega arith)
+    c.loop-count.invariant
+
+pub returns-clause-none : goal.returns-clause-none
+returns-clause-none c =
+    none_found c.args.end c.args.counts.now c.loop-count.count-index c.loop-count.first (omega arith)
+    c.loop-count.invariant
