@@ -1,5 +1,5 @@
 -- What a search over the volumes has found of the first ones.
-use Rattle.std.proofs.Common.{◌≡◌, ◌∙◌, ◌≢◌, ◌⊎◌, inl, inr, ℕ, ◌+◌, ◌<◌, ◌≤◌, List, length, get_or, Option, Some, None, IfNone, IfSome, IsTrue, Bool, true, false, arith, refl, sym, subst}
+use Rattle.std.proofs.Common.{◌≡◌, ◌∙◌, ◌≢◌, ◌⊎◌, inl, inr, ℕ, ◌+◌, ◌<◌, ◌≤◌, List, length, get_or, Option, Some, None, IfNone, IfSome, IsTrue, Bool, false, arith, refl, sym, subst}
 use Rattle.std.proofs.lemmas.Bool.{cases_lt, true≢false}
 use Rattle.std.proofs.lemmas.List.{get_or_read_under}
 use Rattle.std.proofs.lemmas.List.Elements.{All-contains}
@@ -15,7 +15,7 @@ IsFound end counts n None = (k : ℕ) (d : VolCount) → k < n → (get_or count
 IsFound end counts n (Some c) =
     IsOpenOf counts c
     × ((k : ℕ) (d : VolCount) → k < n → (get_or counts k d).closed ≡ false
-        → Precedes end c (get_or counts k d))
+    → Precedes end c (get_or counts k d))
 
 -- what holds below n and of the element at n holds below n + 1
 below_more : (P : VolCount → Type 0) (xs : List VolCount) (n : ℕ) (x : VolCount)
@@ -24,15 +24,15 @@ below_more : (P : VolCount → Type 0) (xs : List VolCount) (n : ℕ) (x : VolCo
     → (k : ℕ) (d : VolCount) → k < n + 1 → P (get_or xs k d)
 below_more P xs n x within is holds below k d less =
     by (cases_lt k n)
-    where
-      by : (k < n) ⊎ (n ≤ k) → P (get_or xs k d)
-      by (inl before) = below k d before
-      by (inr behind) =
-          let e : k ≡ n = omega arith in
-          rw e (subst P (get_or_read_under xs n (length xs) x d is within refl) holds)
+  where
+    by : (k < n) ⊎ (n ≤ k) → P (get_or xs k d)
+    by (inl before) = below k d before
+    by (inr behind) =
+        let e : k ≡ n = omega arith in
+        rw e (subst P (get_or_read_under xs n (length xs) x d is within refl) holds)
 
 -- an open volume has a page
-size_of : (counts : List VolCount) (c : VolCount) → AreCounts counts → IsOpenOf counts c → 1 ≤ c.pages
+pub size_of : (counts : List VolCount) (c : VolCount) → AreCounts counts → IsOpenOf counts c → 1 ≤ c.pages
 size_of counts c sound there =
     All-contains (λ (d : VolCount). 1 ≤ d.pages) counts c sound.sized there.there
 
@@ -43,19 +43,21 @@ precedes_open : (end : End) (counts : List VolCount) (c : VolCount)
 precedes_open end counts c found d there =
     let at = there.there in
     let open_one : (get_or counts at.0 d).closed ≡ false =
-        subst (λ (y : VolCount). y.closed ≡ false) (sym at.2) there.is_open in
+    subst (λ (y : VolCount). y.closed ≡ false) (sym at.2) there.is_open in
     subst (Precedes end c) at.2 (found.1 at.0 d at.1 open_one)
 
 -- a closed volume is passed over
 pub found_closed : (end : End) (counts : List VolCount) (n : ℕ) (x : VolCount)
     → (found : Option VolCount) → n < length counts → x ≡ get_or counts n x
-    → IsFound end counts n found → x.closed ≡ true → IsFound end counts (n + 1) found
+    → IsFound end counts n found → x.closed ≢ false → IsFound end counts (n + 1) found
 found_closed end counts n x None within is below closed =
     below_more (λ c. c.closed ≢ false) counts n x within is
-    (λ open_one. true≢false (sym closed ∙ open_one)) below
-found_closed end counts n x (Some f) within is below closed =
-    (below.0, below_more (λ c. c.closed ≡ false → Precedes end f c) counts n x within is
-    (λ open_one. absurd (true≢false (sym closed ∙ open_one))) below.1)
+    closed below
+found_closed end counts n x (Some f) within is below closed = (
+  below.0,
+  below_more (λ c. c.closed ≡ false → Precedes end f c) counts n x within is
+      (λ open_one. absurd (closed open_one)) below.1,
+)
 
 -- and so is one behind the one that was found
 pub found_behind : (end : End) (counts : List VolCount) (n : ℕ) (x : VolCount)
@@ -65,31 +67,31 @@ pub found_behind : (end : End) (counts : List VolCount) (n : ℕ) (x : VolCount)
     → IsFound end counts (n + 1) found
 found_behind end counts n x None within is below behind before not none =
     absurd (true≢false (sym none ∙ not))
-found_behind end counts n x (Some f) within is below behind before not none =
-    (below.0, below_more (λ c. c.closed ≡ false → Precedes end f c) counts n x within is
-    (λ _. behind) below.1)
+found_behind end counts n x (Some f) within is below behind before not none = (
+  below.0,
+  below_more (λ c. c.closed ≡ false → Precedes end f c) counts n x within is
+      (λ _. behind) below.1,
+)
 
 -- an open one before it takes its place
 pub found_before : (end : End) (counts : List VolCount) (n : ℕ) (x : VolCount)
     → (found : Option VolCount) → AreCounts counts → n < length counts → x ≡ get_or counts n x
     → IsFound end counts n found → x.closed ≡ false → IfSome found (Precedes end x)
     → IsFound end counts (n + 1) (Some x)
-found_before end counts n x None sound within is below open_one before =
-    (
-    record { there = (n, within, sym is); is_open = open_one },
-    below_more (λ c. c.closed ≡ false → Precedes end x c) counts n x within is
-    (λ _. precedes_itself end x) (λ k d less is_open. absurd (below k d less is_open))
-    )
+found_before end counts n x None sound within is below open_one before = (
+  record { there = (n, within, sym is); is_open = open_one },
+  below_more (λ c. c.closed ≡ false → Precedes end x c) counts n x within is
+      (λ _. precedes_itself end x) (λ k d less is_open. absurd (below k d less is_open)),
+)
 found_before end counts n x (Some f) sound within is below open_one before =
     let there : IsOpenOf counts x = record { there = (n, within, sym is); is_open = open_one } in
     let px = size_of counts x sound there in
-    let pf = size_of counts f sound below.0 in
-    (
-    there,
-    below_more (λ c. c.closed ≡ false → Precedes end x c) counts n x within is
-    (λ _. precedes_itself end x)
-    (λ k d less is_open. precedes_trans end x f (get_or counts k d) px pf
-        (sound.sized k d (omega arith)) before (below.1 k d less is_open))
+    let pf = size_of counts f sound below.0 in (
+      there,
+      below_more (λ c. c.closed ≡ false → Precedes end x c) counts n x within is
+          (λ _. precedes_itself end x)
+          (λ k d less is_open. precedes_trans end x f (get_or counts k d) px pf
+          (sound.sized k d (omega arith)) before (below.1 k d less is_open)),
     )
 
 -- at the end the volume that was found is the first of all
@@ -99,18 +101,18 @@ found_all end counts n None all found = tt
 found_all end counts n (Some c) all found =
     at_end end (precedes_open end counts c
     (subst (λ (m : ℕ). IsFound end counts m (Some c)) all found))
-    where
-      at_end : (e : End) → ((d : VolCount) → IsOpenOf counts d → Precedes e c d) → IsAtEnd e counts c
-      at_end Fullest before = record {
-          open_volume = found.0;
-          greatest = λ d there. (before d there).0;
-          first = λ d there. (before d there).1;
-      }
-      at_end Emptiest before = record {
-          open_volume = found.0;
-          least = λ d there. (before d there).0;
-          first = λ d there. (before d there).1;
-      }
+  where
+    at_end : (e : End) → ((d : VolCount) → IsOpenOf counts d → Precedes e c d) → IsAtEnd e counts c
+    at_end Fullest before = record {
+      open_volume = found.0;
+      greatest = λ d there. (before d there).0;
+      first = λ d there. (before d there).1;
+    }
+    at_end Emptiest before = record {
+      open_volume = found.0;
+      least = λ d there. (before d there).0;
+      first = λ d there. (before d there).1;
+    }
 
 -- and where none was found, none is open
 pub none_found : (end : End) (counts : List VolCount) (n : ℕ) (found : Option VolCount)

@@ -1,3 +1,7 @@
 pub mod Even
+pub mod Exists
+pub mod Falls
 pub mod Found
+pub mod Moved
 pub mod Shares
+pub mod Spread

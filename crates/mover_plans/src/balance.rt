@@ -48,7 +48,7 @@ fn first_open(end: End, counts: &[VolCount]) -> Option<VolCount>
 {
     let mut first: Option<VolCount> = None;
     for count in counts {
-        if !count.closed && precedes_all(end, count, &first) {
+        if count.is_open() && precedes_all(end, count, &first) {
             first = Some(*count);
         }
     }

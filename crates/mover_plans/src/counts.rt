@@ -14,3 +14,14 @@ pub struct VolCount {
     /// Whether it gives no storage.
     pub closed: bool,
 }
+
+impl VolCount {
+    ghost use Rattle.std.specs.Prelude.{◌≡◌, ◌↔◌, IsTrue, false};
+
+    /// Whether it gives storage.
+    pub(crate) fn is_open(&self) -> bool
+        ensures { IsTrue result ↔ (self.now.closed ≡ false) }
+    {
+        !self.closed
+    }
+}

@@ -3,8 +3,10 @@
 
 mod balance;
 mod counts;
+mod laws;
 mod search;
 
 pub use balance::uneven;
 pub use counts::VolCount;
+pub use laws::balance_laws;
 pub use search::first_on;

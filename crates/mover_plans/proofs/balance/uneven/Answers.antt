@@ -11,7 +11,8 @@ returns-in_err-empty-clause-even c =
     (λ _. even_none c.args.counts.now c.in_err-empty.ensures.none, λ _. search rules)
 
 pub returns-then-is_level-clause-even : goal.returns-then-is_level-clause-even
-returns-then-is_level-clause-even c =
-    (λ _. even_by c.args.counts.now c.in_ok-full.full c.in_ok-empty.empty c.requires
-    c.in_ok-full.ensures.first c.in_ok-empty.ensures.first (c.is_level.ensures.0 c.if-is_level.true),
-    λ _. search rules)
+returns-then-is_level-clause-even c = (
+  λ _. even_by c.args.counts.now c.in_ok-full.full c.in_ok-empty.empty c.requires
+      c.in_ok-full.ensures.first c.in_ok-empty.ensures.first (c.is_level.ensures.0 c.if-is_level.true),
+  λ _. search rules,
+)

@@ -1,0 +1,19 @@
+use Rattle.mover_plans.proofs.Falls.{unevenness_falls}
+use Rattle.mover_plans.proofs.Moved.{counts_moved, product_after}
+use Rattle.mover_plans.proofs.Spread.{even_spread, open_spread}
+use Rattle.mover_plans.proofs.laws.balance_laws.Goals as goal
+
+pub returns-clause-counts : goal.returns-clause-counts
+returns-clause-counts c = counts_moved
+
+pub returns-clause-unit : goal.returns-clause-unit
+returns-clause-unit c counts full empty = product_after full empty counts
+
+pub returns-clause-falls : goal.returns-clause-falls
+returns-clause-falls c = unevenness_falls
+
+pub returns-clause-spread : goal.returns-clause-spread
+returns-clause-spread c = open_spread
+
+pub returns-clause-even : goal.returns-clause-even
+returns-clause-even c = even_spread
