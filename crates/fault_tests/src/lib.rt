@@ -7,4 +7,6 @@ mod cells;
 #[cfg(test)]
 mod fixture;
 #[cfg(test)]
+mod tables;
+#[cfg(test)]
 mod ways;
