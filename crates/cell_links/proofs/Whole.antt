@@ -36,10 +36,12 @@ cut_end (a ∷ as') (b ∷ bs) x y rest e =
     ]
 
 module _ (links : CellLinks) (start : CellAt) where
-  one_link : (at : CellAt) (one other : CellLink) → HasLink links at one → HasLink links at other → one ≡ other
+  -- a cell leads to one cell
+  pub one_link : (at : CellAt) (one other : CellLink) → HasLink links at one → HasLink links at other → one ≡ other
   one_link at one other there also = let pair : CellAt × CellLink → CellLink = λ p. p.1 in ap pair (some_same {X = CellAt × CellLink} (at, one) (at, other) (sym there ∙ also))
 
-  has_link : (passed : List CellAt) (at : CellAt) (link : CellLink) → Follows links start passed at link → HasLink links at link
+  -- a cell that is come to is in use
+  pub has_link : (passed : List CellAt) (at : CellAt) (link : CellLink) → Follows links start passed at link → HasLink links at link
   has_link passed at link follows = elim follows as (λ passed at link follows. HasLink links at link) [
     | begins link there ↦ there
     | goes_on passed at onto link next (before → earlier) leads fresh there may ↦ there

@@ -77,4 +77,13 @@ impl CellLinks {
     {
         put(&mut self.cells, key_of(at), (*at, *link))
     }
+
+    /// The cells in use in their order, each with its number and with what is read of it.
+    pub fn as_slice(&self) -> &[(u64, (CellAt, CellLink))]
+        ensures value { result.now ≡ cells_of self.now }
+        ensures rising { IsRising result.now }
+        ensures numbered { AreNumbered result.now }
+    {
+        &self.cells
+    }
 }

@@ -1,1 +1,4 @@
+pub mod Each
+pub mod Items
 pub mod OnPages
+pub mod Walks

@@ -8,9 +8,9 @@ use Rattle.bmt_mcells.specs.Cell.{kind_number}
 use Rattle.bmt_mcells.specs.CellPage.{cell_at, cell_of, home_of}
 use Rattle.bmt_mcells.specs.declared.head.CellKind.{CellKind}
 use Rattle.bmt_mcells.specs.declared.head.CellKind.TheVariants.{Chain, Primary, Quota, Volume}
-use Rattle.domain_layout.specs.CellRules.{IsCellsPage, IsLink, IsPlace}
+use Rattle.domain_layout.specs.CellRules.{IsCellsPage, IsLink}
 use Rattle.domain_layout.specs.Reached.{Frame}
-use Rattle.cell_faults.specs.Tables.{AreTables, IsThere}
+use Rattle.cell_faults.specs.Tables.{AreTables}
 use Rattle.cell_faults.specs.declared.tables.CellsPage.{CellsPage}
 use Rattle.cell_faults.proofs.WrongCell.{cell_said, on}
 use Rattle.cell_links.specs.Links.{HasLink}

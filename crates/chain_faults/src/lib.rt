@@ -2,5 +2,7 @@
 #![tactic(auto)]
 
 mod reading;
+mod unchained;
 
 pub use reading::read_links;
+pub use unchained::unchained_faults;

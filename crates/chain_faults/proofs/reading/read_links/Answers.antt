@@ -1,17 +1,11 @@
-use Rattle.std.proofs.Common.{◌≡◌, ◌∙◌, ◌<◌, ◌≤◌, ℕ, List, Some, None, Contains, get_or, length, refl, sym, ap, subst}
+use Rattle.std.proofs.Common.{◌≡◌, ◌∙◌, ◌<◌, ◌≤◌, List, Some, None, length, sym, ap, subst}
 use Rattle.std.specs.Option.{option_copied}
-use Rattle.std.proofs.lemmas.Option.{get_or_from_slice_get, slice_get_read}
-use Rattle.domain_layout.specs.CellRules.{IsCellsPage}
 use Rattle.page_ways.specs.Frame.{frame_in}
 use Rattle.cell_faults.specs.declared.tables.CellsPage.{CellsPage}
 use Rattle.cell_faults.proofs.WrongCell.{moved}
+use Rattle.chain_faults.proofs.Items.{item_of}
 use Rattle.chain_faults.proofs.OnPages.{agrees, all_links, page_more}
 use Rattle.chain_faults.proofs.reading.read_links.Goals as goal
-
--- the item of a list that equals another is the same of that one
-item_of : (items lent : List CellsPage) (number : ℕ) (page : CellsPage) → lent ≡ items → number < length lent → page ≡ get_or lent number page → (d : CellsPage) → get_or items number d ≡ page
-item_of items lent number page same within is d =
-    subst (λ (l : List CellsPage). get_or l number d ≡ page) same (get_or_from_slice_get lent number page d (slice_get_read lent (length lent) number page refl within is))
 
 some_none : {X : Type 0} (x : X) → None ≡ Some x → ⊥
 some_none x e = cc

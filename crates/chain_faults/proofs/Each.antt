@@ -1,0 +1,87 @@
+-- What is found at cells that are looked at one by one.
+use Rattle.std.proofs.Common.{◌≡◌, ◌∙◌, ◌⊎◌, ◌↔◌, inl, inr, suc, ℕ, ◌+◌, ◌<◌, ◌≤◌, List, [], ◌∷◌, get_or, length, if◌then◌else◌, ◌==◌, eqb-true, Some, None, true, false, refl, sym, ap, subst, arith, ⊎_elim}
+use Rattle.std.proofs.lemmas.Bool.{cases_lt}
+use Rattle.domain_base.specs.declared.place.CellAt.{CellAt}
+use Rattle.bmt_mcells.specs.Chain.{key_of}
+use Rattle.numbered_values.specs.Rising.{IsRising, value_at}
+use Rattle.numbered_values.proofs.Search.{value-present}
+use Rattle.cell_links.specs.Links.{HasLink, cells_of}
+use Rattle.cell_links.specs.Order.{AreNumbered}
+use Rattle.cell_links.specs.declared.links.CellLink.{CellLink}
+use Rattle.cell_links.specs.declared.links.CellLinks.{CellLinks}
+use Rattle.chain_faults.proofs.Items.{item_of}
+
+-- a cell with what is read of it, under its number
+abbrev pub Entry : Type 0
+Entry = ℕ × (CellAt × CellLink)
+
+some_same : {X : Type 0} (a b : X) → Some a ≡ Some b → a ≡ b
+some_same a b e = cc
+
+some_none : {X : Type 0} (x : X) → None ≡ Some x → ⊥
+some_none x e = cc
+
+-- the value of a number stands at some place
+placed : {V : Type 0} (entries : List (ℕ × V)) (key : ℕ) (value : V) → value_at entries key ≡ Some value → (k : ℕ) × (k < length entries) × (get_or entries k (key, value) ≡ (key, value))
+placed [] key value e = absurd (some_none value e)
+placed {V} (x ∷ entries) key value e = elim (x.0 == key) as (λ b. (x.0 == key) ≡ b → (if b then Some x.1 else value_at entries key) ≡ Some value → (k : ℕ) × (k < suc (length entries)) × (get_or (x ∷ entries) k (key, value) ≡ (key, value))) [
+  | true ↦ λ t here. (0, omega arith, λ i. (eqb-true x.0 key t i, some_same x.1 value here i))
+  | false ↦ λ t there. let more = placed entries key value there in (suc more.0, omega (arith, more.1), more.2)
+] refl e
+
+module _ (entries : List Entry) where
+  -- an entry at a place below a number is such
+  abbrev pub SomeBelow : (CellAt → CellLink → Type 0) → ℕ → Type 0
+  SomeBelow Is number = (e : Entry) × ((k : ℕ) × (k < number) × (get_or entries k e ≡ e)) × Is e.1.0 e.1.1
+
+  -- those are found that some entry below a number has
+  abbrev pub AreFound : {X : Type 0} → (X → CellAt → CellLink → Type 0) → (X → Type 0) → ℕ → Type 0
+  AreFound {X} Has found number = (x : X) → found x ↔ SomeBelow (Has x) number
+
+  pub none_found : {X : Type 0} (Has : X → CellAt → CellLink → Type 0) (found : X → Type 0) → ((x : X) → ¬ found x) → AreFound Has found 0
+  none_found Has found none x = ((λ is. absurd (none x is)), (λ (e, (k, below, is), has). absurd (omega (arith, below))))
+
+  pub one_more : {X : Type 0} (Has : X → CellAt → CellLink → Type 0) (found new : X → Type 0) (number : ℕ) (entry : Entry) → AreFound Has found number
+      → ((d : Entry) → get_or entries number d ≡ entry) → ((x : X) → new x ↔ (found x ⊎ Has x entry.1.0 entry.1.1)) → AreFound Has new (number + 1)
+  one_more {X} Has found new number entry are at put x = (
+    λ is. ⊎_elim (λ before. further ((are x).0 before)) (λ has. (entry, (number, omega arith, at entry), has)) ((put x).0 is),
+    λ below. (put x).1 (last below),
+  )
+    where
+      further : SomeBelow (Has x) number → SomeBelow (Has x) (number + 1)
+      further (e, (k, below, is), has) = (e, (k, omega (arith, below), is), has)
+
+      last : SomeBelow (Has x) (number + 1) → found x ⊎ Has x entry.1.0 entry.1.1
+      last (e, (k, below, is), has) =
+          ⊎_elim (λ low. inl ((are x).1 (e, (k, low, is), has)))
+          (λ high.
+          let here : k ≡ number = omega (arith, below, high) in
+          let alike : e ≡ entry = sym (subst (λ n. get_or entries n e ≡ e) here is) ∙ at e in
+          inr (subst (λ (a : Entry). Has x a.1.0 a.1.1) alike has))
+          (cases_lt k number)
+
+-- the cells are lent as a list, and looked at in its order
+module _ {X : Type 0} (links : CellLinks) (lent : List Entry) (same : lent ≡ cells_of links) (Has : X → CellAt → CellLink → Type 0) (found : X → Type 0) (number : ℕ)
+    (are : AreFound (cells_of links) Has found number) where
+  pub found_more : (new : X → Type 0) (entry : Entry) → number < length lent → entry ≡ get_or lent number entry → ((x : X) → new x ↔ (found x ⊎ Has x entry.1.0 entry.1.1))
+      → AreFound (cells_of links) Has new (number + 1)
+  found_more new entry within is put = one_more (cells_of links) Has found new number entry are (item_of (cells_of links) lent number entry same within is) put
+
+  module _ (rising : IsRising lent) (numbered : AreNumbered lent) (whole : length lent ≤ number) (end : number ≤ length lent) where
+    has_link : (entry : Entry) (k : ℕ) → k < number → get_or (cells_of links) k entry ≡ entry → HasLink links entry.1.0 entry.1.1
+    has_link entry k below at =
+        let there : value_at lent entry.0 ≡ Some entry.1 =
+        let lent_at = subst (λ (l : List Entry). get_or l k entry ≡ entry) (sym same) at in
+        value-present lent rising entry.0 k entry (omega (arith, below, end)) (ap (λ (a : Entry). a.0) lent_at) ∙ ap (λ (a : Entry). Some a.1) lent_at in
+        subst (λ (l : List Entry). value_at l (key_of entry.1.0) ≡ Some entry.1) same
+        (subst (λ n. value_at lent n ≡ Some entry.1) (numbered entry.0 entry.1.0 entry.1.1 there).0 there)
+
+    -- in the end those are found that some cell in use has
+    pub all_found : (x : X) → found x ↔ ((at : CellAt) × (link : CellLink) × HasLink links at link × Has x at link)
+    all_found x = (
+      λ is. let one = (are x).0 is in (one.0.1.0, one.0.1.1, has_link one.0 one.1.0 one.1.1 one.1.2, one.2),
+      λ (at, link, has, is).
+          let there = placed (cells_of links) (key_of at) (at, link) has in
+          let within : there.0 < number = omega (arith, subst (λ (l : List Entry). there.0 < length l) (sym same) there.1, whole) in
+          (are x).1 ((key_of at, (at, link)), (there.0, within, there.2), is),
+    )

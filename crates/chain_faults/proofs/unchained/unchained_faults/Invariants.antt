@@ -1,0 +1,11 @@
+use Rattle.std.proofs.Common.{◌≡◌}
+use Rattle.domain_base.specs.declared.place.Home.{Home}
+use Rattle.bmt_mcells.specs.CellPage.{home_of}
+use Rattle.cell_links.specs.Links.{cells_of}
+use Rattle.home_sets.specs.Members.{IsIn}
+use Rattle.chain_faults.specs.Heads.{IsLoose}
+use Rattle.chain_faults.proofs.Each.{AreFound}
+use Rattle.chain_faults.proofs.unchained.unchained_faults.Given as goal
+
+abbrev pub invariant-loop-at : goal.invariant-loop-at
+invariant-loop-at l = AreFound (cells_of l.links) {X = Home} (λ home at link. (home_of at ≡ home) × IsLoose l.marked at link) (IsIn l.found) l.at-index

@@ -1,0 +1,37 @@
+-- First cells of chains and the cells of these, by what each cell leads to.
+use Rattle.std.specs.Prelude.{◌≡◌, ◌⊎◌, Some}
+use Rattle.domain_base.specs.declared.place.CellAt.{CellAt}
+use Rattle.bmt_mcells.specs.declared.head.CellKind.TheVariants.{Chain, Primary, Quota}
+use Rattle.cell_links.specs.Chains.{IsOnChain}
+use Rattle.cell_links.specs.Links.{HasLink}
+use Rattle.cell_links.specs.Members.{IsIn}
+use Rattle.cell_links.specs.declared.links.CellLink.{CellLink}
+use Rattle.cell_links.specs.declared.links.CellLinks.{CellLinks}
+use Rattle.cell_links.specs.declared.set.CellSet.{CellSet}
+
+-- what is read of a cell of quotas leads to another
+abbrev pub LeadsTo : CellLink → CellAt → Type 0
+LeadsTo link onto = (link.kind ≡ Quota) × (link.next ≡ Some onto)
+
+-- a cell of quotas in use leads to it
+abbrev pub IsLedTo : CellLinks → CellAt → Type 0
+IsLedTo links onto =
+    (other : CellAt) × (link : CellLink) × HasLink links other link × LeadsTo link onto
+
+-- it is the first cell of a chain: of a file or directory, or one of quotas that is not among those
+-- to which one of quotas leads
+abbrev pub IsHead : CellSet → CellAt → CellLink → Type 0
+IsHead led at link = (link.kind ≡ Primary) ⊎ ((link.kind ≡ Quota) × ¬ IsIn led at)
+
+-- the first cell of a chain stands at a place, and another cell is on the chain
+abbrev pub IsChained : CellLinks → CellSet → CellAt → CellLink → CellAt → Type 0
+IsChained links led start link at = IsHead led start link × IsOnChain links start at
+
+-- a cell of some chain
+abbrev pub IsOfChain : CellLinks → CellSet → CellAt → Type 0
+IsOfChain links led at = (start : CellAt) × (link : CellLink) × HasLink links start link
+    × IsChained links led start link at
+
+-- a chain cell or a quota cell that is not among the cells of chains
+abbrev pub IsLoose : CellSet → CellAt → CellLink → Type 0
+IsLoose marked at link = ((link.kind ≡ Chain) ⊎ (link.kind ≡ Quota)) × ¬ IsIn marked at
