@@ -5,6 +5,8 @@
 #[cfg(test)]
 mod cells;
 #[cfg(test)]
+mod chains;
+#[cfg(test)]
 mod fixture;
 #[cfg(test)]
 mod tables;
