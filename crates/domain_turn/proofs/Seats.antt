@@ -1,5 +1,5 @@
 -- What a seat's view says, by cases.
-use Rattle.std.proofs.Common.{◌≡◌, Option, Some, None, is_some, IsSomeAnd, MatchBool, true, false, Bool, refl, sym, arith, ◌<◌, List, [], ◌∷◌, ◌++◌, ◌∙◌, ap, append_assoc, length}
+use Rattle.std.proofs.Common.{◌+◌, ◌≤◌, ℕ, zero, suc, drop, get_or, ◌≡◌, Option, Some, None, is_some, IsSomeAnd, MatchBool, true, false, Bool, refl, sym, arith, ◌<◌, List, [], ◌∷◌, ◌++◌, ◌∙◌, ap, append_assoc, length}
 use mathlib.Core.Bool.{false≢true}
 use Rattle.domain_turn.specs.declared.pass.Pass.{Pass}
 use Rattle.domain_turn.specs.Kept.{resting}
@@ -42,3 +42,19 @@ idle pass free = λ c. (
   record { shares = pass.one c; ticket = none_of pass.seat.me.0.ticket (pass.queued ∙ ap is_some free) c; holds = free c },
   (pass.carried ∙ ap carried_by free) c,
 )
+
+-- the elements from a place on begin with the one that stands there
+pub from_there : (xs : List ℕ) (k : ℕ) → k < length xs → drop k xs ≡ get_or xs k 0 ∷ drop (k + 1) xs
+from_there xs k low = let same : suc k ≡ k + 1 = omega arith in by_next xs k low ∙ ap (λ (n : ℕ). get_or xs k 0 ∷ drop n xs) same
+  where
+    by_next : (xs : List ℕ) (k : ℕ) → k < length xs → drop k xs ≡ get_or xs k 0 ∷ drop (suc k) xs
+    by_next [] k low = absurd (omega (arith, low))
+    by_next (x ∷ xs) zero low = refl
+    by_next (x ∷ xs) (suc k) low = by_next xs k (omega (arith, low))
+
+-- behind the last there is none
+pub past_all : (xs : List ℕ) (k : ℕ) → length xs ≤ k → drop k xs ≡ []
+past_all [] zero low = refl
+past_all [] (suc k) low = refl
+past_all (x ∷ xs) zero low = absurd (omega (arith, low))
+past_all (x ∷ xs) (suc k) low = past_all xs k (omega (arith, low))

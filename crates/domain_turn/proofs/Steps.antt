@@ -1,5 +1,5 @@
 -- Each step keeps what holds of a turn.
-use Rattle.std.proofs.Common.{◌≡◌, ◌≢◌, ℕ, suc, ◌+◌, ◌%◌, ◌^◌, ◌<◌, ◌≤◌, ◌==◌, Bool, true, false, cond, ◌&&◌, max, List, [], ◌∷◌, ◌++◌, length, set, slice_index, slice_set, Contains, Option, Some, None, is_some, ⊎_elim, refl, ap, sym, ◌∙◌, subst, arith, length-append, append_assoc, append-nil, MatchBool, eq-eqb, ne_eqb, eqb→eq}
+use Rattle.std.proofs.Common.{◌≡◌, ◌≢◌, ℕ, suc, ◌+◌, ◌%◌, ◌^◌, ◌<◌, ◌≤◌, ◌==◌, Bool, true, false, cond, nat_lt, ◌&&◌, max, List, [], ◌∷◌, ◌++◌, length, set, slice_index, slice_set, Contains, Option, Some, None, is_some, ⊎_elim, refl, ap, sym, ◌∙◌, subst, arith, length-append, append_assoc, append-nil, MatchBool, eq-eqb, ne_eqb, eqb→eq}
 use mathlib.Core.Option.{some, none, some-injective, some-ne-none}
 use mathlib.Core.Option as maybe
 use lib.ListN.{get_elem?}
@@ -17,11 +17,11 @@ use Rattle.fileset_model.specs.declared.command.Actor.{Actor}
 use Rattle.fileset_model.specs.declared.command.Actor.TheVariants as actor
 use Rattle.fileset_model.specs.declared.entry.Entry.{Entry}
 use Rattle.domain_turn.specs.Kept.{IsShare, Kept, Knows, resting}
-use Rattle.domain_turn.specs.Plays.{Finds, MayPut, added, draws, ends, first_of, holding, looks, passes_on, puts, queued, rest_of, sees_committed, sees_durable, sees_ends, share_in, tells_nothing, with_put, with_share, with_taken}
+use Rattle.domain_turn.specs.Plays.{Finds, MayPut, added, draws, ends, first_of, holding, looks, notes, passes_on, puts, queued, rest_of, sees_committed, sees_durable, sees_ends, share_in, with_put, with_share, with_taken}
 use Rattle.domain_turn.specs.Telling.{Telling}
 use Rattle.domain_turn.specs.Views.{ends_in, entries_of, has_ticket, holds_in, is_actor, lefts_in, one_if, passes_in, times_in, total, waits_in}
 use Rattle.domain_turn.specs.declared.view.Share.{Share}
-use Rattle.domain_turn.specs.declared.view.Start.{Start}
+use Rattle.domain_turn.specs.declared.view.Beginning.{Beginning}
 use Rattle.domain_turn.specs.declared.view.View.{View}
 use Rattle.domain_turn.proofs.Totals.{has_one, only_one, total_both, total_has, total_last, total_le, total_none, total_one, total_set, total_two}
 
@@ -59,7 +59,11 @@ none_of a b (entry ∷ entries) other of = by_test (is_actor b entry.actor) refl
     by_test true is rest = absurd (other (one_actor a b entry.actor (of entry (in_first entry entries)) is))
     by_test false is rest = ap (λ (t : Bool). cond t (entry ∷ entries_of b entries) (entries_of b entries)) is ∙ rest
 
-module _ {T : Type 0} (told : Telling T) (start : Start T) where
+pub one_at_most : (b : Bool) → one_if b ≤ 1
+one_at_most true = omega arith
+one_at_most false = omega arith
+
+module _ {T : Type 0} (told : Telling T) (start : Beginning T) where
   abbrev S : Type 0
   S = State (Option T) (View T)
 
@@ -86,6 +90,7 @@ module _ {T : Type 0} (told : Telling T) (start : Start T) where
     start = is.start;
     seen = is.seen;
     mine = is.mine;
+    saw = is.saw;
     begun = is.begun;
     lasting = is.lasting;
     committed = is.committed;
@@ -140,7 +145,7 @@ module _ {T : Type 0} (told : Telling T) (start : Start T) where
     lefts = let change = total_set lefts_in s.views id v w at in let was = k.lefts in omega (arith, change, was, room);
     passes = same_total passes_in s.views id v w at passes ∙ k.passes;
     few = k.few;
-    once = λ number. subst (λ (count : ℕ). count ≤ 1) (sym (same_total (times_in number) s.views id v w at (times number))) (k.once number);
+    once = λ number. same_total (times_in number) s.views id v w at (times number) ∙ k.once number;
     apart = apart;
     queue = let change = total_set waits_in s.views id v w at in let was = k.queue in omega (arith, change, was, queue);
     lasts = lasts;
@@ -269,6 +274,7 @@ module _ {T : Type 0} (told : Telling T) (start : Start T) where
     news = k.news;
     since = k.history ∙ ap (λ (front : List Entry). front ++ k.news) (sym is.start);
     mine = is.mine;
+    saw = is.saw;
     room = let mine = total_one lefts_in s.views id v at in let all = k.lefts in
         let same : lefts_in v ≡ (share_in v).left + 0 = ap (total (λ (share : Share). share.left)) one in omega (arith, mine, all, same);
     begun = λ mover. sym (is.begun mover);
@@ -343,6 +349,7 @@ module _ {T : Type 0} (told : Telling T) (start : Start T) where
                     start = is.start;
                     seen = prefix_refl (told.history k.value);
                     mine = is.mine;
+                    saw = (k.news, k.history ∙ ap (λ (front : List Entry). front ++ k.news) (sym is.start), is.mine);
                     begun = is.begun;
                     lasting = omega arith;
                     committed = is.committed;
@@ -371,11 +378,12 @@ module _ {T : Type 0} (told : Telling T) (start : Start T) where
   numbers_apart s k id j v u x other at there one has same =
       let number : ℕ = (share_in v).number in
       let both = total_two (times_in number) s.views j id u v other there at in
-      let most = k.once number in
+      let exact = k.once number in
+      let bound = one_at_most (nat_lt number n) in
       let mine : times_in number v ≡ 1 = ap (total (λ (share : Share). one_if (share.number == number))) one ∙ ap (λ (b : Bool). one_if b + 0) (eq-eqb number number refl) in
       let theirs = total_has (λ (share : Share). one_if (share.number == number)) u.shares x has in
       let counted : one_if (x.number == number) ≡ 1 = ap one_if (eq-eqb x.number number (sym same)) in
-      omega (arith, both, most, mine, theirs, counted)
+      omega (arith, both, exact, bound, mine, theirs, counted)
 
   -- the value at hand is still at hand
   held_still : (views : List V) (id : ℕ) (v w : V) (old new : T) → get_elem? views id ≡ some v → v.holds ≡ Some old → w.holds ≡ Some new → total holds_in (set views id w) ≢ 0
@@ -386,7 +394,7 @@ module _ {T : Type 0} (told : Telling T) (start : Start T) where
 
   pub publishing : (slots id : ℕ) (me : M) (ticket : ℕ) (taken value : T) (committed : ℕ) → me.0.shares ≡ share_in me.0 ∷ [] → me.0.ticket ≡ Some ticket → me.0.holds ≡ Some taken
       → me.1 ≡ (0, Some value) ∷ [] → MayPut told (share_in me.0) taken value → committed ≡ length (told.history value)
-      → Allows Rule slots id me 2 (λ _. committed) (λ _. puts told (step slots 2 committed 0 none) me committed)
+      → Allows Rule slots id me 2 (λ _. committed) (puts told (step slots 2 committed 0 none) me)
   publishing slots id me ticket taken value committed one mine has carried may length_is s k size at below =
       let v = me.0 in
       let share = share_in v in
@@ -401,6 +409,8 @@ module _ {T : Type 0} (told : Telling T) (start : Start T) where
       let lasts = may.lasting in
       let longer : length (told.history value) ≡ length (told.history k.value) + length more =
       ap length may.grown ∙ length-append (told.history taken) more ∙ ap (λ (h : List Entry). length h + length more) history_now in
+      let mine_now : entries_of share.number (k.news ++ more) ≡ share.mine ++ more = filter-append (λ (entry : Entry). is_actor share.number entry.actor) k.news more ∙ ap (λ (front : List Entry). front ++ entries_of share.number more) is.mine ∙ ap (λ (back : List Entry). share.mine ++ back) (all_of share.number more may.actor) in
+      let history_on : told.history value ≡ begin ++ (k.news ++ more) = may.grown ∙ ap (λ (front : List Entry). front ++ more) (history_now ∙ k.history) ∙ append_assoc begin k.news more in
       let waiting : waits_in v ≡ 1 = ap (λ (t : Option ℕ). one_if (is_some t)) mine in (
         w,
         keeps,
@@ -409,7 +419,7 @@ module _ {T : Type 0} (told : Telling T) (start : Start T) where
             (ap (λ (ws : List ℕ). slice_set ws 2 committed) k.words
             ∙ ap (λ (x : ℕ × ℕ). k.drawn % 2 ^ 64 ∷ k.served % 2 ^ 64 ∷ x.0 ∷ k.durable ∷ x.1 ∷ []) (λ c. (length_is c, sym ends c)))
             (λ nobody. absurd (held_still s.views id v w taken value at has refl nobody))
-            (may.grown ∙ ap (λ (front : List Entry). front ++ more) (history_now ∙ k.history) ∙ append_assoc begin k.news more)
+            history_on
             (λ entry there. ⊎_elim (λ old. k.actors entry old) (λ new. (share.number, is.number, may.actor entry new)) (Contains-append_cases k.news more entry there))
             (let same_left : lefts_in v ≡ share.left + 0 = ap (total (λ (x : Share). x.left)) one in
             let room_now : told.room taken ≡ told.room k.value = ap told.room now in let room = may.room in let left = may.left in
@@ -424,8 +434,8 @@ module _ {T : Type 0} (told : Telling T) (start : Start T) where
                 number = is.number;
                 start = is.start;
                 seen = prefix_refl (told.history value);
-                mine = filter-append (λ (entry : Entry). is_actor share.number entry.actor) k.news more ∙ ap (λ (front : List Entry). front ++ entries_of share.number more) is.mine
-                    ∙ ap (λ (back : List Entry). share.mine ++ back) (all_of share.number more may.actor);
+                mine = mine_now;
+                saw = (k.news ++ more, history_on ∙ ap (λ (front : List Entry). front ++ (k.news ++ more)) (sym is.start), mine_now);
                 begun = λ mover. refl;
                 lasting = omega arith;
                 committed = let before = is.committed in omega (arith, before, longer);
@@ -445,6 +455,7 @@ module _ {T : Type 0} (told : Telling T) (start : Start T) where
                     seen = prefix_trans x.seen (told.history k.value) (told.history value) was.seen (more, ap (λ (h : List Entry). h ++ more) (sym history_now) ∙ sym may.grown);
                     mine = filter-append (λ (entry : Entry). is_actor x.number entry.actor) k.news more ∙ ap (λ (back : List Entry). entries_of x.number k.news ++ back) (none_of share.number x.number more apart may.actor)
                         ∙ append-nil (entries_of x.number k.news) ∙ was.mine;
+                    saw = was.saw;
                     begun = λ mover. was.begun mover ∙ ap told.begun (sym now) ∙ sym (may.begun (λ mine_too. apart (mine_too ∙ sym mover)));
                     lasting = let before = was.lasting in omega (arith, before, lasts, lasting_now);
                     committed = let before = was.committed in omega (arith, before, longer);
@@ -459,7 +470,7 @@ module _ {T : Type 0} (told : Telling T) (start : Start T) where
             let same_ticket : ticket ≡ ticket' = cc (mine, mine') in
             let same_taken : taken ≡ taken' = cc (has, has') in
             let same_value : value ≡ value' = ap (first_value value) (sym carried ∙ carried') in
-            (λ c. (holding (with_put told share (same_taken c) (same_value c)) (same_ticket c) (same_value c), me.1)),
+            (word_at s k 2 ∙ ap (λ (t : T). length (told.history t)) (sym now ∙ same_taken), (λ c. (holding (with_put told share (same_taken c) (same_value c)) (same_ticket c) (same_value c), me.1))),
       )
 
   single : {X : Type 0} (xs : List X) (x : X) → length xs ≡ 1 → set xs 0 x ≡ x ∷ []
@@ -510,30 +521,49 @@ module _ {T : Type 0} (told : Telling T) (start : Start T) where
       )
 
   pub noting : (slots id : ℕ) (me : M) (durable : ℕ) → me.0.shares ≡ share_in me.0 ∷ [] → durable ≤ (share_in me.0).lasting
-      → Allows Rule slots id me 3 (λ x. max x durable) (tells_nothing (step slots 3 durable 0 none) me)
+      → Allows Rule slots id me 3 (λ x. max x durable) (notes (step slots 3 durable 0 none) me)
   noting slots id me durable one low s k size at below =
       let v = me.0 in
-      let ends = same_total ends_in s.views id v v at refl in
+      let share = share_in v in
+      let share' : Share = record share { durable = max share.durable durable } in
+      let w : V = with_share v share' in
+      let ends = same_total ends_in s.views id v w at (sym (ap (total (λ (x : Share). one_if x.ended)) one)) in
       let is = share_there s k id v at one in
+      let alone = one_pass v one in
       let more : ℕ = max k.durable durable in
       let later : k.durable ≤ more = le-max_left k.durable durable in (
-        v,
+        w,
         keeps,
         tt,
-        moved s k id v v _ s.homes k.value k.news k.drawn k.served more at
+        moved s k id v w _ s.homes k.value k.news k.drawn k.served more at
             (ap (λ (ws : List ℕ). slice_set ws 3 (max (slice_index ws 3) durable)) k.words
             ∙ ap (λ (x : ℕ). k.drawn % 2 ^ 64 ∷ k.served % 2 ^ 64 ∷ length (told.history k.value) ∷ more ∷ x ∷ []) (sym ends))
-            (λ nobody. k.home (sym (same_total holds_in s.views id v v at refl) ∙ nobody))
+            (λ nobody. k.home (sym (same_total holds_in s.views id v w at refl) ∙ nobody))
             k.history
             k.actors
-            (omega arith)
-            refl
-            (λ number. refl)
-            (apart_still s k id v v at refl)
+            (let same_left : lefts_in v ≡ share.left + 0 = ap (total (λ (x : Share). x.left)) one in omega (arith, same_left))
+            (sym alone)
+            (λ number. sym (ap (total (λ (x : Share). one_if (x.number == number))) one))
+            (apart_still s k id v w at refl)
             (omega arith)
             (let lasts = k.lasts in let lasting = is.lasting in omega (arith, lasts, lasting, low))
-            (subst (λ (ended : ℕ). Knows told n begin k.value k.news more ended k.drawn k.served v) (sym ends)
-            (knows_on k.value k.news k.durable more (total ends_in s.views) (total ends_in s.views) k.drawn k.drawn k.served v later (omega arith) (omega arith) (k.each id v at)))
+            (subst (λ (ended : ℕ). Knows told n begin k.value k.news more ended k.drawn k.served w) (sym ends) record {
+              shares = λ x there. subst (IsShare told n begin k.value k.news more (total ends_in s.views)) (sym (only_one share' x there)) record {
+                number = is.number;
+                start = is.start;
+                seen = is.seen;
+                mine = is.mine;
+                saw = is.saw;
+                begun = is.begun;
+                lasting = is.lasting;
+                committed = is.committed;
+                durable = let before = is.durable in omega (arith, before);
+                ends = is.ends;
+              };
+              ticket = (k.each id v at).ticket;
+              holds = (k.each id v at).holds;
+              waits = let was = (k.each id v at).waits in omega (arith, was, alone);
+            })
             (λ j u other there. subst (λ (ended : ℕ). Knows told n begin k.value k.news more ended k.drawn k.served u) (sym ends)
             (knows_on k.value k.news k.durable more (total ends_in s.views) (total ends_in s.views) k.drawn k.drawn k.served u later (omega arith) (omega arith) (k.each j u there))),
         refl,
@@ -582,9 +612,9 @@ module _ {T : Type 0} (told : Telling T) (start : Start T) where
       number left (omega (arith, ends))
       (subst (λ (x : ℕ). IsShare told n begin k.value k.news k.durable x share') (sym ends) is)
 
-  pub seeing_committed : (slots id : ℕ) (me : M) → me.0.shares ≡ share_in me.0 ∷ []
+  pub seeing_committed : (slots id : ℕ) (me : M) → ((value : T) → told.lasting value ≤ length (told.history value)) → me.0.shares ≡ share_in me.0 ∷ []
       → Allows Rule slots id me 2 (λ x. x) (sees_committed (step slots 2 0 0 none) me)
-  seeing_committed slots id me one s k size at below =
+  seeing_committed slots id me bounded one s k size at below =
       let is = share_there s k id me.0 at one in
       let found : slice_index s.words 2 ≡ length (told.history k.value) = word_at s k 2 in
       let share' : Share = record (share_in me.0) { committed = slice_index s.words 2 } in (
@@ -596,6 +626,7 @@ module _ {T : Type 0} (told : Telling T) (start : Start T) where
           start = is.start;
           seen = is.seen;
           mine = is.mine;
+          saw = is.saw;
           begun = is.begun;
           lasting = is.lasting;
           committed = omega (arith, found);
@@ -605,6 +636,7 @@ module _ {T : Type 0} (told : Telling T) (start : Start T) where
         (
           let whole = sym (ap length is.seen.1) ∙ length-append (share_in me.0).seen is.seen.0 in omega (arith, whole, found),
           (let before = is.committed in omega (arith, before, found)),
+          (let before = is.durable in let lasts = k.lasts in let bound = bounded k.value in omega (arith, before, lasts, bound, found)),
           refl,
         ),
       )
@@ -623,6 +655,7 @@ module _ {T : Type 0} (told : Telling T) (start : Start T) where
           start = is.start;
           seen = is.seen;
           mine = is.mine;
+          saw = is.saw;
           begun = is.begun;
           lasting = is.lasting;
           committed = is.committed;
@@ -646,6 +679,7 @@ module _ {T : Type 0} (told : Telling T) (start : Start T) where
           start = is.start;
           seen = is.seen;
           mine = is.mine;
+          saw = is.saw;
           begun = is.begun;
           lasting = is.lasting;
           committed = is.committed;
@@ -654,10 +688,6 @@ module _ {T : Type 0} (told : Telling T) (start : Start T) where
         },
         ((let before = is.ends in omega (arith, before, found)), refl),
       )
-
-  one_at_most : (b : Bool) → one_if b ≤ 1
-  one_at_most true = omega arith
-  one_at_most false = omega arith
 
   ends_most : (shares : List Share) → total (λ (x : Share). one_if x.ended) shares ≤ length shares
   ends_most [] = omega arith
@@ -688,6 +718,7 @@ module _ {T : Type 0} (told : Telling T) (start : Start T) where
               start = is.start;
               seen = is.seen;
               mine = is.mine;
+              saw = is.saw;
               begun = is.begun;
               lasting = is.lasting;
               committed = is.committed;
@@ -715,7 +746,7 @@ module _ {T : Type 0} (told : Telling T) (start : Start T) where
         lefts = subst (λ (count : ℕ). count ≤ told.room k.value) (sym (same lefts_in (λ xs ys. total_both (λ (x : Share). x.left) xs ys) refl)) k.lefts;
         passes = same passes_in (λ xs ys. length-append xs ys) refl ∙ k.passes;
         few = k.few;
-        once = λ number. subst (λ (count : ℕ). count ≤ 1) (sym (same (times_in number) (λ xs ys. total_both (λ (x : Share). one_if (x.number == number)) xs ys) refl)) (k.once number);
+        once = λ number. same (times_in number) (λ xs ys. total_both (λ (x : Share). one_if (x.number == number)) xs ys) refl ∙ k.once number;
         apart = λ t. subst (λ (count : ℕ). count ≤ 1) (sym (same (λ view. has_ticket view.ticket t) (λ xs ys. refl) refl)) (k.apart t);
         queue = k.queue ∙ ap (λ (count : ℕ). k.served + count) (sym (same waits_in (λ xs ys. refl) refl));
         lasts = k.lasts;

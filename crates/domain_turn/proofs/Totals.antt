@@ -57,3 +57,13 @@ module _ {X : Type 0} where
 
   pub has_one : (x : X) → Contains (x ∷ []) x
   has_one x = (0, omega arith, refl)
+
+  -- where no other place counts, all is what one counts
+  pub total_alone : (f : X → ℕ) (xs : List X) (i : ℕ) (x : X) → get_elem? xs i ≡ some x → ((j : ℕ) (y : X) → j ≢ i → get_elem? xs j ≡ some y → f y ≡ 0) → total f xs ≡ f x
+  total_alone f [] i x at others = absurd (some-ne-none x (sym at))
+  total_alone f (y ∷ ys) zero x at others =
+      let same : f y ≡ f x = ap f (some-injective y x at) in
+      let rest = total_none f ys (λ j z there. others (suc j) z (λ is. omega (arith, is)) there) in omega (arith, same, rest)
+  total_alone f (y ∷ ys) (suc i) x at others =
+      let here = others 0 y (λ is. omega (arith, is)) refl in
+      let rest = total_alone f ys i x at (λ j z other there. others (suc j) z (λ is. other (omega (arith, is))) there) in omega (arith, here, rest)

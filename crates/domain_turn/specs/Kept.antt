@@ -1,16 +1,16 @@
 -- What holds of the words, the slot and the views of a turn, whatever the threads do. The words are
 -- the tickets drawn and the ticket served, both modulo 2^64, the length of the history, how much of
 -- it lasts, and how many passes have ended.
-use Rattle.std.specs.Prelude.{◌≡◌, ℕ, ◌+◌, ◌%◌, ◌^◌, ◌<◌, ◌≤◌, true, List, [], ◌∷◌, ◌++◌, length, Option, Some, None, Contains}
+use Rattle.std.specs.Prelude.{◌≡◌, ℕ, ◌+◌, ◌%◌, ◌^◌, ◌<◌, ◌≤◌, true, nat_lt, List, [], ◌∷◌, ◌++◌, length, Option, Some, None, Contains}
 use mathlib.Core.Option.{some}
 use mathlib.Core.List.{IsPrefix}
 use lib.ListN.{get_elem?}
 use Rattle.atomic_table.specs.Table.{State}
 use Rattle.fileset_model.specs.declared.entry.Entry.{Entry}
 use Rattle.domain_turn.specs.Telling.{Telling}
-use Rattle.domain_turn.specs.Views.{ends_in, entries_of, has_ticket, holds_in, is_actor, lefts_in, passes_in, times_in, total, waits_in}
+use Rattle.domain_turn.specs.Views.{ends_in, entries_of, has_ticket, holds_in, is_actor, lefts_in, one_if, passes_in, times_in, total, waits_in}
 use Rattle.domain_turn.specs.declared.view.Share.{Share}
-use Rattle.domain_turn.specs.declared.view.Start.{Start}
+use Rattle.domain_turn.specs.declared.view.Beginning.{Beginning}
 use Rattle.domain_turn.specs.declared.view.View.{View}
 
 -- what a share says is so of the value that stands for all, where so many passes were made from this
@@ -20,6 +20,8 @@ pub record IsShare {T : Type 0} (told : Telling T) (passes : ℕ) (base : List E
   pub start : share.start ≡ base
   pub seen : IsPrefix share.seen (told.history value)
   pub mine : entries_of share.number news ≡ share.mine
+  pub saw : (old : List Entry) × (share.seen ≡ share.start ++ old)
+      × (entries_of share.number old ≡ share.mine)
   pub begun : share.number ≡ 8 → share.begun ≡ told.begun value
   pub lasting : share.lasting ≤ told.lasting value
   pub committed : share.committed ≤ length (told.history value)
@@ -37,7 +39,7 @@ pub record Knows {T : Type 0} (told : Telling T) (passes : ℕ) (base : List Ent
 
 -- one value stands for all: it is at home, at rest, unless a seat has it. Its history is that of the
 -- start with what the passes added. No two seats have one number or one ticket
-pub record Kept {T : Type 0} (told : Telling T) (start : Start T) (s : State (Option T) (View T)) : Type 0 where
+pub record Kept {T : Type 0} (told : Telling T) (start : Beginning T) (s : State (Option T) (View T)) : Type 0 where
   pub value : T
   pub news : List Entry
   pub drawn : ℕ
@@ -55,7 +57,8 @@ pub record Kept {T : Type 0} (told : Telling T) (start : Start T) (s : State (Op
   pub lefts : total lefts_in s.views ≤ told.room value
   pub passes : total passes_in s.views ≡ length start.lefts.items
   pub few : length start.lefts.items ≤ 10
-  pub once : (number : ℕ) → total (times_in number) s.views ≤ 1
+  pub once : (number : ℕ) → total (times_in number) s.views
+      ≡ one_if (nat_lt number (length start.lefts.items))
   pub apart : (ticket : ℕ)
       → total (λ (view : View T). has_ticket view.ticket ticket) s.views ≤ 1
   pub queue : drawn ≡ served + total waits_in s.views
@@ -75,8 +78,8 @@ shares_from told value number (left ∷ lefts) = record {
   left = left;
   begun = told.begun value;
   lasting = told.lasting value;
-  committed = 0;
-  durable = 0;
+  committed = length (told.history value);
+  durable = told.lasting value;
   ends = 0;
   ended = Rattle.std.specs.Prelude.false;
 } ∷ shares_from told value (number + 1) lefts
@@ -86,5 +89,5 @@ abbrev pub resting : {T : Type 0} → List Share → View T
 resting shares = record { shares = shares; ticket = None; holds = None }
 
 -- the first seat has all passes
-abbrev pub first_view : {T : Type 0} → Telling T → Start T → View T
+abbrev pub first_view : {T : Type 0} → Telling T → Beginning T → View T
 first_view told start = resting (shares_from told start.value.value 0 start.lefts.items)

@@ -1,10 +1,10 @@
 -- Passes of a turn, as its callers see them.
-use Rattle.std.specs.Prelude.{◌≡◌, ◌<◌, ◌≤◌, ℕ, List, ◌∷◌, ◌++◌, length, Option, Contains, map}
+use Rattle.std.specs.Prelude.{◌≡◌, ◌==◌, ◌<◌, ◌≤◌, ℕ, List, ◌∷◌, ◌++◌, length, Option, Contains, map}
 use mathlib.Core.List.{IsPrefix}
 use Rattle.fileset_model.specs.declared.entry.Entry.{Entry}
 use Rattle.domain_turn.specs.Plays.{share_in}
 use Rattle.domain_turn.specs.Telling.{Telling}
-use Rattle.domain_turn.specs.Views.{entries_of, is_actor, total}
+use Rattle.domain_turn.specs.Views.{entries_of, is_actor, one_if, total}
 use Rattle.domain_turn.specs.declared.pass.Pass.{Pass}
 use Rattle.domain_turn.specs.declared.view.Share.{Share}
 
@@ -18,7 +18,8 @@ module _ {T : Type 0} where
   in_hand pass = pass.seat.me.0.holds
 
 -- the value with which a turn ends: it is at rest, begins with what each of these passes saw, lasts
--- as far as they were told, and what was added since the start is what they say, and no more
+-- as far as they were told, and what was added since the start is what they say, and no more: each
+-- number below that of the passes is one pass's
 pub record IsLast {T : Type 0} (told : Telling T) (shares : List Share) (start : List Entry) (value : T) : Type 0 where
   pub rests : told.rests value
   pub news : List Entry
@@ -27,6 +28,8 @@ pub record IsLast {T : Type 0} (told : Telling T) (shares : List Share) (start :
   pub mine : (share : Share) → Contains shares share → entries_of share.number news ≡ share.mine
   pub actors : (entry : Entry) → Contains news entry
       → (number : ℕ) × (number < length shares) × (is_actor number entry.actor ≡ Rattle.std.specs.Prelude.true)
+  pub all : (number : ℕ) → number < length shares
+      → total (λ (share : Share). one_if (share.number == number)) shares ≡ 1
   pub begun : (share : Share) → Contains shares share → share.number ≡ 8
       → told.begun value ≡ share.begun
   pub committed : (share : Share) → Contains shares share

@@ -48,13 +48,15 @@ abbrev pub added : {T : Type 0} → Telling T → T → T → List Entry
 added told old new = drop (length (told.history old)) (told.history new)
 
 -- the value that its pass takes, after what it knew: nothing was lost, its own entries since the start
--- are those it made, and there is room for those it may make
+-- are those it made, all of which it had seen, and there is room for those it may make
 pub record Finds {T : Type 0} (told : Telling T) (share : Share) (value : T) : Type 0 where
   pub rests : told.rests value
   pub seen : IsPrefix share.seen (told.history value)
   pub news : List Entry
   pub since : told.history value ≡ share.start ++ news
   pub mine : entries_of share.number news ≡ share.mine
+  pub saw : (old : List Entry) × (share.seen ≡ share.start ++ old)
+      × (entries_of share.number old ≡ share.mine)
   pub room : share.left ≤ told.room value
   pub begun : share.number ≡ 8 → told.begun value ≡ share.begun
   pub lasting : share.lasting ≤ told.lasting value
@@ -120,24 +122,26 @@ module _ {T : Type 0} where
       × (w ≡ (holding (with_taken told (share_in v.0) value) ticket value, (0, Some value) ∷ [])))
       (w ≡ v)
 
-  -- what is at hand stands for all from now on
+  -- what is at hand stands for all from now on, in place of what was taken, whose length was found
   abbrev pub puts : Telling T → At T → Sat T → ℕ → Sat T → Type 0
   puts told s v found w = (ticket : ℕ) (taken value : T) → v.0.ticket ≡ Some ticket
       → v.0.holds ≡ Some taken → v.1 ≡ (0, Some value) ∷ []
-      → w ≡ (holding (with_put told (share_in v.0) taken value) ticket value, v.1)
+      → (found ≡ length (told.history taken))
+      × (w ≡ (holding (with_put told (share_in v.0) taken value) ticket value, v.1))
 
   -- the next ticket is served
   abbrev pub passes_on : At T → Sat T → ℕ → Sat T → Type 0
   passes_on s v found w = w ≡ (resting v.0.shares, [])
 
-  -- nothing is told
-  abbrev pub tells_nothing : At T → Sat T → ℕ → Sat T → Type 0
-  tells_nothing s v found w = w ≡ v
+  -- so much is known to last
+  abbrev pub notes : At T → Sat T → ℕ → Sat T → Type 0
+  notes s v found w = w ≡ (with_share v.0 (record (share_in v.0) { durable = max (share_in v.0).durable s.first }), v.1)
 
   -- a length of the history that was found
   abbrev pub sees_committed : At T → Sat T → ℕ → Sat T → Type 0
   sees_committed s v found w = (length (share_in v.0).seen ≤ found)
       × ((share_in v.0).committed ≤ found)
+      × ((share_in v.0).durable ≤ found)
       × (w ≡ (with_share v.0 (record (share_in v.0) { committed = found }), v.1))
 
   -- how much was found to last

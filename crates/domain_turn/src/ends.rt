@@ -11,7 +11,7 @@ ghost use Rattle.domain_turn.specs.Views.{total};
 use crate::pass::Pass;
 use crate::rule::{OffFirst, Place, Queue, Together};
 use crate::table::Turn;
-use crate::view::Start;
+use crate::view::Beginning;
 use atomic_table::{Refused, Table};
 use domain_base::OutOfMemory;
 use fileset_model::Told;
@@ -53,10 +53,12 @@ fn only_of<T>(mut slots: Vec<Option<T>>, value: &Snapshot<T>) -> T
 }
 
 /// The first pass of a seat, on a seat of its own.
-fn first_pass<T: Told>(queue: &Queue<T>, seat: &mut Place<T>) -> Pass<T>
+fn first_pass<T: Told>(queue: &Queue<T>, seat: &mut Place<T>, number: u8, left: u32) -> Pass<T>
     requires here { (seat.old.table_id ≡ queue.now.table_id) × (queue.now.table_id.words ≡ 5) }
     requires seat { seat.old.me ≡ (resting seat.old.me.0.shares, []) }
     requires some { 1 ≤ length seat.old.me.0.shares }
+    requires number { number ≡ (first_of seat.old.me.0.shares).number }
+    requires left { left ≡ (first_of seat.old.me.0.shares).left }
     ensures same { seat.new.table_id ≡ seat.old.table_id }
     ensures others { seat.new.me ≡ (resting (rest_of seat.old.me.0.shares), []) }
     ensures known { known result ≡ first_of seat.old.me.0.shares }
@@ -64,23 +66,34 @@ fn first_pass<T: Told>(queue: &Queue<T>, seat: &mut Place<T>) -> Pass<T>
 {
     Pass {
         seat: queue.split_seat::<OffFirst>(seat),
+        number,
+        left,
     }
 }
 
-/// Gives each pass a seat of its own, one after the other.
-fn deal<T: Told>(queue: &Queue<T>, seat: &mut Place<T>, count: usize, passes: &mut Vec<Pass<T>>)
+/// Gives each pass of a new turn a seat of its own, one after the other.
+fn deal<T: Told>(
+    queue: &Queue<T>,
+    seat: &mut Place<T>,
+    value: &Snapshot<T>,
+    lefts: &[u32],
+    passes: &mut Vec<Pass<T>>,
+)
     requires here { (seat.old.table_id ≡ queue.now.table_id) × (queue.now.table_id.words ≡ 5) }
     requires seat { seat.old.me ≡ (resting seat.old.me.0.shares, []) }
-    requires all { length seat.old.me.0.shares ≡ count }
-    requires room { vec_len passes.old + count ≤ vec_capacity passes.old }
+    requires all { seat.old.me.0.shares
+        ≡ shares_from (telling T.history T.lasting T.rests T.room T.begun) value.now.value 0 lefts.now }
+    requires few { length lefts.now ≤ 10 }
+    requires room { vec_len passes.old + length lefts.now ≤ vec_capacity passes.old }
     ensures dealt { map known passes.new.items
         ≡ map known passes.old.items ++ seat.old.me.0.shares }
     ensures here { (pass : PassOf T) → Contains passes.new.items pass
         → Contains passes.old.items pass
         ⊎ ((pass.seat.table_id ≡ queue.now.table_id) × (in_hand pass ≡ None)) }
 {
-    for _ in 0..count {
-        if passes.push(first_pass(queue, seat)).is_err() {
+    for number in 0..lefts.len() {
+        let pass = first_pass(queue, seat, number as u8, lefts[number]);
+        if passes.push(pass).is_err() {
             unreachable!();
         }
     }
@@ -96,10 +109,10 @@ fn gather<T: Told>(queue: &Queue<T>, passes: Vec<Pass<T>>) -> Place<T>
     ensures all { result.me ≡ (resting (map known passes.items), []) }
 {
     let mut passes = passes.into_iter();
-    let Some(Pass { seat: mut all }) = passes.next() else {
+    let Some(Pass { seat: mut all, .. }) = passes.next() else {
         unreachable!()
     };
-    for Pass { seat } in passes {
+    for Pass { seat, .. } in passes {
         queue.join_seat::<Together>(&mut all, seat);
     }
     all
@@ -132,7 +145,7 @@ impl<T: Told> Turn<T> {
         if copies.extend_from_slice(lefts).is_err() {
             return Err((value, OutOfMemory));
         }
-        let start = Start {
+        let start = Beginning {
             value: Snapshot::of(&value),
             lefts: copies,
         };
@@ -142,7 +155,7 @@ impl<T: Told> Turn<T> {
         };
         match Table::new(alloc, &[0, 0, committed, durable, 0], slots, &start) {
             Ok((table, mut seat)) => {
-                deal(&table.shared, &mut seat, lefts.len(), &mut passes);
+                deal(&table.shared, &mut seat, &start.value, lefts, &mut passes);
                 Ok((Turn { table }, passes))
             }
             Err(Refused { slots }) => Err((only_of(slots, &start.value), OutOfMemory)),

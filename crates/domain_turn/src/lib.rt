@@ -13,4 +13,4 @@ pub use pass::Pass;
 pub use rule::InTurn;
 pub use table::Turn;
 pub use telling::Front;
-pub use view::{Share, Start, View};
+pub use view::{Beginning, Share, View};

@@ -9,7 +9,29 @@ use crate::rule::Place;
 #[derive(Drop)]
 pub struct Pass<T> {
     pub(crate) seat: Place<T>,
+    pub(crate) number: u8,
+    pub(crate) left: u32,
+    ghost numbered: { number ≡ (share_in seat.me.0).number },
+    ghost may_add: { left ≡ (share_in seat.me.0).left },
     ghost one: { seat.me.0.shares ≡ share_in seat.me.0 ∷ [] },
     ghost carried: { seat.me.1 ≡ carried_by seat.me.0.holds },
     ghost queued: { is_some seat.me.0.ticket ≡ is_some seat.me.0.holds },
+}
+
+impl<T> Pass<T> {
+    ghost use Rattle.domain_turn.specs.Passes.{known};
+
+    /// Its number.
+    pub fn number(&self) -> u8
+        ensures { result ≡ (known self.now).number }
+    {
+        self.number
+    }
+
+    /// How many entries it may still add.
+    pub fn left(&self) -> u32
+        ensures { result ≡ (known self.now).left }
+    {
+        self.left
+    }
 }

@@ -1,24 +1,24 @@
 //! The rule of the table that carries a turn, and what each step on it tells.
 ghost use Rattle.std.specs.Prelude.{[], ◌∷◌, ◌++◌};
 ghost use Rattle.domain_turn.specs.Kept.{Kept, first_view, resting};
-ghost use Rattle.domain_turn.specs.Plays.{draws, ends, first_of, looks, passes_on, puts, rest_of, sees_committed, sees_durable, sees_ends, tells_nothing};
+ghost use Rattle.domain_turn.specs.Plays.{draws, ends, first_of, looks, notes, passes_on, puts, rest_of, sees_committed, sees_durable, sees_ends};
 ghost use Rattle.domain_turn.specs.Telling.{telling};
 
-use crate::view::{Start, View};
+use crate::view::{Beginning, View};
 use atomic_table::{Join, Play, Seat, Shared, Split, TableRule};
 use fileset_model::Told;
 
 /// Tickets are served one after the other, and who is served has the value.
 pub struct InTurn;
 
-impl<T: Told> TableRule<Option<T>, View<T>, Start<T>> for InTurn {
+impl<T: Told> TableRule<Option<T>, View<T>, Beginning<T>> for InTurn {
     ghost holds = { Kept (telling T.history T.lasting T.rests T.room T.begun) };
 
     ghost first = { first_view (telling T.history T.lasting T.rests T.room T.begun) };
 }
 
 /// The words and the slot of a turn.
-pub(crate) type Queue<T> = Shared<Option<T>, View<T>, Start<T>, InTurn>;
+pub(crate) type Queue<T> = Shared<Option<T>, View<T>, Beginning<T>, InTurn>;
 
 /// A seat at a turn.
 pub(crate) type Place<T> = Seat<Option<T>, View<T>>;
@@ -68,7 +68,7 @@ impl<T> Play<Option<T>, View<T>> for PassOn {
 pub(crate) struct Note;
 
 impl<T> Play<Option<T>, View<T>> for Note {
-    ghost then = { tells_nothing };
+    ghost then = { notes };
 }
 
 pub(crate) struct SeeCommitted;

@@ -1,5 +1,5 @@
 //! What a pass tells of the turn without taking it.
-ghost use Rattle.std.specs.Prelude.{◌≡◌, ◌≤◌, length, true, false};
+ghost use Rattle.std.specs.Prelude.{◌≡◌, ◌≤◌, length, max, true, false};
 ghost use Rattle.domain_turn.specs.Passes.{in_hand, known};
 ghost use Rattle.domain_turn.specs.Turns.{IsPassOf};
 
@@ -21,7 +21,9 @@ impl<T: Told> Turn<T> {
         requires here { IsPassOf self.now pass.old }
         requires lasting { durable ≤ (known pass.old).lasting }
         ensures here { IsPassOf self.now pass.new }
-        ensures same { (known pass.new ≡ known pass.old) × (in_hand pass.new ≡ in_hand pass.old) }
+        ensures known { known pass.new ≡ record (known pass.old)
+            { durable = max (known pass.old).durable durable } }
+        ensures same { in_hand pass.new ≡ in_hand pass.old }
     {
         self.table
             .shared
@@ -35,6 +37,7 @@ impl<T: Told> Turn<T> {
         ensures committed { length (known pass.old).seen ≤ result.committed }
         ensures later { ((known pass.old).committed ≤ result.committed)
             × ((known pass.old).durable ≤ result.durable) }
+        ensures bounded { result.durable ≤ result.committed }
         ensures known { known pass.new ≡ record (known pass.old)
             { committed = result.committed; durable = result.durable } }
         ensures same { in_hand pass.new ≡ in_hand pass.old }

@@ -78,8 +78,9 @@ impl<T: Told> Turn<T> {
             None => {}
             Some(_) => unreachable!(),
         }
-        queue.store::<Publish>(&mut pass.seat, 2, committed);
+        let before = queue.swap::<Publish>(&mut pass.seat, 2, committed);
         queue.fetch_add::<PassOn>(&mut pass.seat, 1, 1);
+        pass.left = (u64::from(pass.left) - (committed - before)) as u32;
         queue.wake_all(1);
     }
 }

@@ -14,9 +14,9 @@ pub struct Share {
     pub mine: LinkedList<Entry>,
     /// How many entries it may still add.
     pub left: u64,
-    /// The command of the job that runs; only the mover's tells.
+    /// The command of the job that runs, kept true for the mover's pass alone.
     pub begun: Option<Command>,
-    /// How much lasted of the value that was in hand last.
+    /// How much lasted of the value when it was in hand last.
     pub lasting: u64,
     /// The greatest length that a front told.
     pub committed: u64,
@@ -37,7 +37,7 @@ pub struct View<T> {
 
 /// The value with which a turn begins, and how many entries each pass may add.
 #[derive(Drop)]
-pub struct Start<T> {
+pub struct Beginning<T> {
     pub value: Snapshot<T>,
     pub lefts: Vec<u32>,
 }

@@ -1,7 +1,7 @@
 -- Entries that are numbered one after the other.
 use Rattle.std.proofs.Common.{◌≡◌, ℕ, zero, suc, ◌<◌, ◌≤◌, nat_lt, Contains, append-nil, lt→ltb, ◌+◌, ◌==◌, ◌&&◌, Bool, true, false, List, [], ◌∷◌, ◌++◌, length, drop, refl, ap, sym, ◌∙◌, arith, eq-eqb}
 use mathlib.Core.Bool.{false≢true}
-use Rattle.domain_turn.specs.Views.{is_actor}
+use Rattle.domain_turn.specs.Views.{is_actor, one_if}
 use Rattle.fileset_model.specs.declared.command.Actor.TheVariants as actor
 use Rattle.fileset_model.specs.declared.entry.Entry.{Entry}
 use Rattle.turn_tests.specs.Ledgers.{counts_from}
@@ -22,9 +22,10 @@ drop_front [] ys = refl
 drop_front (x ∷ xs) ys = drop_front xs ys
 
 -- what was added: nothing, or one entry of a client
-pub record More (client : ℕ) (old new : List Entry) : Type 0 where
+pub record More (client : ℕ) (old new : List Entry) (b : Bool) : Type 0 where
   pub more : List Entry
   pub is : new ≡ old ++ more
+  pub count : length more ≡ one_if b
   pub short : length more ≤ 1
   pub by : (entry : Entry) → Contains more entry → entry.actor ≡ actor.Client (client + 1)
 
@@ -33,16 +34,18 @@ only first entry (zero, low, is) = sym is
 only first entry (suc k, low, is) = absurd (omega (arith, low))
 
 pub more_of : (client : ℕ) (old new : List Entry) (b : Bool)
-    → (b ≡ true → (entry : Entry) × (entry.actor ≡ actor.Client (client + 1)) × (new ≡ old ++ entry ∷ [])) → (b ≡ false → new ≡ old) → More client old new
+    → (b ≡ true → (entry : Entry) × (entry.actor ≡ actor.Client (client + 1)) × (new ≡ old ++ entry ∷ [])) → (b ≡ false → new ≡ old) → More client old new b
 more_of client old new true one none = let it = one refl in record {
   more = it.0 ∷ [];
   is = it.2;
+  count = refl;
   short = omega arith;
   by = λ entry there. ap (λ (e : Entry). e.actor) (only it.0 entry there) ∙ it.1;
 }
 more_of client old new false one none = record {
   more = [];
   is = none refl ∙ sym (append-nil old);
+  count = refl;
   short = omega arith;
   by = λ entry there. absurd (let (k, low, is) = there in omega (arith, low));
 }

@@ -10,13 +10,18 @@ use Rattle.domain_turn.specs.Passes.{in_hand, known}
 use Rattle.domain_turn.specs.Telling.{Telling}
 use Rattle.domain_turn.specs.Turns.{IsPassOf}
 use Rattle.domain_turn.specs.Views.{total}
-use Rattle.turn_tests.specs.Working.{IsReady}
+use Rattle.turn_tests.specs.Working.{IsBack, IsReady}
 
 -- a new share: its number, and how much it may add
 pub record IsNew (wanted least : ℕ) (share : Share) : Type 0 where
   pub number : share.number ≡ wanted
   pub left : least ≤ share.left
   pub goes_on : share.ended ≡ false
+
+same_place : {A : Type 0} (xs : List A) (k : ℕ) (d : A) → k < length xs → slice_index_or xs k (slice_index_or xs k d) ≡ slice_index_or xs k d
+same_place [] k d low = absurd (omega (arith, low))
+same_place (x ∷ xs) zero d low = refl
+same_place (x ∷ xs) (suc k) d low = same_place xs k d (omega (arith, low))
 
 module _ {T : Type 0} (told : Telling T) (value : T) (left : ℕ) where
   -- where each may add as much
@@ -58,11 +63,6 @@ module _ {T : Type 0} (told : Telling T) (value : T) (left : ℕ) where
         left = is.left;
         goes_on = is.goes_on;
       }
-    where
-      same_place : {A : Type 0} (xs : List A) (k : ℕ) (d : A) → k < length xs → slice_index_or xs k (slice_index_or xs k d) ≡ slice_index_or xs k d
-      same_place [] k d low = absurd (omega (arith, low))
-      same_place (x ∷ xs) zero d low = refl
-      same_place (x ∷ xs) (suc k) d low = same_place xs k d (omega (arith, low))
 
 -- so many times the same: what they may add together
 pub sum_of : (n x : ℕ) → total (λ (left : ℕ). left) (replicate n x) ≡ n * x
@@ -76,3 +76,9 @@ all_may told value (suc n) x = (omega arith, all_may told value n x)
 -- a pass for each number
 pub as_many_passes : {T : Type 0} (told : Telling T) (value : T) (lefts : List ℕ) (passes : List (Pass T)) → map known passes ≡ shares_from told value 0 lefts → length passes ≡ length lefts
 as_many_passes told value lefts passes are = sym (length-map passes known) ∙ ap length are ∙ length_from told value 0 lefts
+
+module _ {T : Type 0} where
+  -- the passes that a new turn gave have nothing in hand
+  pub all_back : (turn : Turn T) (passes : List (Pass T)) → ((pass : Pass T) → Contains passes pass → IsPassOf turn pass × (in_hand pass ≡ None))
+      → (k : ℕ) (d : Pass T) → k < length passes → IsBack turn (slice_index_or passes k d)
+  all_back turn passes each k d low = let there = each (slice_index_or passes k d) (k, low, same_place passes k d low) in record { here = there.0; free = there.1 }

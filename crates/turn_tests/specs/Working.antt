@@ -24,3 +24,9 @@ pub record AreReady {T : Type 0} (turn : Turn T) (count : ℕ) (passes : List (P
   pub all : length passes ≡ passes_of turn
   pub each : (client : ℕ) (d : Pass T) → client < length passes
       → IsReady turn client count (slice_index_or passes client d)
+
+-- the passes of a turn, in their order, with nothing in hand
+pub record AreBack {T : Type 0} (turn : Turn T) (passes : List (Pass T)) : Type 0 where
+  pub all : length passes ≡ passes_of turn
+  pub each : (number : ℕ) (d : Pass T) → number < length passes
+      → IsBack turn (slice_index_or passes number d)

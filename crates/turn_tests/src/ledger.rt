@@ -1,5 +1,5 @@
 //! A value that stands for a history: entries numbered one after the other from a named number on.
-ghost use Rattle.std.specs.Prelude.{◌≡◌, ◌+◌, ◌-◌, ◌<◌, ◌≤◌, ◌++◌, ◌∷◌, ℕ, [], List, None, IfOk, MatchBool, length, false, true, vec_capacity, vec_len};
+ghost use Rattle.std.specs.Prelude.{◌≡◌, ◌+◌, ◌-◌, ◌<◌, ◌≤◌, ◌++◌, ◌∷◌, ℕ, [], List, None, Some, IfOk, MatchBool, length, false, true, vec_capacity, vec_len};
 ghost use Rattle.fileset_model.specs.declared.entry.Entry.{Entry as EntryOf};
 ghost use Rattle.turn_tests.specs.Ledgers.{counts_from};
 
@@ -23,6 +23,7 @@ pub struct Ledger<N: Named> {
     pub entries: Vec<Entry>,
     pub next: u64,
     pub kept: u64,
+    pub job: Option<Command>,
     of: PhantomData<N>,
     ghost counted: { counts_from N.start entries.items ≡ true },
     ghost numbered: { next ≡ N.start + length entries.items },
@@ -38,7 +39,7 @@ impl<N: Named> Told for Ledger<N> {
 
     ghost room = { λ ledger. vec_capacity ledger.entries - length ledger.entries.items };
 
-    ghost begun = { λ ledger. None };
+    ghost begun = { λ ledger. ledger.job };
 
     fn committed(&self) -> u64 {
         self.entries.len() as u64
@@ -62,6 +63,7 @@ impl<N: Named> Ledger<N> {
             entries: Vec::with_capacity(alloc, room)?,
             next: start,
             kept: 0,
+            job: None,
             of: PhantomData,
         })
     }
@@ -74,6 +76,7 @@ impl<N: Named> Ledger<N> {
         ensures none { result ≡ false → self.new.entries.items ≡ self.old.entries.items }
         ensures capacity { vec_capacity self.old.entries ≤ vec_capacity self.new.entries }
         ensures kept { self.new.kept ≡ self.old.kept }
+        ensures job { self.new.job ≡ self.old.job }
     {
         if self.next == u64::MAX || self.entries.len() >= self.entries.capacity() {
             return false;
@@ -96,7 +99,16 @@ impl<N: Named> Ledger<N> {
     pub fn keep_all(&mut self)
         ensures kept { self.new.kept ≡ length self.new.entries.items }
         ensures same { self.new.entries ≡ self.old.entries }
+        ensures job { self.new.job ≡ self.old.job }
     {
         self.kept = self.entries.len() as u64;
+    }
+
+    /// A job runs from now on.
+    pub fn begin(&mut self, job: Command)
+        ensures job { self.new.job ≡ Some job }
+        ensures same { (self.new.entries ≡ self.old.entries) × (self.new.kept ≡ self.old.kept) }
+    {
+        self.job = Some(job);
     }
 }

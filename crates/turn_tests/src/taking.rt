@@ -2,9 +2,9 @@ ghost use Rattle.std.specs.Prelude.{◌≡◌};
 ghost use Rattle.turn_tests.specs.Working.{IsBack, IsReady};
 
 use crate::ledger::{Ledger, Named};
-use crate::working::{add_some, begin, wait_until};
+use crate::working::{add_one, add_some, begin, begin_all, begin_job, wait_until};
 use domain_turn::Pass;
-use fileset_model::{Actor, Entry, Reply};
+use fileset_model::{Actor, Command, Entry, Reply};
 use std::alloc::Global;
 use std::marker::Brand;
 use std::process::Abort;
@@ -94,9 +94,9 @@ fn watched<N: Named + Send + Sync, R: Threads + Wait + Abort + Sync>(
         ensures { IsBack shared.entry.now pass.exit.now }
     {
         if client == 0 {
-            add_some(rt, shared, pass, 0, 50);
-        } else {
             wait_until(rt, shared, pass, 50);
+        } else {
+            add_some(rt, shared, pass, client as u8, 50);
         }
     };
     thread::for_each_mut(rt, passes.as_mut_slice(), 2, &work);
@@ -108,4 +108,60 @@ fn watched<N: Named + Send + Sync, R: Threads + Wait + Abort + Sync>(
 #[test]
 fn a_client_sees_the_entries_of_another(rt: HostRuntime) -> Result<(), Fail> {
     watched::<Brand, _>(&rt, rt.alloc(), 0)
+}
+
+/// One entry is added by the first client, and the second, which never took the turn, is told of it.
+fn told_of_one<N: Named, R: Wait + Abort>(rt: &R, alloc: Global, start: u64) -> Result<(), Fail>
+    requires { start ≡ N.start }
+{
+    let Some((turn, mut passes)) = begin::<N>(alloc, start, 2, 1) else {
+        return Err(Fail::from("no memory"));
+    };
+    let before = turn.front(&mut passes[1]);
+    let added = add_one(rt, &turn, &mut passes[0], 0, 0);
+    let after = turn.front(&mut passes[1]);
+    let left = passes[0].left();
+    let ledger = turn.close(passes);
+    assert!(rt; added && left == 0 && ledger.entries.len() == 1);
+    assert!(rt; (before.committed, before.durable) == (0, 0));
+    assert!(rt; (after.committed, after.durable) == (1, 1));
+    Ok(())
+}
+
+#[test]
+fn an_entry_is_told_of(rt: HostRuntime) -> Result<(), Fail> {
+    told_of_one::<Brand, _>(&rt, rt.alloc(), 0)
+}
+
+/// Ten passes take the turn's look at once; the mover's begins a job, which the ledger keeps.
+fn ten_passes<N: Named + Send + Sync, R: Threads + Wait + Abort + Sync>(
+    rt: &R,
+    alloc: Global,
+    start: u64,
+) -> Result<(), Fail>
+    requires { start ≡ N.start }
+{
+    let Some((turn, mut passes)) = begin_all::<N>(alloc, start) else {
+        return Err(Fail::from("no memory"));
+    };
+    let shared = &turn;
+    let work = |number: usize, pass: &mut Pass<Ledger<N>>|
+        requires { IsBack shared.now pass.now }
+        ensures { IsBack shared.entry.now pass.exit.now }
+    {
+        if pass.number() == 8 {
+            begin_job(rt, shared, pass, Command::Cancel);
+        } else {
+            wait_until(rt, shared, pass, 0);
+        }
+    };
+    thread::for_each_mut(rt, passes.as_mut_slice(), 10, &work);
+    let ledger = turn.close(passes);
+    assert!(rt; matches!(ledger.job, Some(Command::Cancel)) && ledger.entries.is_empty());
+    Ok(())
+}
+
+#[test]
+fn the_mover_begins_a_job(rt: HostRuntime) -> Result<(), Fail> {
+    ten_passes::<Brand, _>(&rt, rt.alloc(), 0)
 }

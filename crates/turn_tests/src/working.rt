@@ -1,11 +1,13 @@
 //! Threads that add entries, each by taking the turn.
-ghost use Rattle.std.specs.Prelude.{◌≡◌, ◌+◌, ◌≤◌, IfSome, length};
+ghost use Rattle.std.specs.Prelude.{◌≡◌, ◌+◌, ◌≤◌, IfSome, None, Some, length};
 ghost use Rattle.domain_turn.specs.Passes.{in_hand, known};
-ghost use Rattle.turn_tests.specs.Working.{AreReady, IsBack, IsReady};
+ghost use Rattle.domain_turn.specs.Turns.{IsPassOf};
+ghost use Rattle.domain_turn.specs.Views.{one_if};
+ghost use Rattle.turn_tests.specs.Working.{AreBack, AreReady, IsBack, IsReady};
 
 use crate::ledger::{Ledger, Named};
 use domain_turn::{Pass, Turn};
-use fileset_model::{Actor, Told};
+use fileset_model::{Actor, Command, Told};
 use std::alloc::Global;
 use std::sync::Wait;
 use std::thread;
@@ -36,24 +38,45 @@ pub fn begin<N: Named>(
     }
 }
 
+/// A turn of a ledger that begins with this number, and the passes of all clients, of the mover and
+/// of the flusher. None where memory runs out.
+pub fn begin_all<N: Named>(
+    alloc: Global,
+    start: u64,
+) -> Option<(Turn<Ledger<N>>, Vec<Pass<Ledger<N>>>)>
+    requires start { start ≡ N.start }
+    ensures back { IfSome result (λ made. AreBack made.0 made.1.items) }
+{
+    let Ok(ledger) = Ledger::<N>::new(alloc, start, 10) else {
+        return None;
+    };
+    match Turn::new(alloc, ledger, &[1; 10]) {
+        Ok(made) => Some(made),
+        Err(_) => None,
+    }
+}
+
 /// Takes the turn once, adds an entry of a client, whose reply counts what is left to add, puts the
-/// turn back, and tells all how many entries last.
+/// turn back, and tells all how many entries last. Answers whether the entry was added.
 pub fn add_one<N: Named, R: Wait>(
     rt: &R,
     turn: &Turn<Ledger<N>>,
     pass: &mut Pass<Ledger<N>>,
     client: u8,
     left: u32,
-)
+) -> bool
     requires { IsReady turn.now client (left + 1) pass.old }
-    ensures { IsReady turn.now client left pass.new }
+    ensures ready { IsReady turn.now client left pass.new }
+    ensures grown { length (known pass.new).mine
+        ≡ length (known pass.old).mine + one_if result }
 {
     let mut ledger = turn.take(rt, pass);
-    ledger.add(Actor::Client(client + 1), u64::from(left));
+    let added = ledger.add(Actor::Client(client + 1), u64::from(left));
     ledger.keep_all();
     let (committed, durable) = (ledger.committed(), ledger.durable());
     turn.put_back(pass, ledger, committed);
     turn.note_durable(pass, durable);
+    added
 }
 
 /// Takes the turn so many times, adds an entry of a client each time, and ends.
@@ -94,4 +117,23 @@ pub fn wait_until<N: Named, R: Wait>(
         thread::yield_now();
     }
     unreachable!()
+}
+
+/// Takes the turn once as the mover, and begins a job.
+pub fn begin_job<N: Named, R: Wait>(
+    rt: &R,
+    turn: &Turn<Ledger<N>>,
+    pass: &mut Pass<Ledger<N>>,
+    job: Command,
+)
+    requires here { IsPassOf turn.now pass.old }
+    requires free { in_hand pass.old ≡ None }
+    requires mover { (known pass.old).number ≡ 8 }
+    ensures back { IsBack turn.now pass.new }
+    ensures begun { (known pass.new).begun ≡ Some job }
+{
+    let mut ledger = turn.take(rt, pass);
+    ledger.begin(job);
+    let committed = ledger.committed();
+    turn.put_back(pass, ledger, committed);
 }

@@ -15,12 +15,12 @@ put_back-requires-clause-put g c =
       lasting = λ ledger. ledger.kept;
       rests = λ ledger. Unit {0};
       room = λ ledger. vec_capacity ledger.entries - length ledger.entries.items;
-      begun = λ ledger. None;
+      begun = λ ledger. ledger.job;
     } in
     let taken = c.take-ledger.result in
     let value = c.keep_all.new.self in
     let same = ap (λ v. v.items) c.keep_all.ensures.same in
-    let more = more_of c.args.client taken.entries.items c.add.new.self.entries.items c.add.result c.add.ensures.added c.add.ensures.none in
+    let more = more_of c.args.client taken.entries.items c.add-added.new.self.entries.items c.add-added.result c.add-added.ensures.added c.add-added.ensures.none in
     let is = same ∙ more.is in
     let added_is = ap (drop (length taken.entries.items)) is ∙ drop_front taken.entries.items more.more in
     let size = ap length added_is in
@@ -31,7 +31,7 @@ put_back-requires-clause-put g c =
     let number = ap (λ s. s.number) c.take-ledger.ensures.known ∙ c.requires.number in
     let lasts = taken.lasts in
     let kept = c.keep_all.ensures.kept in
-    let cap = c.add.ensures.capacity in
+    let cap = c.add-added.ensures.capacity in
     let cap_same = ap (λ v. v.cap) c.keep_all.ensures.same in
     subst (λ o. IsSomeAnd o (λ t. MayPut told (known c.take-ledger.new.pass) t value)) (sym c.take-ledger.ensures.taken) record {
       rests = tt;
@@ -43,39 +43,39 @@ put_back-requires-clause-put g c =
           ∙ is_client c.args.client c.requires.low;
       lasting = omega (arith, lasts, kept, long);
       room = omega (arith, long, size, cap, cap_same);
-      begun = λ other. refl;
+      begun = λ other. c.keep_all.ensures.job ∙ c.add-added.ensures.job;
     }
 
-pub returns : goal.returns
-returns g c =
+pub returns-clause-ready : goal.returns-clause-ready
+returns-clause-ready g c =
     let told : Telling (Ledger g.row.N.Denot g.N.Named) = record {
       history = λ ledger. ledger.entries.items;
       lasting = λ ledger. ledger.kept;
       rests = λ ledger. Unit {0};
       room = λ ledger. vec_capacity ledger.entries - length ledger.entries.items;
-      begun = λ ledger. None;
+      begun = λ ledger. ledger.job;
     } in
     let taken = c.take-ledger.result in
     let value = c.keep_all.new.self in
     let same = ap (λ v. v.items) c.keep_all.ensures.same in
-    let more = more_of c.args.client taken.entries.items c.add.new.self.entries.items c.add.result c.add.ensures.added c.add.ensures.none in
+    let more = more_of c.args.client taken.entries.items c.add-added.new.self.entries.items c.add-added.result c.add-added.ensures.added c.add-added.ensures.none in
     let is = same ∙ more.is in
     let added_is = ap (drop (length taken.entries.items)) is ∙ drop_front taken.entries.items more.more in
     let known_put : known c.put_back.new.pass ≡ with_put told (known c.take-ledger.new.pass) taken value
     = subst (λ o. IsSomeAnd o (λ t. known c.put_back.new.pass ≡ with_put told (known c.take-ledger.new.pass) t value)) c.take-ledger.ensures.taken c.put_back.ensures.known in
-    let last : known c.note_durable.new.pass ≡ with_put told (known c.take-ledger.new.pass) taken value = c.note_durable.ensures.same.0 ∙ known_put in
+    let noted = c.note_durable.ensures.known in
     let size = ap length added_is in
     let short = more.short in
     let ready = c.requires.left in
     let before = ap (λ s. s.left) c.take-ledger.ensures.known in
-    let after = ap (λ s. s.left) last in
+    let after = ap (λ s. s.left) noted ∙ ap (λ s. s.left) known_put in
     record {
       here = c.note_durable.ensures.here;
-      free = c.note_durable.ensures.same.1 ∙ c.put_back.ensures.free;
-      number = ap (λ s. s.number) last ∙ ap (λ s. s.number) c.take-ledger.ensures.known ∙ c.requires.number;
+      free = c.note_durable.ensures.same ∙ c.put_back.ensures.free;
+      number = ap (λ s. s.number) noted ∙ ap (λ s. s.number) known_put ∙ ap (λ s. s.number) c.take-ledger.ensures.known ∙ c.requires.number;
       low = c.requires.low;
       left = omega (arith, after, before, size, short, ready);
-      goes_on = ap (λ s. s.ended) last ∙ ap (λ s. s.ended) c.take-ledger.ensures.known ∙ c.requires.goes_on;
+      goes_on = ap (λ s. s.ended) noted ∙ ap (λ s. s.ended) known_put ∙ ap (λ s. s.ended) c.take-ledger.ensures.known ∙ c.requires.goes_on;
     }
 
 pub note_durable-requires-clause-lasting : goal.note_durable-requires-clause-lasting
@@ -85,10 +85,36 @@ note_durable-requires-clause-lasting g c =
       lasting = λ ledger. ledger.kept;
       rests = λ ledger. Unit {0};
       room = λ ledger. vec_capacity ledger.entries - length ledger.entries.items;
-      begun = λ ledger. None;
+      begun = λ ledger. ledger.job;
     } in
     let known_put : known c.put_back.new.pass ≡ with_put told (known c.take-ledger.new.pass) c.take-ledger.result c.keep_all.new.self
     = subst (λ o. IsSomeAnd o (λ t. known c.put_back.new.pass ≡ with_put told (known c.take-ledger.new.pass) t c.keep_all.new.self)) c.take-ledger.ensures.taken c.put_back.ensures.known in
     let lasting = ap (λ s. s.lasting) known_put in
     let is = c.durable-durable.ensures in
     omega (arith, lasting, is)
+
+pub returns-clause-grown : goal.returns-clause-grown
+returns-clause-grown g c =
+    let told : Telling (Ledger g.row.N.Denot g.N.Named) = record {
+      history = λ ledger. ledger.entries.items;
+      lasting = λ ledger. ledger.kept;
+      rests = λ ledger. Unit {0};
+      room = λ ledger. vec_capacity ledger.entries - length ledger.entries.items;
+      begun = λ ledger. ledger.job;
+    } in
+    let taken = c.take-ledger.result in
+    let value = c.keep_all.new.self in
+    let same = ap (λ v. v.items) c.keep_all.ensures.same in
+    let more = more_of c.args.client taken.entries.items c.add-added.new.self.entries.items c.add-added.result c.add-added.ensures.added c.add-added.ensures.none in
+    let is = same ∙ more.is in
+    let added_is = ap (drop (length taken.entries.items)) is ∙ drop_front taken.entries.items more.more in
+    let known_put : known c.put_back.new.pass ≡ with_put told (known c.take-ledger.new.pass) taken value
+    = subst (λ o. IsSomeAnd o (λ t. known c.put_back.new.pass ≡ with_put told (known c.take-ledger.new.pass) t value)) c.take-ledger.ensures.taken c.put_back.ensures.known in
+    let noted = c.note_durable.ensures.known in
+    let mine = ap (λ s. s.mine) noted ∙ ap (λ s. s.mine) known_put in
+    let before = ap (λ s. s.mine) c.take-ledger.ensures.known in
+    let long = ap length mine ∙ length-append (known c.take-ledger.new.pass).mine _ in
+    let same_long = ap length before in
+    let size = ap length added_is in
+    let count = more.count in
+    omega (arith, long, same_long, size, count)

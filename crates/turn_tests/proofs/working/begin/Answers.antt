@@ -23,7 +23,7 @@ returns-in-Ok-new-clause-ready g c =
       lasting = λ ledger. ledger.kept;
       rests = λ ledger. Unit {0};
       room = λ ledger. vec_capacity ledger.entries - length ledger.entries.items;
-      begun = λ ledger. None;
+      begun = λ ledger. ledger.job;
     } in
     let value = c.in-Ok.ledger in
     let lefts = c.as_slice.ensures.value ∙ c.in-Ok-from_elem.ensures.items_if_clones_equal (λ y is. is) in
@@ -46,7 +46,7 @@ returns-in-Ok-new-clause-all g c =
       lasting = λ ledger. ledger.kept;
       rests = λ ledger. Unit {0};
       room = λ ledger. vec_capacity ledger.entries - length ledger.entries.items;
-      begun = λ ledger. None;
+      begun = λ ledger. ledger.job;
     } in
     let value = c.in-Ok.ledger in
     let lefts = c.as_slice.ensures.value ∙ c.in-Ok-from_elem.ensures.items_if_clones_equal (λ y is. is) in

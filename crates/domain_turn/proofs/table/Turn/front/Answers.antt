@@ -10,5 +10,5 @@ pub load-committed-requires : goal.load-committed-requires
 load-committed-requires g c = (
   c.load-durable.ensures.0 ∙ c.requires.here,
   (let five = c.args.self.now.sized.0 in omega (arith, five)),
-  seeing_committed _ _ _ _ _ (subst (λ m. m.0.shares ≡ share_in m.0 ∷ []) (sym c.load-durable.ensures.2.1) refl),
+  seeing_committed _ _ _ _ _ g.met.T.Told.bounded (subst (λ m. m.0.shares ≡ share_in m.0 ∷ []) (sym c.load-durable.ensures.2.1) refl),
 )
