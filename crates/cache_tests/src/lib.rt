@@ -1,6 +1,7 @@
 //! Tests of pages that are kept in memory, by hand and beside a plain list.
 #![tactic(auto)]
 
+pub mod callers;
 #[cfg(test)]
 mod calls;
 #[cfg(test)]
