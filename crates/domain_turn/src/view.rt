@@ -18,9 +18,9 @@ pub struct Share {
     pub begun: Option<Command>,
     /// How much lasted of the value when it was in hand last.
     pub lasting: u64,
-    /// The greatest length that a front told.
+    /// The length at the start, or the greatest that a front told.
     pub committed: u64,
-    /// The greatest lasting length that a front told.
+    /// How much lasted at the start, or the greatest that a front told or that it noted.
     pub durable: u64,
     /// The greatest number of ended passes that was told.
     pub ends: u64,

@@ -133,7 +133,8 @@ fn an_entry_is_told_of(rt: HostRuntime) -> Result<(), Fail> {
     told_of_one::<Brand, _>(&rt, rt.alloc(), 0)
 }
 
-/// Ten passes take the turn's look at once; the mover's begins a job, which the ledger keeps.
+/// Ten passes at once: nine look without taking the turn, and the mover's begins a job, which the
+/// ledger keeps.
 fn ten_passes<N: Named + Send + Sync, R: Threads + Wait + Abort + Sync>(
     rt: &R,
     alloc: Global,

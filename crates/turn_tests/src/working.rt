@@ -119,7 +119,19 @@ pub fn wait_until<N: Named, R: Wait>(
     unreachable!()
 }
 
-/// Takes the turn once as the mover, and begins a job.
+/// A job runs from now on where the pass of this number may begin one: the mover's alone may.
+fn set_job<N: Named>(ledger: &mut Ledger<N>, number: u8, job: Command)
+    ensures mover { number ≡ 8 → ledger.new.job ≡ Some job }
+    ensures other { ¬ number ≡ 8 → ledger.new.job ≡ ledger.old.job }
+    ensures same { (ledger.new.entries ≡ ledger.old.entries)
+        × (ledger.new.kept ≡ ledger.old.kept) }
+{
+    if number == 8 {
+        ledger.begin(job);
+    }
+}
+
+/// Takes the turn once, and begins a job where the pass is the mover's.
 pub fn begin_job<N: Named, R: Wait>(
     rt: &R,
     turn: &Turn<Ledger<N>>,
@@ -128,12 +140,12 @@ pub fn begin_job<N: Named, R: Wait>(
 )
     requires here { IsPassOf turn.now pass.old }
     requires free { in_hand pass.old ≡ None }
-    requires mover { (known pass.old).number ≡ 8 }
     ensures back { IsBack turn.now pass.new }
-    ensures begun { (known pass.new).begun ≡ Some job }
+    ensures begun { (known pass.old).number ≡ 8 → (known pass.new).begun ≡ Some job }
 {
+    let number = pass.number();
     let mut ledger = turn.take(rt, pass);
-    ledger.begin(job);
+    set_job(&mut ledger, number, job);
     let committed = ledger.committed();
     turn.put_back(pass, ledger, committed);
 }
