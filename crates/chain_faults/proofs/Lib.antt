@@ -1,4 +1,5 @@
 pub mod Each
+pub mod HolesFound
 pub mod Items
 pub mod OnPages
 pub mod Walks

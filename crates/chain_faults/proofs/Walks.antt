@@ -18,11 +18,11 @@ use Rattle.cell_links.proofs.Whole.{has_link, one_link}
 use Rattle.bmt_mcells.specs.CellPage.{home_of}
 use Rattle.domain_base.specs.declared.place.Home.{Home}
 
-abbrev link_of : Link → CellLink
+abbrev pub link_of : Link → CellLink
 link_of link = record { kind = link.kind; next = link.next }
 
 module _ (pages : Pages) (frame : Frame) (links : CellLinks) (are : AreLinks pages frame links) where
-  is_link : (at : CellAt) (link : CellLink) → HasLink links at link → IsLink pages frame at (link_in link)
+  pub is_link : (at : CellAt) (link : CellLink) → HasLink links at link → IsLink pages frame at (link_in link)
   is_link at link has = (are at link).0 has
 
   in_use : (at : CellAt) (link : Link) → IsLink pages frame at link → HasLink links at (link_of link)

@@ -1,3 +1,4 @@
 pub mod Heads
+pub mod Holes
 pub mod Links
 pub mod Pages
