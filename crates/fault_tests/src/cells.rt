@@ -61,7 +61,7 @@ fn push_record(alloc: Global, name: &str, bytes: &mut Vec<u8>) -> Result<(), Fai
 }
 
 /// Puts a cell on a page as a row tells it.
-fn put_cell(alloc: Global, page: &mut Page, cell: u8, row: &str) -> Result<(), Fail> {
+pub fn put_cell(alloc: Global, page: &mut Page, cell: u8, row: &str) -> Result<(), Fail> {
     let mut words = row.split(' ');
     let kind: u8 = words.next().ok_or("a kind")?.parse()?;
     let fileset: u8 = words.next().ok_or("a fileset")?.parse()?;
@@ -112,7 +112,7 @@ fn set_slot(table: &mut FilesetTable, number: u32, item: SlotItem) -> Result<(),
 }
 
 /// A table with an original in slot 0 and its clone in slot 1.
-fn table(alloc: Global) -> Result<FilesetTable, Fail> {
+pub fn table(alloc: Global) -> Result<FilesetTable, Fail> {
     let mut table = FilesetTable::new(alloc)?;
     let original = entry(alloc, b'a')?;
     set_slot(&mut table, 0, SlotItem::Original { entry: original })?;

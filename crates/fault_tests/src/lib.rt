@@ -9,6 +9,8 @@ mod chains;
 #[cfg(test)]
 mod fixture;
 #[cfg(test)]
+mod holes;
+#[cfg(test)]
 mod tables;
 #[cfg(test)]
 mod ways;
