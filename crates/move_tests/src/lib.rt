@@ -1,7 +1,6 @@
 //! Tests of the moves of pages that are in flight.
 #![tactic(auto)]
 
-#[cfg(test)]
-mod calls;
+pub mod calls;
 #[cfg(test)]
 mod moves;
