@@ -8,17 +8,9 @@ use Rattle.page_store.specs.Pages.{Pages, same_home, with_page}
 use Rattle.page_migrate.specs.declared.page_move.Move.{Move}
 use Rattle.page_migrate.specs.declared.page_move.Phase.{Phase}
 use Rattle.page_migrate.specs.declared.page_move.Phase.TheVariants.{Copied, Reserved, Switched}
-use Rattle.page_migrate.specs.Copies.{with_copy, written}
+use Rattle.page_migrate.specs.Copies.{AreAlike, IsAlike, with_copy, written}
 use Rattle.page_migrate.specs.Moves.{AreApart, IsInNone, has_home, is_from, move_of, other_home, phase_of, started, with_phase, without, writes_of}
 use Rattle.page_migrate.proofs.HomeTests.{beside, has_from, has_to, homes_same, not_the_home, other_swapped, same_itself}
-
--- a page that was copied stands at both homes
-abbrev pub IsAlike : Pages → Move → Type 0
-IsAlike pages move = ¬ move.phase ≡ Reserved → pages move.to ≡ pages move.from
-
-abbrev pub AreAlike : Pages → List Move → Type 0
-AreAlike pages [] = Unit {0}
-AreAlike pages (move ∷ moves) = IsAlike pages move × AreAlike pages moves
 
 pub alike_found : (pages : Pages) (moves : List Move) (from : Home) (move : Move) → AreAlike pages moves → move_of moves from ≡ Some move → IsAlike pages move
 alike_found pages [] from move alike found = absurd (cc)

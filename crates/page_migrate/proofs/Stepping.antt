@@ -3,18 +3,13 @@ use Rattle.std.proofs.Common.{◌≡◌, [], sym, subst, Some}
 use Rattle.domain_base.specs.declared.place.Home.{Home}
 use Rattle.page_migrate.specs.declared.page_move.Move.{Move}
 use Rattle.page_migrate.specs.declared.page_move.Phase.TheVariants.{Copied, Reserved, Switched}
-use Rattle.page_migrate.specs.Copies.{Now, Step, Steps, abandon, copy, finish, none, one_more, start, switch, write}
+use Rattle.page_migrate.specs.Copies.{AreAlike, Holds, Now, Step, Steps, abandon, copy, finish, none, one_more, start, switch, write}
 use Rattle.page_migrate.specs.Moves.{AreApart, move_of}
-use Rattle.page_migrate.proofs.Alike.{AreAlike, alike_copied, alike_found, alike_started, alike_switched, alike_without, alike_written}
+use Rattle.page_migrate.proofs.Alike.{alike_copied, alike_found, alike_started, alike_switched, alike_without, alike_written}
 use Rattle.page_migrate.proofs.StayApart.{apart_rephased, apart_started, apart_without}
 
--- no home is in two moves, and copies stand at both homes
-pub record Holds (now : Now) : Type 0 where
-  pub apart : AreApart now.moves
-  pub alike : AreAlike now.pages now.moves
-
-holds_on : (old new : Now) → Step old new → Holds old → Holds new
-holds_on old new step was =
+pub holds_on : (old new : Now) → Holds old → Step old new → Holds new
+holds_on old new was step =
     elim step as (λ new step. Holds new) [
       | start from to free_from free_to ↦ record {
         apart = apart_started old.moves from to was.apart free_from free_to;
@@ -42,7 +37,7 @@ holds_on old new step was =
       }
     ]
 
-nothing_moves : (first : Now) → first.moves ≡ [] → Holds first
+pub nothing_moves : (first : Now) → first.moves ≡ [] → Holds first
 nothing_moves first empty = record {
   apart = subst AreApart (sym empty) tt;
   alike = subst (AreAlike first.pages) (sym empty) tt;
@@ -52,12 +47,15 @@ pub holds_always : (first last : Now) → first.moves ≡ [] → Steps first las
 holds_always first last empty steps =
     elim steps as (λ last steps. Holds last) [
       | none ↦ nothing_moves first empty
-      | one_more between last (steps → held) step ↦ holds_on between last step held
+      | one_more between last (steps → held) step ↦ holds_on between last held step
     ]
 
 pub apart_always : (first last : Now) → first.moves ≡ [] → Steps first last → AreApart last.moves
 apart_always first last empty steps = (holds_always first last empty steps).apart
 
+pub alike_now : (now : Now) → Holds now → (from : Home) (move : Move) → move_of now.moves from ≡ Some move → ¬ move.phase ≡ Reserved → now.pages move.to ≡ now.pages move.from
+alike_now now held from move found = alike_found now.pages now.moves from move held.alike found
+
 pub alike_always : (first last : Now) → first.moves ≡ [] → Steps first last → (from : Home) (move : Move) → move_of last.moves from ≡ Some move
     → ¬ move.phase ≡ Reserved → last.pages move.to ≡ last.pages move.from
-alike_always first last empty steps from move found = alike_found last.pages last.moves from move (holds_always first last empty steps).alike found
+alike_always first last empty steps = alike_now last (holds_always first last empty steps)

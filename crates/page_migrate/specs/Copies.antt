@@ -1,11 +1,11 @@
 -- What stands at homes while pages move: each write of a page goes to all its homes.
-use Rattle.std.specs.Prelude.{◌≡◌, List, Option, Some, if◌then◌else◌, ℕ}
+use Rattle.std.specs.Prelude.{◌≡◌, ◌∷◌, [], List, Option, Some, if◌then◌else◌, ℕ}
 use Rattle.std.specs.Option.{option_map_or}
 use Rattle.domain_base.specs.declared.place.Home.{Home}
 use Rattle.page_store.specs.Pages.{Pages, same_home, with_page}
 use Rattle.page_migrate.specs.declared.page_move.Move.{Move}
-use Rattle.page_migrate.specs.declared.page_move.Phase.TheVariants.{Copied, Switched}
-use Rattle.page_migrate.specs.Moves.{IsInNone, IsNotSwitched, move_of, phase_of, started, with_phase, without, writes_of}
+use Rattle.page_migrate.specs.declared.page_move.Phase.TheVariants.{Copied, Reserved, Switched}
+use Rattle.page_migrate.specs.Moves.{AreApart, IsInNone, IsNotSwitched, move_of, phase_of, started, with_phase, without, writes_of}
 
 -- the pages on the volumes, and the moves in flight
 pub record Now : Type 0 where
@@ -44,3 +44,16 @@ pub data Step (old : Now) : Now → Type 0 where
 pub data Steps (first : Now) : Now → Type 0 where
   none : Steps first first
   one_more : (between last : Now) → Steps first between → Step between last → Steps first last
+
+-- a page that was copied stands at both homes of its move
+abbrev pub IsAlike : Pages → Move → Type 0
+IsAlike pages move = ¬ move.phase ≡ Reserved → pages move.to ≡ pages move.from
+
+abbrev pub AreAlike : Pages → List Move → Type 0
+AreAlike pages [] = Unit {0}
+AreAlike pages (move ∷ moves) = IsAlike pages move × AreAlike pages moves
+
+-- what each step keeps: no home is in two moves, and pages that were copied stand at both homes
+pub record Holds (now : Now) : Type 0 where
+  pub apart : AreApart now.moves
+  pub alike : AreAlike now.pages now.moves

@@ -7,7 +7,7 @@ ghost use Rattle.page_store.specs.Pages.{same_home};
 ghost use Rattle.page_migrate.specs.declared.page_move.Move.{Move};
 ghost use Rattle.page_migrate.specs.declared.page_move.Phase.{Phase};
 ghost use Rattle.page_migrate.specs.declared.page_move.Phase.TheVariants.{Reserved};
-ghost use Rattle.page_migrate.specs.Copies.{Now, Steps};
+ghost use Rattle.page_migrate.specs.Copies.{Holds, Now, Step, Steps};
 ghost use Rattle.page_migrate.specs.Moves.{AreApart, IsInNone, move_of, rephased, reserved, started, with_phase, without, writes_of};
 
 /// Each change of the moves is of the one from that home, and leaves the moves from all others.
@@ -46,4 +46,14 @@ pub fn copies_stay_alike()
     ensures { (first last : Now) → first.moves ≡ [] → Steps first last
         → (from : Home) (page_move : Move) → move_of last.moves from ≡ Some page_move
         → ¬ page_move.phase ≡ Reserved → last.pages page_move.to ≡ last.pages page_move.from }
+{}
+
+/// `Holds` is a fact for callers' invariants: it is so where no move is in flight, each step keeps
+/// it, and where it is so, a page that was copied stands at the new home as at the old one.
+pub fn steps_keep_copies()
+    ensures first { (now : Now) → now.moves ≡ [] → Holds now }
+    ensures step { (old new : Now) → Holds old → Step old new → Holds new }
+    ensures alike { (now : Now) → Holds now → (from : Home) (page_move : Move)
+        → move_of now.moves from ≡ Some page_move → ¬ page_move.phase ≡ Reserved
+        → now.pages page_move.to ≡ now.pages page_move.from }
 {}
