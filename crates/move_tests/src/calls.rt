@@ -1,4 +1,5 @@
-//! Calls that may come where they may not: then they do nothing, and say so.
+//! The calls, each behind its condition: where that does not hold, nothing is done, and the answer
+//! says so.
 ghost use Rattle.std.specs.Prelude.{◌≡◌, ◌≤◌};
 
 use domain_base::{Home, VolIx};
@@ -15,6 +16,7 @@ pub fn home(vol: u32, page: u32) -> Home
     Home { vol, page }
 }
 
+/// The volume's number and the page's of a home.
 pub fn place(home: &Home) -> Place {
     (home.vol.number(), home.page)
 }
@@ -28,6 +30,7 @@ pub fn start(moves: &mut Moves, from: &Home, to: &Home) -> bool {
     true
 }
 
+/// Notes that the page was copied, unless its place was changed or it is not moving.
 pub fn copy(moves: &mut Moves, from: &Home) -> bool {
     match moves.phase_of(*from) {
         Some(Phase::Reserved) | Some(Phase::Copied) => {
@@ -38,6 +41,7 @@ pub fn copy(moves: &mut Moves, from: &Home) -> bool {
     }
 }
 
+/// Notes that the page's place was changed, if it was copied and the place was not changed yet.
 pub fn switch(moves: &mut Moves, from: &Home) -> bool {
     if !moves.may_switch(*from) {
         return false;
@@ -46,6 +50,7 @@ pub fn switch(moves: &mut Moves, from: &Home) -> bool {
     true
 }
 
+/// Ends a move, if the page's place was changed.
 pub fn finish(moves: &mut Moves, from: &Home) -> bool {
     match moves.phase_of(*from) {
         Some(Phase::Switched) => {
@@ -56,7 +61,8 @@ pub fn finish(moves: &mut Moves, from: &Home) -> bool {
     }
 }
 
-/// The place that was reserved.
+/// Ends a move of a page whose place was not changed, and gives the place that was reserved; None
+/// where there is none.
 pub fn abandon(moves: &mut Moves, from: &Home) -> Option<Place> {
     match moves.phase_of(*from) {
         Some(Phase::Reserved) | Some(Phase::Copied) => {
