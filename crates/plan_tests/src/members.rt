@@ -44,7 +44,7 @@ fn joined(table: &VolumeTable, vol: VolIx, pages: u32) -> Option<Anchor> {
 
 /// The anchor by which a member has this state, if it may have it.
 fn in_state(table: &VolumeTable, vol: VolIx, state: u32) -> Option<Anchor> {
-    if !is_member(table.anchor_now(), vol) || state > 2 || table.has_log(vol) {
+    if !is_member(table.anchor_now(), vol) || state > 2 || (state == 0 && table.has_log(vol)) {
         return None;
     }
     Some(table.with_state(vol, state))
@@ -101,6 +101,7 @@ fn a_member_is_opened_closed_and_taken_off(rt: HostRuntime) -> Result<(), Fail> 
         in_state(&table, two, 1),
         in_state(&table, two, 0),
         in_state(&table, one, 0),
+        in_state(&table, one, 2),
     ];
     let opened = with_members(
         Member {
@@ -116,7 +117,23 @@ fn a_member_is_opened_closed_and_taken_off(rt: HostRuntime) -> Result<(), Fail> 
         },
         NONE,
     );
-    assert_eq!(rt; seen, [Some(opened), Some(off), None]);
+    let closed = Anchor {
+        members: [
+            Member {
+                pages: 512,
+                state: 2,
+            },
+            SECOND,
+            NONE,
+            NONE,
+            NONE,
+            NONE,
+            NONE,
+            NONE,
+        ],
+        ..anchor()
+    };
+    assert_eq!(rt; seen, [Some(opened), Some(off), None, Some(closed)]);
     Ok(())
 }
 
@@ -148,6 +165,7 @@ fn log_and_table_go_to_a_member(rt: HostRuntime) -> Result<(), Fail> {
 fn the_anchor_that_was_written_is_the_one_now(rt: HostRuntime) -> Result<(), Fail> {
     let mut table = VolumeTable::new(&anchor());
     let before = *table.anchor_now();
+    let one = VolIx::new(1).ok_or("a volume")?;
     let three = VolIx::new(3).ok_or("a volume")?;
     let next = joined(&table, three, 64).ok_or("a member")?;
     let written = Anchor {
@@ -156,10 +174,10 @@ fn the_anchor_that_was_written_is_the_one_now(rt: HostRuntime) -> Result<(), Fai
         ..next
     };
     table.written(&written);
-    let has_log = table.has_log(three);
+    let has_log = (table.has_log(one), table.has_log(three));
     assert_eq!(rt;
         (before, *table.anchor_now(), has_log),
-        (anchor(), written, false)
+        (anchor(), written, (true, false))
     );
     Ok(())
 }
