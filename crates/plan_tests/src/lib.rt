@@ -3,6 +3,7 @@
 
 #[cfg(test)]
 mod balances;
+pub mod changes;
 #[cfg(test)]
 mod homes;
 #[cfg(test)]

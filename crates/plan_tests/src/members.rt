@@ -1,5 +1,6 @@
 //! The anchors by which members change.
 
+use crate::changes::in_state;
 use disk_label::{Anchor, Member};
 use domain_base::{Home, VolIx};
 use log_ring::is_member;
@@ -40,14 +41,6 @@ fn joined(table: &VolumeTable, vol: VolIx, pages: u32) -> Option<Anchor> {
         return None;
     }
     Some(table.with_member(vol, pages))
-}
-
-/// The anchor by which a member has this state, if it may have it.
-fn in_state(table: &VolumeTable, vol: VolIx, state: u32) -> Option<Anchor> {
-    if !is_member(table.anchor_now(), vol) || state > 2 || (state == 0 && table.has_log(vol)) {
-        return None;
-    }
-    Some(table.with_state(vol, state))
 }
 
 /// The anchor by which the log begins on a member.
