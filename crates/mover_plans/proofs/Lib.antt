@@ -3,5 +3,6 @@ pub mod Exists
 pub mod Falls
 pub mod Found
 pub mod Moved
+pub mod Nearer
 pub mod Shares
 pub mod Spread

@@ -48,7 +48,8 @@ IsAtEnd Emptiest counts c = IsEmptiest counts c
 abbrev pub NoneIsOpen : List VolCount → Type 0
 NoneIsOpen counts = (c : VolCount) → ¬ IsOpenOf counts c
 
--- no move of one page from the first to the second brings their used shares nearer
+-- no move of one page from the first, which is no emptier, to the second brings their used shares
+-- nearer: the law `nearer` tells it by how far apart they are before and after
 abbrev pub IsLevel : VolCount → VolCount → Type 0
 IsLevel f e = 2 * (f.used * e.pages - e.used * f.pages) ≤ e.pages + f.pages
 

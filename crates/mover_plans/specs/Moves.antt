@@ -30,3 +30,7 @@ HaveOpenPages counts least = (c : VolCount) → IsOpenOf counts c → least ≤ 
 -- the used share of the first volume is above that of the second by one over this number at most
 abbrev pub ExceedsByOneOver : ℕ → VolCount → VolCount → Type 0
 ExceedsByOneOver least a b = least * (a.used * b.pages - b.used * a.pages) ≤ a.pages * b.pages
+
+-- how far apart two used shares are, in units of one over the product of the pages
+abbrev pub gap : VolCount → VolCount → ℕ
+gap a b = (a.used * b.pages - b.used * a.pages) + (b.used * a.pages - a.used * b.pages)

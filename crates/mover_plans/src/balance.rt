@@ -24,8 +24,8 @@ pub(crate) enum End {
 /// The volume from which a page is to be moved and the one to which: the open volumes with the
 /// greatest and the least used share, where more than one has it the one with the lowest number.
 /// None exactly where no volume is open, or where no move of one page from the first to the second
-/// brings their shares nearer. The volumes are to be distinct, each with a page and with no more
-/// used pages than pages.
+/// brings their shares nearer (`IsLevel`; the law `nearer` says that it means this). The volumes are
+/// to be distinct, each with a page and with no more used pages than pages.
 pub fn uneven(counts: &[VolCount]) -> Option<(VolIx, VolIx)>
     requires { AreCounts counts.now }
     ensures uneven { IfSome result (λ pair. IsUneven counts.now pair.0 pair.1) }

@@ -1,8 +1,9 @@
 //! What follows from the contracts of this crate, for those who call it.
-ghost use Rattle.std.specs.Prelude.{◌≡◌, ◌+◌, ◌-◌, ◌*◌, ◌<◌, ◌≤◌, ℕ, List};
+ghost use Rattle.std.specs.Prelude.{◌≡◌, ◌↔◌, ◌+◌, ◌-◌, ◌*◌, ◌<◌, ◌≤◌, ℕ, List};
 ghost use Rattle.mover_plans.specs.Balance.{
   AreCounts,
   AreEven,
+  HasShareUpTo,
   IsEmptiest,
   IsFullest,
   IsLevel,
@@ -13,6 +14,7 @@ ghost use Rattle.mover_plans.specs.Moves.{
   ExceedsByOneOver,
   HaveOpenPages,
   counts_after,
+  gap,
   pages_product,
   unevenness,
 };
@@ -22,6 +24,9 @@ ghost use Rattle.mover_plans.specs.declared.counts.VolCount.{VolCount};
 /// which no more pages are used than there are (`counts`), and makes the volumes less uneven by a
 /// measure that is a number of the same unit before and after (`falls`, `unit`): so a balance that
 /// nothing disturbs ends.
+///
+/// Two volumes are level exactly where their used shares are no further apart than they would be
+/// after a move of one page from the fuller to the emptier (`nearer`).
 ///
 /// Where the fullest and the emptiest open volume are level, the used shares of any two open
 /// volumes differ by at most half the sum of one over the pages of the one and one over those of the
@@ -35,6 +40,8 @@ pub fn balance_laws()
     ensures falls { (counts : List VolCount) (full empty : ℕ) → AreCounts counts
         → IsUneven counts full empty
         → unevenness (counts_after full empty counts) < unevenness counts }
+    ensures nearer { (f e : VolCount) → HasShareUpTo e f → (IsLevel f e
+        ↔ (gap f e ≤ gap (record f { used = f.used - 1 }) (record e { used = e.used + 1 }))) }
     ensures spread { (counts : List VolCount) (f e a b : VolCount) → IsFullest counts f
         → IsEmptiest counts e → IsLevel f e → IsOpenOf counts a → IsOpenOf counts b
         → 2 * f.pages * e.pages * (a.used * b.pages - b.used * a.pages)

@@ -1,5 +1,6 @@
 use Rattle.mover_plans.proofs.Falls.{unevenness_falls}
 use Rattle.mover_plans.proofs.Moved.{counts_moved, product_after}
+use Rattle.mover_plans.proofs.Nearer.{level_nearer}
 use Rattle.mover_plans.proofs.Spread.{even_spread, open_spread}
 use Rattle.mover_plans.proofs.laws.balance_laws.Goals as goal
 
@@ -11,6 +12,9 @@ returns-clause-unit c counts full empty = product_after full empty counts
 
 pub returns-clause-falls : goal.returns-clause-falls
 returns-clause-falls c = unevenness_falls
+
+pub returns-clause-nearer : goal.returns-clause-nearer
+returns-clause-nearer c = level_nearer
 
 pub returns-clause-spread : goal.returns-clause-spread
 returns-clause-spread c = open_spread
