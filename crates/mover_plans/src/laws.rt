@@ -29,9 +29,9 @@ ghost use Rattle.mover_plans.specs.declared.counts.VolCount.{VolCount};
 /// after a move of one page from the fuller to the emptier (`nearer`).
 ///
 /// Where the fullest and the emptiest open volume are level, the used shares of any two open
-/// volumes differ by at most half the sum of one over the pages of the one and one over those of the
-/// other (`spread`). So on even volumes they differ by at most one page of the smallest open volume
-/// (`even`).
+/// volumes differ by at most half the sum of one over the fullest's pages and one over the
+/// emptiest's (`spread`). So on even volumes they differ by at most one page of the smallest open
+/// volume (`even`).
 pub fn balance_laws()
     ensures counts { (counts : List VolCount) (full empty : ℕ) → AreCounts counts
         → IsUneven counts full empty → AreCounts (counts_after full empty counts) }
