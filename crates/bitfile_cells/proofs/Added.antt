@@ -1,6 +1,7 @@
 -- A file with a cell more, right behind its first one.
-use Rattle.std.proofs.Common.{◌≡◌, ◌∙◌, ℕ, zero, suc, ◌-◌, ◌≤◌, ◌||◌, not, Bool, true, false, cond, nat_eq, nat_lt, List, [], ◌∷◌, ◌++◌, map, length, Some, IsSome, IsSomeAnd, Contains, refl, sym, ap, subst, arith, ⊎_elim}
-use Rattle.std.proofs.lemmas.Bool.{and_parts, cases_Bool, eq-eqb}
+use Rattle.std.proofs.Common.{◌≡◌, ◌∙◌, ◌⊎◌, ◌&&◌, ℕ, zero, suc, ◌-◌, ◌<◌, ◌≤◌, ◌||◌, not, Bool, true, false, cond, nat_eq, nat_lt, List, [], ◌∷◌, ◌++◌, map, length, Some, IsSome, IsSomeAnd, Contains, refl, sym, ap, subst, arith, ⊎_elim, inl, inr, true≢false}
+use Rattle.std.proofs.lemmas.Bool.{and_from, and_parts, cases_Bool, eq-eqb, lt-ltb, or_parts}
+use Rattle.std.proofs.lemmas.List.Elements.{Contains-push_cases}
 use Rattle.std.specs.List.{AllByRecursion}
 use Rattle.domain_base.specs.Page.{zero_bytes}
 use Rattle.domain_base.specs.declared.place.CellAt.{CellAt}
@@ -28,15 +29,15 @@ use Rattle.extent_records.specs.Rows.{AreOneMap, runs_of}
 use Rattle.extent_records.specs.Chains.{ChangesChain}
 use Rattle.extent_records.specs.Writing.{IsMapRecord, chain_kind, places_in}
 use Rattle.extent_records.proofs.ChainLemmas.{one_page_follows}
-use Rattle.free_cells.specs.Cells.{Cells, is_free, is_closed, is_on, table_of}
+use Rattle.free_cells.specs.Cells.{Cells, is_closed, is_free, is_on, table_of, with_page_last}
 use Rattle.free_cells.specs.Belong.{last_home}
 use Rattle.free_space.specs.Spaces.{Spaces}
 use Rattle.bitfile_cells.specs.Allocated.{AreAllocated, Takes}
 use Rattle.bitfile_cells.specs.FileChanges.{AreOnTables, LeavesOtherCells, map_kinds, other_records}
-use Rattle.bitfile_cells.specs.MapChanges.{ChangesOnTables, Joins, LeavesOffTables}
+use Rattle.bitfile_cells.specs.MapChanges.{ChangesOnTables, IsHandedOut, Joins, LeavesOffTables}
 use Rattle.bitfile_cells.specs.Files.{HasMap, IsFile, map_records, places_of}
 use Rattle.bitfile_cells.proofs.Allocated.{not_in_table, there_is}
-use Rattle.bitfile_cells.proofs.ChainChanges.{at_apart, in_first, in_later, inside_places, one_front}
+use Rattle.bitfile_cells.proofs.ChainChanges.{at_apart, at_same, in_first, in_later, inside_places, one_front}
 use Rattle.bitfile_cells.proofs.Chosen.{all_at}
 use Rattle.bitfile_cells.proofs.Gathers.{one_map_file}
 use Rattle.bitfile_cells.proofs.MapRecords.{one_map_back, one_map_record, rows_true, runs_by_map, value_has_rows}
@@ -121,6 +122,44 @@ module _ (prefer : ℕ) (at : CellAt) (space space_now : Spaces) (cells cells_no
       last : (xs : List ℕ) (p : ℕ) → p ≡ at.page → Contains (xs ++ p ∷ []) at.page
       last [] p is = (0, omega arith, is)
       last (x ∷ xs) p is = let later = last xs p is in (suc later.0, omega (arith, later.1), later.2)
+
+  -- each cell that is handed out then is this one, or was before
+  pub handed_now : (q : CellAt) → IsHandedOut cells_now q → IsHandedOut cells q ⊎ (at ≡ q)
+  handed_now q now = by_place (is_at at q) refl
+    where
+      free_then : is_free cells_now q ≡ (not (is_at at q) && is_free takes.between q)
+      free_then = takes.taken.cells q
+
+      on_between : Contains (table_of takes.between q.vol) q.page
+      on_between = subst (λ (t : List ℕ). Contains t q.page) (takes.taken.tables q.vol) now.on
+
+      was_handed : is_free takes.between q ≡ false → IsHandedOut cells q
+      was_handed none = ⊎_elim
+          (λ had. record {
+            on = subst (λ (c : Cells). Contains (table_of c q.vol) q.page) had.same_cells on_between;
+            within = now.within;
+            taken = subst (λ (c : Cells). is_free c q ≡ false) had.same_cells none;
+          })
+          (λ no_cell. let parts = or_parts (is_free cells q) (is_on no_cell.home q) (sym (no_cell.adds.joins.cells q) ∙ none) in record {
+            on = on_old no_cell.home parts.1 (subst (λ (t : List ℕ). Contains t q.page) (no_cell.adds.joins.tables q.vol) on_between);
+            within = now.within;
+            taken = parts.0;
+          })
+          takes.before
+        where
+          on_old : (home : Home) → is_on home q ≡ false → Contains (with_page_last home cells q.vol) q.page → Contains (table_of cells q.vol) q.page
+          on_old home off = by_volume (nat_eq q.vol home.vol) refl
+            where
+              by_volume : (b : Bool) → nat_eq q.vol home.vol ≡ b → Contains (cond b (table_of cells q.vol ++ home.page ∷ []) (table_of cells q.vol)) q.page → Contains (table_of cells q.vol) q.page
+              by_volume true same there = ⊎_elim (λ was. was)
+                  (λ is. absurd (true≢false (sym (and_from (same_home (home_of q) home) (nat_lt q.cell 28)
+                  (and_from (nat_eq q.vol home.vol) (nat_eq q.page home.page) same (eq-eqb q.page home.page (sym is))) (lt-ltb q.cell 28 now.within)) ∙ off)))
+                  (Contains-push_cases (table_of cells q.vol) home.page q.page there)
+              by_volume false same there = there
+
+      by_place : (b : Bool) → is_at at q ≡ b → IsHandedOut cells q ⊎ (at ≡ q)
+      by_place true is = inr (at_same at q is)
+      by_place false other = inl (was_handed (sym (ap (λ b. not b && is_free takes.between q) other) ∙ sym free_then ∙ now.taken))
 
   pub taken_elsewhere : LeavesOffTables cells_now old between
   taken_elsewhere h out = ⊎_elim
@@ -267,8 +306,14 @@ module _ (prefer : ℕ) (at : CellAt) (space space_now : Spaces) (cells cells_no
           };
           on_tables = (table_kept start.vol start.page on_start, (at_on, tables_kept rest on.1));
           joined = joined is.0;
+          kept = kept is.0;
+          handed = λ q now. ⊎_elim (λ was. inl was) (λ same. inr (1, omega arith, same)) (handed_now q now);
         }
       where
+        kept : c0.at ≡ start → (q : CellAt) → Contains (places (c0 ∷ rest)) q → Contains (places (front ∷ back ∷ rest)) q
+        kept place q (zero, within, there) = (0, omega arith, sym place ∙ there)
+        kept place q (suc k, within, there) = (suc (suc k), omega (arith, within), there)
+
         joined : c0.at ≡ start → (c : PlacedCell) → Contains (front ∷ back ∷ rest) c → ¬ Contains (places (c0 ∷ rest)) c.at → Joins cells old version c
         joined place c (zero, within, there) apart = absurd (apart (in_first c.at c0 rest (place ∙ ap (λ (c : PlacedCell). c.at) there)))
         joined place c (suc zero, within, there) apart = subst (Joins cells old version) there (record {

@@ -26,7 +26,7 @@ use Rattle.bitfile_cells.specs.FileChanges.{AreOnTables, LeavesOtherCells, SameF
 use Rattle.bitfile_cells.specs.Files.{HasMap, IsFile, IsMapCell, map_records, places_of}
 use Rattle.bitfile_cells.specs.MapChanges.{ChangesOnTables, Joins}
 use Rattle.bitfile_cells.specs.Moving.{PartsCell, front_cell, tail_cell}
-use Rattle.bitfile_cells.proofs.Added.{at_on, follows_chain, not_zeros, stands_taken, table_kept, tables_kept}
+use Rattle.bitfile_cells.proofs.Added.{at_on, follows_chain, handed_now, not_zeros, stands_taken, table_kept, tables_kept}
 use Rattle.bitfile_cells.proofs.ChainChanges.{IsThere, Picks, at_apart, in_first, in_later, inside_places, is_inside, one_front, stand_file}
 use Rattle.bitfile_cells.proofs.Chosen.{all_at}
 use Rattle.bitfile_cells.proofs.Gathers.{mapped_all, one_map_file, values, values_are}
@@ -59,6 +59,19 @@ module _ (cell : Cell) (back : PlacedCell) where
   place_in (suc i) (x ∷ xs) at (zero, within, is) = inl (in_first at x xs is)
   place_in (suc i) (x ∷ xs) at (suc k, within, is) =
       ⊎_elim (λ inside. inl (in_later at x xs inside)) (λ same. inr same) (place_in i xs at (k, omega (arith, within), is))
+
+  -- all places stay, and the new one is there
+  place_kept : (i : ℕ) (cs : List PlacedCell) (at : CellAt) → Contains (places cs) at → Contains (places (part_at i cell back cs)) at
+  place_kept i [] at inside = absurd (omega (arith, inside.1))
+  place_kept zero (x ∷ xs) at (zero, within, is) = (0, omega arith, is)
+  place_kept zero (x ∷ xs) at (suc k, within, is) = (suc (suc k), omega (arith, within), is)
+  place_kept (suc i) (x ∷ xs) at (zero, within, is) = (0, omega arith, is)
+  place_kept (suc i) (x ∷ xs) at (suc k, within, is) = in_later at x (part_at i cell back xs) (place_kept i xs at (k, omega (arith, within), is))
+
+  back_inside : (i : ℕ) (cs : List PlacedCell) → i < length cs → Contains (places (part_at i cell back cs)) back.at
+  back_inside i [] within = absurd (omega (arith, within))
+  back_inside zero (x ∷ xs) within = (1, omega arith, refl)
+  back_inside (suc i) (x ∷ xs) within = in_later back.at x (part_at i cell back xs) (back_inside i xs (omega (arith, within)))
 
   distinct_part : (i : ℕ) (cs : List PlacedCell) → ¬ Contains (places cs) back.at → AreDistinct cs → AreDistinct (part_at i cell back cs)
   distinct_part i [] apart distinct = tt
@@ -320,6 +333,10 @@ module _ (at : CellAt) (value : Record) (page : ℕ) (place : PagePlace) (versio
               kind = ap (map kind_of) (back_map cell stands has).only ∙ ap (λ (k : ℕ). k ∷ []) parts.parts.of_tail;
             }))
             (part_in (front cell stands has) (back cell stands has) i chain c inside);
+        kept = λ q inside. place_kept (front cell stands has) (back cell stands has) i chain q inside;
+        handed = λ q now. ⊎_elim (λ was. inl was)
+            (λ behind. inr (subst (Contains (places (part_at i (front cell stands has) (back cell stands has) chain))) behind (back_inside (front cell stands has) (back cell stands has) i chain p.is_there.0)))
+            (handed_now prefer parts.behind space space_now cells cells_now old parts.between parts.volume allocated parts.takes q now);
       }
 
   pub parted : (start : CellAt) (chain : List PlacedCell) → IsFile old start chain → (i : ℕ) (p : Picks old i at value chain) → AreOnTables cells chain → places_of chain page ≡ places_in value page

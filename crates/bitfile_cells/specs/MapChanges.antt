@@ -1,5 +1,5 @@
 -- The change of the one record of a cell that says where pages stand.
-use Rattle.std.specs.Prelude.{◌≡◌, ◌⊎◌, ℕ, false, List, [], ◌∷◌, Some, Contains}
+use Rattle.std.specs.Prelude.{◌≡◌, ◌⊎◌, ◌<◌, ℕ, false, List, [], ◌∷◌, Some, Contains}
 use Rattle.std.specs.List.{AllByRecursion}
 use Rattle.domain_base.specs.declared.place.CellAt.{CellAt}
 use Rattle.domain_base.specs.declared.place.Home.{Home}
@@ -15,7 +15,7 @@ use Rattle.extent_maps.specs.declared.run.PagePlace.TheVariants.{Absent}
 use Rattle.extent_maps.specs.Runs.{with_place}
 use Rattle.extent_records.specs.Chains.{IsNone, Takes as TakesPage}
 use Rattle.extent_records.specs.Writing.{CanSay, IsMapRecord, chain_kind, places_in}
-use Rattle.free_cells.specs.Cells.{Cells, table_of}
+use Rattle.free_cells.specs.Cells.{Cells, is_free, table_of}
 use Rattle.free_space.specs.Spaces.{Spaces}
 use Rattle.bitfile_cells.specs.Allocated.{Takes}
 use Rattle.bitfile_cells.specs.Changes.{with_record}
@@ -66,8 +66,15 @@ pub record Joins (cells : Cells) (old : Pages) (version : Version) (c : PlacedCe
       → ¬ Contains (table_of cells c.at.vol) c.at.page
   pub kind : map_kinds c.cell.records ≡ chain_kind version ∷ []
 
+-- a cell of a table that is not free
+pub record IsHandedOut (cells : Cells) (at : CellAt) : Type 0 where
+  pub on : Contains (table_of cells at.vol) at.page
+  pub within : at.cell < 28
+  pub taken : is_free cells at ≡ false
+
 -- the file has one page at another place, and all else as it was; each of its cells stands on a
--- page of its volume's table, and joined it if it was none of it
+-- page of its volume's table, and joined it if it was none of it; it keeps all that it had, and
+-- has each that is handed out
 pub record ChangesOnTables (start : CellAt) (page : ℕ) (place : PagePlace)
     (chain : List PlacedCell) (version : Version) (cells cells_now : Cells) (old new : Pages)
     : Type 0 where
@@ -75,6 +82,9 @@ pub record ChangesOnTables (start : CellAt) (page : ℕ) (place : PagePlace)
   pub on_tables : AreOnTables cells_now changes.after
   pub joined : (c : PlacedCell) → Contains changes.after c → ¬ Contains (places chain) c.at
       → Joins cells old version c
+  pub kept : (at : CellAt) → Contains (places chain) at → Contains (places changes.after) at
+  pub handed : (at : CellAt) → IsHandedOut cells_now at
+      → IsHandedOut cells at ⊎ Contains (places changes.after) at
 
 -- a cell is handed out
 pub record TakesOne (prefer : ℕ) (space space_now : Spaces) (cells cells_now : Cells) (old : Pages)

@@ -38,8 +38,8 @@ impl<T: Drop> From<AllocFailed<T>> for ChainFault {
     }
 }
 
-/// A number for each cell.
-fn key_of(at: &CellAt) -> u64
+/// A number for each cell, greater for a later one.
+pub fn key_of(at: &CellAt) -> u64
     ensures value { result ≡ key_there at.now }
     ensures widths { (at.now.page < 2 ^ 32) × (at.now.cell < 256) }
 {
@@ -49,7 +49,7 @@ fn key_of(at: &CellAt) -> u64
 }
 
 /// Whether a cell of the second kind may be next to one of the first.
-fn may_follow(first: CellKind, next: CellKind) -> bool
+pub fn may_follow(first: CellKind, next: CellKind) -> bool
     ensures { result ≡ follows first next }
 {
     match first {

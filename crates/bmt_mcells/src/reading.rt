@@ -56,7 +56,7 @@ fn fileset_of(number: u8) -> Option<Option<FilesetNo>>
 }
 
 /// The kind of a cell in use that the number stands for.
-fn kind_of(number: u8) -> Option<CellKind>
+pub fn kind_of(number: u8) -> Option<CellKind>
     ensures some { IfSome result (λ kind. number ≡ kind_number kind) }
     ensures none { IfNone result ((kind : CellKind) → number ≢ kind_number kind) }
 {

@@ -1,4 +1,4 @@
-use Rattle.std.proofs.Common.{Contains, List, subst, sym}
+use Rattle.std.proofs.Common.{Contains, List, inl, subst, sym}
 use Rattle.domain_base.specs.declared.place.CellAt.{CellAt}
 use Rattle.page_store.specs.Pages.{Pages}
 use Rattle.bitfile_cells.specs.FileChanges.{LeavesOtherCells}
@@ -15,6 +15,8 @@ returns-then-branch-clause-ok g c = λ chain is.
       changes = put.changes;
       on_tables = on_by_places c.args.cells.now put.changes.after chain put.same_cells (c.requires.tables chain is);
       joined = λ d inside apart. absurd (apart (subst (λ (ps : List CellAt). Contains ps d.at) put.same_cells (inside_places put.changes.after d inside)));
+      kept = λ q inside. subst (λ (ps : List CellAt). Contains ps q) (sym put.same_cells) inside;
+      handed = λ q now. inl now;
     }
 
 pub returns-then-branch-clause-others : goal.returns-then-branch-clause-others
