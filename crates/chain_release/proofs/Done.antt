@@ -193,6 +193,8 @@ module _ (from : ℕ) (start : CellAt) (reader : Option Reader) (plan : Plan) (s
           own_first = p.first;
           within = s.within;
           joined = p.joined;
+          kept = p.kept;
+          handed = p.handed;
           pages = p.lets;
           space_between = p.between;
           cells_between = cells_now;

@@ -18,7 +18,7 @@ use Rattle.free_space.specs.declared.waiting.PageUse.{PageUse}
 use Rattle.free_space.specs.Spaces.{IsHeld, Spaces}
 use Rattle.bitfile_cells.specs.FileChanges.{AreOnTables, LeavesOtherCells, SameFirst}
 use Rattle.bitfile_cells.specs.Files.{places_of}
-use Rattle.bitfile_cells.specs.MapChanges.{Joins, LeavesOffTables}
+use Rattle.bitfile_cells.specs.MapChanges.{IsHandedOut, Joins, LeavesOffTables}
 use Rattle.bitfile_cells.proofs.ChainChanges.{inside_places, stand_file}
 use Rattle.bitfile_cells.proofs.Chosen.{all_at}
 use Rattle.chain_release.specs.declared.reader.Reader.{Reader}
@@ -77,6 +77,8 @@ module _ (from : ℕ) (start : CellAt) (reader : Option Reader) (plan : Plan) (s
     pub apart : AreApart chain own_now
     pub first : (own_now ≡ own) ⊎ SameFirst own own_now
     pub joined : (c : PlacedCell) → Contains own_now c → ¬ Contains (places own) c.at → Joins cells old version c
+    pub kept : (q : CellAt) → Contains (places own) q → Contains (places own_now) q
+    pub handed : (q : CellAt) → IsHandedOut cells_now q → IsHandedOut cells q ⊎ Contains (places own_now) q
     pub lets : LetsGo from (frozen_of reader) (places_of own) (places_of own_now) (places_of chain) (places_of after)
     pub between : Spaces
     pub taken : TakesForReader own (places_of own_now) (places_of chain) space between cells cells_now old
@@ -166,6 +168,8 @@ module _ (from : ℕ) (start : CellAt) (reader : Option Reader) (plan : Plan) (s
         apart = is.sharing.apart;
         first = inl refl;
         joined = λ c inside apart. absurd (apart (inside_places own c inside));
+        kept = λ q inside. inside;
+        handed = λ q now. inl (subst (λ (c : Cells). IsHandedOut c q) gives.same_cells now);
         lets = lets_none;
         between = space;
         taken = inl (refl, gives.same_cells);
@@ -277,6 +281,8 @@ module _ (from : ℕ) (start : CellAt) (reader : Option Reader) (plan : Plan) (s
         apart = share_none;
         first = inr hands.changes.changes.first;
         joined = hands.changes.joined;
+        kept = hands.changes.kept;
+        handed = hands.changes.handed;
         lets = lets_some;
         between = space_now;
         taken = inr (record { page = plan.tail.from; home = home; was = was_there; is = is_there; taken = hands.taken });

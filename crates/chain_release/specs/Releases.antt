@@ -17,7 +17,7 @@ use Rattle.free_space.specs.VolumeSpace.{with_waiting}
 use Rattle.free_space.specs.Spaces.{Spaces, change_volume}
 use Rattle.bitfile_cells.specs.FileChanges.{SameFirst}
 use Rattle.bitfile_cells.specs.Files.{places_of}
-use Rattle.bitfile_cells.specs.MapChanges.{Joins, NoneTakes, TakesIfFull}
+use Rattle.bitfile_cells.specs.MapChanges.{IsHandedOut, Joins, NoneTakes, TakesIfFull}
 use Rattle.chain_release.specs.declared.reader.Reader.{Reader}
 use Rattle.chain_release.specs.declared.released.Released.{Released}
 use Rattle.chain_release.specs.declared.released.Released.TheVariants as released
@@ -99,7 +99,8 @@ Progresses released.Pages from chain after cells cells_now =
 Progresses released.Cell from chain after cells cells_now = FreesOne chain after cells cells_now
 
 -- pages of a file from one on go, and cells of it that say of no page where it stands; the reader
--- reads what it read, through the file or at pages that were handed over; and what is gone waits
+-- reads what it read, through the file or at pages that were handed over, and keeps its cells with
+-- each that is handed out; and what is gone waits
 pub record Releases (from : ℕ) (start : CellAt) (reader : Option Reader) (group : ℕ)
     (version : Version) (chain own : List PlacedCell) (space space_now : Spaces)
     (cells cells_now : Cells) (old new : Pages) (what : Released) : Type 0 where
@@ -119,6 +120,9 @@ pub record Releases (from : ℕ) (start : CellAt) (reader : Option Reader) (grou
       cells_between old
   pub given : GivesBack (IsGone (places_of own_now) (places_of chain) (places_of after))
       (use_of chain) group space_between space_now
+  pub kept : (at : CellAt) → Contains (places own) at → Contains (places own_now) at
+  pub handed : (at : CellAt) → IsHandedOut cells_between at
+      → IsHandedOut cells at ⊎ Contains (places own_now) at
   pub progress : Progresses what from chain after cells_between cells_now
 
 -- a page of the file from one on that the reader reads through it, and that no record of the
