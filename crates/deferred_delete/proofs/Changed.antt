@@ -1,5 +1,5 @@
 -- Files stand together once the first cell of one says something else, but not of pages.
-use Rattle.std.proofs.Common.{◌≡◌, ◌∙◌, ℕ, List, [], ◌∷◌, Some, IsSome, refl, sym, ap, subst, ⊎_elim}
+use Rattle.std.proofs.Common.{◌≡◌, ◌∙◌, ℕ, List, [], ◌∷◌, Some, IsSome, refl, sym, ap, subst, ⊎_elim, inl, Contains}
 use Rattle.std.specs.Option.{option_map_or}
 use Rattle.domain_base.specs.declared.place.CellAt.{CellAt}
 use Rattle.page_store.specs.Pages.{Pages}
@@ -17,11 +17,11 @@ use Rattle.bitfile_cells.proofs.Still.{allocated_still}
 use Rattle.bitfile_core.proofs.FirstCell.{file_changed, runs_same}
 use Rattle.deferred_delete.specs.Standing.{Files, IsStanding, ReadsThrough, StandTogether, place_in, with_file}
 use Rattle.deferred_delete.proofs.Spread.{some_same}
-use Rattle.deferred_delete.proofs.Standings.{AreNarrower, apart_by, file_beside, file_other, file_there, narrower_together, place_by, same_or_not, standing}
+use Rattle.deferred_delete.proofs.Standings.{AreNarrower, apart_by, chain_beside, file_other, file_there, narrower_together, place_by, same_or_not, standing}
 
-module _ (space : Spaces) (cells : Cells) (old new : Pages) (files : Files) (together : StandTogether space cells old files) (at : CellAt) (first : PlacedCell) (rest : List PlacedCell) (is : files at ≡ Some (first ∷ rest)) (says : Cell → Cell)
+module _ (space : Spaces) (cells : Cells) (old new : Pages) (files : Files) (together : StandTogether space cells old files) (at : CellAt) (first : PlacedCell) (rest : List PlacedCell) (is : files at ≡ Some (first ∷ rest)) (file : IsFile old at (first ∷ rest)) (says : Cell → Cell)
     (leaves : LeavesOthers (is_at at) old new) (stands : StandsAt new at (says first.cell)) (good : KeepsWellFormed old new) (headers : KeepsHeaders old new) (head : (says first.cell).head ≡ first.cell.head)
-    (maps : (file : AreFile old first rest) → map_records (says first.cell).records ≡ file.value ∷ []) (attributes : IsSome (record_of 1 (says first.cell).records)) where
+    (maps : (is_file : AreFile old first rest) → map_records (says first.cell).records ≡ is_file.value ∷ []) (attributes : IsSome (record_of 1 (says first.cell).records)) where
   abbrev after : List PlacedCell
   after = record { at = first.at; cell = says first.cell } ∷ rest
 
@@ -32,7 +32,7 @@ module _ (space : Spaces) (cells : Cells) (old new : Pages) (files : Files) (tog
   stood = standing space cells old files together at (first ∷ rest) is
 
   first_at : first.at ≡ at
-  first_at = stood.file.0
+  first_at = file.0
 
   leaves_first : LeavesOthers (is_at first.at) old new
   leaves_first = subst (λ (a : CellAt). LeavesOthers (is_at a) old new) (sym first_at) leaves
@@ -41,10 +41,10 @@ module _ (space : Spaces) (cells : Cells) (old new : Pages) (files : Files) (tog
   stands_first = subst (λ (a : CellAt). StandsAt new a (says first.cell)) (sym first_at) stands
 
   file_now : IsFile new at after
-  file_now = (first_at, file_changed old new first rest (says first.cell) stood.file.1 leaves_first stands_first head (maps stood.file.1) attributes)
+  file_now = (first_at, file_changed old new first rest (says first.cell) file.1 leaves_first stands_first head (maps file.1) attributes)
 
   map_same : (p : ℕ) → places_of after p ≡ places_of (first ∷ rest) p
-  map_same p = ap (λ rs. place_of rs p) (runs_same old new first rest (says first.cell) stood.file.1 leaves_first stands_first head (maps stood.file.1) attributes)
+  map_same p = ap (λ rs. place_of rs p) (runs_same old new first rest (says first.cell) file.1 leaves_first stands_first head (maps file.1) attributes)
 
   there : now at ≡ Some after
   there = file_there at (Some after) files
@@ -62,8 +62,8 @@ module _ (space : Spaces) (cells : Cells) (old new : Pages) (files : Files) (tog
     narrower : AreNarrower files now
     narrower = record {
       was = λ a cs is_a. ⊎_elim
-          (λ same. (first ∷ rest, ap files same ∙ is, sym (ap places (some_same after cs (sym there ∙ sym (ap now same) ∙ is_a))), λ p. sym (ap (λ (cs : List PlacedCell). places_of cs p) (some_same after cs (sym there ∙ sym (ap now same) ∙ is_a))) ∙ map_same p))
-          (λ not_at. (cs, sym (other a not_at) ∙ is_a, refl, λ p. refl))
+          (λ same. (first ∷ rest, ap files same ∙ is, λ q inside. subst (λ (xs : List PlacedCell). Contains (places xs) q) (sym (some_same after cs (sym there ∙ sym (ap now same) ∙ is_a))) inside, λ p. sym (ap (λ (cs : List PlacedCell). places_of cs p) (some_same after cs (sym there ∙ sym (ap now same) ∙ is_a))) ∙ map_same p))
+          (λ not_at. (cs, sym (other a not_at) ∙ is_a, (λ q inside. inside), λ p. refl))
           (same_or_not a at);
       reads = reads;
     }
@@ -71,15 +71,15 @@ module _ (space : Spaces) (cells : Cells) (old new : Pages) (files : Files) (tog
     pub first_together : StandTogether space cells new now
     first_together =
         narrower_together files now narrower space space cells cells old new together
-        (allocated_still space cells old new together.allocated good headers (is_at at) leaves (λ q free. at_apart at q (λ same. not_zeros old q first.at first.cell (together.allocated.belong.zeros q free) stood.file.1.links.stands (sym same ∙ sym first_at))))
+        (allocated_still space cells old new together.allocated good headers (is_at at) leaves (λ q free. at_apart at q (λ same. not_zeros old q first.at first.cell (together.allocated.belong.zeros q free) file.1.links.stands (sym same ∙ sym first_at))))
         (λ a cs is_a. ⊎_elim
         (λ same.
         subst (IsStanding cells new a) (some_same after cs (sym there ∙ sym (ap now same) ∙ is_a))
-        (subst (λ (b : CellAt). IsStanding cells new b after) (sym same) (record { file = file_now; on_tables = (stood.on_tables.0, stood.on_tables.1) })))
+        (subst (λ (b : CellAt). IsStanding cells new b after) (sym same) (record { stands = inl file_now; on_tables = (stood.on_tables.0, stood.on_tables.1) })))
         (λ not_at.
         let was = standing space cells old files together a cs (sym (other a not_at) ∙ is_a) in
         record {
-          file = file_beside old new at a cs leaves (λ inside. apart_by space cells old files together at a (first ∷ rest) cs is (sym (other a not_at) ∙ is_a) (λ same. not_at (sym same)) at (in_first at first rest first_at) inside) was.file;
+          stands = chain_beside old new at a cs leaves (λ inside. apart_by space cells old files together at a (first ∷ rest) cs is (sym (other a not_at) ∙ is_a) (λ same. not_at (sym same)) at (in_first at first rest first_at) inside) was.stands;
           on_tables = was.on_tables;
         })
         (same_or_not a at))

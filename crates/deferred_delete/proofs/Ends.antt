@@ -13,20 +13,21 @@ use Rattle.extent_maps.specs.declared.run.PagePlace.TheVariants.{At}
 use Rattle.free_cells.specs.Cells.{Cells, FreesCell}
 use Rattle.free_space.specs.Spaces.{Spaces}
 use Rattle.bitfile_cells.specs.Allocated.{AreAllocated}
-use Rattle.bitfile_cells.specs.Files.{AreFile, map_records}
+use Rattle.bitfile_cells.specs.Files.{AreFile, IsFile, map_records}
 use Rattle.bitfile_cells.proofs.ChainChanges.{in_first}
 use Rattle.bitfile_cells.proofs.MapRecords.{value_has_rows}
 use Rattle.bitfile_core.specs.Together.{IsHeldApart}
 use Rattle.bitfile_core.proofs.Grown.{on_grown}
 use Rattle.deferred_delete.specs.declared.list.Entry.{Entry}
 use Rattle.deferred_delete.specs.Listed.{IsEntry, IsListed}
+use Rattle.deferred_delete.specs.Listing.{clone_but, without, without_clone}
 use Rattle.deferred_delete.specs.Standing.{Files, ReadsThrough, Source, StandTogether, place_in, source_at, source_in, source_of, with_file}
 use Rattle.deferred_delete.specs.Steps.{says_no_source, says_trimmed, without_source}
 use Rattle.deferred_delete.proofs.Changed.{first_place, first_together}
-use Rattle.deferred_delete.proofs.Lists.{IsIn, earlier, in_start, is_in, last_in, not_last, once_front, once_last, this}
+use Rattle.deferred_delete.proofs.Lists.{IsIn, but_other, but_some, earlier, in_start, in_without, is_in, last_in, not_last, once_front, once_last, once_without, order_front, order_last, order_without, this}
 use Rattle.deferred_delete.proofs.Records.{sourceless_maps, sourceless_other, sourceless_there, trimmed_attributes, trimmed_maps, trimmed_other}
 use Rattle.deferred_delete.proofs.Spread.{none_not, some_same}
-use Rattle.deferred_delete.proofs.Standings.{AreNarrower, apart_by, file_beside, file_other, file_there, narrower_together, reads_by, same_or_not, source_by, standing, was_there}
+use Rattle.deferred_delete.proofs.Standings.{AreNarrower, apart_by, chain_beside, file_other, file_there, linked_at, narrower_together, reads_by, same_or_not, source_by, standing, was_there}
 
 -- ---- the list without its last entry
 
@@ -50,7 +51,7 @@ module _ (space : Spaces) (cells cells_now : Cells) (files now : Files) (front :
   listed_front = record {
     each = earlier_entry;
     once = once_front front entry listed.once;
-    clones = λ a b in_a in_b. listed.clones a b (in_start front (entry ∷ []) a in_a) (in_start front (entry ∷ []) b in_b);
+    order = order_front front entry listed.order;
     pages_once = listed.pages_once;
     pages_low = listed.pages_low;
     pages_held = λ home inside. held home (listed.pages_held home inside);
@@ -62,7 +63,7 @@ module _ (space : Spaces) (cells cells_now : Cells) (files now : Files) (front :
   listed_last other same_at no_clone is_entry = record {
     each = λ e inside. by_place e (is_in front other e inside);
     once = once_last front entry other same_at listed.once;
-    clones = λ a b in_a in_b. apart a b (is_in front other a in_a) (is_in front other b in_b);
+    order = order_last front entry other same_at no_clone listed.order;
     pages_once = listed.pages_once;
     pages_low = listed.pages_low;
     pages_held = λ home inside. held home (listed.pages_held home inside);
@@ -73,14 +74,9 @@ module _ (space : Spaces) (cells cells_now : Cells) (files now : Files) (front :
       by_place e (earlier inside) = earlier_entry e inside
       by_place e (this it) = subst (IsEntry now) (sym it) is_entry
 
-      apart : (a b : Entry) → IsIn front other a → IsIn front other b → ¬ a.clone ≡ Some b.at
-      apart a b (this it) in_b some = none_not b.at (sym no_clone ∙ sym (ap (λ (e : Entry). e.clone) it) ∙ some)
-      apart a b (earlier in_a) (earlier in_b) some = listed.clones a b (in_start front (entry ∷ []) a in_a) (in_start front (entry ∷ []) b in_b) some
-      apart a b (earlier in_a) (this it) some = listed.clones a entry (in_start front (entry ∷ []) a in_a) (last_in front entry) (some ∙ ap (λ (e : Entry). Some e.at) it ∙ ap Some same_at)
-
 -- ---- a trim is done
 
-module _ (space : Spaces) (cells : Cells) (old new : Pages) (files : Files) (together : StandTogether space cells old files) (front : List Entry) (entry : Entry) (pages : List Home) (first : PlacedCell) (rest : List PlacedCell) (is : files entry.at ≡ Some (first ∷ rest))
+module _ (space : Spaces) (cells : Cells) (old new : Pages) (files : Files) (together : StandTogether space cells old files) (front : List Entry) (entry : Entry) (pages : List Home) (first : PlacedCell) (rest : List PlacedCell) (is : files entry.at ≡ Some (first ∷ rest)) (file : IsFile old entry.at (first ∷ rest))
     (leaves : LeavesOthers (is_at entry.at) old new) (stands : StandsAt new entry.at (says_trimmed first.cell)) (good : KeepsWellFormed old new) (headers : KeepsHeaders old new) where
   abbrev trimmed : List PlacedCell
   trimmed = record { at = first.at; cell = says_trimmed first.cell } ∷ rest
@@ -88,11 +84,11 @@ module _ (space : Spaces) (cells : Cells) (old new : Pages) (files : Files) (tog
   abbrev trimmed_now : Files
   trimmed_now = with_file entry.at (Some trimmed) files
 
-  trim_maps : (file : AreFile old first rest) → map_records (says_trimmed first.cell).records ≡ file.value ∷ []
-  trim_maps file = trimmed_maps first.cell file.value file.map.only (value_has_rows file.value file.map.is_map)
+  trim_maps : (are : AreFile old first rest) → map_records (says_trimmed first.cell).records ≡ are.value ∷ []
+  trim_maps are = trimmed_maps first.cell are.value are.map.only (value_has_rows are.value are.map.is_map)
 
   trim_attributes : IsSome (record_of 1 (says_trimmed first.cell).records)
-  trim_attributes = trimmed_attributes first.cell (standing space cells old files together entry.at (first ∷ rest) is).file.1.attributes
+  trim_attributes = trimmed_attributes first.cell file.1.attributes
 
   trim_sources : (a : CellAt) → source_at trimmed_now a ≡ source_at files a
   trim_sources a = ⊎_elim
@@ -104,14 +100,14 @@ module _ (space : Spaces) (cells : Cells) (old new : Pages) (files : Files) (tog
       (same_or_not a entry.at)
 
   pub trim_together : StandTogether space cells new trimmed_now
-  trim_together = first_together space cells old new files together entry.at first rest is says_trimmed leaves stands good headers refl trim_maps trim_attributes (λ a b x. reads_by files trimmed_now a b (trim_sources a) x)
+  trim_together = first_together space cells old new files together entry.at first rest is file says_trimmed leaves stands good headers refl trim_maps trim_attributes (λ a b x. reads_by files trimmed_now a b (trim_sources a) x)
 
   pub trim_listed : IsListed space cells files (record { entries = front ++ entry ∷ []; tag_pages = pages }) → IsListed space cells trimmed_now (record { entries = front; tag_pages = pages })
   trim_listed listed = listed_front space cells cells files trimmed_now front entry pages listed
       (λ a not_at. ap is_some (file_other entry.at (Some trimmed) files a not_at))
       (λ a b not_at x. reads_by files trimmed_now a b (trim_sources a) x)
       (λ a b not_at e inside same x. reads_by trimmed_now files a b (sym (trim_sources a)) x)
-      (λ a p home there. sym (first_place space cells old new files together entry.at first rest is says_trimmed leaves stands good headers refl trim_maps trim_attributes a p) ∙ there)
+      (λ a p home there. sym (first_place space cells old new files together entry.at first rest is file says_trimmed leaves stands good headers refl trim_maps trim_attributes a p) ∙ there)
       (λ home held. held)
 
 -- ---- a clone reads through its source no more
@@ -141,7 +137,7 @@ one_source None b c x y = absurd x
 one_source (Some s) b c x y = sym x ∙ y
 
 module _ (space : Spaces) (cells : Cells) (old new : Pages) (files : Files) (together : StandTogether space cells old files) (front : List Entry) (entry : Entry) (pages : List Home)
-    (listed : IsListed space cells files (record { entries = front ++ entry ∷ []; tag_pages = pages })) (clone : CellAt) (given : entry.clone ≡ Some clone) (first : PlacedCell) (rest : List PlacedCell) (is : files clone ≡ Some (first ∷ rest))
+    (listed : IsListed space cells files (record { entries = front ++ entry ∷ []; tag_pages = pages })) (clone : CellAt) (given : entry.clone ≡ Some clone) (first : PlacedCell) (rest : List PlacedCell) (is : files clone ≡ Some (first ∷ rest)) (file : IsFile old clone (first ∷ rest))
     (leaves : LeavesOthers (is_at clone) old new) (stands : StandsAt new clone (says_no_source first.cell)) (good : KeepsWellFormed old new) (headers : KeepsHeaders old new) where
   abbrev alone : List PlacedCell
   alone = record { at = first.at; cell = says_no_source first.cell } ∷ rest
@@ -155,11 +151,11 @@ module _ (space : Spaces) (cells : Cells) (old new : Pages) (files : Files) (tog
   apart : ¬ entry.at ≡ clone
   apart same = let reads = is_last.given clone given in together.one_deep clone entry.at entry.at reads (subst (λ (a : CellAt). ReadsThrough files a entry.at) (sym same) reads)
 
-  alone_maps : (file : AreFile old first rest) → map_records (says_no_source first.cell).records ≡ file.value ∷ []
-  alone_maps file = sourceless_maps first.cell file.value file.map.only (value_has_rows file.value file.map.is_map)
+  alone_maps : (are : AreFile old first rest) → map_records (says_no_source first.cell).records ≡ are.value ∷ []
+  alone_maps are = sourceless_maps first.cell are.value are.map.only (value_has_rows are.value are.map.is_map)
 
   alone_attributes : IsSome (record_of 1 (says_no_source first.cell).records)
-  alone_attributes = subst IsSome (sym (sourceless_other first.cell 1 (λ e. omega (arith, e)))) (standing space cells old files together clone (first ∷ rest) is).file.1.attributes
+  alone_attributes = subst IsSome (sym (sourceless_other first.cell 1 (λ e. omega (arith, e)))) file.1.attributes
 
   clone_source : source_at alone_now clone ≡ None
   clone_source = source_by alone_now clone alone (file_there clone (Some alone) files) ∙ ap (option_and_then source_in) (sourceless_there first.cell) ∙ no_source_in (record_of 2 first.cell.records)
@@ -177,7 +173,7 @@ module _ (space : Spaces) (cells : Cells) (old new : Pages) (files : Files) (tog
       (same_or_not a clone)
 
   pub alone_together : StandTogether space cells new alone_now
-  alone_together = first_together space cells old new files together clone first rest is says_no_source leaves stands good headers refl alone_maps alone_attributes alone_reads
+  alone_together = first_together space cells old new files together clone first rest is file says_no_source leaves stands good headers refl alone_maps alone_attributes alone_reads
 
   alone_there : (a : CellAt) → is_some (alone_now a) ≡ is_some (files a)
   alone_there a = ⊎_elim
@@ -193,7 +189,7 @@ module _ (space : Spaces) (cells : Cells) (old new : Pages) (files : Files) (tog
       (λ is_clone. absurd (not_at (one_source (source_at files a) b entry.at x (subst (λ (q : CellAt). ReadsThrough files q entry.at) (sym is_clone) (is_last.given clone given)))))
       (λ not_it. reads_by alone_now files a b (sym (other_source a not_it)) x)
       (same_or_not a clone))
-      (λ a p home there. sym (first_place space cells old new files together clone first rest is says_no_source leaves stands good headers refl alone_maps alone_attributes a p) ∙ there)
+      (λ a p home there. sym (first_place space cells old new files together clone first rest is file says_no_source leaves stands good headers refl alone_maps alone_attributes a p) ∙ there)
       (λ home held. held)
       (record { at = entry.at; clone = None }) refl refl
       (record {
@@ -224,7 +220,7 @@ module _ (space : Spaces) (cells cells_now : Cells) (old new : Pages) (files : F
 
   narrower : AreNarrower files gone_now
   narrower = record {
-    was = λ a cs is_a. (cs, sym (gone_other a (not_there a cs is_a)) ∙ is_a, refl, λ p. refl);
+    was = λ a cs is_a. (cs, sym (gone_other a (not_there a cs is_a)) ∙ is_a, (λ q inside. inside), λ p. refl);
     reads = gone_reads;
   }
 
@@ -238,19 +234,34 @@ module _ (space : Spaces) (cells cells_now : Cells) (old new : Pages) (files : F
       let is_was = sym (gone_other a not_at) ∙ is_a in
       let was = standing space cells old files together a cs is_was in
       record {
-        file = file_beside old new entry.at a cs leaves (λ inside. apart_by space cells old files together entry.at a (first ∷ rest) cs is is_was (λ same. not_at (sym same)) entry.at (in_first entry.at first rest (standing space cells old files together entry.at (first ∷ rest) is).file.0) inside) was.file;
+        stands = chain_beside old new entry.at a cs leaves (λ inside. apart_by space cells old files together entry.at a (first ∷ rest) cs is is_was (λ same. not_at (sym same)) entry.at (in_first entry.at first rest (linked_at old entry.at first rest (standing space cells old files together entry.at (first ∷ rest) is).stands).0) inside) was.stands;
         on_tables = on_grown cells cells_now (λ vol p on. subst (λ (t : List ℕ). Contains t p) (sym (frees.tables vol)) on) cs was.on_tables;
       })
       (λ a p home was held. still_held home held)
 
-  pub gone_listed : IsListed space cells_now gone_now (record { entries = front; tag_pages = pages })
-  gone_listed = listed_front space cells cells_now files gone_now front entry pages listed
-      (λ a not_at. ap is_some (gone_other a not_at))
-      (λ a b not_at x. gone_reads a b x)
-      (λ a b not_at e inside same x. ⊎_elim
-      (λ is_gone. absurd (listed.clones e entry (in_start front (entry ∷ []) e inside) (last_in front entry)
-      ((listed.each e (in_start front (entry ∷ []) e inside)).all entry.at (subst (λ (q : CellAt). ReadsThrough files q e.at) is_gone (subst (ReadsThrough files a) (sym same) x)))))
-      (λ not_it. reads_by gone_now files a b (sym (ap (option_and_then source_of) (gone_other a not_it))) x)
-      (same_or_not a entry.at))
-      (λ a p home there. was_there files gone_now narrower a p home there)
-      still_held
+  -- what an earlier entry's clone reads through, it does so still, unless it is the file that is gone
+  still_reads : (c b : CellAt) → ¬ c ≡ entry.at → ReadsThrough files c b → ReadsThrough gone_now c b
+  still_reads c b not_it reads = reads_by gone_now files c b (sym (ap (option_and_then source_of) (gone_other c not_it))) reads
+
+  not_gone : (c b : CellAt) → ReadsThrough gone_now c b → ¬ c ≡ entry.at
+  not_gone c b reads same = subst (λ o. IsSomeAnd o (λ (source : Source). source.at ≡ b)) (ap (option_and_then source_of) (ap gone_now same ∙ file_there entry.at None files)) reads
+
+  entry_without : (was : Entry) → Contains front was → IsEntry gone_now (without entry.at was)
+  entry_without was inside =
+      let is = listed.each was (in_start front (entry ∷ []) was inside) in
+      record {
+        there = ap is_some (gone_other was.at (not_last front entry was listed.once inside)) ∙ is.there;
+        given = λ c some. let o = but_some entry.at c was.clone some in still_reads c was.at o.1 (is.given c o.0);
+        all = λ c reads. ap (clone_but entry.at) (is.all c (gone_reads c was.at reads)) ∙ but_other entry.at c (not_gone c was.at reads);
+      }
+
+  pub gone_listed : IsListed space cells_now gone_now (record { entries = without_clone entry.at front; tag_pages = pages })
+  gone_listed = record {
+    each = λ e inside. let w = in_without entry.at front e inside in subst (IsEntry gone_now) (sym w.2) (entry_without w.0 w.1);
+    once = once_without entry.at front (once_front front entry listed.once);
+    order = order_without entry.at front (order_front front entry listed.order);
+    pages_once = listed.pages_once;
+    pages_low = listed.pages_low;
+    pages_held = λ home inside. still_held home (listed.pages_held home inside);
+    pages_apart = λ home inside a p there. listed.pages_apart home inside a p (was_there files gone_now narrower a p home there);
+  }

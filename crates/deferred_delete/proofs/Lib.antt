@@ -3,6 +3,7 @@ pub mod Ends
 pub mod Firsts
 pub mod Lists
 pub mod Loops
+pub mod QuotaCells
 pub mod Records
 pub mod Spread
 pub mod Standings

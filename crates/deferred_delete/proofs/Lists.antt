@@ -1,8 +1,17 @@
 -- Lists with one thing behind the others.
-use Rattle.std.proofs.Common.{◌≡◌, ◌∙◌, ℕ, zero, suc, ◌<◌, List, [], ◌∷◌, ◌++◌, Contains, get_or, length, slice_set, refl, sym, ap, subst, arith}
+use Rattle.std.proofs.Common.{◌≡◌, ◌∙◌, ◌⊎◌, inl, inr, ℕ, zero, suc, ◌<◌, true, cond, List, [], ◌∷◌, ◌++◌, Option, Some, None, Contains, get_or, length, slice_set, refl, sym, ap, subst, arith, ⊎_elim}
+use Rattle.std.proofs.lemmas.Bool.{cases_lt}
+use Rattle.std.proofs.lemmas.List.{get_or-map, length-map}
+use Rattle.domain_base.specs.declared.place.CellAt.{CellAt}
 use Rattle.domain_base.specs.declared.place.Home.{Home}
+use Rattle.bmt_mcells.specs.Chain.{is_at}
+use Rattle.bitfile_cells.proofs.Allocated.{there_is}
+use Rattle.bitfile_cells.proofs.ChainChanges.{at_apart}
 use Rattle.chain_release.specs.Releases.{AreAllOnce}
 use Rattle.deferred_delete.specs.declared.list.Entry.{Entry}
+use Rattle.deferred_delete.specs.Listing.{AreInOrder, clone_but, without, without_clone}
+use Rattle.deferred_delete.proofs.Spread.{some_same}
+use Rattle.deferred_delete.proofs.Standings.{at_itself, same_or_not}
 
 pub in_start : {X : Type 0} (xs ys : List X) (e : X) → Contains xs e → Contains (xs ++ ys) e
 in_start [] ys e inside = absurd (omega (arith, inside.1))
@@ -72,6 +81,80 @@ not_last front last e once (k, within, is) same =
     let all : k ≡ length front = once k (length front) e (omega (arith, within, longer front last)) (omega (arith, longer front last))
     (ap (λ (e : Entry). e.at) (get_front front (last ∷ []) k e within ∙ is) ∙ same ∙ sym (ap (λ (e : Entry). e.at) (get_last front last e))) in
     omega (arith, all, within)
+
+-- ---- what reads through a file stands behind it
+
+pub order_front : (front : List Entry) (last : Entry) → AreInOrder (front ++ last ∷ []) → AreInOrder front
+order_front front last order i j d less_i less_j same =
+    order i j d (omega (arith, less_i, longer front last)) (omega (arith, less_j, longer front last))
+    (ap (λ (e : Entry). e.clone) (get_front front (last ∷ []) i d less_i) ∙ same ∙ sym (ap (λ (e : Entry). Some e.at) (get_front front (last ∷ []) j d less_j)))
+
+-- the last one's clone has no entry
+pub last_alone : (front : List Entry) (last e : Entry) → AreInOrder (front ++ last ∷ []) → Contains (front ++ last ∷ []) e → ¬ last.clone ≡ Some e.at
+last_alone front last e order (k, within, is) some =
+    let behind : length front < k = order (length front) k e (omega (arith, longer front last)) within (ap (λ (x : Entry). x.clone) (get_last front last e) ∙ some ∙ sym (ap (λ (x : Entry). Some x.at) is)) in
+    omega (arith, behind, within, longer front last)
+
+-- or the last one has no clone any more
+pub order_last : (front : List Entry) (last other : Entry) → other.at ≡ last.at → other.clone ≡ None → AreInOrder (front ++ last ∷ []) → AreInOrder (front ++ other ∷ [])
+order_last front last other same_at none order i j d less_i less_j same = ⊎_elim
+    (λ before.
+    order i j d (omega (arith, less_i, longer front last, longer front other)) (omega (arith, less_j, longer front last, longer front other))
+    (ap (λ (e : Entry). e.clone) (get_front front (last ∷ []) i d before ∙ sym (get_front front (other ∷ []) i d before)) ∙ same ∙ ap Some (same_files front other last same_at j d)))
+    (λ behind.
+    let at_end : i ≡ length front = omega (arith, behind, less_i, longer front other) in
+    let is : get_or (front ++ other ∷ []) i d ≡ other = ap (λ n. get_or (front ++ other ∷ []) n d) at_end ∙ get_last front other d in
+    let no_clone : None ≡ Some (get_or (front ++ other ∷ []) j d).at = sym none ∙ sym (ap (λ (e : Entry). e.clone) is) ∙ same in
+    absurd (cc))
+    (cases_lt i (length front))
+
+-- ---- a clone that no entry gives any more
+
+pub but_some : (at c : CellAt) (o : Option CellAt) → clone_but at o ≡ Some c → (o ≡ Some c) × (¬ c ≡ at)
+but_some at c None some = absurd (let e : None ≡ Some c = some in cc)
+but_some at c (Some clone) some = ⊎_elim
+    (λ same. absurd (let e : None ≡ Some c = sym (ap (λ b. cond b None (Some clone)) (subst (λ (x : CellAt). is_at clone x ≡ true) same (at_itself clone))) ∙ some in cc))
+    (λ other.
+    let is : Some clone ≡ Some c = sym (ap (λ b. cond b None (Some clone)) (at_apart clone at other)) ∙ some in
+    (is, λ same. other (some_same clone c is ∙ same)))
+    (same_or_not clone at)
+
+pub but_other : (at c : CellAt) → ¬ c ≡ at → clone_but at (Some c) ≡ Some c
+but_other at c other = ap (λ b. cond b None (Some c)) (at_apart c at other)
+
+pub but_either : (at : CellAt) (o : Option CellAt) → (clone_but at o ≡ o) ⊎ (clone_but at o ≡ None)
+but_either at None = inl refl
+but_either at (Some clone) = ⊎_elim
+    (λ same. inr (ap (λ b. cond b None (Some clone)) (subst (λ (x : CellAt). is_at clone x ≡ true) same (at_itself clone))))
+    (λ other. inl (but_other at clone other))
+    (same_or_not clone at)
+
+pub get_without : (at : CellAt) (xs : List Entry) (k : ℕ) (d : Entry) → k < length xs → get_or (without_clone at xs) k d ≡ without at (get_or xs k d)
+get_without at xs k d within = get_or-map (without at) xs k d d within
+
+-- an entry that is left was one, but for its clone
+pub in_without : (at : CellAt) (xs : List Entry) (e : Entry) → Contains (without_clone at xs) e → (was : Entry) × Contains xs was × (e ≡ without at was)
+in_without at xs e (k, within, is) =
+    let inside : k < length xs = omega (arith, within, length-map xs (without at)) in
+    (get_or xs k e, (k, inside, there_is xs k (get_or xs k e) e inside), sym is ∙ get_without at xs k e inside)
+
+pub without_in : (at : CellAt) (xs : List Entry) (e : Entry) → Contains xs e → Contains (without_clone at xs) (without at e)
+without_in at xs e (k, within, is) =
+    (k, omega (arith, within, length-map xs (without at)), get_or-map (without at) xs k e (without at e) within ∙ ap (without at) is)
+
+pub once_without : (at : CellAt) (xs : List Entry) → AreEntriesOnce xs → AreEntriesOnce (without_clone at xs)
+once_without at xs once i j d less_i less_j same =
+    let in_i : i < length xs = omega (arith, less_i, length-map xs (without at)) in
+    let in_j : j < length xs = omega (arith, less_j, length-map xs (without at)) in
+    once i j d in_i in_j (sym (ap (λ (e : Entry). e.at) (get_without at xs i d in_i)) ∙ same ∙ ap (λ (e : Entry). e.at) (get_without at xs j d in_j))
+
+pub order_without : (at : CellAt) (xs : List Entry) → AreInOrder xs → AreInOrder (without_clone at xs)
+order_without at xs order i j d less_i less_j same =
+    let in_i : i < length xs = omega (arith, less_i, length-map xs (without at)) in
+    let in_j : j < length xs = omega (arith, less_j, length-map xs (without at)) in
+    order i j d in_i in_j
+    (but_some at (get_or xs j d).at (get_or xs i d).clone
+    (sym (ap (λ (e : Entry). e.clone) (get_without at xs i d in_i)) ∙ same ∙ ap (λ (e : Entry). Some e.at) (get_without at xs j d in_j))).0
 
 -- the last of a list and those in front of it
 pub last_split : (xs : List Entry) (n : ℕ) (d e : Entry) → length xs ≡ suc n → get_or xs n d ≡ e → (front : List Entry) × (xs ≡ front ++ e ∷ [])

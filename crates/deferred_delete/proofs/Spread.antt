@@ -16,12 +16,11 @@ use Rattle.free_space.specs.Spaces.{IsHeld, Spaces}
 use Rattle.bitfile_cells.specs.Allocated.{AreAllocated}
 use Rattle.bitfile_cells.specs.FileChanges.{AreOnTables}
 use Rattle.bitfile_cells.specs.Files.{IsFile, places_of}
-use Rattle.bitfile_cells.proofs.ChainChanges.{stand_file}
 use Rattle.bitfile_core.specs.Files.{AreApart, first_record}
 use Rattle.bitfile_core.specs.Together.{IsHeldApart}
 use Rattle.bitfile_core.proofs.Again.{one_home}
 use Rattle.bitfile_core.proofs.Grown.{apart_grows, on_grown, tables_grow}
-use Rattle.bitfile_core.proofs.OneChain.{file_by, placed_at}
+use Rattle.bitfile_core.proofs.OneChain.{placed_at}
 use Rattle.chain_release.specs.declared.reader.Reader.{Reader}
 use Rattle.chain_release.specs.declared.released.Released.{Released}
 use Rattle.chain_release.specs.declared.released.Released.TheVariants as released
@@ -34,10 +33,10 @@ use Rattle.chain_release.proofs.Outcome.{on_at}
 use Rattle.deferred_delete.specs.declared.list.Entry.{Entry}
 use Rattle.deferred_delete.specs.Listed.{IsEntry, IsListed, stale_from}
 use Rattle.deferred_delete.specs.Listing.{Listing}
-use Rattle.deferred_delete.specs.Standing.{Files, IsStanding, StandTogether, place_in, source_at, source_in, source_of, with_file}
+use Rattle.deferred_delete.specs.Standing.{Files, IsStanding, Source, StandTogether, place_in, source_at, source_in, source_of, with_file}
 use Rattle.deferred_delete.specs.Steps.{IsGiven, with_clone}
 use Rattle.deferred_delete.proofs.Firsts.{first_same, then_then}
-use Rattle.deferred_delete.proofs.Standings.{apart_by, apart_from, each_from, file_other, file_there, low_home, place_by, reads_by, same_or_not, standing}
+use Rattle.deferred_delete.proofs.Standings.{apart_by, apart_from, chain_by, each_from, file_other, file_there, low_home, place_by, reads_by, same_or_not, source_file, stand_chain, standing}
 
 pub some_same : {X : Type 0} (x y : X) → Some x ≡ Some y → x ≡ y
 some_same x y same = ap (λ o. unwrap_or o x) same
@@ -93,7 +92,7 @@ has_reader files None (Some r) own given = absurd given
 has_reader files (Some c) None own given = absurd given
 has_reader files (Some c) (Some r) own given = inr (record { clone = c; r = r; is_clone = refl; is_reader = refl; at = given.0; own_is = given.1; frozen = given.2 })
 
-module _ (space : Spaces) (cells : Cells) (old : Pages) (files : Files) (together : StandTogether space cells old files) (entry : Entry) (is_entry : IsEntry files entry) (chain : List PlacedCell) (is : files entry.at ≡ Some chain)
+module _ (space : Spaces) (cells : Cells) (old : Pages) (files : Files) (together : StandTogether space cells old files) (entry : Entry) (is_entry : IsEntry files entry) (chain : List PlacedCell) (is : files entry.at ≡ Some chain) (is_file : IsFile old entry.at chain)
     (reader : Option Reader) (own : List PlacedCell) (given : IsGiven files entry.clone reader own) where
   pub not_clone : ¬ entry.clone ≡ Some entry.at
   not_clone same = let reads = is_entry.given entry.at same in together.one_deep entry.at entry.at entry.at reads reads
@@ -107,12 +106,19 @@ module _ (space : Spaces) (cells : Cells) (old : Pages) (files : Files) (togethe
   chain_place : (p : ℕ) (home : Home) → places_of chain p ≡ At home → place_in files entry.at p ≡ At home
   chain_place p home there = place_by files entry.at chain p is ∙ there
 
+  own_file : (q : Reads files entry.clone reader own) → IsFile old q.clone own
+  own_file q = source_file old q.clone own (standing space cells old files together q.clone own q.own_is).stands (some_source (source_of own) q.frozen)
+    where
+      some_source : (o : Option Source) → IsSomeAnd o (λ source. source.frozen ≡ q.r.frozen) → IsSome o
+      some_source None is = absurd is
+      some_source (Some s) is = refl
+
   pub sharing : AreSharing entry.at reader space cells old chain own
   sharing = record {
-    file = file.file;
+    file = is_file;
     reads = ⊎_elim
         (λ none. subst (λ o. IsReader old o own) (sym none.1) none.2)
-        (λ q. subst (λ o. IsReader old o own) (sym q.is_reader) (subst (λ (a : CellAt). IsFile old a own) (sym q.at) (standing space cells old files together q.clone own q.own_is).file))
+        (λ q. subst (λ o. IsReader old o own) (sym q.is_reader) (subst (λ (a : CellAt). IsFile old a own) (sym q.at) (own_file q)))
         has;
     on_tables = file.on_tables;
     own_on_tables = ⊎_elim
@@ -157,7 +163,7 @@ module _ (space : Spaces) (cells : Cells) (old : Pages) (files : Files) (togethe
         record {
           held = subst (λ (s : Spaces). IsHeld s home.vol home.page) (sym r.given.is)
               (held_given (use_of chain) group r.given.homes r.space_between home
-              (λ x inside. let gone = (r.given.each x).0 inside in (good_page (runs_of (records_of chain)) (file_map old entry.at chain file.file).placed gone.page x gone.was).low)
+              (λ x inside. let gone = (r.given.each x).0 inside in (good_page (runs_of (records_of chain)) (file_map old entry.at chain is_file).placed gone.page x gone.was).low)
               low
               (λ inside. stays ((r.given.each home).0 inside))
               between.held);
@@ -201,21 +207,21 @@ module _ (space : Spaces) (cells : Cells) (old : Pages) (files : Files) (togethe
     own_stands a some =
         let q = reads_at a some in
         let reads = subst (λ o. IsReader new o r.own_now) q.0.is_reader r.again.reads in
-        record { file = subst (λ (b : CellAt). IsFile new b r.own_now) (q.0.at ∙ q.1) reads; on_tables = r.again.own_on_tables }
+        record { stands = inl (subst (λ (b : CellAt). IsFile new b r.own_now) (q.0.at ∙ q.1) reads); on_tables = r.again.own_on_tables }
 
     other_stands : (a : CellAt) (cs : List PlacedCell) → ¬ a ≡ entry.at → ¬ entry.clone ≡ Some a → files a ≡ Some cs → IsStanding cells_now new a cs
     other_stands a cs not_at not_it is_a =
         let s = standing space cells old files together a cs is_a in
         record {
-          file = file_by old new a cs
+          stands = chain_by old new a cs
               (stay_both cells chain own old new others cs
               (apart_by space cells old files together a entry.at cs chain is_a is not_at)
               (⊎_elim
               (λ none at in_cs in_own. nothing_inside at own none.2 in_own)
               (λ q. apart_by space cells old files together a q.clone cs own is_a q.own_is (λ same. not_it (q.is_clone ∙ ap Some (sym same))))
               has)
-              s.on_tables (stand_file old a cs s.file))
-              s.file;
+              s.on_tables (stand_chain old a cs s.stands))
+              s.stands;
           on_tables = on_grown cells cells_now tables cs s.on_tables;
         }
 
@@ -225,7 +231,7 @@ module _ (space : Spaces) (cells : Cells) (old : Pages) (files : Files) (togethe
         by_which : Which entry.at entry.clone a → IsStanding cells_now new a cs
         by_which (source same) =
             subst (IsStanding cells_now new a) (some_same r.after cs (sym at_source ∙ sym (ap now same) ∙ is_now))
-            (subst (λ (b : CellAt). IsStanding cells_now new b r.after) (sym same) (record { file = r.again.file; on_tables = r.again.on_tables }))
+            (subst (λ (b : CellAt). IsStanding cells_now new b r.after) (sym same) (record { stands = inl r.again.file; on_tables = r.again.on_tables }))
         by_which (reading some) = subst (IsStanding cells_now new a) (some_same r.own_now cs (sym (clone_now a some) ∙ is_now)) (own_stands a some)
         by_which (other not_at not_it) = other_stands a cs not_at not_it (sym (at_other a not_at not_it) ∙ is_now)
 
@@ -240,7 +246,7 @@ module _ (space : Spaces) (cells : Cells) (old : Pages) (files : Files) (togethe
         (λ none. nothing_inside c.0.at own none.2 was_own)
         (λ w. apart_by space cells old files together w.clone b own ys w.own_is is_b (λ same. not_it (w.is_clone ∙ ap Some same)) c.0.at was_own (subst (Contains (places ys)) (sym c.2) in_ys))
         has) in
-        let cell = stands_in old ys q (stand_file old b ys s.file) in_ys in
+        let cell = stands_in old ys q (stand_chain old b ys s.stands) in_ys in
         joins.was_free cell.0 (subst (λ (a : CellAt). StandsAt old a cell.0) (sym c.2) cell.1) (subst (λ (a : CellAt). Contains (table_of cells a.vol) a.page) (sym c.2) (on_at cells ys q s.on_tables in_ys))
 
     source_apart : (b : CellAt) (ys : List PlacedCell) → files b ≡ Some ys → ¬ b ≡ entry.at → AreApart r.after ys
@@ -370,7 +376,7 @@ module _ (space : Spaces) (cells : Cells) (old : Pages) (files : Files) (togethe
         all = λ c reads. was.all c (reads_by files now c e.at (sources_now c) reads);
       };
       once = listed.once;
-      clones = listed.clones;
+      order = listed.order;
       pages_once = listed.pages_once;
       pages_low = listed.pages_low;
       pages_held = λ home inside. held_still home (listed.pages_low home inside) (listed.pages_held home inside) (λ g. listed.pages_apart home inside entry.at g.page (chain_place g.page home g.was));

@@ -1,5 +1,5 @@
 -- The steps of the last entry, each with what it leaves.
-use Rattle.std.proofs.Common.{◌≡◌, ◌∙◌, ℕ, false, List, [], ◌∷◌, ◌++◌, Option, Some, None, IsSome, Contains, refl, sym, ap, subst, arith}
+use Rattle.std.proofs.Common.{◌≡◌, ◌∙◌, inl, ℕ, false, List, [], ◌∷◌, ◌++◌, Option, Some, None, IsSome, Contains, refl, sym, subst}
 use Rattle.std.proofs.lemmas.Bool.{true≢false}
 use Rattle.std.specs.Option.{option_and_then}
 use Rattle.domain_base.specs.declared.place.CellAt.{CellAt}
@@ -9,36 +9,30 @@ use Rattle.page_store.specs.Pages.{Pages, same_home}
 use Rattle.record_table.specs.declared.record.Record.{Record}
 use Rattle.record_table.specs.declared.record.Leftover.{Leftover}
 use Rattle.record_table.specs.declared.record.Leftover.TheVariants.{Remove, Trim}
-use Rattle.bmt_mcells.specs.CellPage.{KeepsHeaders, KeepsWellFormed, home_of}
+use Rattle.bmt_mcells.specs.CellPage.{IsUsedAt, KeepsHeaders, KeepsWellFormed, home_of}
 use Rattle.bmt_mcells.specs.Cell.{Cell, record_of}
 use Rattle.bmt_mcells.specs.Chain.{LeavesOthers, PlacedCell, StandsAt, is_at}
-use Rattle.extent_maps.specs.declared.run.PagePlace.TheVariants.{Absent}
-use Rattle.extent_records.specs.Writing.{places_in}
 use Rattle.free_cells.specs.Cells.{Cells, FreesCell, table_of}
 use Rattle.free_space.specs.Spaces.{Spaces}
 use Rattle.bitfile_cells.specs.Allocated.{AreAllocated}
-use Rattle.bitfile_cells.specs.Files.{HasMap, IsFile, has_rows, map_records, places_of}
+use Rattle.bitfile_cells.specs.Files.{IsFile}
 use Rattle.bitfile_cells.specs.MapChanges.{LeavesOffTables}
-use Rattle.bitfile_cells.proofs.Added.{off_table, start_on}
-use Rattle.bitfile_cells.proofs.MapRecords.{value_has_rows}
-use Rattle.bitfile_cells.proofs.Replaced.{filter_true}
+use Rattle.bitfile_cells.proofs.Added.{off_table, used_of}
 use Rattle.bitfile_core.specs.Changes.{with_first}
 use Rattle.chain_release.specs.declared.reader.Reader.{Reader}
 use Rattle.chain_release.specs.declared.released.Released.{Released}
 use Rattle.chain_release.specs.Releases.{LacksPlace, LeavesBoth, Releases}
 use Rattle.chain_release.specs.Sharing.{IsReleased, frozen_of}
-use Rattle.chain_release.proofs.Found.{one_cell}
-use Rattle.chain_release.proofs.Once.{shown_value}
 use Rattle.deferred_delete.specs.declared.list.Entry.{Entry}
 use Rattle.deferred_delete.specs.declared.went.Went.TheVariants as went
 use Rattle.deferred_delete.specs.Listed.{GoesWhole, IsListed, from_by, left_of}
 use Rattle.deferred_delete.specs.Listing.{Listing}
-use Rattle.deferred_delete.specs.Standing.{Files, IsStanding, source_in, source_of, with_file}
+use Rattle.deferred_delete.specs.Standing.{Files, IsFileOrQuotas, IsStanding, source_in, source_of, with_file}
 use Rattle.deferred_delete.specs.Steps.{HasEntry, HasRecord, IsEnding, IsEndingWhole, IsWell, LacksRoom, Leaves, Now, TakesTagPage, file_ends, list_after, now_of, pages_go, reading_ends, says_no_source, says_trimmed, tag_page_goes, trim_ends}
 use Rattle.deferred_delete.proofs.Ends.{alone_listed, alone_together, gone_listed, gone_together, trim_listed, trim_together}
 use Rattle.deferred_delete.proofs.Lists.{last_in}
-use Rattle.deferred_delete.proofs.Spread.{now, spread_listed, spread_together}
-use Rattle.deferred_delete.proofs.Standings.{standing}
+use Rattle.deferred_delete.proofs.Spread.{now, some_same, spread_listed, spread_together}
+use Rattle.deferred_delete.proofs.Standings.{linked_at, not_nil, source_file, standing, trim_file}
 use Rattle.deferred_delete.proofs.Well.{IsReady, source_chain, tag_page_well}
 
 -- pages or a cell went
@@ -49,13 +43,14 @@ pub part_went : (group : ℕ) (version : Version) (list : Listing) (front : List
 part_went group version list front files entry left from reader space space_now cells cells_now old new what has ready releases others elsewhere allocated =
     let r = subst (λ (n : ℕ). Releases n entry.at reader group version ready.chain ready.own space space_now cells cells_now old new what) ready.from_is releases in
     record {
-      files = now space cells old files has.well.together entry ready.is_entry ready.chain ready.is reader ready.own ready.given group version space_now cells_now new what r others allocated;
+      files = now space cells old files has.well.together entry ready.is_entry ready.chain ready.is ready.file reader ready.own ready.given group version space_now cells_now new what r others allocated;
       step = pages_go (record {
         front = front;
         entry = entry;
         last = has.last;
         chain = ready.chain;
         is = ready.is;
+        file = ready.file;
         reader = reader;
         own = ready.own;
         given = ready.given;
@@ -68,8 +63,8 @@ part_went group version list front files entry left from reader space space_now 
         elsewhere = elsewhere;
       });
       well = record {
-        together = spread_together space cells old files has.well.together entry ready.is_entry ready.chain ready.is reader ready.own ready.given group version space_now cells_now new what r others allocated;
-        listed = spread_listed space cells old files has.well.together entry ready.is_entry ready.chain ready.is reader ready.own ready.given group version space_now cells_now new what r others allocated list has.well.listed;
+        together = spread_together space cells old files has.well.together entry ready.is_entry ready.chain ready.is ready.file reader ready.own ready.given group version space_now cells_now new what r others allocated;
+        listed = spread_listed space cells old files has.well.together entry ready.is_entry ready.chain ready.is ready.file reader ready.own ready.given group version space_now cells_now new what r others allocated list has.well.listed;
       };
     }
 
@@ -94,12 +89,16 @@ ending_whole front entry left at whole ending = record {
 }
 
 -- a first cell stands at its place
-pub first_stands : (pages : Pages) (at : CellAt) (first : PlacedCell) (rest : List PlacedCell) → IsFile pages at (first ∷ rest) → StandsAt pages at first.cell
-first_stands pages at first rest is = subst (λ (a : CellAt). StandsAt pages a first.cell) is.0 is.1.links.stands
+pub first_stands : (pages : Pages) (at : CellAt) (first : PlacedCell) (rest : List PlacedCell) → IsFileOrQuotas pages at (first ∷ rest) → StandsAt pages at first.cell
+first_stands pages at first rest is = let l = linked_at pages at first rest is in subst (λ (a : CellAt). StandsAt pages a first.cell) l.0 l.1.stands
 
 -- a page on no table is none of a first cell's
 off_first : (pages : Pages) (cells : Cells) (at : CellAt) (chain : List PlacedCell) (h : Home) → IsStanding cells pages at chain → ¬ Contains (table_of cells h.vol) h.page → same_home h (home_of at) ≡ false
-off_first pages cells at chain h is off = off_table cells at h (start_on pages cells at chain is.file is.on_tables) off
+off_first pages cells at chain h is off = off_table cells at h (on_table chain is) off
+  where
+    on_table : (chain : List PlacedCell) → IsStanding cells pages at chain → Contains (table_of cells at.vol) at.page
+    on_table [] is = absurd (not_nil pages at is.stands)
+    on_table (c ∷ rest) is = subst (λ (a : CellAt). Contains (table_of cells a.vol) a.page) (linked_at pages at c rest is.stands).0 is.on_tables.0
 
 -- a trim is done
 pub trim_went : (group : ℕ) (version : Version) (list : Listing) (front : List Entry) (files : Files) (entry : Entry) (space : Spaces) (cells : Cells) (old new : Pages) → IsEnding front entry (Some Trim) (now_of list files space cells old)
@@ -108,9 +107,10 @@ pub trim_went : (group : ℕ) (version : Version) (list : Listing) (front : List
 trim_went group version list front files entry space cells old new ending stands leaves good headers elsewhere = by_chain ending.chain ending.is ending.left_is ending.done
   where
     by_chain : (chain : List PlacedCell) → files entry.at ≡ Some chain → left_of chain ≡ Some Trim → IsReleased (from_by (Some Trim) chain) chain → Leaves group version (now_of list files space cells old) (list_after went.Last front entry list) space cells new
-    by_chain [] is left done = absurd (standing space cells old files ending.has.well.together entry.at [] is).file
+    by_chain [] is left done = absurd (not_nil old entry.at (standing space cells old files ending.has.well.together entry.at [] is).stands)
     by_chain (first ∷ rest) is left done =
-        let here = stands first.cell (first_stands old entry.at first rest (standing space cells old files ending.has.well.together entry.at (first ∷ rest) is).file) in
+        let file = trim_file old entry.at (first ∷ rest) (standing space cells old files ending.has.well.together entry.at (first ∷ rest) is).stands left in
+        let here = stands first.cell (first_stands old entry.at first rest (standing space cells old files ending.has.well.together entry.at (first ∷ rest) is).stands) in
         record {
           files = with_file entry.at (Some (with_first says_trimmed (first ∷ rest))) files;
           step = trim_ends (record {
@@ -132,8 +132,8 @@ trim_went group version list front files entry space cells old new ending stands
             elsewhere = λ h off. elsewhere h (off_first old cells entry.at (first ∷ rest) h (standing space cells old files ending.has.well.together entry.at (first ∷ rest) is) off);
           });
           well = record {
-            together = trim_together space cells old new files ending.has.well.together front entry list.tag_pages first rest is leaves here good headers;
-            listed = trim_listed space cells old new files ending.has.well.together front entry list.tag_pages first rest is leaves here good headers (listed_as space cells files list front entry ending.has.last ending.has.well.listed);
+            together = trim_together space cells old new files ending.has.well.together front entry list.tag_pages first rest is file leaves here good headers;
+            listed = trim_listed space cells old new files ending.has.well.together front entry list.tag_pages first rest is file leaves here good headers (listed_as space cells files list front entry ending.has.last ending.has.well.listed);
           };
         }
 
@@ -150,7 +150,7 @@ clone_record list front files entry space cells old clone given has =
 
     by_own : (own : List PlacedCell) → files clone ≡ Some own → IsSome (source_of own) → HasRecord 2 old clone
     by_own [] is some = absurd (true≢false (sym some))
-    by_own (first ∷ rest) is some = by_value first (first_stands old clone first rest (standing space cells old files has.well.together clone (first ∷ rest) is).file) (record_of 2 first.cell.records) refl some
+    by_own (first ∷ rest) is some = by_value first (first_stands old clone first rest (standing space cells old files has.well.together clone (first ∷ rest) is).stands) (record_of 2 first.cell.records) refl some
 
 -- a file's first cell says its attributes
 pub entry_record : (list : Listing) (front : List Entry) (files : Files) (entry : Entry) (left : Option Leftover) (space : Spaces) (cells : Cells) (old : Pages) → IsEnding front entry left (now_of list files space cells old) → HasRecord 1 old entry.at
@@ -161,10 +161,10 @@ entry_record list front files entry left space cells old ending = by_chain endin
     by_value first stands (Some value) is some = record { cell = first.cell; stands = stands; value = value; has = is }
 
     by_chain : (chain : List PlacedCell) → files entry.at ≡ Some chain → HasRecord 1 old entry.at
-    by_chain [] is = absurd (standing space cells old files ending.has.well.together entry.at [] is).file
+    by_chain [] is = absurd (not_nil old entry.at (standing space cells old files ending.has.well.together entry.at [] is).stands)
     by_chain (first ∷ rest) is =
-        let s = standing space cells old files ending.has.well.together entry.at (first ∷ rest) is in
-        by_value first (first_stands old entry.at first rest s.file) (record_of 1 first.cell.records) refl s.file.1.attributes
+        let file = subst (IsFile old entry.at) (some_same ending.chain (first ∷ rest) (sym ending.is ∙ is)) ending.file in
+        by_value first (first_stands old entry.at first rest (inl file)) (record_of 1 first.cell.records) refl file.1.attributes
 
 -- a clone reads through its source no more
 pub reading_went : (group : ℕ) (version : Version) (list : Listing) (front : List Entry) (files : Files) (entry : Entry) (space : Spaces) (cells : Cells) (old new : Pages) (clone : CellAt) → entry.clone ≡ Some clone → IsEndingWhole front entry (now_of list files space cells old)
@@ -173,12 +173,13 @@ pub reading_went : (group : ℕ) (version : Version) (list : Listing) (front : L
 reading_went group version list front files entry space cells old new clone given ending stands leaves good headers elsewhere =
     let entry_is = ending.has.well.listed.each entry (subst (λ (es : List Entry). Contains es entry) (sym ending.has.last) (last_in front entry)) in
     let own = source_chain files clone entry.at (entry_is.given clone given) in
-    by_own own.0 own.1
+    by_own own.0 own.1 own.2
   where
-    by_own : (own : List PlacedCell) → files clone ≡ Some own → Leaves group version (now_of list files space cells old) (list_after went.Reading front entry list) space cells new
-    by_own [] is = absurd (standing space cells old files ending.has.well.together clone [] is).file
-    by_own (first ∷ rest) is =
-        let here = stands first.cell (first_stands old clone first rest (standing space cells old files ending.has.well.together clone (first ∷ rest) is).file) in
+    by_own : (own : List PlacedCell) → files clone ≡ Some own → IsSome (source_of own) → Leaves group version (now_of list files space cells old) (list_after went.Reading front entry list) space cells new
+    by_own [] is some = absurd (not_nil old clone (standing space cells old files ending.has.well.together clone [] is).stands)
+    by_own (first ∷ rest) is some =
+        let file = source_file old clone (first ∷ rest) (standing space cells old files ending.has.well.together clone (first ∷ rest) is).stands some in
+        let here = stands first.cell (first_stands old clone first rest (standing space cells old files ending.has.well.together clone (first ∷ rest) is).stands) in
         let listed = listed_as space cells files list front entry ending.has.last ending.has.well.listed in
         record {
           files = with_file clone (Some (with_first says_no_source (first ∷ rest))) files;
@@ -205,60 +206,67 @@ reading_went group version list front files entry space cells old new clone give
             elsewhere = λ h off. elsewhere h (off_first old cells clone (first ∷ rest) h (standing space cells old files ending.has.well.together clone (first ∷ rest) is) off);
           });
           well = record {
-            together = alone_together space cells old new files ending.has.well.together front entry list.tag_pages listed clone given first rest is leaves here good headers;
-            listed = alone_listed space cells old new files ending.has.well.together front entry list.tag_pages listed clone given first rest is leaves here good headers;
+            together = alone_together space cells old new files ending.has.well.together front entry list.tag_pages listed clone given first rest is file leaves here good headers;
+            listed = alone_listed space cells old new files ending.has.well.together front entry list.tag_pages listed clone given first rest is file leaves here good headers;
           };
         }
 
--- a file that has let go of all has one cell
-pub only_cell : (list : Listing) (front : List Entry) (files : Files) (entry : Entry) (space : Spaces) (cells : Cells) (old : Pages) → IsEndingWhole front entry (now_of list files space cells old)
-    → (first : PlacedCell) × IsFile old entry.at (first ∷ []) × ((page : ℕ) → places_of (first ∷ []) page ≡ Absent)
-only_cell list front files entry space cells old ending = by_chain ending.chain (standing space cells old files ending.has.well.together entry.at ending.chain ending.is).file ending.done
-  where
-    by_chain : (chain : List PlacedCell) → IsFile old entry.at chain → IsReleased 0 chain → (first : PlacedCell) × IsFile old entry.at (first ∷ []) × ((page : ℕ) → places_of (first ∷ []) page ≡ Absent)
-    by_chain [] file done = absurd file
-    by_chain (first ∷ []) file done = (first, file, λ page. done.absent page (omega arith))
-    by_chain (first ∷ c ∷ rest) file done =
-        let map = file.1.others.0 in
-        let has : HasMap c.cell map.value = record { only = ap map_records map.only ∙ filter_true has_rows map.value [] (value_has_rows map.value map.is_map); is_map = map.is_map } in
-        let pages = done.later.0 in
-        let there : ¬ places_in map.value pages.page ≡ Absent = (λ e. pages.there (one_cell c map.value pages.page has ∙ e)) in
-        absurd (there (sym (shown_value (first ∷ []) c rest map.value has file.1.one_map pages.page there) ∙ done.absent pages.page (omega arith)))
+-- the first cell of what the last entry is of may be freed
+module _ (list : Listing) (front : List Entry) (files : Files) (entry : Entry) (space : Spaces) (cells : Cells) (old : Pages) (ending : IsEndingWhole front entry (now_of list files space cells old)) where
+  stood : (chain : List PlacedCell) → IsStanding cells old entry.at chain → (cell : Cell) × StandsAt old entry.at cell × Contains (table_of cells entry.at.vol) entry.at.page
+  stood [] is = absurd (not_nil old entry.at is.stands)
+  stood (first ∷ rest) is = (
+    first.cell,
+    first_stands old entry.at first rest is.stands,
+    subst (λ (a : CellAt). Contains (table_of cells a.vol) a.page) (linked_at old entry.at first rest is.stands).0 is.on_tables.0,
+  )
 
--- a file's last cell goes
+  there : (cell : Cell) × StandsAt old entry.at cell × Contains (table_of cells entry.at.vol) entry.at.page
+  there = stood ending.chain (standing space cells old files ending.has.well.together entry.at ending.chain ending.is)
+
+  pub entry_used : IsUsedAt old entry.at
+  entry_used = used_of old entry.at there.0 there.1
+
+  pub entry_on : Contains (table_of cells entry.at.vol) entry.at.page
+  entry_on = there.2
+
+-- the last cell of a file, or of quotas, goes
+pub cell_went : (group : ℕ) (version : Version) (list : Listing) (front : List Entry) (files : Files) (entry : Entry) (space : Spaces) (cells cells_now : Cells) (old new : Pages) → entry.clone ≡ None → HasEntry front entry (now_of list files space cells old)
+    → (chain : List PlacedCell) → files entry.at ≡ Some chain → GoesWhole chain → IsReleased 0 chain → LeavesOthers (is_at entry.at) old new → FreesCell entry.at cells cells_now → AreAllocated space cells_now new → LeavesOffTables cells_now old new
+    → Leaves group version (now_of list files space cells old) (list_after went.File front entry list) space cells_now new
+cell_went group version list front files entry space cells cells_now old new alone has [] is left done leaves frees allocated elsewhere = absurd (not_nil old entry.at (standing space cells old files has.well.together entry.at [] is).stands)
+cell_went group version list front files entry space cells cells_now old new alone has (first ∷ rest) is left done leaves frees allocated elsewhere =
+    let listed = listed_as space cells files list front entry has.last has.well.listed in
+    record {
+      files = with_file entry.at None files;
+      step = file_ends (record {
+        front = front;
+        entry = entry;
+        last = has.last;
+        chain = first ∷ rest;
+        is = is;
+        whole = left;
+        done = done;
+        alone = alone;
+        files = refl;
+        list = refl;
+        frees = frees;
+        same_space = refl;
+        allocated = allocated;
+        others = leaves;
+        elsewhere = elsewhere;
+      });
+      well = record {
+        together = gone_together space cells cells_now old new files has.well.together front entry list.tag_pages listed first rest is leaves frees allocated;
+        listed = gone_listed space cells cells_now old new files has.well.together front entry list.tag_pages listed first rest is leaves frees allocated;
+      };
+    }
+
 pub file_went : (group : ℕ) (version : Version) (list : Listing) (front : List Entry) (files : Files) (entry : Entry) (space : Spaces) (cells cells_now : Cells) (old new : Pages) → entry.clone ≡ None → IsEndingWhole front entry (now_of list files space cells old)
     → LeavesOthers (is_at entry.at) old new → FreesCell entry.at cells cells_now → AreAllocated space cells_now new → LeavesOffTables cells_now old new
-    → Leaves group version (now_of list files space cells old) (list_after went.Last front entry list) space cells_now new
-file_went group version list front files entry space cells cells_now old new alone ending leaves frees allocated elsewhere = by_chain ending.chain ending.is ending.whole ending.done
-  where
-    by_chain : (chain : List PlacedCell) → files entry.at ≡ Some chain → GoesWhole chain → IsReleased 0 chain → Leaves group version (now_of list files space cells old) (list_after went.Last front entry list) space cells_now new
-    by_chain [] is left done = absurd (standing space cells old files ending.has.well.together entry.at [] is).file
-    by_chain (first ∷ rest) is left done =
-        let listed = listed_as space cells files list front entry ending.has.last ending.has.well.listed in
-        record {
-          files = with_file entry.at None files;
-          step = file_ends (record {
-            front = front;
-            entry = entry;
-            last = ending.has.last;
-            chain = first ∷ rest;
-            is = is;
-            whole = left;
-            done = done;
-            alone = alone;
-            files = refl;
-            list = refl;
-            frees = frees;
-            same_space = refl;
-            allocated = allocated;
-            others = leaves;
-            elsewhere = elsewhere;
-          });
-          well = record {
-            together = gone_together space cells cells_now old new files ending.has.well.together front entry list.tag_pages listed first rest is leaves frees allocated;
-            listed = gone_listed space cells cells_now old new files ending.has.well.together front entry list.tag_pages listed first rest is leaves frees allocated;
-          };
-        }
+    → Leaves group version (now_of list files space cells old) (list_after went.File front entry list) space cells_now new
+file_went group version list front files entry space cells cells_now old new alone ending leaves frees allocated elsewhere =
+    cell_went group version list front files entry space cells cells_now old new alone ending.has ending.chain ending.is ending.whole ending.done leaves frees allocated elsewhere
 
 -- ---- from what a step of the chain answers
 
@@ -272,6 +280,7 @@ ending_now list front files entry left from reader space cells cells_now old new
       has = has;
       chain = ready.chain;
       is = ready.is;
+      file = ready.file;
       left_is = ready.left_is;
       done = subst (λ o. IsReleased (from_by o ready.chain) ready.chain) ready.left_is (subst (λ (n : ℕ). IsReleased n ready.chain) ready.from_is released);
     }))

@@ -25,10 +25,10 @@ use Rattle.deferred_delete.specs.declared.list.Entry.{Entry}
 use Rattle.deferred_delete.specs.Listed.{IsEntry, IsListed, from_by, left_of, stale_from}
 use Rattle.deferred_delete.specs.Listing.{Listing}
 use Rattle.deferred_delete.specs.Standing.{Files, ReadsThrough, Source, StandTogether, source_of}
-use Rattle.deferred_delete.specs.Steps.{HasEntry, IsGiven, IsWell, ReadsFrozen, TakesTagPage, now_of}
+use Rattle.deferred_delete.specs.Steps.{HasEntry, HasFileEntry, IsGiven, IsWell, ReadsFrozen, TakesTagPage, now_of}
 use Rattle.deferred_delete.proofs.Lists.{home_not_last, homes_front, in_start, last_in}
 use Rattle.deferred_delete.proofs.Spread.{sharing}
-use Rattle.deferred_delete.proofs.Standings.{low_home, standing}
+use Rattle.deferred_delete.proofs.Standings.{low_home, source_file, standing}
 
 -- ---- nothing was done
 
@@ -45,7 +45,7 @@ well_missed list files space cells pages well = record {
   listed = record {
     each = well.listed.each;
     once = well.listed.once;
-    clones = well.listed.clones;
+    order = well.listed.order;
     pages_once = well.listed.pages_once;
     pages_low = well.listed.pages_low;
     pages_held = λ home inside. kept home (well.listed.pages_held home inside);
@@ -102,7 +102,7 @@ module _ (group : ℕ) (list list_now : Listing) (files : Files) (space space_no
   listed_after = record {
     each = well.listed.each;
     once = well.listed.once;
-    clones = well.listed.clones;
+    order = well.listed.order;
     pages_once = homes_front takes.front takes.home once_now;
     pages_low = λ home inside. well.listed.pages_low home (before home inside);
     pages_held = λ home inside. kept home (well.listed.pages_low home (before home inside))
@@ -124,13 +124,14 @@ pub record IsReady (files : Files) (entry : Entry) (left : Option Leftover) (fro
   pub is_entry : IsEntry files entry
   pub chain : List PlacedCell
   pub is : files entry.at ≡ Some chain
+  pub file : IsFile pages entry.at chain
   pub left_is : left_of chain ≡ left
   pub from_is : from ≡ stale_from chain
   pub own : List PlacedCell
   pub given : IsGiven files entry.clone reader own
   pub shares : AreSharing entry.at reader space cells pages chain own
 
-chain_of : (files : Files) (at : CellAt) → IsSome (files at) → (chain : List PlacedCell) × (files at ≡ Some chain)
+pub chain_of : (files : Files) (at : CellAt) → IsSome (files at) → (chain : List PlacedCell) × (files at ≡ Some chain)
 chain_of files at some = by_chain (files at) refl some
   where
     by_chain : (o : Option (List PlacedCell)) → files at ≡ o → IsSome o → (chain : List PlacedCell) × (files at ≡ Some chain)
@@ -161,23 +162,28 @@ given_of files entry reader space cells pages together is_entry none some = by_c
     by_clone None is = ([], subst (λ o. IsGiven files o reader []) (sym is) (subst (λ r. IsGiven files None r []) (sym (none is)) refl))
     by_clone (Some at) is =
         let c = source_chain files at entry.at (is_entry.given at is) in
-        (c.0, subst (λ o. IsGiven files o reader c.0) (sym is) (by_reader at c.0 c.1 reader (some at c.0 is (standing space cells pages files together at c.0 c.1).file c.2)))
+        (c.0, subst (λ o. IsGiven files o reader c.0) (sym is) (by_reader at c.0 c.1 reader (some at c.0 is (source_file pages at c.0 (standing space cells pages files together at c.0 c.1).stands c.2) c.2)))
 
-pub ready : (list : Listing) (front : List Entry) (files : Files) (entry : Entry) (left : Option Leftover) (from : ℕ) (reader : Option Reader) (space : Spaces) (cells : Cells) (pages : Pages) → HasEntry front entry (now_of list files space cells pages)
+-- an entry that is of a file, whatever chain is its
+pub as_file : (list : Listing) (front : List Entry) (files : Files) (entry : Entry) (space : Spaces) (cells : Cells) (pages : Pages) → HasFileEntry front entry (now_of list files space cells pages) → (chain : List PlacedCell) → files entry.at ≡ Some chain → IsFile pages entry.at chain
+as_file list front files entry space cells pages has chain is = has.file chain is
+
+pub ready : (list : Listing) (front : List Entry) (files : Files) (entry : Entry) (left : Option Leftover) (from : ℕ) (reader : Option Reader) (space : Spaces) (cells : Cells) (pages : Pages) → HasEntry front entry (now_of list files space cells pages) → ((chain : List PlacedCell) → files entry.at ≡ Some chain → IsFile pages entry.at chain)
     → ((chain : List PlacedCell) → IsFile pages entry.at chain → left ≡ left_of chain) → ((chain : List PlacedCell) → IsFile pages entry.at chain → from ≡ from_by left chain) → (entry.clone ≡ None → reader ≡ None)
     → ((at : CellAt) (own : List PlacedCell) → entry.clone ≡ Some at → IsFile pages at own → IsSome (source_of own) → ReadsFrozen at own reader) → IsReady files entry left from reader space cells pages
-ready list front files entry left from reader space cells pages has lefts froms none some =
+ready list front files entry left from reader space cells pages has kind lefts froms none some =
     let is_entry = has.well.listed.each entry (subst (λ (es : List Entry). Contains es entry) (sym has.last) (last_in front entry)) in
     let c = chain_of files entry.at is_entry.there in
-    let file = (standing space cells pages files has.well.together entry.at c.0 c.1).file in
+    let file = kind c.0 c.1 in
     let given = given_of files entry reader space cells pages has.well.together is_entry none some in
     record {
       is_entry = is_entry;
       chain = c.0;
       is = c.1;
+      file = file;
       left_is = sym (lefts c.0 file);
       from_is = froms c.0 file ∙ ap (λ o. from_by o c.0) (lefts c.0 file);
       own = given.0;
       given = given.1;
-      shares = sharing space cells pages files has.well.together entry is_entry c.0 c.1 reader given.0 given.1;
+      shares = sharing space cells pages files has.well.together entry is_entry c.0 c.1 file reader given.0 given.1;
     }

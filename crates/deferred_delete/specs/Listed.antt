@@ -15,7 +15,7 @@ use Rattle.chain_release.specs.Releases.{AreAllOnce}
 use Rattle.bitfile_core.specs.Files.{first_record, keep_of}
 use Rattle.bitfile_core.specs.Together.{IsHeldApart}
 use Rattle.deferred_delete.specs.declared.list.Entry.{Entry}
-use Rattle.deferred_delete.specs.Listing.{Listing}
+use Rattle.deferred_delete.specs.Listing.{AreInOrder, Listing}
 use Rattle.deferred_delete.specs.Standing.{Files, ReadsThrough, place_in}
 
 -- what a file's first cell says is left to be done
@@ -46,14 +46,14 @@ pub record IsEntry (files : Files) (entry : Entry) : Type 0 where
   pub given : (clone : CellAt) → entry.clone ≡ Some clone → ReadsThrough files clone entry.at
   pub all : (clone : CellAt) → ReadsThrough files clone entry.at → entry.clone ≡ Some clone
 
--- the entries are so, no file has two, and no clone that is given has one; the pages of tag
--- directories stand on volumes, are held and none of cells, each once, and no file's
+-- the entries are so, no file has two, and that of a clone's file stands behind that of the file
+-- through which it reads; the pages of tag directories stand on volumes, are held and none of cells,
+-- each once, and no file's
 pub record IsListed (space : Spaces) (cells : Cells) (files : Files) (list : Listing) : Type 0 where
   pub each : (entry : Entry) → Contains list.entries entry → IsEntry files entry
   pub once : (i j : ℕ) (d : Entry) → i < length list.entries → j < length list.entries
       → (get_or list.entries i d).at ≡ (get_or list.entries j d).at → i ≡ j
-  pub clones : (a b : Entry) → Contains list.entries a → Contains list.entries b
-      → ¬ a.clone ≡ Some b.at
+  pub order : AreInOrder list.entries
   pub pages_once : AreAllOnce list.tag_pages
   pub pages_low : (home : Home) → Contains list.tag_pages home → 1 ≤ home.vol
   pub pages_held : (home : Home) → Contains list.tag_pages home → IsHeldApart space cells home

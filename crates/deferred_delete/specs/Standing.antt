@@ -1,12 +1,16 @@
 -- The chains of all files of a domain, and what of them belongs together.
-use Rattle.std.specs.Prelude.{◌≡◌, ◌==◌, ℕ, false, List, Option, Some, None, IfSome, IsSomeAnd, if◌then◌else◌}
+use Rattle.std.specs.List.{AllByRecursion}
+use Rattle.std.specs.Prelude.{◌≡◌, ◌⊎◌, ◌==◌, ℕ, false, List, [], ◌∷◌, Option, Some, None, IfSome, IsSomeAnd, if◌then◌else◌}
 use Rattle.std.specs.Option.{option_and_then, option_map_or}
 use Rattle.domain_base.specs.declared.place.CellAt.{CellAt}
 use Rattle.domain_base.specs.declared.place.Home.{Home}
 use Rattle.page_store.specs.Pages.{Pages}
 use Rattle.record_table.specs.declared.record.Record.{Record}
 use Rattle.record_table.specs.declared.record.Record.TheVariants as written
-use Rattle.bmt_mcells.specs.Chain.{PlacedCell, is_at}
+use Rattle.record_table.specs.Records.{kind_of}
+use Rattle.bmt_mcells.specs.declared.head.CellKind.TheVariants.{Quota}
+use Rattle.bmt_mcells.specs.Cell.{Cell}
+use Rattle.bmt_mcells.specs.Chain.{AreLinked, PlacedCell, is_at}
 use Rattle.extent_maps.specs.declared.run.PagePlace.{PagePlace}
 use Rattle.extent_maps.specs.declared.run.PagePlace.TheVariants.{Absent, At}
 use Rattle.free_cells.specs.Cells.{Cells}
@@ -19,7 +23,7 @@ use Rattle.bitfile_core.specs.Files.{AreApart, first_record}
 use Rattle.bitfile_core.specs.Together.{IsHeldApart}
 
 -- the chain that begins at a cell, of each file of all filesets, clones, and of files that no tag
--- names any more
+-- names any more; and of quota cells of filesets that were removed
 abbrev pub Files : Type 0
 Files = CellAt → Option (List PlacedCell)
 
@@ -63,10 +67,28 @@ abbrev pub read_at : Files → CellAt → ℕ → Option Home
 read_at files at page =
     option_and_then (λ cells. read_of files (source_of cells) cells page) (files at)
 
--- a file's chain begins there, and its cells stand on their volumes' tables
+-- a quota cell, whose records are limits of users and groups
+pub record IsQuotaCell (cell : Cell) : Type 0 where
+  pub kind : cell.head.kind ≡ Quota
+  pub limits : AllByRecursion (λ r. (kind_of r ≡ 7) ⊎ (kind_of r ≡ 8)) cell.records
+
+-- a chain of such cells begins there
+pub record AreQuotas (pages : Pages) (first : PlacedCell) (rest : List PlacedCell) : Type 0 where
+  pub links : AreLinked pages first rest
+  pub cells : AllByRecursion (λ (c : PlacedCell). IsQuotaCell c.cell) (first ∷ rest)
+
+abbrev pub IsQuotas : Pages → CellAt → List PlacedCell → Type 0
+IsQuotas pages at [] = ⊥
+IsQuotas pages at (first ∷ rest) = (first.at ≡ at) × AreQuotas pages first rest
+
+-- a file's chain begins there, or one of quota cells
+abbrev pub IsFileOrQuotas : Pages → CellAt → List PlacedCell → Type 0
+IsFileOrQuotas pages at chain = IsFile pages at chain ⊎ IsQuotas pages at chain
+
+-- such a chain begins there, and its cells stand on their volumes' tables
 pub record IsStanding (cells : Cells) (pages : Pages) (at : CellAt) (chain : List PlacedCell) : Type 0
   where
-    pub file : IsFile pages at chain
+    pub stands : IsFileOrQuotas pages at chain
     pub on_tables : AreOnTables cells chain
 
 -- no two files share a cell; each home of a page is held and none of cells, and it is that of one

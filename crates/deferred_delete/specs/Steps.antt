@@ -1,5 +1,5 @@
 -- The steps in which the things of a list are let go of.
-use Rattle.std.specs.Prelude.{◌≡◌, ◌⊎◌, ◌++◌, ◌∷◌, ◌+◌, ◌≤◌, ℕ, List, [], Option, Some, None, IsSomeAnd}
+use Rattle.std.specs.Prelude.{◌≡◌, ◌⊎◌, ◌++◌, ◌∷◌, ◌+◌, ◌||◌, ◌≤◌, ℕ, List, [], Option, Some, None, IsSomeAnd}
 use Rattle.std.specs.Option.{option_map}
 use Rattle.domain_base.specs.declared.place.CellAt.{CellAt}
 use Rattle.domain_base.specs.declared.place.Home.{Home}
@@ -20,6 +20,7 @@ use Rattle.free_space.specs.Spaces.{Spaces, change_volume}
 use Rattle.free_space.specs.VolumeSpace.{with_waiting}
 use Rattle.bitfile_cells.specs.Allocated.{AreAllocated, FindsNone}
 use Rattle.bitfile_cells.specs.Changes.{with_record}
+use Rattle.bitfile_cells.specs.Files.{IsFile}
 use Rattle.bitfile_cells.specs.MapChanges.{LeavesOffTables}
 use Rattle.bitfile_core.specs.Changes.{with_first}
 use Rattle.chain_release.specs.declared.reader.Reader.{Reader}
@@ -30,8 +31,8 @@ use Rattle.deferred_delete.specs.declared.list.Entry.{Entry}
 use Rattle.deferred_delete.specs.declared.went.Went.{Went}
 use Rattle.deferred_delete.specs.declared.went.Went.TheVariants as went
 use Rattle.deferred_delete.specs.Listed.{GoesWhole, IsListed, from_by, left_of, stale_from}
-use Rattle.deferred_delete.specs.Listing.{Listing}
-use Rattle.deferred_delete.specs.Standing.{Files, StandTogether, source_of, with_file}
+use Rattle.deferred_delete.specs.Listing.{Listing, without_clone}
+use Rattle.deferred_delete.specs.Standing.{Files, IsQuotas, StandTogether, source_of, with_file}
 
 -- what a step changes: the list, the files of the domain, free space, free cells and pages
 pub record Now : Type 0 where
@@ -85,6 +86,7 @@ pub record LetsPages (group : ℕ) (version : Version) (old new : Now) : Type 0 
   pub last : IsLast front entry old.list
   pub chain : List PlacedCell
   pub is : old.files entry.at ≡ Some chain
+  pub file : IsFile old.pages entry.at chain
   pub reader : Option Reader
   pub own : List PlacedCell
   pub given : IsGiven old.files entry.clone reader own
@@ -96,6 +98,34 @@ pub record LetsPages (group : ℕ) (version : Version) (old new : Now) : Type 0 
   pub same_list : new.list ≡ old.list
   pub allocated : AreAllocated new.space new.cells new.pages
   pub others : LeavesBoth old.cells chain own old.pages new.pages
+  pub elsewhere : LeavesOffTables new.cells old.pages new.pages
+
+-- a cell that leads to another one
+abbrev pub leads_to : Option CellAt → PlacedCell → PlacedCell
+leads_to next c = record {
+  at = c.at;
+  cell = record c.cell { head = record c.cell.head { next = next } };
+}
+
+-- of the last entry's quota cells the second goes: it is free, and the first leads past it
+pub record LosesQuotaCell (old new : Now) : Type 0 where
+  pub front : List Entry
+  pub entry : Entry
+  pub last : IsLast front entry old.list
+  pub first : PlacedCell
+  pub second : PlacedCell
+  pub rest : List PlacedCell
+  pub is : old.files entry.at ≡ Some (first ∷ second ∷ rest)
+  pub quotas : IsQuotas old.pages entry.at (first ∷ second ∷ rest)
+  pub after : List PlacedCell
+  pub after_is : after ≡ leads_to second.cell.head.next first ∷ rest
+  pub stands : IsQuotas new.pages entry.at after
+  pub files : new.files ≡ with_file entry.at (Some after) old.files
+  pub same_list : new.list ≡ old.list
+  pub same_space : new.space ≡ old.space
+  pub frees : FreesCell second.at old.cells new.cells
+  pub allocated : AreAllocated new.space new.cells new.pages
+  pub others : LeavesOthers (λ at. is_at first.at at || is_at second.at at) old.pages new.pages
   pub elsewhere : LeavesOffTables new.cells old.pages new.pages
 
 -- a record of attributes that says that all pages are kept
@@ -166,8 +196,8 @@ pub record EndsReading (old new : Now) : Type 0 where
   pub others : LeavesOthers (is_at clone) old.pages new.pages
   pub elsewhere : LeavesOffTables new.cells old.pages new.pages
 
--- the last entry's file goes, has no page left and no clone: its last cell is free, and nothing is
--- left of it
+-- the last entry's file goes, or its quota cells, has no page left and no clone: its last cell is
+-- free, nothing is left of it, and no entry gives it as its clone's any more
 pub record EndsFile (old new : Now) : Type 0 where
   pub front : List Entry
   pub entry : Entry
@@ -178,7 +208,10 @@ pub record EndsFile (old new : Now) : Type 0 where
   pub done : IsReleased 0 chain
   pub alone : entry.clone ≡ None
   pub files : new.files ≡ with_file entry.at None old.files
-  pub list : new.list ≡ record { entries = front; tag_pages = old.list.tag_pages }
+  pub list : new.list ≡ record {
+    entries = without_clone entry.at front;
+    tag_pages = old.list.tag_pages;
+  }
   pub frees : FreesCell entry.at old.cells new.cells
   pub same_space : new.space ≡ old.space
   pub allocated : AreAllocated new.space new.cells new.pages
@@ -209,6 +242,7 @@ pub record GivesTagPage (group : ℕ) (old new : Now) : Type 0 where
 -- something of a list is let go of
 pub data Step (group : ℕ) (version : Version) (old new : Now) : Type 0 where
   pages_go : LetsPages group version old new → Step group version old new
+  quota_goes : LosesQuotaCell old new → Step group version old new
   trim_ends : EndsTrim old new → Step group version old new
   reading_ends : EndsReading old new → Step group version old new
   file_ends : EndsFile old new → Step group version old new
@@ -222,7 +256,8 @@ pub data Steps (group : ℕ) (version : Version) (first : Now) : ℕ → Now →
 
 -- ** What a call answers
 
--- what a step of an entry leaves of it: all, all but its clone, or nothing
+-- what a step of an entry leaves of it: all, all but its clone, or nothing; and of the others all,
+-- but a clone of which nothing is left
 abbrev pub list_after : Went → List Entry → Entry → Listing → Listing
 list_after went.Part front entry list = list
 list_after went.Reading front entry list = record {
@@ -230,6 +265,10 @@ list_after went.Reading front entry list = record {
   tag_pages = list.tag_pages;
 }
 list_after went.Last front entry list = record { entries = front; tag_pages = list.tag_pages }
+list_after went.File front entry list = record {
+  entries = without_clone entry.at front;
+  tag_pages = list.tag_pages;
+}
 
 -- a cell in use stands there that has a record of a kind
 pub record HasRecord (kind : ℕ) (pages : Pages) (at : CellAt) : Type 0 where
@@ -249,6 +288,7 @@ pub record IsEnding (front : List Entry) (entry : Entry) (left : Option Leftover
   pub has : HasEntry front entry now
   pub chain : List PlacedCell
   pub is : now.files entry.at ≡ Some chain
+  pub file : IsFile now.pages entry.at chain
   pub left_is : left_of chain ≡ left
   pub done : IsReleased (from_by left chain) chain
 
@@ -259,6 +299,19 @@ pub record IsEndingWhole (front : List Entry) (entry : Entry) (now : Now) : Type
   pub is : now.files entry.at ≡ Some chain
   pub whole : GoesWhole chain
   pub done : IsReleased 0 chain
+
+-- all is well, and the list's last entry is of quota cells
+pub record HasQuotas (front : List Entry) (entry : Entry) (now : Now) : Type 0 where
+  pub has : HasEntry front entry now
+  pub chain : List PlacedCell
+  pub is : now.files entry.at ≡ Some chain
+  pub quotas : IsQuotas now.pages entry.at chain
+
+-- or it is of a file
+pub record HasFileEntry (front : List Entry) (entry : Entry) (now : Now) : Type 0 where
+  pub has : HasEntry front entry now
+  pub file : (chain : List PlacedCell) → now.files entry.at ≡ Some chain
+      → IsFile now.pages entry.at chain
 
 -- a step leads to a list and files that belong together
 pub record Leaves (group : ℕ) (version : Version) (old : Now) (list : Listing) (space : Spaces)

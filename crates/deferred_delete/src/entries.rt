@@ -7,13 +7,14 @@ ghost use Rattle.bitfile_cells.specs.Allocated.{FindsNone};
 ghost use Rattle.deferred_delete.specs.declared.list.Entry.{Entry as EntryOf};
 ghost use Rattle.deferred_delete.specs.Listing.{Listing};
 ghost use Rattle.deferred_delete.specs.Standing.{Files};
-ghost use Rattle.deferred_delete.specs.Steps.{HasEntry, IsEnding, IsEndingWhole, LacksRoom, Leaves, list_after, now_of};
+ghost use Rattle.deferred_delete.specs.Steps.{HasEntry, HasFileEntry, IsEnding, IsEndingWhole, LacksRoom, Leaves, list_after, now_of};
 
 use crate::ending::{end_reading, end_trim};
 use crate::list::Entry;
-use crate::looking::{left_at, reader_at, stale_at};
+use crate::looking::{is_of_quotas, left_at, reader_at, stale_at};
+use crate::quotas::release_quotas;
 use crate::went::Went;
-use chain_release::{Released, release_last, release_tail};
+use chain_release::{Released, release_tail};
 use domain_base::{OutOfMemory, Version};
 use free_cells::FreeCells;
 use free_space::FreeSpace;
@@ -21,9 +22,9 @@ use page_store::{MetaPages, StoreFault};
 use record_table::Leftover;
 use std::alloc::Global;
 
-/// Ends the reading of a clone through a file of which all goes or, where it has none, frees the
-/// file's last cell.
-fn end_whole<M: MetaPages>(
+/// Ends the reading of a clone through what goes as a whole or, where it has none, frees the last
+/// cell of that.
+pub(crate) fn end_whole<M: MetaPages>(
     alloc: Global,
     pages: &mut M,
     cells: &mut FreeCells,
@@ -47,8 +48,8 @@ fn end_whole<M: MetaPages>(
             Ok(Went::Reading)
         }
         None => {
-            release_last(pages, cells, entry.at);
-            Ok(Went::Last)
+            cells.free_cell(pages, entry.at);
+            Ok(Went::File)
         }
     }
 }
@@ -87,7 +88,46 @@ fn end_entry<M: MetaPages>(
 }
 
 /// Lets go of something of the file of a list's last entry, and says what it took off the entry.
-/// After an error nothing but room and the count of misses has changed.
+fn release_file<M: MetaPages>(
+    alloc: Global,
+    pages: &mut M,
+    space: &mut FreeSpace,
+    cells: &mut FreeCells,
+    entry: &Entry,
+    group: u64,
+    version: Version,
+) -> Result<Went, StoreFault>
+    requires well { (list : Listing) × (front : List EntryOf) × (files : Files)
+        × HasFileEntry front entry.now (now_of list files space.old cells.old (M.pages pages.old)) }
+    ensures ok { (list : Listing) (front : List EntryOf) (files : Files)
+        → HasFileEntry front entry.now (now_of list files space.old cells.old (M.pages pages.old))
+        → IfOk result (λ went. Leaves group version (now_of list files space.old cells.old
+        (M.pages pages.old)) (list_after went front entry.now list) space.new cells.new
+        (M.pages pages.new)) }
+    ensures err { IfErr result (FindsNone space.old space.new cells.old) }
+    ensures full { (list : Listing) (front : List EntryOf) (files : Files)
+        → HasFileEntry front entry.now (now_of list files space.old cells.old (M.pages pages.old))
+        → IfErr result (λ fault. fault ≡ NoPage → LacksRoom list files) }
+    ensures cells { OnErr result (cells.new ≡ cells.old) }
+    ensures pages { OnErr result (M.pages pages.new ≡ M.pages pages.old) }
+    ensures room { M.room pages.old ≤ M.room pages.new + 1 }
+    ensures before { M.before pages.new ≡ M.before pages.old }
+{
+    let left = left_at(pages, &entry.at);
+    let from = stale_at(pages, &entry.at, &left);
+    let reader = reader_at(pages, &entry.clone);
+    match release_tail(
+        alloc, pages, space, cells, entry.at, from, &reader, group, version,
+    ) {
+        Ok(Released::Nothing) => Ok(end_entry(alloc, pages, cells, entry, &left)?),
+        Ok(Released::Pages) => Ok(Went::Part),
+        Ok(Released::Cell) => Ok(Went::Part),
+        Err(fault) => Err(fault),
+    }
+}
+
+/// Lets go of something of the file or of the quota cells of a list's last entry, and says what it
+/// took off the entry. After an error nothing but room and the count of misses has changed.
 pub(crate) fn release_entry<M: MetaPages>(
     alloc: Global,
     pages: &mut M,
@@ -113,15 +153,8 @@ pub(crate) fn release_entry<M: MetaPages>(
     ensures room { M.room pages.old ≤ M.room pages.new + 1 }
     ensures before { M.before pages.new ≡ M.before pages.old }
 {
-    let left = left_at(pages, &entry.at);
-    let from = stale_at(pages, &entry.at, &left);
-    let reader = reader_at(pages, &entry.clone);
-    match release_tail(
-        alloc, pages, space, cells, entry.at, from, &reader, group, version,
-    ) {
-        Ok(Released::Nothing) => Ok(end_entry(alloc, pages, cells, entry, &left)?),
-        Ok(Released::Pages) => Ok(Went::Part),
-        Ok(Released::Cell) => Ok(Went::Part),
-        Err(fault) => Err(fault),
+    if is_of_quotas(pages, &entry.at) {
+        return Ok(release_quotas(alloc, pages, cells, entry)?);
     }
+    release_file(alloc, pages, space, cells, entry, group, version)
 }

@@ -5,6 +5,7 @@ mod ending;
 mod entries;
 mod list;
 mod looking;
+mod quotas;
 mod release;
 mod went;
 

@@ -1,14 +1,15 @@
 //! The list of what is to be let go of.
-ghost use Rattle.std.specs.Prelude.{◌≡◌, ◌<◌, ◌∷◌, ◌++◌, ◌-◌, [], Contains, IfNone, IfSome, IsOk, OnErr, OnOk, false, get_or, length, slice_get, true};
+ghost use Rattle.std.specs.Prelude.{◌≡◌, ◌<◌, ◌∷◌, ◌++◌, ◌-◌, [], ℕ, Contains, IfNone, IfOk, IfSome, IsOk, OnErr, OnOk, false, get_or, length, slice_get, true};
 ghost use Rattle.deferred_delete.specs.declared.list.Entry.{Entry as EntryOf};
-ghost use Rattle.deferred_delete.specs.Listing.{Adds, Listing};
+ghost use Rattle.deferred_delete.specs.Listing.{Adds, Listing, Orders, Puts, clone_but as but_there, without_clone};
 
 use domain_base::{CellAt, Home, OutOfMemory};
 use std::alloc::Global;
 use std::marker::Model;
 
 /// A file of which something is to be let go of: its first cell, and the first cell of the clone's
-/// file that reads through it, if one does.
+/// file that reads through it, if one does. Or the quota cells of a fileset that was removed, by
+/// the first of them.
 #[derive(Clone, Copy, Debug, PartialEq, Eq)]
 pub struct Entry {
     pub at: CellAt,
@@ -35,6 +36,8 @@ impl Model for Deferred {
 fn find_entry(entries: &[Entry], at: &CellAt) -> Option<usize>
     ensures some { IfSome result (λ i. (i < length entries.now)
         × ((d : EntryOf) → (get_or entries.now i d).at ≡ at.now)) }
+    ensures first { IfSome result (λ i. (k : ℕ) (d : EntryOf) → k < i
+        → ¬ (get_or entries.now k d).at ≡ at.now) }
     ensures none { IfNone result ((entry : EntryOf) → Contains entries.now entry
         → ¬ entry.at ≡ at.now) }
 {
@@ -44,6 +47,44 @@ fn find_entry(entries: &[Entry], at: &CellAt) -> Option<usize>
         }
     }
     None
+}
+
+/// A clone unless it is this one.
+fn clone_but(clone: &Option<CellAt>, at: &CellAt) -> Option<CellAt>
+    ensures { result ≡ but_there at.now clone.now }
+{
+    match clone {
+        Some(clone) => { if *clone == *at { None } else { Some(*clone) } }
+        None => None,
+    }
+}
+
+/// Sees to it that no entry gives that file as its clone's.
+pub(crate) fn forget(entries: &mut Vec<Entry>, at: &CellAt)
+    ensures { entries.new.items ≡ without_clone at.now entries.old.items }
+{
+    for i in 0..entries.len() {
+        entries[i].clone = clone_but(&entries[i].clone, at);
+    }
+}
+
+/// Puts the entry of a clone's file behind that of the file through which it reads, which stands
+/// at that place: what reads through a file goes first, so that nothing is handed to what goes.
+fn put_behind(entries: &mut Vec<Entry>, place: usize, clone: &Option<CellAt>)
+    requires { place < length entries.old.items }
+    ensures { Orders clone.now place entries.old.items entries.new.items }
+{
+    let Some(clone) = clone else {
+        return;
+    };
+    match find_entry(entries.as_slice(), clone) {
+        Some(front) => {
+            if front < place {
+                entries.swap(front, place);
+            }
+        }
+        None => {}
+    }
 }
 
 impl Deferred {
@@ -58,9 +99,34 @@ impl Deferred {
         }
     }
 
-    /// Adds the file that begins at a cell, with the clone's file that reads through it. Where it
-    /// is there already, its clone is set anew, and that takes no memory. After an error nothing
-    /// has changed.
+    /// Gives the file that begins at a cell an entry with that clone: where it has one, and else
+    /// behind all others. It answers where that stands.
+    fn put(&mut self, at: CellAt, clone: Option<CellAt>) -> Result<usize, OutOfMemory>
+        ensures ok { OnOk result (self.new.tag_pages ≡ self.old.tag_pages) }
+        ensures puts { IfOk result (λ place. Puts at clone place self.old.entries
+            self.new.entries) }
+        ensures within { IfOk result (λ place. place < length self.new.entries) }
+        ensures err { OnErr result (self.new ≡ self.old) }
+        ensures there { (entry : EntryOf) → Contains self.old.entries entry → entry.at ≡ at
+            → IsOk result }
+    {
+        match find_entry(self.entries.as_slice(), &at) {
+            Some(i) => {
+                self.entries[i].clone = clone;
+                Ok(i)
+            }
+            None => {
+                let behind = self.entries.len();
+                self.entries.push(Entry { at, clone })?;
+                Ok(behind)
+            }
+        }
+    }
+
+    /// Adds the file that begins at a cell, with the clone's file that reads through it, or the
+    /// first quota cell of a fileset that was removed. Where it is there already, its clone is set
+    /// anew, and that takes no memory. Where the clone's file stands on the list in front of it, the
+    /// two change places, so that the clone's goes first. After an error nothing has changed.
     pub fn add(&mut self, at: CellAt, clone: Option<CellAt>) -> Result<(), OutOfMemory>
         ensures ok { OnOk result (Adds at clone self.old.entries self.new.entries) }
         ensures tag_pages { self.new.tag_pages ≡ self.old.tag_pages }
@@ -68,10 +134,8 @@ impl Deferred {
         ensures there { (entry : EntryOf) → Contains self.old.entries entry → entry.at ≡ at
             → IsOk result }
     {
-        match find_entry(self.entries.as_slice(), &at) {
-            Some(i) => self.entries[i].clone = clone,
-            None => self.entries.push(Entry { at, clone })?,
-        }
+        let place = self.put(at, clone)?;
+        put_behind(&mut self.entries, place, &clone);
         Ok(())
     }
 

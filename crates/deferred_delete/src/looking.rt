@@ -1,12 +1,12 @@
 //! What is left to be done with the file of an entry, and the clone's file that reads through it.
-ghost use Rattle.std.specs.Prelude.{◌≡◌, IsSome, List, None, Some};
+ghost use Rattle.std.specs.Prelude.{◌≡◌, IsSome, List, None, Some, false, true};
 ghost use Rattle.std.specs.Option.{option_and_then};
 ghost use Rattle.domain_base.specs.declared.place.CellAt.{CellAt as CellAtOf};
 ghost use Rattle.record_table.specs.declared.record.Leftover.TheVariants.{Trim};
 ghost use Rattle.bmt_mcells.specs.Chain.{PlacedCell};
 ghost use Rattle.bitfile_cells.specs.Files.{IsFile};
 ghost use Rattle.deferred_delete.specs.Listed.{from_by, left_of};
-ghost use Rattle.deferred_delete.specs.Standing.{Source, source_in, source_of};
+ghost use Rattle.deferred_delete.specs.Standing.{IsFileOrQuotas, IsQuotas, Source, source_in, source_of};
 ghost use Rattle.deferred_delete.specs.Steps.{ReadsFrozen};
 
 use bmt_mcells::find_record;
@@ -15,6 +15,18 @@ use domain_base::CellAt;
 use domain_base::limits::FILE_PAGES;
 use page_store::MetaPages;
 use record_table::{Leftover, Record};
+
+/// Whether the chain that begins there is one of quota cells: its first cell has no attributes.
+pub(crate) fn is_of_quotas<M: MetaPages>(pages: &M, at: &CellAt) -> bool
+    ensures quotas { (chain : List PlacedCell)
+        → IsFileOrQuotas (M.pages pages.now) at.now chain → result ≡ true
+        → IsQuotas (M.pages pages.now) at.now chain }
+    ensures file { (chain : List PlacedCell)
+        → IsFileOrQuotas (M.pages pages.now) at.now chain → result ≡ false
+        → IsFile (M.pages pages.now) at.now chain }
+{
+    find_record(pages, *at, 1).is_none()
+}
 
 /// What the first cell of a file says is left to be done.
 pub(crate) fn left_at<M: MetaPages>(pages: &M, at: &CellAt) -> Option<Leftover>

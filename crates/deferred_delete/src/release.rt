@@ -10,7 +10,7 @@ ghost use Rattle.deferred_delete.specs.Standing.{Files};
 ghost use Rattle.deferred_delete.specs.Steps.{IsLast, IsWell, LacksRoom, Leaves, LetsGo, TakesTagPage, list_after, now_of};
 
 use crate::entries::release_entry;
-use crate::list::Deferred;
+use crate::list::{Deferred, forget};
 use crate::went::Went;
 use domain_base::Version;
 use free_cells::FreeCells;
@@ -22,7 +22,8 @@ use std::alloc::Global;
 const STEPS: u32 = 16;
 
 impl Deferred {
-    /// Takes off the last entry what went of it.
+    /// Takes off the last entry what went of it, and off the others a clone of which nothing is
+    /// left.
     fn leave(&mut self, went: Went)
         requires { (front : List EntryOf) × (entry : EntryOf) × IsLast front entry self.old }
         ensures { (front : List EntryOf) (entry : EntryOf) → IsLast front entry self.old
@@ -36,6 +37,11 @@ impl Deferred {
             }
             Went::Last => {
                 self.entries.pop();
+            }
+            Went::File => {
+                if let Some(entry) = self.entries.pop() {
+                    forget(&mut self.entries, &entry.at);
+                }
             }
         }
     }
@@ -106,10 +112,11 @@ impl Deferred {
 
     /// Lets go of things of the list, one after the other, at most sixteen: in each step a cell
     /// with the last pages that it names, or a tail of the pages of one cell, or one page that is
-    /// handed over to the clone's file that reads it; a trim's Pending record, with which all
-    /// pages are kept again; a clone's reading through a file that goes; a removed file's last
-    /// cell; or a page of a tag directory. It answers how many steps were done, 0 exactly where
-    /// the list is empty. What no file has any more waits for the group.
+    /// handed over to the clone's file that reads it; the second of some quota cells; a trim's
+    /// Pending record, with which all pages are kept again; a clone's reading through a file that
+    /// goes; the last cell of a removed file or of quotas; or a page of a tag directory. It answers
+    /// how many steps were done, 0 exactly where the list is empty. What no file has any more waits
+    /// for the group.
     ///
     /// Where a step cannot be done, those in front of it are answered, if there is one, and the
     /// next call says why. So at an Err nothing but room and the count of misses has changed.

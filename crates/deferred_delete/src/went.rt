@@ -7,6 +7,8 @@ pub enum Went {
     Part,
     /// Its clone, which reads through its file no more.
     Reading,
-    /// The last that was left to be done.
+    /// The last that was left to be done with its file.
     Last,
+    /// Its file, of which nothing is left.
+    File,
 }

@@ -1,4 +1,7 @@
-use Rattle.deferred_delete.proofs.Stepping.{clone_record, file_went, only_cell, reading_went}
+use Rattle.std.proofs.Common.{ℕ, List, Contains, subst, sym}
+use Rattle.bitfile_cells.proofs.Added.{off_table}
+use Rattle.chain_release.proofs.Freed.{allocated_freed}
+use Rattle.deferred_delete.proofs.Stepping.{clone_record, entry_on, entry_used, file_went, reading_went}
 use Rattle.deferred_delete.proofs.entries.end_whole.Goals as goal
 
 pub end_reading-requires : goal.end_reading-requires
@@ -6,10 +9,14 @@ end_reading-requires g c =
     let w = c.requires.well in
     clone_record w.0 w.1 w.2 c.args.entry.now w.3 c.args.cells.now (g.M.MetaPages.pages c.args.pages.now) c.in-Some.clone c.in-Some.is w.4.has
 
-pub release_last-requires-clause-file : goal.release_last-requires-clause-file
-release_last-requires-clause-file g c =
-    let w = c.requires.well in
-    only_cell w.0 w.1 w.2 c.args.entry.now w.3 c.args.cells.now (g.M.MetaPages.pages c.args.pages.now) w.4
+pub free_cell-requires-clause-belong : goal.free_cell-requires-clause-belong
+free_cell-requires-clause-belong g c = let w = c.requires.well in w.4.has.well.together.allocated.belong
+
+pub free_cell-requires-clause-used : goal.free_cell-requires-clause-used
+free_cell-requires-clause-used g c = let w = c.requires.well in entry_used w.0 w.1 w.2 c.args.entry.now w.3 c.args.cells.now (g.M.MetaPages.pages c.args.pages.now) w.4
+
+pub free_cell-requires-clause-table : goal.free_cell-requires-clause-table
+free_cell-requires-clause-table g c = let w = c.requires.well in entry_on w.0 w.1 w.2 c.args.entry.now w.3 c.args.cells.now (g.M.MetaPages.pages c.args.pages.now) w.4
 
 pub returns-in_ok-end_reading-in-Some-clause-ok : goal.returns-in_ok-end_reading-in-Some-clause-ok
 returns-in_ok-end_reading-in-Some-clause-ok g c = λ group version list front files space ending.
@@ -18,5 +25,10 @@ returns-in_ok-end_reading-in-Some-clause-ok g c = λ group version list front fi
 
 pub returns-in-None-clause-ok : goal.returns-in-None-clause-ok
 returns-in-None-clause-ok g c = λ group version list front files space ending.
-    let e = c.release_last.ensures in
-    file_went group version list front files c.args.entry.now space c.args.cells.now c.release_last.new.cells (g.M.MetaPages.pages c.args.pages.now) (g.M.MetaPages.pages c.release_last.new.pages) c.in-None.is ending e.others e.frees (e.allocated space ending.has.well.together.allocated) e.elsewhere
+    let e = c.free_cell.ensures in
+    let old = g.M.MetaPages.pages c.args.pages.now in
+    let new = g.M.MetaPages.pages c.free_cell.new.pages in
+    let at = c.args.entry.now.at in
+    file_went group version list front files c.args.entry.now space c.args.cells.now c.free_cell.new.self old new c.in-None.is ending e.others e.value
+    (allocated_freed at space c.args.cells.now c.free_cell.new.self old new ending.has.well.together.allocated e.value e.belong e.headers)
+    (λ home off. e.elsewhere home (off_table c.args.cells.now at home (entry_on list front files c.args.entry.now space c.args.cells.now old ending) (λ on. off (subst (λ (t : List ℕ). Contains t home.page) (sym (e.value.tables home.vol)) on))))

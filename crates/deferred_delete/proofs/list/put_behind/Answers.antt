@@ -1,0 +1,18 @@
+use Rattle.std.proofs.Common.{◌<◌, inr, List, Contains, length, get_or, refl, subst, sym, arith}
+use Rattle.bitfile_cells.proofs.Allocated.{there_is}
+use Rattle.deferred_delete.specs.declared.list.Entry.{Entry}
+use Rattle.deferred_delete.specs.Listing.{Orders}
+use Rattle.deferred_delete.proofs.list.put_behind.Goals as goal
+
+pub returns-in-None : goal.returns-in-None
+returns-in-None c =
+    let items = c.args.entries.now.items in
+    subst (λ o. Orders o c.args.place items items) (sym c.in-Some.is)
+    (inr (record {
+      none = λ k d less at.
+          let within : k < length items = omega (arith, less, c.requires) in
+          let it = get_or items k d in
+          let inside : Contains items it = (k, within, there_is items k it d within) in
+          c.in-None.ensures.none it (subst (λ (es : List Entry). Contains es it) (sym c.as_slice.ensures.value) inside) at;
+      is = refl;
+    }))
