@@ -5,17 +5,19 @@ use Rattle.domain_base.specs.declared.version.Version.{Version}
 use Rattle.bmt_mcells.specs.Chain.{PlacedCell}
 use Rattle.deferred_delete.specs.declared.list.Entry.{Entry}
 use Rattle.deferred_delete.specs.Listed.{GoesWhole, left_of}
-use Rattle.deferred_delete.specs.Listing.{Listing}
-use Rattle.deferred_delete.specs.Steps.{EndsFile, EndsReading, EndsTrim, IsWell, LetsPages, Now, Step, Steps, file_ends, more, none, pages_go, reading_ends, tag_page_goes, trim_ends}
+use Rattle.deferred_delete.specs.Listing.{Listing, without}
+use Rattle.deferred_delete.specs.Steps.{EndsFile, EndsReading, EndsTrim, IsWell, LetsPages, LosesQuotaCell, Now, Step, Steps, file_ends, more, none, pages_go, quota_goes, reading_ends, tag_page_goes, trim_ends}
 use Rattle.deferred_delete.proofs.Lists.{IsIn, earlier, in_start, is_in, last_in, not_last, this}
 use Rattle.deferred_delete.proofs.Spread.{Which, other, reading, some_same, source, which}
 use Rattle.deferred_laws.specs.Kept.{IsBeside}
-use Rattle.deferred_laws.proofs.Ended.{ended_other, file_front, file_gone, file_once, file_was, reading_other, same_file, trim_once, trim_other}
-use Rattle.deferred_laws.proofs.Fits.{Fits, well_fits}
+use Rattle.deferred_laws.proofs.Ended.{ended_other, file_forgotten, file_gone, file_now, file_once, file_was, reading_other, same_file, trim_once, trim_other}
+use Rattle.deferred_laws.proofs.Fits.{Fits, alone, well_fits}
 use Rattle.deferred_laws.proofs.Laws.{fits_step}
-use Rattle.deferred_laws.proofs.Narrower.{in_last, inside_by}
+use Rattle.deferred_laws.proofs.Narrower.{inside_by}
 use Rattle.deferred_laws.proofs.Others.{beside_same, beside_still}
 use Rattle.deferred_laws.proofs.PagesGo.{after_left, at_other, at_source}
+use Rattle.deferred_laws.proofs.QuotaStep.{quota_beside, quota_is, quota_whole}
+use Rattle.deferred_delete.proofs.Standings.{same_or_not}
 
 -- an entry is the file's, which is to be removed
 record IsLeaving (now : Now) (a : CellAt) : Type 0 where
@@ -33,8 +35,8 @@ record IsGone (now : Now) (a : CellAt) : Type 0 where
 pub place_in_list : (list : Listing) (front : List Entry) (entry e : Entry) → list.entries ≡ front ++ entry ∷ [] → Contains list.entries e → IsIn front entry e
 place_in_list list front entry e last inside = is_in front entry e (subst (λ (es : List Entry). Contains es e) last inside)
 
-abbrev pub without_clone : Entry → Entry
-without_clone e = record { at = e.at; clone = None }
+abbrev pub sole : Entry → Entry
+sole e = record { at = e.at; clone = None }
 
 module _ (group : ℕ) (version : Version) (old new : Now) (fits : Fits old) (a : CellAt) (k : IsLeaving old a) where
   -- the same file, by an entry of the list then
@@ -58,8 +60,16 @@ module _ (group : ℕ) (version : Version) (old new : Now) (fits : Fits old) (a 
             is = ap new.files same ∙ at_source group version old new fits s;
             left = λ trim. k.left (sym (ap left_of was) ∙ sym (after_left group version old new fits s) ∙ trim);
           }
-      by_which (reading some) = absurd (fits.clones s.entry k.entry (in_last old.list s.front s.entry s.last) k.inside (some ∙ ap Some (sym k.at)))
+      by_which (reading some) = absurd (alone old fits s.front s.entry s.last k.entry k.inside (some ∙ ap Some (sym k.at)))
       by_which (other not_at not_it) = still_leaving k.entry inside_now k.at (at_other group version old new fits s a not_at not_it)
+
+  quota_leaving : LosesQuotaCell old new → IsLeaving new a
+  quota_leaving s =
+      let inside_now = inside_by new.list old.list k.entry (sym s.same_list) k.inside in
+      ⊎_elim
+      (λ same. record { entry = k.entry; inside = inside_now; at = k.at; chain = s.after; is = ap new.files same ∙ quota_is group version old new s; left = quota_whole group version old new s })
+      (λ not_at. still_leaving k.entry inside_now k.at (quota_beside group version old new s a not_at))
+      (same_or_not a s.entry.at)
 
   trim_leaving : EndsTrim old new → IsLeaving new a
   trim_leaving s = by_place (place_in_list old.list s.front s.entry k.entry s.last k.inside)
@@ -75,35 +85,38 @@ module _ (group : ℕ) (version : Version) (old new : Now) (fits : Fits old) (a 
   reading_leaving : EndsReading old new → IsLeaving new a
   reading_leaving s = by_place (place_in_list old.list s.front s.entry k.entry s.last k.inside)
     where
-      now_in : (e : Entry) → Contains (s.front ++ (without_clone s.entry) ∷ []) e → Contains new.list.entries e
-      now_in e inside = inside_by new.list (record { entries = s.front ++ (without_clone s.entry) ∷ []; tag_pages = old.list.tag_pages }) e (sym s.list) inside
+      now_in : (e : Entry) → Contains (s.front ++ (sole s.entry) ∷ []) e → Contains new.list.entries e
+      now_in e inside = inside_by new.list (record { entries = s.front ++ (sole s.entry) ∷ []; tag_pages = old.list.tag_pages }) e (sym s.list) inside
 
       same_chain : new.files a ≡ old.files a
-      same_chain = reading_other group version old new fits s a (λ same. fits.clones s.entry k.entry (in_last old.list s.front s.entry s.last) k.inside (s.given ∙ ap Some (sym same ∙ sym k.at)))
+      same_chain = reading_other group version old new fits s a (λ same. alone old fits s.front s.entry s.last k.entry k.inside (s.given ∙ ap Some (sym same ∙ sym k.at)))
 
       by_place : IsIn s.front s.entry k.entry → IsLeaving new a
-      by_place (earlier is) = still_leaving k.entry (now_in k.entry (in_start s.front ((without_clone s.entry) ∷ []) k.entry is)) k.at same_chain
-      by_place (this same) = still_leaving (without_clone s.entry) (now_in (without_clone s.entry) (last_in s.front (without_clone s.entry))) (sym (ap (λ (e : Entry). e.at) same) ∙ k.at) same_chain
+      by_place (earlier is) = still_leaving k.entry (now_in k.entry (in_start s.front ((sole s.entry) ∷ []) k.entry is)) k.at same_chain
+      by_place (this same) = still_leaving (sole s.entry) (now_in (sole s.entry) (last_in s.front (sole s.entry))) (sym (ap (λ (e : Entry). e.at) same) ∙ k.at) same_chain
 
   file_leaving : EndsFile old new → IsLeaving new a ⊎ IsGone new a
   file_leaving s = by_place (place_in_list old.list s.front s.entry k.entry s.last k.inside)
     where
       by_place : IsIn s.front s.entry k.entry → IsLeaving new a ⊎ IsGone new a
       by_place (earlier is) =
-          inl (still_leaving k.entry (inside_by new.list (record { entries = s.front; tag_pages = old.list.tag_pages }) k.entry (sym s.list) is) k.at
+          inl (still_leaving (without s.entry.at k.entry) (file_now group version old new fits s k.entry is) k.at
           (ended_other group version old new fits s a (λ same. not_last s.front s.entry k.entry (file_once group version old new fits s) is (k.at ∙ same))))
       by_place (this same) =
           let at : a ≡ s.entry.at = sym k.at ∙ ap (λ (e : Entry). e.at) same in
           inr (record {
             gone = ap new.files at ∙ file_gone group version old new fits s;
             beside = λ e inside. (
-              (λ is. not_last s.front s.entry e (file_once group version old new fits s) (file_front group version old new fits s e inside) (is ∙ at)),
-              (λ some. fits.clones e s.entry (file_was group version old new fits s e inside) (in_last old.list s.front s.entry s.last) (some ∙ ap Some at)),
+              (λ is.
+                  let w = file_was group version old new fits s e inside in
+                  not_last s.front s.entry w.0 (file_once group version old new fits s) w.1 (sym (ap (λ (x : Entry). x.at) w.2) ∙ is ∙ at)),
+              (λ some. file_forgotten group version old new fits s e inside (some ∙ ap Some at)),
             );
           })
 
   leaving_step : Step group version old new → IsLeaving new a ⊎ IsGone new a
   leaving_step (pages_go s) = inl (lets_leaving s)
+  leaving_step (quota_goes s) = inl (quota_leaving s)
   leaving_step (trim_ends s) = inl (trim_leaving s)
   leaving_step (reading_ends s) = inl (reading_leaving s)
   leaving_step (file_ends s) = file_leaving s

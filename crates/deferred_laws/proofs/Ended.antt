@@ -10,16 +10,16 @@ use Rattle.bitfile_core.specs.Changes.{with_first}
 use Rattle.chain_release.specs.Reading.{own_or}
 use Rattle.deferred_delete.specs.declared.list.Entry.{Entry}
 use Rattle.deferred_delete.specs.Listed.{stale_from, left_of}
-use Rattle.deferred_delete.specs.Listing.{Listing}
+use Rattle.deferred_delete.specs.Listing.{AreInOrder, Listing, clone_but, without, without_clone}
 use Rattle.deferred_delete.specs.Standing.{Files, ReadsThrough, Source, place_in, read_at, read_of, source_at, source_of}
 use Rattle.deferred_delete.specs.Steps.{EndsFile, EndsReading, EndsTrim, GivesTagPage, Now, file_ends, reading_ends, says_no_source, says_trimmed, tag_page_goes, trim_ends}
-use Rattle.deferred_delete.proofs.Lists.{AreEntriesOnce, IsIn, earlier, is_in, not_last, once_front, once_last, this}
+use Rattle.deferred_delete.proofs.Lists.{AreEntriesOnce, IsIn, but_other, but_some, earlier, in_without, is_in, not_last, once_front, once_last, once_without, order_front, order_last, order_without, this, without_in}
 use Rattle.deferred_delete.proofs.Spread.{none_not, some_same}
 use Rattle.deferred_delete.proofs.Standings.{file_other, file_there, place_by, reads_by, same_or_not, source_by}
 use Rattle.deferred_delete.proofs.Stepping.{whole_from}
 use Rattle.deferred_laws.specs.Kept.{Stays}
 use Rattle.deferred_laws.proofs.FirstCells.{first_maps, first_other, first_place, first_places, first_there, sourceless_keeps, sourceless_source, trimmed_keeps, trimmed_source}
-use Rattle.deferred_laws.proofs.Fits.{Fits, fits_by}
+use Rattle.deferred_laws.proofs.Fits.{Fits, alone, fits_by, reading_maps, trim_maps}
 use Rattle.deferred_laws.proofs.Narrower.{in_front, in_last, inside_by, narrower_step}
 use Rattle.deferred_laws.proofs.ReadHomes.{none_either, read_beside, read_same, read_there, through}
 
@@ -43,10 +43,10 @@ module _ (group : ℕ) (version : Version) (old new : Now) (fits : Fits old) (s 
   trim_was e inside = in_front old.list s.front s.entry e s.last (trim_front e inside)
 
   pub trim_there : new.files s.entry.at ≡ Some (with_first says_trimmed s.chain)
-  trim_there = first_there says_trimmed trimmed_keeps old new fits s.entry.at s.chain s.is s.files
+  trim_there = first_there says_trimmed trimmed_keeps old new fits s.entry.at s.chain s.is (trim_maps old new fits s) s.files
 
   pub trim_other : (a : CellAt) → ¬ a ≡ s.entry.at → new.files a ≡ old.files a
-  trim_other a not_at = first_other says_trimmed trimmed_keeps old new fits s.entry.at s.chain s.is s.files a not_at
+  trim_other a not_at = first_other says_trimmed trimmed_keeps old new fits s.entry.at s.chain s.is (trim_maps old new fits s) s.files a not_at
 
   trim_sources : (a : CellAt) → source_at new.files a ≡ source_at old.files a
   trim_sources a = ⊎_elim
@@ -57,10 +57,11 @@ module _ (group : ℕ) (version : Version) (old new : Now) (fits : Fits old) (s 
   pub trim_fits : Fits new
   trim_fits = fits_by group version old new (trim_ends s) fits
       (subst (λ (l : Listing). AreEntriesOnce l.entries) (sym s.list) (once_front s.front s.entry trim_once))
+      (subst (λ (l : Listing). AreInOrder l.entries) (sym s.list) (order_front s.front s.entry (subst AreInOrder s.last fits.order)))
       (λ a b reads. reads_by old.files new.files a b (trim_sources a) reads)
       (λ c e inside some reads. reads_by new.files old.files c e.at (sym (trim_sources c)) reads)
       (λ e inside c reads. fits.all e (trim_was e inside) c (reads_by old.files new.files c e.at (trim_sources c) reads))
-      (first_maps says_trimmed trimmed_keeps old new fits s.entry.at s.chain s.is s.files)
+      (first_maps says_trimmed trimmed_keeps old new fits s.entry.at s.chain s.is (trim_maps old new fits s) s.files)
 
   pub trim_stays : (a : CellAt) (p : ℕ) → Stays old a p → Stays new a p
   trim_stays a p stays e inside at ds is =
@@ -70,12 +71,12 @@ module _ (group : ℕ) (version : Version) (old new : Now) (fits : Fits old) (s 
   pub trim_reads : (a : CellAt) (p : ℕ) → read_at new.files a p ≡ read_at old.files a p
   trim_reads a p = ⊎_elim
       (λ same. read_same old.files new.files a p s.chain (with_first says_trimmed s.chain) (ap old.files same ∙ s.is) (ap new.files same ∙ trim_there) (trimmed_source s.chain)
-      (first_places says_trimmed trimmed_keeps old new fits s.entry.at s.chain s.is s.files p) (λ x is_x. place x.at))
+      (first_places says_trimmed trimmed_keeps old new fits s.entry.at s.chain s.is (trim_maps old new fits s) s.files p) (λ x is_x. place x.at))
       (λ not_at. read_beside old.files new.files a p (trim_other a not_at) (λ x is_x. place x.at))
       (same_or_not a s.entry.at)
     where
       place : (b : CellAt) → place_in new.files b p ≡ place_in old.files b p
-      place b = first_place says_trimmed trimmed_keeps old new fits s.entry.at s.chain s.is s.files b p
+      place b = first_place says_trimmed trimmed_keeps old new fits s.entry.at s.chain s.is (trim_maps old new fits s) s.files b p
 
 -- ---- a clone reads through its source no more
 
@@ -83,20 +84,20 @@ module _ (group : ℕ) (version : Version) (old new : Now) (fits : Fits old) (s 
   entry_in : Contains old.list.entries s.entry
   entry_in = in_last old.list s.front s.entry s.last
 
-  abbrev alone : Entry
-  alone = record { at = s.entry.at; clone = None }
+  abbrev sole : Entry
+  sole = record { at = s.entry.at; clone = None }
 
   reading_once : AreEntriesOnce (s.front ++ s.entry ∷ [])
   reading_once = subst AreEntriesOnce s.last fits.once
 
-  reading_in : (e : Entry) → Contains new.list.entries e → IsIn s.front alone e
-  reading_in e inside = is_in s.front alone e (inside_by (record { entries = s.front ++ alone ∷ []; tag_pages = old.list.tag_pages }) new.list e s.list inside)
+  reading_in : (e : Entry) → Contains new.list.entries e → IsIn s.front sole e
+  reading_in e inside = is_in s.front sole e (inside_by (record { entries = s.front ++ sole ∷ []; tag_pages = old.list.tag_pages }) new.list e s.list inside)
 
   pub reading_there : new.files s.clone ≡ Some (with_first says_no_source s.own)
-  reading_there = first_there says_no_source sourceless_keeps old new fits s.clone s.own s.own_is s.files
+  reading_there = first_there says_no_source sourceless_keeps old new fits s.clone s.own s.own_is (reading_maps old new fits s) s.files
 
   pub reading_other : (a : CellAt) → ¬ a ≡ s.clone → new.files a ≡ old.files a
-  reading_other a not_at = first_other says_no_source sourceless_keeps old new fits s.clone s.own s.own_is s.files a not_at
+  reading_other a not_at = first_other says_no_source sourceless_keeps old new fits s.clone s.own s.own_is (reading_maps old new fits s) s.files a not_at
 
   clone_source : source_at new.files s.clone ≡ None
   clone_source = ap (option_and_then source_of) reading_there ∙ sourceless_source s.own
@@ -119,14 +120,14 @@ module _ (group : ℕ) (version : Version) (old new : Now) (fits : Fits old) (s 
       (λ not_at. reads_by new.files old.files c e.at (sym (other_source c not_at)) reads)
       (same_or_not c s.clone)
     where
-      by_place : e.at ≡ s.entry.at → IsIn s.front alone e → ⊥
+      by_place : e.at ≡ s.entry.at → IsIn s.front sole e → ⊥
       by_place at (earlier is) = not_last s.front s.entry e reading_once is at
       by_place at (this same) = none_not c (sym (ap (λ (x : Entry). x.clone) same) ∙ some)
 
   reading_all : (e : Entry) → Contains new.list.entries e → (c : CellAt) → ReadsThrough new.files c e.at → e.clone ≡ Some c
   reading_all e inside c reads = by_place (reading_in e inside)
     where
-      by_place : IsIn s.front alone e → e.clone ≡ Some c
+      by_place : IsIn s.front sole e → e.clone ≡ Some c
       by_place (earlier is) = fits.all e (in_front old.list s.front s.entry e s.last is) c (reading_back c e.at reads)
       by_place (this same) =
           let was : ReadsThrough old.files c s.entry.at = subst (ReadsThrough old.files c) (ap (λ (x : Entry). x.at) same) (reading_back c e.at reads) in
@@ -134,18 +135,19 @@ module _ (group : ℕ) (version : Version) (old new : Now) (fits : Fits old) (s 
 
   pub reading_fits : Fits new
   reading_fits = fits_by group version old new (reading_ends s) fits
-      (subst (λ (l : Listing). AreEntriesOnce l.entries) (sym s.list) (once_last s.front s.entry alone refl reading_once))
+      (subst (λ (l : Listing). AreEntriesOnce l.entries) (sym s.list) (once_last s.front s.entry sole refl reading_once))
+      (subst (λ (l : Listing). AreInOrder l.entries) (sym s.list) (order_last s.front s.entry sole refl refl (subst AreInOrder s.last fits.order)))
       reading_back reading_on reading_all
-      (first_maps says_no_source sourceless_keeps old new fits s.clone s.own s.own_is s.files)
+      (first_maps says_no_source sourceless_keeps old new fits s.clone s.own s.own_is (reading_maps old new fits s) s.files)
 
   pub reading_stays : (a : CellAt) (p : ℕ) → Stays old a p → Stays new a p
   reading_stays a p stays e inside at ds is =
       let n = narrower_step group version old new (reading_ends s) e inside in
-      let apart : ¬ a ≡ s.clone = (λ same. fits.clones s.entry n.was entry_in n.inside (s.given ∙ ap Some (sym same ∙ sym at ∙ sym n.at))) in
+      let apart : ¬ a ≡ s.clone = (λ same. alone old fits s.front s.entry s.last n.was n.inside (s.given ∙ ap Some (sym same ∙ sym at ∙ sym n.at))) in
       stays n.was n.inside (n.at ∙ at) ds (sym (reading_other a apart) ∙ is)
 
   pub reading_place : (b : CellAt) (p : ℕ) → place_in new.files b p ≡ place_in old.files b p
-  reading_place b p = first_place says_no_source sourceless_keeps old new fits s.clone s.own s.own_is s.files b p
+  reading_place b p = first_place says_no_source sourceless_keeps old new fits s.clone s.own s.own_is (reading_maps old new fits s) s.files b p
 
   clone_read : (p : ℕ) (o : Option Source) → source_of s.own ≡ o → read_at new.files s.clone p ≡ read_at old.files s.clone p
   clone_read p None is = absurd (no_source_there old.files s.clone s.entry.at (source_by old.files s.clone s.own s.own_is ∙ is) clone_reads_entry)
@@ -155,7 +157,7 @@ module _ (group : ℕ) (version : Version) (old new : Now) (fits : Fits old) (s 
       read_there new.files s.clone p (with_first says_no_source s.own) reading_there
       ∙ ap (λ o. read_of new.files o (with_first says_no_source s.own) p) (sourceless_source s.own)
       ∙ ap (own_or (places_of (with_first says_no_source s.own) p)) (none_either (nat_lt p 0) None)
-      ∙ ap (λ q. own_or q None) (first_places says_no_source sourceless_keeps old new fits s.clone s.own s.own_is s.files p)
+      ∙ ap (λ q. own_or q None) (first_places says_no_source sourceless_keeps old new fits s.clone s.own s.own_is (reading_maps old new fits s) s.files p)
       ∙ sym (ap (own_or (places_of s.own p)) (ap (λ q. cond (nat_lt p src.frozen) (home_at q) None) absent ∙ none_either (nat_lt p src.frozen) None))
       ∙ sym (ap (λ o. read_of old.files o s.own p) is)
       ∙ sym (read_there old.files s.clone p s.own s.own_is)
@@ -175,11 +177,18 @@ module _ (group : ℕ) (version : Version) (old new : Now) (fits : Fits old) (s 
   pub file_once : AreEntriesOnce (s.front ++ s.entry ∷ [])
   file_once = subst AreEntriesOnce s.last fits.once
 
-  pub file_front : (e : Entry) → Contains new.list.entries e → Contains s.front e
-  file_front e inside = inside_by (record { entries = s.front; tag_pages = old.list.tag_pages }) new.list e s.list inside
+  -- an entry was there, but for its clone
+  pub file_was : (e : Entry) → Contains new.list.entries e → (was : Entry) × Contains s.front was × (e ≡ without s.entry.at was)
+  file_was e inside = in_without s.entry.at s.front e (inside_by (record { entries = without_clone s.entry.at s.front; tag_pages = old.list.tag_pages }) new.list e s.list inside)
 
-  pub file_was : (e : Entry) → Contains new.list.entries e → Contains old.list.entries e
-  file_was e inside = in_front old.list s.front s.entry e s.last (file_front e inside)
+  pub file_now : (e : Entry) → Contains s.front e → Contains new.list.entries (without s.entry.at e)
+  file_now e inside = inside_by new.list (record { entries = without_clone s.entry.at s.front; tag_pages = old.list.tag_pages }) (without s.entry.at e) (sym s.list) (without_in s.entry.at s.front e inside)
+
+  -- none gives the file as its clone's
+  pub file_forgotten : (e : Entry) → Contains new.list.entries e → ¬ e.clone ≡ Some s.entry.at
+  file_forgotten e inside some =
+      let w = file_was e inside in
+      (but_some s.entry.at s.entry.at w.0.clone (sym (ap (λ (x : Entry). x.clone) w.2) ∙ some)).1 refl
 
   pub file_gone : new.files s.entry.at ≡ None
   file_gone = ap (λ (f : Files). f s.entry.at) s.files ∙ file_there s.entry.at None old.files
@@ -193,19 +202,28 @@ module _ (group : ℕ) (version : Version) (old new : Now) (fits : Fits old) (s 
   ended_back : (a b : CellAt) → ReadsThrough new.files a b → ReadsThrough old.files a b
   ended_back a b reads = reads_by old.files new.files a b (ap (option_and_then source_of) (ended_other a (not_the_file a b reads))) reads
 
+  ended_all : (e : Entry) → Contains new.list.entries e → (c : CellAt) → ReadsThrough new.files c e.at → e.clone ≡ Some c
+  ended_all e inside c reads =
+      let w = file_was e inside in
+      let was : ReadsThrough old.files c w.0.at = subst (ReadsThrough old.files c) (ap (λ (x : Entry). x.at) w.2) (ended_back c e.at reads) in
+      ap (λ (x : Entry). x.clone) w.2 ∙ ap (clone_but s.entry.at) (fits.all w.0 (in_front old.list s.front s.entry w.0 s.last w.1) c was) ∙ but_other s.entry.at c (not_the_file c e.at reads)
+
   pub ended_fits : Fits new
   ended_fits = fits_by group version old new (file_ends s) fits
-      (subst (λ (l : Listing). AreEntriesOnce l.entries) (sym s.list) (once_front s.front s.entry file_once))
+      (subst (λ (l : Listing). AreEntriesOnce l.entries) (sym s.list) (once_without s.entry.at s.front (once_front s.front s.entry file_once)))
+      (subst (λ (l : Listing). AreInOrder l.entries) (sym s.list) (order_without s.entry.at s.front (order_front s.front s.entry (subst AreInOrder s.last fits.order))))
       ended_back
       (λ c e inside some reads. reads_by new.files old.files c e.at
-      (sym (ap (option_and_then source_of) (ended_other c (λ same. fits.clones e s.entry (file_was e inside) file_in (some ∙ ap Some same))))) reads)
-      (λ e inside c reads. fits.all e (file_was e inside) c (ended_back c e.at reads))
+      (sym (ap (option_and_then source_of) (ended_other c (λ same. file_forgotten e inside (some ∙ ap Some same))))) reads)
+      ended_all
       (λ a first rest is. fits.maps a first rest (sym (ended_other a (λ same. none_not (first ∷ rest) (sym file_gone ∙ sym (ap new.files same) ∙ is))) ∙ is))
 
   pub ended_stays : (a : CellAt) (p : ℕ) → Stays old a p → Stays new a p
   ended_stays a p stays e inside at ds is =
-      let apart : ¬ a ≡ s.entry.at = (λ same. not_last s.front s.entry e file_once (file_front e inside) (at ∙ same)) in
-      stays e (file_was e inside) at ds (sym (ended_other a apart) ∙ is)
+      let w = file_was e inside in
+      let was_at : w.0.at ≡ a = sym (ap (λ (x : Entry). x.at) w.2) ∙ at in
+      let apart : ¬ a ≡ s.entry.at = (λ same. not_last s.front s.entry w.0 file_once w.1 (was_at ∙ same)) in
+      stays w.0 (in_front old.list s.front s.entry w.0 s.last w.1) was_at ds (sym (ended_other a apart) ∙ is)
 
   pub ended_reads : (a : CellAt) (p : ℕ) → Stays old a p → read_at new.files a p ≡ read_at old.files a p
   ended_reads a p stays = ⊎_elim
@@ -236,6 +254,7 @@ module _ (group : ℕ) (version : Version) (old new : Now) (fits : Fits old) (s 
   pub tag_fits : Fits new
   tag_fits = fits_by group version old new (tag_page_goes s) fits
       (subst (λ (l : Listing). AreEntriesOnce l.entries) (sym s.takes.is) fits.once)
+      (subst (λ (l : Listing). AreInOrder l.entries) (sym s.takes.is) fits.order)
       (λ a b reads. reads_by old.files new.files a b (tag_sources a) reads)
       (λ c e inside some reads. reads_by new.files old.files c e.at (sym (tag_sources c)) reads)
       (λ e inside c reads. fits.all e (tag_was e inside) c (reads_by old.files new.files c e.at (tag_sources c) reads))

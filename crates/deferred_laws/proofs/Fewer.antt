@@ -1,5 +1,5 @@
 -- Each step leaves less to be let go of.
-use Rattle.std.proofs.Common.{◌≡◌, ◌∙◌, ◌+◌, ◌-◌, ◌&&◌, ⊎_elim, ℕ, zero, suc, ◌<◌, ◌≤◌, Bool, true, false, cond, nat_le, List, [], ◌∷◌, ◌++◌, Some, None, Contains, is_some, length, sum_by, refl, sym, ap, subst, arith}
+use Rattle.std.proofs.Common.{◌≡◌, ◌∙◌, ◌+◌, ◌-◌, ◌&&◌, ⊎_elim, ℕ, zero, suc, ◌<◌, ◌≤◌, Bool, true, false, cond, nat_le, List, [], ◌∷◌, ◌++◌, Option, Some, None, Contains, is_some, length, sum_by, refl, sym, ap, subst, arith}
 use Rattle.std.proofs.lemmas.Bool.{and_from, cases_eq, le-leb, true≢false}
 use Rattle.std.proofs.lemmas.List.{length-map}
 use Rattle.std.proofs.lemmas.List.Sums.{sum_by-cons, sum_by_push}
@@ -23,16 +23,17 @@ use Rattle.chain_release.specs.Releases.{Progresses}
 use Rattle.chain_release.proofs.Once.{file_map}
 use Rattle.deferred_delete.specs.declared.list.Entry.{Entry}
 use Rattle.deferred_delete.specs.Listed.{stale_from}
-use Rattle.deferred_delete.specs.Listing.{Listing}
-use Rattle.deferred_delete.specs.Steps.{EndsReading, GivesTagPage, IsWell, LetsPages, Now, Step, Steps, file_ends, more, none, pages_go, reading_ends, tag_page_goes, trim_ends}
-use Rattle.deferred_delete.proofs.Lists.{AreEntriesOnce, longer, not_last}
-use Rattle.deferred_delete.proofs.Standings.{standing}
+use Rattle.deferred_delete.specs.Listing.{Listing, clone_but, without, without_clone}
+use Rattle.deferred_delete.specs.Steps.{EndsFile, EndsReading, GivesTagPage, IsWell, LetsPages, LosesQuotaCell, Now, Step, Steps, file_ends, more, none, pages_go, quota_goes, reading_ends, tag_page_goes, trim_ends}
+use Rattle.deferred_delete.proofs.Lists.{AreEntriesOnce, but_either, longer, not_last}
+use Rattle.deferred_delete.proofs.Standings.{quota_place}
 use Rattle.deferred_laws.specs.ToDo.{count_below, goes, is_there, left_in, left_of_entry, left_to_do}
 use Rattle.deferred_laws.proofs.Ended.{ended_other, reading_other, same_file, trim_other}
-use Rattle.deferred_laws.proofs.Fits.{Fits, well_fits}
+use Rattle.deferred_laws.proofs.Fits.{Fits, alone, well_fits}
 use Rattle.deferred_laws.proofs.Narrower.{in_front, in_last}
 use Rattle.deferred_laws.proofs.PagesGo.{after_stale, at_other, at_source}
 use Rattle.deferred_laws.proofs.Wells.{well_step}
+use Rattle.deferred_laws.proofs.QuotaStep.{chain, quota_beside, quota_is}
 
 -- ---- counts
 
@@ -71,6 +72,13 @@ sum_same f g [] same = refl
 sum_same f g (x ∷ xs) same =
     sum_by-cons g x xs ∙ ap (λ (n : ℕ). n + sum_by g xs) (same x (0, omega arith, refl))
     ∙ ap (λ (n : ℕ). f x + n) (sum_same f g xs (λ e inside. same e (suc inside.0, omega (arith, inside.1), inside.2))) ∙ sym (sum_by-cons f x xs)
+
+sum_below : (f g : Entry → ℕ) (at : CellAt) (xs : List Entry) → ((e : Entry) → Contains xs e → g (without at e) ≤ f e) → sum_by g (without_clone at xs) ≤ sum_by f xs
+sum_below f g at [] less = omega arith
+sum_below f g at (x ∷ xs) less =
+    let here = less x (0, omega arith, refl) in
+    let rest = sum_below f g at xs (λ e inside. less e (suc inside.0, omega (arith, inside.1), inside.2)) in
+    omega (arith, here, rest, sum_by-cons g (without at x) (without_clone at xs), sum_by-cons f x xs)
 
 -- ---- pages
 
@@ -123,8 +131,7 @@ module _ (group : ℕ) (version : Version) (old new : Now) (well : IsWell old) w
     fewer : (what : Released) (between : Cells) → Progresses what (stale_from s.chain) s.chain s.releases.after between new.cells → left_in s.releases.after + 1 ≤ left_in s.chain
     fewer released.Nothing between progress = absurd progress
     fewer released.Pages between progress =
-        let file = (standing old.space old.cells old.pages old.files well.together s.entry.at s.chain s.is).file in
-        let small = small_page (runs_of (records_of s.chain)) (file_map old.pages s.entry.at s.chain file).placed progress.page progress.was in
+        let small = small_page (runs_of (records_of s.chain)) (file_map old.pages s.entry.at s.chain s.file).placed progress.page progress.was in
         let went = count_less (goes s.chain) (goes s.releases.after) 65536 progress.page small still_goes
         (and_from (nat_le (stale_from s.chain) progress.page) (is_there (places_of s.chain progress.page)) (le-leb (stale_from s.chain) progress.page progress.begins) (there_is (places_of s.chain progress.page) progress.was))
         (goes_not s.releases.after progress.page progress.gone) in
@@ -140,7 +147,7 @@ module _ (group : ℕ) (version : Version) (old new : Now) (well : IsWell old) w
     pages_fewer =
         let inside = in_last old.list s.front s.entry s.last in
         let front = sum_same f g s.front (λ e is. same_entry e (at_other group version old new fits s e.at (not_last s.front s.entry e (once_by s.front s.entry s.last) is)
-        (fits.clones s.entry e inside (in_front old.list s.front s.entry e s.last is)))) in
+        (alone old fits s.front s.entry s.last e (in_front old.list s.front s.entry e s.last is)))) in
         let was : f s.entry ≡ 1 + cond (is_some s.entry.clone) 1 0 + left_in s.chain = ap (λ o. 1 + cond (is_some s.entry.clone) 1 0 + option_map_or left_in o 0) s.is in
         let is : g s.entry ≡ 1 + cond (is_some s.entry.clone) 1 0 + left_in s.releases.after = ap (λ o. 1 + cond (is_some s.entry.clone) 1 0 + option_map_or left_in o 0) (at_source group version old new fits s) in
         let less = fewer s.what s.releases.cells_between s.releases.progress in
@@ -148,6 +155,22 @@ module _ (group : ℕ) (version : Version) (old new : Now) (well : IsWell old) w
         let all_new : sum_by g new.list.entries ≡ sum_by g s.front + g s.entry = ap (λ (l : Listing). sum_by g l.entries) s.same_list ∙ ap (sum_by g) s.last ∙ sum_by_push g s.front s.entry in
         let tags : length new.list.tag_pages ≡ length old.list.tag_pages = ap (λ (l : Listing). length l.tag_pages) s.same_list in
         omega (arith, front, was, is, less, all_old, all_new, tags)
+
+  -- a quota cell goes
+  quota_fewer : LosesQuotaCell old new → left_to_do new + 1 ≤ left_to_do old
+  quota_fewer s =
+      let cells = chain group version old new s in
+      let front = sum_same f g s.front (λ e is. same_entry e (quota_beside group version old new s e.at (not_last s.front s.entry e (once_by s.front s.entry s.last) is))) in
+      let was : f s.entry ≡ 1 + cond (is_some s.entry.clone) 1 0 + left_in cells = ap (λ o. 1 + cond (is_some s.entry.clone) 1 0 + option_map_or left_in o 0) s.is in
+      let is : g s.entry ≡ 1 + cond (is_some s.entry.clone) 1 0 + left_in s.after = ap (λ o. 1 + cond (is_some s.entry.clone) 1 0 + option_map_or left_in o 0) (quota_is group version old new s) in
+      let gone : (k : ℕ) → goes s.after k ≡ true → goes cells k ≡ true =
+      λ k there. absurd (true≢false (sym there ∙ goes_not s.after k (quota_place new.pages s.entry.at s.after s.stands k))) in
+      let pages = count_le (goes cells) (goes s.after) 65536 gone in
+      let long : length s.after ≡ suc (length s.rest) = ap length s.after_is in
+      let all_old : sum_by f old.list.entries ≡ sum_by f s.front + f s.entry = ap (sum_by f) s.last ∙ sum_by_push f s.front s.entry in
+      let all_new : sum_by g new.list.entries ≡ sum_by g s.front + g s.entry = ap (λ (l : Listing). sum_by g l.entries) s.same_list ∙ ap (sum_by g) s.last ∙ sum_by_push g s.front s.entry in
+      let tags : length new.list.tag_pages ≡ length old.list.tag_pages = ap (λ (l : Listing). length l.tag_pages) s.same_list in
+      omega (arith, front, was, is, pages, long, all_old, all_new, tags)
 
   -- the last entry goes
   entry_fewer : (front : List Entry) (entry : Entry) → old.list.entries ≡ front ++ entry ∷ [] → new.list ≡ record { entries = front; tag_pages = old.list.tag_pages } → ((a : CellAt) → ¬ a ≡ entry.at → new.files a ≡ old.files a) → left_to_do new + 1 ≤ left_to_do old
@@ -158,18 +181,36 @@ module _ (group : ℕ) (version : Version) (old new : Now) (well : IsWell old) w
       let tags : length new.list.tag_pages ≡ length old.list.tag_pages = ap (λ (l : Listing). length l.tag_pages) list in
       omega (arith, same, all_old, all_new, tags)
 
+  -- and so does its file
+  clone_or_not : (at : CellAt) (o : Option CellAt) → bit (is_some (clone_but at o)) ≤ bit (is_some o)
+  clone_or_not at o = ⊎_elim
+      (λ kept. let e = ap (λ x. bit (is_some x)) kept in omega (arith, e))
+      (λ gone. let e : bit (is_some (clone_but at o)) ≡ 0 = ap (λ x. bit (is_some x)) gone in omega (arith, e))
+      (but_either at o)
+
+  file_fewer : EndsFile old new → left_to_do new + 1 ≤ left_to_do old
+  file_fewer s =
+      let less = sum_below f g s.entry.at s.front (λ e is.
+      let same = ap (λ o. option_map_or left_in o 0) (ended_other group version old new fits s e.at (not_last s.front s.entry e (once_by s.front s.entry s.last) is)) in
+      let clone = clone_or_not s.entry.at e.clone in
+      omega (arith, same, clone)) in
+      let all_old : sum_by f old.list.entries ≡ sum_by f s.front + f s.entry = ap (sum_by f) s.last ∙ sum_by_push f s.front s.entry in
+      let all_new : sum_by g new.list.entries ≡ sum_by g (without_clone s.entry.at s.front) = ap (λ (l : Listing). sum_by g l.entries) s.list in
+      let tags : length new.list.tag_pages ≡ length old.list.tag_pages = ap (λ (l : Listing). length l.tag_pages) s.list in
+      omega (arith, less, all_old, all_new, tags)
+
   reading_fewer : EndsReading old new → left_to_do new + 1 ≤ left_to_do old
   reading_fewer s =
       let inside = in_last old.list s.front s.entry s.last in
       let beside : (e : Entry) → Contains old.list.entries e → new.files e.at ≡ old.files e.at =
-      λ e is. reading_other group version old new fits s e.at (λ same. fits.clones s.entry e inside is (s.given ∙ ap Some (sym same))) in
-      let alone : Entry = record { at = s.entry.at; clone = None } in
+      λ e is. reading_other group version old new fits s e.at (λ same. alone old fits s.front s.entry s.last e is (s.given ∙ ap Some (sym same))) in
+      let sole : Entry = record { at = s.entry.at; clone = None } in
       let front = sum_same f g s.front (λ e is. same_entry e (beside e (in_front old.list s.front s.entry e s.last is))) in
       let chain = beside s.entry inside in
       let was : f s.entry ≡ 1 + 1 + option_map_or left_in (old.files s.entry.at) 0 = ap (λ o. 1 + cond (is_some o) 1 0 + option_map_or left_in (old.files s.entry.at) 0) s.given in
-      let is : g alone ≡ 1 + 0 + option_map_or left_in (old.files s.entry.at) 0 = ap (λ o. 1 + 0 + option_map_or left_in o 0) chain in
+      let is : g sole ≡ 1 + 0 + option_map_or left_in (old.files s.entry.at) 0 = ap (λ o. 1 + 0 + option_map_or left_in o 0) chain in
       let all_old : sum_by f old.list.entries ≡ sum_by f s.front + f s.entry = ap (sum_by f) s.last ∙ sum_by_push f s.front s.entry in
-      let all_new : sum_by g new.list.entries ≡ sum_by g s.front + g alone = ap (λ (l : Listing). sum_by g l.entries) s.list ∙ sum_by_push g s.front alone in
+      let all_new : sum_by g new.list.entries ≡ sum_by g s.front + g sole = ap (λ (l : Listing). sum_by g l.entries) s.list ∙ sum_by_push g s.front sole in
       let tags : length new.list.tag_pages ≡ length old.list.tag_pages = ap (λ (l : Listing). length l.tag_pages) s.list in
       omega (arith, front, was, is, all_old, all_new, tags)
 
@@ -186,9 +227,10 @@ module _ (group : ℕ) (version : Version) (old new : Now) (well : IsWell old) w
 
   step_fewer : Step group version old new → left_to_do new + 1 ≤ left_to_do old
   step_fewer (pages_go s) = pages_fewer s
+  step_fewer (quota_goes s) = quota_fewer s
   step_fewer (trim_ends s) = entry_fewer s.front s.entry s.last s.list (trim_other group version old new fits s)
   step_fewer (reading_ends s) = reading_fewer s
-  step_fewer (file_ends s) = entry_fewer s.front s.entry s.last s.list (ended_other group version old new fits s)
+  step_fewer (file_ends s) = file_fewer s
   step_fewer (tag_page_goes s) = tag_fewer s
 
 record IsLess (first : Now) (count : ℕ) (last : Now) : Type 0 where

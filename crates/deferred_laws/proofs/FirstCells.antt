@@ -1,5 +1,5 @@
 -- The first cell of one file says something else, but not of pages.
-use Rattle.std.proofs.Common.{◌≡◌, ◌∙◌, ℕ, List, [], ◌∷◌, ◌++◌, Option, Some, IsSome, None, refl, sym, ap, subst, arith, ⊎_elim}
+use Rattle.std.proofs.Common.{IsSome, List, None, Option, Some, [], ℕ, ⊎_elim, ◌++◌, ◌∙◌, ◌∷◌, ◌≡◌, ◌⊎◌, ap, arith, inl, refl, subst, sym}
 use Rattle.std.proofs.lemmas.Grind.{flat_map-append}
 use Rattle.std.specs.Option.{option_and_then, option_map, option_map_or}
 use Rattle.domain_base.specs.declared.place.CellAt.{CellAt}
@@ -14,12 +14,12 @@ use Rattle.extent_records.specs.Rows.{runs_in, runs_of}
 use Rattle.bitfile_cells.specs.Files.{HasMap, map_records, places_of}
 use Rattle.bitfile_cells.proofs.MapRecords.{runs_by_map, value_has_rows}
 use Rattle.bitfile_core.specs.Changes.{with_first}
-use Rattle.deferred_delete.specs.Standing.{Files, place_in, source_in, source_of, with_file}
+use Rattle.deferred_delete.specs.Standing.{Files, IsQuotaCell, place_in, source_in, source_of, with_file}
 use Rattle.deferred_delete.specs.Steps.{Now, says_no_source, says_trimmed, without_source}
 use Rattle.deferred_delete.proofs.Records.{sourceless_maps, sourceless_other, sourceless_there, trimmed_attributes, trimmed_maps, trimmed_other}
 use Rattle.deferred_delete.proofs.Spread.{some_same}
 use Rattle.deferred_delete.proofs.Standings.{file_other, file_there, place_by, same_or_not}
-use Rattle.deferred_laws.proofs.Fits.{Fits, HasOneMap}
+use Rattle.deferred_laws.proofs.Fits.{Fits, HasMaps, HasOneMap}
 
 -- what a change of a cell leaves of the record that says where pages stand
 abbrev pub KeepsMap : (Cell → Cell) → Type 0
@@ -58,10 +58,7 @@ module _ (says : Cell → Cell) (keeps : KeepsMap says) where
       ∙ ap (λ (xs : List Run). xs ++ runs_of (records_of rest)) (runs_now first.cell (has first rest refl))
       ∙ sym (flat_map-append runs_in first.cell.records (records_of rest)))
 
-  module _ (old new : Now) (fits : Fits old) (at : CellAt) (cs : List PlacedCell) (is : old.files at ≡ Some cs) (files : new.files ≡ with_file at (Some (with_first says cs)) old.files) where
-    has : (first : PlacedCell) (rest : List PlacedCell) → cs ≡ first ∷ rest → HasOneMap first.cell
-    has first rest e = fits.maps at first rest (is ∙ ap Some e)
-
+  module _ (old new : Now) (fits : Fits old) (at : CellAt) (cs : List PlacedCell) (is : old.files at ≡ Some cs) (has : HasMaps cs) (files : new.files ≡ with_file at (Some (with_first says cs)) old.files) where
     pub first_there : new.files at ≡ Some (with_first says cs)
     first_there = ap (λ (f : Files). f at) files ∙ file_there at (Some (with_first says cs)) old.files
 
@@ -77,9 +74,9 @@ module _ (says : Cell → Cell) (keeps : KeepsMap says) where
         (λ not_at. ap (λ o. option_map_or (λ cs. places_of cs p) o Absent) (first_other a not_at))
         (same_or_not a at)
 
-    pub first_maps : (a : CellAt) (first : PlacedCell) (rest : List PlacedCell) → new.files a ≡ Some (first ∷ rest) → HasOneMap first.cell
+    pub first_maps : (a : CellAt) (first : PlacedCell) (rest : List PlacedCell) → new.files a ≡ Some (first ∷ rest) → HasOneMap first.cell ⊎ IsQuotaCell first.cell
     first_maps a first rest is_now = ⊎_elim
-        (λ same. maps_with cs has first rest (some_same (with_first says cs) (first ∷ rest) (sym first_there ∙ sym (ap new.files same) ∙ is_now)))
+        (λ same. inl (maps_with cs has first rest (some_same (with_first says cs) (first ∷ rest) (sym first_there ∙ sym (ap new.files same) ∙ is_now))))
         (λ not_at. fits.maps a first rest (sym (first_other a not_at) ∙ is_now))
         (same_or_not a at)
 

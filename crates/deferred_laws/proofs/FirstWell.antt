@@ -21,7 +21,7 @@ use Rattle.bitfile_cells.proofs.ChainChanges.{in_first}
 use Rattle.bitfile_cells.proofs.MapRecords.{kind_found}
 use Rattle.bitfile_core.specs.declared.attributes.Attributes.{Attributes}
 use Rattle.bitfile_core.specs.Changes.{ChangesBeside, ChangesFirst, says_attributes, says_parent, says_removed, with_attributes, with_chain, with_first, without_chain}
-use Rattle.bitfile_core.specs.Files.{AreApart, Chains, LeadsToFile, is_removed, says_remove}
+use Rattle.bitfile_core.specs.Files.{AreApart, AreFiles, Chains, LeadsToFile, is_removed, says_remove}
 use Rattle.bitfile_core.specs.Truncation.{resized, says_size, says_truncated}
 use Rattle.bitfile_core.proofs.FirstCell.{find_other, find_put}
 use Rattle.bitfile_core.proofs.FirstTogether.{attributes_keep, parent_keeps, runs_kept, truncated_keeps}
@@ -30,9 +30,9 @@ use Rattle.bitfile_core.proofs.RemovedTogether.{removed_keeps}
 use Rattle.bitfile_core.proofs.Room.{attributes_kind}
 use Rattle.bitfile_core.proofs.Truncated.{resized_kind}
 use Rattle.deferred_delete.specs.Listed.{left_of, leftover_in}
-use Rattle.deferred_delete.specs.Standing.{Files, IsStanding, source_in, with_file}
+use Rattle.deferred_delete.specs.Standing.{Files, IsFileOrQuotas, IsStanding, source_in, with_file}
 use Rattle.deferred_delete.specs.Steps.{IsWell, now_of}
-use Rattle.deferred_delete.proofs.Standings.{apart_by, file_beside, file_there, place_by, source_by, standing}
+use Rattle.deferred_delete.proofs.Standings.{apart_by, chain_beside, file_there, place_by, source_by, standing}
 use Rattle.deferred_laws.specs.Calls.{StandsWell, Drops, FilesetNow, SetsFirst}
 use Rattle.deferred_laws.specs.Tags.{AreAmong, chains_in, start_of}
 use Rattle.deferred_laws.proofs.OneFile.{IsPut, put_listed, put_together}
@@ -42,6 +42,7 @@ use Rattle.deferred_laws.proofs.TagFile.{file_is, other_starts}
 use Rattle.deferred_laws.proofs.Wells.{well_by}
 use Rattle.deferred_delete.specs.declared.list.Entry.{Entry}
 use Rattle.deferred_delete.proofs.Spread.{none_not}
+use Rattle.tag_dirs.specs.declared.dir.TagPlace.{TagPlace}
 
 -- ---- what the cell says then
 
@@ -124,11 +125,19 @@ module _ (pages : Pages) (first : PlacedCell) (rest : List PlacedCell) (file : A
 
 -- ---- the file, and all others
 
+-- a tag's chain is a file's
+pub are_file : (fileset : ℕ) (places : List TagPlace) (pages : Pages) (chains : Chains) → AreFiles fileset places pages chains → (tag : Tag) (first : PlacedCell) (rest : List PlacedCell) → chains tag ≡ Some (first ∷ rest) → AreFile pages first rest
+are_file fileset places pages chains are tag first rest is = by_cell (cell_of pages places tag) (subst (λ o. IfSome o (LeadsToFile fileset places pages tag)) is (are.some tag)).leads
+  where
+    by_cell : (o : Option CellAt) → IsSomeAnd o (λ at. IsFile pages at (first ∷ rest)) → AreFile pages first rest
+    by_cell None leads = absurd leads
+    by_cell (Some at) leads = leads.1
+
 abbrev pub NoMore : ℕ → Home → Type 0
 NoMore p home = ⊥
 
 module _ (fileset : ℕ) (tag : Tag) (old : FilesetNow) (stood : StandsWell fileset old) (new : Pages) (first : PlacedCell) (rest : List PlacedCell) (is : old.chains tag ≡ Some (first ∷ rest)) (says : Cell → Cell)
-    (allocated : AreAllocated old.domain.space old.domain.cells new) (file_now : IsFile new first.at (with_first says (first ∷ rest))) (leaves : (a : CellAt) (cs : List PlacedCell) → old.domain.files a ≡ Some cs → ¬ Contains (cell_places cs) first.at → IsFile new a cs)
+    (allocated : AreAllocated old.domain.space old.domain.cells new) (file_now : IsFile new first.at (with_first says (first ∷ rest))) (leaves : (a : CellAt) (cs : List PlacedCell) → old.domain.files a ≡ Some cs → ¬ Contains (cell_places cs) first.at → IsFileOrQuotas new a cs)
     (beside : SaysBeside says first.cell) where
   abbrev files : Files
   files = old.domain.files
@@ -148,7 +157,7 @@ module _ (fileset : ℕ) (tag : Tag) (old : FilesetNow) (stood : StandsWell file
   pub set_put : IsPut old.domain.space old.domain.space old.domain.cells old.domain.cells new files first.at after NoMore
   set_put = record {
     allocated = allocated;
-    stands = record { file = file_now; on_tables = (was.on_tables.0, was.on_tables.1) };
+    stands = record { stands = inl file_now; on_tables = (was.on_tables.0, was.on_tables.1) };
     tables = λ vol p on. on;
     held = λ home is. is;
     leaves = λ a cs is_a not_at. leaves a cs is_a (λ inside. apart a cs is_a not_at first.at (in_first first.at first rest refl) inside);
@@ -197,12 +206,11 @@ module _ (fileset : ℕ) (tag : Tag) (old new : FilesetNow) (stood : StandsWell 
   set_leaves : LeavesOthers (is_at s.first.at) old.domain.pages new.domain.pages
   set_leaves = (subst (λ o. ChangesFirst o old.domain.pages new.domain.pages) s.is s.beside).0
 
-  set_beside : (a : CellAt) (cs : List PlacedCell) → old.domain.files a ≡ Some cs → ¬ Contains (cell_places cs) s.first.at → IsFile new.domain.pages a cs
-  set_beside a cs is out = file_beside old.domain.pages new.domain.pages s.first.at a cs set_leaves out (standing old.domain.space old.domain.cells old.domain.pages old.domain.files stood.well.together a cs is).file
+  set_beside : (a : CellAt) (cs : List PlacedCell) → old.domain.files a ≡ Some cs → ¬ Contains (cell_places cs) s.first.at → IsFileOrQuotas new.domain.pages a cs
+  set_beside a cs is out = chain_beside old.domain.pages new.domain.pages s.first.at a cs set_leaves out (standing old.domain.space old.domain.cells old.domain.pages old.domain.files stood.well.together a cs is).stands
 
   pub set_file : AreFile old.domain.pages s.first s.rest
-  set_file = (standing old.domain.space old.domain.cells old.domain.pages old.domain.files stood.well.together s.first.at (s.first ∷ s.rest)
-      (file_is fileset old.places old.domain.pages old.chains stood.together.files old.domain.files stood.among.same tag (s.first ∷ s.rest) s.is s.first.at refl)).file.1
+  set_file = are_file fileset old.places old.domain.pages old.chains stood.together.files tag s.first s.rest s.is
 
   module _ (beside : SaysBeside says s.first.cell) (live : StaysLive says s.first.cell) where
     pub first_well : IsWell new.domain
@@ -235,12 +243,11 @@ module _ (fileset : ℕ) (tag : Tag) (old new : FilesetNow) (stood : StandsWell 
   dropped_leaves : LeavesOthers (is_at s.first.at) old.domain.pages new.domain.pages
   dropped_leaves = (subst (λ o. ChangesBeside old.places o old.domain.pages new.domain.pages) s.is s.beside).cells
 
-  dropped_beside : (a : CellAt) (cs : List PlacedCell) → old.domain.files a ≡ Some cs → ¬ Contains (cell_places cs) s.first.at → IsFile new.domain.pages a cs
-  dropped_beside a cs is out = file_beside old.domain.pages new.domain.pages s.first.at a cs dropped_leaves out (standing old.domain.space old.domain.cells old.domain.pages old.domain.files stood.well.together a cs is).file
+  dropped_beside : (a : CellAt) (cs : List PlacedCell) → old.domain.files a ≡ Some cs → ¬ Contains (cell_places cs) s.first.at → IsFileOrQuotas new.domain.pages a cs
+  dropped_beside a cs is out = chain_beside old.domain.pages new.domain.pages s.first.at a cs dropped_leaves out (standing old.domain.space old.domain.cells old.domain.pages old.domain.files stood.well.together a cs is).stands
 
   pub dropped_was : AreFile old.domain.pages s.first s.rest
-  dropped_was = (standing old.domain.space old.domain.cells old.domain.pages old.domain.files stood.well.together s.first.at (s.first ∷ s.rest)
-      (file_is fileset old.places old.domain.pages old.chains stood.together.files old.domain.files stood.among.same tag (s.first ∷ s.rest) s.is s.first.at refl)).file.1
+  dropped_was = are_file fileset old.places old.domain.pages old.chains stood.together.files tag s.first s.rest s.is
 
   pub files_left : new.domain.files ≡ with_file s.first.at (Some (with_first says_removed (s.first ∷ s.rest))) old.domain.files
   files_left = s.files ∙ ap (λ (a : CellAt). with_file a (Some (with_first says_removed (s.first ∷ s.rest))) old.domain.files) (sym dropped_file.0)

@@ -8,17 +8,18 @@ use Rattle.bitfile_cells.specs.Files.{places_of}
 use Rattle.bitfile_core.specs.Changes.{with_first}
 use Rattle.deferred_delete.specs.declared.list.Entry.{Entry}
 use Rattle.deferred_delete.specs.Listed.{left_of, stale_from}
-use Rattle.deferred_delete.specs.Steps.{EndsFile, EndsReading, EndsTrim, IsWell, LetsPages, Now, Step, Steps, file_ends, more, none, pages_go, reading_ends, says_trimmed, tag_page_goes, trim_ends}
+use Rattle.deferred_delete.specs.Steps.{EndsFile, EndsReading, EndsTrim, IsWell, LetsPages, Now, Step, Steps, file_ends, more, none, pages_go, quota_goes, reading_ends, says_trimmed, tag_page_goes, trim_ends}
 use Rattle.deferred_delete.proofs.Lists.{not_last}
 use Rattle.deferred_delete.proofs.Spread.{Which, none_not, other, reading, some_same, source, which}
 use Rattle.deferred_delete.proofs.Standings.{same_or_not}
 use Rattle.deferred_laws.specs.Kept.{KeepsFront}
 use Rattle.deferred_laws.proofs.Ended.{ended_other, reading_other, same_file, trim_front, trim_once, trim_other, trim_there}
 use Rattle.deferred_laws.proofs.FirstCells.{first_places, trimmed_keeps}
-use Rattle.deferred_laws.proofs.Fits.{Fits, well_fits}
+use Rattle.deferred_laws.proofs.Fits.{Fits, trim_maps, well_fits}
 use Rattle.deferred_laws.proofs.Laws.{fits_step}
 use Rattle.deferred_laws.proofs.Narrower.{in_last, narrower_step}
 use Rattle.deferred_laws.proofs.PagesGo.{after_left, after_stale, at_other, at_source}
+use Rattle.deferred_laws.proofs.QuotaStep.{not_trimmed, quota_beside}
 
 -- the file is there with those pages, no entry gives it as a clone's, and one that is its own says
 -- that it is trimmed, from the same page on
@@ -76,7 +77,7 @@ module _ (group : ℕ) (version : Version) (old new : Now) (chain : List PlacedC
         record {
           after = with_first says_trimmed s.chain;
           is = ap new.files same ∙ trim_there group version old new fits s;
-          places = λ p less. first_places says_trimmed trimmed_keeps old new fits s.entry.at s.chain s.is s.files p ∙ ap (λ (cs : List PlacedCell). places_of cs p) was ∙ k.places p less;
+          places = λ p less. first_places says_trimmed trimmed_keeps old new fits s.entry.at s.chain s.is (trim_maps old new fits s) s.files p ∙ ap (λ (cs : List PlacedCell). places_of cs p) was ∙ k.places p less;
           no_clone = no_clone_now (trim_ends s);
           left = λ e inside at. absurd (not_last s.front s.entry e (trim_once group version old new fits s) (trim_front group version old new fits s e inside) (at ∙ same));
         })
@@ -95,6 +96,8 @@ module _ (group : ℕ) (version : Version) (old new : Now) (chain : List PlacedC
 
     pub trimmed_step : Step group version old new → IsTrimmed chain new a
     trimmed_step (pages_go s) = lets_trimmed s
+    trimmed_step (quota_goes s) = still_trimmed (quota_goes s)
+        (quota_beside group version old new s a (λ same. not_trimmed group version old new s k.after (sym (ap old.files same) ∙ k.is) (k.left s.entry (in_last old.list s.front s.entry s.last) (sym same)).0))
     trimmed_step (trim_ends s) = trim_trimmed s
     trimmed_step (reading_ends s) = reading_trimmed s
     trimmed_step (file_ends s) = file_trimmed s
@@ -105,8 +108,8 @@ record TrimmedStill (chain : List PlacedCell) (now : Now) (a : CellAt) : Type 0 
   trimmed : IsTrimmed chain now a
 
 trimmed_still : (group : ℕ) (version : Version) (first : Now) (count : ℕ) (last : Now) → IsWell first → Steps group version first count last
-    → (entry : Entry) → Contains first.list.entries entry → (chain : List PlacedCell) → first.files entry.at ≡ Some chain → left_of chain ≡ Some Trim → TrimmedStill chain last entry.at
-trimmed_still group version first count last well steps entry inside chain is left =
+    → (entry : Entry) → ((e : Entry) → Contains first.list.entries e → ¬ e.clone ≡ Some entry.at) → (chain : List PlacedCell) → first.files entry.at ≡ Some chain → left_of chain ≡ Some Trim → TrimmedStill chain last entry.at
+trimmed_still group version first count last well steps entry no_clone chain is left =
     elim steps as (λ count last steps. TrimmedStill chain last entry.at) [
       | none ↦ record {
         fits = well_fits first well;
@@ -114,7 +117,7 @@ trimmed_still group version first count last well steps entry inside chain is le
           after = chain;
           is = is;
           places = λ p less. refl;
-          no_clone = λ e in_e some. well.listed.clones e entry in_e inside some;
+          no_clone = no_clone;
           left = λ e in_e at. (left, refl);
         };
       }
@@ -125,7 +128,7 @@ trimmed_still group version first count last well steps entry inside chain is le
     ]
 
 pub fronts_stay : (group : ℕ) (version : Version) (first : Now) (count : ℕ) (last : Now) → IsWell first → Steps group version first count last
-    → (entry : Entry) → Contains first.list.entries entry → (chain : List PlacedCell) → first.files entry.at ≡ Some chain → left_of chain ≡ Some Trim → KeepsFront chain (last.files entry.at)
-fronts_stay group version first count last well steps entry inside chain is left =
-    let k = (trimmed_still group version first count last well steps entry inside chain is left).trimmed in
+    → (entry : Entry) → Contains first.list.entries entry → ((e : Entry) → Contains first.list.entries e → ¬ e.clone ≡ Some entry.at) → (chain : List PlacedCell) → first.files entry.at ≡ Some chain → left_of chain ≡ Some Trim → KeepsFront chain (last.files entry.at)
+fronts_stay group version first count last well steps entry inside no_clone chain is left =
+    let k = (trimmed_still group version first count last well steps entry no_clone chain is left).trimmed in
     subst (KeepsFront chain) (sym k.is) k.places

@@ -25,7 +25,7 @@ use Rattle.chain_release.specs.Sharing.{AreSharing, frozen_of}
 use Rattle.chain_release.proofs.Given.{absent_home}
 use Rattle.deferred_delete.specs.declared.list.Entry.{Entry}
 use Rattle.deferred_delete.specs.Standing.{place_in}
-use Rattle.deferred_delete.specs.Steps.{IsWell, LetsPages, Now, Step, Steps, file_ends, kept_all, more, none, pages_go, reading_ends, says_no_source, says_trimmed, tag_page_goes, trim_ends}
+use Rattle.deferred_delete.specs.Steps.{IsWell, LetsPages, Now, Step, Steps, file_ends, kept_all, more, none, pages_go, quota_goes, reading_ends, says_no_source, says_trimmed, tag_page_goes, trim_ends}
 use Rattle.deferred_delete.proofs.Firsts.{first_same}
 use Rattle.deferred_delete.proofs.Lists.{in_start, last_in}
 use Rattle.deferred_delete.proofs.Records.{sourceless_other}
@@ -35,11 +35,12 @@ use Rattle.deferred_laws.specs.Waits.{IsLetGo, Waits, waiting_at}
 use Rattle.deferred_laws.proofs.AllKept.{trimmed_first}
 use Rattle.deferred_laws.proofs.Ended.{ended_other, reading_other, reading_place, reading_there, same_file, trim_other, trim_there}
 use Rattle.deferred_laws.proofs.FirstCells.{first_place, first_places, sourceless_keeps, trimmed_keeps}
-use Rattle.deferred_laws.proofs.Fits.{Fits, well_fits}
+use Rattle.deferred_laws.proofs.Fits.{Fits, alone, reading_maps, trim_maps, well_fits}
 use Rattle.deferred_laws.proofs.Narrower.{in_last, narrower_step}
 use Rattle.deferred_laws.proofs.PagesGo.{at_other, at_source, clone_now, clone_was}
 use Rattle.deferred_laws.proofs.WaitOn.{changed, given_keeps, step_keeps, taken_keeps}
 use Rattle.deferred_laws.proofs.Wells.{well_step}
+use Rattle.deferred_laws.proofs.QuotaStep.{chain, quota_absent, quota_beside, quota_places}
 
 -- ---- what is given back waits
 
@@ -51,7 +52,7 @@ module _ (s : Spaces) (vol : ℕ) (w : Waiting) where
       by_volume None some = some
       by_volume (Some v) some = last_in v.waiting w
 
-  waits_more : (v : ℕ) (x : Waiting) → Waits s v x → Waits (change_volume (with_waiting w) s vol) v x
+  pub waits_more : (v : ℕ) (x : Waiting) → Waits s v x → Waits (change_volume (with_waiting w) s vol) v x
   waits_more v x is = changed (λ v. Contains v.waiting x) (with_waiting w) (λ v inside. in_start v.waiting (w ∷ []) x inside) s vol v is
 
 there_given : (kind : PageUse) (group : ℕ) (homes : List Home) (s : Spaces) (vol : ℕ) → IsSomeAnd (volume_of s vol) (λ _. Unit {0}) → IsSomeAnd (volume_of (with_given kind group homes s) vol) (λ _. Unit {0})
@@ -139,7 +140,7 @@ module _ (group : ℕ) (version : Version) (old new : Now) (well : IsWell old) w
     entry_in = in_last old.list s.front s.entry s.last
 
     shares : AreSharing s.entry.at s.reader old.space old.cells old.pages s.chain s.own
-    shares = sharing old.space old.cells old.pages old.files well.together s.entry (well.listed.each s.entry entry_in) s.chain s.is s.reader s.own s.given
+    shares = sharing old.space old.cells old.pages old.files well.together s.entry (well.listed.each s.entry entry_in) s.chain s.is s.file s.reader s.own s.given
 
     -- its clone's file keeps what it has
     clone_keeps : (p : ℕ) (home : Home) → places_of s.own p ≡ At home → places_of s.releases.own_now p ≡ At home
@@ -170,7 +171,7 @@ module _ (group : ℕ) (version : Version) (old new : Now) (well : IsWell old) w
         (λ q. record {
           at = q.clone;
           there = place_by new.files q.clone s.releases.own_now p (clone_now group version old new fits s q.clone q.is_clone) ∙ h.is ∙ ap At (one_home h.home home (sym h.was ∙ was));
-          no_entry = no_entry_now (pages_go s) q.clone (λ e inside same. fits.clones s.entry e entry_in inside (q.is_clone ∙ ap Some (sym same)));
+          no_entry = no_entry_now (pages_go s) q.clone (λ e inside same. alone old fits s.front s.entry s.last e inside (q.is_clone ∙ ap Some (sym same)));
         })
         (has_reader old.files s.entry.clone s.reader s.own s.given)
 
@@ -214,12 +215,18 @@ module _ (group : ℕ) (version : Version) (old new : Now) (well : IsWell old) w
 
     owned_step : Step group version old new → IsOwned old a p home kind → Whereabouts group new a p home kind
     owned_step (pages_go s) o = lets_owned s o
+    owned_step (quota_goes s) o = ⊎_elim
+        (λ same.
+        let it : chain group version old new s ≡ o.chain = some_same (chain group version old new s) o.chain (sym s.is ∙ sym (ap old.files same) ∙ o.is) in
+        absurd (absent_home home (quota_absent group version old new s p) (ap (λ (cs : List PlacedCell). places_of cs p) it ∙ o.there)))
+        (λ not_at. same_owned o (quota_beside group version old new s a not_at))
+        (same_or_not a s.entry.at)
     owned_step (trim_ends s) o = ⊎_elim
-        (λ same. still_owned o s.entry.at s.chain (with_first says_trimmed s.chain) same s.is (trim_there group version old new fits s) (λ x. first_places says_trimmed trimmed_keeps old new fits s.entry.at s.chain s.is s.files p ∙ x) (use_trimmed s.chain))
+        (λ same. still_owned o s.entry.at s.chain (with_first says_trimmed s.chain) same s.is (trim_there group version old new fits s) (λ x. first_places says_trimmed trimmed_keeps old new fits s.entry.at s.chain s.is (trim_maps old new fits s) s.files p ∙ x) (use_trimmed s.chain))
         (λ not_at. same_owned o (trim_other group version old new fits s a not_at))
         (same_or_not a s.entry.at)
     owned_step (reading_ends s) o = ⊎_elim
-        (λ same. still_owned o s.clone s.own (with_first says_no_source s.own) same s.own_is (reading_there group version old new fits s) (λ x. first_places says_no_source sourceless_keeps old new fits s.clone s.own s.own_is s.files p ∙ x) (use_alone s.own))
+        (λ same. still_owned o s.clone s.own (with_first says_no_source s.own) same s.own_is (reading_there group version old new fits s) (λ x. first_places says_no_source sourceless_keeps old new fits s.clone s.own s.own_is (reading_maps old new fits s) s.files p ∙ x) (use_alone s.own))
         (λ not_at. same_owned o (reading_other group version old new fits s a not_at))
         (same_or_not a s.clone)
     owned_step (file_ends s) o = ⊎_elim
@@ -250,7 +257,8 @@ module _ (group : ℕ) (version : Version) (old new : Now) (well : IsWell old) w
 
     passed_step : Step group version old new → IsPassedOn old p home → Whereabouts group new a p home kind
     passed_step (pages_go s) q = lets_passed s q
-    passed_step (trim_ends s) q = passed_by (trim_ends s) q (first_place says_trimmed trimmed_keeps old new fits s.entry.at s.chain s.is s.files q.at p ∙ q.there)
+    passed_step (quota_goes s) q = passed_by (quota_goes s) q (quota_places group version old new s q.at p ∙ q.there)
+    passed_step (trim_ends s) q = passed_by (trim_ends s) q (first_place says_trimmed trimmed_keeps old new fits s.entry.at s.chain s.is (trim_maps old new fits s) s.files q.at p ∙ q.there)
     passed_step (reading_ends s) q = passed_by (reading_ends s) q (reading_place group version old new fits s q.at p ∙ q.there)
     passed_step (file_ends s) q =
         passed_by (file_ends s) q (same_place q.at (ended_other group version old new fits s q.at (λ same. q.no_entry s.entry (in_last old.list s.front s.entry s.last) (sym same))) q.there)

@@ -22,10 +22,9 @@ use Rattle.chain_release.specs.declared.released.Released.{Released}
 use Rattle.chain_release.specs.declared.released.Released.TheVariants as released
 use Rattle.chain_release.specs.Releases.{Progresses, use_of, with_given}
 use Rattle.chain_release.proofs.Once.{absent_not}
-use Rattle.deferred_delete.specs.Steps.{IsWell, LetsPages, Now, Step, Steps, file_ends, more, none, pages_go, reading_ends, tag_page_goes, trim_ends}
+use Rattle.deferred_delete.specs.Steps.{IsWell, LetsPages, Now, Step, Steps, file_ends, more, none, pages_go, quota_goes, reading_ends, tag_page_goes, trim_ends}
 use Rattle.deferred_delete.proofs.Spread.{tables}
-use Rattle.deferred_laws.specs.Shown.{StandsApart}
-use Rattle.deferred_laws.specs.Waits.{IsGivenUp, IsLost, IsNowhere, Waits, waiting_at}
+use Rattle.deferred_laws.specs.Waits.{IsGivenUp, IsLost, IsNowhere, StandsApart, Waits, waiting_at}
 use Rattle.deferred_laws.proofs.Gone.{gone_waits}
 use Rattle.deferred_laws.proofs.HeldPages.{one_grows}
 use Rattle.deferred_laws.proofs.Narrower.{in_last}
@@ -52,7 +51,7 @@ held_or_not s vol p = by_volume (volume_of s vol)
         (cases_Bool (contains v.used p))
 
 -- and none that waits is
-waits_not_held : (s : Spaces) (home : Home) (kind : PageUse) (group : ℕ) → Waits s home.vol (waiting_at home kind group) → IsHeld s home.vol home.page → ⊥
+pub waits_not_held : (s : Spaces) (home : Home) (kind : PageUse) (group : ℕ) → Waits s home.vol (waiting_at home kind group) → IsHeld s home.vol home.page → ⊥
 waits_not_held s home kind group waits held = by_volume (volume_of s home.vol) waits held
   where
     by_volume : (o : Option VolumeSpace) → IsSomeAnd o (λ v. Contains v.waiting (waiting_at home kind group)) → IsSomeAnd o (IsHeldIn home.page) → ⊥
@@ -64,7 +63,7 @@ waits_not_held s home kind group waits held = by_volume (volume_of s home.vol) w
 
 -- ---- a page that waits was held in what was before
 
-held_before : (w : Waiting) (s : Spaces) (vol other p : ℕ) → IsHeld (change_volume (with_waiting w) s vol) other p → IsHeld s other p
+pub held_before : (w : Waiting) (s : Spaces) (vol other p : ℕ) → IsHeld (change_volume (with_waiting w) s vol) other p → IsHeld s other p
 held_before w s vol other p held = by_test (nat_eq (other - 1) (vol - 1)) refl
   where
     settled : (v : VolumeSpace) → is_waiting (with_waiting w v) p ≡ false → is_waiting v p ≡ false
@@ -109,7 +108,8 @@ module _ (group : ℕ) (version : Version) (old new : Now) (well : IsWell old) w
   pub tables_on : Step group version old new → (vol p : ℕ) → Contains (table_of old.cells vol) p → Contains (table_of new.cells vol) p
   tables_on (pages_go s) vol p on =
       let is_entry = well.listed.each s.entry (in_last old.list s.front s.entry s.last) in
-      tables old.space old.cells old.pages old.files well.together s.entry is_entry s.chain s.is s.reader s.own s.given group version new.space new.cells new.pages s.what s.releases s.others s.allocated vol p on
+      tables old.space old.cells old.pages old.files well.together s.entry is_entry s.chain s.is s.file s.reader s.own s.given group version new.space new.cells new.pages s.what s.releases s.others s.allocated vol p on
+  tables_on (quota_goes s) vol p on = subst (λ (t : List ℕ). Contains t p) (sym (s.frees.tables vol)) on
   tables_on (trim_ends s) vol p on = same_tables s.same_cells vol p on
   tables_on (reading_ends s) vol p on = same_tables s.same_cells vol p on
   tables_on (file_ends s) vol p on = subst (λ (t : List ℕ). Contains t p) (sym (s.frees.tables vol)) on
@@ -138,6 +138,7 @@ module _ (group : ℕ) (version : Version) (old new : Now) (well : IsWell old) w
 
   before_step : Step group version old new → (h : Home) → 1 ≤ h.vol → IsHeld new.space h.vol h.page → Before h
   before_step (pages_go s) h low held = lets_before s h low held
+  before_step (quota_goes s) h low held = same_before h s.same_space held
   before_step (trim_ends s) h low held = same_before h s.same_space held
   before_step (reading_ends s) h low held = same_before h s.same_space held
   before_step (file_ends s) h low held = same_before h s.same_space held

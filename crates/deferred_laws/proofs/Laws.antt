@@ -3,16 +3,18 @@ use Rattle.std.proofs.Common.{◌≡◌, ◌∙◌, ℕ, refl}
 use Rattle.domain_base.specs.declared.place.CellAt.{CellAt}
 use Rattle.domain_base.specs.declared.version.Version.{Version}
 use Rattle.deferred_delete.specs.Standing.{read_at}
-use Rattle.deferred_delete.specs.Steps.{IsWell, Now, Step, Steps, file_ends, more, none, pages_go, reading_ends, tag_page_goes, trim_ends}
+use Rattle.deferred_delete.specs.Steps.{IsWell, Now, Step, Steps, file_ends, more, none, pages_go, quota_goes, reading_ends, tag_page_goes, trim_ends}
 use Rattle.deferred_laws.specs.Kept.{Stays}
 use Rattle.deferred_laws.proofs.Ended.{ended_fits, ended_reads, ended_stays, reading_fits, reading_reads, reading_stays, tag_fits, tag_reads, tag_stays, trim_fits, trim_reads, trim_stays}
 use Rattle.deferred_laws.proofs.Fits.{Fits, well_fits}
 use Rattle.deferred_laws.proofs.PagesGo.{lets_fits, lets_reads, lets_stays}
+use Rattle.deferred_laws.proofs.QuotaStep.{quota_fits, quota_reads, quota_stays}
 
 -- ---- one step
 
 pub fits_step : (group : ℕ) (version : Version) (old new : Now) → Fits old → Step group version old new → Fits new
 fits_step group version old new fits (pages_go s) = lets_fits group version old new fits s
+fits_step group version old new fits (quota_goes s) = quota_fits group version old new s fits
 fits_step group version old new fits (trim_ends s) = trim_fits group version old new fits s
 fits_step group version old new fits (reading_ends s) = reading_fits group version old new fits s
 fits_step group version old new fits (file_ends s) = ended_fits group version old new fits s
@@ -20,6 +22,7 @@ fits_step group version old new fits (tag_page_goes s) = tag_fits group version 
 
 stays_step : (group : ℕ) (version : Version) (old new : Now) → Fits old → Step group version old new → (a : CellAt) (p : ℕ) → Stays old a p → Stays new a p
 stays_step group version old new fits (pages_go s) a p stays = lets_stays group version old new fits s a p stays
+stays_step group version old new fits (quota_goes s) a p stays = quota_stays group version old new s fits a p stays
 stays_step group version old new fits (trim_ends s) a p stays = trim_stays group version old new fits s a p stays
 stays_step group version old new fits (reading_ends s) a p stays = reading_stays group version old new fits s a p stays
 stays_step group version old new fits (file_ends s) a p stays = ended_stays group version old new fits s a p stays
@@ -27,6 +30,7 @@ stays_step group version old new fits (tag_page_goes s) a p stays = tag_stays gr
 
 reads_step : (group : ℕ) (version : Version) (old new : Now) → Fits old → Step group version old new → (a : CellAt) (p : ℕ) → Stays old a p → read_at new.files a p ≡ read_at old.files a p
 reads_step group version old new fits (pages_go s) a p stays = lets_reads group version old new fits s a p stays
+reads_step group version old new fits (quota_goes s) a p stays = quota_reads group version old new s fits a p
 reads_step group version old new fits (trim_ends s) a p stays = trim_reads group version old new fits s a p
 reads_step group version old new fits (reading_ends s) a p stays = reading_reads group version old new fits s a p
 reads_step group version old new fits (file_ends s) a p stays = ended_reads group version old new fits s a p stays

@@ -7,6 +7,7 @@ pub mod PagesGo
 pub mod Fewer
 pub mod FirstCells
 pub mod Ended
+pub mod QuotaStep
 pub mod Laws
 pub mod Fronts
 pub mod Emptied
@@ -30,6 +31,8 @@ pub mod StillWaits
 pub mod BesideCalls
 pub mod TagPages
 pub mod HeldSteps
+pub mod OnlyThese
+pub mod GivenBack
 pub mod SourcesStay
 pub mod TagsBeside
 pub mod SaysStill

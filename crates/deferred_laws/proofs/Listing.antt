@@ -1,6 +1,9 @@
 -- A list of the files with one entry, or one page of a tag directory, more.
-use Rattle.std.proofs.Common.{◌≡◌, ◌∙◌, ◌⊎◌, ⊎_elim, inl, inr, ℕ, zero, suc, ◌<◌, ◌≤◌, List, [], ◌∷◌, ◌++◌, Option, Some, Contains, get_or, length, slice_set, refl, sym, ap, subst, arith, false}
+use Rattle.std.proofs.Common.{◌≡◌, ◌∙◌, ◌⊎◌, ⊎_elim, inl, inr, ℕ, zero, suc, ◌<◌, ◌≤◌, List, [], ◌∷◌, ◌++◌, Option, Some, None, Contains, get_or, length, slice_set, refl, sym, ap, subst, arith, false}
+use Rattle.std.proofs.lemmas.Bool.{cases_eq, cases_lt}
 use Rattle.std.proofs.lemmas.List.{length-set}
+use Rattle.std.proofs.lemmas.List.Edits.{length-swap, swapped_from_swap}
+use Rattle.std.specs.List.{swap}
 use Rattle.std.specs.Option.{option_and_then}
 use Rattle.domain_base.specs.declared.place.CellAt.{CellAt}
 use Rattle.domain_base.specs.declared.place.Home.{Home}
@@ -13,16 +16,21 @@ use Rattle.bitfile_core.specs.Changes.{says_removed, with_first}
 use Rattle.bitfile_core.specs.Together.{IsHeldApart}
 use Rattle.bitfile_core.specs.Truncation.{says_size, says_truncated}
 use Rattle.bitfile_core.proofs.FirstCell.{find_put}
+use Rattle.free_cells.specs.Cells.{Cells}
+use Rattle.free_space.specs.Spaces.{Spaces}
+use Rattle.page_store.specs.Pages.{Pages}
 use Rattle.chain_release.specs.Releases.{AreAllOnce}
 use Rattle.deferred_delete.specs.declared.list.Entry.{Entry}
 use Rattle.deferred_delete.specs.Listed.{IsEntry, left_of, leftover_in}
-use Rattle.deferred_delete.specs.Listing.{Adds, AddsEntry, Listing, SetsClone}
+use Rattle.deferred_delete.specs.Listing.{Adds, AddsEntry, AreInOrder, ChangesPlaces, HasNoneInFront, Listing, Orders, Puts, SetsClone}
+use Rattle.deferred_delete.specs.Standing.{Files, ReadsThrough, StandTogether}
 use Rattle.deferred_delete.specs.Steps.{IsWell, Now}
 use Rattle.deferred_delete.proofs.Lists.{AreEntriesOnce, get_front, get_last, longer}
+use Rattle.deferred_delete.proofs.Spread.{none_not, some_same}
 use Rattle.deferred_delete.proofs.Standings.{file_there}
 use Rattle.deferred_laws.specs.Calls.{Call, Calls, Drops, FilesetNow, SetsFirst, cut, described, dropped, given, made, moved, no_call, one_more, put_in, refused}
-use Rattle.deferred_laws.specs.Lists.{MayList, MayListPage, with_list}
-use Rattle.deferred_laws.specs.Waits.{IsNowhere}
+use Rattle.deferred_laws.specs.Lists.{with_list}
+use Rattle.deferred_laws.specs.Waits.{IsNowhere, StandsApart}
 use Rattle.tag_dirs.specs.declared.dir.TagPlace.{TagPlace}
 use Rattle.tag_dirs.specs.Directory.{has_home}
 use Rattle.bitfile_core.specs.Files.{Chains}
@@ -30,7 +38,7 @@ use Rattle.deferred_laws.specs.Tags.{AreAmong, start_of}
 
 -- ---- what is in a list
 
-inside_last : {X : Type 0} (xs : List X) (y e : X) → Contains (xs ++ y ∷ []) e → Contains xs e ⊎ (e ≡ y)
+pub inside_last : {X : Type 0} (xs : List X) (y e : X) → Contains (xs ++ y ∷ []) e → Contains xs e ⊎ (e ≡ y)
 inside_last [] y e (zero, within, is) = inr (sym is)
 inside_last [] y e (suc k, within, is) = absurd (omega (arith, within))
 inside_last (x ∷ xs) y e (zero, within, is) = inl (0, omega arith, is)
@@ -47,13 +55,6 @@ inside_set (x ∷ xs) (suc i) y e (suc k, within, is) =
 
 there : {X : Type 0} (xs : List X) (k : ℕ) (d : X) → k < length xs → Contains xs (get_or xs k d)
 there xs k d within = (k, within, there_is xs k (get_or xs k d) d within)
-
--- an entry was there, or is the one that was added
-pub which_entry : (old new : List Entry) (at : CellAt) (clone : Option CellAt) → Adds at clone old new → (e : Entry) → Contains new e → Contains old e ⊎ (e ≡ record { at = at; clone = clone })
-which_entry old new at clone adds e inside = ⊎_elim
-    (λ s. inside_set old s.place (record { at = at; clone = clone }) e (subst (λ (es : List Entry). Contains es e) s.is inside))
-    (λ s. inside_last old (record { at = at; clone = clone }) e (subst (λ (es : List Entry). Contains es e) s.is inside))
-    adds
 
 -- ---- no file has two entries
 
@@ -98,52 +99,262 @@ module _ (xs : List Entry) (y : Entry) (none : (e : Entry) → Contains xs e →
       by_places (at_end a) (before b) = absurd (new_file j d b (sym same ∙ ap (λ k. (get_or (xs ++ y ∷ []) k d).at) a))
       by_places (at_end a) (at_end b) = a ∙ sym b
 
+-- ---- entries that change places
+
+set_there : (xs : List Entry) (i : ℕ) (y d : Entry) → i < length xs → get_or (slice_set xs i y) i d ≡ y
+set_there [] i y d within = absurd (omega (arith, within))
+set_there (x ∷ xs) zero y d within = refl
+set_there (x ∷ xs) (suc i) y d within = set_there xs i y d (omega (arith, within))
+
+set_other : (xs : List Entry) (i k : ℕ) (y d : Entry) → ¬ k ≡ i → get_or (slice_set xs i y) k d ≡ get_or xs k d
+set_other [] i k y d other = refl
+set_other (x ∷ xs) zero zero y d other = absurd (other refl)
+set_other (x ∷ xs) zero (suc k) y d other = refl
+set_other (x ∷ xs) (suc i) zero y d other = refl
+set_other (x ∷ xs) (suc i) (suc k) y d other = set_other xs i k y d (λ same. other (ap suc same))
+
+-- where the entry stood that stands at a place now
+data Moved (i j k was : ℕ) : Type 0 where
+  first_moved : k ≡ i → was ≡ j → Moved i j k was
+  second_moved : k ≡ j → was ≡ i → Moved i j k was
+  unmoved : ¬ k ≡ i → ¬ k ≡ j → was ≡ k → Moved i j k was
+
+record HasMoved (xs ys : List Entry) (i j k : ℕ) : Type 0 where
+  was : ℕ
+  moved : Moved i j k was
+  is : (d : Entry) → get_or ys k d ≡ get_or xs was d
+
+module _ (xs ys : List Entry) (i j : ℕ) (ahead : i < j) (within : j < length xs) (is : ys ≡ swap xs i j) where
+  swapped_long : length ys ≡ length xs
+  swapped_long = ap length is ∙ length-swap xs i j
+
+  has_moved : (k : ℕ) → HasMoved xs ys i j k
+  has_moved k = ⊎_elim
+      (λ first. record { was = j; moved = first_moved first refl; is = λ d. ap (λ n. get_or ys n d) first ∙ (swapped_from_swap xs ys i j d (omega (arith, ahead, within)) within is).0 })
+      (λ not_first. ⊎_elim
+      (λ second. record { was = i; moved = second_moved second refl; is = λ d. ap (λ n. get_or ys n d) second ∙ (swapped_from_swap xs ys i j d (omega (arith, ahead, within)) within is).1 })
+      (λ not_second. record { was = k; moved = unmoved not_first not_second refl; is = λ d. (swapped_from_swap xs ys i j d (omega (arith, ahead, within)) within is).2 k not_first not_second })
+      (cases_eq k j))
+      (cases_eq k i)
+
+  moved_within : (k was : ℕ) → Moved i j k was → k < length ys → was < length xs
+  moved_within k was (first_moved at is_j) less = omega (arith, is_j, within)
+  moved_within k was (second_moved at is_i) less = omega (arith, is_i, ahead, within)
+  moved_within k was (unmoved a b same) less = omega (arith, same, less, swapped_long)
+
+  one_moved : (k l was : ℕ) → Moved i j k was → Moved i j l was → k ≡ l
+  one_moved k l was (first_moved a b) (first_moved c d) = a ∙ sym c
+  one_moved k l was (first_moved a b) (second_moved c d) = absurd (omega (arith, b, d, ahead))
+  one_moved k l was (first_moved a b) (unmoved c d e) = absurd (d (sym e ∙ b))
+  one_moved k l was (second_moved a b) (first_moved c d) = absurd (omega (arith, b, d, ahead))
+  one_moved k l was (second_moved a b) (second_moved c d) = a ∙ sym c
+  one_moved k l was (second_moved a b) (unmoved c d e) = absurd (c (sym e ∙ b))
+  one_moved k l was (unmoved a b e) (first_moved c d) = absurd (b (sym e ∙ d))
+  one_moved k l was (unmoved a b e) (second_moved c d) = absurd (a (sym e ∙ d))
+  one_moved k l was (unmoved a b e) (unmoved c d f) = sym e ∙ f
+
+  swapped_inside : (e : Entry) → Contains ys e → Contains xs e
+  swapped_inside e (k, less, at) =
+      let m = has_moved k in
+      (m.was, moved_within k m.was m.moved less, sym (m.is e) ∙ at)
+
+  swapped_once : AreEntriesOnce xs → AreEntriesOnce ys
+  swapped_once once k l d less_k less_l same =
+      let m = has_moved k in
+      let n = has_moved l in
+      let all = once m.was n.was d (moved_within k m.was m.moved less_k) (moved_within l n.was n.moved less_l) (sym (ap (λ (e : Entry). e.at) (m.is d)) ∙ same ∙ ap (λ (e : Entry). e.at) (n.is d)) in
+      one_moved k l m.was m.moved (subst (Moved i j l) (sym all) n.moved)
+
 -- ---- an entry more
 
-module _ (now : Now) (at : CellAt) (clone : Option CellAt) (list : Listing) (well : IsWell now) (may : MayList now at clone) (same : list.tag_pages ≡ now.list.tag_pages) where
-  abbrev entry : Entry
-  entry = record { at = at; clone = clone }
+inside_puts : (old new : List Entry) (at : CellAt) (clone : Option CellAt) (place : ℕ) → Puts at clone place old new → (e : Entry) → Contains new e → Contains old e ⊎ (e ≡ record { at = at; clone = clone })
+inside_puts old new at clone place puts e inside = ⊎_elim
+    (λ s. inside_set old place (record { at = at; clone = clone }) e (subst (λ (es : List Entry). Contains es e) s.is inside))
+    (λ s. inside_last old (record { at = at; clone = clone }) e (subst (λ (es : List Entry). Contains es e) s.is inside))
+    puts
 
-  by_entries : AreEntriesOnce list.entries → ((e : Entry) → Contains list.entries e → Contains now.list.entries e ⊎ (e ≡ entry)) → IsWell (with_list list now)
-  by_entries once inside = record {
-    together = well.together;
-    listed = record {
-      each = λ e is. ⊎_elim (λ was. well.listed.each e was) (λ this. subst (IsEntry now.files) (sym this) may.entry) (inside e is);
-      once = once;
-      clones = λ a b in_a in_b reads. ⊎_elim
-          (λ was_a. ⊎_elim
-          (λ was_b. well.listed.clones a b was_a was_b reads)
-          (λ this_b. may.not_read a was_a (reads ∙ ap (λ (e : Entry). Some e.at) this_b))
-          (inside b in_b))
-          (λ this_a. ⊎_elim
-          (λ was_b. may.not_listed b was_b (sym (ap (λ (e : Entry). e.clone) this_a) ∙ reads))
-          (λ this_b.
-          let through = may.entry.given at (sym (ap (λ (e : Entry). e.clone) this_a) ∙ reads ∙ ap (λ (e : Entry). Some e.at) this_b) in
-          well.together.one_deep at at at through through)
-          (inside b in_b))
-          (inside a in_a);
-      pages_once = subst AreAllOnce (sym same) well.listed.pages_once;
-      pages_low = λ home is. well.listed.pages_low home (was home is);
-      pages_held = λ home is. well.listed.pages_held home (was home is);
-      pages_apart = λ home is. well.listed.pages_apart home (was home is);
-    };
+place_within : (old new : List Entry) (at : CellAt) (clone : Option CellAt) (place : ℕ) → Puts at clone place old new → place < length new
+place_within old new at clone place puts = ⊎_elim
+    (λ s. let n = ap length s.is ∙ length-set old place (record { at = at; clone = clone }) in omega (arith, n, s.within))
+    (λ s. let n = ap length s.is ∙ longer old (record { at = at; clone = clone }) in omega (arith, n, s.behind))
+    puts
+
+inside_orders : (clone : Option CellAt) (place : ℕ) (old new : List Entry) → place < length old → Orders clone place old new → (e : Entry) → Contains new e → Contains old e
+inside_orders None place old new within same e inside = subst (λ (es : List Entry). Contains es e) same inside
+inside_orders (Some c) place old new within orders e inside = ⊎_elim
+    (λ s. swapped_inside old new s.front place s.in_front within s.is e inside)
+    (λ s. subst (λ (es : List Entry). Contains es e) s.is inside)
+    orders
+
+-- an entry was there, or is the one that was added
+pub which_entry : (old new : List Entry) (at : CellAt) (clone : Option CellAt) → Adds at clone old new → (e : Entry) → Contains new e → Contains old e ⊎ (e ≡ record { at = at; clone = clone })
+which_entry old new at clone adds e inside =
+    inside_puts old adds.between at clone adds.place adds.puts e
+    (inside_orders clone adds.place adds.between new (place_within old adds.between at clone adds.place adds.puts) adds.orders e inside)
+
+-- the entry stands at its place, and each other one's clone has no entry in front of it
+record IsPut (entry : Entry) (place : ℕ) (entries : List Entry) : Type 0 where
+  once : AreEntriesOnce entries
+  within : place < length entries
+  there : (d : Entry) → get_or entries place d ≡ entry
+  order : (i j : ℕ) (d : Entry) → ¬ i ≡ place → i < length entries → j < length entries → (get_or entries i d).clone ≡ Some (get_or entries j d).at → i < j
+
+module _ (old new : List Entry) (at : CellAt) (clone : Option CellAt) (place : ℕ) (once : AreEntriesOnce old) (order : AreInOrder old) where
+  abbrev one : Entry
+  one = record { at = at; clone = clone }
+
+  is_set : SetsClone at clone place old (slice_set old place one) → IsPut one place (slice_set old place one)
+  is_set s = record {
+    once = once_set old place one s.was once;
+    within = omega (arith, s.within, length-set old place one);
+    there = λ d. set_there old place one d s.within;
+    order = λ i j d other less_i less_j same. order i j d (omega (arith, less_i, length-set old place one)) (omega (arith, less_j, length-set old place one))
+        (sym (ap (λ (e : Entry). e.clone) (set_other old place i one d other)) ∙ same ∙ ap Some (set_files old place one s.was j d));
   }
-    where
-      was : (home : Home) → Contains list.tag_pages home → Contains now.list.tag_pages home
-      was home is = subst (λ (hs : List Home). Contains hs home) same is
 
-  sets_well : SetsClone at clone now.list.entries list.entries → IsWell (with_list list now)
-  sets_well s = by_entries
-      (subst AreEntriesOnce (sym s.is) (once_set now.list.entries s.place entry s.was well.listed.once))
-      (λ e inside. inside_set now.list.entries s.place entry e (subst (λ (es : List Entry). Contains es e) s.is inside))
+  is_added : AddsEntry at clone place old (old ++ one ∷ []) → IsPut one place (old ++ one ∷ [])
+  is_added s = record {
+    once = once_more old one s.none once;
+    within = omega (arith, s.behind, longer old one);
+    there = λ d. ap (λ n. get_or (old ++ one ∷ []) n d) s.behind ∙ get_last old one d;
+    order = λ i j d other less_i less_j same.
+        let ahead : i < length old = omega (arith, less_i, other, s.behind, longer old one) in
+        ⊎_elim
+        (λ front. order i j d ahead front (sym (ap (λ (e : Entry). e.clone) (get_front old (one ∷ []) i d ahead)) ∙ same ∙ ap (λ (e : Entry). Some e.at) (get_front old (one ∷ []) j d front)))
+        (λ behind. omega (arith, ahead, behind))
+        (cases_lt j (length old));
+  }
 
-  adds_well : AddsEntry at clone now.list.entries list.entries → IsWell (with_list list now)
-  adds_well s = by_entries
-      (subst AreEntriesOnce (sym s.is) (once_more now.list.entries entry s.none well.listed.once))
-      (λ e inside. inside_last now.list.entries entry e (subst (λ (es : List Entry). Contains es e) s.is inside))
+  is_put : Puts at clone place old new → IsPut one place new
+  is_put puts = ⊎_elim
+      (λ s. subst (IsPut one place) (sym s.is) (is_set (record { within = s.within; was = s.was; is = refl })))
+      (λ s. subst (IsPut one place) (sym s.is) (is_added (record { none = s.none; behind = s.behind; is = refl })))
+      puts
 
-pub entry_listed : (now : Now) (at : CellAt) (clone : Option CellAt) (list : Listing) → IsWell now → MayList now at clone → Adds at clone now.list.entries list.entries → list.tag_pages ≡ now.list.tag_pages → IsWell (with_list list now)
-entry_listed now at clone list well may adds same = ⊎_elim (λ s. sets_well now at clone list well may same s) (λ s. adds_well now at clone list well may same s) adds
+-- no clone's file has an entry in front of that of the file then
+module _ (space : Spaces) (cells : Cells) (pages : Pages) (files : Files) (together : StandTogether space cells pages files) (at c : CellAt) (place : ℕ) (entries new : List Entry) (each : (e : Entry) → Contains entries e → IsEntry files e)
+    (put : IsPut (record { at = at; clone = Some c }) place entries) (reads : ReadsThrough files c at) where
+  place_at : (d : Entry) → (get_or entries place d).at ≡ at
+  place_at d = ap (λ (e : Entry). e.at) (put.there d)
+
+  place_clone : (d : Entry) → (get_or entries place d).clone ≡ Some c
+  place_clone d = ap (λ (e : Entry). e.clone) (put.there d)
+
+  entry_at : (k : ℕ) (d : Entry) → k < length entries → IsEntry files (get_or entries k d)
+  entry_at k d less = each (get_or entries k d) (there entries k d less)
+
+  in_order : HasNoneInFront c place entries new → AreInOrder entries
+  in_order s i j d less_i less_j same = ⊎_elim
+      (λ here.
+      let is : (get_or entries j d).at ≡ c = some_same (get_or entries j d).at c (sym same ∙ ap (λ n. (get_or entries n d).clone) here ∙ place_clone d) in
+      ⊎_elim
+      (λ ahead. absurd (s.none j d ahead is))
+      (λ from. ⊎_elim
+      (λ itself.
+      let same_file : at ≡ c = sym (place_at d) ∙ ap (λ n. (get_or entries n d).at) (sym itself) ∙ is in
+      let through : ReadsThrough files at at = subst (λ (q : CellAt). ReadsThrough files q at) (sym same_file) reads in
+      absurd (together.one_deep at at at through through))
+      (λ other. omega (arith, here, from, other))
+      (cases_eq j place))
+      (cases_lt j place))
+      (λ other. put.order i j d other less_i less_j same)
+      (cases_eq i place)
+
+  module _ (s : ChangesPlaces c place entries new) where
+    front_within : s.front < length entries
+    front_within = let w = put.within in omega (arith, s.in_front, w)
+
+    by_moved : (i j p q : ℕ) (d : Entry) → Moved s.front place i p → Moved s.front place j q → p < length entries → q < length entries → (get_or entries p d).clone ≡ Some (get_or entries q d).at → i < j
+    by_moved i j p q d (first_moved at_front is_place) from_q less_p less_q same =
+        let is : (get_or entries q d).at ≡ c = some_same (get_or entries q d).at c (sym same ∙ ap (λ n. (get_or entries n d).clone) is_place ∙ place_clone d) in
+        let q_front : q ≡ s.front = put.once q s.front d less_q front_within (is ∙ sym (s.has d)) in
+        let behind : j ≡ place = by_place from_q q_front in
+        let ahead = s.in_front in
+        omega (arith, at_front, behind, ahead)
+      where
+        by_place : Moved s.front place j q → q ≡ s.front → j ≡ place
+        by_place (first_moved a b) q_front = absurd (let ahead = s.in_front in omega (arith, b, q_front, ahead))
+        by_place (second_moved a b) q_front = a
+        by_place (unmoved a b e) q_front = absurd (a (sym e ∙ q_front))
+    by_moved i j p q d (second_moved at_place is_front) from_q less_p less_q same =
+        let through : ReadsThrough files (get_or entries q d).at (get_or entries p d).at = (entry_at p d less_p).given (get_or entries q d).at same in
+        let is : (get_or entries p d).at ≡ c = ap (λ n. (get_or entries n d).at) is_front ∙ s.has d in
+        absurd (together.one_deep (get_or entries q d).at c at (subst (ReadsThrough files (get_or entries q d).at) is through) reads)
+    by_moved i j p q d (unmoved not_front not_place here) (first_moved j_front q_place) less_p less_q same =
+        let through : ReadsThrough files (get_or entries q d).at (get_or entries p d).at = (entry_at p d less_p).given (get_or entries q d).at same in
+        let is : (get_or entries q d).at ≡ at = ap (λ n. (get_or entries n d).at) q_place ∙ place_at d in
+        absurd (together.one_deep c at (get_or entries p d).at reads (subst (λ (x : CellAt). ReadsThrough files x (get_or entries p d).at) is through))
+    by_moved i j p q d (unmoved not_front not_place here) (second_moved j_end q_front) less_p less_q same =
+        let less : p < q = put.order p q d (λ is. not_place (sym here ∙ is)) less_p less_q same in
+        let ahead = s.in_front in
+        omega (arith, less, here, j_end, q_front, ahead)
+    by_moved i j p q d (unmoved not_front not_place here) (unmoved a b there) less_p less_q same =
+        let less : p < q = put.order p q d (λ is. not_place (sym here ∙ is)) less_p less_q same in
+        omega (arith, less, here, there)
+
+    order_swapped : AreInOrder new
+    order_swapped i j d less_i less_j same =
+        let m = has_moved entries new s.front place s.in_front put.within s.is i in
+        let n = has_moved entries new s.front place s.in_front put.within s.is j in
+        by_moved i j m.was n.was d m.moved n.moved (moved_within entries new s.front place s.in_front put.within s.is i m.was m.moved less_i) (moved_within entries new s.front place s.in_front put.within s.is j n.was n.moved less_j)
+        (sym (ap (λ (e : Entry). e.clone) (m.is d)) ∙ same ∙ ap (λ (e : Entry). Some e.at) (n.is d))
+
+-- no file has two entries then, and they are in order
+record AreListed (entries : List Entry) : Type 0 where
+  once : AreEntriesOnce entries
+  order : AreInOrder entries
+
+module _ (now : Now) (at : CellAt) (clone : Option CellAt) (list : Listing) (well : IsWell now) (may : IsEntry now.files (record { at = at; clone = clone })) (adds : Adds at clone now.list.entries list.entries) where
+  entry_added : (e : Entry) → Contains now.list.entries e ⊎ (e ≡ record { at = at; clone = clone }) → IsEntry now.files e
+  entry_added e which = ⊎_elim (λ was. well.listed.each e was) (λ this. subst (IsEntry now.files) (sym this) may) which
+
+  put : IsPut (record { at = at; clone = clone }) adds.place adds.between
+  put = is_put now.list.entries adds.between at clone adds.place well.listed.once well.listed.order adds.puts
+
+  by_clone : (o : Option CellAt) → clone ≡ o → AreListed list.entries
+  by_clone None none =
+      let orders : list.entries ≡ adds.between = subst (λ o. Orders o adds.place adds.between list.entries) none adds.orders in
+      subst AreListed (sym orders) (record {
+        once = put.once;
+        order = λ i j d less_i less_j same. ⊎_elim
+            (λ here. absurd (none_not (get_or adds.between j d).at (sym none ∙ sym (ap (λ (e : Entry). e.clone) (put.there d)) ∙ ap (λ n. (get_or adds.between n d).clone) (sym here) ∙ same)))
+            (λ other. put.order i j d other less_i less_j same)
+            (cases_eq i adds.place);
+      })
+  by_clone (Some c) some =
+      let orders : Orders (Some c) adds.place adds.between list.entries = subst (λ o. Orders o adds.place adds.between list.entries) some adds.orders in
+      let is_put : IsPut (record { at = at; clone = Some c }) adds.place adds.between = subst (λ o. IsPut (record { at = at; clone = o }) adds.place adds.between) some put in
+      let reads = may.given c some in
+      let each : (e : Entry) → Contains adds.between e → IsEntry now.files e = (λ e inside. entry_added e (inside_puts now.list.entries adds.between at clone adds.place adds.puts e inside)) in
+      ⊎_elim
+      (λ s. record {
+        once = swapped_once adds.between list.entries s.front adds.place s.in_front is_put.within s.is is_put.once;
+        order = order_swapped now.space now.cells now.pages now.files well.together at c adds.place adds.between list.entries each is_put reads s;
+      })
+      (λ s. subst AreListed (sym s.is) (record {
+        once = is_put.once;
+        order = in_order now.space now.cells now.pages now.files well.together at c adds.place adds.between list.entries each is_put reads s;
+      }))
+      orders
+
+pub entry_listed : (now : Now) (at : CellAt) (clone : Option CellAt) (list : Listing) → IsWell now → IsEntry now.files (record { at = at; clone = clone }) → Adds at clone now.list.entries list.entries → list.tag_pages ≡ now.list.tag_pages → IsWell (with_list list now)
+entry_listed now at clone list well may adds same =
+    let all = by_clone now at clone list well may adds clone refl in
+    record {
+      together = well.together;
+      listed = record {
+        each = λ e inside. entry_added now at clone list well may adds e (which_entry now.list.entries list.entries at clone adds e inside);
+        once = all.once;
+        order = all.order;
+        pages_once = subst AreAllOnce (sym same) well.listed.pages_once;
+        pages_low = λ home is. well.listed.pages_low home (was home is);
+        pages_held = λ home is. well.listed.pages_held home (was home is);
+        pages_apart = λ home is. well.listed.pages_apart home (was home is);
+      };
+    }
+  where
+    was : (home : Home) → Contains list.tag_pages home → Contains now.list.tag_pages home
+    was home is = subst (λ (hs : List Home). Contains hs home) same is
 
 -- ---- a page more
 
@@ -154,16 +365,16 @@ homes_more (x ∷ xs) y once out = (
   homes_more xs y once.1 (λ inside. out (suc inside.0, omega (arith, inside.1), inside.2)),
 )
 
-pub page_listed : (now : Now) (home : Home) (list : Listing) → IsWell now → MayListPage now home → list.tag_pages ≡ now.list.tag_pages ++ home ∷ [] → list.entries ≡ now.list.entries → IsWell (with_list list now)
+pub page_listed : (now : Now) (home : Home) (list : Listing) → IsWell now → StandsApart now home → list.tag_pages ≡ now.list.tag_pages ++ home ∷ [] → list.entries ≡ now.list.entries → IsWell (with_list list now)
 page_listed now home list well may adds same = record {
   together = well.together;
   listed = record {
     each = λ e is. well.listed.each e (was e is);
     once = subst AreEntriesOnce (sym same) well.listed.once;
-    clones = λ a b in_a in_b. well.listed.clones a b (was a in_a) (was b in_b);
+    order = subst AreInOrder (sym same) well.listed.order;
     pages_once = subst AreAllOnce (sym adds) (homes_more now.list.tag_pages home well.listed.pages_once may.not_listed);
     pages_low = λ h is. ⊎_elim (λ old. well.listed.pages_low h old) (λ this. subst (λ (x : Home). 1 ≤ x.vol) (sym this) may.low) (which h is);
-    pages_held = λ h is. ⊎_elim (λ old. well.listed.pages_held h old) (λ this. subst (IsHeldApart now.space now.cells) (sym this) may.held) (which h is);
+    pages_held = λ h is. ⊎_elim (λ old. well.listed.pages_held h old) (λ this. subst (IsHeldApart now.space now.cells) (sym this) may.apart) (which h is);
     pages_apart = λ h is. ⊎_elim (λ old. well.listed.pages_apart h old) (λ this. subst (IsNowhere now.files) (sym this) may.nowhere) (which h is);
   };
 }

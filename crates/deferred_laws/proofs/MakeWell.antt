@@ -17,7 +17,7 @@ use Rattle.extent_records.specs.Writing.{short_kind}
 use Rattle.bitfile_cells.specs.Changes.{IsInUse}
 use Rattle.bitfile_cells.specs.FileChanges.{AreOnTables}
 use Rattle.bitfile_cells.specs.Files.{IsFile}
-use Rattle.bitfile_cells.proofs.ChainChanges.{in_first, stand_file}
+use Rattle.bitfile_cells.proofs.ChainChanges.{in_first}
 use Rattle.bitfile_cells.proofs.Chosen.{all_at}
 use Rattle.bitfile_cells.proofs.Spaces.{not_held}
 use Rattle.bitfile_core.specs.Creation.{with_new}
@@ -29,7 +29,7 @@ use Rattle.chain_release.proofs.Given.{absent_home}
 use Rattle.chain_release.proofs.Outcome.{on_at}
 use Rattle.deferred_delete.specs.Standing.{Files, source_in, source_of, with_file}
 use Rattle.deferred_delete.specs.Steps.{IsWell}
-use Rattle.deferred_delete.proofs.Standings.{file_there, standing}
+use Rattle.deferred_delete.proofs.Standings.{chain_inside, file_there, stand_chain, standing}
 use Rattle.deferred_laws.specs.Calls.{StandsWell, FilesetNow, Makes}
 use Rattle.deferred_laws.specs.Tags.{AreAmong, start_of}
 use Rattle.deferred_laws.proofs.CallTables.{made_tables}
@@ -81,7 +81,7 @@ module _ (fileset : ℕ) (version : Version) (tag : Tag) (old new : FilesetNow) 
   not_used : (a : CellAt) (cs : List PlacedCell) → files a ≡ Some cs → Contains (cell_places cs) first.at → ⊥
   not_used a cs is inside =
       let was = standing old.domain.space old.domain.cells old.domain.pages files stood.well.together a cs is in
-      let cell = all_at (IsInUse old.domain.pages) cs first.at (in_use old.domain.pages cs (stand_file old.domain.pages a cs was.file)) inside in
+      let cell = all_at (IsInUse old.domain.pages) cs first.at (in_use old.domain.pages cs (stand_chain old.domain.pages a cs was.stands)) inside in
       s.creates.was_free cell.0 cell.1 (on_at old.domain.cells cs first.at was.on_tables inside)
 
   pub no_file : files first.at ≡ None
@@ -89,7 +89,7 @@ module _ (fileset : ℕ) (version : Version) (tag : Tag) (old new : FilesetNow) 
     where
       by_chain : (o : Option (List PlacedCell)) → files first.at ≡ o → files first.at ≡ None
       by_chain None is = is
-      by_chain (Some cs) is = absurd (not_used first.at cs is (file_inside old.domain.pages first.at cs (standing old.domain.space old.domain.cells old.domain.pages files stood.well.together first.at cs is).file))
+      by_chain (Some cs) is = absurd (not_used first.at cs is (chain_inside old.domain.pages first.at cs (standing old.domain.space old.domain.cells old.domain.pages files stood.well.together first.at cs is).stands))
 
   apart : (a : CellAt) (cs : List PlacedCell) → files a ≡ Some cs → AreApart after cs
   apart a cs is q (zero, within, here) in_cs = not_used a cs is (subst (Contains (cell_places cs)) (sym here) in_cs)
@@ -143,7 +143,7 @@ module _ (fileset : ℕ) (version : Version) (tag : Tag) (old new : FilesetNow) 
   pub put : IsPut old.domain.space new.domain.space old.domain.cells new.domain.cells new.domain.pages files first.at after NoMore
   put = record {
     allocated = s.creates.together.allocated;
-    stands = record { file = first_file (cell_of new.domain.pages new.places tag) led.leads; on_tables = on_now };
+    stands = record { stands = inl (first_file (cell_of new.domain.pages new.places tag) led.leads); on_tables = on_now };
     tables = made_tables fileset version tag old new s;
     held = held;
     leaves = λ a cs is not_at. beside_left old.domain.space old.domain.cells old.domain.pages new.domain.pages files stood.well.together [] s.others a cs is (λ q inside none. omega (arith, none.1));

@@ -2,9 +2,9 @@
 use Rattle.std.proofs.Common.{◌≡◌, ◌⊎◌, inl, inr, ℕ, List, [], ◌∷◌, ◌++◌, None, Contains, refl, sym, subst}
 use Rattle.domain_base.specs.declared.version.Version.{Version}
 use Rattle.deferred_delete.specs.declared.list.Entry.{Entry}
-use Rattle.deferred_delete.specs.Listing.{Listing}
-use Rattle.deferred_delete.specs.Steps.{IsLast, Now, Step, file_ends, pages_go, reading_ends, tag_page_goes, trim_ends}
-use Rattle.deferred_delete.proofs.Lists.{IsIn, earlier, in_start, is_in, last_in, this}
+use Rattle.deferred_delete.specs.Listing.{Listing, without_clone}
+use Rattle.deferred_delete.specs.Steps.{IsLast, Now, Step, file_ends, pages_go, quota_goes, reading_ends, tag_page_goes, trim_ends}
+use Rattle.deferred_delete.proofs.Lists.{IsIn, but_either, earlier, in_start, in_without, is_in, last_in, this}
 
 -- each entry has the file of one of the other list, and its clone or none
 pub record IsNarrower (old new : Listing) (entry : Entry) : Type 0 where
@@ -27,8 +27,16 @@ as_it_was old new e inside = record { was = e; inside = inside; at = refl; clone
 
 pub narrower_step : (group : ℕ) (version : Version) (old new : Now) → Step group version old new → (e : Entry) → Contains new.list.entries e → IsNarrower old.list new.list e
 narrower_step group version old new (pages_go s) e inside = as_it_was old.list new.list e (inside_by old.list new.list e s.same_list inside)
+narrower_step group version old new (quota_goes s) e inside = as_it_was old.list new.list e (inside_by old.list new.list e s.same_list inside)
 narrower_step group version old new (trim_ends s) e inside = as_it_was old.list new.list e (in_front old.list s.front s.entry e s.last (inside_by (record { entries = s.front; tag_pages = old.list.tag_pages }) new.list e s.list inside))
-narrower_step group version old new (file_ends s) e inside = as_it_was old.list new.list e (in_front old.list s.front s.entry e s.last (inside_by (record { entries = s.front; tag_pages = old.list.tag_pages }) new.list e s.list inside))
+narrower_step group version old new (file_ends s) e inside =
+    let w = in_without s.entry.at s.front e (inside_by (record { entries = without_clone s.entry.at s.front; tag_pages = old.list.tag_pages }) new.list e s.list inside) in
+    subst (IsNarrower old.list new.list) (sym w.2) (record {
+      was = w.0;
+      inside = in_front old.list s.front s.entry w.0 s.last w.1;
+      at = refl;
+      clone = but_either s.entry.at w.0.clone;
+    })
 narrower_step group version old new (tag_page_goes s) e inside = as_it_was old.list new.list e (inside_by (record { entries = old.list.entries; tag_pages = s.takes.front }) new.list e s.takes.is inside)
 narrower_step group version old new (reading_ends s) e inside =
     by_place (is_in s.front (record { at = s.entry.at; clone = None }) e (inside_by (record { entries = s.front ++ (record { at = s.entry.at; clone = None }) ∷ []; tag_pages = old.list.tag_pages }) new.list e s.list inside))

@@ -9,13 +9,13 @@ use Rattle.extent_maps.specs.declared.run.PagePlace.TheVariants.{Absent, At}
 use Rattle.free_cells.specs.Cells.{Cells, table_of}
 use Rattle.free_space.specs.Spaces.{Spaces}
 use Rattle.bitfile_cells.specs.Allocated.{AreAllocated}
-use Rattle.bitfile_cells.specs.Files.{IsFile, places_of}
+use Rattle.bitfile_cells.specs.Files.{places_of}
 use Rattle.bitfile_core.specs.Files.{AreApart}
 use Rattle.bitfile_core.specs.Together.{IsHeldApart}
 use Rattle.bitfile_core.proofs.Grown.{on_grown}
 use Rattle.deferred_delete.specs.Listed.{IsListed}
 use Rattle.deferred_delete.specs.Listing.{Listing}
-use Rattle.deferred_delete.specs.Standing.{Files, IsStanding, StandTogether, place_in, source_at, source_of, with_file}
+use Rattle.deferred_delete.specs.Standing.{Files, IsFileOrQuotas, IsStanding, StandTogether, place_in, source_at, source_of, with_file}
 use Rattle.deferred_delete.proofs.Spread.{some_same}
 use Rattle.deferred_delete.proofs.Standings.{apart_by, apart_from, each_from, file_other, file_there, place_by, reads_by, same_or_not, standing}
 use Rattle.deferred_laws.specs.Waits.{IsNowhere}
@@ -26,7 +26,7 @@ pub record IsPut (space space_now : Spaces) (cells cells_now : Cells) (new : Pag
   pub stands : IsStanding cells_now new at after
   pub tables : (vol p : ℕ) → Contains (table_of cells vol) p → Contains (table_of cells_now vol) p
   pub held : (home : Home) → IsHeldApart space cells home → IsHeldApart space_now cells_now home
-  pub leaves : (a : CellAt) (cs : List PlacedCell) → files a ≡ Some cs → ¬ a ≡ at → IsFile new a cs
+  pub leaves : (a : CellAt) (cs : List PlacedCell) → files a ≡ Some cs → ¬ a ≡ at → IsFileOrQuotas new a cs
   pub apart : (a : CellAt) (cs : List PlacedCell) → files a ≡ Some cs → ¬ a ≡ at → AreApart after cs
   pub pages : (p : ℕ) (home : Home) → places_of after p ≡ At home → (place_in files at p ≡ At home) ⊎ more p home
   pub nowhere : (p : ℕ) (home : Home) → more p home → IsNowhere files home
@@ -53,7 +53,7 @@ module _ (space space_now : Spaces) (cells cells_now : Cells) (old new : Pages) 
       (λ not_at.
       let was = sym (other a not_at) ∙ is in
       record {
-        file = put.leaves a cs was not_at;
+        stands = put.leaves a cs was not_at;
         on_tables = on_grown cells cells_now put.tables cs (standing space cells old files together a cs was).on_tables;
       })
       (same_or_not a at)
@@ -123,7 +123,7 @@ module _ (space space_now : Spaces) (cells cells_now : Cells) (old new : Pages) 
       all = λ c reads. was.all c (reads_by files now c e.at (sources_now c) reads);
     };
     once = listed.once;
-    clones = listed.clones;
+    order = listed.order;
     pages_once = listed.pages_once;
     pages_low = listed.pages_low;
     pages_held = λ home inside. put.held home (listed.pages_held home inside);

@@ -4,7 +4,7 @@ use Rattle.domain_base.specs.declared.place.CellAt.{CellAt}
 use Rattle.domain_base.specs.declared.version.Version.{Version}
 use Rattle.bmt_mcells.specs.Chain.{PlacedCell}
 use Rattle.deferred_delete.specs.Standing.{Files}
-use Rattle.deferred_delete.specs.Steps.{Now, Step, Steps, file_ends, more, none, pages_go, reading_ends, tag_page_goes, trim_ends, with_clone}
+use Rattle.deferred_delete.specs.Steps.{Now, Step, Steps, file_ends, more, none, pages_go, quota_goes, reading_ends, tag_page_goes, trim_ends, with_clone}
 use Rattle.deferred_delete.proofs.Spread.{none_not}
 use Rattle.deferred_delete.proofs.Standings.{file_other}
 use Rattle.deferred_laws.specs.Kept.{IsBeside}
@@ -24,6 +24,9 @@ beside_same group version old new (pages_go s) at beside =
     ap (λ (f : Files). f at) s.files
     ∙ file_other s.entry.at (Some s.releases.after) (with_clone s.entry.clone s.releases.own_now old.files) at (not_itself s.entry.at at apart.0)
     ∙ clone_other s.entry.clone s.releases.own_now old.files at apart.1
+beside_same group version old new (quota_goes s) at beside =
+    let apart = beside s.entry (in_last old.list s.front s.entry s.last) in
+    ap (λ (f : Files). f at) s.files ∙ file_other s.entry.at _ old.files at (not_itself s.entry.at at apart.0)
 beside_same group version old new (trim_ends s) at beside =
     let apart = beside s.entry (in_last old.list s.front s.entry s.last) in
     ap (λ (f : Files). f at) s.files ∙ file_other s.entry.at _ old.files at (not_itself s.entry.at at apart.0)

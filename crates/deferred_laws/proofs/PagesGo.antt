@@ -1,5 +1,5 @@
 -- Pages of the last entry's file go: what is kept, and where pages are read.
-use Rattle.std.proofs.Common.{◌≡◌, ◌∙◌, ℕ, ◌<◌, false, nat_le, cond, nat_lt, List, ◌∷◌, Option, Some, None, IsSomeAnd, Contains, refl, sym, ap, subst, ⊎_elim}
+use Rattle.std.proofs.Common.{◌≡◌, ◌∙◌, ◌⊎◌, inl, ℕ, ◌<◌, false, nat_le, cond, nat_lt, List, ◌∷◌, Option, Some, None, IsSomeAnd, Contains, refl, sym, ap, subst, ⊎_elim}
 use Rattle.std.specs.Option.{option_and_then, option_map_or}
 use Rattle.domain_base.specs.declared.place.CellAt.{CellAt}
 use Rattle.domain_base.specs.declared.version.Version.{Version}
@@ -13,15 +13,15 @@ use Rattle.chain_release.specs.Reading.{own_or, read_home}
 use Rattle.chain_release.specs.Sharing.{IsReader, frozen_of}
 use Rattle.deferred_delete.specs.declared.list.Entry.{Entry}
 use Rattle.deferred_delete.specs.Listed.{left_of, stale_from}
-use Rattle.deferred_delete.specs.Listing.{Listing}
-use Rattle.deferred_delete.specs.Standing.{Files, ReadsThrough, Source, place_in, read_at, read_of, source_at, source_in, source_of, with_file}
+use Rattle.deferred_delete.specs.Listing.{AreInOrder, Listing}
+use Rattle.deferred_delete.specs.Standing.{Files, IsQuotaCell, ReadsThrough, Source, place_in, read_at, read_of, source_at, source_in, source_of, with_file}
 use Rattle.deferred_delete.specs.Steps.{LetsPages, Now, pages_go, with_clone}
 use Rattle.deferred_delete.proofs.Firsts.{first_same, then_then}
 use Rattle.deferred_delete.proofs.Lists.{AreEntriesOnce}
 use Rattle.deferred_delete.proofs.Spread.{Reads, Which, has_reader, none_not, other, reading, some_same, source, which}
 use Rattle.deferred_delete.proofs.Standings.{file_other, file_there, place_by, reads_by, source_by}
 use Rattle.deferred_laws.specs.Kept.{Stays}
-use Rattle.deferred_laws.proofs.Fits.{Fits, HasOneMap, fits_by, map_in}
+use Rattle.deferred_laws.proofs.Fits.{Fits, HasOneMap, alone, fits_by, map_in}
 use Rattle.deferred_laws.proofs.Narrower.{in_last, inside_by}
 use Rattle.deferred_laws.proofs.Others.{clone_other}
 use Rattle.deferred_laws.proofs.ReadHomes.{left_same, read_beside, read_same, read_there, stale_same, through}
@@ -38,7 +38,7 @@ module _ (group : ℕ) (version : Version) (old new : Now) (fits : Fits old) (s 
   was_in e inside = inside_by old.list new.list e s.same_list inside
 
   not_clone : ¬ s.entry.clone ≡ Some s.entry.at
-  not_clone some = fits.clones s.entry s.entry entry_in entry_in some
+  not_clone some = alone old fits s.front s.entry s.last s.entry entry_in some
 
   reads_at : (a : CellAt) → s.entry.clone ≡ Some a → (q : Reads old.files s.entry.clone s.reader s.own) × (q.clone ≡ a)
   reads_at a some = ⊎_elim
@@ -66,7 +66,7 @@ module _ (group : ℕ) (version : Version) (old new : Now) (fits : Fits old) (s 
   pub after_first : (k : ℕ) → nat_le 1 (most_rows k) ≡ false → first_record k s.releases.after ≡ first_record k s.chain
   after_first k none = first_same k none s.chain s.releases.after s.releases.first
 
-  own_first : (k : ℕ) → nat_le 1 (most_rows k) ≡ false → first_record k s.releases.own_now ≡ first_record k s.own
+  pub own_first : (k : ℕ) → nat_le 1 (most_rows k) ≡ false → first_record k s.releases.own_now ≡ first_record k s.own
   own_first k none = ⊎_elim (λ same. ap (first_record k) same) (λ first. first_same k none s.own s.releases.own_now first) s.releases.own_first
 
   firsts : (k : ℕ) → nat_le 1 (most_rows k) ≡ false → (a : CellAt) → option_and_then (first_record k) (new.files a) ≡ option_and_then (first_record k) (old.files a)
@@ -90,23 +90,24 @@ module _ (group : ℕ) (version : Version) (old new : Now) (fits : Fits old) (s 
   pub after_stale : stale_from s.releases.after ≡ stale_from s.chain
   after_stale = stale_same s.chain s.releases.after (after_first 6 refl) (after_first 1 refl)
 
-  maps_now : (a : CellAt) (first : PlacedCell) (rest : List PlacedCell) → new.files a ≡ Some (first ∷ rest) → HasOneMap first.cell
+  maps_now : (a : CellAt) (first : PlacedCell) (rest : List PlacedCell) → new.files a ≡ Some (first ∷ rest) → HasOneMap first.cell ⊎ IsQuotaCell first.cell
   maps_now a first rest is = by_which (which s.entry.at s.entry.clone a)
     where
-      by_which : Which s.entry.at s.entry.clone a → HasOneMap first.cell
+      by_which : Which s.entry.at s.entry.clone a → HasOneMap first.cell ⊎ IsQuotaCell first.cell
       by_which (source same) =
-          map_in new.pages s.entry.at first rest
-          (subst (IsFile new.pages s.entry.at) (some_same s.releases.after (first ∷ rest) (sym at_source ∙ sym (ap new.files same) ∙ is)) s.releases.again.file)
+          inl (map_in new.pages s.entry.at first rest
+          (subst (IsFile new.pages s.entry.at) (some_same s.releases.after (first ∷ rest) (sym at_source ∙ sym (ap new.files same) ∙ is)) s.releases.again.file))
       by_which (reading some) =
           let q = reads_at a some in
-          map_in new.pages q.0.r.at first rest
+          inl (map_in new.pages q.0.r.at first rest
           (subst (IsFile new.pages q.0.r.at) (some_same s.releases.own_now (first ∷ rest) (sym (clone_now a some) ∙ is))
-          (subst (λ o. IsReader new.pages o s.releases.own_now) q.0.is_reader s.releases.again.reads))
+          (subst (λ o. IsReader new.pages o s.releases.own_now) q.0.is_reader s.releases.again.reads)))
       by_which (other not_at not_it) = fits.maps a first rest (sym (at_other a not_at not_it) ∙ is)
 
   pub lets_fits : Fits new
   lets_fits = fits_by group version old new (pages_go s) fits
       (subst (λ (l : Listing). AreEntriesOnce l.entries) (sym s.same_list) fits.once)
+      (subst (λ (l : Listing). AreInOrder l.entries) (sym s.same_list) fits.order)
       (λ a b reads. reads_by old.files new.files a b (sources a) reads)
       (λ c e inside some reads. reads_by new.files old.files c e.at (sym (sources c)) reads)
       (λ e inside c reads. fits.all e (was_in e inside) c (reads_by old.files new.files c e.at (sources c) reads))
@@ -121,7 +122,7 @@ module _ (group : ℕ) (version : Version) (old new : Now) (fits : Fits old) (s 
       by_which (source same) =
           subst (λ (cs : List PlacedCell). p < stale_from cs) (some_same s.releases.after ds (sym at_source ∙ sym (ap new.files same) ∙ is))
           (subst (λ (n : ℕ). p < n) (sym after_stale) (stays e (was_in e inside) at s.chain (ap old.files same ∙ s.is)))
-      by_which (reading some) = absurd (fits.clones s.entry e entry_in (was_in e inside) (some ∙ ap Some (sym at)))
+      by_which (reading some) = absurd (alone old fits s.front s.entry s.last e (was_in e inside) (some ∙ ap Some (sym at)))
       by_which (other not_at not_it) = stays e (was_in e inside) at ds (sym (at_other a not_at not_it) ∙ is)
 
   place_beside : (a : CellAt) (p : ℕ) → ¬ a ≡ s.entry.at → ¬ s.entry.clone ≡ Some a → place_in new.files a p ≡ place_in old.files a p

@@ -15,7 +15,6 @@ use Rattle.extent_maps.specs.declared.run.PagePlace.TheVariants.{At}
 use Rattle.free_cells.specs.Cells.{Cells, table_of}
 use Rattle.free_space.specs.Spaces.{Spaces}
 use Rattle.bitfile_cells.specs.Files.{places_of}
-use Rattle.bitfile_cells.proofs.ChainChanges.{stand_file}
 use Rattle.bitfile_cells.proofs.Chosen.{all_at}
 use Rattle.bitfile_cells.specs.Changes.{IsInUse}
 use Rattle.bitfile_cells.proofs.Spaces.{not_held}
@@ -31,7 +30,7 @@ use Rattle.deferred_delete.specs.Listing.{Listing}
 use Rattle.deferred_delete.specs.Standing.{Files, place_in, source_in, with_file}
 use Rattle.deferred_delete.specs.Steps.{IsWell, Now, now_of}
 use Rattle.deferred_delete.proofs.Firsts.{first_same}
-use Rattle.deferred_delete.proofs.Standings.{apart_by, file_there, place_by, source_by, standing}
+use Rattle.deferred_delete.proofs.Standings.{apart_by, file_there, place_by, source_by, stand_chain, standing}
 use Rattle.deferred_laws.specs.Calls.{StandsWell, FilesetNow, Gives, Moves, PutsPage}
 use Rattle.deferred_laws.specs.Tags.{AreAmong, start_of}
 use Rattle.deferred_laws.specs.Waits.{IsNowhere}
@@ -84,7 +83,7 @@ module _ (fileset : ℕ) (version : Version) (tag : Tag) (old new : FilesetNow) 
       let c = placed_at after q in_after in
       let was = standing old.domain.space old.domain.cells old.domain.pages files stood.well.together a cs is in
       let joins = s.change.change.joined c.0 c.1 (λ in_chain. beside a cs is not_at q in_cs (subst (Contains (cell_places chain)) c.2 in_chain)) in
-      let cell = all_at (IsInUse old.domain.pages) cs q (in_use old.domain.pages cs (stand_file old.domain.pages a cs was.file)) in_cs in
+      let cell = all_at (IsInUse old.domain.pages) cs q (in_use old.domain.pages cs (stand_chain old.domain.pages a cs was.stands)) in_cs in
       joins.was_free cell.0 (subst (λ (b : CellAt). StandsAt old.domain.pages b cell.0) (sym c.2) cell.1)
       (subst (λ (b : CellAt). Contains (table_of old.domain.cells b.vol) b.page) (sym c.2) (on_at old.domain.cells cs q was.on_tables in_cs))
 
@@ -107,7 +106,7 @@ module _ (fileset : ℕ) (version : Version) (tag : Tag) (old new : FilesetNow) 
   put : IsPut old.domain.space new.domain.space old.domain.cells new.domain.cells new.domain.pages files at after More
   put = record {
     allocated = s.change.together.allocated;
-    stands = record { file = s.change.change.changes.is_file; on_tables = s.change.change.on_tables };
+    stands = record { stands = inl s.change.change.changes.is_file; on_tables = s.change.change.on_tables };
     tables = tables;
     held = held;
     leaves = λ a cs is not_at. beside_left old.domain.space old.domain.cells old.domain.pages new.domain.pages files stood.well.together chain s.others a cs is (beside a cs is not_at);

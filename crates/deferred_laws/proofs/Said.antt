@@ -1,5 +1,5 @@
 -- What the first cell of a chain says of its file goes on to be said where the chain is another.
-use Rattle.std.proofs.Common.{◌≡◌, ◌∙◌, ℕ, true, false, List, [], ◌∷◌, Option, Some, None, IfSome, refl, ap, arith}
+use Rattle.std.proofs.Common.{IfSome, List, None, Option, Some, [], ℕ, ◌∙◌, ◌∷◌, ◌≡◌, ap, arith, false, refl, sym, true}
 use Rattle.std.specs.Option.{option_and_then, option_map, option_map_or}
 use Rattle.domain_base.specs.declared.place.Tag.{Tag}
 use Rattle.record_table.specs.declared.record.Record.{Record}
@@ -9,7 +9,7 @@ use Rattle.bmt_mcells.specs.Chain.{PlacedCell}
 use Rattle.bitfile_cells.specs.Changes.{with_kind}
 use Rattle.bitfile_cells.specs.FileChanges.{SameFirst}
 use Rattle.bitfile_core.specs.Changes.{with_first}
-use Rattle.bitfile_core.specs.Files.{HasFirstKinds, IsOf, is_first_kind, is_removed, says_remove}
+use Rattle.bitfile_core.specs.Files.{HasFirstKinds, IsOf, first_record, is_first_kind, is_removed, says_remove}
 use Rattle.bitfile_core.proofs.FirstRoom.{kinds_replaced}
 use Rattle.bitfile_core.proofs.OneChain.{kinds_same}
 use Rattle.deferred_delete.specs.Listed.{left_of, leftover_in}
@@ -17,7 +17,7 @@ use Rattle.deferred_delete.specs.Steps.{kept_all, says_no_source, says_trimmed, 
 use Rattle.deferred_delete.proofs.Firsts.{first_same}
 use Rattle.deferred_delete.proofs.Records.{kept_of, source_of_kind, sourceless_other}
 use Rattle.deferred_laws.specs.Tags.{start_of}
-use Rattle.deferred_laws.proofs.AllKept.{none_trimmed}
+use Rattle.deferred_laws.proofs.AllKept.{none_trimmed, trimmed_first}
 
 -- it begins there, is of the same tag, has kinds of records that it may have, and is not to be
 -- removed, where that was so
@@ -26,9 +26,10 @@ pub record SaysSame (cells after : List PlacedCell) : Type 0 where
   pub is_of : (fileset : ℕ) (tag : Tag) → IsOf fileset tag cells → IsOf fileset tag after
   pub kinds : HasFirstKinds cells → HasFirstKinds after
   pub live : is_removed cells ≡ false → is_removed after ≡ false
+  pub attributes : ¬ first_record 1 cells ≡ None → ¬ first_record 1 after ≡ None
 
 pub says_itself : (cells : List PlacedCell) → SaysSame cells cells
-says_itself cells = record { start = refl; is_of = λ fileset tag is. is; kinds = λ has. has; live = λ is. is }
+says_itself cells = record { start = refl; is_of = λ fileset tag is. is; kinds = λ has. has; live = λ is. is; attributes = λ has. has }
 
 pub says_first : (cells after : List PlacedCell) → SameFirst cells after → SaysSame cells after
 says_first [] after same = absurd same
@@ -38,12 +39,17 @@ says_first (a ∷ xs) (b ∷ ys) same = record {
   is_of = λ fileset tag is. (ap (λ h. h.slot) same.1 ∙ is.0, ap (λ h. h.seq) same.1 ∙ is.1, ap (λ h. h.fileset) same.1 ∙ is.2);
   kinds = λ has. kinds_same (a ∷ xs) (b ∷ ys) same has;
   live = λ is. ap (λ o. option_map_or says_remove o false) (first_same 6 refl (a ∷ xs) (b ∷ ys) same) ∙ is;
+  attributes = λ has none. has (sym (first_same 1 refl (a ∷ xs) (b ∷ ys) same) ∙ none);
 }
 
 -- records of a kind that a first cell may have
 kinds_kept : (kind : ℕ) → is_first_kind kind ≡ true → (o : Option Record) → IfSome o (λ r. kind_of r ≡ kind) → IfSome o (λ r. is_first_kind (kind_of r) ≡ true)
 kinds_kept kind may None is = tt
 kinds_kept kind may (Some r) is = ap is_first_kind is ∙ may
+
+map_none : (change : Record → Record) (o : Option Record) → option_map change o ≡ None → o ≡ None
+map_none change None is = refl
+map_none change (Some r) is = absurd (let e : Some (change r) ≡ None = is in cc)
 
 pub says_trim : (cells : List PlacedCell) → SaysSame cells (with_first says_trimmed cells)
 says_trim [] = says_itself []
@@ -55,6 +61,7 @@ says_trim (first ∷ rest) = record {
       (kinds_kept 1 refl (option_map kept_all (record_of 1 first.cell.records)) (kept_of first.cell)))
       tt;
   live = λ is. ap (λ o. option_map_or says_remove o false) (none_trimmed first.cell);
+  attributes = λ has none. has (map_none kept_all (record_of 1 first.cell.records) (sym (trimmed_first first.cell) ∙ none));
 }
 
 pub says_alone : (cells : List PlacedCell) → SaysSame cells (with_first says_no_source cells)
@@ -65,6 +72,7 @@ says_alone (first ∷ rest) = record {
   kinds = λ has. kinds_replaced 2 (option_map without_source (record_of 2 first.cell.records)) first.cell.records has
       (kinds_kept 2 refl (option_map without_source (record_of 2 first.cell.records)) (source_of_kind first.cell));
   live = λ is. ap (λ o. option_map_or says_remove o false) (sourceless_other first.cell 6 (λ e. omega (arith, e))) ∙ is;
+  attributes = λ has none. has (sym (sourceless_other first.cell 1 (λ e. omega (arith, e))) ∙ none);
 }
 
 -- ---- what is left to be done

@@ -10,7 +10,7 @@ use Rattle.bmt_mcells.specs.Chain.{PlacedCell}
 use Rattle.bitfile_cells.specs.FileChanges.{SameFirst}
 use Rattle.bitfile_core.specs.Changes.{with_first}
 use Rattle.bitfile_core.specs.Files.{attributes_in}
-use Rattle.deferred_delete.specs.Steps.{IsWell, Now, Step, Steps, file_ends, kept_all, more, none, pages_go, reading_ends, says_no_source, says_trimmed, tag_page_goes, trim_ends, without_source}
+use Rattle.deferred_delete.specs.Steps.{IsWell, Now, Step, Steps, file_ends, kept_all, more, none, pages_go, quota_goes, reading_ends, says_no_source, says_trimmed, tag_page_goes, trim_ends, without_source}
 use Rattle.deferred_delete.proofs.Firsts.{first_same}
 use Rattle.deferred_delete.proofs.Records.{sourceless_other, sourceless_there, trimmed_other}
 use Rattle.deferred_delete.proofs.Spread.{Which, none_not, other, reading, some_same, source, which}
@@ -22,6 +22,7 @@ use Rattle.deferred_laws.proofs.Fits.{Fits, well_fits}
 use Rattle.deferred_laws.proofs.Laws.{fits_step}
 use Rattle.deferred_laws.proofs.PagesGo.{at_other, at_source, clone_now, clone_was}
 use Rattle.deferred_laws.proofs.Said.{says_alone, says_first, says_trim}
+use Rattle.deferred_laws.proofs.QuotaStep.{chain, quota_beside, quota_is, quota_says}
 
 -- ---- records that are written twice
 
@@ -147,6 +148,10 @@ module _ (group : ℕ) (version : Version) (old new : Now) (fits : Fits old) (a 
       by_which (reading some) = by_chain s.own s.releases.own_now (clone_was group version old new fits s a some) (clone_now group version old new fits s a some)
           (⊎_elim (λ same. subst (SaysTheSame s.own) (sym same) (itself s.own)) (λ first. by_first s.own s.releases.own_now first) s.releases.own_first)
       by_which (other not_at not_it) = as_it_was (at_other group version old new fits s a not_at not_it)
+  said_step (quota_goes s) = ⊎_elim
+      (λ same. by_chain (chain group version old new s) s.after (ap old.files same ∙ s.is) (ap new.files same ∙ quota_is group version old new s) (by_first (chain group version old new s) s.after (quota_says group version old new s)))
+      (λ not_at. as_it_was (quota_beside group version old new s a not_at))
+      (same_or_not a s.entry.at)
   said_step (trim_ends s) = ⊎_elim
       (λ same. by_chain s.chain (with_first says_trimmed s.chain) (ap old.files same ∙ s.is) (ap new.files same ∙ trim_there group version old new fits s) (by_trim s.chain))
       (λ not_at. as_it_was (trim_other group version old new fits s a not_at))

@@ -21,7 +21,8 @@ use Rattle.deferred_delete.specs.Steps.{IsWell, Now, Steps, more, none}
 use Rattle.deferred_delete.proofs.Spread.{none_not, some_same}
 use Rattle.deferred_delete.proofs.Standings.{place_by}
 use Rattle.deferred_laws.specs.Kept.{SaysTheSame}
-use Rattle.deferred_laws.specs.Shown.{IsIndexApart, StandsApart, StaysShown}
+use Rattle.deferred_laws.specs.Shown.{IsIndexApart, StaysShown}
+use Rattle.deferred_laws.specs.Waits.{StandsApart}
 use Rattle.deferred_laws.specs.Tags.{AreAmong, chains_in, start_of}
 use Rattle.deferred_laws.proofs.HeldSteps.{held_still, tables_on}
 use Rattle.deferred_laws.proofs.SaysStill.{said_so}

@@ -15,10 +15,10 @@ use Rattle.deferred_laws.specs.Calls.{Call, Calls, FilesetNow, cut, described, d
 use Rattle.deferred_laws.specs.Waits.{Waits}
 
 -- what waits on a volume
-abbrev waiting_on : Spaces → ℕ → Option (List Waiting)
+abbrev pub waiting_on : Spaces → ℕ → Option (List Waiting)
 waiting_on space vol = option_map (λ (v : VolumeSpace). v.waiting) (volume_of space vol)
 
-waiting_taken : (space : Spaces) (vol p other : ℕ) → waiting_on (change_volume (with_page p) space vol) other ≡ waiting_on space other
+pub waiting_taken : (space : Spaces) (vol p other : ℕ) → waiting_on (change_volume (with_page p) space vol) other ≡ waiting_on space other
 waiting_taken space vol p other = by_volume (nat_eq (other - 1) (vol - 1)) refl
   where
     still : (o : Option VolumeSpace) → option_map (λ (v : VolumeSpace). v.waiting) (option_map (with_page p) o) ≡ option_map (λ (v : VolumeSpace). v.waiting) o
@@ -33,7 +33,7 @@ waiting_taken space vol p other = by_volume (nat_eq (other - 1) (vol - 1)) refl
     by_volume false apart =
         ap (option_map (λ (v : VolumeSpace). v.waiting)) (volume_of-change_other (with_page p) space vol other (λ same. both_ways (nat_eq (other - 1) (vol - 1)) apart (eq-eqb (other - 1) (vol - 1) same)))
 
-waiting_one : (prefer : ℕ) (space space_now : Spaces) (cells cells_now : Cells) (old : Pages) → TakesOne prefer space space_now cells cells_now old → (vol : ℕ) → waiting_on space_now vol ≡ waiting_on space vol
+pub waiting_one : (prefer : ℕ) (space space_now : Spaces) (cells cells_now : Cells) (old : Pages) → TakesOne prefer space space_now cells cells_now old → (vol : ℕ) → waiting_on space_now vol ≡ waiting_on space vol
 waiting_one prefer space space_now cells cells_now old one vol = ⊎_elim
     (λ had. ap (λ s. waiting_on s vol) had.same_space)
     (λ none. ap (λ s. waiting_on s vol) none.adds.used ∙ waiting_taken space none.home.vol none.home.page vol)
@@ -72,11 +72,11 @@ waiting_still fileset version tag first last calls vol =
       | one_more between last (calls → was) call ↦ waiting_call fileset version tag between last vol call ∙ was
     ]
 
-among : (page : Waiting) (o : Option VolumeSpace) → IsSomeAnd o (λ v. Contains v.waiting page) → IsSomeAnd (option_map (λ (v : VolumeSpace). v.waiting) o) (λ ws. Contains ws page)
+pub among : (page : Waiting) (o : Option VolumeSpace) → IsSomeAnd o (λ v. Contains v.waiting page) → IsSomeAnd (option_map (λ (v : VolumeSpace). v.waiting) o) (λ ws. Contains ws page)
 among page None is = is
 among page (Some v) is = is
 
-back : (page : Waiting) (o : Option VolumeSpace) → IsSomeAnd (option_map (λ (v : VolumeSpace). v.waiting) o) (λ ws. Contains ws page) → IsSomeAnd o (λ v. Contains v.waiting page)
+pub back : (page : Waiting) (o : Option VolumeSpace) → IsSomeAnd (option_map (λ (v : VolumeSpace). v.waiting) o) (λ ws. Contains ws page) → IsSomeAnd o (λ v. Contains v.waiting page)
 back page None is = is
 back page (Some v) is = is
 

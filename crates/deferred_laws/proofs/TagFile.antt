@@ -11,12 +11,12 @@ use Rattle.free_cells.specs.Cells.{Cells}
 use Rattle.free_space.specs.Spaces.{Spaces}
 use Rattle.bitfile_cells.specs.FileChanges.{LeavesOtherCells, SameFirst}
 use Rattle.bitfile_cells.specs.Files.{IsFile}
-use Rattle.bitfile_cells.proofs.ChainChanges.{in_first, stand_file}
+use Rattle.bitfile_cells.proofs.ChainChanges.{in_first}
 use Rattle.bitfile_core.specs.Files.{AreApart, AreFiles, Chains}
-use Rattle.bitfile_core.proofs.OneChain.{file_by, stand_still}
-use Rattle.deferred_delete.specs.Standing.{Files, StandTogether}
+use Rattle.bitfile_core.proofs.OneChain.{stand_still}
+use Rattle.deferred_delete.specs.Standing.{Files, IsFileOrQuotas, StandTogether}
 use Rattle.deferred_delete.proofs.Spread.{none_not, some_same}
-use Rattle.deferred_delete.proofs.Standings.{standing}
+use Rattle.deferred_delete.proofs.Standings.{chain_by, stand_chain, standing}
 use Rattle.deferred_laws.specs.Tags.{chains_in, start_of}
 use Rattle.deferred_laws.proofs.StillAmong.{file_of_tag}
 
@@ -54,7 +54,7 @@ module _ (fileset : ℕ) (places : List TagPlace) (pages : Pages) (chains : Chai
         apart at (subst (λ (cs : List PlacedCell). Contains (cell_places cs) at) (sym one) (start_inside chain at start)) (start_inside chain at start)
 
 -- files beside one of which a call changes cells alone
-pub beside_left : (space : Spaces) (cells : Cells) (old new : Pages) (files : Files) → StandTogether space cells old files → (chain : List PlacedCell) → LeavesOtherCells cells chain old new → (a : CellAt) (cs : List PlacedCell) → files a ≡ Some cs → AreApart cs chain → IsFile new a cs
+pub beside_left : (space : Spaces) (cells : Cells) (old new : Pages) (files : Files) → StandTogether space cells old files → (chain : List PlacedCell) → LeavesOtherCells cells chain old new → (a : CellAt) (cs : List PlacedCell) → files a ≡ Some cs → AreApart cs chain → IsFileOrQuotas new a cs
 beside_left space cells old new files together chain others a cs is apart =
     let was = standing space cells old files together a cs is in
-    file_by old new a cs (stand_still old new cells chain cs others apart was.on_tables (stand_file old a cs was.file)) was.file
+    chain_by old new a cs (stand_still old new cells chain cs others apart was.on_tables (stand_chain old a cs was.stands)) was.stands

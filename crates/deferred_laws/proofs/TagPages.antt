@@ -5,8 +5,8 @@ use Rattle.domain_base.specs.declared.version.Version.{Version}
 use Rattle.free_space.specs.declared.waiting.PageUse.TheVariants.{Metadata}
 use Rattle.free_space.specs.VolumeSpace.{with_waiting}
 use Rattle.free_space.specs.Spaces.{Spaces, change_volume}
-use Rattle.deferred_delete.specs.Listing.{Listing}
-use Rattle.deferred_delete.specs.Steps.{GivesTagPage, IsWell, Now, Step, Steps, file_ends, more, none, pages_go, reading_ends, tag_page_goes, trim_ends}
+use Rattle.deferred_delete.specs.Listing.{Listing, without_clone}
+use Rattle.deferred_delete.specs.Steps.{GivesTagPage, IsWell, Now, Step, Steps, file_ends, more, none, pages_go, quota_goes, reading_ends, tag_page_goes, trim_ends}
 use Rattle.deferred_delete.proofs.Lists.{in_start, last_in}
 use Rattle.deferred_laws.specs.Waits.{Waits, waiting_at}
 use Rattle.deferred_laws.proofs.Gone.{there_held, waits_now}
@@ -40,9 +40,10 @@ module _ (group : ℕ) (version : Version) (old new : Now) (well : IsWell old) (
 
   listed_step : Step group version old new → Contains old.list.tag_pages home → IsListedOrWaits group new home
   listed_step (pages_go s) inside = by_list old.list s.same_list inside
+  listed_step (quota_goes s) inside = by_list old.list s.same_list inside
   listed_step (trim_ends s) inside = by_list (record { entries = s.front; tag_pages = old.list.tag_pages }) s.list inside
   listed_step (reading_ends s) inside = inl (subst (λ (l : Listing). Contains l.tag_pages home) (sym s.list) inside)
-  listed_step (file_ends s) inside = by_list (record { entries = s.front; tag_pages = old.list.tag_pages }) s.list inside
+  listed_step (file_ends s) inside = by_list (record { entries = without_clone s.entry.at s.front; tag_pages = old.list.tag_pages }) s.list inside
   listed_step (tag_page_goes s) inside = tag_goes s inside
 
   tag_step : Step group version old new → IsListedOrWaits group old home → IsListedOrWaits group new home

@@ -1,5 +1,5 @@
 -- Files that tags name, their pages and the pages of their directory belong together after steps.
-use Rattle.std.proofs.Common.{◌≡◌, ◌∙◌, ℕ, zero, suc, ◌≤◌, true, false, List, [], ◌∷◌, Option, Some, None, IfSome, IsSomeAnd, Contains, slice_get, refl, sym, ap, subst, arith, ⊎_elim}
+use Rattle.std.proofs.Common.{Contains, IfSome, IsSomeAnd, List, None, Option, Some, [], ℕ, ⊎_elim, ◌∙◌, ◌∷◌, ◌≡◌, ◌≤◌, ap, arith, false, is_some, refl, slice_get, subst, suc, sym, true, zero}
 use Rattle.std.proofs.lemmas.Bool.{cases_Bool, true≢false}
 use Rattle.std.specs.Option.{option_and_then, option_map_or}
 use Rattle.domain_base.specs.declared.place.CellAt.{CellAt}
@@ -18,21 +18,21 @@ use Rattle.free_space.specs.Spaces.{Spaces}
 use Rattle.bitfile_cells.specs.FileChanges.{AreOnTables}
 use Rattle.bitfile_cells.specs.Files.{IsFile, places_of}
 use Rattle.bitfile_core.specs.Changes.{with_first}
-use Rattle.bitfile_core.specs.Files.{AreApart, AreFiles, Chains, LeadsToFile, is_removed, place_at}
+use Rattle.bitfile_core.specs.Files.{AreApart, AreFiles, Chains, LeadsToFile, first_record, is_removed, place_at}
 use Rattle.bitfile_core.specs.Together.{AreTogether, IsHeldApart}
 use Rattle.bitfile_core.proofs.OneFile.{tags_same}
 use Rattle.bitfile_core.proofs.Tags.{cell_same, directory_same, pages_same}
 use Rattle.chain_release.proofs.Given.{held_given}
 use Rattle.chain_release.proofs.Once.{absent_not}
 use Rattle.deferred_delete.specs.Standing.{Files, IsStanding, place_in}
-use Rattle.deferred_delete.specs.Steps.{IsWell, Now, Step, Steps, file_ends, more, none, pages_go, reading_ends, says_no_source, says_trimmed, tag_page_goes, trim_ends}
+use Rattle.deferred_delete.specs.Steps.{IsWell, Now, Step, Steps, file_ends, more, none, pages_go, quota_goes, reading_ends, says_no_source, says_trimmed, tag_page_goes, trim_ends}
 use Rattle.deferred_delete.proofs.Lists.{in_start, last_in, not_last}
 use Rattle.deferred_delete.proofs.Spread.{Which, held_still, none_not, other, reading, some_same, source, was_there, which}
-use Rattle.deferred_delete.proofs.Standings.{apart_by, place_by, same_or_not, standing}
+use Rattle.deferred_delete.proofs.Standings.{apart_by, is_file, place_by, same_or_not, standing}
 use Rattle.deferred_laws.specs.Tags.{AreAmong, chains_in, start_of}
 use Rattle.deferred_laws.proofs.Ended.{ended_other, file_gone, reading_other, reading_place, reading_there, same_file, trim_front, trim_once, trim_other, trim_there}
 use Rattle.deferred_laws.proofs.FirstCells.{first_place, trimmed_keeps}
-use Rattle.deferred_laws.proofs.Fits.{Fits, well_fits}
+use Rattle.deferred_laws.proofs.Fits.{Fits, trim_maps, well_fits}
 use Rattle.deferred_laws.proofs.Narrower.{in_last, narrower_step}
 use Rattle.deferred_laws.proofs.PagesGo.{at_other, at_source, clone_now, clone_was}
 use Rattle.deferred_laws.proofs.Said.{SaysSame, left_alone, left_first, says_alone, says_first, says_itself, says_trim}
@@ -40,6 +40,7 @@ use Rattle.deferred_laws.proofs.Wells.{well_step}
 use Rattle.deferred_delete.specs.declared.list.Entry.{Entry}
 use Rattle.deferred_delete.specs.Listed.{left_of}
 use Rattle.record_table.specs.declared.record.Leftover.TheVariants.{Trim}
+use Rattle.deferred_laws.proofs.QuotaStep.{not_trimmed, quota_beside, quota_places}
 
 -- ---- what one step does to each file
 
@@ -79,6 +80,8 @@ module _ (group : ℕ) (version : Version) (old new : Now) (well : IsWell old) w
             left = λ e inside at. ⊎_elim (λ same. ap left_of same) (λ first. left_first s.own s.releases.own_now first) s.releases.own_first ∙ ap left_of it;
           }
       by_which (other not_at not_it) = as_it_was a cells was (at_other group version old new fits s a not_at not_it)
+  still (quota_goes s) a cells was trims =
+      as_it_was a cells was (quota_beside group version old new s a (λ same. not_trimmed group version old new s cells (sym (ap old.files same) ∙ was) (trims s.entry (in_last old.list s.front s.entry s.last) (sym same))))
   still (trim_ends s) a cells was trims = ⊎_elim
       (λ same.
       let it : s.chain ≡ cells = some_same s.chain cells (sym s.is ∙ sym (ap old.files same) ∙ was) in
@@ -122,8 +125,9 @@ module _ (group : ℕ) (version : Version) (old new : Now) (well : IsWell old) w
       ⊎_elim
       (λ was. (a, p, was))
       (λ h. (s.entry.at, p, h.was))
-      (was_there old.space old.cells old.pages old.files well.together s.entry is_entry s.chain s.is s.reader s.own s.given group version new.space new.cells new.pages s.what s.releases s.others s.allocated a p home now_there)
-  had_page (trim_ends s) a p home there = (a, p, sym (first_place says_trimmed trimmed_keeps old new fits s.entry.at s.chain s.is s.files a p) ∙ there)
+      (was_there old.space old.cells old.pages old.files well.together s.entry is_entry s.chain s.is s.file s.reader s.own s.given group version new.space new.cells new.pages s.what s.releases s.others s.allocated a p home now_there)
+  had_page (quota_goes s) a p home there = (a, p, sym (quota_places group version old new s a p) ∙ there)
+  had_page (trim_ends s) a p home there = (a, p, sym (first_place says_trimmed trimmed_keeps old new fits s.entry.at s.chain s.is (trim_maps old new fits s) s.files a p) ∙ there)
   had_page (reading_ends s) a p home there = (a, p, sym (reading_place group version old new fits s a p) ∙ there)
   had_page (file_ends s) a p home there = ⊎_elim
       (λ same. absurd (absent_not home (sym (ap (λ o. option_map_or (λ cs. places_of cs p) o Absent) (ap new.files same ∙ file_gone group version old new fits s)) ∙ there)))
@@ -133,6 +137,7 @@ module _ (group : ℕ) (version : Version) (old new : Now) (well : IsWell old) w
 
   pub was_listed : Step group version old new → (home : Home) → Contains new.list.tag_pages home → Contains old.list.tag_pages home
   was_listed (pages_go s) home inside = subst (λ l. Contains l.tag_pages home) s.same_list inside
+  was_listed (quota_goes s) home inside = subst (λ l. Contains l.tag_pages home) s.same_list inside
   was_listed (trim_ends s) home inside = subst (λ l. Contains l.tag_pages home) s.list inside
   was_listed (reading_ends s) home inside = subst (λ l. Contains l.tag_pages home) s.list inside
   was_listed (file_ends s) home inside = subst (λ l. Contains l.tag_pages home) s.list inside
@@ -144,8 +149,12 @@ module _ (group : ℕ) (version : Version) (old new : Now) (well : IsWell old) w
       → Step group version old new → IsHeldApart new.space new.cells home
   held_on home low no_file not_listed held (pages_go s) =
       let is_entry = well.listed.each s.entry (in_last old.list s.front s.entry s.last) in
-      held_still old.space old.cells old.pages old.files well.together s.entry is_entry s.chain s.is s.reader s.own s.given group version new.space new.cells new.pages s.what s.releases s.others s.allocated home low held
+      held_still old.space old.cells old.pages old.files well.together s.entry is_entry s.chain s.is s.file s.reader s.own s.given group version new.space new.cells new.pages s.what s.releases s.others s.allocated home low held
       (λ g. no_file s.entry.at g.page (place_by old.files s.entry.at s.chain g.page s.is ∙ g.was))
+  held_on home low no_file not_listed held (quota_goes s) = subst (λ (x : Spaces). IsHeldApart x new.cells home) (sym s.same_space) (record {
+    held = held.held;
+    off_table = λ on. held.off_table (subst (λ (t : List ℕ). Contains t home.page) (s.frees.tables home.vol) on);
+  })
   held_on home low no_file not_listed held (trim_ends s) = subst (λ (x : Spaces). IsHeldApart x new.cells home) (sym s.same_space) (subst (λ (c : Cells). IsHeldApart old.space c home) (sym s.same_cells) held)
   held_on home low no_file not_listed held (reading_ends s) = subst (λ (x : Spaces). IsHeldApart x new.cells home) (sym s.same_space) (subst (λ (c : Cells). IsHeldApart old.space c home) (sym s.same_cells) held)
   held_on home low no_file not_listed held (file_ends s) = subst (λ (x : Spaces). IsHeldApart x new.cells home) (sym s.same_space) (record {
@@ -170,6 +179,7 @@ module _ (group : ℕ) (version : Version) (old new : Now) (well : IsWell old) w
 
   pub page_stays : Step group version old new → (home : Home) → ¬ Contains (table_of new.cells home.vol) home.page → new.pages home ≡ old.pages home
   page_stays (pages_go s) home off = s.elsewhere home off
+  page_stays (quota_goes s) home off = s.elsewhere home off
   page_stays (trim_ends s) home off = s.elsewhere home off
   page_stays (reading_ends s) home off = s.elsewhere home off
   page_stays (file_ends s) home off = s.elsewhere home off
@@ -193,6 +203,10 @@ named files chains t cells is same = by_cells cells (sym (ap (λ o. option_and_t
 start_in : (cells : List PlacedCell) (at : CellAt) → start_of cells ≡ Some at → Contains (cell_places cells) at
 start_in [] at start = absurd (none_not at start)
 start_in (first ∷ rest) at start = (0, omega arith, some_same first.at at start)
+
+has_attributes : (pages : Pages) (a : CellAt) (cells : List PlacedCell) → IsFile pages a cells → ¬ first_record 1 cells ≡ None
+has_attributes pages a [] file nothing = file
+has_attributes pages a (first ∷ rest) file nothing = true≢false (sym file.1.attributes ∙ ap is_some nothing)
 
 file_start : (pages : Pages) (a at : CellAt) (cells : List PlacedCell) → IsFile pages a cells → start_of cells ≡ Some at → a ≡ at
 file_start pages a at [] file start = absurd file
@@ -285,7 +299,8 @@ module _ (group : ℕ) (version : Version) (old new : Now) (well : IsWell old) (
     where
       by_cell : (o : Option CellAt) → IsSomeAnd o (λ at. IsFile old.pages at cells) → IsSomeAnd o (λ at. IsFile new.pages at g.after)
       by_cell None leads = leads
-      by_cell (Some a) leads = subst (λ (b : CellAt). IsFile new.pages b g.after) (sym (file_start old.pages a g.at cells leads g.start)) (stands t cells g).file
+      by_cell (Some a) leads = subst (λ (b : CellAt). IsFile new.pages b g.after) (sym (file_start old.pages a g.at cells leads g.start))
+          (is_file new.pages g.at g.after (stands t cells g).stands 1 (λ e. omega (arith, e)) (λ e. omega (arith, e)) (g.says.attributes (has_attributes old.pages a cells leads)))
 
   none_now : (t : Tag) → now t ≡ None → cell_of new.pages places t ≡ None
   none_now t nothing = cells_lead t ∙ was.together.files.none t (by_chain (chains t) refl)

@@ -15,7 +15,7 @@ use Rattle.free_space.specs.Spaces.{Spaces, change_volume, volume_of}
 use Rattle.free_space.proofs.Places.{volume_of-change_other, volume_of-change_same}
 use Rattle.bitfile_cells.specs.Files.{places_of}
 use Rattle.chain_release.specs.Releases.{TakesForReader, with_given}
-use Rattle.deferred_delete.specs.Steps.{Now, Step, Steps, file_ends, more, none, pages_go, reading_ends, tag_page_goes, trim_ends}
+use Rattle.deferred_delete.specs.Steps.{Now, Step, Steps, file_ends, more, none, pages_go, quota_goes, reading_ends, tag_page_goes, trim_ends}
 use Rattle.deferred_delete.proofs.Lists.{in_start}
 use Rattle.deferred_laws.specs.Waits.{Waits}
 
@@ -59,6 +59,7 @@ module _ (P : VolumeSpace → Type 0) where
         subst (λ (x : Spaces). IsSomeAnd (volume_of x vol) P) (sym s.releases.given.is)
         (given_keeps _ group s.releases.given.homes s.releases.space_between vol
         (taken_keeps s.own (places_of s.releases.own_now) (places_of s.chain) old.space s.releases.space_between old.cells s.releases.cells_between old.pages s.releases.taken vol has))
+    step_keeps group version old new (quota_goes s) vol has = subst (λ (x : Spaces). IsSomeAnd (volume_of x vol) P) (sym s.same_space) has
     step_keeps group version old new (trim_ends s) vol has = subst (λ (x : Spaces). IsSomeAnd (volume_of x vol) P) (sym s.same_space) has
     step_keeps group version old new (reading_ends s) vol has = subst (λ (x : Spaces). IsSomeAnd (volume_of x vol) P) (sym s.same_space) has
     step_keeps group version old new (file_ends s) vol has = subst (λ (x : Spaces). IsSomeAnd (volume_of x vol) P) (sym s.same_space) has

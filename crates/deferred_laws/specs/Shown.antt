@@ -1,5 +1,5 @@
 -- What steps leave of what a set of files shows.
-use Rattle.std.specs.Prelude.{◌≡◌, ◌≤◌, ℕ, List, ◌∷◌, Option, Some, IsSomeAnd, Contains}
+use Rattle.std.specs.Prelude.{◌≡◌, ℕ, List, ◌∷◌, Option, Some, IsSomeAnd}
 use Rattle.domain_base.specs.declared.place.CellAt.{CellAt}
 use Rattle.domain_base.specs.declared.place.Home.{Home}
 use Rattle.domain_base.specs.declared.place.Kind.TheVariants.{Directory}
@@ -7,18 +7,10 @@ use Rattle.page_store.specs.Bitfiles.{Bitfile}
 use Rattle.bmt_mcells.specs.Chain.{PlacedCell}
 use Rattle.tag_dirs.specs.TagPage.{next_of}
 use Rattle.bitfile_core.specs.Shown.{index_of}
-use Rattle.bitfile_core.specs.Together.{IsHeldApart}
 use Rattle.deferred_delete.specs.Steps.{Now}
 use Rattle.deferred_laws.specs.Kept.{IsBeside}
 use Rattle.deferred_laws.specs.Tags.{start_of}
-use Rattle.deferred_laws.specs.Waits.{IsNowhere}
-
--- a page of a volume is held, and none of cells, of a file or of the list
-pub record StandsApart (now : Now) (home : Home) : Type 0 where
-  pub low : 1 ≤ home.vol
-  pub nowhere : IsNowhere now.files home
-  pub not_listed : ¬ Contains now.list.tag_pages home
-  pub apart : IsHeldApart now.space now.cells home
+use Rattle.deferred_laws.specs.Waits.{StandsApart}
 
 -- from a home on each page of an index stands so
 abbrev pub IsIndexApart : Now → Option Home → List (List ℕ) → Type 0

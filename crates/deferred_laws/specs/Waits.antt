@@ -1,13 +1,15 @@
 -- Pages that wait.
-use Rattle.std.specs.Prelude.{◌≡◌, ◌⊎◌, ℕ, List, Contains, IsSomeAnd, Some}
+use Rattle.std.specs.Prelude.{◌≡◌, ◌⊎◌, ◌≤◌, ℕ, List, Contains, IsSomeAnd, Some}
 use Rattle.domain_base.specs.declared.place.CellAt.{CellAt}
 use Rattle.domain_base.specs.declared.place.Home.{Home}
 use Rattle.bmt_mcells.specs.Chain.{PlacedCell}
 use Rattle.extent_maps.specs.declared.run.PagePlace.TheVariants.{At}
 use Rattle.free_space.specs.declared.waiting.PageUse.{PageUse}
+use Rattle.free_space.specs.declared.waiting.PageUse.TheVariants.{Metadata}
 use Rattle.free_space.specs.declared.waiting.Waiting.{Waiting}
 use Rattle.free_space.specs.Spaces.{Spaces, volume_of}
 use Rattle.bitfile_cells.specs.Files.{places_of}
+use Rattle.bitfile_core.specs.Together.{IsHeldApart}
 use Rattle.chain_release.specs.Releases.{use_of}
 use Rattle.deferred_delete.specs.Standing.{Files, place_in}
 use Rattle.deferred_delete.specs.Steps.{Now}
@@ -23,6 +25,13 @@ waiting_at home kind group = record { page = home.page; kind = kind; group = gro
 -- no file has a page at the home
 abbrev pub IsNowhere : Files → Home → Type 0
 IsNowhere files home = (at : CellAt) (page : ℕ) → ¬ place_in files at page ≡ At home
+
+-- a page of a volume is held, and none of cells, of a file or of the list
+pub record StandsApart (now : Now) (home : Home) : Type 0 where
+  pub low : 1 ≤ home.vol
+  pub nowhere : IsNowhere now.files home
+  pub not_listed : ¬ Contains now.list.tag_pages home
+  pub apart : IsHeldApart now.space now.cells home
 
 -- a file had a page at the home, which was of that use, and no file has it any more
 pub record IsLetGo (first last : Now) (home : Home) (kind : PageUse) : Type 0 where
@@ -45,3 +54,18 @@ pub record IsLost (first last : Now) (home : Home) : Type 0 where
 abbrev pub IsGivenUp : Now → Now → Home → Type 0
 IsGivenUp first last home = IsLost first last home
     ⊎ (Contains first.list.tag_pages home × ¬ Contains last.list.tag_pages home)
+
+-- a file had a page at the home, which was of that use, and no file has it any more; or it was that
+-- of a page of a tag directory, which is metadata, on the list and is not any more
+abbrev pub IsLetOff : Now → Now → Home → PageUse → Type 0
+IsLetOff first last home kind = IsLetGo first last home kind
+    ⊎ ((kind ≡ Metadata) × Contains first.list.tag_pages home
+    × ¬ Contains last.list.tag_pages home)
+
+-- the page that waits on the volume is one that was let off, with its use and for the group
+pub record WaitsSince (group : ℕ) (first last : Now) (vol : ℕ) (page : Waiting) : Type 0 where
+  pub home : Home
+  pub kind : PageUse
+  pub on : vol ≡ home.vol
+  pub is : page ≡ waiting_at home kind group
+  pub off : IsLetOff first last home kind

@@ -9,24 +9,26 @@ ghost use Rattle.tag_dirs.specs.declared.dir.TagPlace.{TagPlace};
 ghost use Rattle.tag_dirs.specs.Directory.{has_home};
 ghost use Rattle.bitfile_core.specs.Files.{Chains};
 ghost use Rattle.bitfile_core.specs.Truncation.{says_truncated};
-ghost use Rattle.deferred_delete.specs.Listed.{left_of};
+ghost use Rattle.deferred_delete.specs.Listed.{IsEntry, left_of};
 ghost use Rattle.deferred_delete.specs.Listing.{Adds, Listing};
 ghost use Rattle.deferred_delete.specs.Steps.{IsWell, Now};
 ghost use Rattle.deferred_laws.specs.Calls.{Drops, FilesetNow, SetsFirst};
-ghost use Rattle.deferred_laws.specs.Lists.{MayList, MayListPage, with_list};
+ghost use Rattle.deferred_laws.specs.Lists.{with_list};
 ghost use Rattle.deferred_laws.specs.Tags.{AreAmong, start_of};
+ghost use Rattle.deferred_laws.specs.Waits.{StandsApart};
 
-/// A file that may be put on the list, or whose clone may be set anew there, may then be let go of
-/// with all else on the list.
+/// A file that is put on the list, or whose clone is set anew there, may then be let go of with all
+/// else on the list: it has to be there, and the clone be the one whose file reads through it.
 pub fn all_stays_well_where_a_file_is_listed()
     ensures { (first : Now) (at : CellAt) (clone : Option CellAt) (list : Listing)
-        → IsWell first → MayList first at clone → Adds at clone first.list.entries list.entries
+        → IsWell first → IsEntry first.files (record { at = at; clone = clone })
+        → Adds at clone first.list.entries list.entries
         → list.tag_pages ≡ first.list.tag_pages → IsWell (with_list list first) }
 {}
 
 /// So may a page of a tag directory that may be put on the list.
 pub fn all_stays_well_where_a_page_is_listed()
-    ensures { (first : Now) (home : Home) (list : Listing) → IsWell first → MayListPage first home
+    ensures { (first : Now) (home : Home) (list : Listing) → IsWell first → StandsApart first home
         → list.tag_pages ≡ first.list.tag_pages ++ home ∷ []
         → list.entries ≡ first.list.entries → IsWell (with_list list first) }
 {}

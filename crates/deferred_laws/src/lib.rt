@@ -4,6 +4,7 @@
 
 mod adding;
 mod calls;
+mod giving_back;
 mod steps;
 mod together;
 mod waiting;
@@ -18,12 +19,16 @@ pub use calls::{
     other_tags_stay, pages_are_held_exactly, the_list_stays, what_is_read_through_stays,
     what_waits_stays,
 };
+pub use giving_back::{
+    a_page_that_is_given_back_waits, all_stays_well_where_a_page_is_given_back,
+    no_other_page_is_given_back, tags_stay_together_where_a_page_is_given_back,
+};
 pub use steps::{
     each_step_leaves_less, others_stay, pages_are_held_exactly_over_steps,
     pages_are_read_as_before, removed_files_are_gone, trimmed_files_keep_all,
-    trimmed_files_keep_their_front,
+    trimmed_files_keep_their_front, what_files_say_stays, what_is_shown_stays,
 };
 pub use together::{
     all_stays_well, files_of_tags_begin_apart, tags_beside_the_list_stay, tags_stay_together,
 };
-pub use waiting::{pages_let_go_wait, pages_taken_off_wait, pages_wait_on};
+pub use waiting::{only_pages_let_go_wait, pages_let_go_wait, pages_taken_off_wait, pages_wait_on};

@@ -29,12 +29,13 @@ pub fn others_stay()
         → last.files at ≡ first.files at }
 {}
 
-/// A file that is trimmed is there still, and each page in front of those that go stands where it
-/// stood.
+/// A file that is trimmed, and that no entry gives as its clone's, is there still, and each page in
+/// front of those that go stands where it stood.
 pub fn trimmed_files_keep_their_front()
     ensures { (group : ℕ) (version : Version) (first : Now) (count : ℕ) (last : Now)
         → IsWell first → Steps group version first count last
         → (entry : Entry) → Contains first.list.entries entry
+        → ((other : Entry) → Contains first.list.entries other → ¬ other.clone ≡ Some entry.at)
         → (chain : List PlacedCell) → first.files entry.at ≡ Some chain
         → left_of chain ≡ Some Trim → KeepsFront chain (last.files entry.at) }
 {}
