@@ -1,5 +1,5 @@
 -- A file that was cut is let go of, and calls go on.
-use Rattle.std.proofs.Common.{◌≡◌, ◌∙◌, ◌⊎◌, ⊎_elim, inl, inr, ℕ, ◌≤◌, false, List, Option, Some, None, IsSomeAnd, is_some, Contains, refl, sym, ap, subst}
+use Rattle.std.proofs.Common.{◌≡◌, ◌∙◌, ◌⊎◌, ⊎_elim, inl, inr, ℕ, ◌≤◌, false, List, [], ◌∷◌, Option, Some, None, IsSomeAnd, is_some, Contains, refl, sym, ap, subst}
 use Rattle.std.specs.Option.{option_and_then}
 use Rattle.domain_base.specs.declared.place.CellAt.{CellAt}
 use Rattle.domain_base.specs.declared.place.Home.{Home}
@@ -16,18 +16,18 @@ use Rattle.free_space.specs.Spaces.{Spaces, missed}
 use Rattle.bitfile_cells.specs.Allocated.{FindsNone}
 use Rattle.bitfile_cells.specs.Files.{IsFile}
 use Rattle.deferred_delete.specs.declared.list.Entry.{Entry}
-use Rattle.deferred_delete.specs.Listed.{left_of}
+use Rattle.deferred_delete.specs.Listed.{IsEntry, left_of}
 use Rattle.deferred_delete.specs.Listing.{Adds, Listing}
 use Rattle.deferred_delete.specs.Standing.{ReadsThrough, Source}
 use Rattle.deferred_delete.specs.Steps.{IsWell, LetsGo, Now, Steps, now_of}
-use Rattle.deferred_delete.proofs.Standings.{standing}
 use Rattle.deferred_laws.specs.Calls.{FilesetNow, StandsWell, no_call, one_more, refused}
 use Rattle.deferred_laws.specs.Kept.{IsBeside}
-use Rattle.deferred_laws.specs.Lists.{MayList, with_list}
+use Rattle.deferred_laws.specs.Lists.{with_list}
 use Rattle.deferred_laws.specs.Tags.{AreAmong, chains_in, start_of}
 use Rattle.deferred_laws.specs.Taken.{IsHeldAt, IsTaken}
 use Rattle.deferred_laws.specs.Waits.{IsGivenUp}
 use Rattle.deferred_laws.proofs.CallsWell.{stands_still}
+use Rattle.deferred_laws.proofs.FirstWell.{are_file}
 use Rattle.deferred_laws.proofs.HeldPages.{held_exactly}
 use Rattle.deferred_laws.proofs.HeldSteps.{held_after}
 use Rattle.deferred_laws.proofs.Listing.{entry_among, entry_listed, list_stays, which_entry}
@@ -37,7 +37,7 @@ use Rattle.deferred_laws.proofs.Tags.{tags_stay_together}
 use Rattle.deferred_laws.proofs.TagsBeside.{begin_apart, beside_stay}
 use Rattle.deferred_laws.proofs.Wells.{wells_stay}
 use Rattle.release_tests.specs.Called.{HasCalled, HasCut, HasLetGo, HasNoClone, IsCut, IsWrittenAgain, Parts, fileset_in}
-use Rattle.release_tests.proofs.Wells.{none_some}
+use Rattle.release_tests.proofs.Wells.{none_some, some_same}
 
 -- ---- it is made, given pages and cut
 
@@ -70,9 +70,12 @@ module _ (fileset : ℕ) (tag : Tag) (at : CellAt) (now : FilesetNow) (stood : S
     where
       by_chain : (o : Option (List PlacedCell)) → now.chains tag ≡ o → option_and_then start_of o ≡ Some at → HasChain fileset tag at now
       by_chain None is starts = absurd (none_some at starts)
-      by_chain (Some cs) is starts =
-          let there = sym (by_start tag begins) ∙ is in
-          record { chain = cs; there = there; file = (standing now.domain.space now.domain.cells now.domain.pages now.domain.files stood.well.together at cs there).file }
+      by_chain (Some []) is starts = absurd (none_some at starts)
+      by_chain (Some (first ∷ rest)) is starts = record {
+        chain = first ∷ rest;
+        there = sym (by_start tag begins) ∙ is;
+        file = (some_same first.at at starts, are_file fileset now.places now.domain.pages now.chains stood.together.files tag first rest is);
+      }
 
 -- ---- it is put on the list, and steps are done
 
@@ -89,15 +92,11 @@ module _ (fileset : ℕ) (version : Version) (tag : Tag) (at : CellAt) (first : 
   reads_none : (a b : CellAt) → ReadsThrough cut.domain.files a b → ⊥
   reads_none a b reads = subst (λ o. IsSomeAnd o (λ (source : Source). source.at ≡ b)) (sources_stay fileset version tag first cut c.cut.0.calls c.stood a ∙ c.alone a) reads
 
-  may : MayList cut.domain at None
+  may : IsEntry cut.domain.files (record { at = at; clone = None })
   may = record {
-    entry = record {
-      there = ap is_some cut_chain.there;
-      given = λ clone is. absurd (none_some clone is);
-      all = λ clone reads. absurd (reads_none clone at reads);
-    };
-    not_read = λ e inside is. reads_none at e.at ((stands.well.listed.each e inside).given at is);
-    not_listed = λ e inside is. none_some e.at is;
+    there = ap is_some cut_chain.there;
+    given = λ clone is. absurd (none_some clone is);
+    all = λ clone reads. absurd (reads_none clone at reads);
   }
 
   module _ (listed : Listing) (adds : Adds at None parts.list.entries listed.entries) (same : listed.tag_pages ≡ parts.list.tag_pages) (trim : left_of cut_chain.chain ≡ Some Trim) where

@@ -33,7 +33,8 @@ use Rattle.deferred_delete.specs.Standing.{Files, IsStanding, ReadsThrough, Sour
 use Rattle.deferred_delete.specs.Steps.{IsWell, now_of}
 use Rattle.deferred_delete.proofs.Spread.{Which, other, reading, source, which}
 use Rattle.deferred_delete.proofs.Standings.{apart_from, each_from, file_beside, file_other, file_there, source_by}
-use Rattle.release_tests.specs.Pairs.{AreTwo, IsCloneOf}
+use Rattle.deferred_laws.proofs.Listing.{entry_listed}
+use Rattle.release_tests.specs.Pairs.{AreTwo, IsCloneOf, IsPair}
 use Rattle.release_tests.proofs.Wells.{in_none, in_one, listing, no_files, none_some, some_same}
 
 -- ---- files of two chains
@@ -94,8 +95,8 @@ module _ (space : Spaces) (cells : Cells) (pages : Pages) (a b : CellAt) (chain 
   together = record {
     allocated = two.file.allocated;
     each = each_from cells pages files (λ x cs is. ⊎_elim
-        (λ it. subst (λ (q : CellAt). IsStanding cells pages q cs) (sym it.0) (subst (IsStanding cells pages a) (sym it.1) (record { file = two.file.file; on_tables = two.file.on_tables })))
-        (λ it. subst (λ (q : CellAt). IsStanding cells pages q cs) (sym it.0) (subst (IsStanding cells pages b) (sym it.1) (record { file = two.reader.file; on_tables = two.reader.on_tables })))
+        (λ it. subst (λ (q : CellAt). IsStanding cells pages q cs) (sym it.0) (subst (IsStanding cells pages a) (sym it.1) (record { stands = inl two.file.file; on_tables = two.file.on_tables })))
+        (λ it. subst (λ (q : CellAt). IsStanding cells pages q cs) (sym it.0) (subst (IsStanding cells pages b) (sym it.1) (record { stands = inl two.reader.file; on_tables = two.reader.on_tables })))
         (one_of x cs is));
     apart = apart_from files (λ x y xs ys is_x is_y not_same. ⊎_elim
         (λ it. ⊎_elim
@@ -131,18 +132,30 @@ module _ (space : Spaces) (cells : Cells) (pages : Pages) (a b : CellAt) (chain 
     all = λ c is. ap Some (sym (reads_one c a is).0);
   }
 
-  pub pair_listed : IsWell (now_of (listing (entry ∷ []) []) files space cells pages)
-  pair_listed = record {
-    together = together;
-    listed = record {
-      each = λ e inside. subst (IsEntry files) (sym (in_one entry e inside)) is_entry;
-      once = λ i j d less_i less_j same. omega (arith, less_i, less_j);
-      clones = λ x y in_x in_y is. differ (some_same b a (sym (ap (λ (e : Entry). e.clone) (in_one entry x in_x)) ∙ is ∙ ap (λ (e : Entry). Some e.at) (in_one entry y in_y)));
-      pages_once = tt;
-      pages_low = λ home inside. absurd (in_none home inside);
-      pages_held = λ home inside. absurd (in_none home inside);
-      pages_apart = λ home inside. absurd (in_none home inside);
+  -- and none reads through the second
+  clone_entry : IsEntry files (record { at = b; clone = None })
+  clone_entry = record {
+    there = ap is_some at_b;
+    given = λ c is. absurd (none_some c is);
+    all = λ c is. absurd (differ (sym (reads_one c b is).1));
+  }
+
+  pub pair_is : IsPair space cells pages a b (listing [] []) files
+  pair_is = record {
+    well = record {
+      together = together;
+      listed = record {
+        each = λ e inside. absurd (in_none e inside);
+        once = λ i j d less_i less_j same. absurd (omega (arith, less_i));
+        order = λ i j d less_i less_j same. absurd (omega (arith, less_i));
+        pages_once = tt;
+        pages_low = λ home inside. absurd (in_none home inside);
+        pages_held = λ home inside. absurd (in_none home inside);
+        pages_apart = λ home inside. absurd (in_none home inside);
+      };
     };
+    first = is_entry;
+    second = clone_entry;
   }
 
 -- ---- the second says that it reads through the first
@@ -214,8 +227,8 @@ module _ (space : Spaces) (cells : Cells) (old new : Pages) (a b : CellAt) (chai
     kinds = kinds_replaced (kind_of value) (Some value) first.cell.records two.kinds (ap is_first_kind is.of_kind);
   }
 
-  pub now_listed : source_of chain ≡ None → (fs : Files) × IsWell (now_of (listing (record { at = a; clone = Some b } ∷ []) []) fs space cells new)
-  now_listed alone = (_, pair_listed space cells new a b chain own now frozen alone reads)
+  pub now_pair : source_of chain ≡ None → (fs : Files) × IsPair space cells new a b (listing [] []) fs
+  now_pair alone = (_, pair_is space cells new a b chain own now frozen alone reads)
 
 -- room for the record
 pub pair_room : (space : Spaces) (cells : Cells) (pages : Pages) (a b : CellAt) (chain own : List PlacedCell) → AreTwo space cells pages a b chain own → (frozen : ℕ) (value : Record) → IsCloneOf a frozen value → HasRoom pages b (kind_of value) (Some value)
@@ -225,13 +238,17 @@ pair_room space cells pages a b chain (first ∷ rest) two frozen value is =
 
 pub pair_well : (space : Spaces) (cells : Cells) (old new : Pages) (a b : CellAt) (chain own : List PlacedCell) → AreTwo space cells old a b chain own → (frozen : ℕ) (value : Record) → IsCloneOf a frozen value
     → ((cell : Cell) → StandsAt old b cell → StandsAt new b (with_record (kind_of value) (Some value) cell)) → LeavesOthers (is_at b) old new → KeepsWellFormed old new → KeepsHeaders old new → source_of chain ≡ None
-    → (before list : Listing) → before.entries ≡ [] → before.tag_pages ≡ [] → Adds a (Some b) before.entries list.entries → list.tag_pages ≡ before.tag_pages → (fs : Files) × IsWell (now_of list fs space cells new)
-pair_well space cells old new a b chain [] two frozen value is stands leaves good headers alone before list no_entry no_page adds same = absurd two.reader.file
-pair_well space cells old new a b chain (first ∷ rest) two frozen value is stands leaves good headers alone before list no_entry no_page adds same =
+    → (list : Listing) → list.entries ≡ [] → list.tag_pages ≡ [] → (fs : Files) × IsPair space cells new a b list fs
+pair_well space cells old new a b chain [] two frozen value is stands leaves good headers alone list no_entry no_page = absurd two.reader.file
+pair_well space cells old new a b chain (first ∷ rest) two frozen value is stands leaves good headers alone list no_entry no_page =
     let here = stands first.cell (subst (λ (q : CellAt). StandsAt old q first.cell) two.reader.file.0 two.reader.file.1.links.stands) in
-    let well = now_listed space cells old new a b chain first rest two frozen value is here leaves good headers alone in
-    let entries = added list.entries (subst (λ (es : List Entry). Adds a (Some b) es list.entries) no_entry adds) in
-    (well.0, subst (λ (l : Listing). IsWell (now_of l well.0 space cells new)) (λ i. listing (sym entries i) (sym (same ∙ no_page) i)) well.1)
-  where
-    added : (entries : List Entry) → Adds a (Some b) [] entries → entries ≡ record { at = a; clone = Some b } ∷ []
-    added entries adds = ⊎_elim (λ sets. absurd (omega (arith, sets.within))) (λ is. is.is) adds
+    let pair = now_pair space cells old new a b chain first rest two frozen value is here leaves good headers alone in
+    (pair.0, subst (λ (l : Listing). IsPair space cells new a b l pair.0) (λ i. listing (sym no_entry i) (sym no_page i)) pair.1)
+
+-- ---- one of the two, or both, on the list
+
+pub pair_listed : (space : Spaces) (cells : Cells) (pages : Pages) (a b at : CellAt) (clone : Option CellAt) (before list : Listing) (files : Files) → IsPair space cells pages a b before files → IsEntry files (record { at = at; clone = clone })
+    → Adds at clone before.entries list.entries → list.tag_pages ≡ before.tag_pages → IsPair space cells pages a b list files
+pair_listed space cells pages a b at clone before list files pair entry adds same =
+    let well = entry_listed (now_of before files space cells pages) at clone list pair.well entry adds same in
+    record { well = record { together = well.together; listed = well.listed }; first = pair.first; second = pair.second }

@@ -1,5 +1,5 @@
 -- Lists of one file, or of a page of a tag directory, that belong together with all else.
-use Rattle.std.proofs.Common.{◌≡◌, ◌∙◌, ℕ, ◌≤◌, zero, suc, List, [], ◌∷◌, ◌++◌, Some, None, Result, Ok, Err, IfOk, IfErr, OnErr, is_some, IsSomeAnd, Contains, arith, refl, sym, ap, subst, ⊎_elim}
+use Rattle.std.proofs.Common.{◌≡◌, ◌∙◌, inl, ℕ, ◌≤◌, zero, suc, List, [], ◌∷◌, ◌++◌, Some, None, Result, Ok, Err, IfOk, IfErr, OnErr, is_some, IsSomeAnd, Contains, get_or, arith, refl, sym, ap, subst, ⊎_elim}
 use Rattle.std.specs.Option.{option_and_then, option_map_or}
 use Rattle.domain_base.specs.declared.place.CellAt.{CellAt}
 use Rattle.domain_base.specs.declared.place.Home.{Home}
@@ -16,7 +16,7 @@ use Rattle.bitfile_core.specs.Together.{IsHeldApart}
 use Rattle.chain_release.proofs.Once.{absent_not}
 use Rattle.deferred_delete.specs.declared.list.Entry.{Entry}
 use Rattle.deferred_delete.specs.Listed.{IsEntry, IsListed}
-use Rattle.deferred_delete.specs.Listing.{Adds, Listing}
+use Rattle.deferred_delete.specs.Listing.{Adds, AreInOrder, Listing}
 use Rattle.deferred_delete.specs.Standing.{Files, IsStanding, ReadsThrough, Source, StandTogether, place_in, source_at, source_of, with_file}
 use Rattle.deferred_delete.specs.Steps.{IsWell, LetsGo, now_of}
 use Rattle.deferred_delete.proofs.Loops.{well_same}
@@ -43,6 +43,11 @@ some_same x y is = cc
 
 pub none_some : {X : Type 0} (x : X) → None ≡ Some x → ⊥
 none_some x is = cc
+
+-- one entry without a clone is in order
+one_order : (entry : Entry) → entry.clone ≡ None → AreInOrder (entry ∷ [])
+one_order entry none zero j d less_i less_j same = absurd (none_some (get_or (entry ∷ []) j d).at (sym none ∙ same))
+one_order entry none (suc i) j d less_i less_j same = absurd (omega (arith, less_i))
 
 abbrev pub no_files : Files
 no_files = λ a. None
@@ -83,7 +88,7 @@ module _ (space : Spaces) (cells : Cells) (pages : Pages) (at : CellAt) (chain :
     allocated = going.allocated;
     each = each_from cells pages files (λ a cs is.
         subst (λ (b : CellAt). IsStanding cells pages b cs) (sym (only a cs is).0)
-        (subst (IsStanding cells pages at) (sym (only a cs is).1) (record { file = going.file; on_tables = going.on_tables })));
+        (subst (IsStanding cells pages at) (sym (only a cs is).1) (record { stands = inl going.file; on_tables = going.on_tables })));
     apart = apart_from files (λ a b xs ys is_a is_b other. absurd (other ((only a xs is_a).0 ∙ sym (only b ys is_b).0)));
     held = λ a p home is. going.held p home (place_only a p home is).1;
     once = λ a b p q home is_a is_b.
@@ -107,7 +112,7 @@ module _ (space : Spaces) (cells : Cells) (pages : Pages) (at : CellAt) (chain :
   is_listed = record {
     each = λ e inside. subst (IsEntry files) (sym (in_one entry e inside)) is_entry;
     once = λ i j d less_i less_j same. omega (arith, less_i, less_j);
-    clones = λ a b in_a in_b is. none_some b.at (sym (ap (λ (e : Entry). e.clone) (in_one entry a in_a)) ∙ is);
+    order = one_order entry refl;
     pages_once = tt;
     pages_low = λ home inside. absurd (in_none home inside);
     pages_held = λ home inside. absurd (in_none home inside);
@@ -115,7 +120,7 @@ module _ (space : Spaces) (cells : Cells) (pages : Pages) (at : CellAt) (chain :
   }
 
   added : (entries : List Entry) → Adds at None [] entries → entries ≡ entry ∷ []
-  added entries adds = ⊎_elim (λ sets. absurd (omega (arith, sets.within))) (λ is. is.is) adds
+  added entries adds = adds.orders ∙ ⊎_elim (λ sets. absurd (let within = sets.within in omega (arith, within))) (λ is. is.is) adds.puts
 
   pub one_is_well : (old new : Listing) → old.entries ≡ [] → old.tag_pages ≡ [] → Adds at None old.entries new.entries → new.tag_pages ≡ old.tag_pages → IsWell (now_of new (with_file at (Some chain) no_files) space cells pages)
   one_is_well old new no_entry no_page adds same =
@@ -153,7 +158,7 @@ none_listed : (space : Spaces) (cells : Cells) → IsListed space cells no_files
 none_listed space cells = record {
   each = λ e inside. absurd (in_none e inside);
   once = λ i j d less_i less_j same. absurd (omega (arith, less_i));
-  clones = λ a b in_a in_b is. in_none a in_a;
+  order = λ i j d less_i less_j same. absurd (omega (arith, less_i));
   pages_once = tt;
   pages_low = λ h inside. absurd (in_none h inside);
   pages_held = λ h inside. absurd (in_none h inside);
@@ -185,7 +190,7 @@ module _ (space : Spaces) (cells : Cells) (pages : Pages) (home : Home) (allocat
   page_listed = record {
     each = λ e inside. absurd (in_none e inside);
     once = λ i j d less_i less_j same. absurd (omega (arith, less_i));
-    clones = λ a b in_a in_b is. in_none a in_a;
+    order = λ i j d less_i less_j same. absurd (omega (arith, less_i));
     pages_once = (λ inside. in_none home inside, tt);
     pages_low = λ h inside. subst (λ (h : Home). 1 ≤ h.vol) (sym (in_one home h inside)) low;
     pages_held = λ h inside. subst (IsHeldApart space cells) (sym (in_one home h inside)) held;

@@ -33,7 +33,11 @@ abbrev pub HasGoing : World → CellAt → Type 0
 HasGoing world at = (chain : List PlacedCell)
     × IsGoing world.space world.cells (pages_of world.pages.entries.items) at chain
 
--- the list is one of files of the world, and all belongs together
+-- the list is one of some files, and all belongs together
+abbrev pub HasWellBy : Pages → Spaces → Cells → Listing → Type 0
+HasWellBy pages space cells list = (files : Files) × IsWell (now_of list files space cells pages)
+
+-- the same of a world
 abbrev pub HasWell : World → Listing → Type 0
-HasWell world list = (files : Files)
-    × IsWell (now_of list files world.space world.cells (pages_of world.pages.entries.items))
+HasWell world list =
+    HasWellBy (pages_of world.pages.entries.items) world.space world.cells list

@@ -1,5 +1,5 @@
 -- Two files of a world, of which the second may read through the first.
-use Rattle.std.specs.Prelude.{◌≡◌, ℕ, List, Some}
+use Rattle.std.specs.Prelude.{◌≡◌, ℕ, List, None, Some}
 use Rattle.domain_base.specs.declared.place.CellAt.{CellAt}
 use Rattle.domain_base.specs.declared.place.Home.{Home}
 use Rattle.page_store.specs.Pages.{Pages}
@@ -12,7 +12,10 @@ use Rattle.free_cells.specs.Cells.{Cells}
 use Rattle.free_space.specs.Spaces.{Spaces}
 use Rattle.bitfile_cells.specs.Files.{places_of}
 use Rattle.bitfile_core.specs.Files.{AreApart, HasFirstKinds}
-use Rattle.deferred_delete.specs.Standing.{source_in}
+use Rattle.deferred_delete.specs.Listed.{IsEntry}
+use Rattle.deferred_delete.specs.Listing.{Listing}
+use Rattle.deferred_delete.specs.Standing.{Files, source_in}
+use Rattle.deferred_delete.specs.Steps.{IsWell, now_of}
 use Rattle.file_tests.specs.declared.world.World.{World}
 use Rattle.release_tests.specs.declared.clones.Pair.{Pair}
 use Rattle.release_tests.specs.Going.{IsGoing}
@@ -37,3 +40,14 @@ pub record IsCloneOf (at : CellAt) (frozen : ℕ) (value : Record) : Type 0 wher
   pub of_kind : kind_of value ≡ 2
   pub allowed : Allowed value
   pub says : source_in value ≡ Some (record { at = at; frozen = frozen })
+
+-- all belongs together, and a file may stand on the list with that clone, and the clone's file too
+pub record IsPair (space : Spaces) (cells : Cells) (pages : Pages) (at clone : CellAt)
+    (list : Listing) (files : Files) : Type 0 where
+  pub well : IsWell (now_of list files space cells pages)
+  pub first : IsEntry files (record { at = at; clone = Some clone })
+  pub second : IsEntry files (record { at = clone; clone = None })
+
+abbrev pub HasPair : World → Pair → Listing → Type 0
+HasPair world pair list = (files : Files) × IsPair world.space world.cells
+    (pages_of world.pages.entries.items) pair.at pair.clone list files

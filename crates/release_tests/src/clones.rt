@@ -2,7 +2,7 @@
 ghost use Rattle.std.specs.Prelude.{IfOk, IfSome};
 ghost use Rattle.file_tests.specs.Worlds.{IsWorld};
 ghost use Rattle.release_tests.specs.Going.{HasWell};
-ghost use Rattle.release_tests.specs.Pairs.{HasTwo, IsCloneOf};
+ghost use Rattle.release_tests.specs.Pairs.{HasPair, HasTwo, IsCloneOf};
 
 use crate::going::{counts, is_of_clone, may_go, release, release_all};
 use crate::making::{first_pages, give_pages, make};
@@ -61,19 +61,70 @@ fn clone_record(at: CellAt, frozen: u32) -> Option<Record>
     })
 }
 
-/// Says of the second file that it reads through the first, of which so many pages were frozen, and
-/// lists the first.
-fn listed_pair(alloc: Global, world: &mut World, pair: &Pair, frozen: u32) -> Result<Deferred, Fail>
+/// Says of the second file that it reads through the first, of which so many pages were frozen:
+/// a list on which nothing is.
+fn unlisted_pair(
+    alloc: Global,
+    world: &mut World,
+    pair: &Pair,
+    frozen: u32,
+) -> Result<Deferred, Fail>
     requires { HasTwo world.old pair.now }
-    ensures { IfOk result (HasWell world.new) }
+    ensures { IfOk result (HasPair world.new pair.now) }
 {
     if is_of_clone(world, &pair.clone) || !may_go(world, &pair.at) {
         return Err(Fail::from("a file that goes, and two that are of no clone"));
     }
     let record = clone_record(pair.at, frozen).ok_or("a cell")?;
     set_record(alloc, &mut world.pages, pair.clone, &record)?;
-    let mut list = Deferred::new(alloc);
+    Ok(Deferred::new(alloc))
+}
+
+/// Which files are put on a list: the one that is read through alone, or the clone's that reads
+/// through it as well, in front of it or behind it.
+#[derive(Clone, Copy, PartialEq, Eq)]
+enum Listed {
+    First,
+    SecondThenFirst,
+    FirstThenSecond,
+}
+
+/// Puts a clone's file on a list, if it is to be there.
+fn list_second(world: &World, list: &mut Deferred, pair: &Pair, is_listed: bool) -> Result<(), Fail>
+    requires { HasPair world.now pair.now list.old }
+    ensures { IfOk result (λ _. HasPair world.now pair.now list.new) }
+{
+    if is_listed {
+        list.add(pair.clone, None)?;
+    }
+    Ok(())
+}
+
+/// Puts the file on a list through which the clone's reads.
+fn list_first(world: &World, list: &mut Deferred, pair: &Pair) -> Result<(), Fail>
+    requires { HasPair world.now pair.now list.old }
+    ensures { IfOk result (λ _. HasPair world.now pair.now list.new) }
+{
     list.add(pair.at, Some(pair.clone))?;
+    Ok(())
+}
+
+/// Says of the second file that it reads through the first, of which so many pages were frozen, and
+/// lists them.
+fn listed_pair(
+    alloc: Global,
+    world: &mut World,
+    pair: &Pair,
+    frozen: u32,
+    listed: Listed,
+) -> Result<Deferred, Fail>
+    requires { HasTwo world.old pair.now }
+    ensures { IfOk result (HasWell world.new) }
+{
+    let mut list = unlisted_pair(alloc, world, pair, frozen)?;
+    list_second(world, &mut list, pair, listed == Listed::SecondThenFirst)?;
+    list_first(world, &mut list, pair)?;
+    list_second(world, &mut list, pair, listed == Listed::FirstThenSecond)?;
     Ok(list)
 }
 
@@ -160,13 +211,14 @@ fn make_all(alloc: Global, world: &mut World, count: u32) -> Result<(), Fail>
 }
 
 /// A volume of so many pages with so many other files, a file of so many pages, and one that reads
-/// those of them through it that were frozen.
+/// those of them through it that were frozen; and which of the two are listed.
 #[derive(Clone, Copy)]
 struct Scene {
     pages: u32,
     others: u32,
     own: u32,
     frozen: u32,
+    listed: Listed,
 }
 
 /// The two files, whose names were taken.
@@ -190,7 +242,7 @@ fn two_files(alloc: Global, scene: &Scene, own: &[u32]) -> Result<(World, Pair),
 /// What is seen once the first file was let go of, and the runs that a cell of page 13 names.
 fn handed(alloc: Global, scene: &Scene, own: &[u32]) -> Result<(PairSeen, [Row; 4]), Fail> {
     let (mut world, pair) = two_files(alloc, scene, own)?;
-    let mut list = listed_pair(alloc, &mut world, &pair, scene.frozen)?;
+    let mut list = listed_pair(alloc, &mut world, &pair, scene.frozen, scene.listed)?;
     let answer = release_all(alloc, &mut world, &mut list, Version::Four);
     if list.is_empty() != answer.is_ok() {
         return Err(Fail::from("an empty list where all was let go of"));
@@ -214,6 +266,24 @@ pub fn handed_frozen(alloc: Global, frozen: u32) -> Result<PairSeen, Fail> {
         others: 0,
         own: 6,
         frozen,
+        listed: Listed::First,
+    };
+    Ok(handed(alloc, &scene, &[1, 6])?.0)
+}
+
+/// The same of both files on the list, the clone's in front of the one through which it reads four
+/// pages, or behind it.
+pub fn both_gone(alloc: Global, is_behind: bool) -> Result<PairSeen, Fail> {
+    let scene = Scene {
+        pages: 64,
+        others: 0,
+        own: 6,
+        frozen: 4,
+        listed: if is_behind {
+            Listed::FirstThenSecond
+        } else {
+            Listed::SecondThenFirst
+        },
     };
     Ok(handed(alloc, &scene, &[1, 6])?.0)
 }
@@ -226,6 +296,7 @@ pub fn handed_full(alloc: Global, pages: u32) -> Result<(PairSeen, [Row; 4]), Fa
         others: 26,
         own: 6,
         frozen: 6,
+        listed: Listed::First,
     };
     handed(alloc, &scene, &[1, 3, 7, 9])
 }
@@ -237,6 +308,7 @@ pub fn handed_many(alloc: Global) -> Result<PairSeen, Fail> {
         others: 0,
         own: 100,
         frozen: 100,
+        listed: Listed::First,
     };
     Ok(handed(alloc, &scene, &[])?.0)
 }
@@ -253,9 +325,10 @@ pub fn stopped(alloc: Global) -> Result<Stopped, Fail> {
         others: 26,
         own: 6,
         frozen: 5,
+        listed: Listed::First,
     };
     let (mut world, pair) = two_files(alloc, &scene, &[1, 3, 7, 9])?;
-    let mut list = listed_pair(alloc, &mut world, &pair, scene.frozen)?;
+    let mut list = listed_pair(alloc, &mut world, &pair, scene.frozen, scene.listed)?;
     let steps = release(alloc, &mut world, &mut list, Version::Four)?;
     let left = list.last()
         == Some(Entry {

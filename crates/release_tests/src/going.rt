@@ -5,13 +5,15 @@ ghost use Rattle.bmt_mcells.specs.Chain.{PlacedCell};
 ghost use Rattle.bitfile_cells.specs.Files.{IsFile};
 ghost use Rattle.deferred_delete.specs.Standing.{source_of};
 ghost use Rattle.file_tests.specs.Worlds.{IsWorld};
-ghost use Rattle.release_tests.specs.Going.{HasGoing, HasWell};
+ghost use Rattle.release_tests.specs.Going.{HasGoing, HasWell, HasWellBy};
 
 use bmt_mcells::find_record;
 use deferred_delete::Deferred;
 use domain_base::{CellAt, Version};
 use file_tests::world::{World, volume};
-use page_store::StoreFault;
+use free_cells::FreeCells;
+use free_space::FreeSpace;
+use page_store::{MetaPages, StoreFault};
 use record_table::Record;
 use std::alloc::Global;
 use std::test::Fail;
@@ -70,6 +72,22 @@ pub fn listed_page(alloc: Global, world: &mut World) -> Result<Deferred, Fail>
 }
 
 /// Lets go of things of a list with group 5, in one call: how many steps were done.
+pub fn release_by<M: MetaPages>(
+    alloc: Global,
+    pages: &mut M,
+    space: &mut FreeSpace,
+    cells: &mut FreeCells,
+    list: &mut Deferred,
+    version: Version,
+) -> Result<u32, StoreFault>
+    requires { HasWellBy (M.pages pages.old) space.old cells.old list.old }
+    ensures most { IfOk result (λ count. count ≤ 16) }
+    ensures well { HasWellBy (M.pages pages.new) space.new cells.new list.new }
+{
+    list.release_some(alloc, pages, space, cells, 5, version)
+}
+
+/// The same of a world.
 pub fn release(
     alloc: Global,
     world: &mut World,
@@ -80,12 +98,12 @@ pub fn release(
     ensures most { IfOk result (λ count. count ≤ 16) }
     ensures well { HasWell world.new list.new }
 {
-    list.release_some(
+    release_by(
         alloc,
         &mut world.pages,
         &mut world.space,
         &mut world.cells,
-        5,
+        list,
         version,
     )
 }

@@ -3,7 +3,9 @@
 
 pub mod again;
 pub mod clones;
+pub mod cost;
 pub mod going;
+pub mod looks;
 pub mod making;
 pub mod seen;
 #[cfg(test)]

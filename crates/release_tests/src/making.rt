@@ -116,7 +116,7 @@ pub fn first_pages(alloc: Global, count: u32) -> Result<Vec<u32>, Fail> {
 
 /// Every second page, so many.
 pub fn second_pages(alloc: Global, count: u32) -> Result<Vec<u32>, Fail>
-    requires { count ≤ 100 }
+    requires { count ≤ 1000 }
 {
     let mut pages = Vec::new(alloc);
     for page in 0..count {

@@ -1,7 +1,11 @@
 //! Files and pages that are let go of, step by step.
+ghost use Rattle.std.specs.Prelude.{◌≤◌};
 
 use crate::again::rewritten;
-use crate::clones::{all_gone, all_kept, handed_frozen, handed_full, handed_many, stopped};
+use crate::clones::{
+    all_gone, all_kept, both_gone, handed_frozen, handed_full, handed_many, stopped,
+};
+use crate::cost::{Cost, removed as removed_in};
 use crate::seen::{TrimSeen, many_extents, many_removed, removed, tag_page, trim};
 use domain_base::{Kind, Version};
 use std::alloc::Global;
@@ -27,6 +31,23 @@ fn trims_in(steps: [u32; 5]) -> [TrimSeen; 5] {
         trim(steps[3], 34, 53),
         trim(steps[4], 138, 1),
     ]
+}
+
+/// What it takes to let go of a removed file with so many cells behind its first one. The record of
+/// a cell's pages is looked for in up to five looks, one for each kind that it may be of: the fifth
+/// is that of a first cell, the fourth that of one behind it. Three times that are wanted to find a
+/// cell, and to plan and to write what goes of it; 24 looks for a cell behind the first one, with
+/// those of the first on the way there, 19 for the first cell's pages and 8 for that cell. Each step
+/// looks once more, whether the entry is a file or quota cells. Each cell that is written or freed
+/// is changed twice: its bytes, and the count of its page.
+fn removing(behind: u32) -> Cost
+    requires { behind ≤ 1000 }
+{
+    Cost {
+        steps: 2 + behind,
+        looks: 29 + 25 * behind,
+        changes: 4 + 4 * behind,
+    }
 }
 
 #[test]
@@ -56,6 +77,19 @@ fn steps_are_as_many_as_cells_and_pages_handed_over(rt: HostRuntime) -> Result<(
     let many = handed_many(alloc)?;
     let own = [[0, 3, 100], [0; 3], [0; 3], [0; 3]];
     assert_eq!(rt; many, all_gone(102, own, [25, 0]));
+    Ok(())
+}
+
+#[test]
+fn letting_go_costs_as_much_as_there_are_cells(rt: HostRuntime) -> Result<(), Fail> {
+    let alloc = rt.alloc();
+    // 4 extents stand in the first cell, and 22 in each one behind it
+    let seen = [
+        removed_in(alloc, 10)?,
+        removed_in(alloc, 100)?,
+        removed_in(alloc, 400)?,
+    ];
+    assert_eq!(rt; seen, [removing(1), removing(5), removing(18)]);
     Ok(())
 }
 
@@ -104,6 +138,16 @@ fn what_a_clone_reads_is_handed_over(rt: HostRuntime) -> Result<(), Fail> {
             all_gone(7, with_all, [53, 3])
         ]
     );
+    Ok(())
+}
+
+#[test]
+fn nothing_is_handed_to_a_file_that_goes(rt: HostRuntime) -> Result<(), Fail> {
+    let alloc = rt.alloc();
+    let seen = [both_gone(alloc, false)?, both_gone(alloc, true)?];
+    // the pages of the clone's file and its cell, and then those of the other; all 8 pages wait
+    let gone = all_gone(4, [[0; 3]; 4], [53, 8]);
+    assert_eq!(rt; seen, [gone, gone]);
     Ok(())
 }
 

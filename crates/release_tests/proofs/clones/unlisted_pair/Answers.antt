@@ -2,7 +2,7 @@ use Rattle.std.proofs.Common.{IfSome, subst}
 use Rattle.memory_store.specs.Homes.{pages_of}
 use Rattle.release_tests.specs.Pairs.{IsCloneOf}
 use Rattle.release_tests.proofs.Pairs.{pair_room, pair_well}
-use Rattle.release_tests.proofs.clones.listed_pair.Goals as goal
+use Rattle.release_tests.proofs.clones.unlisted_pair.Goals as goal
 
 pub set_record-requires-clause-room : goal.set_record-requires-clause-room
 set_record-requires-clause-room c =
@@ -20,4 +20,4 @@ returns c =
     let may = c.may_go.ensures r.0 two.file.file c.if-not-may_go.false in
     pair_well world.space world.cells (pages_of world.pages.entries.items) (pages_of c.set_record.new.pages.entries.items) c.args.pair.now.at c.args.pair.now.clone r.0 r.1 two c.args.frozen c.in_ok-record.record
     (subst (λ o. IfSome o (IsCloneOf c.args.pair.now.at c.args.frozen)) c.in_ok-record.ensures.ok_part c.clone_record.ensures)
-    sets.ok sets.others sets.well_formed sets.headers may c.new-list.result c.add.new.self c.new-list.ensures.entries c.new-list.ensures.tag_pages c.in_ok-add.ensures.ok c.in_ok-add.ensures.tag_pages
+    sets.ok sets.others sets.well_formed sets.headers may c.new.result c.new.ensures.entries c.new.ensures.tag_pages

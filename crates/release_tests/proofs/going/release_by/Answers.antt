@@ -1,0 +1,10 @@
+use Rattle.release_tests.proofs.Wells.{still_well}
+use Rattle.release_tests.proofs.going.release_by.Goals as goal
+
+pub returns-clause-well : goal.returns-clause-well
+returns-clause-well g c =
+    let pages = g.M.MetaPages.pages c.args.pages.now in
+    let new = c.release_some.new in
+    let e = c.release_some.ensures in
+    still_well 5 c.args.version c.requires.0 c.args.list.now new.self c.args.space.now new.space c.args.cells.now new.cells pages (g.M.MetaPages.pages new.pages) c.release_some.result c.requires.1
+    (e.ok c.requires.0 c.requires.1) e.err e.list e.cells e.pages

@@ -1,0 +1,89 @@
+//! What letting go costs, counted in looks at pages of metadata and in changes of them.
+ghost use Rattle.std.specs.Prelude.{◌≤◌, IfOk};
+ghost use Rattle.file_tests.specs.Worlds.{IsWorld};
+ghost use Rattle.release_tests.specs.Going.{HasWell, HasWellBy};
+
+use crate::going::{listed, release_by};
+use crate::looks::Counted;
+use crate::making::{give_pages, make, remove, second_pages};
+use deferred_delete::Deferred;
+use domain_base::{Kind, Tag, Version};
+use file_tests::world::{World, new_world};
+use free_cells::FreeCells;
+use free_space::FreeSpace;
+use page_store::{MetaPages, StoreFault};
+use std::alloc::Global;
+use std::test::Fail;
+
+/// Lets go of all on a list in ten calls: how many steps were done.
+fn release_counted(
+    alloc: Global,
+    pages: &mut Counted,
+    space: &mut FreeSpace,
+    cells: &mut FreeCells,
+    list: &mut Deferred,
+) -> Result<u32, StoreFault>
+    requires { HasWellBy (⟦<Counted as MetaPages>⟧.pages pages.old) space.old cells.old list.old }
+{
+    let mut steps = 0;
+    for _ in 0..10_u32 {
+        match release_by(alloc, pages, space, cells, list, Version::Four) {
+            Ok(count) => steps += count,
+            Err(fault) => return Err(fault),
+        }
+    }
+    Ok(steps)
+}
+
+/// What letting go takes: the steps, the looks and the changes.
+#[derive(Clone, Copy, Debug, PartialEq, Eq)]
+pub struct Cost {
+    pub steps: u32,
+    pub looks: u32,
+    pub changes: u32,
+}
+
+/// What letting go of a listed file takes.
+fn cost_of(alloc: Global, world: World, mut list: Deferred) -> Result<Cost, Fail>
+    requires { HasWell world list }
+{
+    let World {
+        pages,
+        mut space,
+        mut cells,
+        ..
+    } = world;
+    let mut counted = Counted::new(pages);
+    let steps = release_counted(alloc, &mut counted, &mut space, &mut cells, &mut list)?;
+    if !list.is_empty() {
+        return Err(Fail::from("an empty list"));
+    }
+    let told = counted.told();
+    Ok(Cost {
+        steps,
+        looks: told[0],
+        changes: told[1],
+    })
+}
+
+/// A volume with a file of so many extents, each second page.
+fn many(alloc: Global, extents: u32) -> Result<(World, Tag), Fail>
+    requires { extents ≤ 1000 }
+    ensures { IfOk result (λ made. IsWorld made.0) }
+{
+    let mut world = new_world(alloc, 4_096)?;
+    let pages = second_pages(alloc, extents)?;
+    let tag = make(alloc, &mut world, Kind::File, Version::Four)?;
+    give_pages(alloc, &mut world, tag, pages.as_slice(), Version::Four)?;
+    Ok((world, tag))
+}
+
+/// What it takes to let go of a file of so many extents, each second page, that is removed.
+pub fn removed(alloc: Global, extents: u32) -> Result<Cost, Fail>
+    requires { extents ≤ 1000 }
+{
+    let (mut world, tag) = many(alloc, extents)?;
+    let at = remove(alloc, &mut world, tag)?;
+    let list = listed(alloc, &world, &at)?;
+    cost_of(alloc, world, list)
+}
