@@ -1,0 +1,6 @@
+//! Tests of the pages of an index on a volume, and proved callers of the calls on them.
+#![tactic(auto)]
+
+#[cfg(test)]
+mod changes;
+pub mod world;

@@ -1,0 +1,5 @@
+pub mod Linked
+pub mod Homes
+pub mod Walked
+pub mod Changed
+pub mod Held

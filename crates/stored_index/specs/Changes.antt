@@ -1,0 +1,54 @@
+-- Changes of the pages of an index.
+use Rattle.std.specs.Prelude.{◌≡◌, ℕ, zero, suc, false, List, ◌∷◌, Option, Some, None, Contains, insert, slice_get, unwrap_or}
+use Rattle.domain_base.specs.declared.place.Home.{Home}
+use Rattle.page_store.specs.Bitfiles.{shown_index, with_entry}
+use Rattle.page_store.specs.Pages.{Pages, same_home}
+use Rattle.page_store.specs.declared.fault.StoreFault.{StoreFault}
+use Rattle.page_store.specs.declared.fault.StoreFault.TheVariants.{NoPage, OutOfMemory}
+use Rattle.free_space.specs.Spaces.{CanTake, IsHeld, Spaces, missed}
+use Rattle.stored_index.specs.Homes.{AreIndexHomes, shown_at}
+
+-- the pages at homes are used, and do not wait
+abbrev pub AreHeld : Spaces → List Home → Type 0
+AreHeld space homes = (home : Home) → Contains homes home → IsHeld space home.vol home.page
+
+-- an index in which the page of a number is another one, and names the next as before
+pub record PutsIndexPage (first : Option Home) (number : ℕ) (page : List ℕ) (old new : Pages)
+    (homes : List Home) : Type 0 where
+  pub are : AreIndexHomes new first homes
+  pub shown : shown_at new homes ≡ with_entry number (shown_index page) (shown_at old homes)
+  pub others : (home : Home) → ¬ slice_get homes number ≡ Some home → new home ≡ old home
+
+-- an index with a page more, which stands at a home that was none of it
+pub record InsertsIndexPage (first : Home) (onto : Home) (number : ℕ) (page : List ℕ)
+    (old new : Pages) (homes : List Home) : Type 0 where
+  pub are : AreIndexHomes new (Some first) (insert homes number onto)
+  pub shown : shown_at new (insert homes number onto)
+      ≡ insert (shown_at old homes) number (shown_index page)
+  pub others : (home : Home) → ¬ Contains homes home → same_home home onto ≡ false
+      → new home ≡ old home
+
+-- an index without its first page
+pub record DropsIndexPage (first : Home) (next : Option Home) (old new : Pages) (homes : List Home)
+    : Type 0 where
+  pub more : List Home
+  pub was : homes ≡ first ∷ more
+  pub are : AreIndexHomes new next more
+  pub shown : shown_at new more ≡ shown_at old more
+  pub others : (home : Home) → same_home home first ≡ false → new home ≡ old home
+
+-- no page is put, for want of a free page, which is a miss; or memory was short
+abbrev pub FindsNoPage : Spaces → Spaces → StoreFault → Type 0
+FindsNoPage space space_now NoPage =
+    ((vol p : ℕ) → ¬ CanTake space vol p) × (space_now ≡ missed space)
+FindsNoPage space space_now OutOfMemory = space_now ≡ space
+
+-- the home of the page in front of a place, none at the beginning
+abbrev pub home_in_front : ℕ → List Home → Option Home
+home_in_front zero homes = None
+home_in_front (suc k) homes = slice_get homes k
+
+-- where an index begins whose page of a number is a new one
+abbrev pub first_with : Home → ℕ → Option Home → Home
+first_with onto zero first = onto
+first_with onto (suc k) first = unwrap_or first onto
