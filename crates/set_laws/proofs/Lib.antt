@@ -1,0 +1,4 @@
+pub mod Kept
+pub mod Together
+pub mod Written
+pub mod Owned

@@ -1,0 +1,39 @@
+-- What a set of files shows, and where the indexes of its directories stand.
+use Rattle.std.specs.Prelude.{◌≡◌, ℕ, List, Contains}
+use Rattle.std.specs.Option.{option_and_then}
+use Rattle.domain_base.specs.declared.place.Home.{Home}
+use Rattle.domain_base.specs.declared.place.Tag.{Tag}
+use Rattle.page_store.specs.Bitfiles.{Bitfile, Bitfiles}
+use Rattle.page_store.specs.Pages.{Pages}
+use Rattle.tag_dirs.specs.declared.dir.TagPlace.{TagPlace}
+use Rattle.extent_maps.specs.declared.run.PagePlace.TheVariants.{At}
+use Rattle.free_cells.specs.Cells.{Cells}
+use Rattle.free_space.specs.Spaces.{Spaces}
+use Rattle.bitfile_core.specs.declared.attributes.Attributes.{Attributes}
+use Rattle.bitfile_core.specs.Files.{Chains, place_at}
+use Rattle.bitfile_core.specs.Shown.{Shows, index_of}
+use Rattle.bitfile_core.specs.Together.{AreTogether, IsFilePage}
+use Rattle.stored_index.specs.Homes.{AreIndexHomes}
+
+-- the homes of the pages of each tag's index
+abbrev pub Indexes : Type 0
+Indexes = Tag → List Home
+
+-- files that belong together, what a set shows of them, and their indexes, each of which stands on
+-- pages of its own
+pub record StandsShown (fileset : ℕ) (places : List TagPlace) (space : Spaces) (cells : Cells)
+    (pages : Pages) (chains : Chains) (indexes : Indexes) (files : Bitfiles) : Type 0 where
+  pub together : AreTogether fileset places space cells pages chains
+  pub shows : Shows pages chains files
+  pub indexed : (tag : Tag)
+      → AreIndexHomes pages (option_and_then index_of (chains tag)) (indexes tag)
+  pub stand : (tag : Tag) (home : Home) → Contains (indexes tag) home
+      → IsFilePage space cells places home
+  pub apart : (s t : Tag) (page : ℕ) (home : Home) → Contains (indexes s) home
+      → ¬ place_at chains t page ≡ At home
+  pub once : (s t : Tag) (home : Home) → Contains (indexes s) home → Contains (indexes t) home
+      → s ≡ t
+
+-- a file with the owner and the links that these attributes say
+abbrev pub owned : Attributes → Bitfile → Bitfile
+owned value file = record file { uid = value.uid; gid = value.gid; links = value.links }
