@@ -1,7 +1,7 @@
 //! Moves from pages of volume 1 to pages of volume 2.
 
-use crate::calls::{Place, abandon, copy, finish, home, start, switch, writes};
 use domain_base::Home;
+use move_calls::{Place, abandon, copy, finish, home, start, switch, writes};
 use page_migrate::{Moves, Phase};
 use std::test::Fail;
 

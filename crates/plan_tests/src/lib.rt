@@ -3,7 +3,6 @@
 
 #[cfg(test)]
 mod balances;
-pub mod changes;
 #[cfg(test)]
 mod homes;
 #[cfg(test)]

@@ -1,9 +1,9 @@
 //! The anchors by which members change.
 
-use crate::changes::in_state;
 use disk_label::{Anchor, Member};
 use domain_base::{Home, VolIx};
 use log_ring::is_member;
+use member_changes::in_state;
 use std::test::Fail;
 use volume_table::VolumeTable;
 

@@ -1,8 +1,6 @@
 ghost use Rattle.std.specs.Prelude.{◌≡◌};
-ghost use Rattle.turn_tests.specs.Working.{IsBack, IsReady};
+ghost use Rattle.turn_ledger.specs.Working.{IsBack, IsReady};
 
-use crate::ledger::{Ledger, Named};
-use crate::working::{add_one, add_some, begin, begin_all, begin_job, wait_until};
 use domain_turn::Pass;
 use fileset_model::{Actor, Command, Entry, Reply};
 use std::alloc::Global;
@@ -11,6 +9,7 @@ use std::process::Abort;
 use std::sync::Wait;
 use std::test::*;
 use std::thread::{self, Threads};
+use turn_ledger::{Ledger, Named, add_one, add_some, begin, begin_all, begin_job, wait_until};
 
 /// Whether the stamps go up one by one from a number on.
 fn count_up(entries: &[Entry], start: u64) -> bool {
