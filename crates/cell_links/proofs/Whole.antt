@@ -14,7 +14,7 @@ cons_same : (x y : CellAt) (xs ys : List CellAt) → x ∷ xs ≡ y ∷ ys → (
 cons_same x y xs ys e = (cc, cc)
 
 -- lists that end with one more are alike in both parts
-end_same : (xs ys : List CellAt) (x y : CellAt) → xs ++ x ∷ [] ≡ ys ++ y ∷ [] → (xs ≡ ys) × (x ≡ y)
+pub end_same : (xs ys : List CellAt) (x y : CellAt) → xs ++ x ∷ [] ≡ ys ++ y ∷ [] → (xs ≡ ys) × (x ≡ y)
 end_same [] [] x y e = (refl, (cons_same x y [] [] e).0)
 end_same [] (b ∷ bs) x y e = absurd (omega (arith, ap length e, length-append bs (y ∷ [])))
 end_same (a ∷ as') [] x y e = absurd (omega (arith, ap length e, length-append as' (x ∷ [])))

@@ -4,7 +4,7 @@ ghost use Rattle.bmt_mcells.specs.Chain.{key_of as key_there};
 ghost use Rattle.numbered_values.specs.Rising.{IsRising};
 ghost use Rattle.cell_links.specs.Order.{AreNumbered};
 
-use bmt_mcells::CellKind;
+use bmt_mcells::{CellKind, key_of};
 use domain_base::{CellAt, OutOfMemory};
 use numbered_values::{find, put};
 use std::alloc::Global;
@@ -15,16 +15,6 @@ use std::alloc::Global;
 pub struct CellLink {
     pub kind: CellKind,
     pub next: Option<CellAt>,
-}
-
-/// A number for each cell, greater for a later one.
-pub(crate) fn key_of(at: &CellAt) -> u64
-    ensures value { result ≡ key_there at.now }
-    ensures widths { (at.now.page < 2 ^ 32) × (at.now.cell < 256) }
-{
-    let page = at.page;
-    let cell = at.cell;
-    ((u64::from(at.vol.number()) << 32) + u64::from(page)) * 256 + u64::from(cell)
 }
 
 /// Cells in use, each with what is read of it, in the order of cells.

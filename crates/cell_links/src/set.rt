@@ -3,7 +3,7 @@ ghost use Rattle.std.specs.Prelude.{◌≡◌};
 ghost use Rattle.numbered_values.specs.Rising.{IsRising};
 ghost use Rattle.cell_links.specs.Order.{AreNumberedCells};
 
-use crate::links::key_of;
+use bmt_mcells::key_of;
 use domain_base::{CellAt, OutOfMemory};
 use numbered_values::{find, put};
 use std::alloc::Global;

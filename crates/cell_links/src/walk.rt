@@ -9,20 +9,9 @@ ghost use Rattle.cell_links.specs.declared.links.CellLink.{CellLink};
 
 use crate::links::{CellLink, CellLinks};
 use crate::set::CellSet;
-use bmt_mcells::CellKind;
+use bmt_mcells::may_follow;
 use domain_base::{CellAt, OutOfMemory};
 use std::alloc::Global;
-
-/// Whether a cell of the second kind may be next to one of the first.
-fn may_follow(first: CellKind, next: CellKind) -> bool
-    ensures { result ≡ follows first next }
-{
-    match first {
-        CellKind::Primary | CellKind::Chain => matches!(next, CellKind::Chain),
-        CellKind::Quota => matches!(next, CellKind::Quota),
-        CellKind::Volume => false,
-    }
-}
 
 /// A cell that was come to, and what is read of it.
 #[derive(Clone, Copy)]

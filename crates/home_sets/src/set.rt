@@ -56,6 +56,17 @@ impl HomeSet {
         Ok(())
     }
 
+    /// Puts the homes of another set into the set. After an error some of them are in it.
+    pub fn insert_set(&mut self, other: &HomeSet) -> Result<(), OutOfMemory>
+        ensures { OnOk result ((home : Home) → IsIn self.new home
+            ↔ (IsIn self.old home ⊎ IsIn other.now home)) }
+    {
+        for (_, home) in other.as_slice() {
+            self.insert(home)?;
+        }
+        Ok(())
+    }
+
     /// Its homes in their order, each with its number.
     pub fn as_slice(&self) -> &[(u64, Home)]
         ensures value { result.now ≡ entries self.now }
