@@ -1,5 +1,6 @@
-pub mod Each
+pub mod CellsAll
 pub mod HolesFound
-pub mod Items
 pub mod OnPages
 pub mod Walks
+pub mod WrongLeads
+pub mod WrongTwice

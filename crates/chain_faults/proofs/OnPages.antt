@@ -16,6 +16,7 @@ use Rattle.cell_faults.proofs.WrongCell.{cell_said, on}
 use Rattle.cell_links.specs.Links.{HasLink}
 use Rattle.cell_links.specs.declared.links.CellLink.{CellLink}
 use Rattle.cell_links.specs.declared.links.CellLinks.{CellLinks}
+use Rattle.chain_leads.proofs.Cells.{same_cell}
 use Rattle.chain_faults.specs.Links.{AgreeOnPage, AreLinks, AreLinksOn, IsLinkOn, SaysLink, link_in}
 
 some_same : {X : Type 0} (a b : X) → Some a ≡ Some b → a ≡ b
@@ -46,24 +47,6 @@ one_said bytes a b one other =
     let kinds = one_kind a.kind b.kind (sym one.kind ∙ other.kind) in
     let nexts = one.next ∙ sym other.next in
     λ i. record { kind = kinds i; next = nexts i }
-
-same_number : (m n : ℕ) → (m ≡ n) ⊎ (¬ m ≡ n)
-same_number m n = elim (cases_lt m n) [
-  | inl less ↦ inr (λ e. omega (arith, less, e))
-  | inr least ↦ elim (cases_lt n m) [ inl more ↦ inr (λ e. omega (arith, more, e)) | inr most ↦ inl (omega (arith, least, most)) ]
-]
-
-same_cell : (a b : CellAt) → (a ≡ b) ⊎ (¬ a ≡ b)
-same_cell a b = elim (same_number a.vol b.vol) [
-  | inr other ↦ inr (λ e. other (ap (λ (c : CellAt). c.vol) e))
-  | inl vols ↦ elim (same_number a.page b.page) [
-    | inr other ↦ inr (λ e. other (ap (λ (c : CellAt). c.page) e))
-    | inl at ↦ elim (same_number a.cell b.cell) [
-      | inr other ↦ inr (λ e. other (ap (λ (c : CellAt). c.cell) e))
-      | inl cells ↦ inl (λ i. record { vol = vols i; page = at i; cell = cells i })
-    ]
-  ]
-]
 
 is_on : (at : CellAt) (home : Home) → home_of at ≡ home → at ≡ on home at.cell
 is_on at home same = λ i. record { vol = (same i).vol; page = (same i).page; cell = at.cell }

@@ -1,4 +1,3 @@
-pub mod Heads
 pub mod Holes
 pub mod Links
 pub mod Pages

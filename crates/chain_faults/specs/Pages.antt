@@ -1,13 +1,42 @@
 -- Pages at which a rule of chains is broken.
-use Rattle.std.specs.Prelude.{◌≡◌}
+use Rattle.std.specs.Prelude.{◌≡◌, ◌⊎◌}
 use Rattle.domain_base.specs.declared.place.CellAt.{CellAt}
 use Rattle.domain_base.specs.declared.place.Home.{Home}
 use Rattle.page_store.specs.Pages.{Pages}
 use Rattle.bmt_mcells.specs.CellPage.{home_of}
-use Rattle.domain_layout.specs.CellRules.{IsUnchained}
+use Rattle.bmt_mcells.specs.declared.head.CellKind.TheVariants.{Chain, Quota}
+use Rattle.domain_layout.specs.CellRules.{AreLimitsTwice, IsPageTwice, IsUnchained, LeadsWrong}
 use Rattle.domain_layout.specs.Reached.{Frame}
+use Rattle.fileset_table.specs.Table.{Table}
+use Rattle.cell_links.specs.Members.{IsIn}
+use Rattle.cell_links.specs.declared.links.CellLink.{CellLink}
+use Rattle.cell_links.specs.declared.set.CellSet.{CellSet}
+use Rattle.chain_faults.specs.Holes.{HasWrongHoles}
+
+-- a chain cell or a quota cell that is not among the cells of chains
+abbrev pub IsLoose : CellSet → CellAt → CellLink → Type 0
+IsLoose marked at link = ((link.kind ≡ Chain) ⊎ (link.kind ≡ Quota)) × ¬ IsIn marked at
 
 -- no chain comes to some chain cell or quota cell of the page
 abbrev pub HasUnchained : Pages → Frame → Home → Type 0
 HasUnchained pages frame home =
     (at : CellAt) × (home_of at ≡ home) × IsUnchained pages frame at
+
+-- some cell of a chain on the page leads wrong
+abbrev pub HasWrongLead : Pages → Frame → Home → Type 0
+HasWrongLead pages frame home = (at : CellAt) × (home_of at ≡ home) × LeadsWrong pages frame at
+
+-- some cell on the page says a page, or an owner's limits, that an earlier one of its chain says
+abbrev pub HasPageTwice : Pages → Frame → Home → Type 0
+HasPageTwice pages frame home = (at : CellAt) × (home_of at ≡ home) × IsPageTwice pages frame at
+
+abbrev pub HasLimitsTwice : Pages → Frame → Home → Type 0
+HasLimitsTwice pages frame home =
+    (at : CellAt) × (home_of at ≡ home) × AreLimitsTwice pages frame at
+
+-- ** All rules of chains
+
+abbrev pub IsChainFault : Pages → Frame → Table → Home → Type 0
+IsChainFault pages frame table home = HasWrongLead pages frame home ⊎ HasUnchained pages frame home
+    ⊎ HasPageTwice pages frame home ⊎ HasLimitsTwice pages frame home
+    ⊎ HasWrongHoles pages frame table home

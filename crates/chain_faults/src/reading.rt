@@ -9,7 +9,7 @@ ghost use Rattle.cell_faults.specs.Tables.{AreTables};
 ghost use Rattle.cell_links.specs.declared.links.CellLink.{CellLink};
 ghost use Rattle.chain_faults.specs.Links.{AgreeOnPage, AreLinks, AreLinksOn, SaysLink};
 
-use bmt_mcells::CellKind;
+use bmt_mcells::kind_of;
 use cell_faults::{CellTables, bytes_of};
 use cell_links::{CellLink, CellLinks};
 use domain_base::{CellAt, Home, OutOfMemory, Page, VolIx};
@@ -17,20 +17,6 @@ use page_store::MetaPages;
 use page_ways::DomainFrame;
 use record_table::{u8_at, u16_at, u32_at};
 use std::alloc::Global;
-
-/// The kind of a cell in use that a number stands for.
-fn kind_of(number: u8) -> Option<CellKind>
-    ensures some { IfSome result (λ kind. number ≡ kind_number kind) }
-    ensures none { IfNone result ((kind : CellKind) → ¬ number ≡ kind_number kind) }
-{
-    match number {
-        1 => Some(CellKind::Primary),
-        2 => Some(CellKind::Chain),
-        3 => Some(CellKind::Quota),
-        4 => Some(CellKind::Volume),
-        _ => None,
-    }
-}
 
 /// The cell that a cell leads to, and none where its address is not well formed.
 fn next_of(bytes: &[u8]) -> Option<CellAt>

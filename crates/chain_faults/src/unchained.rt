@@ -1,5 +1,5 @@
 //! Chain cells and quota cells to which no chain comes.
-ghost use Rattle.std.specs.Prelude.{◌≡◌, ◌⊎◌, ◌↔◌, IfOk, IsTrue, OnOk};
+ghost use Rattle.std.specs.Prelude.{◌≡◌, ◌⊎◌, ◌↔◌, IfOk, OnOk};
 ghost use Rattle.domain_base.specs.declared.place.CellAt.{CellAt};
 ghost use Rattle.domain_base.specs.declared.place.Home.{Home};
 ghost use Rattle.page_store.specs.Pages.{Pages};
@@ -7,51 +7,16 @@ ghost use Rattle.bmt_mcells.specs.CellPage.{home_of};
 ghost use Rattle.domain_layout.specs.Reached.{Frame};
 ghost use Rattle.home_sets.specs.Members.{IsIn as IsHomeIn};
 ghost use Rattle.cell_links.specs.Members.{IsIn};
-ghost use Rattle.chain_faults.specs.Heads.{IsChained, IsHead, IsLedTo, IsLoose, IsOfChain, LeadsTo};
+ghost use Rattle.chain_leads.specs.Heads.{IsChained, IsOfChain};
 ghost use Rattle.chain_faults.specs.Links.{AreLinks};
-ghost use Rattle.chain_faults.specs.Pages.{HasUnchained};
+ghost use Rattle.chain_faults.specs.Pages.{HasUnchained, IsLoose};
 
 use bmt_mcells::CellKind;
 use cell_links::{CellLink, CellLinks, CellSet, mark_chain};
+use chain_leads::{is_head, led_cells};
 use domain_base::{CellAt, Home, OutOfMemory};
 use home_sets::HomeSet;
 use std::alloc::Global;
-
-/// Puts the cell to which a cell leads into a set, if that is one of quotas. After an error the set
-/// is as before.
-fn insert_led(link: &CellLink, led: &mut CellSet) -> Result<(), OutOfMemory>
-    ensures { OnOk result ((onto : CellAt) → IsIn led.new onto
-        ↔ (IsIn led.old onto ⊎ LeadsTo link.now onto)) }
-{
-    if matches!(link.kind, CellKind::Quota) {
-        if let Some(onto) = link.next {
-            led.insert(&onto)?;
-        }
-    }
-    Ok(())
-}
-
-/// The cells to which cells of quotas lead.
-fn led_cells(alloc: Global, links: &CellLinks) -> Result<CellSet, OutOfMemory>
-    ensures { IfOk result (λ led. (onto : CellAt) → IsIn led onto ↔ IsLedTo links.now onto) }
-{
-    let mut led = CellSet::new(alloc);
-    for (_, (_, link)) in links.as_slice() {
-        insert_led(link, &mut led)?;
-    }
-    Ok(led)
-}
-
-/// Whether a cell is the first one of a chain.
-fn is_head(led: &CellSet, at: &CellAt, link: &CellLink) -> bool
-    ensures { IsTrue result ↔ IsHead led.now at.now link.now }
-{
-    match link.kind {
-        CellKind::Primary => true,
-        CellKind::Quota => !led.has(at),
-        CellKind::Chain | CellKind::Volume => false,
-    }
-}
 
 /// Puts the cells of the chain from a cell on into a set, if it is the first one of a chain. After
 /// an error some of them are in it.

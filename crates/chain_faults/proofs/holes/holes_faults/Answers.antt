@@ -1,7 +1,7 @@
 use Rattle.domain_base.specs.declared.place.Home.{Home}
 use Rattle.home_sets.specs.Members.{IsIn}
 use Rattle.chain_faults.specs.Holes.{HasHolesOf}
-use Rattle.chain_faults.proofs.Each.{all_found, found_more}
+use Rattle.chain_leads.proofs.Each.{all_found, found_more}
 use Rattle.chain_faults.proofs.HolesFound.{holes_all}
 use Rattle.chain_faults.proofs.holes.holes_faults.Goals as goal
 

@@ -3,7 +3,7 @@ use Rattle.std.specs.Option.{option_copied}
 use Rattle.page_ways.specs.Frame.{frame_in}
 use Rattle.cell_faults.specs.declared.tables.CellsPage.{CellsPage}
 use Rattle.cell_faults.proofs.WrongCell.{moved}
-use Rattle.chain_faults.proofs.Items.{item_of}
+use Rattle.home_sets.proofs.Items.{item_of}
 use Rattle.chain_faults.proofs.OnPages.{agrees, all_links, page_more}
 use Rattle.chain_faults.proofs.reading.read_links.Goals as goal
 

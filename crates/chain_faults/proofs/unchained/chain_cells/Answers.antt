@@ -1,7 +1,7 @@
 use Rattle.domain_base.specs.declared.place.CellAt.{CellAt}
 use Rattle.cell_links.specs.Members.{IsIn}
-use Rattle.chain_faults.specs.Heads.{IsChained}
-use Rattle.chain_faults.proofs.Each.{all_found, found_more}
+use Rattle.chain_leads.specs.Heads.{IsChained}
+use Rattle.chain_leads.proofs.Each.{all_found, found_more}
 use Rattle.chain_faults.proofs.unchained.chain_cells.Goals as goal
 
 pub loop-at-preserved : goal.loop-at-preserved

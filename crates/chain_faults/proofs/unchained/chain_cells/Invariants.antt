@@ -1,8 +1,8 @@
 use Rattle.domain_base.specs.declared.place.CellAt.{CellAt}
 use Rattle.cell_links.specs.Links.{cells_of}
 use Rattle.cell_links.specs.Members.{IsIn}
-use Rattle.chain_faults.specs.Heads.{IsChained}
-use Rattle.chain_faults.proofs.Each.{AreFound}
+use Rattle.chain_leads.specs.Heads.{IsChained}
+use Rattle.chain_leads.proofs.Each.{AreFound}
 use Rattle.chain_faults.proofs.unchained.chain_cells.Given as goal
 
 abbrev pub invariant-loop-at : goal.invariant-loop-at

@@ -2,8 +2,8 @@ use Rattle.std.proofs.Common.{◌≡◌}
 use Rattle.domain_base.specs.declared.place.Home.{Home}
 use Rattle.bmt_mcells.specs.CellPage.{home_of}
 use Rattle.home_sets.specs.Members.{IsIn}
-use Rattle.chain_faults.specs.Heads.{IsLoose}
-use Rattle.chain_faults.proofs.Each.{all_found, found_more}
+use Rattle.chain_faults.specs.Pages.{IsLoose}
+use Rattle.chain_leads.proofs.Each.{all_found, found_more}
 use Rattle.chain_faults.proofs.Walks.{unchained_all}
 use Rattle.chain_faults.proofs.unchained.unchained_faults.Goals as goal
 

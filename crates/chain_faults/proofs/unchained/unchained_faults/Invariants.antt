@@ -3,8 +3,8 @@ use Rattle.domain_base.specs.declared.place.Home.{Home}
 use Rattle.bmt_mcells.specs.CellPage.{home_of}
 use Rattle.cell_links.specs.Links.{cells_of}
 use Rattle.home_sets.specs.Members.{IsIn}
-use Rattle.chain_faults.specs.Heads.{IsLoose}
-use Rattle.chain_faults.proofs.Each.{AreFound}
+use Rattle.chain_faults.specs.Pages.{IsLoose}
+use Rattle.chain_leads.proofs.Each.{AreFound}
 use Rattle.chain_faults.proofs.unchained.unchained_faults.Given as goal
 
 abbrev pub invariant-loop-at : goal.invariant-loop-at

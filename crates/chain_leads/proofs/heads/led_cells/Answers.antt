@@ -1,8 +1,8 @@
 use Rattle.domain_base.specs.declared.place.CellAt.{CellAt}
 use Rattle.cell_links.specs.Members.{IsIn}
-use Rattle.chain_faults.specs.Heads.{LeadsTo}
-use Rattle.chain_faults.proofs.Each.{all_found, found_more}
-use Rattle.chain_faults.proofs.unchained.led_cells.Goals as goal
+use Rattle.chain_leads.specs.Heads.{LeadsTo}
+use Rattle.chain_leads.proofs.Each.{all_found, found_more}
+use Rattle.chain_leads.proofs.heads.led_cells.Goals as goal
 
 pub loop-link-preserved : goal.loop-link-preserved
 loop-link-preserved c =

@@ -1,33 +1,20 @@
 -- What is found at cells that are looked at one by one.
-use Rattle.std.proofs.Common.{◌≡◌, ◌∙◌, ◌⊎◌, ◌↔◌, inl, inr, suc, ℕ, ◌+◌, ◌<◌, ◌≤◌, List, [], ◌∷◌, get_or, length, if◌then◌else◌, ◌==◌, eqb-true, Some, None, true, false, refl, sym, ap, subst, arith, ⊎_elim}
+use Rattle.std.proofs.Common.{◌≡◌, ◌∙◌, ◌⊎◌, ◌↔◌, inl, inr, ℕ, ◌+◌, ◌<◌, ◌≤◌, List, get_or, length, Some, sym, ap, subst, arith, ⊎_elim}
 use Rattle.std.proofs.lemmas.Bool.{cases_lt}
 use Rattle.domain_base.specs.declared.place.CellAt.{CellAt}
 use Rattle.bmt_mcells.specs.Chain.{key_of}
 use Rattle.numbered_values.specs.Rising.{IsRising, value_at}
 use Rattle.numbered_values.proofs.Search.{value-present}
+use Rattle.home_sets.proofs.Placed.{placed}
 use Rattle.cell_links.specs.Links.{HasLink, cells_of}
 use Rattle.cell_links.specs.Order.{AreNumbered}
 use Rattle.cell_links.specs.declared.links.CellLink.{CellLink}
 use Rattle.cell_links.specs.declared.links.CellLinks.{CellLinks}
-use Rattle.chain_faults.proofs.Items.{item_of}
+use Rattle.home_sets.proofs.Items.{item_of}
 
 -- a cell with what is read of it, under its number
 abbrev pub Entry : Type 0
 Entry = ℕ × (CellAt × CellLink)
-
-some_same : {X : Type 0} (a b : X) → Some a ≡ Some b → a ≡ b
-some_same a b e = cc
-
-some_none : {X : Type 0} (x : X) → None ≡ Some x → ⊥
-some_none x e = cc
-
--- the value of a number stands at some place
-placed : {V : Type 0} (entries : List (ℕ × V)) (key : ℕ) (value : V) → value_at entries key ≡ Some value → (k : ℕ) × (k < length entries) × (get_or entries k (key, value) ≡ (key, value))
-placed [] key value e = absurd (some_none value e)
-placed {V} (x ∷ entries) key value e = elim (x.0 == key) as (λ b. (x.0 == key) ≡ b → (if b then Some x.1 else value_at entries key) ≡ Some value → (k : ℕ) × (k < suc (length entries)) × (get_or (x ∷ entries) k (key, value) ≡ (key, value))) [
-  | true ↦ λ t here. (0, omega arith, λ i. (eqb-true x.0 key t i, some_same x.1 value here i))
-  | false ↦ λ t there. let more = placed entries key value there in (suc more.0, omega (arith, more.1), more.2)
-] refl e
 
 module _ (entries : List Entry) where
   -- an entry at a place below a number is such
@@ -59,6 +46,15 @@ module _ (entries : List Entry) where
           let alike : e ≡ entry = sym (subst (λ n. get_or entries n e ≡ e) here is) ∙ at e in
           inr (subst (λ (a : Entry). Has x a.1.0 a.1.1) alike has))
           (cases_lt k number)
+
+  pub none_below : (Is : CellAt → CellLink → Type 0) → ¬ SomeBelow Is 0
+  none_below Is (e, (k, below, is), has) = omega (arith, below)
+
+  -- below the next number there are those below one, and the entry there
+  pub below_more : (Is : CellAt → CellLink → Type 0) (number : ℕ) (entry : Entry) → ((d : Entry) → get_or entries number d ≡ entry)
+      → (SomeBelow Is number ⊎ Is entry.1.0 entry.1.1) ↔ SomeBelow Is (number + 1)
+  below_more Is number entry at =
+      one_more {X = Unit {0}} (λ _. Is) (λ _. SomeBelow Is number) (λ _. SomeBelow Is number ⊎ Is entry.1.0 entry.1.1) number entry (λ _. (λ is. is, λ is. is)) at (λ _. (λ is. is, λ is. is)) tt
 
 -- the cells are lent as a list, and looked at in its order
 module _ {X : Type 0} (links : CellLinks) (lent : List Entry) (same : lent ≡ cells_of links) (Has : X → CellAt → CellLink → Type 0) (found : X → Type 0) (number : ℕ)

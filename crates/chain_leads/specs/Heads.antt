@@ -1,7 +1,7 @@
 -- First cells of chains and the cells of these, by what each cell leads to.
 use Rattle.std.specs.Prelude.{◌≡◌, ◌⊎◌, Some}
 use Rattle.domain_base.specs.declared.place.CellAt.{CellAt}
-use Rattle.bmt_mcells.specs.declared.head.CellKind.TheVariants.{Chain, Primary, Quota}
+use Rattle.bmt_mcells.specs.declared.head.CellKind.TheVariants.{Primary, Quota}
 use Rattle.cell_links.specs.Chains.{IsOnChain}
 use Rattle.cell_links.specs.Links.{HasLink}
 use Rattle.cell_links.specs.Members.{IsIn}
@@ -32,6 +32,7 @@ abbrev pub IsOfChain : CellLinks → CellSet → CellAt → Type 0
 IsOfChain links led at = (start : CellAt) × (link : CellLink) × HasLink links start link
     × IsChained links led start link at
 
--- a chain cell or a quota cell that is not among the cells of chains
-abbrev pub IsLoose : CellSet → CellAt → CellLink → Type 0
-IsLoose marked at link = ((link.kind ≡ Chain) ⊎ (link.kind ≡ Quota)) × ¬ IsIn marked at
+-- it is the first cell of a chain to which a cell belongs
+abbrev pub IsStartOf : CellLinks → CellSet → CellAt → CellAt → Type 0
+IsStartOf links led at start =
+    (link : CellLink) × HasLink links start link × IsChained links led start link at

@@ -1,0 +1,4 @@
+pub mod Heads
+pub mod Late
+pub mod Leads
+pub mod Starts

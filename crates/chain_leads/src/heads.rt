@@ -1,0 +1,46 @@
+//! The first cells of chains.
+ghost use Rattle.std.specs.Prelude.{◌≡◌, ◌⊎◌, ◌↔◌, IfOk, IsTrue, OnOk};
+ghost use Rattle.domain_base.specs.declared.place.CellAt.{CellAt};
+ghost use Rattle.cell_links.specs.Members.{IsIn};
+ghost use Rattle.chain_leads.specs.Heads.{IsHead, IsLedTo, LeadsTo};
+
+use bmt_mcells::CellKind;
+use cell_links::{CellLink, CellLinks, CellSet};
+use domain_base::{CellAt, OutOfMemory};
+use std::alloc::Global;
+
+/// Puts the cell to which a cell leads into a set, if that is one of quotas. After an error the set
+/// is as before.
+fn insert_led(link: &CellLink, led: &mut CellSet) -> Result<(), OutOfMemory>
+    ensures { OnOk result ((onto : CellAt) → IsIn led.new onto
+        ↔ (IsIn led.old onto ⊎ LeadsTo link.now onto)) }
+{
+    if matches!(link.kind, CellKind::Quota) {
+        if let Some(onto) = link.next {
+            led.insert(&onto)?;
+        }
+    }
+    Ok(())
+}
+
+/// The cells to which cells of quotas lead.
+pub fn led_cells(alloc: Global, links: &CellLinks) -> Result<CellSet, OutOfMemory>
+    ensures { IfOk result (λ led. (onto : CellAt) → IsIn led onto ↔ IsLedTo links.now onto) }
+{
+    let mut led = CellSet::new(alloc);
+    for (_, (_, link)) in links.as_slice() {
+        insert_led(link, &mut led)?;
+    }
+    Ok(led)
+}
+
+/// Whether a cell is the first one of a chain.
+pub fn is_head(led: &CellSet, at: &CellAt, link: &CellLink) -> bool
+    ensures { IsTrue result ↔ IsHead led.now at.now link.now }
+{
+    match link.kind {
+        CellKind::Primary => true,
+        CellKind::Quota => !led.has(at),
+        CellKind::Chain | CellKind::Volume => false,
+    }
+}
