@@ -28,6 +28,12 @@ fn spelling(name: &str) -> &'static str {
         "extents" => "03000401 z256",
         "many" => "0d000c01 z264",
         "holes" => "05008400 z128",
+        "short01" => "04004400 00000000 02000000 01000000 c8000000 z48",
+        "pages123" => "03000401 01000000 03000000 01000000 2c010000 z240",
+        "pages234" => "03000401 02000000 03000000 01000000 2c010000 z240",
+        "dense123" => "0d000c01 01000300 01000000 2c010000 z252",
+        "hole1" => "05008400 01000000 01000000 z120",
+        "hole5" => "05008400 05000000 01000000 z120",
         "trim" => "06000c00 01000000 z4",
         "remove" => "06000c00 02000000 z4",
         "user" => "07001c00 0a000000 z4 0100000000000000 z8",
@@ -92,7 +98,7 @@ fn pages_with(alloc: Global, first: &str, other: &str) -> Result<MemoryPages, Fa
 }
 
 /// A fileset of a name of one letter.
-fn entry(alloc: Global, letter: u8) -> Result<FilesetEntry, OutOfMemory> {
+pub fn entry(alloc: Global, letter: u8) -> Result<FilesetEntry, OutOfMemory> {
     Ok(FilesetEntry {
         name: FilesetName::from_vec([letter].to_vec(alloc)?),
         first_tag: home(140),
@@ -103,7 +109,7 @@ fn entry(alloc: Global, letter: u8) -> Result<FilesetEntry, OutOfMemory> {
 }
 
 /// Puts this into a slot.
-fn set_slot(table: &mut FilesetTable, number: u32, item: SlotItem) -> Result<(), Fail> {
+pub fn set_slot(table: &mut FilesetTable, number: u32, item: SlotItem) -> Result<(), Fail> {
     let number = FilesetNo::new(number).ok_or("a slot")?;
     match table.try_set_slot(number, item) {
         Ok(()) => Ok(()),

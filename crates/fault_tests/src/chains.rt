@@ -9,7 +9,7 @@ use std::test::Fail;
 
 /// A cell of a page: the page and its place there, its kind, and the cell of a page that it leads
 /// to, with page 0 for none.
-type Row = ((u32, u8), u8, (u32, u8));
+pub type Row = ((u32, u8), u8, (u32, u8));
 
 /// Puts a cell on its page.
 fn put_cell(page: &mut Page, row: &Row) -> Result<(), Fail> {
@@ -27,7 +27,7 @@ fn put_cell(page: &mut Page, row: &Row) -> Result<(), Fail> {
 }
 
 /// The two pages with these cells.
-fn pages_with(alloc: Global, rows: &[Row]) -> Result<MemoryPages, Fail> {
+pub fn pages_with(alloc: Global, rows: &[Row]) -> Result<MemoryPages, Fail> {
     let mut first = cells_page(alloc, 0, 140)?;
     let mut second = cells_page(alloc, 1, 0)?;
     for row in rows {

@@ -11,6 +11,14 @@ mod fixture;
 #[cfg(test)]
 mod holes;
 #[cfg(test)]
+mod leads;
+#[cfg(test)]
+mod quotas;
+#[cfg(test)]
 mod tables;
+#[cfg(test)]
+mod tags;
+#[cfg(test)]
+mod twice;
 #[cfg(test)]
 mod ways;

@@ -1,0 +1,13 @@
+use Rattle.std.proofs.Common.{◌↔◌}
+use Rattle.domain_base.specs.declared.place.Home.{Home}
+use Rattle.page_ways.specs.Frame.{frame_in}
+use Rattle.home_sets.specs.Members.{IsIn}
+use Rattle.tag_faults.proofs.Counted.{IsBelow}
+use Rattle.tag_faults.proofs.SlotPages.{HasPageBelow, IsFaultAt}
+use Rattle.tag_faults.proofs.directories.directory_faults.Given as goal
+
+abbrev pub invariant-loop-number : goal.invariant-loop-number
+invariant-loop-number g l = record {
+  earlier : (home : Home) → IsIn l.earlier home ↔ HasPageBelow (g.M.MetaPages.pages l.pages) (frame_in l.frame) l.table l.number home;
+  found : (home : Home) → IsIn l.found home ↔ IsBelow (IsFaultAt (g.M.MetaPages.pages l.pages) (frame_in l.frame) l.table home) l.number;
+}

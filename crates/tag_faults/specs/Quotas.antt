@@ -1,0 +1,38 @@
+-- Quota cells that slots name.
+use Rattle.std.specs.Prelude.{◌≡◌, ◌⊎◌, ℕ, Some, slice_get}
+use Rattle.domain_base.specs.declared.place.CellAt.{CellAt}
+use Rattle.domain_base.specs.declared.place.Home.{Home}
+use Rattle.page_store.specs.Pages.{Pages}
+use Rattle.bmt_mcells.specs.CellPage.{home_of}
+use Rattle.bmt_mcells.specs.declared.head.CellKind.TheVariants.{Quota}
+use Rattle.fileset_table.specs.Table.{Table}
+use Rattle.fileset_table.specs.declared.slot.SlotItem.{SlotItem}
+use Rattle.domain_layout.specs.Reached.{Frame}
+use Rattle.domain_layout.specs.TagRules.{HasWrongNumber, HasWrongQuota, IsUnnamedQuota, quota_of}
+use Rattle.cell_links.specs.Members.{IsIn}
+use Rattle.cell_links.specs.declared.links.CellLink.{CellLink}
+use Rattle.cell_links.specs.declared.set.CellSet.{CellSet}
+
+-- what is in a slot has it for its first quota cell
+abbrev pub NamesQuota : Table → ℕ → CellAt → Type 0
+NamesQuota table number at = (item : SlotItem) × (slice_get table.slots number ≡ Some item)
+    × (quota_of item ≡ Some at)
+
+-- what is in some slot has
+abbrev pub IsQuotaNamed : Table → CellAt → Type 0
+IsQuotaNamed table at = (number : ℕ) × NamesQuota table number at
+
+-- a quota cell that is not among those to which one of quotas leads, and not among those named
+abbrev pub IsQuotaAlone : CellSet → CellSet → CellAt → CellLink → Type 0
+IsQuotaAlone led named at link = (link.kind ≡ Quota) × (¬ IsIn led at) × ¬ IsIn named at
+
+-- some quota cell on a page is named by nothing
+abbrev pub HasUnnamedQuota : Pages → Frame → Table → Home → Type 0
+HasUnnamedQuota pages frame table home =
+    (at : CellAt) × (home_of at ≡ home) × IsUnnamedQuota pages frame table at
+
+-- what is in a slot has a wrong number or a wrong quota cell
+abbrev pub IsWrongIn : Pages → Frame → Table → ℕ → Type 0
+IsWrongIn pages frame table number = (item : SlotItem)
+    × (slice_get table.slots number ≡ Some item)
+    × (HasWrongNumber table item ⊎ HasWrongQuota pages frame number item)

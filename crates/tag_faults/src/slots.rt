@@ -1,0 +1,84 @@
+//! Slots of the fileset table that name wrong.
+ghost use Rattle.std.specs.Prelude.{◌≡◌, ◌⊎◌, ◌↔◌, ◌<◌, IfOk, IsTrue};
+ghost use Rattle.domain_base.specs.declared.place.CellAt.{CellAt};
+ghost use Rattle.domain_layout.specs.Reached.{Frame};
+ghost use Rattle.domain_layout.specs.TagRules.{HasWrongNumber, HasWrongQuota, IsWrongSlot};
+ghost use Rattle.cell_links.specs.Members.{IsIn};
+ghost use Rattle.chain_leads.specs.Heads.{IsLedTo};
+ghost use Rattle.chain_faults.specs.Links.{AreLinks};
+ghost use Rattle.tag_faults.specs.Quotas.{IsWrongIn};
+
+use crate::cells::is_quota_of;
+use crate::quotas::quota_of;
+use crate::table::{count_slots, slot_number};
+use cell_links::{CellLinks, CellSet};
+use chain_leads::led_cells;
+use domain_base::{FilesetNo, OutOfMemory};
+use fileset_table::{FilesetTable, SlotItem};
+use page_store::MetaPages;
+use std::alloc::Global;
+
+/// Whether a clone's number is that of no clone that was made.
+fn has_wrong_number(table: &FilesetTable, item: &SlotItem) -> bool
+    ensures { IsTrue result ↔ HasWrongNumber table.now item.now }
+{
+    match item {
+        SlotItem::Clone { number, .. } => *number == 0 || table.made() < *number,
+        _ => false,
+    }
+}
+
+/// Whether what is in a slot names a first quota cell that is none of its fileset, or to which
+/// another one leads.
+fn has_wrong_quota<M: MetaPages>(
+    pages: &M,
+    links: &CellLinks,
+    led: &CellSet,
+    number: FilesetNo,
+    item: &SlotItem,
+) -> bool
+    requires { (at : CellAt) → IsIn led.now at ↔ IsLedTo links.now at }
+    ensures { (frame : Frame) → AreLinks (M.pages pages.now) frame links.now → IsTrue result
+        ↔ HasWrongQuota (M.pages pages.now) frame number item.now }
+{
+    let Some(at) = quota_of(item) else {
+        return false;
+    };
+    !is_quota_of(pages, links, number, &at) || led.has(&at)
+}
+
+/// Whether what is in a slot has a wrong number or a wrong quota cell.
+fn is_wrong_in<M: MetaPages>(
+    pages: &M,
+    links: &CellLinks,
+    led: &CellSet,
+    table: &FilesetTable,
+    number: FilesetNo,
+) -> bool
+    requires { (at : CellAt) → IsIn led.now at ↔ IsLedTo links.now at }
+    ensures { (frame : Frame) → AreLinks (M.pages pages.now) frame links.now → IsTrue result
+        ↔ IsWrongIn (M.pages pages.now) frame table.now number }
+{
+    let item = table.slot(number);
+    has_wrong_number(table, item) || has_wrong_quota(pages, links, led, number, item)
+}
+
+/// Whether a slot has a clone with the number of no clone that was made, or names a first quota cell
+/// that is none of its fileset or to which another one leads, by what was read of all cells in use.
+pub fn has_wrong_slot<M: MetaPages>(
+    alloc: Global,
+    pages: &M,
+    links: &CellLinks,
+    table: &FilesetTable,
+) -> Result<bool, OutOfMemory>
+    ensures { IfOk result (λ wrong. (frame : Frame) → AreLinks (M.pages pages.now) frame links.now
+        → IsTrue wrong ↔ IsWrongSlot (M.pages pages.now) frame table.now) }
+{
+    let led = led_cells(alloc, links)?;
+    for number in 0..count_slots(table) {
+        if is_wrong_in(pages, links, &led, table, slot_number(number)) {
+            return Ok(true);
+        }
+    }
+    Ok(false)
+}
