@@ -142,12 +142,11 @@ IsHere pages table number tag =
     (cells : List PlacedCell) × (seen : SeenFile) × Has pages table number tag cells seen
 
 -- no directory of a fileset is out of sync: an original's never is, and a clone's none is where the
--- root is there, and what each row of a directory leads to
+-- root is there, and each directory to which rows lead from the root on
 pub record AreAllInSync (pages : Pages) (frame : Frame) (table : Table) (number : ℕ) : Type 0 where
   pub root : IsHere pages table number root_tag
-  pub rows : (at : RowPlace) (row : Row) (home : Home)
-      → IsRow pages frame table number at row home → row.kind ≡ Directory
-      → IsHere pages table number row.tag
+  pub reached : (tag : Tag) → RowsLead pages frame table number root_tag tag
+      → IsHere pages table number tag
 
 abbrev pub AreAllRead : Pages → Frame → Table → ℕ → Type 0
 AreAllRead pages frame table number = (of_clone (slice_get table.slots number) ≡ false)

@@ -27,12 +27,12 @@ get_front (y ∷ xs) ys zero x is = is
 get_front (y ∷ xs) ys (suc k) x is = get_front xs ys k x is
 
 -- what stands in two lists stands in one of them
-get_parted : {X : Type 0} (xs ys : List X) (k : ℕ) (x : X) → slice_get (xs ++ ys) k ≡ Some x → (slice_get xs k ≡ Some x) ⊎ ((j : ℕ) × (slice_get ys j ≡ Some x))
+pub get_parted : {X : Type 0} (xs ys : List X) (k : ℕ) (x : X) → slice_get (xs ++ ys) k ≡ Some x → (slice_get xs k ≡ Some x) ⊎ ((j : ℕ) × (slice_get ys j ≡ Some x))
 get_parted [] ys k x is = inr (k, is)
 get_parted (y ∷ xs) ys zero x is = inl is
 get_parted (y ∷ xs) ys (suc k) x is = get_parted xs ys k x is
 
-get_behind : {X : Type 0} (xs ys : List X) (k : ℕ) (x : X) → slice_get ys k ≡ Some x → (i : ℕ) × (slice_get (xs ++ ys) i ≡ Some x)
+pub get_behind : {X : Type 0} (xs ys : List X) (k : ℕ) (x : X) → slice_get ys k ≡ Some x → (i : ℕ) × (slice_get (xs ++ ys) i ≡ Some x)
 get_behind [] ys k x is = (k, is)
 get_behind (y ∷ xs) ys k x is = let more = get_behind xs ys k x is in (suc more.0, more.1)
 
@@ -57,7 +57,7 @@ at_contains xs x (k, within, is) = (k, slice_get-get_or xs k x within ∙ ap Som
 -- ---- rows by their names
 
 -- a row of a directory in which no name stands twice is the one that its name finds
-named_at : (name : List ℕ) (rows : List Row) (k : ℕ) (row : Row) → slice_get rows k ≡ Some row → row.name ≡ name → is_named name rows ≡ true
+pub named_at : (name : List ℕ) (rows : List Row) (k : ℕ) (row : Row) → slice_get rows k ≡ Some row → row.name ≡ name → is_named name rows ≡ true
 named_at name [] k row is named = none_some row is
 named_at name (r ∷ rs) zero row is named = or_left (has_name name r) (is_named name rs) (is_named_so name r (ap (λ (x : Row). x.name) (same_some r row is) ∙ named))
 named_at name (r ∷ rs) (suc k) row is named = or_right (has_name name r) (is_named name rs) (named_at name rs k row is named)

@@ -117,7 +117,7 @@ own_there pages cells found own source from frozen attributes same begins fresh 
 -- ---- the cell through which a clone's file is read
 
 module _ (pages : Pages) (clone original : FilesetFiles) (number : ℕ) (are : AreOfClone pages clone original number) where
-  named_source : (tag : Tag) (at source : CellAt) (first : PlacedCell) (rest : List PlacedCell) → cell_of pages clone.tags tag ≡ Some at → IsFile pages at (first ∷ rest) → is_removed (first ∷ rest) ≡ false
+  pub named_source : (tag : Tag) (at source : CellAt) (first : PlacedCell) (rest : List PlacedCell) → cell_of pages clone.tags tag ≡ Some at → IsFile pages at (first ∷ rest) → is_removed (first ∷ rest) ≡ false
       → source_of (first ∷ rest) ≡ Some source → ¬ ¬ IsFirstOf pages (frame_of are.may.layout) original.files.fileset tag source
   named_source tag at source first rest leads is stays through wrong =
       first_there pages are.may.layout are.may.laid are.may.no_fault clone.files.fileset are.may.first are.may.has clone.tags are.may.directory tag at leads no_source
