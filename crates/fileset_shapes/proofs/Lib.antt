@@ -1,0 +1,13 @@
+pub mod UsedTags
+pub mod TaggedFiles
+pub mod IndexPages
+pub mod Stored
+pub mod Shown
+pub mod OriginalFiles
+pub mod ReadOriginals
+pub mod ReadClones
+pub mod ReadSources
+pub mod SeenShapes
+pub mod ShapeFacts
+pub mod Roots
+pub mod AllShapes

@@ -1,0 +1,367 @@
+-- Where no rule is broken: what the shape of a fileset has at a tag.
+use Rattle.std.proofs.Common.{◌≡◌, ◌∙◌, ◌⊎◌, inl, inr, ℕ, ◌≤◌, Bool, true, false, cond, nat_lt, List, [], ◌∷◌, Option, Some, None, IfSome, IsSomeAnd, refl, sym, ap, subst, ⊎_elim}
+use Rattle.std.specs.Prelude.{map, slice_get}
+use Rattle.std.specs.Option.{option_and_then}
+use Rattle.domain_base.specs.Limits.{max_links}
+use Rattle.domain_base.specs.declared.place.CellAt.{CellAt}
+use Rattle.domain_base.specs.declared.place.Home.{Home}
+use Rattle.domain_base.specs.declared.place.Kind.{Kind}
+use Rattle.domain_base.specs.declared.place.Kind.TheVariants.{Directory, File}
+use Rattle.domain_base.specs.declared.place.Tag.{Tag}
+use Rattle.page_store.specs.Bitfiles.{Bitfile, shown_index}
+use Rattle.page_store.specs.Pages.{Pages}
+use Rattle.record_table.specs.Records.{Allowed}
+use Rattle.record_table.specs.declared.record.Record.{Record}
+use Rattle.record_table.specs.declared.record.Record.TheVariants as written
+use Rattle.bmt_mcells.specs.Cell.{record_of}
+use Rattle.bmt_mcells.specs.CellPage.{home_of}
+use Rattle.bmt_mcells.specs.Chain.{PlacedCell}
+use Rattle.tag_dirs.specs.declared.dir.TagPlace.{TagPlace}
+use Rattle.tag_dirs.proofs.Reading.{same_directory}
+use Rattle.extent_maps.specs.Runs.{Places, home_at}
+use Rattle.bitfile_cells.specs.Files.{AreFile, places_of}
+use Rattle.bitfile_core.proofs.Created.{one_chains}
+use Rattle.bitfile_core.proofs.Given.{one_file}
+use Rattle.bitfile_core.proofs.Room.{allowed_found}
+use Rattle.chain_release.specs.Reading.{own_or}
+use Rattle.bitfile_core.specs.Files.{AreFiles, Chains, LeadsToFile, attributes_in, attributes_of, is_removed, of_live}
+use Rattle.bitfile_core.specs.Shown.{AreIndexPages, IsWhat, ShowsAt, ShowsFile, index_in, shown_page}
+use Rattle.bitfile_core.specs.declared.attributes.Attributes.{Attributes}
+use Rattle.fileset_table.specs.Table.{Table, entry_of}
+use Rattle.fileset_table.specs.declared.slot.FilesetEntry.{FilesetEntry}
+use Rattle.fileset_table.specs.declared.slot.SlotItem.{SlotItem}
+use Rattle.fileset_table.specs.declared.slot.SlotItem.TheVariants as slot
+use Rattle.domain_layout.specs.CellRules.{of_clone}
+use Rattle.domain_layout.specs.DirectoryRules.{AreReadPages, Has, HasIndex, HasIndexAt, IsFirstHome, IsInClone, IsInItem, IsInOriginal, IsNotThere, IsThere, total_in}
+use Rattle.domain_layout.specs.Layout.{Layout}
+use Rattle.domain_layout.specs.Owners.{frame_of}
+use Rattle.domain_layout.specs.Reached.{IsUnread, MayBe, index_way}
+use Rattle.domain_layout.specs.Seen.{IsOfClone, IsOwn, IsOwnUnless, IsSource, SeenFile, frozen_of, seen_in, seen_through, source_of}
+use Rattle.domain_layout.specs.Shape.{FilesetShape, HasChains, IsClone, IsOriginal, IsSameSeen, IsShapeOf, ShowsSeen, ShowsSeenAt, shown_at}
+use Rattle.domain_layout.specs.TagRules.{HasTags}
+use Rattle.layout_laws.proofs.OnePage.{HasOne, one_of, some_same}
+use Rattle.shape_reading.specs.declared.files.FilesetFiles.{FilesetFiles}
+use Rattle.fileset_shapes.specs.Files.{AreClones, IsWhole}
+use Rattle.fileset_shapes.specs.Indexes.{IsReadIndex}
+use Rattle.fileset_shapes.proofs.IndexPages.{read_index}
+use Rattle.fileset_shapes.proofs.OriginalFiles.{FileOf, Kept, file_of, home_there, kept, none_shown, none_some, original_may, whole_index}
+use Rattle.fileset_shapes.proofs.ReadClones.{clone_file}
+
+no_pages : (pages : Pages) (list : List (List ℕ)) → AreIndexPages pages None list → list ≡ []
+no_pages pages [] are = refl
+no_pages pages (page ∷ more) are = absurd are
+
+-- ---- one file
+
+chains_same : (pages : Pages) (number : ℕ) (entry : FilesetEntry) (a b : Chains) → HasChains pages number entry a → HasChains pages number entry b → (tag : Tag) → a tag ≡ b tag
+chains_same pages number entry a b has also =
+    let places = same_directory pages entry.first_tag has.places also.places has.directory also.directory in
+    one_chains pages number also.places a b (subst (λ (p : List TagPlace). AreFiles number p pages a) places has.files) also.files
+
+source_same : (pages : Pages) (at : Option CellAt) (a b : Places) → IsSource pages at a → IsSource pages at b → (page : ℕ) → a page ≡ b page
+source_same pages None a b is also page = is page ∙ sym (also page)
+source_same pages (Some at) a b is also page = is.2 page ∙ ap (λ cells. places_of cells page) (one_file pages at is.0 also.0 is.1 also.1) ∙ sym (also.2 page)
+
+own_same : (pages : Pages) (cells : List PlacedCell) (a b : SeenFile) → IsOwn pages cells a → IsOwn pages cells b → IsSameSeen a b
+own_same pages cells a b is also = record {
+  is = some_same a.is b.is (sym is.is ∙ also.is);
+  homes = λ page. is.homes page
+      ∙ ap (λ place. own_or (places_of cells page) (cond (nat_lt page (frozen_of cells)) (home_at place) None)) (source_same pages (source_of cells) is.source also.source is.through also.through page)
+      ∙ sym (also.homes page);
+}
+
+-- the cells of a file have a first one
+first_home : (number : ℕ) (places : List TagPlace) (pages : Pages) (tag : Tag) (cells : List PlacedCell) → LeadsToFile number places pages tag cells → (home : Home) × IsFirstHome cells home
+first_home number places pages tag [] leads = absurd leads.is_of
+first_home number places pages tag (first ∷ rest) leads = (home_of first.at, refl)
+
+there_first : (pages : Pages) (number : ℕ) (entry : FilesetEntry) (tag : Tag) (cells : List PlacedCell) → IsThere pages number entry tag cells → (home : Home) × IsFirstHome cells home
+there_first pages number entry tag cells is =
+    first_home number is.has.places pages tag cells (subst (λ o. IfSome o (LeadsToFile number is.has.places pages tag)) is.there (is.has.files.some tag))
+
+-- each file that a fileset has has a first cell
+pub has_first : (pages : Pages) (table : Table) (number : ℕ) (tag : Tag) (cells : List PlacedCell) (seen : SeenFile) → Has pages table number tag cells seen → (home : Home) × IsFirstHome cells home
+has_first pages table number tag cells seen has = by_item has.item has.is
+  where
+    by_entry : (of clone : ℕ) (entry : FilesetEntry) (o : Option FilesetEntry) → IsSomeAnd o (λ original. IsInClone pages number of entry original clone tag cells seen) → (home : Home) × IsFirstHome cells home
+    by_entry of clone entry None is = absurd is
+    by_entry of clone entry (Some original) is = ⊎_elim (λ own. there_first pages number entry tag cells own.0) (λ behind. there_first pages of original tag cells behind.1) is.is
+
+    by_item : (item : SlotItem) → IsInItem pages table number item tag cells seen → (home : Home) × IsFirstHome cells home
+    by_item slot.Free is = absurd is
+    by_item (slot.Removed first_tag quota) is = absurd is
+    by_item (slot.Original entry) is = there_first pages number entry tag cells is.there
+    by_item (slot.Clone of clone entry) is = by_entry of clone entry (option_and_then entry_of (slice_get table.slots of)) is
+
+-- how many links attributes may say
+links_in : (r : Record) (is : Attributes) → Allowed r → attributes_in r ≡ Some is → (1 ≤ is.links) × (is.links ≤ max_links)
+unfolding Allowed
+links_in (written.Attributes kind uid gid flags size keep links birth unsynced) is allowed said =
+    let same : links ≡ is.links = ap (λ (a : Attributes). a.links) (some_same _ is said) in
+    (subst (λ n. 1 ≤ n) same allowed.6.0, subst (λ n. n ≤ 1000) same allowed.6.1)
+links_in _ is allowed said = none_some is said
+
+-- the links of a file
+file_links : (pages : Pages) (first : PlacedCell) (rest : List PlacedCell) → AreFile pages first rest → (is : Attributes) → attributes_of (first ∷ rest) ≡ Some is → (1 ≤ is.links) × (is.links ≤ max_links)
+file_links pages first rest file is said = by_record (record_of 1 first.cell.records) refl said
+  where
+    by_record : (o : Option Record) → record_of 1 first.cell.records ≡ o → option_and_then attributes_in o ≡ Some is → (1 ≤ is.links) × (is.links ≤ max_links)
+    by_record None at said = none_some is said
+    by_record (Some r) at said = links_in r is (allowed_found 1 first.cell.records r at file.links.stands.is.well_formed.allowed) said
+
+module _ (pages : Pages) (layout : Layout) (whole : IsWhole pages layout) where
+  -- a file or directory of a shape: its cells say it, its pages stand where they may, and a set
+  -- shows it, a directory with what stands at its homes
+  pub record IsThereAs (number : ℕ) (shape : FilesetShape) (tag : Tag) (seen : SeenFile) : Type 0 where
+    pub first : PlacedCell
+    pub rest : List PlacedCell
+    pub has : Has pages layout.table number tag (first ∷ rest) seen
+    pub may : (page : ℕ) (home : Home) → seen.homes page ≡ Some home → MayBe (frame_of layout) home
+    pub file : Bitfile
+    pub shown : shape.shown tag ≡ Some file
+    pub links : (1 ≤ seen.is.links) × (seen.is.links ≤ max_links)
+    pub what : IsWhat file seen.is
+    pub each : (page : ℕ) → slice_get file.pages page ≡ shown_at pages seen seen.is.kind page
+
+  -- ---- an original
+
+  module _ (number : ℕ) (entry : FilesetEntry) (there : slice_get layout.table.slots number ≡ Some (slot.Original entry)) (shape : FilesetShape) (is : IsOriginal pages number entry shape) where
+    has_tags : HasTags layout.table number entry.first_tag
+    has_tags = record { item = slot.Original entry; there = there; has = refl }
+
+    leads_there : (tag : Tag) (cells : List PlacedCell) → is.chains tag ≡ Some cells → LeadsToFile number is.has.places pages tag cells
+    leads_there tag cells at = subst (λ o. IfSome o (LeadsToFile number is.has.places pages tag)) at (is.has.files.some tag)
+
+    -- the cells of a file
+    record CellsOf (tag : Tag) (seen : SeenFile) : Type 0 where
+      first : PlacedCell
+      rest : List PlacedCell
+      at : is.chains tag ≡ Some (first ∷ rest)
+      in_cells : seen_in (first ∷ rest) ≡ Some seen
+      of : FileOf pages layout whole.laid whole.no_fault number tag first rest
+
+    cells_of : (tag : Tag) (seen : SeenFile) → shape.files tag ≡ Some seen → CellsOf tag seen
+    cells_of tag seen sees = by_chain (is.chains tag) refl (sym (is.files tag) ∙ sees)
+      where
+        by_chain : (o : Option (List PlacedCell)) → is.chains tag ≡ o → option_and_then seen_in o ≡ Some seen → CellsOf tag seen
+        by_chain None at sees = none_some seen sees
+        by_chain (Some []) at sees = absurd (leads_there tag [] at).is_of
+        by_chain (Some (first ∷ rest)) at sees = record {
+          first = first;
+          rest = rest;
+          at = at;
+          in_cells = sees;
+          of = file_of pages layout whole.laid whole.no_fault number entry.first_tag has_tags is.has.places is.has.directory is.chains is.has.files tag first rest at;
+        }
+
+    -- what a set shows of it
+    record ShownOf (tag : Tag) (cells : List PlacedCell) : Type 0 where
+      file : Bitfile
+      shown : shape.shown tag ≡ Some file
+      shows : ShowsFile pages cells file
+
+    shown_of : (tag : Tag) (cells : List PlacedCell) → is.chains tag ≡ Some cells → is_removed cells ≡ false → (what : Attributes) → attributes_of cells ≡ Some what → ShownOf tag cells
+    shown_of tag cells at live what said = by_file (shape.shown tag) refl (subst (λ o. ShowsAt pages o (shape.shown tag)) at (is.shown tag))
+      where
+        by_file : (o : Option Bitfile) → shape.shown tag ≡ o → ShowsAt pages (Some cells) o → ShownOf tag cells
+        by_file None none shows = none_some what (sym shows ∙ ap (λ b. cond b None (attributes_of cells)) live ∙ said)
+        by_file (Some file) shown shows = record { file = file; shown = shown; shows = subst (λ b. IsSomeAnd (cond b None (Some cells)) (λ c. ShowsFile pages c file)) live shows }
+
+    there_of : (tag : Tag) (seen : SeenFile) → CellsOf tag seen → IsThereAs number shape tag seen
+    there_of tag seen c =
+        let k = kept (c.first ∷ c.rest) seen c.in_cells in
+        let s = shown_of tag (c.first ∷ c.rest) c.at k.live seen.is k.what in
+        let what : IsWhat s.file seen.is = subst (λ o. IsSomeAnd o (IsWhat s.file)) k.what s.shows.what in
+        let has : Has pages layout.table number tag (c.first ∷ c.rest) seen =
+        record {
+          item = slot.Original entry;
+          there = there;
+          is = record { there = record { chains = is.chains; has = is.has; there = c.at }; is = c.in_cells };
+        } in
+        record {
+          first = c.first;
+          rest = c.rest;
+          has = has;
+          may = original_may pages layout whole.laid whole.no_fault number tag c.first c.rest c.of seen c.in_cells;
+          file = s.file;
+          shown = s.shown;
+          links = file_links pages c.first c.rest c.of.file seen.is k.what;
+          what = what;
+          each = λ page. s.shows.each page ∙ ap (λ k'. shown_page pages (c.first ∷ c.rest) k' page) what.kind ∙ by_kind c has page seen.is.kind refl;
+        }
+      where
+        by_kind : (c : CellsOf tag seen) → Has pages layout.table number tag (c.first ∷ c.rest) seen → (page : ℕ) (of : Kind) → seen.is.kind ≡ of → shown_page pages (c.first ∷ c.rest) of page ≡ shown_at pages seen of page
+        by_kind c has page File kind = refl
+        by_kind c has page Directory kind = sym (home_there pages layout whole.laid whole.no_fault number tag c.first c.rest c.of seen c.in_cells has kind page)
+
+    pub original_there : (tag : Tag) (seen : SeenFile) → shape.files tag ≡ Some seen → IsThereAs number shape tag seen
+    original_there tag seen sees = there_of tag seen (cells_of tag seen sees)
+
+    -- the index of a file, of which each page is read, as a set shows it
+    pub record IndexOf (tag : Tag) (seen : SeenFile) (list : List (List ℕ)) : Type 0 where
+      pub first : Home
+      pub total : ℕ
+      pub has : HasIndex pages layout.table number tag seen first total
+      pub named : ¬ ¬ ((at : CellAt) × HasIndexAt pages (frame_of layout) at first)
+      pub none_unread : (home : Home) → ¬ IsUnread pages (frame_of layout) (index_way first) home
+      pub index : List (List ℕ)
+      pub read : AreReadPages pages (frame_of layout) first index
+      pub shown : list ≡ map shown_index index
+
+    -- what the fileset has is in its shape
+    pub original_only : (tag : Tag) (cells : List PlacedCell) (seen : SeenFile) → Has pages layout.table number tag cells seen → IsSomeAnd (shape.files tag) (λ also. IsSameSeen also seen)
+    original_only tag cells seen has = subst (λ o. IsSomeAnd o (λ (also : SeenFile). IsSameSeen also seen)) (sym (is.files tag ∙ ap (option_and_then seen_in) at ∙ in_original.is)) (record { is = refl; homes = λ page. refl })
+      where
+        in_original : IsInOriginal pages number entry tag cells seen
+        in_original = subst (λ item. IsInItem pages layout.table number item tag cells seen) (some_same has.item (slot.Original entry) (sym has.there ∙ there)) has.is
+
+        at : is.chains tag ≡ Some cells
+        at = chains_same pages number entry is.chains in_original.there.chains is.has in_original.there.has tag ∙ in_original.there.there
+
+    pub original_absent : (tag : Tag) → shape.files tag ≡ None → shape.shown tag ≡ None
+    original_absent tag none = by_file (shape.shown tag) refl (is.shown tag)
+      where
+        by_live : (cells : List PlacedCell) (file : Bitfile) → seen_in cells ≡ None → IsSomeAnd (of_live Some cells) (λ live. ShowsFile pages live file) → ⊥
+        by_live cells file none shows = by_removed (is_removed cells) refl shows (none_shown (Some cells) none)
+          where
+            by_removed : (b : Bool) → is_removed cells ≡ b → IsSomeAnd (cond b None (Some cells)) (λ live. ShowsFile pages live file) → cond b None (attributes_of cells) ≡ None → ⊥
+            by_removed true gone shows none = shows
+            by_removed false live shows none = subst (λ o. IsSomeAnd o (IsWhat file)) none shows.what
+
+        by_chain : (o : Option (List PlacedCell)) (file : Bitfile) → option_and_then seen_in o ≡ None → ShowsAt pages o (Some file) → ⊥
+        by_chain None file none shows = shows
+        by_chain (Some cells) file none shows = by_live cells file none shows
+
+        by_file : (o : Option Bitfile) → shape.shown tag ≡ o → ShowsAt pages (is.chains tag) o → o ≡ None
+        by_file None shown shows = refl
+        by_file (Some file) shown shows = absurd (by_chain (is.chains tag) file (sym (is.files tag) ∙ none) shows)
+
+    pub index_there : (tag : Tag) (seen : SeenFile) → shape.files tag ≡ Some seen → (file : Bitfile) → shape.shown tag ≡ Some file → (file.index ≡ []) ⊎ IndexOf tag seen file.index
+    unfolding there_of
+    index_there tag seen sees file shown = of_cells (cells_of tag seen sees)
+      where
+        of_cells : CellsOf tag seen → (file.index ≡ []) ⊎ IndexOf tag seen file.index
+        of_cells c = by_record (record_of 9 c.first.cell.records) refl (whole_index pages layout whole.laid whole.no_fault number tag c.first c.rest c.of) shows.index
+          where
+            k : Kept (c.first ∷ c.rest) seen
+            k = kept (c.first ∷ c.rest) seen c.in_cells
+
+            shows : ShowsFile pages (c.first ∷ c.rest) file
+            shows = subst (λ b. IsSomeAnd (cond b None (Some (c.first ∷ c.rest))) (λ cells. ShowsFile pages cells file)) (kept (c.first ∷ c.rest) seen c.in_cells).live
+                (subst (λ o. ShowsAt pages o (Some file)) c.at (subst (ShowsAt pages (is.chains tag)) shown (is.shown tag)))
+
+            found : (value : Record) → record_of 9 c.first.cell.records ≡ Some value → (first : Home) → index_in value ≡ Some first → IsReadIndex pages (frame_of layout) first → AreIndexPages pages (Some first) file.index → IndexOf tag seen file.index
+            found value at first begins_at index are =
+                let read = read_index pages (frame_of layout) first index file.index are in
+                record {
+                  first = first;
+                  total = total_in value;
+                  has = record {
+                    cells = c.first ∷ c.rest;
+                    has = (there_of tag seen c).has;
+                    original = subst (λ o. of_clone o ≡ false) (sym there) refl;
+                    value = value;
+                    there = at;
+                    begins = begins_at;
+                    entries = refl;
+                  };
+                  named = λ away. c.of.named (λ f.
+                      away (c.first.at, record { cell = c.first.cell; is = record { place = f.place; stands = c.of.file.links.stands }; value = value; there = at; begins = begins_at }));
+                  none_unread = index.read;
+                  index = read.index;
+                  read = read.read;
+                  shown = read.shown;
+                }
+
+            by_home : (value : Record) → record_of 9 c.first.cell.records ≡ Some value → (o : Option Home) → index_in value ≡ o → IfSome o (IsReadIndex pages (frame_of layout)) → AreIndexPages pages o file.index → (file.index ≡ []) ⊎ IndexOf tag seen file.index
+            by_home value at None none index are = inl (no_pages pages file.index are)
+            by_home value at (Some first) begins_at index are = inr (found value at first begins_at index are)
+
+            by_record : (o : Option Record) → record_of 9 c.first.cell.records ≡ o → IfSome (option_and_then index_in o) (IsReadIndex pages (frame_of layout)) → AreIndexPages pages (option_and_then index_in o) file.index → (file.index ≡ []) ⊎ IndexOf tag seen file.index
+            by_record None none index are = inl (no_pages pages file.index are)
+            by_record (Some value) at index are = by_home value at (index_in value) refl index are
+
+  -- ---- a clone
+
+  module _ (number of clone : ℕ) (entry original : FilesetEntry) (there : slice_get layout.table.slots number ≡ Some (slot.Clone of clone entry)) (item : SlotItem) (behind : slice_get layout.table.slots of ≡ Some item)
+      (is_behind : entry_of item ≡ Some original) (shape : FilesetShape) (is : IsClone pages number of entry original clone shape) where
+    abbrev own : FilesetFiles
+    own = record { tags = is.has.places; files = record { fileset = number; tags = is.has.places } }
+
+    abbrev through : FilesetFiles
+    through = record { tags = is.has_behind.places; files = record { fileset = of; tags = is.has_behind.places } }
+
+    abbrev clones : AreClones pages own through clone
+    clones = record {
+      layout = layout;
+      whole = whole;
+      entry = entry;
+      original = original;
+      there = there;
+      item = item;
+      there_behind = behind;
+      original_is = is_behind;
+      own_files = record { are = record { same = refl; has = (is.chains, is.has.files) }; directory = is.has.directory };
+      behind_files = record { are = record { same = refl; has = (is.behind, is.has_behind.files) }; directory = is.has_behind.directory };
+    }
+
+    pub clone_there : (tag : Tag) (seen : SeenFile) → shape.files tag ≡ Some seen → IsThereAs number shape tag seen
+    clone_there tag seen sees =
+        let c = clone_file pages own through clone clones tag is.chains is.behind is.has.files is.has_behind.files seen (subst (IsOfClone pages clone (is.chains tag) (is.behind tag)) sees (is.files tag)) in
+        let s : HasOne (shape.shown tag) (ShowsSeen pages seen) = one_of (shape.shown tag) (ShowsSeen pages seen) (subst (λ o. ShowsSeenAt pages o (shape.shown tag)) sees (is.shown tag)) in
+        record {
+          first = c.first;
+          rest = c.rest;
+          has = c.has;
+          may = c.may;
+          file = s.value;
+          shown = s.there;
+          links = file_links pages c.first c.rest c.file seen.is c.what;
+          what = s.is.what;
+          each = λ page. s.is.each page ∙ ap (λ k. shown_at pages seen k page) s.is.what.kind;
+        }
+
+    pub clone_only : (tag : Tag) (cells : List PlacedCell) (seen : SeenFile) → Has pages layout.table number tag cells seen → IsSomeAnd (shape.files tag) (λ also. IsSameSeen also seen)
+    clone_only tag cells seen has = ⊎_elim by_own by_behind in_clone.is
+      where
+        in_item : IsInItem pages layout.table number (slot.Clone of clone entry) tag cells seen
+        in_item = subst (λ i. IsInItem pages layout.table number i tag cells seen) (some_same has.item (slot.Clone of clone entry) (sym has.there ∙ there)) has.is
+
+        in_clone : IsInClone pages number of entry original clone tag cells seen
+        in_clone = subst (λ o. IsSomeAnd o (λ (e : FilesetEntry). IsInClone pages number of entry e clone tag cells seen)) (ap (option_and_then entry_of) behind ∙ is_behind) in_item
+
+        same_own : (o : Option SeenFile) → IsSomeAnd o (IsOwn pages cells) → IsOwn pages cells seen → IsSomeAnd o (λ (also : SeenFile). IsSameSeen also seen)
+        same_own None also is_own = absurd also
+        same_own (Some also) own_also is_own = own_same pages cells also seen own_also is_own
+
+        by_own : IsThere pages number entry tag cells × (is_removed cells ≡ false) × IsOwn pages cells seen → IsSomeAnd (shape.files tag) (λ (also : SeenFile). IsSameSeen also seen)
+        by_own (here, live, is_own) =
+            let at : is.chains tag ≡ Some cells = chains_same pages number entry is.chains here.chains is.has here.has tag ∙ here.there in
+            same_own (shape.files tag)
+            (subst (λ b. IsOwnUnless b pages cells (shape.files tag)) live (subst (λ o. IsOfClone pages clone o (is.behind tag) (shape.files tag)) at (is.files tag))) is_own
+
+        by_behind : IsNotThere pages number entry tag × IsThere pages of original tag cells × (seen_through clone cells ≡ Some seen) → IsSomeAnd (shape.files tag) (λ (also : SeenFile). IsSameSeen also seen)
+        by_behind (not_here, here, is_through) =
+            let none : is.chains tag ≡ None = chains_same pages number entry is.chains not_here.chains is.has not_here.has tag ∙ not_here.none in
+            let at : is.behind tag ≡ Some cells = chains_same pages of original is.behind here.chains is.has_behind here.has tag ∙ here.there in
+            let files : shape.files tag ≡ option_and_then (seen_through clone) (is.behind tag) = subst (λ o. IsOfClone pages clone o (is.behind tag) (shape.files tag)) none (is.files tag) in
+            subst (λ o. IsSomeAnd o (λ (also : SeenFile). IsSameSeen also seen)) (sym (files ∙ ap (option_and_then (seen_through clone)) at ∙ is_through)) (record { is = refl; homes = λ page. refl })
+
+    pub clone_absent : (tag : Tag) → shape.files tag ≡ None → shape.shown tag ≡ None
+    clone_absent tag none = subst (λ o. ShowsSeenAt pages o (shape.shown tag)) none (is.shown tag)
+
+  -- ---- each fileset
+
+  pub in_cells : (number : ℕ) (item : SlotItem) → slice_get layout.table.slots number ≡ Some item → (shape : FilesetShape) → IsShapeOf pages layout.table number item (Some shape) → (tag : Tag) (seen : SeenFile) → shape.files tag ≡ Some seen → IsThereAs number shape tag seen
+  in_cells number slot.Free there shape is tag seen sees = none_some shape (sym is)
+  in_cells number (slot.Removed first_tag quota) there shape is tag seen sees = none_some shape (sym is)
+  in_cells number (slot.Original entry) there shape is tag seen sees = original_there number entry there shape is tag seen sees
+  in_cells number (slot.Clone of clone entry) there shape is tag seen sees = by_item (slice_get layout.table.slots of) refl is
+    where
+      by_entry : (item : SlotItem) → slice_get layout.table.slots of ≡ Some item → (o : Option FilesetEntry) → entry_of item ≡ o → IsSomeAnd o (λ original. IsClone pages number of entry original clone shape) → IsThereAs number shape tag seen
+      by_entry item behind None none is = absurd is
+      by_entry item behind (Some original) is_behind is = clone_there number of clone entry original there item behind is_behind shape is tag seen sees
+
+      by_item : (o : Option SlotItem) → slice_get layout.table.slots of ≡ o → IsSomeAnd (option_and_then entry_of o) (λ original. IsClone pages number of entry original clone shape) → IsThereAs number shape tag seen
+      by_item None none is = absurd is
+      by_item (Some item) behind is = by_entry item behind (entry_of item) refl is

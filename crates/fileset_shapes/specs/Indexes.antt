@@ -1,0 +1,24 @@
+-- Indexes of which each page is read.
+use Rattle.std.specs.Prelude.{◌≤◌, ℕ, List}
+use Rattle.domain_base.specs.declared.place.Home.{Home}
+use Rattle.page_store.specs.Pages.{Pages}
+use Rattle.record_table.specs.Fields.{number_at}
+use Rattle.record_table.specs.declared.record.Record.{Record}
+use Rattle.record_table.specs.declared.record.Record.TheVariants.{DirIndex}
+use Rattle.domain_layout.specs.Reached.{Frame, IsRead, IsUnread, index_way}
+
+-- the volume of an index is one that there may be
+abbrev pub HasIndexVolume : Record → Type 0
+HasIndexVolume (DirIndex vol page entries) = (1 ≤ vol) × (vol ≤ 8)
+HasIndexVolume _ = Unit {0}
+
+-- each page that is come to from the first one of an index is read, and leads to none, or to one on
+-- a volume that there may be
+pub record IsReadIndex (pages : Pages) (frame : Frame) (first : Home) : Type 0 where
+  pub read : (home : Home) → ¬ IsUnread pages frame (index_way first) home
+  pub next : (place : ℕ) (home : Home) (page : List ℕ)
+      → IsRead pages frame (index_way first) place home page → number_at 4 8 page ≤ 8
+
+-- and so by some anchor
+abbrev pub IsWholeIndex : Pages → Home → Type 0
+IsWholeIndex pages first = (frame : Frame) × IsReadIndex pages frame first
