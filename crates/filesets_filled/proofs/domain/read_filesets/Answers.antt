@@ -1,0 +1,12 @@
+use Rattle.dir_rows.proofs.Parts.{if_ok_weaker}
+use Rattle.filesets_reading.specs.Good.{frame_at}
+use Rattle.fileset_shapes.specs.Shapes.{IsDomain}
+use Rattle.filesets_filled.proofs.FilledSlots.{reads_from}
+use Rattle.filesets_filled.proofs.domain.read_filesets.Goals as goal
+
+pub returns : goal.returns
+returns g c = λ home named.
+    let pages = g.M.MetaPages.pages c.args.pages.now in
+    let frame = frame_at c.args.anchor.now c.args.version in
+    let domain : IsDomain pages frame c.in_ok-tables.tables = record { tables_are = c.in_ok-tables.ensures.tables; no_fault = c.requires.no_fault; all = c.requires.all } in
+    if_ok_weaker c.read_tables_filesets.result (reads_from pages frame c.in_ok-tables.tables domain home named) c.read_tables_filesets.ensures
