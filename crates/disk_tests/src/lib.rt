@@ -1,5 +1,5 @@
-//! What racks in memory do, and what labels and anchors are on them: tests of what no clause says,
-//! and a caller of the anchors whose contract shows that theirs fit together.
+//! What racks in memory and racks of files do, and what labels and anchors are on them: tests of
+//! what no clause says, and a caller of the anchors whose contract shows that theirs fit together.
 #![tactic(auto)]
 
 mod renewals;
@@ -12,6 +12,8 @@ mod anchors;
 mod calls;
 #[cfg(test)]
 mod errors;
+#[cfg(test)]
+mod files;
 #[cfg(test)]
 mod images;
 #[cfg(test)]
