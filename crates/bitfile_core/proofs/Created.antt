@@ -25,6 +25,7 @@ use Rattle.tag_dirs.specs.declared.dir.TagPlace.{TagPlace}
 use Rattle.tag_dirs.specs.declared.page.TagEntry.{TagEntry}
 use Rattle.tag_dirs.specs.TagPage.{entry_of, is_takeable}
 use Rattle.tag_dirs.specs.Directory.{AddsPage, CanTake as CanTakeTag, IsDirectory, IsNextIndex, RisesTo, SetsTag, cell_for, cell_of, entry_at, has_home, home_with, sequence_of}
+use Rattle.tag_dirs.proofs.Slots.{off_slot}
 use Rattle.extent_maps.specs.declared.run.PagePlace.TheVariants.{Absent, At}
 use Rattle.extent_maps.specs.Runs.{place_of}
 use Rattle.extent_records.specs.Rows.{IsPlaced, NoPageTwice, runs_in, runs_of}
@@ -241,7 +242,7 @@ module _ (fileset : ℕ) (places : List TagPlace) (tag : Tag) (at : CellAt) (rec
 
   -- pages of tables stay where the tag is set, and those of tags where the cell is written
   table_page_same : (h : Home) → Contains (table_of cells h.vol) h.page → mid h ≡ old h
-  table_page_same h on_table = enters.sets.elsewhere h (false_from_ne_true (has_home places h) (λ has. (are.tag_pages h has).off_table on_table))
+  table_page_same h on_table = enters.sets.elsewhere h (off_slot places tag.slot h (false_from_ne_true (has_home places h) (λ has. (are.tag_pages h has).off_table on_table)))
 
   tag_page_same : (h : Home) → has_home places h ≡ true → new h ≡ mid h
   tag_page_same h has = enters.elsewhere h (false_from_ne_true (same_home h (home_of at)) (λ same. (are.tag_pages h has).off_table (subst (λ (h : Home). Contains (table_of cells h.vol) h.page) (sym (homes_same h (home_of at) same)) on)))
@@ -473,7 +474,7 @@ module _ (fileset : ℕ) (places : List TagPlace) (tag : Tag) (at : CellAt) (cha
     pub beside_created : LeavesBeside cells_now places old new
     beside_created h out none =
         enters.elsewhere h (false_from_ne_true (same_home h (home_of at)) (λ same. out (subst (λ (h : Home). Contains (table_of cells_now h.vol) h.page) (sym (homes_same h (home_of at) same)) prepared.on)))
-        ∙ enters.sets.elsewhere h none ∙ prepared.elsewhere h out none
+        ∙ enters.sets.elsewhere h (off_slot places tag.slot h none) ∙ prepared.elsewhere h out none
 
 -- after a cell was handed out, where a tag could be taken
 module _ (prefer : ℕ) (at : CellAt) (old between : Pages) (fileset : ℕ) (places : List TagPlace) (chains : Chains) (space space_now : Spaces) (cells cells_now : Cells) (low : 1 ≤ at.vol) (are : AreTogether fileset places space cells old chains)

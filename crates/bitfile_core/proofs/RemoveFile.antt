@@ -16,13 +16,14 @@ use Rattle.bmt_mcells.specs.CellPage.{cell_at, cell_of as bytes_of, home_of, is_
 use Rattle.bmt_mcells.specs.Chain.{LeavesOthers, PlacedCell, StandsAt, is_at}
 use Rattle.bmt_mcells.proofs.Changed.{homes_same}
 use Rattle.tag_dirs.specs.declared.dir.TagPlace.{TagPlace}
-use Rattle.tag_dirs.specs.Directory.{IsDirectory, IsPageOf, SetsTag, cell_of, has_home, sequence_of}
+use Rattle.tag_dirs.specs.Directory.{IsDirectory, IsPageOf, SetsTag, cell_of, has_home, is_page_of_slot, sequence_of}
+use Rattle.tag_dirs.proofs.Slots.{off_slot}
 use Rattle.extent_records.specs.Writing.{most_rows}
 use Rattle.bitfile_cells.specs.Changes.{with_record}
 use Rattle.bitfile_cells.specs.Files.{AreFile, IsFile, has_rows}
 use Rattle.bitfile_cells.proofs.MapRecords.{value_has_rows}
-use Rattle.bitfile_core.specs.Files.{AreFiles, Chains, HasFirstKinds, IsLiveCell, LeadsToFile, attributes_of, is_first_kind}
-use Rattle.bitfile_core.specs.Changes.{ChangesBeside, ChangesFirst, HasFirstRoom, is_first, is_page_of_first, IsLive, KeepsSequences, Removes, says_removed, with_chain, with_first}
+use Rattle.bitfile_core.specs.Files.{AreFiles, Chains, IsLiveCell, LeadsToFile, attributes_of, is_first_kind}
+use Rattle.bitfile_core.specs.Changes.{ChangesBeside, ChangesFirst, HasFirstRoom, is_first, is_page_of_first, is_page_of_tag, IsLive, KeepsSequences, Removes, says_removed, with_chain, with_first}
 use Rattle.bitfile_core.proofs.FirstCell.{file_now, find_other}
 use Rattle.bitfile_core.proofs.FirstRoom.{kinds_replaced}
 use Rattle.bitfile_core.proofs.Live.{live_none, live_some}
@@ -76,16 +77,14 @@ module _ (pages : Pages) (fileset : ℕ) (places : List TagPlace) (tag : Tag) (c
     pub is_at : first.at ≡ at
     pub file : AreFile pages first rest
     pub kinds : AllByRecursion (λ r. is_first_kind (kind_of r) ≡ true) first.cell.records
+    pub slot : first.cell.head.slot ≡ tag.slot
 
   pub the_first : First
-  the_first = let is = live_some attributes_of pages (chains tag) at live in by_cells is.cells is.is is.is_file (kinds_of (chains tag) is.cells is.is (are.some tag))
+  the_first = let is = live_some attributes_of pages (chains tag) at live in by_cells is.cells is.is is.is_file (subst (λ o. IfSome o (LeadsToFile fileset places pages tag)) is.is (are.some tag))
     where
-      kinds_of : (o : Option (List PlacedCell)) (cells : List PlacedCell) → o ≡ Some cells → IfSome o (LeadsToFile fileset places pages tag) → HasFirstKinds cells
-      kinds_of o cells is some = let leads = subst (λ o. IfSome o (LeadsToFile fileset places pages tag)) is some in leads.kinds
-
-      by_cells : (cells : List PlacedCell) → chains tag ≡ Some cells → IsFile pages at cells → HasFirstKinds cells → First
-      by_cells [] is is_file kinds = absurd is_file
-      by_cells (first ∷ rest) is is_file kinds = record { first = first; rest = rest; is = is; is_at = is_file.0; file = is_file.1; kinds = kinds }
+      by_cells : (cells : List PlacedCell) → chains tag ≡ Some cells → IsFile pages at cells → LeadsToFile fileset places pages tag cells → First
+      by_cells [] is is_file leads = absurd is_file
+      by_cells (first ∷ rest) is is_file leads = record { first = first; rest = rest; is = is; is_at = is_file.0; file = is_file.1; kinds = leads.kinds; slot = leads.is_of.0 }
 
   pub room : HasFirstRoom pages at
   room = record {
@@ -99,25 +98,30 @@ module _ (pages : Pages) (fileset : ℕ) (places : List TagPlace) (tag : Tag) (c
       subst (λ o. ChangesFirst o pages mid) (sym the_first.is)
       (subst (λ (a : CellAt). LeavesOthers (is_at a) pages mid × ((home : Home) → same_home home (home_of a) ≡ false → mid home ≡ pages home)) (sym the_first.is_at) (leaves, elsewhere))
 
-  module _ (value : Record) (first_kind : is_first_kind (kind_of value) ≡ true) (no_rows : has_rows value ≡ false) (other : ¬ 1 ≡ kind_of value) (mid : Pages) (stands : StandsAt mid at (with_record (kind_of value) (Some value) the_first.first.cell)) (leaves : LeavesOthers (is_at at) pages mid) (elsewhere : (home : Home) → same_home home (home_of at) ≡ false → mid home ≡ pages home) where
-    now_first : PlacedCell
-    now_first = record { at = the_first.first.at; cell = with_record (kind_of value) (Some value) the_first.first.cell }
-
+  module _ (kind : ℕ) (value : Option Record) (of_kind : IfSome value (λ r. kind_of r ≡ kind)) (first_kind : IfSome value (λ r. is_first_kind (kind_of r) ≡ true)) (no_map : nat_le 1 (most_rows kind) ≡ false) (other : ¬ 1 ≡ kind) (mid : Pages)
+      (stands : StandsAt mid at (with_record kind value the_first.first.cell)) (leaves : LeavesOthers (is_at at) pages mid) (elsewhere : (home : Home) → same_home home (home_of at) ≡ false → mid home ≡ pages home) where
     leaves_first : LeavesOthers (is_at the_first.first.at) pages mid
     leaves_first = subst (λ (a : CellAt). LeavesOthers (is_at a) pages mid) (sym the_first.is_at) leaves
 
-    file_mid : AreFile mid (record { at = the_first.first.at; cell = with_record (kind_of value) (Some value) the_first.first.cell }) the_first.rest
-    file_mid =
-        file_now pages mid the_first.first the_first.rest (kind_of value) (Some value) the_first.file leaves_first
-        (subst (λ (a : CellAt). StandsAt mid a (with_record (kind_of value) (Some value) the_first.first.cell)) (sym the_first.is_at) stands) refl no_rows
-        (λ kind. true≢false (sym (value_has_rows the_first.file.value the_first.file.map.is_map) ∙ ap (λ k. nat_le 1 (most_rows k)) kind ∙ no_rows))
-        (subst (λ o. IsSome o) (sym (find_other (kind_of value) 1 (Some value) the_first.first.cell.records other refl)) the_first.file.attributes)
+    no_rows : IfSome value (λ r. has_rows r ≡ false)
+    no_rows = by_value value of_kind
+      where
+        by_value : (o : Option Record) → IfSome o (λ r. kind_of r ≡ kind) → IfSome o (λ r. has_rows r ≡ false)
+        by_value None is = tt
+        by_value (Some r) is = ap (λ k. nat_le 1 (most_rows k)) is ∙ no_map
 
-    pub files_mid : AreFiles fileset places mid (with_chain tag (with_first (with_record (kind_of value) (Some value))) chains)
+    file_mid : AreFile mid (record { at = the_first.first.at; cell = with_record kind value the_first.first.cell }) the_first.rest
+    file_mid =
+        file_now pages mid the_first.first the_first.rest kind value the_first.file leaves_first
+        (subst (λ (a : CellAt). StandsAt mid a (with_record kind value the_first.first.cell)) (sym the_first.is_at) stands) of_kind no_rows
+        (λ is. true≢false (sym (value_has_rows the_first.file.value the_first.file.map.is_map) ∙ ap (λ k. nat_le 1 (most_rows k)) is ∙ no_map))
+        (subst (λ o. IsSome o) (sym (find_other kind 1 value the_first.first.cell.records other of_kind)) the_first.file.attributes)
+
+    pub files_mid : AreFiles fileset places mid (with_chain tag (with_first (with_record kind value)) chains)
     files_mid =
-        files_now (with_record (kind_of value) (Some value)) tag chains pages mid fileset places are the_first.first the_first.rest the_first.is the_first.file.links.stands.bytes the_first.file.links.stands.there leaves_first
+        files_now (with_record kind value) tag chains pages mid fileset places are the_first.first the_first.rest the_first.is the_first.file.links.stands.bytes the_first.file.links.stands.there leaves_first
         (subst (λ (a : CellAt). (home : Home) → same_home home (home_of a) ≡ false → mid home ≡ pages home) (sym the_first.is_at) elsewhere) file_mid refl
-        (kinds_replaced (kind_of value) (Some value) the_first.first.cell.records the_first.kinds first_kind)
+        (kinds_replaced kind value the_first.first.cell.records the_first.kinds first_kind)
 
     used_mid : IsSome (cell_of mid places tag)
     used_mid =
@@ -137,20 +141,23 @@ module _ (pages : Pages) (fileset : ℕ) (places : List TagPlace) (tag : Tag) (c
     not_first is = omega (arith, is)
 
     removed_file : AreFile mid (record { at = the_first.first.at; cell = says_removed the_first.first.cell }) the_first.rest
-    removed_file = file_mid (Pending Remove) refl refl not_first mid stands leaves elsewhere
+    removed_file = file_mid 6 (Some (Pending Remove)) refl refl refl not_first mid stands leaves elsewhere
 
     pub removed_files : AreFiles fileset places mid (with_chain tag (with_first says_removed) chains)
-    removed_files = files_mid (Pending Remove) refl refl not_first mid stands leaves elsewhere
+    removed_files = files_mid 6 (Some (Pending Remove)) refl refl refl not_first mid stands leaves elsewhere
 
     pub removed_used : IsSome (cell_of mid places tag)
-    removed_used = used_mid (Pending Remove) refl refl not_first mid stands leaves elsewhere
+    removed_used = used_mid 6 (Some (Pending Remove)) refl refl refl not_first mid stands leaves elsewhere
 
     module _ (new : Pages) (sets : SetsTag tag None places mid new) where
+      off_tags : (h : Home) → has_home places h ≡ false → new h ≡ mid h
+      off_tags h none = sets.elsewhere h (off_slot places tag.slot h none)
+
       pub removes : Removes fileset places tag at chains new
       removes = record {
         files = files_without mid new fileset places tag chains says_removed removed_files are.apart sets;
         pending = subst (λ o. IsSomeAnd o (λ cells. IsFile new at (with_first says_removed cells))) (sym the_first.is)
-            (is_file_kept mid new places removed_files.directory sets.elsewhere at (record { at = the_first.first.at; cell = says_removed the_first.first.cell } ∷ the_first.rest) (the_first.is_at, removed_file));
+            (is_file_kept mid new places removed_files.directory off_tags at (record { at = the_first.first.at; cell = says_removed the_first.first.cell } ∷ the_first.rest) (the_first.is_at, removed_file));
       }
 
       pub keeps_sequences : KeepsSequences places pages new
@@ -168,7 +175,7 @@ module _ (pages : Pages) (fileset : ℕ) (places : List TagPlace) (tag : Tag) (c
       pub beside : ChangesBeside places (chains tag) pages new
       beside = record {
         cells = subst (λ o. IfSome o (λ cells. (q : CellAt) → is_first q cells ≡ false → cell_at new q ≡ cell_at pages q)) (sym the_first.is)
-            (λ q other. cells_beside mid new places removed_files.directory sets.directory sets.elsewhere q ∙ leaves_first (Pending Remove) refl refl not_first mid stands leaves elsewhere q other);
-        pages = subst (λ o. IfSome o (λ cells. (home : Home) → has_home places home ≡ false → is_page_of_first home cells ≡ false → new home ≡ pages home)) (sym the_first.is)
-            (λ home none other. sets.elsewhere home none ∙ elsewhere home (subst (λ (a : CellAt). same_home home (home_of a) ≡ false) the_first.is_at other));
+            (λ q other. cells_beside mid new places removed_files.directory sets.directory off_tags q ∙ leaves_first 6 (Some (Pending Remove)) refl refl refl not_first mid stands leaves elsewhere q other);
+        pages = subst (λ o. IfSome o (λ cells. (home : Home) → is_page_of_tag places home cells ≡ false → is_page_of_first home cells ≡ false → new home ≡ pages home)) (sym the_first.is)
+            (λ home none other. sets.elsewhere home (subst (λ (slot : ℕ). is_page_of_slot places slot home ≡ false) the_first.slot none) ∙ elsewhere home (subst (λ (a : CellAt). same_home home (home_of a) ≡ false) the_first.is_at other));
       }

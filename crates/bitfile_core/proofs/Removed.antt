@@ -15,6 +15,7 @@ use Rattle.bmt_mcells.specs.Chain.{Follow, PlacedCell, StandsAt}
 use Rattle.bmt_mcells.proofs.Changed.{homes_same}
 use Rattle.tag_dirs.specs.declared.dir.TagPlace.{TagPlace}
 use Rattle.tag_dirs.specs.Directory.{IsDirectory, IsPageOf, SetsTag, cell_of, has_home}
+use Rattle.tag_dirs.proofs.Slots.{off_slot}
 use Rattle.bitfile_cells.specs.Files.{AreFile, IsFile}
 use Rattle.bitfile_core.specs.Files.{AreApart, AreFiles, Chains, LeadsToFile}
 use Rattle.bitfile_core.specs.Changes.{with_chain, with_first, without_chain}
@@ -93,7 +94,7 @@ module _ (old new : Pages) (fileset : ℕ) (places : List TagPlace) (tag : Tag) 
     where
       by_cell : (o : Option CellAt) → IsSomeAnd o (λ at. IsFile old at cells) → IsSomeAnd o (λ at. IsFile new at cells)
       by_cell None leads = leads
-      by_cell (Some at) leads = is_file_kept old new places are.directory sets.elsewhere at cells leads
+      by_cell (Some at) leads = is_file_kept old new places are.directory (λ h none. sets.elsewhere h (off_slot places tag.slot h none)) at cells leads
 
   some_kept : (t : Tag) → IfSome (without_chain tag chains t) (LeadsToFile fileset places new t)
   some_kept t = ⊎_elim

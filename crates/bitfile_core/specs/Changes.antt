@@ -18,7 +18,7 @@ use Rattle.record_table.specs.declared.record.Leftover.TheVariants.{Remove}
 use Rattle.bmt_mcells.specs.CellPage.{cell_at, home_of}
 use Rattle.bmt_mcells.specs.Chain.{LeavesOthers, PlacedCell, StandsAt, is_at}
 use Rattle.tag_dirs.specs.declared.dir.TagPlace.{TagPlace}
-use Rattle.tag_dirs.specs.Directory.{has_home, sequence_of}
+use Rattle.tag_dirs.specs.Directory.{is_page_of_slot, sequence_of}
 use Rattle.bitfile_cells.specs.Changes.{with_record}
 use Rattle.bitfile_cells.specs.Files.{IsFile}
 use Rattle.bitfile_core.specs.declared.attributes.Attributes.{Attributes}
@@ -104,10 +104,16 @@ abbrev pub is_page_of_first : Home → List PlacedCell → Bool
 is_page_of_first home [] = false
 is_page_of_first home (first ∷ rest) = same_home home (home_of first.at)
 
--- the first cell of a chain and the pages of a tag directory may have changed, and nothing else
+-- the page of a tag directory that has the slot of a chain's tag, which its first cell names
+abbrev pub is_page_of_tag : List TagPlace → Home → List PlacedCell → Bool
+is_page_of_tag places home [] = false
+is_page_of_tag places home (first ∷ rest) = is_page_of_slot places first.cell.head.slot home
+
+-- the first cell of a chain and the page of a tag directory that has its tag's slot may have
+-- changed, and nothing else
 pub record ChangesBeside (places : List TagPlace) (chain : Option (List PlacedCell)) (old new : Pages)
     : Type 0 where
   pub cells : IfSome chain (λ cells. (at : CellAt) → is_first at cells ≡ false
       → cell_at new at ≡ cell_at old at)
-  pub pages : IfSome chain (λ cells. (home : Home) → has_home places home ≡ false
+  pub pages : IfSome chain (λ cells. (home : Home) → is_page_of_tag places home cells ≡ false
       → is_page_of_first home cells ≡ false → new home ≡ old home)

@@ -1,7 +1,7 @@
 -- A directory after a change of one slot's entry.
 use Rattle.std.proofs.Common.{◌≡◌, ◌∙◌, ◌⊎◌, inl, inr, ℕ, suc, ◌/◌, ◌%◌, ◌<◌, ◌≤◌, Bool, true, false, cond, ◌&&◌, nat_eq, Option, Some, None, IfSome, IsSome, IsSomeAnd, List, [], ◌∷◌, slice_get, refl, sym, ap, subst, arith}
-use Rattle.std.proofs.lemmas.Bool.{eqb-true, eq-eqb, both_ways, or_left, or_right, true≢false}
-use Rattle.std.specs.Option.{option_and_then, option_map, unwrap_or}
+use Rattle.std.proofs.lemmas.Bool.{eqb-true, eq-eqb, both_ways, false_from_ne_true, or_left, or_right, true≢false}
+use Rattle.std.specs.Option.{option_and_then, option_map, option_map_or, unwrap_or}
 use Rattle.domain_base.specs.declared.place.CellAt.{CellAt}
 use Rattle.domain_base.specs.declared.place.Home.{Home}
 use Rattle.domain_base.specs.declared.place.Tag.{Tag}
@@ -11,7 +11,7 @@ use Rattle.bmt_mcells.proofs.Changed.{homes_same, same_itself}
 use Rattle.tag_dirs.specs.declared.dir.TagPlace.{TagPlace}
 use Rattle.tag_dirs.specs.declared.page.TagEntry.{TagEntry}
 use Rattle.tag_dirs.specs.TagPage.{IsAllowed, IsTagPage, entry_of, index_of, slot_of}
-use Rattle.tag_dirs.specs.Directory.{CanHave, ChangesAt, ChangesSlot, IsDirectory, IsPageOf, SetsTag, cell_for, cell_of, entry_at, has_home, home_behind, home_with, sequence_of}
+use Rattle.tag_dirs.specs.Directory.{CanHave, ChangesAt, ChangesSlot, IsDirectory, IsPageOf, SetsTag, cell_for, cell_of, entry_at, has_home, home_behind, home_with, is_page_of_slot, sequence_of}
 
 pub none_is_some : {X : Type 0} (x : X) → None ≡ Some x → ⊥
 none_is_some {X} x is = subst Test is tt
@@ -66,6 +66,16 @@ found (p ∷ ps) index home is = by_test (nat_eq p.index index) refl (λ later. 
           stands = rest.stands;
           listed = or_right (same_home home p.home) (has_home ps home) rest.listed;
         }
+
+-- a home at which no page of the directory stands is not that of a slot's page
+pub off_slot : (places : List TagPlace) (slot : ℕ) (h : Home) → has_home places h ≡ false → is_page_of_slot places slot h ≡ false
+off_slot places slot h none = by_home (home_with places (slot / 1022)) refl
+  where
+    by_home : (o : Option Home) → home_with places (slot / 1022) ≡ o → option_map_or (same_home h) o false ≡ false
+    by_home None at = refl
+    by_home (Some home) at =
+        false_from_ne_true (same_home h home)
+        (λ same. both_ways (has_home places h) none (ap (has_home places) (homes_same h home same) ∙ (found places (slot / 1022) home at).listed))
 
 pub page_there : (pages : Pages) (places : List TagPlace) (index : ℕ) (home : Home) → IsDirectory pages places → home_with places index ≡ Some home
     → IsSomeAnd (pages home) (λ page. IsTagPage page × (index_of page ≡ index))
@@ -170,12 +180,8 @@ module _ (old new : Pages) (places : List TagPlace) (slot : ℕ) (home : Home) (
   slot_changed = record {
     directory = kept;
     entries = entries;
-    elsewhere = λ h none. changes.elsewhere h (away h none (same_home h home) refl);
+    elsewhere = λ h none. changes.elsewhere h (sym (ap (λ o. option_map_or (same_home h) o false) at) ∙ none);
   }
-    where
-      away : (h : Home) → has_home places h ≡ false → (b : Bool) → same_home h home ≡ b → same_home h home ≡ false
-      away h none true same = absurd (both_ways (has_home places h) none (ap (has_home places) (homes_same h home same) ∙ (found places (slot / 1022) home at).listed))
-      away h none false other = other
 
 -- ---- a tag leads to another cell
 

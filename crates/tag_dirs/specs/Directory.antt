@@ -1,7 +1,7 @@
 -- Tag directories: the pages of one, and what their entries say.
 use Rattle.std.specs.Prelude.{◌≡◌, ◌==◌, ◌+◌, ◌/◌, ◌%◌, ◌<◌, ℕ, Bool, true, false, List, [], ◌∷◌, ◌++◌, ◌⊎◌, length, Option, Some, None, IfSome, IsSomeAnd, slice_get, if◌then◌else◌}
 use Rattle.std.specs.List.{list_any}
-use Rattle.std.specs.Option.{option_and_then, option_map}
+use Rattle.std.specs.Option.{option_and_then, option_map, option_map_or}
 use Rattle.domain_base.specs.declared.place.CellAt.{CellAt}
 use Rattle.domain_base.specs.declared.place.Home.{Home}
 use Rattle.domain_base.specs.declared.place.Tag.{Tag}
@@ -62,6 +62,10 @@ pub record IsKept (places : List TagPlace) (numbers : ℕ → Option ℕ) (guess
 abbrev pub has_home : List TagPlace → Home → Bool
 has_home places home = list_any (λ (p : TagPlace). same_home home p.home) places
 
+-- the page of the directory that has a slot stands there
+abbrev pub is_page_of_slot : List TagPlace → ℕ → Home → Bool
+is_page_of_slot places slot home = option_map_or (same_home home) (home_with places (slot / 1022)) false
+
 -- the entry of a slot, if a page has it
 abbrev pub entry_at : Pages → List TagPlace → ℕ → Option TagEntry
 entry_at pages places slot =
@@ -115,16 +119,17 @@ pub record CanHave (place : ℕ) (entry : TagEntry) (page : List ℕ) : Type 0 w
   pub good : IsTagPage page
   pub allowed : IsAllowed (slot_of page place) entry
 
--- a directory in which one slot has another entry, and all others are as they were
+-- a directory in which one slot has another entry, and all others are as they were; no page changes
+-- but the one that has the slot
 pub record ChangesSlot (slot : ℕ) (entry : TagEntry) (places : List TagPlace) (old new : Pages)
     : Type 0 where
   pub directory : IsDirectory new places
   pub entries : (s : ℕ) → entry_at new places s
       ≡ (if s == slot then Some entry else entry_at old places s)
-  pub elsewhere : (h : Home) → has_home places h ≡ false → new h ≡ old h
+  pub elsewhere : (h : Home) → is_page_of_slot places slot h ≡ false → new h ≡ old h
 
 -- a directory in which the tag leads to this cell, or to none, its slot has its sequence, and all
--- other tags and slots are as they were
+-- other tags and slots are as they were; no page changes but the one that has the slot
 pub record SetsTag (tag : Tag) (cell : Option CellAt) (places : List TagPlace) (old new : Pages)
     : Type 0 where
   pub directory : IsDirectory new places
@@ -132,7 +137,7 @@ pub record SetsTag (tag : Tag) (cell : Option CellAt) (places : List TagPlace) (
       ≡ (if same_tag t tag then cell else cell_of old places t)
   pub sequences : (s : ℕ) → sequence_of new places s
       ≡ (if s == tag.slot then Some tag.seq else sequence_of old places s)
-  pub elsewhere : (h : Home) → has_home places h ≡ false → new h ≡ old h
+  pub elsewhere : (h : Home) → is_page_of_slot places tag.slot h ≡ false → new h ≡ old h
 
 -- pages of which one leads to another next page
 pub record LinksAt (last home : Home) (old new : Pages) : Type 0 where

@@ -4,6 +4,7 @@ use Rattle.bmt_mcells.specs.Chain.{LeavesOthers, StandsAt, is_at}
 use Rattle.bitfile_core.specs.Files.{IsLiveCell}
 use Rattle.bitfile_core.proofs.RemoveFile.{beside, keeps_sequences, removed_files, no_live, removes, room, the_first, removed_used}
 use Rattle.tag_dirs.specs.declared.dir.TagPlace.{TagPlace}
+use Rattle.tag_dirs.proofs.Slots.{off_slot}
 use Rattle.bitfile_core.specs.Changes.{says_removed, without_chain}
 use Rattle.bitfile_core.specs.Together.{AreTogether}
 use Rattle.bitfile_core.proofs.FirstTogether.{runs_kept, together_first}
@@ -95,4 +96,4 @@ returns-clause-together g c = λ space cells chains are.
     (runs_kept says_removed of.first of.rest (removed_keeps pages of.first of.rest of.file)) in
     let removed = removes pages fileset places c.args.tag chains c.in-Some.at are.files live mid stands c.set_pending.ensures.others c.set_pending.ensures.elsewhere new c.drop_tag.ensures.value in
     subst (λ (ps : List TagPlace). AreTogether fileset ps space cells new (without_chain c.args.tag chains)) (sym c.drop_tag.ensures.same)
-    (together_without pages mid new fileset places c.args.tag chains space cells are between.allocated removed.files c.drop_tag.ensures.value.elsewhere)
+    (together_without pages mid new fileset places c.args.tag chains space cells are between.allocated removed.files (λ h none. c.drop_tag.ensures.value.elsewhere h (off_slot places c.args.tag.slot h none)))

@@ -1,4 +1,4 @@
-use Rattle.std.proofs.Common.{refl, subst, sym, arith}
+use Rattle.std.proofs.Common.{Some, refl, subst, sym, arith}
 use Rattle.domain_base.specs.declared.place.CellAt.{CellAt}
 use Rattle.record_table.specs.declared.record.Record.TheVariants.{Parent}
 use Rattle.bmt_mcells.specs.Chain.{LeavesOthers, StandsAt, is_at}
@@ -24,7 +24,7 @@ returns-in-Some-clause-ok g c = λ chains are.
     let live = subst (IsLiveCell pages (chains c.args.tag)) c.in-Some.is (c.live_cell.ensures chains are) in
     let of = the_first pages fileset places c.args.tag chains c.in-Some.at are live in
     map_ok
-    (λ stands. files_mid pages fileset places c.args.tag chains c.in-Some.at are live (Parent c.args.parent.slot c.args.parent.seq) refl refl (λ is. omega (arith, is))
+    (λ stands. files_mid pages fileset places c.args.tag chains c.in-Some.at are live 10 (Some (Parent c.args.parent.slot c.args.parent.seq)) refl refl refl (λ is. omega (arith, is))
     (g.M.MetaPages.pages c.put_parent.new.pages) stands c.put_parent.ensures.others c.put_parent.ensures.elsewhere)
     c.put_parent.result (c.put_parent.ensures.ok of.first.cell (subst (λ (a : CellAt). StandsAt pages a of.first.cell) of.is_at of.file.links.stands))
 
