@@ -26,7 +26,9 @@ use Rattle.bitfile_cells.proofs.MapRecords.{kind_found, runs_by_map, value_has_r
 use Rattle.bitfile_cells.proofs.Still.{allocated_still}
 use Rattle.bitfile_core.specs.declared.attributes.Attributes.{Attributes}
 use Rattle.bitfile_core.specs.Changes.{says_attributes, says_parent, with_attributes, with_chain, with_first}
+use Rattle.bitfile_core.specs.declared.indexing.IndexPlace.{IndexPlace}
 use Rattle.bitfile_core.specs.Files.{AreFiles, Chains, place_at}
+use Rattle.bitfile_core.specs.Index.{index_record, says_index}
 use Rattle.bitfile_core.specs.Together.{AreTogether}
 use Rattle.std.proofs.lemmas.Grind.{flat_map-append}
 use Rattle.bitfile_core.proofs.FirstCell.{map_stays}
@@ -95,6 +97,13 @@ module _ (pages : Pages) (first : PlacedCell) (rest : List PlacedCell) (file : A
 
   pub parent_keeps : (parent : Tag) → map_records (says_parent parent first.cell).records ≡ map_records first.cell.records
   parent_keeps parent = map_stays 10 (Some (written.Parent parent.slot parent.seq)) first.cell.records file.value file.map.only (not_of file.value 10 rows refl) refl ∙ sym file.map.only
+
+  pub index_keeps : (index : Option IndexPlace) → map_records (says_index index first.cell).records ≡ map_records first.cell.records
+  index_keeps index = map_stays 9 (option_map index_record index) first.cell.records file.value file.map.only (not_of file.value 9 rows refl) (no_rows index) ∙ sym file.map.only
+    where
+      no_rows : (o : Option IndexPlace) → IfSome (option_map index_record o) (λ r. has_rows r ≡ false)
+      no_rows None = tt
+      no_rows (Some i) = refl
 
   pub truncated_keeps : (size : ℕ) (lowered : Option ℕ) → map_records (says_truncated size lowered first.cell).records ≡ map_records first.cell.records
   truncated_keeps size lowered = by_attributes (record_of 1 first.cell.records) refl file.attributes

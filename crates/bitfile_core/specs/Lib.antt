@@ -6,3 +6,5 @@ pub mod Pages
 pub mod Shown
 pub mod Together
 pub mod Truncation
+pub mod Index
+pub mod State

@@ -5,6 +5,7 @@ mod attributes;
 mod bitfiles;
 mod creating;
 mod giving;
+mod indexing;
 mod laws;
 mod moving;
 mod new_cells;
@@ -12,5 +13,6 @@ mod truncating;
 
 pub use attributes::Attributes;
 pub use bitfiles::Bitfiles;
+pub use indexing::IndexPlace;
 pub use laws::files_show_once;
 pub use new_cells::NewFile;
