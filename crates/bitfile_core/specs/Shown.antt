@@ -45,7 +45,7 @@ AreIndexPages pages (Some home) (page ∷ more) = IsSomeAnd (pages home)
 AreIndexPages pages None (page ∷ more) = ⊥
 AreIndexPages pages (Some home) [] = ⊥
 
--- what a file is, and as many pages as its size says, where it is a directory
+-- what a file is by its attributes: its kind, its owner and its links, but not its size
 pub record IsWhat (file : Bitfile) (is : Attributes) : Type 0 where
   pub kind : file.kind ≡ is.kind
   pub uid : file.uid ≡ is.uid
