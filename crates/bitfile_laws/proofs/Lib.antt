@@ -1,0 +1,5 @@
+pub mod Calls
+pub mod FirstCells
+pub mod Parts
+pub mod Placed
+pub mod Told
