@@ -1,7 +1,8 @@
 -- Pages that are given back, and the free space then.
-use Rattle.std.proofs.Common.{◌≡◌, ◌∙◌, ℕ, zero, suc, ◌+◌, ◌-◌, ◌≤◌, ◌||◌, get_or, Bool, true, false, List, [], ◌∷◌, ◌++◌, nat_eq, Option, Some, None, IsSomeAnd, Contains, refl, sym, ap, subst, arith, ⊎_elim}
+use Rattle.std.proofs.Common.{◌≡◌, ◌∙◌, ℕ, zero, suc, ◌+◌, ◌-◌, ◌≤◌, ◌||◌, get_or, Bool, true, false, List, [], ◌∷◌, ◌++◌, nat_eq, Option, Some, None, IsSomeAnd, Contains, refl, sym, ap, subst, arith, ⊎_elim, ◌⊎◌, inl, inr}
 use Rattle.std.proofs.lemmas.Bool.{both_ways, cases_Bool, cases_lt, eq-eqb, eqb-true, or_left}
 use Rattle.std.specs.Option.{option_map}
+use Rattle.std.proofs.lemmas.List.Elements.{Contains-append_cases, Contains-append_left, Contains-append_right}
 use Rattle.std.specs.FinSet.{contains}
 use Rattle.domain_base.specs.declared.place.Home.{Home}
 use Rattle.page_store.specs.Pages.{Pages}
@@ -17,8 +18,8 @@ use Rattle.free_space.proofs.Places.{volume_of-change_other, volume_of-change_sa
 use Rattle.bitfile_cells.specs.Allocated.{AreAllocated}
 use Rattle.bitfile_cells.proofs.Allocated.{there_is}
 use Rattle.bitfile_core.proofs.Again.{one_home}
-use Rattle.chain_release.specs.Releases.{GivesBack, with_given}
-use Rattle.chain_release.specs.Steps.{GivesPage, IsHomeWithin}
+use Rattle.chain_release.specs.Releases.{AreAllOnce, GivesBack, with_given}
+use Rattle.chain_release.specs.Steps.{IsHomeFrom, IsHomeWithin}
 
 -- ---- one page that waits
 
@@ -114,25 +115,8 @@ module _ (from page : ℕ) (map : Places) (kind : PageUse) (group : ℕ) (s t u 
   abbrev Within : ℕ → Home → Type 0
   Within to = IsHomeWithin from to map
 
-  -- where the page has no home nothing more is given
-  same_homes : ((home : Home) → ¬ map page ≡ At home) → GivesBack (Within page) kind group s t → u ≡ t → GivesBack (Within (page + 1)) kind group s u
-  same_homes none so_far same = record {
-    homes = so_far.homes;
-    each = λ home. (
-      (λ inside. let w = (so_far.each home).0 inside in record { page = w.page; begins = w.begins; ends = omega (arith, w.ends); there = w.there }),
-      (λ w. ⊎_elim
-          (λ before. (so_far.each home).1 (record { page = w.page; begins = w.begins; ends = before; there = w.there }))
-          (λ past. absurd (none home (sym (ap map (the_page w past)) ∙ w.there)))
-          (cases_lt w.page page)),
-    );
-    once = so_far.once;
-    is = same ∙ so_far.is;
-  }
-    where
-      the_page : {home : Home} (w : Within (page + 1) home) → page ≤ w.page → w.page ≡ page
-      the_page w past = omega (arith, past, w.ends)
-
-  more_homes : (home : Home) → map page ≡ At home → GivesBack (Within page) kind group s t → u ≡ change_volume (with_waiting (record { page = home.page; kind = kind; group = group })) t home.vol → GivesBack (Within (page + 1)) kind group s u
+  -- the next page of them has a home and is given too
+  pub more_homes : (home : Home) → map page ≡ At home → GivesBack (Within page) kind group s t → u ≡ change_volume (with_waiting (record { page = home.page; kind = kind; group = group })) t home.vol → GivesBack (Within (page + 1)) kind group s u
   more_homes home there so_far more = record {
     homes = home ∷ so_far.homes;
     each = λ h. (forth h, back h);
@@ -149,20 +133,6 @@ module _ (from page : ℕ) (map : Places) (kind : PageUse) (group : ℕ) (s t u 
           (λ before. let inside = (so_far.each h).1 (record { page = w.page; begins = w.begins; ends = before; there = w.there }) in (suc inside.0, omega (arith, inside.1), inside.2))
           (λ past. let e : w.page ≡ page = omega (arith, past, w.ends) in (0, omega arith, one_home home h (sym there ∙ sym (ap map e) ∙ w.there)))
           (cases_lt w.page page)
-
-  pub gives_more : GivesBack (Within page) kind group s t → GivesPage (map page) kind group t u → GivesBack (Within (page + 1)) kind group s u
-  gives_more so_far gives = by_place (map page) refl gives
-    where
-      by_place : (x : PagePlace) → map page ≡ x → GivesPage x kind group t u → GivesBack (Within (page + 1)) kind group s u
-      by_place (At home) is gives = more_homes home is so_far gives
-      by_place Hole is gives = same_homes (λ home there. hole_not home (sym is ∙ there)) so_far gives
-        where
-          hole_not : (home : Home) → Hole ≡ At home → ⊥
-          hole_not home e = cc
-      by_place Absent is gives = same_homes (λ home there. absent_not home (sym is ∙ there)) so_far gives
-        where
-          absent_not : (home : Home) → Absent ≡ At home → ⊥
-          absent_not home e = cc
 
 pub gives_none : (from : ℕ) (map : Places) (kind : PageUse) (group : ℕ) (s : Spaces) (to : ℕ) → to ≤ from → GivesBack (IsHomeWithin from to map) kind group s s
 gives_none from map kind group s to less = record {
@@ -188,8 +158,53 @@ held_so_far from page map kind group s t gives once low home there held =
     (held_given kind group gives.homes s home (λ x inside. let w = (gives.each x).0 inside in low w.page x w.there) (low page home there)
     (λ inside. let w = (gives.each home).0 inside in omega (arith, w.ends, once w.page page home w.there there)) held)
 
+-- nor is one that is none of those that are given
+pub held_after : (P : Home → Type 0) (kind : PageUse) (group : ℕ) (s t : Spaces) → GivesBack P kind group s t → ((home : Home) → P home → 1 ≤ home.vol) → (home : Home) → 1 ≤ home.vol → (P home → ⊥) → IsHeld s home.vol home.page → IsHeld t home.vol home.page
+held_after P kind group s t gives low home own apart held =
+    subst (λ (x : Spaces). IsHeld x home.vol home.page) (sym gives.is)
+    (held_given kind group gives.homes s home (λ x inside. low x ((gives.each x).0 inside)) own (λ inside. apart ((gives.each home).0 inside)) held)
+
 pub absent_home : {x : PagePlace} (home : Home) → x ≡ Absent → x ≡ At home → ⊥
 absent_home home none there = absent_not home (sym none ∙ there)
   where
     absent_not : (home : Home) → Absent ≡ At home → ⊥
     absent_not home e = cc
+
+-- ---- some and then others
+
+given_append : (kind : PageUse) (group : ℕ) (xs ys : List Home) (s : Spaces) → with_given kind group (xs ++ ys) s ≡ with_given kind group xs (with_given kind group ys s)
+given_append kind group [] ys s = refl
+given_append kind group (x ∷ xs) ys s =
+    ap (λ (t : Spaces). change_volume (with_waiting (record { page = x.page; kind = kind; group = group })) t x.vol) (given_append kind group xs ys s)
+
+once_append : (xs ys : List Home) → AreAllOnce xs → AreAllOnce ys → ((home : Home) → Contains xs home → ¬ Contains ys home) → AreAllOnce (xs ++ ys)
+once_append [] ys once other apart = other
+once_append (x ∷ xs) ys once other apart = (
+  λ inside. ⊎_elim (λ first. once.0 first) (λ second. apart x (0, omega arith, refl) second) (Contains-append_cases xs ys x inside),
+  once_append xs ys once.1 other (λ home first. apart home (suc first.0, omega (arith, first.1), first.2)),
+)
+
+-- no home is of both, and those of either are all
+pub gives_both : (P Q R : Home → Type 0) (kind : PageUse) (group : ℕ) (s t u : Spaces) → ((home : Home) → R home → P home ⊎ Q home) → ((home : Home) → P home → R home) → ((home : Home) → Q home → R home) → ((home : Home) → P home → Q home → ⊥)
+    → GivesBack P kind group s t → GivesBack Q kind group t u → GivesBack R kind group s u
+gives_both P Q R kind group s t u either first second apart before after = record {
+  homes = after.homes ++ before.homes;
+  each = λ home. (
+    (λ inside. ⊎_elim (λ later. second home ((after.each home).0 later)) (λ earlier. first home ((before.each home).0 earlier)) (Contains-append_cases after.homes before.homes home inside)),
+    (λ is. ⊎_elim
+        (λ p. Contains-append_right after.homes before.homes home ((before.each home).1 p))
+        (λ q. Contains-append_left after.homes before.homes home ((after.each home).1 q))
+        (either home is)),
+  );
+  once = once_append after.homes before.homes after.once before.once (λ home later earlier. apart home ((before.each home).0 earlier) ((after.each home).0 later));
+  is = after.is ∙ ap (with_given kind group after.homes) before.is ∙ sym (given_append kind group after.homes before.homes s);
+}
+
+-- where no page has a home nothing is given
+pub gives_nowhere : (from : ℕ) (map : Places) (kind : PageUse) (group : ℕ) (s : Spaces) → ((page : ℕ) (home : Home) → ¬ map page ≡ At home) → GivesBack (IsHomeFrom from map) kind group s s
+gives_nowhere from map kind group s none = record {
+  homes = [];
+  each = λ home. ((λ inside. absurd (omega (arith, inside.1))), (λ w. absurd (none w.page home w.there)));
+  once = tt;
+  is = refl;
+}

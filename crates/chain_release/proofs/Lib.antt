@@ -5,6 +5,7 @@ pub mod Edited
 pub mod Ends
 pub mod Found
 pub mod Freed
+pub mod Gapless
 pub mod Given
 pub mod Once
 pub mod Others
@@ -12,5 +13,7 @@ pub mod Outcome
 pub mod Passed
 pub mod Planned
 pub mod Stepped
+pub mod Tails
 pub mod Used
+pub mod Walks
 pub mod Went

@@ -17,8 +17,7 @@ use Rattle.extent_records.specs.Rows.{runs_in}
 use Rattle.extent_records.specs.Writing.{IsMapRecord, places_before, places_in}
 use Rattle.free_cells.specs.Cells.{Cells, FreesCell}
 use Rattle.free_space.specs.declared.waiting.PageUse.{PageUse}
-use Rattle.free_space.specs.VolumeSpace.{with_waiting}
-use Rattle.free_space.specs.Spaces.{Spaces, change_volume}
+use Rattle.free_space.specs.Spaces.{Spaces}
 use Rattle.bitfile_cells.specs.Changes.{with_record}
 use Rattle.bitfile_cells.specs.FileChanges.{AreOnTables, LeavesOtherCells}
 use Rattle.bitfile_cells.specs.Files.{HasMap, IsFile, places_of}
@@ -29,6 +28,7 @@ use Rattle.chain_release.specs.declared.released.Released.{Released}
 use Rattle.chain_release.specs.declared.released.Released.TheVariants as released
 use Rattle.chain_release.specs.declared.releasing.Plan.{Plan}
 use Rattle.chain_release.specs.declared.stale.Stale.{Stale}
+use Rattle.chain_release.specs.declared.tail.ReadPage.{ReadPage}
 use Rattle.chain_release.specs.declared.tail.Tail.{Tail}
 use Rattle.chain_release.specs.Reading.{HasPageFrom}
 use Rattle.chain_release.specs.Releases.{GivesBack}
@@ -83,6 +83,13 @@ abbrev pub AreUnread : ℕ → ℕ → Places → Places → Type 0
 AreUnread from frozen own map = (page : ℕ) → from ≤ page → page < frozen
     → through (own page) (map page) ≡ None
 
+-- a page from one on that is frozen, has a home, and is none of the reader's own
+pub record IsReadIn (from frozen : ℕ) (own map : Places) (read : ReadPage) : Type 0 where
+  pub begins : from ≤ read.page
+  pub is_frozen : read.page < frozen
+  pub absent : own read.page ≡ Absent
+  pub there : map read.page ≡ At read.home
+
 -- some of a record's pages from one on are all its pages from another one on; the reader reads the
 -- last of them alone through the file, or none of them
 pub record IsTail (from frozen : ℕ) (own map : Places) (tail : Tail) : Type 0 where
@@ -96,14 +103,6 @@ pub record IsCut (from : ℕ) (value after : Record) : Type 0 where
   pub is_map : IsMapRecord after
   pub same_kind : kind_of after ≡ kind_of value
   pub at_page : (page : ℕ) → places_in after page ≡ places_before from (places_in value) page
-
--- a page that has a home waits from now on, and nothing else has changed
-abbrev pub GivesPage : PagePlace → PageUse → ℕ → Spaces → Spaces → Type 0
-GivesPage (At home) kind group space space_now = space_now
-    ≡ change_volume (with_waiting (record { page = home.page; kind = kind; group = group })) space
-    home.vol
-GivesPage Hole kind group space space_now = space_now ≡ space
-GivesPage Absent kind group space space_now = space_now ≡ space
 
 -- the home of a page from one on, and in front of another
 pub record IsHomeWithin (from to : ℕ) (map : Places) (home : Home) : Type 0 where

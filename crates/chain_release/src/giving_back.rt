@@ -1,18 +1,19 @@
 //! Pages of a file that are given back to the free space.
-ghost use Rattle.std.specs.Prelude.{◌≡◌, ◌≤◌, ◌<◌, ℕ, List};
-ghost use Rattle.domain_base.specs.declared.place.Home.{Home};
+ghost use Rattle.std.specs.Prelude.{◌≡◌, ◌∷◌, ◌≤◌, [], ℕ, List};
+ghost use Rattle.domain_base.specs.declared.place.Home.{Home as HomeOf};
 ghost use Rattle.bmt_mcells.specs.Chain.{PlacedCell};
 ghost use Rattle.extent_maps.specs.declared.run.PagePlace.TheVariants.{At};
-ghost use Rattle.extent_maps.specs.Runs.{place_of};
+ghost use Rattle.extent_maps.specs.declared.run.RunPlace.TheVariants as place;
+ghost use Rattle.extent_maps.specs.Runs.{IsRun, place_of};
 ghost use Rattle.free_space.specs.Spaces.{IsHeld};
 ghost use Rattle.bitfile_cells.specs.Files.{HasFile, IsFile};
 ghost use Rattle.chain_release.specs.Releases.{GivesBack, use_of as use_there};
-ghost use Rattle.chain_release.specs.Steps.{GivesPage, IsHomeFrom};
+ghost use Rattle.chain_release.specs.Steps.{IsHomeFrom};
 
-use crate::stale::end_of_map;
+use crate::runs::{first_page, home_in};
 use bmt_mcells::find_record;
-use domain_base::CellAt;
-use extent_maps::{ExtentMap, PagePlace};
+use domain_base::{CellAt, Home};
+use extent_maps::{ExtentMap, Run, RunPlace};
 use free_space::{FreeSpace, PageUse};
 use page_store::MetaPages;
 use record_table::Record;
@@ -32,18 +33,51 @@ pub(crate) fn use_of<M: MetaPages>(pages: &M, start: &CellAt) -> PageUse
     }
 }
 
-/// Gives back the page that a map has at that number, if it has a home.
-fn give_back_page(space: &mut FreeSpace, map: &ExtentMap, page: u32, kind: PageUse, group: u64)
-    requires { (home : Home) → place_of map.now page ≡ At home
+/// Gives back the pages of a run from one on, of which the first stands at that home.
+fn give_back_homes(
+    space: &mut FreeSpace,
+    run: &Run,
+    first: &Home,
+    from: u32,
+    kind: PageUse,
+    group: u64,
+)
+    requires run { IsRun run.now }
+    requires first { run.now.first ≡ place.At first.now }
+    requires volumes { (page : ℕ) (home : HomeOf) → place_of (run.now ∷ []) page ≡ At home
+        → 1 ≤ home.vol }
+    requires held { (page : ℕ) (home : HomeOf) → place_of (run.now ∷ []) page ≡ At home
         → IsHeld space.old home.vol home.page }
-    ensures { GivesPage (place_of map.now page) kind group space.old space.new }
+    requires once { (p q : ℕ) (home : HomeOf) → place_of (run.now ∷ []) p ≡ At home
+        → place_of (run.now ∷ []) q ≡ At home → p ≡ q }
+    ensures { GivesBack (IsHomeFrom from (place_of (run.now ∷ []))) kind group space.old
+        space.new }
 {
-    if let PagePlace::At(home) = map.home_of(page) {
-        space.give_back(home, kind, group);
+    let begin = first_page(run, from);
+    for page in begin..run.page + run.count {
+        space.give_back(home_in(run, first, page), kind, group);
     }
 }
 
-/// Gives back all pages of a map from one on that have homes.
+/// Gives back the pages of a run from one on, if it has homes.
+fn give_back_run(space: &mut FreeSpace, run: &Run, from: u32, kind: PageUse, group: u64)
+    requires run { IsRun run.now }
+    requires volumes { (page : ℕ) (home : HomeOf) → place_of (run.now ∷ []) page ≡ At home
+        → 1 ≤ home.vol }
+    requires held { (page : ℕ) (home : HomeOf) → place_of (run.now ∷ []) page ≡ At home
+        → IsHeld space.old home.vol home.page }
+    requires once { (p q : ℕ) (home : HomeOf) → place_of (run.now ∷ []) p ≡ At home
+        → place_of (run.now ∷ []) q ≡ At home → p ≡ q }
+    ensures { GivesBack (IsHomeFrom from (place_of (run.now ∷ []))) kind group space.old
+        space.new }
+{
+    match run.first {
+        RunPlace::At(first) => give_back_homes(space, run, &first, from, kind, group),
+        RunPlace::Holes => {}
+    }
+}
+
+/// Gives back all pages of a map from one on that have homes, run by run.
 pub(crate) fn give_back_from(
     space: &mut FreeSpace,
     map: &ExtentMap,
@@ -51,15 +85,16 @@ pub(crate) fn give_back_from(
     kind: PageUse,
     group: u64,
 )
-    requires volumes { (page : ℕ) (home : Home) → place_of map.now page ≡ At home
+    requires volumes { (page : ℕ) (home : HomeOf) → place_of map.now page ≡ At home
         → 1 ≤ home.vol }
-    requires held { (page : ℕ) (home : Home) → place_of map.now page ≡ At home
+    requires held { (page : ℕ) (home : HomeOf) → place_of map.now page ≡ At home
         → IsHeld space.old home.vol home.page }
-    requires once { (p q : ℕ) (home : Home) → place_of map.now p ≡ At home
+    requires once { (p q : ℕ) (home : HomeOf) → place_of map.now p ≡ At home
         → place_of map.now q ≡ At home → p ≡ q }
     ensures { GivesBack (IsHomeFrom from (place_of map.now)) kind group space.old space.new }
 {
-    for page in from..end_of_map(map) {
-        give_back_page(space, map, page, kind, group);
+    let runs = map.runs();
+    for i in 0..runs.len() {
+        give_back_run(space, &runs[i], from, kind, group);
     }
 }

@@ -7,6 +7,7 @@ mod laws;
 mod reader;
 mod released;
 mod releasing;
+mod runs;
 mod stale;
 mod tail;
 

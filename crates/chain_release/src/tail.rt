@@ -1,11 +1,13 @@
 //! Which pages of a record go in one step.
-ghost use Rattle.std.specs.Prelude.{◌≡◌, ◌+◌, ◌<◌, ◌≤◌, None, Some};
-ghost use Rattle.extent_maps.specs.Runs.{place_of};
-ghost use Rattle.chain_release.specs.Steps.{AreUnread, IsTail, through};
+ghost use Rattle.std.specs.Prelude.{◌≡◌, ◌∷◌, ◌+◌, ◌-◌, ◌<◌, ◌≤◌, [], ℕ, IfNone, IfSome, None, Some, drop, length, take};
+ghost use Rattle.extent_maps.specs.declared.run.PagePlace.TheVariants.{Absent};
+ghost use Rattle.extent_maps.specs.Runs.{AreRuns, BeginBefore, BeginFrom, IsRun, place_of};
+ghost use Rattle.chain_release.specs.Steps.{AreUnread, IsReadIn, IsTail};
 
+use crate::runs::{end_in_front, first_page, home_in};
 use crate::stale::end_of_map;
 use domain_base::Home;
-use extent_maps::{ExtentMap, PagePlace};
+use extent_maps::{ExtentMap, Run, RunPlace};
 
 /// The number from which on a record's pages go; and the home of that page where the reader reads
 /// it through the file, so that it is handed over: then it is the record's last page.
@@ -15,14 +17,64 @@ pub struct Tail {
     pub home: Option<Home>,
 }
 
-/// The home at which a reader reads a page through the file, where it is frozen.
-fn read_through(map: &ExtentMap, own: &ExtentMap, page: u32) -> Option<Home>
-    ensures { result ≡ through (place_of own.now page) (place_of map.now page) }
+/// How many runs begin in front of a page.
+fn count_before(runs: &[Run], page: u32) -> usize
+    requires { AreRuns runs.now }
+    ensures within { result ≤ length runs.now }
+    ensures front { BeginBefore page (take result runs.now) }
+    ensures back { BeginFrom page (drop result runs.now) }
 {
-    match own.home_of(page) {
-        PagePlace::Absent => map.home_of(page).home(),
-        _ => None,
+    runs.partition_point(|run| run.page < page)
+}
+
+/// The number from which on runs have each page in front of another one; the page in front of that
+/// they do not have, if it is one from `from` on.
+fn begin_of_gapless(runs: &[Run], from: u32, to: u32) -> u32
+    requires { AreRuns runs.now }
+    ensures within { result ≤ to }
+    ensures there { (page : ℕ) → result ≤ page → page < to → ¬ place_of runs.now page ≡ Absent }
+    ensures absent { from < result → place_of runs.now (result - 1) ≡ Absent }
+{
+    let mut begin = to;
+    for i in (0..count_before(runs, to)).rev() {
+        let run = &runs[i];
+        if begin <= from || run.page + run.count < begin {
+            return begin;
+        }
+        begin = run.page;
     }
+    begin
+}
+
+/// A page that the reader reads through the file, and its home.
+#[derive(Clone, Copy)]
+pub struct ReadPage {
+    pub page: u32,
+    pub home: Home,
+}
+
+/// The last page of a run, from one on and in front of the frozen ones' end, that has a home and is
+/// none of the reader's own.
+fn last_read(run: &Run, own: &ExtentMap, from: u32, frozen: u32) -> Option<ReadPage>
+    requires { IsRun run.now }
+    ensures some { IfSome result (IsReadIn from frozen (place_of own.now) (place_of (run.now ∷ []))) }
+    ensures behind { IfSome result (λ read. AreUnread (read.page + 1) frozen (place_of own.now)
+        (place_of (run.now ∷ []))) }
+    ensures none { IfNone result (AreUnread from frozen (place_of own.now)
+        (place_of (run.now ∷ []))) }
+{
+    let RunPlace::At(first) = run.first else {
+        return None;
+    };
+    let begin = first_page(run, from);
+    let end = begin_of_gapless(own.runs(), begin, end_in_front(run, frozen));
+    if begin < end {
+        return Some(ReadPage {
+            page: end - 1,
+            home: home_in(run, &first, end - 1),
+        });
+    }
+    None
 }
 
 /// The tail of a record where the last page that the reader reads through the file is this one.
@@ -45,14 +97,16 @@ fn tail_at(page: u32, home: Home, end: u32) -> Tail
 }
 
 /// The pages of a record that go in one step, of those from one on: its last page, where the reader
-/// reads that through the file, and else as many as the reader does not read.
+/// reads that through the file, and else as many as the reader does not read. It goes over the runs
+/// of the two maps, and not over their pages.
 pub(crate) fn tail_of(map: &ExtentMap, own: &ExtentMap, from: u32, frozen: u32) -> Tail
     ensures { IsTail from frozen (place_of own.now) (place_of map.now) result }
 {
     let end = end_of_map(map);
-    for page in (from..end.min(frozen)).rev() {
-        if let Some(home) = read_through(map, own, page) {
-            return tail_at(page, home, end);
+    let runs = map.runs();
+    for i in (0..runs.len()).rev() {
+        if let Some(read) = last_read(&runs[i], own, from, frozen) {
+            return tail_at(read.page, read.home, end);
         }
     }
     Tail { from, home: None }

@@ -1,28 +1,56 @@
-use Rattle.std.proofs.Common.{arith, ⊎_elim}
-use Rattle.std.proofs.lemmas.Bool.{cases_lt}
-use Rattle.extent_maps.specs.Runs.{place_of}
-use Rattle.chain_release.specs.Steps.{IsHomeFrom, IsHomeWithin}
-use Rattle.chain_release.proofs.Given.{absent_home, gives_by, gives_more, held_so_far}
+use Rattle.std.proofs.Common.{◌≡◌, ◌∙◌, ◌+◌, ◌<◌, ℕ, [], ◌∷◌, List, take, length, ap, subst, sym, arith}
+use Rattle.domain_base.specs.declared.place.Home.{Home}
+use Rattle.extent_maps.specs.declared.run.PagePlace.TheVariants.{At}
+use Rattle.extent_maps.specs.declared.run.Run.{Run}
+use Rattle.extent_maps.specs.Runs.{AreRuns, place_of}
+use Rattle.chain_release.specs.Steps.{IsHomeFrom}
+use Rattle.chain_release.proofs.Given.{gives_both, held_after}
+use Rattle.chain_release.proofs.Walks.{in_front, in_map, is_run, never_both, next_apart, next_either, next_first, next_second}
 use Rattle.chain_release.proofs.giving_back.give_back_from.Goals as goal
 
-pub give_back_page-requires : goal.give_back_page-requires
-give_back_page-requires c = λ home there.
-    held_so_far c.args.from c.loop-page.page (place_of c.args.map.now) c.args.kind c.args.group c.args.space.now c.loop-page.space c.loop-page.invariant c.requires.once c.requires.volumes home there (c.requires.held c.loop-page.page home there)
+pub give_back_run-requires-clause-run : goal.give_back_run-requires-clause-run
+give_back_run-requires-clause-run c =
+    let same = c.runs-runs.ensures.runs in
+    let are : AreRuns c.runs-runs.result.now = subst AreRuns (sym same) c.runs-runs.ensures.longest in
+    is_run c.runs-runs.result.now are c.loop-i.i c.index-runs-i.result (omega (arith, c.loop-i-test.true)) c.index-runs-i.is
 
-pub loop-page-preserved : goal.loop-page-preserved
-loop-page-preserved c =
-    gives_more c.args.from c.loop-page.page (place_of c.args.map.now) c.args.kind c.args.group c.args.space.now c.loop-page.space c.give_back_page.new.space c.loop-page.auto.page c.requires.once c.loop-page.invariant c.give_back_page.ensures
+pub give_back_run-requires-clause-volumes : goal.give_back_run-requires-clause-volumes
+give_back_run-requires-clause-volumes c = λ page home there.
+    let same = c.runs-runs.ensures.runs in
+    let are : AreRuns c.runs-runs.result.now = subst AreRuns (sym same) c.runs-runs.ensures.longest in
+    c.requires.volumes page home (ap (λ (rs : List Run). place_of rs page) (sym same)
+    ∙ in_map c.runs-runs.result.now are c.loop-i.i c.index-runs-i.result (omega (arith, c.loop-i-test.true)) c.index-runs-i.is page home there)
 
-pub returns : goal.returns
-returns c =
-    gives_by (IsHomeWithin c.args.from c.loop-page.page (place_of c.args.map.now)) (IsHomeFrom c.args.from (place_of c.args.map.now)) c.args.kind c.args.group c.args.space.now c.loop-page.space
-    (λ home w. record { page = w.page; begins = w.begins; there = w.there })
-    (λ home w. record {
-      page = w.page;
-      begins = w.begins;
-      ends = ⊎_elim (λ less. less)
-          (λ past. absurd (absent_home home (c.end_of_map-page-end.ensures.behind w.page (omega (arith, past, c.loop-page-test.false))) w.there))
-          (cases_lt w.page c.loop-page.page);
-      there = w.there;
-    })
-    c.loop-page.invariant
+pub give_back_run-requires-clause-held : goal.give_back_run-requires-clause-held
+give_back_run-requires-clause-held c = λ page home there.
+    let same = c.runs-runs.ensures.runs in
+    let runs = c.runs-runs.result.now in
+    let are : AreRuns runs = subst AreRuns (sym same) c.runs-runs.ensures.longest in
+    let i = c.loop-i.i in
+    let run = c.index-runs-i.result in
+    let within : i < length runs = omega (arith, c.loop-i-test.true) in
+    let at : (p : ℕ) (h : Home) → place_of runs p ≡ At h → place_of c.args.map.now p ≡ At h = (λ p h is. ap (λ (rs : List Run). place_of rs p) (sym same) ∙ is) in
+    let once : (p q : ℕ) (h : Home) → place_of runs p ≡ At h → place_of runs q ≡ At h → p ≡ q = (λ p q h x y. c.requires.once p q h (at p h x) (at q h y)) in
+    let here = at page home (in_map runs are i run within c.index-runs-i.is page home there) in
+    held_after (IsHomeFrom c.args.from (place_of (take i runs))) c.args.kind c.args.group c.args.space.now c.loop-i.space c.loop-i.invariant
+    (λ h w. c.requires.volumes w.page h (at w.page h (in_front runs are i run within c.index-runs-i.is w.page h w.there)))
+    home (c.requires.volumes page home here)
+    (λ w. never_both runs are i run within c.index-runs-i.is once w.page page home w.there there)
+    (c.requires.held page home here)
+
+pub loop-i-preserved : goal.loop-i-preserved
+loop-i-preserved c =
+    let same = c.runs-runs.ensures.runs in
+    let runs = c.runs-runs.result.now in
+    let are : AreRuns runs = subst AreRuns (sym same) c.runs-runs.ensures.longest in
+    let i = c.loop-i.i in
+    let run = c.index-runs-i.result in
+    let within : i < length runs = omega (arith, c.loop-i-test.true) in
+    let at : (p : ℕ) (h : Home) → place_of runs p ≡ At h → place_of c.args.map.now p ≡ At h = (λ p h is. ap (λ (rs : List Run). place_of rs p) (sym same) ∙ is) in
+    let once : (p q : ℕ) (h : Home) → place_of runs p ≡ At h → place_of runs q ≡ At h → p ≡ q = (λ p q h x y. c.requires.once p q h (at p h x) (at q h y)) in
+    gives_both (IsHomeFrom c.args.from (place_of (take i runs))) (IsHomeFrom c.args.from (place_of (run ∷ []))) (IsHomeFrom c.args.from (place_of (take (i + 1) runs))) c.args.kind c.args.group c.args.space.now c.loop-i.space c.give_back_run.new.space
+    (λ home. next_either runs are i run within c.index-runs-i.is c.args.from home)
+    (λ home. next_first runs are i run within c.index-runs-i.is c.args.from home)
+    (λ home. next_second runs are i run within c.index-runs-i.is c.args.from home)
+    (λ home. next_apart runs are i run within c.index-runs-i.is c.args.from home once)
+    c.loop-i.invariant c.give_back_run.ensures

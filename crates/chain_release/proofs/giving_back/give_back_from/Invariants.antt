@@ -1,7 +1,8 @@
+use Rattle.std.proofs.Common.{take}
 use Rattle.extent_maps.specs.Runs.{place_of}
 use Rattle.chain_release.specs.Releases.{GivesBack}
-use Rattle.chain_release.specs.Steps.{IsHomeWithin}
+use Rattle.chain_release.specs.Steps.{IsHomeFrom}
 use Rattle.chain_release.proofs.giving_back.give_back_from.Given as goal
 
-abbrev pub invariant-loop-page : goal.invariant-loop-page
-invariant-loop-page l = GivesBack (IsHomeWithin l.from l.page (place_of l.map)) l.kind l.group l.initial.space l.space
+abbrev pub invariant-loop-i : goal.invariant-loop-i
+invariant-loop-i l = GivesBack (IsHomeFrom l.from (place_of (take l.i l.runs))) l.kind l.group l.initial.space l.space
