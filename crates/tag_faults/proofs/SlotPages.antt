@@ -65,7 +65,7 @@ module _ (pages : Pages) (frame : Frame) (table : Table) where
     );
   }
 
-  moved : (number place : ℕ) (home : Home) (page bytes : List ℕ) → IsTagsPage pages frame table number place home page → pages home ≡ Some bytes → IsTagsPage pages frame table number place home bytes
+  pub moved : (number place : ℕ) (home : Home) (page bytes : List ℕ) → IsTagsPage pages frame table number place home page → pages home ≡ Some bytes → IsTagsPage pages frame table number place home bytes
   moved number place home page bytes is there = subst (IsTagsPage pages frame table number place home) (some_same page bytes (sym is.read.there ∙ there)) is
 
   module _ (number : ℕ) (homes : List Home) (unread : Option Home) (read : IsReadOf pages frame table number homes unread) (home : Home) where

@@ -26,7 +26,7 @@ pub(crate) fn home_of(at: &CellAt) -> Home
 }
 
 /// Whether a byte of a cell is that of a fileset: its number and 1 more.
-fn is_fileset(byte: u8, number: FilesetNo) -> bool
+pub(crate) fn is_fileset(byte: u8, number: FilesetNo) -> bool
     ensures { IsTrue result ↔ IsFileset byte (Some number) }
 {
     u32::from(byte) == number.number() + 1

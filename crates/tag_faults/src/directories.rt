@@ -28,7 +28,7 @@ fn first_tag(item: &SlotItem) -> Option<Home>
 }
 
 /// The pages of the tag directory of what is in a slot: none, where it has none.
-fn read_directory<M: MetaPages>(
+pub(crate) fn read_directory<M: MetaPages>(
     alloc: Global,
     pages: &M,
     frame: &DomainFrame,

@@ -8,7 +8,7 @@ use domain_base::Page;
 use record_table::{u8_at, u16_at, u32_at};
 
 /// Whether an entry leads to a volume, which there need not be.
-fn is_used(page: &Page, entry: usize) -> bool
+pub(crate) fn is_used(page: &Page, entry: usize) -> bool
     requires { entry < 1022 }
     ensures { IsTrue result ↔ ¬ number_at 1 (18 + 8 * entry) page.now ≡ 0 }
 {

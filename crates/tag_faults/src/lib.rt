@@ -4,11 +4,14 @@
 mod cells;
 mod directories;
 mod entries;
+mod firsts;
 mod indexes;
+mod named;
 mod quotas;
 mod slots;
 mod table;
 
 pub use directories::directory_faults;
+pub use firsts::entry_faults;
 pub use quotas::unnamed_quota_faults;
 pub use slots::has_wrong_slot;
