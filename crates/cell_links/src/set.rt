@@ -46,7 +46,7 @@ impl CellSet {
         put(&mut self.cells, key_of(at), *at)
     }
 
-    /// Puts cells into the set. After an error some of them are in it.
+    /// Puts cells into the set.
     pub fn insert_all(&mut self, cells: &[CellAt]) -> Result<(), OutOfMemory>
         ensures { OnOk result ((other : CellAt) → IsIn self.new other
             ↔ (IsIn self.old other ⊎ Contains cells.now other)) }

@@ -63,7 +63,7 @@ fn starts_in_original<M: MetaPages>(
 }
 
 /// Puts the cells of the chain from a cell on into a set, if it is the first one of a file of an
-/// original. After an error some of them are in it.
+/// original.
 fn mark_original<M: MetaPages>(
     alloc: Global,
     pages: &M,
@@ -108,8 +108,7 @@ fn says_holes<M: MetaPages>(alloc: Global, pages: &M, at: &CellAt) -> Result<boo
     })
 }
 
-/// Puts the page of a cell into a set of pages, if the cell is one of a set and has holes. After an
-/// error the pages are as before.
+/// Puts the page of a cell into a set of pages, if the cell is one of a set and has holes.
 fn insert_holes<M: MetaPages>(
     alloc: Global,
     pages: &M,

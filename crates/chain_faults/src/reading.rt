@@ -49,7 +49,7 @@ fn link_of(bytes: &[u8]) -> Option<CellLink>
     })
 }
 
-/// Says of the cells of a page what is read of them. After an error it is said of some of them.
+/// Says of the cells of a page what is read of them.
 fn insert_links(page: &Page, home: &Home, links: &mut CellLinks) -> Result<(), OutOfMemory>
     requires { AgreeOnPage links.old page.now home.now }
     ensures { OnOk result (AreLinksOn links.old links.new page.now home.now 28) }

@@ -18,8 +18,7 @@ use domain_base::{CellAt, Home, OutOfMemory};
 use home_sets::HomeSet;
 use std::alloc::Global;
 
-/// Puts the cells of the chain from a cell on into a set, if it is the first one of a chain. After
-/// an error some of them are in it.
+/// Puts the cells of the chain from a cell on into a set, if it is the first one of a chain.
 fn mark_from(
     alloc: Global,
     links: &CellLinks,
@@ -49,8 +48,7 @@ fn chain_cells(alloc: Global, links: &CellLinks, led: &CellSet) -> Result<CellSe
     Ok(marked)
 }
 
-/// Puts the page of a chain cell or a quota cell into a set, if the cell is of no chain. After an
-/// error the set is as before.
+/// Puts the page of a chain cell or a quota cell into a set, if the cell is of no chain.
 fn insert_loose(
     marked: &CellSet,
     at: &CellAt,

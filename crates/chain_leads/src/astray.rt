@@ -41,7 +41,7 @@ fn astray_end(
 }
 
 /// Puts the page of the last cell of a chain into a set, if one begins at a cell and ends at one
-/// that leads to some other. After an error the set is as before.
+/// that leads to some other.
 fn insert_astray(
     alloc: Global,
     links: &CellLinks,

@@ -13,7 +13,7 @@ use cell_links::{CellLink, CellLinks, CellSet, chain_of};
 use domain_base::{CellAt, OutOfMemory};
 use std::alloc::Global;
 
-/// Adds the first cell of a chain to the set of each of its cells. After an error, to some.
+/// Adds the first cell of a chain to the set of each of its cells.
 fn add_chain(cells: &[CellAt], start: &CellAt, map: &mut StartMap) -> Result<(), OutOfMemory>
     ensures { OnOk result (AddsChain cells.now start.now map.old map.new) }
 {
@@ -23,8 +23,7 @@ fn add_chain(cells: &[CellAt], start: &CellAt, map: &mut StartMap) -> Result<(),
     Ok(())
 }
 
-/// Adds a cell to the sets of the cells of the chain that begins there, if one does. After an error,
-/// to some.
+/// Adds a cell to the sets of the cells of the chain that begins there, if one does.
 fn add_from(
     alloc: Global,
     links: &CellLinks,

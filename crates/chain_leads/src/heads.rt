@@ -9,8 +9,7 @@ use cell_links::{CellLink, CellLinks, CellSet};
 use domain_base::{CellAt, OutOfMemory};
 use std::alloc::Global;
 
-/// Puts the cell to which a cell leads into a set, if that is one of quotas. After an error the set
-/// is as before.
+/// Puts the cell to which a cell leads into a set, if that is one of quotas.
 fn insert_led(link: &CellLink, led: &mut CellSet) -> Result<(), OutOfMemory>
     ensures { OnOk result ((onto : CellAt) → IsIn led.new onto
         ↔ (IsIn led.old onto ⊎ LeadsTo link.now onto)) }

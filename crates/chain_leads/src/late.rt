@@ -45,7 +45,7 @@ fn lead_of(links: &CellLinks, chains: &StartMap, at: &CellAt, link: &CellLink) -
 }
 
 /// Puts the page of a cell into a set, if it goes on to one to which an earlier cell of another
-/// chain does. After an error the set is as before.
+/// chain does.
 fn insert_late(
     earlier: &StartMap,
     at: &CellAt,
@@ -65,7 +65,7 @@ fn insert_late(
     Ok(())
 }
 
-/// Looks at a cell behind all earlier ones. After an error the sets may be as before.
+/// Looks at a cell behind all earlier ones.
 fn look_at(
     links: &CellLinks,
     chains: &StartMap,

@@ -13,8 +13,7 @@ use page_store::MetaPages;
 use span_sets::{Span, SpanSet};
 use std::alloc::Global;
 
-/// Puts the page of a cell into a set, if some of the spans has a number that was said. After an
-/// error the set is as before.
+/// Puts the page of a cell into a set, if some of the spans has a number that was said.
 fn insert_met(
     said: &SpanSet,
     spans: &[Span],
@@ -33,8 +32,7 @@ fn insert_met(
     Ok(())
 }
 
-/// Puts the page of a cell into a set if it says what was said, and all that it says to that. After
-/// an error some of that may no longer be there.
+/// Puts the page of a cell into a set if it says what was said, and all that it says to that.
 fn look_at<M: MetaPages>(
     alloc: Global,
     pages: &M,

@@ -28,7 +28,7 @@ fn asks(what: Said, kind: CellKind) -> bool
 }
 
 /// Puts the pages of cells into a set that say what one in front of them says, in the chain that
-/// begins at a cell, if one does. After an error some of them are in it.
+/// begins at a cell, if one does.
 fn insert_twice<M: MetaPages>(
     alloc: Global,
     pages: &M,

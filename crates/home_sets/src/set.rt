@@ -45,7 +45,7 @@ impl HomeSet {
         put(&mut self.homes, home_number(home), *home)
     }
 
-    /// Puts homes into the set. After an error some of them are in it.
+    /// Puts homes into the set.
     pub fn insert_all(&mut self, homes: &[Home]) -> Result<(), OutOfMemory>
         ensures { OnOk result ((other : Home) → IsIn self.new other
             ↔ (IsIn self.old other ⊎ Contains homes.now other)) }
@@ -56,7 +56,7 @@ impl HomeSet {
         Ok(())
     }
 
-    /// Puts the homes of another set into the set. After an error some of them are in it.
+    /// Puts the homes of another set into the set.
     pub fn insert_set(&mut self, other: &HomeSet) -> Result<(), OutOfMemory>
         ensures { OnOk result ((home : Home) → IsIn self.new home
             ↔ (IsIn self.old home ⊎ IsIn other.now home)) }

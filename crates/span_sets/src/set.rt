@@ -49,7 +49,7 @@ impl SpanSet {
         false
     }
 
-    /// Puts the numbers of a span into the set. After an error some may no longer be in it.
+    /// Puts the numbers of a span into the set.
     pub fn insert(&mut self, span: &Span) -> Result<(), OutOfMemory>
         ensures { OnOk result ((n : ℕ) → HasNumber self.new n
             ↔ (HasNumber self.old n ⊎ IsOf span.now n)) }
@@ -64,7 +64,7 @@ impl SpanSet {
         put(&mut self.spans, whole.from, whole.to)
     }
 
-    /// Puts the numbers of the spans into the set. After an error some may no longer be in it.
+    /// Puts the numbers of the spans into the set.
     pub fn insert_all(&mut self, spans: &[Span]) -> Result<(), OutOfMemory>
         ensures { OnOk result ((n : ℕ) → HasNumber self.new n
             ↔ (HasNumber self.old n ⊎ HasAnyOf spans.now n)) }

@@ -49,7 +49,7 @@ pub(crate) fn read_directory<M: MetaPages>(
     Ok(read)
 }
 
-/// Puts the home into a set, if there is one. After an error the set is as before.
+/// Puts the home into a set, if there is one.
 fn insert_unread(unread: &Option<Home>, found: &mut HomeSet) -> Result<(), OutOfMemory>
     ensures { OnOk result ((home : Home) → IsHomeIn found.new home ↔ (IsHomeIn found.old home
         ⊎ (unread.now ≡ Some home))) }
@@ -60,7 +60,7 @@ fn insert_unread(unread: &Option<Home>, found: &mut HomeSet) -> Result<(), OutOf
     Ok(())
 }
 
-/// Puts a home into a set, if another set has it. After an error the set is as before.
+/// Puts a home into a set, if another set has it.
 fn insert_if(earlier: &HomeSet, home: &Home, found: &mut HomeSet) -> Result<(), OutOfMemory>
     ensures { OnOk result ((other : Home) → IsHomeIn found.new other ↔ (IsHomeIn found.old other
         ⊎ ((home.now ≡ other) × IsHomeIn earlier.now home.now))) }
@@ -71,7 +71,7 @@ fn insert_if(earlier: &HomeSet, home: &Home, found: &mut HomeSet) -> Result<(), 
     Ok(())
 }
 
-/// Puts those of the homes into a set that another set has. After an error, some of them.
+/// Puts those of the homes into a set that another set has.
 fn insert_shared(homes: &[Home], earlier: &HomeSet, found: &mut HomeSet) -> Result<(), OutOfMemory>
     ensures { OnOk result ((home : Home) → IsHomeIn found.new home ↔ (IsHomeIn found.old home
         ⊎ (Contains homes.now home × IsHomeIn earlier.now home))) }
@@ -82,8 +82,7 @@ fn insert_shared(homes: &[Home], earlier: &HomeSet, found: &mut HomeSet) -> Resu
     Ok(())
 }
 
-/// Looks at the directory of a slot, behind those of all earlier slots. After an error some of its
-/// pages may not have been looked at.
+/// Looks at the directory of a slot, behind those of all earlier slots.
 fn look_at<M: MetaPages>(
     alloc: Global,
     pages: &M,

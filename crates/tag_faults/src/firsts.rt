@@ -86,8 +86,7 @@ fn leads_to_first<M: MetaPages>(
     is_primary(link.kind) && says_entry_at(pages, &at, entry)
 }
 
-/// Puts the page of an entry into a set, if it leads to no first cell of its fileset and tag. After
-/// an error the set is as before.
+/// Puts the page of an entry into a set, if it leads to no first cell of its fileset and tag.
 fn insert_wrong<M: MetaPages>(
     pages: &M,
     frame: &DomainFrame,

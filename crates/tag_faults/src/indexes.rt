@@ -37,7 +37,7 @@ fn was_seen(seen: &SpanSet, index: u32) -> bool
     seen.has_one(&span_of(index))
 }
 
-/// Sees the index of a page. After an error it may not have been seen.
+/// Sees the index of a page.
 fn see_index(page: &Page, seen: &mut SpanSet) -> Result<(), OutOfMemory>
     ensures { OnOk result ((n : ℕ) → HasNumber seen.new n ↔ (HasNumber seen.old n
         ⊎ (index_there page.now ≡ n))) }
@@ -61,7 +61,7 @@ fn is_wrong_page(page: &Page, place: usize, seen: &SpanSet) -> bool
     !is_tag_page(page) || begins_late(page, place) || was_seen(seen, index_of(page))
 }
 
-/// Puts a home into a set, if the page there is wrong. After an error the set is as before.
+/// Puts a home into a set, if the page there is wrong.
 fn insert_wrong(
     page: &Page,
     place: usize,
@@ -78,8 +78,7 @@ fn insert_wrong(
     Ok(())
 }
 
-/// Looks at the page at a place of a directory, behind all in front of it. After an error the index
-/// may not have been seen.
+/// Looks at the page at a place of a directory, behind all in front of it.
 fn look_at<M: MetaPages>(
     pages: &M,
     place: usize,

@@ -33,7 +33,7 @@ pub(crate) fn quota_of(item: &SlotItem) -> Option<CellAt>
     }
 }
 
-/// Puts the quota cell that a slot names into a set. After an error the set is as before.
+/// Puts the quota cell that a slot names into a set.
 fn insert_named(
     table: &FilesetTable,
     number: FilesetNo,
@@ -60,7 +60,6 @@ fn named_quotas(alloc: Global, table: &FilesetTable) -> Result<CellSet, OutOfMem
 }
 
 /// Puts the page of a quota cell into a set, if no cell of quotas leads to it and no slot names it.
-/// After an error the set is as before.
 fn insert_alone(
     led: &CellSet,
     named: &CellSet,
