@@ -40,6 +40,16 @@ pub fn frame() -> DomainFrame {
     }
 }
 
+/// The same with a second volume of 256 pages, which is closed: its cells begin at page 3, too.
+pub fn frame_of_two() -> DomainFrame {
+    let mut frame = frame();
+    frame.anchor.members[1] = Member {
+        pages: 256,
+        state: 2,
+    };
+    frame
+}
+
 /// A page of free cells with an index and a next page.
 pub fn cells_page(alloc: Global, index: u32, next: u32) -> Result<Page, OutOfMemory> {
     let mut page = empty_page(alloc, index)?;

@@ -3,9 +3,13 @@
 #![tactic(auto)]
 
 #[cfg(test)]
+mod all;
+#[cfg(test)]
 mod cells;
 #[cfg(test)]
 mod chains;
+#[cfg(test)]
+mod entries;
 #[cfg(test)]
 mod fixture;
 #[cfg(test)]

@@ -13,7 +13,7 @@ use tag_faults::directory_faults;
 type Change = (u32, usize, [u8; 8]);
 
 /// The table with the two filesets.
-fn table(alloc: Global) -> Result<FilesetTable, Fail> {
+pub fn table(alloc: Global) -> Result<FilesetTable, Fail> {
     let mut table = FilesetTable::new(alloc)?;
     let original = entry(alloc, b'a')?;
     set_slot(&mut table, 0, SlotItem::Original { entry: original })?;
@@ -26,7 +26,7 @@ fn table(alloc: Global) -> Result<FilesetTable, Fail> {
 }
 
 /// A page of tags with an index, that leads to a page of volume 1, or to none for page 0.
-fn tags_page(alloc: Global, index: u32, next: u32) -> Result<Page, OutOfMemory> {
+pub fn tags_page(alloc: Global, index: u32, next: u32) -> Result<Page, OutOfMemory> {
     let mut page = Page::zeros(alloc)?;
     page.set(0, b"TAGP");
     page.set(4, &index.to_le_bytes());
