@@ -1,0 +1,2 @@
+pub mod CountRuns
+pub mod ReadRuns
