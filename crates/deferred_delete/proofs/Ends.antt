@@ -181,7 +181,7 @@ module _ (space : Spaces) (cells : Cells) (old new : Pages) (files : Files) (tog
       (λ not_at. ap is_some (file_other clone (Some alone) files a not_at))
       (same_or_not a clone)
 
-  pub alone_listed : IsListed space cells alone_now (record { entries = front ++ record { at = entry.at; clone = None } ∷ []; tag_pages = pages })
+  pub alone_listed : IsListed space cells alone_now (record { entries = front ++ record entry { clone = None } ∷ []; tag_pages = pages })
   alone_listed = listed_last space cells cells files alone_now front entry pages listed
       (λ a not_at. alone_there a)
       (λ a b not_at x. alone_reads a b x)
@@ -191,7 +191,7 @@ module _ (space : Spaces) (cells : Cells) (old new : Pages) (files : Files) (tog
       (same_or_not a clone))
       (λ a p home there. sym (first_place space cells old new files together clone first rest is file says_no_source leaves stands good headers refl alone_maps alone_attributes a p) ∙ there)
       (λ home held. held)
-      (record { at = entry.at; clone = None }) refl refl
+      (record entry { clone = None }) refl refl
       (record {
         there = alone_there entry.at ∙ is_last.there;
         given = λ c some. absurd (none_not c some);

@@ -82,6 +82,13 @@ not_last front last e once (k, within, is) same =
     (ap (λ (e : Entry). e.at) (get_front front (last ∷ []) k e within ∙ is) ∙ same ∙ sym (ap (λ (e : Entry). e.at) (get_last front last e))) in
     omega (arith, all, within)
 
+-- and one with the same file is the same
+pub one_entry : (entries : List Entry) → AreEntriesOnce entries → (a b : Entry) → Contains entries a → Contains entries b → a.at ≡ b.at → a ≡ b
+one_entry entries once a b (i, less_i, is_a) (j, less_j, is_b) same =
+    let b_there : get_or entries j a ≡ b = there_is entries j a b less_j ∙ is_b in
+    let all : i ≡ j = once i j a less_i less_j (ap (λ (e : Entry). e.at) is_a ∙ same ∙ sym (ap (λ (e : Entry). e.at) b_there)) in
+    sym is_a ∙ ap (λ n. get_or entries n a) all ∙ b_there
+
 -- ---- what reads through a file stands behind it
 
 pub order_front : (front : List Entry) (last : Entry) → AreInOrder (front ++ last ∷ []) → AreInOrder front

@@ -34,13 +34,13 @@ use Rattle.chain_release.specs.Sharing.{IsReleased}
 use Rattle.chain_release.proofs.Stepped.{stand_apart}
 use Rattle.deferred_delete.specs.declared.list.Entry.{Entry}
 use Rattle.deferred_delete.specs.declared.went.Went.TheVariants as went
-use Rattle.deferred_delete.specs.Listed.{IsListed, leftover_in}
+use Rattle.deferred_delete.specs.Listed.{IsListed, left_of, leftover_in}
 use Rattle.deferred_delete.specs.Listing.{Listing}
 use Rattle.deferred_delete.specs.Standing.{Files, IsFileOrQuotas, IsQuotas, IsStanding, StandTogether, source_at, source_of, with_file}
 use Rattle.deferred_delete.specs.Steps.{HasEntry, HasFileEntry, HasQuotas, IsEndingWhole, Leaves, Now, leads_to, list_after, now_of, quota_goes}
 use Rattle.deferred_delete.proofs.Lists.{last_in}
 use Rattle.deferred_delete.proofs.Spread.{none_not, some_same}
-use Rattle.deferred_delete.proofs.Standings.{AreNarrower, apart_by, chain_by, file_other, file_there, narrower_together, quota_first, quota_place, reads_by, same_or_not, stand_chain, standing, was_there}
+use Rattle.deferred_delete.proofs.Standings.{AreNarrower, apart_by, chain_by, file_other, file_there, narrower_together, quota_first, quota_place, reads_by, said_trim, same_or_not, stand_chain, standing, was_there}
 use Rattle.deferred_delete.proofs.Well.{chain_of}
 
 -- ---- the chain then
@@ -332,7 +332,7 @@ quota_ending front entry at has leads = record {
   has = has.has;
   chain = has.chain;
   is = has.is;
-  whole = λ trim. let e : None ≡ Some Trim = sym (ap (option_and_then leftover_in) (quota_first at.pages entry.at has.chain has.quotas 6 (λ e. omega (arith, e)) (λ e. omega (arith, e)))) ∙ trim in absurd (cc);
+  whole = λ trim. let e : None ≡ Some Trim = sym (ap (option_and_then leftover_in) (quota_first at.pages entry.at has.chain has.quotas 6 (λ e. omega (arith, e)) (λ e. omega (arith, e)))) ∙ said_trim entry.goes (left_of has.chain) trim in absurd (cc);
   done = last_quota at.pages entry.at has.chain has.quotas leads;
 }
 

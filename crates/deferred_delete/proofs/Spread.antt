@@ -137,12 +137,12 @@ module _ (space : Spaces) (cells : Cells) (old : Pages) (files : Files) (togethe
         has;
   }
 
-  module _ (group : ℕ) (version : Version) (space_now : Spaces) (cells_now : Cells) (new : Pages) (what : Released) (r : Releases (stale_from chain) entry.at reader group version chain own space space_now cells cells_now old new what)
+  module _ (group : ℕ) (version : Version) (space_now : Spaces) (cells_now : Cells) (new : Pages) (what : Released) (r : Releases (stale_from entry chain) entry.at reader group version chain own space space_now cells cells_now old new what)
       (others : LeavesBoth cells chain own old new) (allocated : AreAllocated space_now cells_now new) where
     abbrev pub now : Files
     now = with_file entry.at (Some r.after) (with_clone entry.clone r.own_now files)
 
-    same_tables : (what : Released) → Progresses what (stale_from chain) chain r.after r.cells_between cells_now → (vol : ℕ) → table_of cells_now vol ≡ table_of r.cells_between vol
+    same_tables : (what : Released) → Progresses what (stale_from entry chain) chain r.after r.cells_between cells_now → (vol : ℕ) → table_of cells_now vol ≡ table_of r.cells_between vol
     same_tables released.Nothing progress vol = absurd progress
     same_tables released.Pages progress vol = ap (λ (c : Cells). table_of c vol) progress.same_cells
     same_tables released.Cell progress vol = progress.frees.tables vol

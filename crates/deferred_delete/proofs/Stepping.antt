@@ -25,14 +25,14 @@ use Rattle.chain_release.specs.Releases.{LacksPlace, LeavesBoth, Releases}
 use Rattle.chain_release.specs.Sharing.{IsReleased, frozen_of}
 use Rattle.deferred_delete.specs.declared.list.Entry.{Entry}
 use Rattle.deferred_delete.specs.declared.went.Went.TheVariants as went
-use Rattle.deferred_delete.specs.Listed.{GoesWhole, IsListed, from_by, left_of}
+use Rattle.deferred_delete.specs.Listed.{GoesWhole, IsListed, from_by, left_of, to_do}
 use Rattle.deferred_delete.specs.Listing.{Listing}
 use Rattle.deferred_delete.specs.Standing.{Files, IsFileOrQuotas, IsStanding, source_in, source_of, with_file}
 use Rattle.deferred_delete.specs.Steps.{HasEntry, HasRecord, IsEnding, IsEndingWhole, IsWell, LacksRoom, Leaves, Now, TakesTagPage, file_ends, list_after, now_of, pages_go, reading_ends, says_no_source, says_trimmed, tag_page_goes, trim_ends}
 use Rattle.deferred_delete.proofs.Ends.{alone_listed, alone_together, gone_listed, gone_together, trim_listed, trim_together}
 use Rattle.deferred_delete.proofs.Lists.{last_in}
 use Rattle.deferred_delete.proofs.Spread.{now, some_same, spread_listed, spread_together}
-use Rattle.deferred_delete.proofs.Standings.{linked_at, not_nil, source_file, standing, trim_file}
+use Rattle.deferred_delete.proofs.Standings.{linked_at, not_nil, said_trim, source_file, standing, trim_file}
 use Rattle.deferred_delete.proofs.Well.{IsReady, source_chain, tag_page_well}
 
 -- pages or a cell went
@@ -106,10 +106,10 @@ pub trim_went : (group : ℕ) (version : Version) (list : Listing) (front : List
     → Leaves group version (now_of list files space cells old) (list_after went.Last front entry list) space cells new
 trim_went group version list front files entry space cells old new ending stands leaves good headers elsewhere = by_chain ending.chain ending.is ending.left_is ending.done
   where
-    by_chain : (chain : List PlacedCell) → files entry.at ≡ Some chain → left_of chain ≡ Some Trim → IsReleased (from_by (Some Trim) chain) chain → Leaves group version (now_of list files space cells old) (list_after went.Last front entry list) space cells new
+    by_chain : (chain : List PlacedCell) → files entry.at ≡ Some chain → to_do entry chain ≡ Some Trim → IsReleased (from_by (Some Trim) chain) chain → Leaves group version (now_of list files space cells old) (list_after went.Last front entry list) space cells new
     by_chain [] is left done = absurd (not_nil old entry.at (standing space cells old files ending.has.well.together entry.at [] is).stands)
     by_chain (first ∷ rest) is left done =
-        let file = trim_file old entry.at (first ∷ rest) (standing space cells old files ending.has.well.together entry.at (first ∷ rest) is).stands left in
+        let file = trim_file old entry.at (first ∷ rest) (standing space cells old files ending.has.well.together entry.at (first ∷ rest) is).stands (said_trim entry.goes (left_of (first ∷ rest)) left) in
         let here = stands first.cell (first_stands old entry.at first rest (standing space cells old files ending.has.well.together entry.at (first ∷ rest) is).stands) in
         record {
           files = with_file entry.at (Some (with_first says_trimmed (first ∷ rest))) files;
@@ -232,7 +232,7 @@ module _ (list : Listing) (front : List Entry) (files : Files) (entry : Entry) (
 
 -- the last cell of a file, or of quotas, goes
 pub cell_went : (group : ℕ) (version : Version) (list : Listing) (front : List Entry) (files : Files) (entry : Entry) (space : Spaces) (cells cells_now : Cells) (old new : Pages) → entry.clone ≡ None → HasEntry front entry (now_of list files space cells old)
-    → (chain : List PlacedCell) → files entry.at ≡ Some chain → GoesWhole chain → IsReleased 0 chain → LeavesOthers (is_at entry.at) old new → FreesCell entry.at cells cells_now → AreAllocated space cells_now new → LeavesOffTables cells_now old new
+    → (chain : List PlacedCell) → files entry.at ≡ Some chain → GoesWhole entry chain → IsReleased 0 chain → LeavesOthers (is_at entry.at) old new → FreesCell entry.at cells cells_now → AreAllocated space cells_now new → LeavesOffTables cells_now old new
     → Leaves group version (now_of list files space cells old) (list_after went.File front entry list) space cells_now new
 cell_went group version list front files entry space cells cells_now old new alone has [] is left done leaves frees allocated elsewhere = absurd (not_nil old entry.at (standing space cells old files has.well.together entry.at [] is).stands)
 cell_went group version list front files entry space cells cells_now old new alone has (first ∷ rest) is left done leaves frees allocated elsewhere =

@@ -22,7 +22,7 @@ use Rattle.chain_release.specs.Releases.{AreAllOnce, with_given}
 use Rattle.chain_release.specs.Sharing.{AreSharing}
 use Rattle.chain_release.proofs.Given.{allocated_given, held_given}
 use Rattle.deferred_delete.specs.declared.list.Entry.{Entry}
-use Rattle.deferred_delete.specs.Listed.{IsEntry, IsListed, from_by, left_of, stale_from}
+use Rattle.deferred_delete.specs.Listed.{IsEntry, IsListed, from_by, stale_from, to_do}
 use Rattle.deferred_delete.specs.Listing.{Listing}
 use Rattle.deferred_delete.specs.Standing.{Files, ReadsThrough, Source, StandTogether, source_of}
 use Rattle.deferred_delete.specs.Steps.{HasEntry, HasFileEntry, IsGiven, IsWell, ReadsFrozen, TakesTagPage, now_of}
@@ -125,8 +125,8 @@ pub record IsReady (files : Files) (entry : Entry) (left : Option Leftover) (fro
   pub chain : List PlacedCell
   pub is : files entry.at ≡ Some chain
   pub file : IsFile pages entry.at chain
-  pub left_is : left_of chain ≡ left
-  pub from_is : from ≡ stale_from chain
+  pub left_is : to_do entry chain ≡ left
+  pub from_is : from ≡ stale_from entry chain
   pub own : List PlacedCell
   pub given : IsGiven files entry.clone reader own
   pub shares : AreSharing entry.at reader space cells pages chain own
@@ -169,7 +169,7 @@ pub as_file : (list : Listing) (front : List Entry) (files : Files) (entry : Ent
 as_file list front files entry space cells pages has chain is = has.file chain is
 
 pub ready : (list : Listing) (front : List Entry) (files : Files) (entry : Entry) (left : Option Leftover) (from : ℕ) (reader : Option Reader) (space : Spaces) (cells : Cells) (pages : Pages) → HasEntry front entry (now_of list files space cells pages) → ((chain : List PlacedCell) → files entry.at ≡ Some chain → IsFile pages entry.at chain)
-    → ((chain : List PlacedCell) → IsFile pages entry.at chain → left ≡ left_of chain) → ((chain : List PlacedCell) → IsFile pages entry.at chain → from ≡ from_by left chain) → (entry.clone ≡ None → reader ≡ None)
+    → ((chain : List PlacedCell) → IsFile pages entry.at chain → left ≡ to_do entry chain) → ((chain : List PlacedCell) → IsFile pages entry.at chain → from ≡ from_by left chain) → (entry.clone ≡ None → reader ≡ None)
     → ((at : CellAt) (own : List PlacedCell) → entry.clone ≡ Some at → IsFile pages at own → IsSome (source_of own) → ReadsFrozen at own reader) → IsReady files entry left from reader space cells pages
 ready list front files entry left from reader space cells pages has kind lefts froms none some =
     let is_entry = has.well.listed.each entry (subst (λ (es : List Entry). Contains es entry) (sym has.last) (last_in front entry)) in

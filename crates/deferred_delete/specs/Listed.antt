@@ -15,6 +15,8 @@ use Rattle.chain_release.specs.Releases.{AreAllOnce}
 use Rattle.bitfile_core.specs.Files.{first_record, keep_of}
 use Rattle.bitfile_core.specs.Together.{IsHeldApart}
 use Rattle.deferred_delete.specs.declared.list.Entry.{Entry}
+use Rattle.deferred_delete.specs.declared.list.Goes.{Goes}
+use Rattle.deferred_delete.specs.declared.list.Goes.TheVariants.{AsSaid, Whole}
 use Rattle.deferred_delete.specs.Listing.{AreInOrder, Listing}
 use Rattle.deferred_delete.specs.Standing.{Files, ReadsThrough, place_in}
 
@@ -32,13 +34,21 @@ from_by (Some Trim) cells = unwrap_or (keep_of cells) 65536
 from_by (Some Remove) cells = 0
 from_by None cells = 0
 
-abbrev pub stale_from : List PlacedCell → ℕ
-stale_from cells = from_by (left_of cells) cells
+-- what is to be done with an entry's file: what its first cell says, or to remove it
+abbrev pub done_by : Goes → Option Leftover → Option Leftover
+done_by AsSaid left = left
+done_by Whole left = Some Remove
 
--- all of a file goes that is on a list: its first cell says that it is to be removed, or nothing,
--- where its fileset was removed as a whole
-abbrev pub GoesWhole : List PlacedCell → Type 0
-GoesWhole cells = ¬ left_of cells ≡ Some Trim
+abbrev pub to_do : Entry → List PlacedCell → Option Leftover
+to_do entry cells = done_by entry.goes (left_of cells)
+
+abbrev pub stale_from : Entry → List PlacedCell → ℕ
+stale_from entry cells = from_by (to_do entry cells) cells
+
+-- all of an entry's file goes: the entry says so, or its first cell does not say that it is to be
+-- trimmed
+abbrev pub GoesWhole : Entry → List PlacedCell → Type 0
+GoesWhole entry cells = ¬ to_do entry cells ≡ Some Trim
 
 -- a file is there; the clone's file is given that reads through it, and none where none does
 pub record IsEntry (files : Files) (entry : Entry) : Type 0 where

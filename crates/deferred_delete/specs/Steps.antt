@@ -30,7 +30,7 @@ use Rattle.chain_release.specs.Sharing.{IsReleased, frozen_of}
 use Rattle.deferred_delete.specs.declared.list.Entry.{Entry}
 use Rattle.deferred_delete.specs.declared.went.Went.{Went}
 use Rattle.deferred_delete.specs.declared.went.Went.TheVariants as went
-use Rattle.deferred_delete.specs.Listed.{GoesWhole, IsListed, from_by, left_of, stale_from}
+use Rattle.deferred_delete.specs.Listed.{GoesWhole, IsListed, from_by, stale_from, to_do}
 use Rattle.deferred_delete.specs.Listing.{Listing, without_clone}
 use Rattle.deferred_delete.specs.Standing.{Files, IsQuotas, StandTogether, source_of, with_file}
 
@@ -91,7 +91,7 @@ pub record LetsPages (group : ℕ) (version : Version) (old new : Now) : Type 0 
   pub own : List PlacedCell
   pub given : IsGiven old.files entry.clone reader own
   pub what : Released
-  pub releases : Releases (stale_from chain) entry.at reader group version chain own old.space
+  pub releases : Releases (stale_from entry chain) entry.at reader group version chain own old.space
       new.space old.cells new.cells old.pages new.pages what
   pub files : new.files ≡ with_file entry.at (Some releases.after)
       (with_clone entry.clone releases.own_now old.files)
@@ -147,8 +147,8 @@ pub record EndsTrim (old new : Now) : Type 0 where
   pub last : IsLast front entry old.list
   pub chain : List PlacedCell
   pub is : old.files entry.at ≡ Some chain
-  pub trim : left_of chain ≡ Some Trim
-  pub done : IsReleased (stale_from chain) chain
+  pub trim : to_do entry chain ≡ Some Trim
+  pub done : IsReleased (stale_from entry chain) chain
   pub files : new.files ≡ with_file entry.at (Some (with_first says_trimmed chain)) old.files
   pub list : new.list ≡ record { entries = front; tag_pages = old.list.tag_pages }
   pub same_space : new.space ≡ old.space
@@ -176,7 +176,7 @@ pub record EndsReading (old new : Now) : Type 0 where
   pub last : IsLast front entry old.list
   pub chain : List PlacedCell
   pub is : old.files entry.at ≡ Some chain
-  pub whole : GoesWhole chain
+  pub whole : GoesWhole entry chain
   pub done : IsReleased 0 chain
   pub clone : CellAt
   pub given : entry.clone ≡ Some clone
@@ -184,7 +184,7 @@ pub record EndsReading (old new : Now) : Type 0 where
   pub own_is : old.files clone ≡ Some own
   pub files : new.files ≡ with_file clone (Some (with_first says_no_source own)) old.files
   pub list : new.list ≡ record {
-    entries = front ++ record { at = entry.at; clone = None } ∷ [];
+    entries = front ++ record entry { clone = None } ∷ [];
     tag_pages = old.list.tag_pages;
   }
   pub same_space : new.space ≡ old.space
@@ -204,7 +204,7 @@ pub record EndsFile (old new : Now) : Type 0 where
   pub last : IsLast front entry old.list
   pub chain : List PlacedCell
   pub is : old.files entry.at ≡ Some chain
-  pub whole : GoesWhole chain
+  pub whole : GoesWhole entry chain
   pub done : IsReleased 0 chain
   pub alone : entry.clone ≡ None
   pub files : new.files ≡ with_file entry.at None old.files
@@ -261,7 +261,7 @@ pub data Steps (group : ℕ) (version : Version) (first : Now) : ℕ → Now →
 abbrev pub list_after : Went → List Entry → Entry → Listing → Listing
 list_after went.Part front entry list = list
 list_after went.Reading front entry list = record {
-  entries = front ++ record { at = entry.at; clone = None } ∷ [];
+  entries = front ++ record entry { clone = None } ∷ [];
   tag_pages = list.tag_pages;
 }
 list_after went.Last front entry list = record { entries = front; tag_pages = list.tag_pages }
@@ -289,7 +289,7 @@ pub record IsEnding (front : List Entry) (entry : Entry) (left : Option Leftover
   pub chain : List PlacedCell
   pub is : now.files entry.at ≡ Some chain
   pub file : IsFile now.pages entry.at chain
-  pub left_is : left_of chain ≡ left
+  pub left_is : to_do entry chain ≡ left
   pub done : IsReleased (from_by left chain) chain
 
 -- the same of a file of which all goes
@@ -297,7 +297,7 @@ pub record IsEndingWhole (front : List Entry) (entry : Entry) (now : Now) : Type
   pub has : HasEntry front entry now
   pub chain : List PlacedCell
   pub is : now.files entry.at ≡ Some chain
-  pub whole : GoesWhole chain
+  pub whole : GoesWhole entry chain
   pub done : IsReleased 0 chain
 
 -- all is well, and the list's last entry is of quota cells
@@ -337,7 +337,7 @@ pub record LacksRoom (list : Listing) (files : Files) : Type 0 where
   pub reader : Option Reader
   pub own : List PlacedCell
   pub given : IsGiven files entry.clone reader own
-  pub lacks : LacksPlace (stale_from chain) (frozen_of reader) chain own
+  pub lacks : LacksPlace (stale_from entry chain) (frozen_of reader) chain own
 
 -- so many steps were done, at least one, and then one was not for want of a page or of memory
 pub record StopsAfter (group : ℕ) (version : Version) (first : Now) (count : ℕ) (list : Listing)

@@ -29,10 +29,10 @@ use Rattle.bitfile_core.proofs.OneChain.{chain_other, chain_same, same_tag_itsel
 use Rattle.bitfile_core.proofs.RemovedTogether.{removed_keeps}
 use Rattle.bitfile_core.proofs.Room.{attributes_kind}
 use Rattle.bitfile_core.proofs.Truncated.{resized_kind}
-use Rattle.deferred_delete.specs.Listed.{left_of, leftover_in}
+use Rattle.deferred_delete.specs.Listed.{left_of, leftover_in, to_do}
 use Rattle.deferred_delete.specs.Standing.{Files, IsFileOrQuotas, IsStanding, source_in, with_file}
 use Rattle.deferred_delete.specs.Steps.{IsWell, now_of}
-use Rattle.deferred_delete.proofs.Standings.{apart_by, chain_beside, file_there, place_by, source_by, standing}
+use Rattle.deferred_delete.proofs.Standings.{apart_by, chain_beside, file_there, place_by, source_by, standing, still_trim}
 use Rattle.deferred_laws.specs.Calls.{StandsWell, Drops, FilesetNow, SetsFirst}
 use Rattle.deferred_laws.specs.Tags.{AreAmong, chains_in, start_of}
 use Rattle.deferred_laws.proofs.OneFile.{IsPut, put_listed, put_together}
@@ -177,7 +177,7 @@ module _ (fileset : ℕ) (tag : Tag) (old : FilesetNow) (stood : StandsWell file
   }
 
   pub set_among : (chains_now : Chains) → ((t : Tag) → same_tag t tag ≡ false → chains_now t ≡ old.chains t) → chains_in (with_file first.at (Some after) files) chains_now tag ≡ chains_now tag → IfSome (chains_now tag) (λ cs. is_removed cs ≡ false)
-      → ((e : Entry) → Contains old.domain.list.entries e → option_and_then start_of (chains_now tag) ≡ Some e.at → option_and_then left_of (chains_now tag) ≡ Some Trim)
+      → ((e : Entry) → Contains old.domain.list.entries e → option_and_then start_of (chains_now tag) ≡ Some e.at → option_and_then (to_do e) (chains_now tag) ≡ Some Trim)
       → AreAmong (now_of old.domain.list (with_file first.at (Some after) files) old.domain.space old.domain.cells new) old.places chains_now
   set_among chains_now others own live trim =
       still_among old.domain.list old.domain.space old.domain.space old.domain.cells old.domain.cells old.domain.pages new files stood.well.together first.at after NoMore set_put
@@ -224,8 +224,8 @@ module _ (fileset : ℕ) (tag : Tag) (old new : FilesetNow) (stood : StandsWell 
         (ap (λ o. option_and_then (with_file s.first.at (Some (with_first says (s.first ∷ s.rest))) old.domain.files) (option_and_then start_of o)) tag_now
         ∙ file_there s.first.at (Some (with_first says (s.first ∷ s.rest))) old.domain.files ∙ sym tag_now)
         (subst (λ o. IfSome o (λ cs. is_removed cs ≡ false)) (sym tag_now) (live.live (subst (λ o. IfSome o (λ cs. is_removed cs ≡ false)) s.is (stood.among.live tag))))
-        (λ e inside is. ap (option_and_then left_of) tag_now
-        ∙ live.trim (ap (option_and_then left_of) (sym s.is) ∙ stood.among.trimmed e inside tag (ap (option_and_then start_of) s.is ∙ sym (ap (option_and_then start_of) tag_now) ∙ is))))
+        (λ e inside is. ap (option_and_then (to_do e)) tag_now
+        ∙ still_trim e.goes (left_of (s.first ∷ s.rest)) (left_of (with_first says (s.first ∷ s.rest))) live.trim (ap (option_and_then (to_do e)) (sym s.is) ∙ stood.among.trimmed e inside tag (ap (option_and_then start_of) s.is ∙ sym (ap (option_and_then start_of) tag_now) ∙ is))))
 
 module _ (fileset : ℕ) (tag : Tag) (old new : FilesetNow) (stood : StandsWell fileset old) (s : Drops fileset tag old new) where
   abbrev pub chains_left : Chains

@@ -25,11 +25,12 @@ use Rattle.bitfile_core.proofs.Again.{one_home}
 use Rattle.bitfile_core.proofs.Grown.{apart_grows, apart_taken, one_apart}
 use Rattle.bitfile_core.proofs.OneChain.{chain_other, placed_at}
 use Rattle.chain_release.proofs.Outcome.{on_at}
-use Rattle.deferred_delete.specs.Listed.{left_of, leftover_in}
+use Rattle.deferred_delete.specs.Listed.{leftover_in, to_do}
 use Rattle.deferred_delete.specs.Listing.{Listing}
 use Rattle.deferred_delete.specs.Standing.{Files, place_in, source_in, with_file}
 use Rattle.deferred_delete.specs.Steps.{IsWell, Now, now_of}
 use Rattle.deferred_delete.proofs.Firsts.{first_same}
+use Rattle.deferred_laws.proofs.ReadHomes.{to_do_same}
 use Rattle.deferred_delete.proofs.Standings.{apart_by, file_there, place_by, source_by, stand_chain, standing}
 use Rattle.deferred_laws.specs.Calls.{StandsWell, FilesetNow, Gives, Moves, PutsPage}
 use Rattle.deferred_laws.specs.Tags.{AreAmong, start_of}
@@ -121,8 +122,10 @@ module _ (fileset : ℕ) (version : Version) (tag : Tag) (old new : FilesetNow) 
   begins_same : (e : Entry) → option_and_then start_of (with_chain tag (λ _. after) old.chains tag) ≡ Some e.at → option_and_then start_of (old.chains tag) ≡ Some e.at
   begins_same e is = ap (option_and_then start_of) s.is ∙ begins.0 ∙ sym begins.1 ∙ sym (ap (option_and_then start_of) chain_now) ∙ is
 
-  left_same : option_and_then left_of (with_chain tag (λ _. after) old.chains tag) ≡ option_and_then left_of (old.chains tag)
-  left_same = ap (option_and_then left_of) chain_now ∙ ap (option_and_then leftover_in) (first_same 6 refl chain after s.change.change.changes.first) ∙ sym (ap (option_and_then left_of) s.is)
+  left_same : (e : Entry) → option_and_then (to_do e) (with_chain tag (λ _. after) old.chains tag) ≡ option_and_then (to_do e) (old.chains tag)
+  left_same e =
+      ap (option_and_then (to_do e)) chain_now ∙ to_do_same e chain after (ap (option_and_then leftover_in) (first_same 6 refl chain after s.change.change.changes.first))
+      ∙ sym (ap (option_and_then (to_do e)) s.is)
 
   pub puts_well : IsWell new.domain
   puts_well = well_by new.domain old.domain.list (with_file at (Some after) files) new.domain.space new.domain.cells s.list s.files refl refl
@@ -144,7 +147,7 @@ module _ (fileset : ℕ) (version : Version) (tag : Tag) (old new : FilesetNow) 
       (λ t other. chain_other tag (λ _. after) old.chains t other)
       (other_starts fileset old.places old.domain.pages old.chains stood.together.files files stood.among.same tag chain s.is at begins.0)
       (ap (λ o. option_and_then (with_file at (Some after) files) (option_and_then start_of o)) chain_now ∙ ap (option_and_then (with_file at (Some after) files)) begins.1 ∙ file_there at (Some after) files ∙ sym chain_now)
-      live_now (λ e inside is. left_same ∙ stood.among.trimmed e inside tag (begins_same e is))
+      live_now (λ e inside is. left_same e ∙ stood.among.trimmed e inside tag (begins_same e is))
       stood.among.low (λ h is no. no)
       (λ p h more. subst (λ (h : Home). has_home old.places h ≡ false) (sym more.1) page_now.no_tags)
       stood.well.listed.pages_held)

@@ -33,12 +33,13 @@ use Rattle.deferred_laws.specs.Tags.{AreAmong, chains_in, start_of}
 use Rattle.deferred_laws.proofs.Ended.{ended_other, file_gone, reading_other, reading_place, reading_there, same_file, trim_front, trim_once, trim_other, trim_there}
 use Rattle.deferred_laws.proofs.FirstCells.{first_place, trimmed_keeps}
 use Rattle.deferred_laws.proofs.Fits.{Fits, trim_maps, well_fits}
-use Rattle.deferred_laws.proofs.Narrower.{in_last, narrower_step}
+use Rattle.deferred_laws.proofs.Narrower.{in_last, narrower_step, to_do_was}
+use Rattle.deferred_laws.proofs.ReadHomes.{to_do_same}
 use Rattle.deferred_laws.proofs.PagesGo.{at_other, at_source, clone_now, clone_was}
 use Rattle.deferred_laws.proofs.Said.{SaysSame, left_alone, left_first, says_alone, says_first, says_itself, says_trim}
 use Rattle.deferred_laws.proofs.Wells.{well_step}
 use Rattle.deferred_delete.specs.declared.list.Entry.{Entry}
-use Rattle.deferred_delete.specs.Listed.{left_of}
+use Rattle.deferred_delete.specs.Listed.{left_of, to_do}
 use Rattle.record_table.specs.declared.record.Leftover.TheVariants.{Trim}
 use Rattle.deferred_laws.proofs.QuotaStep.{not_trimmed, quota_beside, quota_places}
 
@@ -58,7 +59,7 @@ module _ (group : ℕ) (version : Version) (old new : Now) (well : IsWell old) w
   as_it_was : (a : CellAt) (cells : List PlacedCell) → old.files a ≡ Some cells → new.files a ≡ old.files a → IsStill new a cells
   as_it_was a cells was same = record { after = cells; is = same ∙ was; says = says_itself cells; left = λ e inside at. refl }
 
-  still : Step group version old new → (a : CellAt) (cells : List PlacedCell) → old.files a ≡ Some cells → ((e : Entry) → Contains old.list.entries e → e.at ≡ a → left_of cells ≡ Some Trim) → IsStill new a cells
+  still : Step group version old new → (a : CellAt) (cells : List PlacedCell) → old.files a ≡ Some cells → ((e : Entry) → Contains old.list.entries e → e.at ≡ a → to_do e cells ≡ Some Trim) → IsStill new a cells
   still (pages_go s) a cells was trims = by_which (which s.entry.at s.entry.clone a)
     where
       by_which : Which s.entry.at s.entry.clone a → IsStill new a cells
@@ -81,7 +82,7 @@ module _ (group : ℕ) (version : Version) (old new : Now) (well : IsWell old) w
           }
       by_which (other not_at not_it) = as_it_was a cells was (at_other group version old new fits s a not_at not_it)
   still (quota_goes s) a cells was trims =
-      as_it_was a cells was (quota_beside group version old new s a (λ same. not_trimmed group version old new s cells (sym (ap old.files same) ∙ was) (trims s.entry (in_last old.list s.front s.entry s.last) (sym same))))
+      as_it_was a cells was (quota_beside group version old new s a (λ same. not_trimmed group version old new s s.entry cells (sym (ap old.files same) ∙ was) (trims s.entry (in_last old.list s.front s.entry s.last) (sym same))))
   still (trim_ends s) a cells was trims = ⊎_elim
       (λ same.
       let it : s.chain ≡ cells = some_same s.chain cells (sym s.is ∙ sym (ap old.files same) ∙ was) in
@@ -107,7 +108,7 @@ module _ (group : ℕ) (version : Version) (old new : Now) (well : IsWell old) w
   still (file_ends s) a cells was trims = ⊎_elim
       (λ same.
       let it : s.chain ≡ cells = some_same s.chain cells (sym s.is ∙ sym (ap old.files same) ∙ was) in
-      absurd (s.whole (ap left_of it ∙ trims s.entry (in_last old.list s.front s.entry s.last) (sym same))))
+      absurd (s.whole (ap (to_do s.entry) it ∙ trims s.entry (in_last old.list s.front s.entry s.last) (sym same))))
       (λ not_at. as_it_was a cells was (ended_other group version old new fits s a not_at))
       (same_or_not a s.entry.at)
   still (tag_page_goes s) a cells was trims = as_it_was a cells was (same_file group version old new fits s a)
@@ -246,7 +247,7 @@ module _ (group : ℕ) (version : Version) (old new : Now) (well : IsWell old) (
   goes t cells is =
       let n = named old.files chains t cells is (was.among.same t) in
       let live = subst (λ o. IfSome o (λ cs. is_removed cs ≡ false)) is (was.among.live t) in
-      let s = still group version old new well step n.at cells n.is (λ e inside at. ap (option_and_then left_of) (sym is) ∙ was.among.trimmed e inside t (ap (option_and_then start_of) is ∙ n.start ∙ ap Some (sym at))) in
+      let s = still group version old new well step n.at cells n.is (λ e inside at. ap (option_and_then (to_do e)) (sym is) ∙ was.among.trimmed e inside t (ap (option_and_then start_of) is ∙ n.start ∙ ap Some (sym at))) in
       record {
         at = n.at;
         start = n.start;
@@ -368,12 +369,12 @@ module _ (group : ℕ) (version : Version) (old new : Now) (well : IsWell old) (
       same = λ t. all_now t (λ o. option_and_then new.files (option_and_then start_of o) ≡ o) refl
           (λ cells is g. ap (option_and_then new.files) (g.says.start ∙ g.start) ∙ g.there);
       live = λ t. all_now t (λ o. IfSome o (λ cells. is_removed cells ≡ false)) tt (λ cells is g. g.live);
-      trimmed = λ e inside t. all_now t (λ o. option_and_then start_of o ≡ Some e.at → option_and_then left_of o ≡ Some Trim)
+      trimmed = λ e inside t. all_now t (λ o. option_and_then start_of o ≡ Some e.at → option_and_then (to_do e) o ≡ Some Trim)
           (λ start. absurd (none_not e.at start))
           (λ cells is g start.
           let n = narrower_step group version old new step e inside in
           let at : g.at ≡ e.at = some_same g.at e.at (sym (g.says.start ∙ g.start) ∙ start) in
-          g.left e inside (sym at) ∙ ap (option_and_then left_of) (sym is) ∙ was.among.trimmed n.was n.inside t (ap (option_and_then start_of) is ∙ g.start ∙ ap Some (at ∙ sym n.at)));
+          to_do_same e cells g.after (g.left e inside (sym at)) ∙ to_do_was old.list new.list e n cells ∙ ap (option_and_then (to_do n.was)) (sym is) ∙ was.among.trimmed n.was n.inside t (ap (option_and_then start_of) is ∙ g.start ∙ ap Some (at ∙ sym n.at)));
       low = was.among.low;
       no_tags = no_tags_now;
       not_listed = λ home inside. was.among.not_listed home (was_listed group version old new well step home inside);

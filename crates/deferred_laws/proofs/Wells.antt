@@ -11,7 +11,7 @@ use Rattle.deferred_delete.specs.Standing.{Files, source_of, with_file}
 use Rattle.deferred_delete.specs.Steps.{EndsFile, EndsReading, EndsTrim, GivesTagPage, IsWell, LetsPages, LosesQuotaCell, Now, Step, Steps, file_ends, more, none, now_of, pages_go, quota_goes, reading_ends, says_no_source, says_trimmed, tag_page_goes, trim_ends}
 use Rattle.deferred_delete.proofs.Ends.{alone_listed, alone_together, gone_listed, gone_together, trim_listed, trim_together}
 use Rattle.deferred_delete.proofs.Spread.{now, some_same, spread_listed, spread_together}
-use Rattle.deferred_delete.proofs.Standings.{not_nil, source_file, standing, trim_file}
+use Rattle.deferred_delete.proofs.Standings.{not_nil, said_trim, source_file, standing, trim_file}
 use Rattle.deferred_delete.proofs.Stepping.{first_stands, listed_as}
 use Rattle.deferred_delete.proofs.Well.{source_chain, tag_page_well}
 use Rattle.deferred_laws.proofs.Narrower.{in_last}
@@ -45,7 +45,7 @@ module _ (group : ℕ) (version : Version) (old new : Now) (well : IsWell old) w
       by_chain : (chain : List PlacedCell) → old.files s.entry.at ≡ Some chain → new.files ≡ with_file s.entry.at (Some (with_first says_trimmed chain)) old.files → IsWell new
       by_chain [] is files = absurd (not_nil old.pages s.entry.at (standing old.space old.cells old.pages old.files well.together s.entry.at [] is).stands)
       by_chain (first ∷ rest) is files =
-          let file = trim_file old.pages s.entry.at (first ∷ rest) (standing old.space old.cells old.pages old.files well.together s.entry.at (first ∷ rest) is).stands (ap left_of (some_same (first ∷ rest) s.chain (sym is ∙ s.is)) ∙ s.trim) in
+          let file = trim_file old.pages s.entry.at (first ∷ rest) (standing old.space old.cells old.pages old.files well.together s.entry.at (first ∷ rest) is).stands (ap left_of (some_same (first ∷ rest) s.chain (sym is ∙ s.is)) ∙ said_trim s.entry.goes (left_of s.chain) s.trim) in
           let here = s.stands first.cell (first_stands old.pages s.entry.at first rest (standing old.space old.cells old.pages old.files well.together s.entry.at (first ∷ rest) is).stands) in
           well_by new (record { entries = s.front; tag_pages = old.list.tag_pages }) (with_file s.entry.at (Some (with_first says_trimmed (first ∷ rest))) old.files) old.space old.cells s.list files s.same_space s.same_cells
           (record {
@@ -65,7 +65,7 @@ module _ (group : ℕ) (version : Version) (old new : Now) (well : IsWell old) w
           let file = source_file old.pages s.clone (first ∷ rest) (standing old.space old.cells old.pages old.files well.together s.clone (first ∷ rest) is).stands (subst (λ (cs : List PlacedCell). IsSome (source_of cs)) (some_same own.0 (first ∷ rest) (sym own.1 ∙ is)) own.2) in
           let here = s.stands first.cell (first_stands old.pages s.clone first rest (standing old.space old.cells old.pages old.files well.together s.clone (first ∷ rest) is).stands) in
           let listed = listed_as old.space old.cells old.files old.list s.front s.entry s.last well.listed in
-          well_by new (record { entries = s.front ++ record { at = s.entry.at; clone = None } ∷ []; tag_pages = old.list.tag_pages }) (with_file s.clone (Some (with_first says_no_source (first ∷ rest))) old.files) old.space old.cells s.list files s.same_space s.same_cells
+          well_by new (record { entries = s.front ++ record s.entry { clone = None } ∷ []; tag_pages = old.list.tag_pages }) (with_file s.clone (Some (with_first says_no_source (first ∷ rest))) old.files) old.space old.cells s.list files s.same_space s.same_cells
           (record {
             together = alone_together old.space old.cells old.pages new.pages old.files well.together s.front s.entry old.list.tag_pages listed s.clone s.given first rest is file s.others here s.well_formed s.headers;
             listed = alone_listed old.space old.cells old.pages new.pages old.files well.together s.front s.entry old.list.tag_pages listed s.clone s.given first rest is file s.others here s.well_formed s.headers;

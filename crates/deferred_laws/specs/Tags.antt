@@ -11,7 +11,7 @@ use Rattle.tag_dirs.specs.Directory.{has_home}
 use Rattle.extent_maps.specs.declared.run.PagePlace.TheVariants.{At}
 use Rattle.bitfile_core.specs.Files.{Chains, is_removed}
 use Rattle.deferred_delete.specs.declared.list.Entry.{Entry}
-use Rattle.deferred_delete.specs.Listed.{left_of}
+use Rattle.deferred_delete.specs.Listed.{to_do}
 use Rattle.deferred_delete.specs.Standing.{Files, place_in}
 use Rattle.deferred_delete.specs.Steps.{Now}
 
@@ -25,14 +25,14 @@ abbrev pub chains_in : Files → Chains → Chains
 chains_in files chains = λ tag. option_and_then files (option_and_then start_of (chains tag))
 
 -- each file that a tag names is one of the domain's, none is to be removed, and one that is on the
--- list says that it was made shorter; and each page of the tag directory stands on a volume, has no
--- file's page, and is not on the list
+-- list is to be trimmed; and each page of the tag directory stands on a volume, has no file's page,
+-- and is not on the list
 pub record AreAmong (now : Now) (places : List TagPlace) (chains : Chains) : Type 0 where
   pub same : (tag : Tag) → chains_in now.files chains tag ≡ chains tag
   pub live : (tag : Tag) → IfSome (chains tag) (λ cells. is_removed cells ≡ false)
   pub trimmed : (entry : Entry) → Contains now.list.entries entry → (tag : Tag)
       → option_and_then start_of (chains tag) ≡ Some entry.at
-      → option_and_then left_of (chains tag) ≡ Some Trim
+      → option_and_then (to_do entry) (chains tag) ≡ Some Trim
   pub low : (home : Home) → has_home places home ≡ true → 1 ≤ home.vol
   pub no_tags : (at : CellAt) (page : ℕ) (home : Home) → place_in now.files at page ≡ At home
       → has_home places home ≡ false

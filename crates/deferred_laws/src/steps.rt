@@ -13,7 +13,7 @@ ghost use Rattle.free_space.specs.Spaces.{IsHeld};
 ghost use Rattle.bitfile_core.specs.Files.{Chains};
 ghost use Rattle.bitfile_core.specs.Shown.{ShowsFile};
 ghost use Rattle.deferred_delete.specs.declared.list.Entry.{Entry};
-ghost use Rattle.deferred_delete.specs.Listed.{GoesWhole, left_of};
+ghost use Rattle.deferred_delete.specs.Listed.{GoesWhole, to_do};
 ghost use Rattle.deferred_delete.specs.Standing.{read_at};
 ghost use Rattle.deferred_delete.specs.Steps.{IsWell, Now, Steps};
 ghost use Rattle.deferred_laws.specs.Kept.{IsBeside, KeepsAll, KeepsFront, SaysTheSame, Stays};
@@ -37,7 +37,7 @@ pub fn trimmed_files_keep_their_front()
         → (entry : Entry) → Contains first.list.entries entry
         → ((other : Entry) → Contains first.list.entries other → ¬ other.clone ≡ Some entry.at)
         → (chain : List PlacedCell) → first.files entry.at ≡ Some chain
-        → left_of chain ≡ Some Trim → KeepsFront chain (last.files entry.at) }
+        → to_do entry chain ≡ Some Trim → KeepsFront entry chain (last.files entry.at) }
 {}
 
 /// Each page of each file, but those that go, is read at the home at which it was read, or as zeros
@@ -55,7 +55,7 @@ pub fn removed_files_are_gone()
         → IsWell first → Steps group version first count last → last.list.entries ≡ []
         → (entry : Entry) → Contains first.list.entries entry
         → (chain : List PlacedCell) → first.files entry.at ≡ Some chain
-        → GoesWhole chain → last.files entry.at ≡ None }
+        → GoesWhole entry chain → last.files entry.at ≡ None }
 {}
 
 /// A file that was to be trimmed keeps all of 65,536 pages once no file is on the list, and nothing
@@ -65,7 +65,7 @@ pub fn trimmed_files_keep_all()
         → IsWell first → Steps group version first count last → last.list.entries ≡ []
         → (entry : Entry) → Contains first.list.entries entry
         → (chain : List PlacedCell) → first.files entry.at ≡ Some chain
-        → left_of chain ≡ Some Trim → KeepsAll (last.files entry.at) }
+        → to_do entry chain ≡ Some Trim → KeepsAll (last.files entry.at) }
 {}
 
 /// With each step less is left to be let go of: of the cells and pages of the entries' files that

@@ -16,7 +16,8 @@ use Rattle.free_space.specs.Spaces.{Spaces, missed}
 use Rattle.bitfile_cells.specs.Allocated.{FindsNone}
 use Rattle.bitfile_cells.specs.Files.{IsFile}
 use Rattle.deferred_delete.specs.declared.list.Entry.{Entry}
-use Rattle.deferred_delete.specs.Listed.{IsEntry, left_of}
+use Rattle.deferred_delete.specs.declared.list.Goes.TheVariants.{AsSaid}
+use Rattle.deferred_delete.specs.Listed.{IsEntry, left_of, to_do}
 use Rattle.deferred_delete.specs.Listing.{Adds, Listing}
 use Rattle.deferred_delete.specs.Standing.{ReadsThrough, Source}
 use Rattle.deferred_delete.specs.Steps.{IsWell, LetsGo, Now, Steps, now_of}
@@ -92,20 +93,20 @@ module _ (fileset : ℕ) (version : Version) (tag : Tag) (at : CellAt) (first : 
   reads_none : (a b : CellAt) → ReadsThrough cut.domain.files a b → ⊥
   reads_none a b reads = subst (λ o. IsSomeAnd o (λ (source : Source). source.at ≡ b)) (sources_stay fileset version tag first cut c.cut.0.calls c.stood a ∙ c.alone a) reads
 
-  may : IsEntry cut.domain.files (record { at = at; clone = None })
+  may : IsEntry cut.domain.files (record { at = at; clone = None; goes = AsSaid })
   may = record {
     there = ap is_some cut_chain.there;
     given = λ clone is. absurd (none_some clone is);
     all = λ clone reads. absurd (reads_none clone at reads);
   }
 
-  module _ (listed : Listing) (adds : Adds at None parts.list.entries listed.entries) (same : listed.tag_pages ≡ parts.list.tag_pages) (trim : left_of cut_chain.chain ≡ Some Trim) where
+  module _ (listed : Listing) (adds : Adds at None AsSaid parts.list.entries listed.entries) (same : listed.tag_pages ≡ parts.list.tag_pages) (trim : left_of cut_chain.chain ≡ Some Trim) where
     pub well : IsWell (with_list listed cut.domain)
-    well = entry_listed cut.domain at None listed stands.well may adds same
+    well = entry_listed cut.domain at None AsSaid listed stands.well may adds same
 
     among : AreAmong (with_list listed cut.domain) cut.places cut.chains
-    among = entry_among cut.domain listed cut.places cut.chains stands.among at None adds same
-        (λ t starts. ap (option_and_then left_of) (by_start fileset tag at cut stands c.cut.1 t starts ∙ cut_chain.there) ∙ trim)
+    among = entry_among cut.domain listed cut.places cut.chains stands.among at None AsSaid adds same
+        (λ t starts. ap (option_and_then (to_do (record { at = at; clone = None; goes = AsSaid }))) (by_start fileset tag at cut stands c.cut.1 t starts ∙ cut_chain.there) ∙ trim)
 
     abbrev gone : (now : Now) → FilesetNow
     gone now = record { places = parts.places; chains = chains_in now.files cut.chains; domain = now }
@@ -200,7 +201,7 @@ module _ (fileset : ℕ) (version : Version) (tag : Tag) (first : FilesetNow) (n
                 (went.begins ∙ ap Some (sym (ap (λ (x : Entry). x.at) this) ∙ is))),
             (λ is. none_some a (sym (ap (λ (x : Entry). x.clone) this) ∙ is)),
           ))
-          (which_entry went.cut.domain.list.entries went.listed.entries went.at None went.adds e inside)
+          (which_entry went.cut.domain.list.entries went.listed.entries went.at None AsSaid went.adds e inside)
 
   module _ (home : Home) (low : 1 ≤ home.vol) where
     abbrev IsKept : Type 0

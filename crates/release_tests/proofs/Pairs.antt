@@ -27,6 +27,7 @@ use Rattle.bitfile_core.proofs.FirstRoom.{first_room, kinds_replaced}
 use Rattle.bitfile_core.proofs.FirstTogether.{not_of, rows, runs_kept}
 use Rattle.chain_release.proofs.Once.{absent_not}
 use Rattle.deferred_delete.specs.declared.list.Entry.{Entry}
+use Rattle.deferred_delete.specs.declared.list.Goes.{Goes}
 use Rattle.deferred_delete.specs.Listed.{IsEntry}
 use Rattle.deferred_delete.specs.Listing.{Adds, Listing}
 use Rattle.deferred_delete.specs.Standing.{Files, IsStanding, ReadsThrough, Source, StandTogether, place_in, source_in, source_of, with_file}
@@ -122,19 +123,16 @@ module _ (space : Spaces) (cells : Cells) (pages : Pages) (a b : CellAt) (chain 
     one_deep = λ x y z xy yz. differ (sym (reads_one y z yz).0 ∙ sym (reads_one x y xy).1);
   }
 
-  abbrev entry : Entry
-  entry = record { at = a; clone = Some b }
-
-  is_entry : IsEntry files entry
-  is_entry = record {
+  is_entry : (goes : Goes) → IsEntry files (record { at = a; clone = Some b; goes = goes })
+  is_entry goes = record {
     there = ap is_some at_a;
     given = λ c is. subst (λ (q : CellAt). ReadsThrough files q a) (some_same b c is) (subst (λ o. IsSomeAnd o (λ (s : Source). s.at ≡ a)) (sym (source_by files b own at_b ∙ reads)) refl);
     all = λ c is. ap Some (sym (reads_one c a is).0);
   }
 
   -- and none reads through the second
-  clone_entry : IsEntry files (record { at = b; clone = None })
-  clone_entry = record {
+  clone_entry : (goes : Goes) → IsEntry files (record { at = b; clone = None; goes = goes })
+  clone_entry goes = record {
     there = ap is_some at_b;
     given = λ c is. absurd (none_some c is);
     all = λ c is. absurd (differ (sym (reads_one c b is).1));
@@ -247,8 +245,8 @@ pair_well space cells old new a b chain (first ∷ rest) two frozen value is sta
 
 -- ---- one of the two, or both, on the list
 
-pub pair_listed : (space : Spaces) (cells : Cells) (pages : Pages) (a b at : CellAt) (clone : Option CellAt) (before list : Listing) (files : Files) → IsPair space cells pages a b before files → IsEntry files (record { at = at; clone = clone })
-    → Adds at clone before.entries list.entries → list.tag_pages ≡ before.tag_pages → IsPair space cells pages a b list files
-pair_listed space cells pages a b at clone before list files pair entry adds same =
-    let well = entry_listed (now_of before files space cells pages) at clone list pair.well entry adds same in
+pub pair_listed : (space : Spaces) (cells : Cells) (pages : Pages) (a b at : CellAt) (clone : Option CellAt) (goes : Goes) (before list : Listing) (files : Files) → IsPair space cells pages a b before files → IsEntry files (record { at = at; clone = clone; goes = goes })
+    → Adds at clone goes before.entries list.entries → list.tag_pages ≡ before.tag_pages → IsPair space cells pages a b list files
+pair_listed space cells pages a b at clone goes before list files pair entry adds same =
+    let well = entry_listed (now_of before files space cells pages) at clone goes list pair.well entry adds same in
     record { well = record { together = well.together; listed = well.listed }; first = pair.first; second = pair.second }

@@ -15,7 +15,7 @@ use crate::going::counts;
 use crate::making::{cut, give_pages, make};
 use crate::seen::kept;
 use bmt_mcells::find_record;
-use deferred_delete::Deferred;
+use deferred_delete::{Deferred, Goes};
 use domain_base::{CellAt, Kind, Tag, Version};
 use file_tests::world::{World, new_world};
 use record_table::{Leftover, Record};
@@ -53,7 +53,7 @@ fn let_go(
     if !is_trimmed(world, at) {
         return Err(Fail::from("a file that was cut"));
     }
-    list.add(*at, None)?;
+    list.add(*at, None, Goes::AsSaid)?;
     Ok(list.release_some(
         alloc,
         &mut world.pages,

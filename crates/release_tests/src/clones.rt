@@ -8,7 +8,7 @@ use crate::going::{counts, is_of_clone, may_go, release, release_all};
 use crate::making::{first_pages, give_pages, make};
 use bitfile_cells::set_record;
 use bmt_mcells::find_record;
-use deferred_delete::{Deferred, Entry};
+use deferred_delete::{Deferred, Entry, Goes};
 use domain_base::{CellAt, Kind, Tag, Version};
 use file_tests::world::{World, new_world, volume};
 use page_store::StoreFault;
@@ -95,7 +95,7 @@ fn list_second(world: &World, list: &mut Deferred, pair: &Pair, is_listed: bool)
     ensures { IfOk result (λ _. HasPair world.now pair.now list.new) }
 {
     if is_listed {
-        list.add(pair.clone, None)?;
+        list.add(pair.clone, None, Goes::AsSaid)?;
     }
     Ok(())
 }
@@ -105,7 +105,7 @@ fn list_first(world: &World, list: &mut Deferred, pair: &Pair) -> Result<(), Fai
     requires { HasPair world.now pair.now list.old }
     ensures { IfOk result (λ _. HasPair world.now pair.now list.new) }
 {
-    list.add(pair.at, Some(pair.clone))?;
+    list.add(pair.at, Some(pair.clone), Goes::AsSaid)?;
     Ok(())
 }
 
@@ -334,6 +334,7 @@ pub fn stopped(alloc: Global) -> Result<Stopped, Fail> {
         == Some(Entry {
             at: pair.at,
             clone: Some(pair.clone),
+            goes: Goes::AsSaid,
         });
     let refused = match release(alloc, &mut world, &mut list, Version::Four) {
         Err(StoreFault::NoPage) => true,

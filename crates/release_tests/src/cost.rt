@@ -6,7 +6,7 @@ ghost use Rattle.release_tests.specs.Going.{HasWell, HasWellBy};
 use crate::going::{listed, release_by};
 use crate::looks::Counted;
 use crate::making::{give_pages, make, remove, second_pages};
-use deferred_delete::Deferred;
+use deferred_delete::{Deferred, Goes};
 use domain_base::{Kind, Tag, Version};
 use file_tests::world::{World, new_world};
 use free_cells::FreeCells;
@@ -84,6 +84,6 @@ pub fn removed(alloc: Global, extents: u32) -> Result<Cost, Fail>
 {
     let (mut world, tag) = many(alloc, extents)?;
     let at = remove(alloc, &mut world, tag)?;
-    let list = listed(alloc, &world, &at)?;
+    let list = listed(alloc, &world, &at, Goes::AsSaid)?;
     cost_of(alloc, world, list)
 }

@@ -8,7 +8,7 @@ ghost use Rattle.file_tests.specs.Worlds.{IsWorld};
 ghost use Rattle.release_tests.specs.Going.{HasGoing, HasWell, HasWellBy};
 
 use bmt_mcells::find_record;
-use deferred_delete::Deferred;
+use deferred_delete::{Deferred, Goes};
 use domain_base::{CellAt, Version};
 use file_tests::world::{World, volume};
 use free_cells::FreeCells;
@@ -45,17 +45,47 @@ pub fn may_go(world: &World, at: &CellAt) -> bool
     is_pending(world, at)
 }
 
-/// A list of this file alone.
-pub fn listed(alloc: Global, world: &World, at: &CellAt) -> Result<Deferred, Fail>
+/// A list of this file alone, of which so much goes.
+pub fn listed(alloc: Global, world: &World, at: &CellAt, goes: Goes) -> Result<Deferred, Fail>
     requires { HasGoing world.now at.now }
     ensures { IfOk result (HasWell world.now) }
 {
-    if !may_go(world, at) {
-        return Err(Fail::from("a file that goes and is of no clone"));
+    if is_of_clone(world, at) {
+        return Err(Fail::from("a file of no clone"));
     }
     let mut list = Deferred::new(alloc);
-    list.add(*at, None)?;
+    list.add(*at, None, goes)?;
     Ok(list)
+}
+
+/// The same of a file that was listed to be trimmed, and is listed again.
+fn listed_again(alloc: Global, world: &World, at: &CellAt, goes: Goes) -> Result<Deferred, Fail>
+    requires { HasGoing world.now at.now }
+    ensures { IfOk result (HasWell world.now) }
+{
+    if is_of_clone(world, at) {
+        return Err(Fail::from("a file of no clone"));
+    }
+    let mut list = Deferred::new(alloc);
+    list.add(*at, None, Goes::AsSaid)?;
+    list.add(*at, None, goes)?;
+    Ok(list)
+}
+
+/// A list of this file alone, all of which goes: it is listed once, or was listed to be trimmed.
+pub fn listed_whole(
+    alloc: Global,
+    world: &World,
+    at: &CellAt,
+    is_again: bool,
+) -> Result<Deferred, Fail>
+    requires { HasGoing world.now at.now }
+    ensures { IfOk result (HasWell world.now) }
+{
+    if is_again {
+        return listed_again(alloc, world, at, Goes::Whole);
+    }
+    listed(alloc, world, at, Goes::Whole)
 }
 
 /// A list of a page of a tag directory, which is taken for it.

@@ -6,7 +6,9 @@ use crate::clones::{
     all_gone, all_kept, both_gone, handed_frozen, handed_full, handed_many, stopped,
 };
 use crate::cost::{Cost, removed as removed_in};
-use crate::seen::{TrimSeen, many_extents, many_removed, removed, tag_page, trim};
+use crate::seen::{
+    TrimSeen, many_extents, many_removed, of_removed_fileset, removed, tag_page, trim,
+};
 use domain_base::{Kind, Version};
 use std::alloc::Global;
 use std::test::Fail;
@@ -108,6 +110,20 @@ fn a_removed_file_lets_go_of_all(rt: HostRuntime) -> Result<(), Fail> {
     let directory = removed(alloc, Kind::Directory, 8_192)?;
     assert_eq!(rt; file, (true, [[55, 0], [55, 6], [61, 0], [61, 0]]));
     assert_eq!(rt; directory, (true, [[55, 0], [55, 6], [55, 6], [61, 0]]));
+    Ok(())
+}
+
+#[test]
+fn a_trim_goes_on_as_removal_where_its_fileset_is_removed(rt: HostRuntime) -> Result<(), Fail> {
+    let alloc = rt.alloc();
+    let seen = [
+        of_removed_fileset(alloc, false)?,
+        of_removed_fileset(alloc, true)?,
+    ];
+    // two pages are kept and a trim is pending, then the first cell has no record any more; of 64
+    // pages 9 are used, and the 6 of the file are free at the end
+    let gone = ([(2, true), (0, false)], [[55, 0], [55, 6], [61, 0]]);
+    assert_eq!(rt; seen, [gone, gone]);
     Ok(())
 }
 

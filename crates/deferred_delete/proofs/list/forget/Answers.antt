@@ -23,5 +23,5 @@ loop-i-preserved c =
     let item = c.index_mut.result.now in
     let seen = c.index.result.now in
     let same : seen ≡ item = c.index.ensures ∙ there_is items i seen item inside ∙ sym c.index_mut.ensures.value in
-    ap (λ (o : Option CellAt). slice_set items i (record { at = item.at; clone = o })) (c.clone_but.ensures ∙ ap (λ (e : Entry). clone_but at e.clone) same)
+    ap (λ (o : Option CellAt). slice_set items i (record item { clone = o })) (c.clone_but.ensures ∙ ap (λ (e : Entry). clone_but at e.clone) same)
     ∙ map_over_more (without at) all items i item within c.loop-i.invariant c.index_mut.ensures.value

@@ -6,7 +6,7 @@ use Rattle.deferred_delete.proofs.Lists.{get_last, longer, set_last}
 use Rattle.deferred_delete.proofs.list.Deferred.leave.Goals as goal
 
 abbrev alone : Entry → Entry
-alone entry = record { at = entry.at; clone = None }
+alone entry = record entry { clone = None }
 
 abbrev listing : Listing → List Entry → Listing
 listing list entries = record { entries = entries; tag_pages = list.tag_pages }
