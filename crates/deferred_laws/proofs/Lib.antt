@@ -36,4 +36,5 @@ pub mod GivenBack
 pub mod SourcesStay
 pub mod TagsBeside
 pub mod SaysStill
+pub mod StillThere
 pub mod ShownStill

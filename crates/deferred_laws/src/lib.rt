@@ -24,9 +24,10 @@ pub use giving_back::{
     no_other_page_is_given_back, tags_stay_together_where_a_page_is_given_back,
 };
 pub use steps::{
-    each_step_leaves_less, others_stay, pages_are_held_exactly_over_steps,
-    pages_are_read_as_before, removed_files_are_gone, trimmed_files_keep_all,
-    trimmed_files_keep_their_front, what_files_say_stays, what_is_shown_stays,
+    each_step_leaves_less, files_that_do_not_go_are_there, others_stay,
+    pages_are_held_exactly_over_steps, pages_are_read_as_before, removed_files_are_gone,
+    trimmed_files_keep_all, trimmed_files_keep_their_front, what_files_say_stays,
+    what_is_shown_stays,
 };
 pub use together::{
     all_stays_well, files_of_tags_begin_apart, tags_beside_the_list_stay, tags_stay_together,

@@ -1,5 +1,5 @@
 //! What steps leave as it was.
-ghost use Rattle.std.specs.Prelude.{◌≡◌, ◌+◌, ◌≤◌, ◌⊎◌, ◌↔◌, ℕ, List, [], Some, None, Contains};
+ghost use Rattle.std.specs.Prelude.{◌≡◌, ◌+◌, ◌≤◌, ◌⊎◌, ◌↔◌, ℕ, List, [], Some, None, Contains, IsSome};
 ghost use Rattle.domain_base.specs.declared.place.CellAt.{CellAt};
 ghost use Rattle.domain_base.specs.declared.place.Home.{Home};
 ghost use Rattle.domain_base.specs.declared.place.Tag.{Tag};
@@ -27,6 +27,16 @@ pub fn others_stay()
     ensures { (group : ℕ) (version : Version) (first : Now) (count : ℕ) (last : Now)
         → Steps group version first count last → (at : CellAt) → IsBeside first.list at
         → last.files at ≡ first.files at }
+{}
+
+/// A file that is there, and that no entry is of or one by which it is trimmed, is there after the
+/// steps: so is each clone's file that an entry gives, of which no entry is.
+pub fn files_that_do_not_go_are_there()
+    ensures { (group : ℕ) (version : Version) (first : Now) (count : ℕ) (last : Now)
+        → IsWell first → Steps group version first count last
+        → (at : CellAt) (chain : List PlacedCell) → first.files at ≡ Some chain
+        → ((entry : Entry) → Contains first.list.entries entry → entry.at ≡ at
+        → to_do entry chain ≡ Some Trim) → IsSome (last.files at) }
 {}
 
 /// A file that is trimmed, and that no entry gives as its clone's, is there still, and each page in
