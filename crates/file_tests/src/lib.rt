@@ -7,4 +7,7 @@ mod files;
 mod making;
 #[cfg(test)]
 mod moves;
+pub mod states;
+#[cfg(test)]
+mod told;
 pub mod world;

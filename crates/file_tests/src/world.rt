@@ -36,7 +36,7 @@ pub fn volume() -> VolIx
 }
 
 /// A page of the volume.
-fn home_at(page: u32) -> Home
+pub fn home_at(page: u32) -> Home
     ensures { result ≡ home_there page }
 {
     Home {
