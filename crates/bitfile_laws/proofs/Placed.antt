@@ -34,7 +34,7 @@ no_rows_of : (k : ℕ) → nat_le 1 (most_rows k) ≡ false → (r : Record) →
 no_rows_of k none r is = ap (λ (n : ℕ). not (nat_le 1 (most_rows n))) is ∙ ap not none
 
 -- records but for those that say where pages stand are found as before
-found_again : (k : ℕ) → nat_le 1 (most_rows k) ≡ false → (before after : List Record) → other_records after ≡ other_records before → record_of k after ≡ record_of k before
+pub found_again : (k : ℕ) → nat_le 1 (most_rows k) ≡ false → (before after : List Record) → other_records after ≡ other_records before → record_of k after ≡ record_of k before
 found_again k none before after same =
     sym (find_filter k (λ r. not (has_rows r)) after (no_rows_of k none)) ∙ ap (record_of k) same ∙ find_filter k (λ r. not (has_rows r)) before (no_rows_of k none)
 

@@ -1,5 +1,5 @@
-//! Laws of files as a map from their tags: what each call on the files of a fileset makes of it, each
-//! the contract of a function without a body.
+//! Laws of files as a map from their tags: what each call on the files of a fileset makes of it.
+//! Each is the contract of a function without a body.
 #![tactic(auto)]
 
 mod laws;

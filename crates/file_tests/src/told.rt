@@ -11,8 +11,8 @@ use extent_maps::{PagePlace, Run, RunPlace};
 use std::alloc::Global;
 use std::test::Fail;
 
-/// What is told of a tag's file: what it is, how many pages it keeps, where page 1 stands, and where
-/// its index begins.
+/// What is told of a tag's file: what it is, how many pages it keeps, where page 1 stands, and
+/// where its index begins.
 #[derive(Clone, Copy, Debug, PartialEq, Eq)]
 struct Told {
     what: Option<Attributes>,
@@ -52,8 +52,8 @@ fn give_three(alloc: Global, world: &mut World, tag: Tag) -> Result<(), Fail>
     Ok(())
 }
 
-/// What is told of a file of pages 0 to 2 once it is made, once it is another's, and once its tag is
-/// out of use; and where its pages stand before and after.
+/// What is told of a file of pages 0 to 2 once it is made, once it is another's, and once its tag
+/// is out of use; and where its pages stand before and after.
 fn told_of_one(alloc: Global) -> Result<([Told; 3], Vec<Run>, Vec<Run>), Fail> {
     let mut world = new_world(alloc, 64)?;
     let tag = make(alloc, &mut world, Kind::File)?;

@@ -1,4 +1,9 @@
+pub mod Beside
+pub mod IndexPut
 pub mod Kept
+pub mod Made
+pub mod Owned
+pub mod PageAdded
+pub mod TakenOut
 pub mod Together
 pub mod Written
-pub mod Owned

@@ -1,5 +1,5 @@
 -- A page of a directory with other bytes.
-use Rattle.std.proofs.Common.{◌≡◌, ◌∙◌, ℕ, zero, suc, ◌+◌, ◌<◌, Bool, true, false, cond, nat_eq, Option, Some, None, IsSomeAnd, List, [], ◌∷◌, ◌++◌, drop, length, slice_get, take, Contains, refl, sym, ap, subst, arith, true≢false}
+use Rattle.std.proofs.Common.{◌≡◌, ◌∙◌, ℕ, zero, suc, ◌+◌, ◌<◌, ◌≤◌, Bool, true, false, cond, nat_eq, Option, Some, None, IsSomeAnd, List, [], ◌∷◌, ◌++◌, drop, length, slice_get, take, Contains, refl, sym, ap, subst, arith, true≢false}
 use Rattle.std.specs.Option.{option_and_then, option_map_or}
 use Rattle.std.proofs.lemmas.Bool.{both_ways, eq-eqb, eqb-true}
 use Rattle.domain_base.specs.declared.place.Home.{Home}
@@ -33,13 +33,16 @@ entry_behind k page first more =
     let next : suc k + 1 ≡ suc (k + 1) = omega arith in
     ap (λ n. (first ∷ take k more) ++ page ∷ drop n (first ∷ more)) next
 
-entry_put : (k : ℕ) (page : List ℕ) (pages : List (List ℕ)) → k < length pages → slice_get (with_entry k page pages) k ≡ Some page
-entry_put k page [] within = absurd (omega (arith, within))
+pub entry_put : (k : ℕ) (page : List ℕ) (pages : List (List ℕ)) → k ≤ length pages → slice_get (with_entry k page pages) k ≡ Some page
+entry_put zero page [] within = refl
+entry_put (suc k) page [] within = absurd (omega (arith, within))
 entry_put zero page (first ∷ more) within = refl
 entry_put (suc k) page (first ∷ more) within = ap (λ l. slice_get l (suc k)) (entry_behind k page first more) ∙ entry_put k page more (omega (arith, within))
 
-entry_kept : (k : ℕ) (page : List ℕ) (pages : List (List ℕ)) → k < length pages → (j : ℕ) → ¬ j ≡ k → slice_get (with_entry k page pages) j ≡ slice_get pages j
-entry_kept k page [] within j other = absurd (omega (arith, within))
+pub entry_kept : (k : ℕ) (page : List ℕ) (pages : List (List ℕ)) → k ≤ length pages → (j : ℕ) → ¬ j ≡ k → slice_get (with_entry k page pages) j ≡ slice_get pages j
+entry_kept zero page [] within zero other = absurd (other refl)
+entry_kept zero page [] within (suc j) other = refl
+entry_kept (suc k) page [] within j other = absurd (omega (arith, within))
 entry_kept zero page (first ∷ more) within zero other = absurd (other refl)
 entry_kept zero page (first ∷ more) within (suc j) other = refl
 entry_kept (suc k) page (first ∷ more) within zero other = ap (λ l. slice_get l 0) (entry_behind k page first more)
@@ -47,10 +50,10 @@ entry_kept (suc k) page (first ∷ more) within (suc j) other =
     ap (λ l. slice_get l (suc j)) (entry_behind k page first more) ∙ entry_kept k page more (omega (arith, within)) j (λ e. other (ap suc e))
 
 module _ (old new : Pages) (home : Home) (page : List ℕ) (is : new ≡ with_page home page old) where
-  at_home : new home ≡ Some page
+  pub at_home : new home ≡ Some page
   at_home = ap (λ (ps : Pages). ps home) is ∙ ap (λ (b : Bool). cond b (Some page) (old home)) (same_itself home)
 
-  away : (h : Home) → ¬ h ≡ home → new h ≡ old h
+  pub away : (h : Home) → ¬ h ≡ home → new h ≡ old h
   away h other = ap (λ (ps : Pages). ps h) is ∙ ap (λ (b : Bool). cond b (Some page) (old h)) (apart (same_home h home) refl)
     where
       apart : (b : Bool) → same_home h home ≡ b → b ≡ false
@@ -106,11 +109,11 @@ module _ (fileset : ℕ) (places : List TagPlace) (space : Spaces) (cells : Cell
           by_number : (b : Bool) → nat_eq k number ≡ b → slice_get (with_entry number page file.pages) k ≡ shown_page new cs file.kind k
           by_number true same =
               let e = eqb-true k number same in
-              ap (slice_get (with_entry number page file.pages)) e ∙ entry_put number page file.pages within ∙ sym (at_home old new home page refl) ∙ ap (page_there new) (sym at_number)
+              ap (slice_get (with_entry number page file.pages)) e ∙ entry_put number page file.pages (omega (arith, within)) ∙ sym (at_home old new home page refl) ∙ ap (page_there new) (sym at_number)
               ∙ ap (λ n. page_there new (places_of cs n)) (sym e) ∙ ap (λ kind. shown_page new cs kind k) (sym directory)
           by_number false other =
               let apart : ¬ k ≡ number = λ e. both_ways (nat_eq k number) other (eq-eqb k number e) in
-              entry_kept number page file.pages within k apart ∙ shows k
+              entry_kept number page file.pages (omega (arith, within)) k apart ∙ shows k
               ∙ sym (page_kept old new cs file.kind k (λ h at. away old new home page refl h (λ e. apart (page_by tag cs is k (at ∙ ap At e)).1)))
 
       changed : (cs : List PlacedCell) → chains tag ≡ Some cs → AreIndexHomes old (index_of cs) (indexes tag) → ShowsFile old cs file → ShowsFile new cs (put_page number page file)

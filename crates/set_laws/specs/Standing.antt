@@ -1,9 +1,9 @@
 -- What a set of files shows, and where the indexes of its directories stand.
-use Rattle.std.specs.Prelude.{◌≡◌, ℕ, List, Contains}
+use Rattle.std.specs.Prelude.{◌≡◌, ℕ, List, Contains, if◌then◌else◌}
 use Rattle.std.specs.Option.{option_and_then}
 use Rattle.domain_base.specs.declared.place.Home.{Home}
 use Rattle.domain_base.specs.declared.place.Tag.{Tag}
-use Rattle.page_store.specs.Bitfiles.{Bitfile, Bitfiles}
+use Rattle.page_store.specs.Bitfiles.{Bitfile, Bitfiles, same_tag}
 use Rattle.page_store.specs.Pages.{Pages}
 use Rattle.tag_dirs.specs.declared.dir.TagPlace.{TagPlace}
 use Rattle.extent_maps.specs.declared.run.PagePlace.TheVariants.{At}
@@ -33,6 +33,10 @@ pub record StandsShown (fileset : ℕ) (places : List TagPlace) (space : Spaces)
       → ¬ place_at chains t page ≡ At home
   pub once : (s t : Tag) (home : Home) → Contains (indexes s) home → Contains (indexes t) home
       → s ≡ t
+
+-- the same with a tag's index at these homes
+abbrev pub with_index : Tag → List Home → Indexes → Indexes
+with_index tag homes indexes = λ t. if same_tag t tag then homes else indexes t
 
 -- a file with the owner and the links that these attributes say
 abbrev pub owned : Attributes → Bitfile → Bitfile

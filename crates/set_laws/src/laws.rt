@@ -1,18 +1,27 @@
 //! The laws.
-ghost use Rattle.std.specs.Prelude.{◌≡◌, ◌<◌, ℕ, List};
+ghost use Rattle.std.specs.Prelude.{◌≡◌, ◌∷◌, ◌<◌, [], ℕ, List, Some};
 ghost use Rattle.domain_base.specs.declared.place.Home.{Home};
 ghost use Rattle.domain_base.specs.declared.place.Tag.{Tag};
-ghost use Rattle.page_store.specs.Bitfiles.{Bitfiles, IsDirectory, count_pages, put_page, with_change};
+ghost use Rattle.page_store.specs.Bitfiles.{Bitfiles, IsDirectory, count_pages, new_file as shown_new, put_index, put_page, shown_index, with_change, with_file, without_file};
 ghost use Rattle.page_store.specs.Pages.{Pages, with_page};
 ghost use Rattle.tag_dirs.specs.declared.dir.TagPlace.{TagPlace};
 ghost use Rattle.extent_maps.specs.declared.run.PagePlace.TheVariants.{At};
 ghost use Rattle.free_cells.specs.Cells.{Cells};
 ghost use Rattle.free_space.specs.Spaces.{Spaces};
 ghost use Rattle.bitfile_core.specs.declared.attributes.Attributes.{Attributes};
-ghost use Rattle.bitfile_core.specs.Changes.{CanSay, ChangesFirst, says_attributes, with_chain, with_first};
+ghost use Rattle.domain_base.specs.declared.version.Version.{Version};
+ghost use Rattle.bitfile_core.specs.declared.new_cells.NewFile.{NewFile};
+ghost use Rattle.bitfile_core.specs.Changes.{CanSay, ChangesBeside, ChangesFirst, IsLive, says_attributes, with_chain, with_first, without_chain};
+ghost use Rattle.bitfile_core.specs.Creation.{Creates, LeavesBeside, TakesForFile, with_new};
 ghost use Rattle.bitfile_core.specs.Files.{Chains, place_at};
+ghost use Rattle.std.specs.Option.{option_and_then};
+ghost use Rattle.bmt_mcells.specs.Chain.{PlacedCell};
+ghost use Rattle.bitfile_cells.specs.MapChanges.{LeavesOffTables};
+ghost use Rattle.bitfile_core.specs.Pages.{ChangesFile, TakesHome};
+ghost use Rattle.bitfile_core.specs.Shown.{index_of};
 ghost use Rattle.bitfile_core.specs.Together.{AreTogether};
-ghost use Rattle.set_laws.specs.Standing.{Indexes, StandsShown, owned};
+ghost use Rattle.stored_index.specs.Changes.{PutsIndexPage};
+ghost use Rattle.set_laws.specs.Standing.{Indexes, StandsShown, owned, with_index};
 
 /// A set shows a directory's page changed where other bytes stand at the page's home, and nothing
 /// else.
@@ -39,4 +48,61 @@ pub fn attributes_are_set()
         → StandsShown fileset places space cells new
         (with_chain tag (with_first (says_attributes value)) chains) indexes
         (with_change tag (owned value) files) }
+{}
+
+/// A set shows no file or directory at a tag that is taken out of use, and nothing else new.
+pub fn tag_is_taken_out()
+    ensures { (fileset : ℕ) (places : List TagPlace) (space : Spaces) (cells : Cells)
+        (old new : Pages) (chains : Chains) (indexes : Indexes) (files : Bitfiles) (tag : Tag)
+        → StandsShown fileset places space cells old chains indexes files → IsLive tag chains
+        → ChangesBeside places (chains tag) old new
+        → AreTogether fileset places space cells new (without_chain tag chains)
+        → StandsShown fileset places space cells new (without_chain tag chains)
+        (with_index tag [] indexes) (without_file tag files) }
+{}
+
+/// A set shows a file or directory that is made, with one link and no page, and nothing else new.
+pub fn file_is_made()
+    ensures { (fileset prefer : ℕ) (places places_now : List TagPlace) (space space_now : Spaces)
+        (cells cells_now : Cells) (old new : Pages) (chains : Chains) (indexes : Indexes)
+        (files : Bitfiles) (tag : Tag) (version : Version) (what : NewFile)
+        → StandsShown fileset places space cells old chains indexes files
+        → (creates : Creates fileset places_now tag version what chains space_now cells cells_now
+        old new)
+        → TakesForFile prefer places places_now space space_now cells cells_now old
+        → LeavesBeside cells_now places_now old new
+        → StandsShown fileset places_now space_now cells_now new
+        (with_new tag (creates.first ∷ []) chains) indexes
+        (with_file tag (shown_new what.kind what.uid what.gid) files) }
+{}
+
+/// A set shows a page of a directory's index changed where it is put in place of another, and
+/// nothing else new.
+pub fn index_page_is_put()
+    ensures { (fileset : ℕ) (places : List TagPlace) (space : Spaces) (cells : Cells)
+        (old new : Pages) (chains : Chains) (indexes : Indexes) (files : Bitfiles) (tag : Tag)
+        (number : ℕ) (page : List ℕ)
+        → StandsShown fileset places space cells old chains indexes files
+        → IsDirectory files tag
+        → PutsIndexPage (option_and_then index_of (chains tag)) number page old new (indexes tag)
+        → StandsShown fileset places space cells new chains indexes
+        (with_change tag (put_index number (shown_index page)) files) }
+{}
+
+/// A set shows one page more of a directory where that is given a page behind its last one and
+/// these bytes are put there, and nothing else new.
+pub fn page_is_added()
+    ensures { (fileset prefer : ℕ) (places : List TagPlace) (space space_now : Spaces)
+        (cells cells_now : Cells) (old new : Pages) (chains : Chains) (indexes : Indexes)
+        (files : Bitfiles) (tag : Tag) (number : ℕ) (home : Home) (page : List ℕ)
+        (version : Version) (chain : List PlacedCell)
+        → StandsShown fileset places space cells old chains indexes files
+        → IsDirectory files tag → number ≡ count_pages files tag → chains tag ≡ Some chain
+        → (changes : ChangesFile fileset places tag number (At home) version chains space_now cells
+        cells_now old new chain)
+        → TakesHome prefer number home chain space space_now cells cells_now old
+        → LeavesOffTables cells_now old new
+        → StandsShown fileset places space_now cells_now (with_page home page new)
+        (with_chain tag (λ _. changes.change.changes.after) chains) indexes
+        (with_change tag (put_page number page) files) }
 {}

@@ -4,4 +4,7 @@
 
 mod laws;
 
-pub use laws::{attributes_are_set, page_is_written};
+pub use laws::{
+    attributes_are_set, file_is_made, index_page_is_put, page_is_added, page_is_written,
+    tag_is_taken_out,
+};
