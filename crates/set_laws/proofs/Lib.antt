@@ -1,4 +1,5 @@
 pub mod Beside
+pub mod IndexInserted
 pub mod IndexPut
 pub mod Kept
 pub mod Made

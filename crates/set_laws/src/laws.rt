@@ -1,13 +1,14 @@
 //! The laws.
-ghost use Rattle.std.specs.Prelude.{◌≡◌, ◌∷◌, ◌<◌, [], ℕ, List, Some};
+ghost use Rattle.std.specs.Prelude.{◌≡◌, ◌∷◌, ◌<◌, ◌≤◌, [], ℕ, List, Some, insert};
 ghost use Rattle.domain_base.specs.declared.place.Home.{Home};
 ghost use Rattle.domain_base.specs.declared.place.Tag.{Tag};
-ghost use Rattle.page_store.specs.Bitfiles.{Bitfiles, IsDirectory, count_pages, new_file as shown_new, put_index, put_page, shown_index, with_change, with_file, without_file};
+ghost use Rattle.page_store.specs.Bitfiles.{Bitfiles, IsDirectory, count_pages, insert_index, new_file as shown_new, put_index, put_page, shown_index, with_change, with_file, without_file};
 ghost use Rattle.page_store.specs.Pages.{Pages, with_page};
 ghost use Rattle.tag_dirs.specs.declared.dir.TagPlace.{TagPlace};
 ghost use Rattle.extent_maps.specs.declared.run.PagePlace.TheVariants.{At};
 ghost use Rattle.free_cells.specs.Cells.{Cells};
-ghost use Rattle.free_space.specs.Spaces.{Spaces};
+ghost use Rattle.free_space.specs.VolumeSpace.{with_page as space_with};
+ghost use Rattle.free_space.specs.Spaces.{CanTake, Spaces, change_volume};
 ghost use Rattle.bitfile_core.specs.declared.attributes.Attributes.{Attributes};
 ghost use Rattle.domain_base.specs.declared.version.Version.{Version};
 ghost use Rattle.bitfile_core.specs.declared.new_cells.NewFile.{NewFile};
@@ -17,10 +18,12 @@ ghost use Rattle.bitfile_core.specs.Files.{Chains, place_at};
 ghost use Rattle.std.specs.Option.{option_and_then};
 ghost use Rattle.bmt_mcells.specs.Chain.{PlacedCell};
 ghost use Rattle.bitfile_cells.specs.MapChanges.{LeavesOffTables};
+ghost use Rattle.bitfile_core.specs.declared.indexing.IndexPlace.{IndexPlace};
+ghost use Rattle.bitfile_core.specs.Index.{says_index};
 ghost use Rattle.bitfile_core.specs.Pages.{ChangesFile, TakesHome};
 ghost use Rattle.bitfile_core.specs.Shown.{index_of};
 ghost use Rattle.bitfile_core.specs.Together.{AreTogether};
-ghost use Rattle.stored_index.specs.Changes.{PutsIndexPage};
+ghost use Rattle.stored_index.specs.Changes.{InsertsIndexPage, PutsIndexPage};
 ghost use Rattle.set_laws.specs.Standing.{Indexes, StandsShown, owned, with_index};
 
 /// A set shows a directory's page changed where other bytes stand at the page's home, and nothing
@@ -105,4 +108,36 @@ pub fn page_is_added()
         → StandsShown fileset places space_now cells_now (with_page home page new)
         (with_chain tag (λ _. changes.change.changes.after) chains) indexes
         (with_change tag (put_page number page) files) }
+{}
+
+/// Files belong together where an index gets a page more, on a page that was free: so the first cell
+/// of its directory can be made to tell where the index begins then.
+pub fn index_page_joins()
+    ensures { (fileset : ℕ) (places : List TagPlace) (space : Spaces) (cells : Cells)
+        (old new : Pages) (chains : Chains) (indexes : Indexes) (files : Bitfiles) (tag : Tag)
+        (number : ℕ) (page : List ℕ) (home : Home) (index : IndexPlace)
+        → StandsShown fileset places space cells old chains indexes files
+        → 1 ≤ home.vol → CanTake space home.vol home.page
+        → InsertsIndexPage index.first home number page old new (indexes tag)
+        → AreTogether fileset places (change_volume (space_with home.page) space home.vol) cells new
+        chains }
+{}
+
+/// A set shows a page more of a directory's index, in front of the one with a number or behind the
+/// last, where that was put in on a free page and the directory's first cell tells where the index
+/// begins then; and nothing else new.
+pub fn index_page_is_inserted()
+    ensures { (fileset : ℕ) (places : List TagPlace) (space : Spaces) (cells : Cells)
+        (old between new : Pages) (chains : Chains) (indexes : Indexes) (files : Bitfiles)
+        (tag : Tag) (number : ℕ) (page : List ℕ) (home : Home) (index : IndexPlace)
+        → StandsShown fileset places space cells old chains indexes files
+        → IsDirectory files tag → 1 ≤ home.vol → CanTake space home.vol home.page
+        → InsertsIndexPage index.first home number page old between (indexes tag)
+        → ChangesFirst (chains tag) between new
+        → AreTogether fileset places (change_volume (space_with home.page) space home.vol) cells new
+        (with_chain tag (with_first (says_index (Some index))) chains)
+        → StandsShown fileset places (change_volume (space_with home.page) space home.vol) cells new
+        (with_chain tag (with_first (says_index (Some index))) chains)
+        (with_index tag (insert (indexes tag) number home) indexes)
+        (with_change tag (insert_index number (shown_index page)) files) }
 {}

@@ -16,7 +16,7 @@ module _ (homes : List Home) (number : ℕ) (onto : Home) where
   whole = take-append-drop number homes
 
   -- a home of the longer list is the new one or one of the others
-  in_inserted : (h : Home) → Contains (insert homes number onto) h → (onto ≡ h) ⊎ Contains homes h
+  pub in_inserted : (h : Home) → Contains (insert homes number onto) h → (onto ≡ h) ⊎ Contains homes h
   in_inserted h there = by_side (Contains-append_cases (take number homes) (onto ∷ drop number homes) h there)
     where
       behind : Contains (onto ∷ drop number homes) h → (onto ≡ h) ⊎ Contains homes h
