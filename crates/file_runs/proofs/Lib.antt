@@ -1,2 +1,3 @@
 pub mod CountRuns
 pub mod ReadRuns
+pub mod SaidPlaces

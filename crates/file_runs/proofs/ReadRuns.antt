@@ -78,7 +78,7 @@ apart_both (x ∷ xs) ys apart also between = (
 counts_one : (row : ExtentField) (more : List Run) (p : ℕ) → row.page ≤ p → p < row.page + row.count → times (run_of row ∷ more) p ≡ 1 + times more p
 counts_one row more p from to = λ i. cond (le-leb row.page p from i && lt-ltb p (row.page + row.count) to i) 1 0 + times more p
 
-abbrev map_runs : List ExtentField → List Run
+abbrev pub map_runs : List ExtentField → List Run
 map_runs rows_of = flat_map rows.runs_at rows_of
 
 abbrev run_first : ExtentField → List Run → Bool → List Run

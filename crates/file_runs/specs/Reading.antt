@@ -2,16 +2,19 @@
 use Rattle.std.specs.Prelude.{◌≡◌, ◌⊎◌, ◌↔◌, ◌==◌, ℕ, List, [], ◌∷◌, Contains, if◌then◌else◌}
 use Rattle.std.specs.List.{flat_map}
 use Rattle.domain_base.specs.declared.place.CellAt.{CellAt}
+use Rattle.domain_base.specs.declared.place.Home.{Home}
 use Rattle.page_store.specs.Pages.{Pages}
 use Rattle.record_table.specs.declared.record.ExtentField.{ExtentField}
 use Rattle.record_table.specs.declared.record.Record.{Record}
 use Rattle.record_table.specs.declared.record.Record.TheVariants as written
 use Rattle.bmt_mcells.specs.Cell.{Cell}
 use Rattle.bmt_mcells.specs.Chain.{StandsAt}
+use Rattle.extent_maps.specs.declared.run.PagePlace.TheVariants.{At}
 use Rattle.extent_records.specs.Rows.{NoPageTwice, runs_of}
+use Rattle.extent_records.specs.Writing.{places_in}
 use Rattle.cell_links.specs.Links.{IsInUse}
 use Rattle.cell_links.specs.declared.links.CellLinks.{CellLinks}
-use Rattle.file_runs.specs.Runs.{AreApart}
+use Rattle.file_runs.specs.Runs.{AreApart, HaveAt}
 use Rattle.file_runs.specs.declared.run.FileRun.{FileRun}
 
 -- the rows of a record that say where pages stand
@@ -41,6 +44,11 @@ abbrev pub IsRunAt : Pages → FileRun → CellAt → Type 0
 IsRunAt pages run at =
     (cell : Cell) × StandsAt pages at cell × Contains (runs_from at cell.records) run
 
+-- a record of the cell at a place says that a page of a file stands at a home
+abbrev pub SaysPlace : Pages → CellAt → ℕ → Home → Type 0
+SaysPlace pages at page home = (cell : Cell) × StandsAt pages at cell
+    × ((value : Record) × Contains cell.records value × (places_in value page ≡ At home))
+
 -- no cell at a place has a page of its file in two rows
 abbrev pub HasOneMap : Pages → CellAt → Type 0
 HasOneMap pages at =
@@ -62,3 +70,8 @@ IsRun pages links run = IsInUse links run.at × IsRunAt pages run run.at
 -- each cell in use has each page of its file in one row at most
 abbrev pub HaveOneMap : Pages → CellLinks → Type 0
 HaveOneMap pages links = (at : CellAt) → IsInUse links at → HasOneMap pages at
+
+-- the runs have each page of a file where a cell in use says that it stands, and no others
+abbrev pub AreSaid : Pages → CellLinks → List FileRun → Type 0
+AreSaid pages links runs = (at : CellAt) (page : ℕ) (home : Home) → HaveAt runs at page home
+    ↔ (IsInUse links at × SaysPlace pages at page home)

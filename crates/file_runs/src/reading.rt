@@ -1,7 +1,7 @@
 //! The runs that cells in use say.
 ghost use Rattle.std.specs.Prelude.{◌≡◌, ◌↔◌, ◌++◌, ◌∷◌, [], Contains, IfOk, OnOk};
 ghost use Rattle.file_runs.specs.declared.run.FileRun.{FileRun as RunOf};
-ghost use Rattle.file_runs.specs.Reading.{ArePut, HaveOneMap, IsRun, runs_at, runs_from, runs_in};
+ghost use Rattle.file_runs.specs.Reading.{ArePut, AreSaid, HaveOneMap, IsRun, runs_at, runs_from, runs_in};
 ghost use Rattle.file_runs.specs.Runs.{AreApart};
 
 use crate::run::FileRun;
@@ -80,6 +80,8 @@ pub fn read_runs<M: MetaPages>(
 ) -> Result<Vec<FileRun>, OutOfMemory>
     ensures each { IfOk result (λ runs. (run : RunOf) → Contains runs.items run
         ↔ IsRun (M.pages pages.now) links.now run) }
+    ensures said { IfOk result (λ runs. HaveOneMap (M.pages pages.now) links.now
+        → AreSaid (M.pages pages.now) links.now runs.items) }
     ensures apart { IfOk result (λ runs. HaveOneMap (M.pages pages.now) links.now
         → AreApart runs.items) }
 {

@@ -6,6 +6,7 @@ use Rattle.home_sets.proofs.Items.{item_of}
 use Rattle.file_runs.specs.Reading.{AreElsewhere, IsRunAt}
 use Rattle.file_runs.specs.declared.run.FileRun.{FileRun}
 use Rattle.file_runs.proofs.ReadRuns.{other_cells, records_at, used_at}
+use Rattle.file_runs.proofs.SaidPlaces.{said_at}
 use Rattle.file_runs.proofs.reading.read_runs.Goals as goal
 
 pub loop-at-preserved : goal.loop-at-preserved
@@ -40,4 +41,18 @@ returns-clause-each g c run =
           let same = records_at at cell.records run in_cell in
           subst (λ (a : CellAt). IsInUse c.args.links.now a × IsRunAt pages run a) (sym same) ((link, has), (cell, stands, in_cell)),
       λ ((link, has), is). found.1 (run.at, link, has, is),
+    )
+
+pub returns-clause-said : goal.returns-clause-said
+returns-clause-said g c one at page home =
+    let pages = g.M.MetaPages.pages c.args.pages.now in
+    let links = c.args.links.now in
+    let each = returns-clause-each g c in (
+      λ (run, among, has).
+          let (used, there) = (each run).0 among in
+          let in_use : IsInUse links at = subst (IsInUse links) has.0 used in
+          (in_use, (said_at pages at (one at in_use) page home).0 (run, subst (IsRunAt pages run) has.0 there, has)),
+      λ (used, says).
+          let (run, there, has) = (said_at pages at (one at used) page home).1 says in
+          (run, (each run).1 (subst (λ (a : CellAt). IsInUse links a × IsRunAt pages run a) (sym has.0) (used, there)), has),
     )
