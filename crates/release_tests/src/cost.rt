@@ -5,7 +5,7 @@ ghost use Rattle.release_tests.specs.Going.{HasWell, HasWellBy};
 
 use crate::going::{listed, release_by};
 use crate::looks::Counted;
-use crate::making::{give_pages, make, remove, second_pages};
+use crate::making::{cut, give_pages, make, remove, second_pages, second_pages_down};
 use deferred_delete::{Deferred, Goes};
 use domain_base::{Kind, Tag, Version};
 use file_tests::world::{World, new_world};
@@ -66,15 +66,13 @@ fn cost_of(alloc: Global, world: World, mut list: Deferred) -> Result<Cost, Fail
     })
 }
 
-/// A volume with a file of so many extents, each second page.
-fn many(alloc: Global, extents: u32) -> Result<(World, Tag), Fail>
-    requires { extents ≤ 1000 }
+/// A volume with a file that was given these pages, one after the other.
+fn many(alloc: Global, pages: &[u32]) -> Result<(World, Tag), Fail>
     ensures { IfOk result (λ made. IsWorld made.0) }
 {
     let mut world = new_world(alloc, 4_096)?;
-    let pages = second_pages(alloc, extents)?;
     let tag = make(alloc, &mut world, Kind::File, Version::Four)?;
-    give_pages(alloc, &mut world, tag, pages.as_slice(), Version::Four)?;
+    give_pages(alloc, &mut world, tag, pages, Version::Four)?;
     Ok((world, tag))
 }
 
@@ -82,8 +80,34 @@ fn many(alloc: Global, extents: u32) -> Result<(World, Tag), Fail>
 pub fn removed(alloc: Global, extents: u32) -> Result<Cost, Fail>
     requires { extents ≤ 1000 }
 {
-    let (mut world, tag) = many(alloc, extents)?;
+    let pages = second_pages(alloc, extents)?;
+    let (mut world, tag) = many(alloc, pages.as_slice())?;
     let at = remove(alloc, &mut world, tag)?;
     let list = listed(alloc, &world, &at, Goes::AsSaid)?;
     cost_of(alloc, world, list)
+}
+
+/// What it takes to let go of what is cut of a file of these pages, of which so many numbers are
+/// left.
+fn trimmed(alloc: Global, pages: &[u32], left: u32) -> Result<Cost, Fail> {
+    let (mut world, tag) = many(alloc, pages)?;
+    let at = cut(alloc, &mut world, tag, 8_192 * u64::from(left))?.ok_or("a trim")?;
+    let list = listed(alloc, &world, &at, Goes::AsSaid)?;
+    cost_of(alloc, world, list)
+}
+
+/// The same of so many extents, each second page, that were given from the first one on.
+pub fn trimmed_up(alloc: Global, extents: u32, left: u32) -> Result<Cost, Fail>
+    requires { extents ≤ 1000 }
+{
+    let pages = second_pages(alloc, extents)?;
+    trimmed(alloc, pages.as_slice(), left)
+}
+
+/// The same of extents that were given from the last one on.
+pub fn trimmed_down(alloc: Global, extents: u32, left: u32) -> Result<Cost, Fail>
+    requires { extents ≤ 1000 }
+{
+    let pages = second_pages_down(alloc, extents)?;
+    trimmed(alloc, pages.as_slice(), left)
 }

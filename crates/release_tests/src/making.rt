@@ -125,6 +125,17 @@ pub fn second_pages(alloc: Global, count: u32) -> Result<Vec<u32>, Fail>
     Ok(pages)
 }
 
+/// The same from the last one to the first.
+pub fn second_pages_down(alloc: Global, count: u32) -> Result<Vec<u32>, Fail>
+    requires { count ≤ 1000 }
+{
+    let mut pages = Vec::new(alloc);
+    for page in (0..count).rev() {
+        pages.push(2 * page)?;
+    }
+    Ok(pages)
+}
+
 /// Sets the size of a file: its first cell, where something is left to be done then.
 pub fn cut(alloc: Global, world: &mut World, tag: Tag, size: u64) -> Result<Option<CellAt>, Fail>
     requires { IsWorld world.old }

@@ -5,7 +5,7 @@ use crate::again::rewritten;
 use crate::clones::{
     all_gone, all_kept, both_gone, handed_frozen, handed_full, handed_many, stopped,
 };
-use crate::cost::{Cost, removed as removed_in};
+use crate::cost::{Cost, removed as removed_in, trimmed_down, trimmed_up};
 use crate::seen::{
     TrimSeen, many_extents, many_removed, of_removed_fileset, removed, tag_page, trim,
 };
@@ -52,6 +52,35 @@ fn removing(behind: u32) -> Cost
     }
 }
 
+/// What it takes to trim a file of which so many cells behind the first one go, and so many stay
+/// behind them. A cell behind the first one that goes takes the 25 looks that it takes of a removed
+/// file, and one to see how many pages are kept; a new cell is linked right behind the first one, so
+/// where pages were given in their order those that go are found there. The last step passes all
+/// cells that stay, each in five looks, and the first one in six; it takes six beside, and writes.
+fn trimming_up(gone: u32, kept: u32) -> Cost
+    requires gone { gone ≤ 1000 }
+    requires kept { kept ≤ 1000 }
+{
+    Cost {
+        steps: gone + 1,
+        looks: 26 * gone + 12 + 5 * kept,
+        changes: 4 * gone + 2,
+    }
+}
+
+/// The same where pages were given from the last one on: the first cell's pages go, in 21 looks, and
+/// cells that stand behind those that stay, which each step passes.
+fn trimming_down(gone: u32, kept: u32) -> Cost
+    requires gone { gone ≤ 1000 }
+    requires kept { kept ≤ 1000 }
+{
+    Cost {
+        steps: gone + 2,
+        looks: 21 + gone * (26 + 5 * kept) + 12 + 5 * kept,
+        changes: 4 * gone + 4,
+    }
+}
+
 #[test]
 fn a_file_of_many_extents_lets_go_of_what_is_cut(rt: HostRuntime) -> Result<(), Fail> {
     // rows of cells: 4, 22, 22, 22; one step a cell of which something goes, and one for the record
@@ -92,6 +121,35 @@ fn letting_go_costs_as_much_as_there_are_cells(rt: HostRuntime) -> Result<(), Fa
         removed_in(alloc, 400)?,
     ];
     assert_eq!(rt; seen, [removing(1), removing(5), removing(18)]);
+    Ok(())
+}
+
+#[test]
+fn a_trim_costs_as_much_as_cells_go_and_are_passed(rt: HostRuntime) -> Result<(), Fail> {
+    let alloc = rt.alloc();
+    // 4 and 22 extents a cell; of 4, 8 and 16 cells behind the first one the half goes
+    let up = [
+        trimmed_up(alloc, 92, 96)?,
+        trimmed_up(alloc, 180, 184)?,
+        trimmed_up(alloc, 356, 360)?,
+    ];
+    let down = [
+        trimmed_down(alloc, 92, 88)?,
+        trimmed_down(alloc, 180, 176)?,
+        trimmed_down(alloc, 356, 352)?,
+    ];
+    assert_eq!(rt;
+        up,
+        [trimming_up(2, 2), trimming_up(4, 4), trimming_up(8, 8)]
+    );
+    assert_eq!(rt;
+        down,
+        [
+            trimming_down(2, 2),
+            trimming_down(4, 4),
+            trimming_down(8, 8)
+        ]
+    );
     Ok(())
 }
 
