@@ -36,5 +36,6 @@ pub mod GivenBack
 pub mod SourcesStay
 pub mod TagsBeside
 pub mod SaysStill
+pub mod NewPages
 pub mod StillThere
 pub mod ShownStill

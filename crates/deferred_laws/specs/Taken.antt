@@ -1,12 +1,17 @@
 -- Pages that calls on a tag take of the free space.
-use Rattle.std.specs.Prelude.{◌≡◌, ◌⊎◌, ℕ, true, Contains}
+use Rattle.std.specs.Prelude.{◌≡◌, ◌⊎◌, ℕ, true, List, Contains}
+use Rattle.domain_base.specs.declared.place.CellAt.{CellAt}
 use Rattle.domain_base.specs.declared.place.Home.{Home}
 use Rattle.domain_base.specs.declared.place.Tag.{Tag}
 use Rattle.domain_base.specs.declared.version.Version.{Version}
+use Rattle.bmt_mcells.specs.Chain.{PlacedCell}
 use Rattle.tag_dirs.specs.Directory.{has_home}
+use Rattle.extent_maps.specs.declared.run.PagePlace.TheVariants.{At}
 use Rattle.free_cells.specs.Cells.{table_of}
 use Rattle.free_space.specs.Spaces.{IsHeld}
-use Rattle.deferred_laws.specs.Calls.{Calls, FilesetNow, Gives}
+use Rattle.bitfile_cells.specs.Files.{places_of}
+use Rattle.deferred_delete.specs.Standing.{Files, place_in}
+use Rattle.deferred_laws.specs.Calls.{Calls, FilesetNow, Gives, PutsPage}
 
 -- the page at a home is used and does not wait
 abbrev pub IsHeldAt : FilesetNow → Home → Type 0
@@ -27,3 +32,21 @@ abbrev pub IsTaken : ℕ → Version → Tag → FilesetNow → FilesetNow → H
 IsTaken fileset version tag first last home = IsGiven fileset version tag first last home
     ⊎ (Contains (table_of last.domain.cells home.vol) home.page
     ⊎ (has_home last.places home ≡ true))
+
+-- a file has a page at the home
+pub record HasHome (files : Files) (home : Home) : Type 0 where
+  pub at : CellAt
+  pub page : ℕ
+  pub there : place_in files at page ≡ At home
+
+-- in one of the calls the page of the tag's file that stood at that home was put at another one
+pub record IsPutElsewhere (fileset : ℕ) (version : Version) (tag : Tag) (first last : FilesetNow)
+    (home : Home) : Type 0 where
+  pub before : FilesetNow
+  pub after : FilesetNow
+  pub earlier : Calls fileset version tag first before
+  pub to : Home
+  pub chain : List PlacedCell
+  pub puts : PutsPage fileset version tag to chain before after
+  pub was : places_of chain puts.page ≡ At home
+  pub later : Calls fileset version tag after last

@@ -1,5 +1,5 @@
 //! What calls on one tag of a fileset leave as it was.
-ghost use Rattle.std.specs.Prelude.{◌≡◌, ◌≤◌, ◌⊎◌, ◌↔◌, ℕ, List, Some, false};
+ghost use Rattle.std.specs.Prelude.{◌≡◌, ◌≤◌, ◌⊎◌, ◌↔◌, ℕ, List, Some, Contains, false, true};
 ghost use Rattle.std.specs.Option.{option_and_then};
 ghost use Rattle.domain_base.specs.declared.place.CellAt.{CellAt};
 ghost use Rattle.bmt_mcells.specs.Chain.{PlacedCell};
@@ -7,13 +7,15 @@ ghost use Rattle.domain_base.specs.declared.place.Home.{Home};
 ghost use Rattle.domain_base.specs.declared.place.Tag.{Tag};
 ghost use Rattle.domain_base.specs.declared.version.Version.{Version};
 ghost use Rattle.page_store.specs.Bitfiles.{same_tag};
+ghost use Rattle.tag_dirs.specs.Directory.{has_home};
+ghost use Rattle.free_cells.specs.Cells.{table_of};
 ghost use Rattle.free_space.specs.declared.waiting.Waiting.{Waiting};
 ghost use Rattle.bitfile_core.specs.Together.{AreTogether};
 ghost use Rattle.deferred_delete.specs.Standing.{source_at};
 ghost use Rattle.deferred_delete.specs.Steps.{IsWell};
 ghost use Rattle.deferred_laws.specs.Calls.{Calls, FilesetNow, StandsWell};
 ghost use Rattle.deferred_laws.specs.Tags.{AreAmong, start_of};
-ghost use Rattle.deferred_laws.specs.Taken.{IsGiven, IsHeldAt, IsTaken};
+ghost use Rattle.deferred_laws.specs.Taken.{HasHome, IsGiven, IsHeldAt, IsPutElsewhere, IsTaken};
 ghost use Rattle.deferred_laws.specs.Waits.{Waits};
 
 /// Every other tag has the chain that it had, if it had one, with all that its cells say: what its
@@ -58,6 +60,18 @@ pub fn pages_are_held_exactly()
         → (home : Home) → 1 ≤ home.vol
         → IsHeldAt last home
         ↔ (IsHeldAt first home ⊎ IsTaken fileset version tag first last home) }
+{}
+
+/// A page that is held after the calls and was not before, and is none of cells or of the tag
+/// directory, is a page of a file then, or a page of the tag's file stood there and was put at
+/// another home in one of the calls: that one is the caller's, to give back or to take along.
+pub fn new_pages_are_of_files()
+    ensures { (fileset : ℕ) (version : Version) (tag : Tag) (first last : FilesetNow)
+        → Calls fileset version tag first last → StandsWell fileset first
+        → (home : Home) → 1 ≤ home.vol → IsHeldAt last home → ¬ IsHeldAt first home
+        → ¬ Contains (table_of last.domain.cells home.vol) home.page
+        → ¬ has_home last.places home ≡ true → HasHome last.domain.files home
+        ⊎ IsPutElsewhere fileset version tag first last home }
 {}
 
 /// A page that was taken for a page of the tag's file was not held before the calls.

@@ -15,9 +15,9 @@ pub use adding::{
     tags_stay_among_where_a_file_is_listed, tags_stay_among_where_a_page_is_listed,
 };
 pub use calls::{
-    all_stays_well_over_calls, files_stay_together, given_pages_were_free, other_files_stay,
-    other_tags_stay, pages_are_held_exactly, the_list_stays, what_is_read_through_stays,
-    what_waits_stays,
+    all_stays_well_over_calls, files_stay_together, given_pages_were_free, new_pages_are_of_files,
+    other_files_stay, other_tags_stay, pages_are_held_exactly, the_list_stays,
+    what_is_read_through_stays, what_waits_stays,
 };
 pub use giving_back::{
     a_page_that_is_given_back_waits, all_stays_well_where_a_page_is_given_back,
