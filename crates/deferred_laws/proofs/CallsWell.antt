@@ -21,7 +21,7 @@ use Rattle.deferred_laws.proofs.TagCalls.{together_call}
 use Rattle.deferred_laws.proofs.Wells.{well_by}
 
 -- free space in which no page is held less
-well_held : (list : Listing) (files : Files) (space space_now : Spaces) (cells : Cells) (pages : Pages) → AreAllocated space_now cells pages → ((home : Home) → IsHeldApart space cells home → IsHeldApart space_now cells home)
+pub well_held : (list : Listing) (files : Files) (space space_now : Spaces) (cells : Cells) (pages : Pages) → AreAllocated space_now cells pages → ((home : Home) → IsHeldApart space cells home → IsHeldApart space_now cells home)
     → IsWell (now_of list files space cells pages) → IsWell (now_of list files space_now cells pages)
 well_held list files space space_now cells pages allocated held well = record {
   together = record {

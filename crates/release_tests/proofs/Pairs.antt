@@ -1,5 +1,5 @@
 -- A file that goes, and one that reads through it.
-use Rattle.std.proofs.Common.{◌≡◌, ◌∙◌, ◌⊎◌, inl, inr, ℕ, false, nat_le, List, [], ◌∷◌, Option, Some, is_some, None, IsSome, IsSomeAnd, Contains, refl, sym, ap, subst, arith, ⊎_elim}
+use Rattle.std.proofs.Common.{◌≡◌, ◌∙◌, ◌⊎◌, inl, inr, ℕ, ◌≤◌, false, nat_le, List, [], ◌∷◌, ◌++◌, Option, Some, is_some, None, IsSome, IsSomeAnd, Contains, refl, sym, ap, subst, arith, ⊎_elim}
 use Rattle.std.specs.Option.{option_and_then, option_map_or}
 use Rattle.domain_base.specs.declared.place.CellAt.{CellAt}
 use Rattle.domain_base.specs.declared.place.Home.{Home}
@@ -13,34 +13,38 @@ use Rattle.extent_maps.specs.declared.run.PagePlace.TheVariants.{Absent, At}
 use Rattle.extent_maps.specs.Runs.{place_of}
 use Rattle.extent_records.specs.Writing.{most_rows}
 use Rattle.free_cells.specs.Cells.{Cells}
-use Rattle.free_space.specs.Spaces.{Spaces}
+use Rattle.free_space.specs.VolumeSpace.{with_page}
+use Rattle.free_space.specs.Spaces.{CanTake, Spaces, change_volume}
 use Rattle.bitfile_cells.specs.Allocated.{AreAllocated}
 use Rattle.bitfile_cells.specs.Changes.{HasRoom, with_kind, with_record}
 use Rattle.bitfile_cells.specs.Files.{AreFile, IsFile, has_rows, places_of}
 use Rattle.bitfile_cells.proofs.Added.{not_zeros}
 use Rattle.bitfile_cells.proofs.ChainChanges.{at_apart}
+use Rattle.bitfile_cells.proofs.Spaces.{not_held}
 use Rattle.bitfile_cells.proofs.Still.{allocated_still}
 use Rattle.bitfile_core.specs.Changes.{with_first}
 use Rattle.bitfile_core.specs.Files.{AreApart, is_first_kind}
 use Rattle.bitfile_core.proofs.FirstCell.{file_now, find_other, find_put, map_stays}
 use Rattle.bitfile_core.proofs.FirstRoom.{first_room, kinds_replaced}
 use Rattle.bitfile_core.proofs.FirstTogether.{not_of, rows, runs_kept}
+use Rattle.bitfile_core.proofs.Grown.{allocated_taken, apart_now, apart_taken}
 use Rattle.chain_release.proofs.Once.{absent_not}
-use Rattle.deferred_delete.specs.declared.list.Entry.{Entry}
 use Rattle.deferred_delete.specs.declared.list.Goes.{Goes}
-use Rattle.deferred_delete.specs.Listed.{IsEntry}
+use Rattle.deferred_delete.specs.Listed.{IsEntry, IsListed}
 use Rattle.deferred_delete.specs.Listing.{Adds, Listing}
 use Rattle.deferred_delete.specs.Standing.{Files, IsStanding, ReadsThrough, Source, StandTogether, place_in, source_in, source_of, with_file}
 use Rattle.deferred_delete.specs.Steps.{IsWell, now_of}
 use Rattle.deferred_delete.proofs.Spread.{Which, other, reading, source, which}
 use Rattle.deferred_delete.proofs.Standings.{apart_from, each_from, file_beside, file_other, file_there, source_by}
-use Rattle.deferred_laws.proofs.Listing.{entry_listed}
+use Rattle.deferred_laws.specs.Waits.{IsNowhere}
+use Rattle.deferred_laws.proofs.CallsWell.{well_held}
+use Rattle.deferred_laws.proofs.Listing.{entry_listed, page_listed}
 use Rattle.release_tests.specs.Pairs.{AreTwo, IsCloneOf, IsPair}
 use Rattle.release_tests.proofs.Wells.{in_none, in_one, listing, no_files, none_some, some_same}
 
 -- ---- files of two chains
 
-module _ (space : Spaces) (cells : Cells) (pages : Pages) (a b : CellAt) (chain own : List PlacedCell) (two : AreTwo space cells pages a b chain own) (frozen : ℕ) (alone : source_of chain ≡ None) (reads : source_of own ≡ Some (record { at = a; frozen = frozen })) where
+module _ (space : Spaces) (cells : Cells) (pages : Pages) (a b : CellAt) (chain own : List PlacedCell) (two : AreTwo space cells pages a b chain own) where
   in_chain : (cs : List PlacedCell) (at : CellAt) → IsFile pages at cs → Contains (cell_places cs) at
   in_chain [] at is = absurd is
   in_chain (c ∷ cs) at is = (0, omega arith, is.0)
@@ -79,21 +83,12 @@ module _ (space : Spaces) (cells : Cells) (pages : Pages) (a b : CellAt) (chain 
           (λ it. inr (it.0, sym (ap (λ (xs : List PlacedCell). places_of xs p) it.1) ∙ said))
           (one_of x cs is_x)
 
-  reads_one : (x y : CellAt) → ReadsThrough files x y → (x ≡ b) × (a ≡ y)
-  reads_one x y is = by_chain (files x) refl is
-    where
-      by_chain : (o : Option (List PlacedCell)) → files x ≡ o → IsSomeAnd (option_and_then source_of o) (λ (s : Source). s.at ≡ y) → (x ≡ b) × (a ≡ y)
-      by_chain None is_x said = absurd said
-      by_chain (Some cs) is_x said = ⊎_elim
-          (λ it. absurd (subst (λ o. IsSomeAnd o (λ (s : Source). s.at ≡ y)) (ap source_of it.1 ∙ alone) said))
-          (λ it. (it.0, subst (λ o. IsSomeAnd o (λ (s : Source). s.at ≡ y)) (ap source_of it.1 ∙ reads) said))
-          (one_of x cs is_x)
-
   apart_back : AreApart own chain
   apart_back q in_own in_chain = two.apart q in_chain in_own
 
-  together : StandTogether space cells pages files
-  together = record {
+  -- they stand together where neither reads through what is read through
+  stand : ((x y z : CellAt) → ReadsThrough files x y → ¬ ReadsThrough files y z) → StandTogether space cells pages files
+  stand deep = record {
     allocated = two.file.allocated;
     each = each_from cells pages files (λ x cs is. ⊎_elim
         (λ it. subst (λ (q : CellAt). IsStanding cells pages q cs) (sym it.0) (subst (IsStanding cells pages a) (sym it.1) (record { stands = inl two.file.file; on_tables = two.file.on_tables })))
@@ -120,41 +115,111 @@ module _ (space : Spaces) (cells : Cells) (pages : Pages) (a b : CellAt) (chain 
         (λ jt. (it.0 ∙ sym jt.0, two.reader.once p q home it.1 jt.1))
         (page_of y q home is_y))
         (page_of x p home is_x);
-    one_deep = λ x y z xy yz. differ (sym (reads_one y z yz).0 ∙ sym (reads_one x y xy).1);
+    one_deep = deep;
   }
 
-  is_entry : (goes : Goes) → IsEntry files (record { at = a; clone = Some b; goes = goes })
-  is_entry goes = record {
-    there = ap is_some at_a;
-    given = λ c is. subst (λ (q : CellAt). ReadsThrough files q a) (some_same b c is) (subst (λ o. IsSomeAnd o (λ (s : Source). s.at ≡ a)) (sym (source_by files b own at_b ∙ reads)) refl);
-    all = λ c is. ap Some (sym (reads_one c a is).0);
+  nothing_listed : IsListed space cells files (listing [] [])
+  nothing_listed = record {
+    each = λ e inside. absurd (in_none e inside);
+    once = λ i j d less_i less_j same. absurd (omega (arith, less_i));
+    order = λ i j d less_i less_j same. absurd (omega (arith, less_i));
+    pages_once = tt;
+    pages_low = λ home inside. absurd (in_none home inside);
+    pages_held = λ home inside. absurd (in_none home inside);
+    pages_apart = λ home inside. absurd (in_none home inside);
   }
 
-  -- and none reads through the second
-  clone_entry : (goes : Goes) → IsEntry files (record { at = b; clone = None; goes = goes })
-  clone_entry goes = record {
-    there = ap is_some at_b;
-    given = λ c is. absurd (none_some c is);
-    all = λ c is. absurd (differ (sym (reads_one c b is).1));
-  }
+  module _ (frozen : ℕ) (alone : source_of chain ≡ None) (reads : source_of own ≡ Some (record { at = a; frozen = frozen })) where
+    reads_one : (x y : CellAt) → ReadsThrough files x y → (x ≡ b) × (a ≡ y)
+    reads_one x y is = by_chain (files x) refl is
+      where
+        by_chain : (o : Option (List PlacedCell)) → files x ≡ o → IsSomeAnd (option_and_then source_of o) (λ (s : Source). s.at ≡ y) → (x ≡ b) × (a ≡ y)
+        by_chain None is_x said = absurd said
+        by_chain (Some cs) is_x said = ⊎_elim
+            (λ it. absurd (subst (λ o. IsSomeAnd o (λ (s : Source). s.at ≡ y)) (ap source_of it.1 ∙ alone) said))
+            (λ it. (it.0, subst (λ o. IsSomeAnd o (λ (s : Source). s.at ≡ y)) (ap source_of it.1 ∙ reads) said))
+            (one_of x cs is_x)
 
-  pub pair_is : IsPair space cells pages a b (listing [] []) files
-  pair_is = record {
-    well = record {
-      together = together;
-      listed = record {
-        each = λ e inside. absurd (in_none e inside);
-        once = λ i j d less_i less_j same. absurd (omega (arith, less_i));
-        order = λ i j d less_i less_j same. absurd (omega (arith, less_i));
-        pages_once = tt;
-        pages_low = λ home inside. absurd (in_none home inside);
-        pages_held = λ home inside. absurd (in_none home inside);
-        pages_apart = λ home inside. absurd (in_none home inside);
+    together : StandTogether space cells pages files
+    together = stand (λ x y z xy yz. differ (sym (reads_one y z yz).0 ∙ sym (reads_one x y xy).1))
+
+    is_entry : (goes : Goes) → IsEntry files (record { at = a; clone = Some b; goes = goes })
+    is_entry goes = record {
+      there = ap is_some at_a;
+      given = λ c is. subst (λ (q : CellAt). ReadsThrough files q a) (some_same b c is) (subst (λ o. IsSomeAnd o (λ (s : Source). s.at ≡ a)) (sym (source_by files b own at_b ∙ reads)) refl);
+      all = λ c is. ap Some (sym (reads_one c a is).0);
+    }
+
+    -- and none reads through the second
+    clone_entry : (goes : Goes) → IsEntry files (record { at = b; clone = None; goes = goes })
+    clone_entry goes = record {
+      there = ap is_some at_b;
+      given = λ c is. absurd (none_some c is);
+      all = λ c is. absurd (differ (sym (reads_one c b is).1));
+    }
+
+    pub pair_is : IsPair space cells pages a b (listing [] []) files
+    pair_is = record {
+      well = record {
+        together = together;
+        listed = nothing_listed;
       };
-    };
-    first = is_entry;
-    second = clone_entry;
-  }
+      first = is_entry;
+      second = clone_entry;
+    }
+
+  -- neither reads through a file: both on a list, with a page that was free
+  module _ (first_alone : source_of chain ≡ None) (second_alone : source_of own ≡ None) where
+    reads_none : (x y : CellAt) → ReadsThrough files x y → ⊥
+    reads_none x y is = by_chain (files x) refl is
+      where
+        by_chain : (o : Option (List PlacedCell)) → files x ≡ o → IsSomeAnd (option_and_then source_of o) (λ (s : Source). s.at ≡ y) → ⊥
+        by_chain None is_x said = said
+        by_chain (Some cs) is_x said = ⊎_elim
+            (λ it. subst (λ o. IsSomeAnd o (λ (s : Source). s.at ≡ y)) (ap source_of it.1 ∙ first_alone) said)
+            (λ it. subst (λ o. IsSomeAnd o (λ (s : Source). s.at ≡ y)) (ap source_of it.1 ∙ second_alone) said)
+            (one_of x cs is_x)
+
+    lone_entry : (at : CellAt) (goes : Goes) → IsSome (files at) → IsEntry files (record { at = at; clone = None; goes = goes })
+    lone_entry at goes there = record {
+      there = there;
+      given = λ c is. absurd (none_some c is);
+      all = λ c is. absurd (reads_none c at is);
+    }
+
+    module _ (home : Home) (low : 1 ≤ home.vol) (can : CanTake space home.vol home.page) where
+      abbrev taken : Spaces
+      taken = change_volume (with_page home.page) space home.vol
+
+      taken_allocated : AreAllocated taken cells pages
+      taken_allocated = allocated_taken space cells pages home two.file.allocated
+
+      well_with : IsWell (now_of (listing [] []) files taken cells pages)
+      well_with = well_held (listing [] []) files space taken cells pages taken_allocated (λ h is. apart_taken space cells home h is)
+          (record { together = stand (λ x y z xy. absurd (reads_none x y xy)); listed = nothing_listed })
+
+      nowhere_taken : IsNowhere files home
+      nowhere_taken x p is = ⊎_elim
+          (λ it. not_held space home.vol home.page can (two.file.held p home it.1).held)
+          (λ it. not_held space home.vol home.page can (two.reader.held p home it.1).held)
+          (page_of x p home is)
+
+      pub all_listed : (goes_a goes_b : Goes) (none one both all : Listing) → none.entries ≡ [] → none.tag_pages ≡ [] → Adds a None goes_a none.entries one.entries → one.tag_pages ≡ none.tag_pages → Adds b None goes_b one.entries both.entries → both.tag_pages ≡ one.tag_pages
+          → all.tag_pages ≡ both.tag_pages ++ home ∷ [] → all.entries ≡ both.entries → (space_now : Spaces) → space_now ≡ taken → (fs : Files) × IsWell (now_of all fs space_now cells pages)
+      all_listed goes_a goes_b none one both all no_entry no_page adds_a same_a adds_b same_b adds same space_now is =
+          let empty : IsWell (now_of none files taken cells pages) = subst (λ (l : Listing). IsWell (now_of l files taken cells pages)) (λ i. listing (sym no_entry i) (sym no_page i)) well_with in
+          let first = entry_listed (now_of none files taken cells pages) a None goes_a one empty (lone_entry a goes_a (ap is_some at_a)) adds_a same_a in
+          let second = entry_listed (now_of one files taken cells pages) b None goes_b both (record { together = first.together; listed = first.listed }) (lone_entry b goes_b (ap is_some at_b)) adds_b same_b in
+          let no_pages : both.tag_pages ≡ [] = same_b ∙ same_a ∙ no_page in
+          let last = page_listed (now_of both files taken cells pages) home all (record { together = second.together; listed = second.listed })
+          (record {
+            low = low;
+            nowhere = nowhere_taken;
+            not_listed = λ inside. in_none home (subst (λ (hs : List Home). Contains hs home) no_pages inside);
+            apart = apart_now space cells pages home low two.file.allocated can;
+          })
+          adds same in
+          (files, subst (λ (s : Spaces). IsWell (now_of all files s cells pages)) (sym is) (record { together = last.together; listed = last.listed }))
 
 -- ---- the second says that it reads through the first
 

@@ -128,6 +128,50 @@ fn listed_pair(
     Ok(list)
 }
 
+/// A list of two files of which neither reads through the other, the second of which goes by its
+/// entry, and of a page of a tag directory, which is taken for it.
+fn listed_unrelated(alloc: Global, world: &mut World, pair: &Pair) -> Result<Deferred, Fail>
+    requires { HasTwo world.old pair.now }
+    ensures { IfOk result (HasWell world.new) }
+{
+    if is_of_clone(world, &pair.at) || is_of_clone(world, &pair.clone) {
+        return Err(Fail::from("two files that are of no clone"));
+    }
+    let Some(home) = world.space.allocate(volume()) else {
+        return Err(Fail::from("a free page"));
+    };
+    let mut list = Deferred::new(alloc);
+    list.add(pair.at, None, Goes::AsSaid)?;
+    list.add(pair.clone, None, Goes::Whole)?;
+    list.add_tag_page(home)?;
+    Ok(list)
+}
+
+/// What is seen of two removed files of the pages 0 to 5 and 0 to 2 and of a page of a tag directory
+/// that are on one list: the steps, and the free and waiting pages before, after, once the group is
+/// durable, and once the log has passed it.
+pub fn unrelated(alloc: Global) -> Result<(u32, [[u32; 2]; 4]), Fail> {
+    let scene = Scene {
+        pages: 64,
+        others: 0,
+        own: 6,
+        frozen: 0,
+        listed: Listed::First,
+    };
+    let (mut world, pair) = two_files(alloc, &scene, &[0, 1, 2])?;
+    let mut list = listed_unrelated(alloc, &mut world, &pair)?;
+    let first = counts(&world);
+    let steps = release_all(alloc, &mut world, &mut list, Version::Four)?;
+    if !list.is_empty() {
+        return Err(Fail::from("an empty list"));
+    }
+    let after = counts(&world);
+    world.space.made_durable(5);
+    let durable = counts(&world);
+    world.space.log_passed(5);
+    Ok((steps, [first, after, durable, counts(&world)]))
+}
+
 /// A run of a file's pages: the first one, its home's number, and how many they are.
 pub type Row = [u32; 3];
 

@@ -3,7 +3,7 @@ ghost use Rattle.std.specs.Prelude.{◌≤◌};
 
 use crate::again::rewritten;
 use crate::clones::{
-    all_gone, all_kept, both_gone, handed_frozen, handed_full, handed_many, stopped,
+    all_gone, all_kept, both_gone, handed_frozen, handed_full, handed_many, stopped, unrelated,
 };
 use crate::cost::{Cost, removed as removed_in, trimmed_down, trimmed_up};
 use crate::seen::{
@@ -168,6 +168,15 @@ fn a_removed_file_lets_go_of_all(rt: HostRuntime) -> Result<(), Fail> {
     let directory = removed(alloc, Kind::Directory, 8_192)?;
     assert_eq!(rt; file, (true, [[55, 0], [55, 6], [61, 0], [61, 0]]));
     assert_eq!(rt; directory, (true, [[55, 0], [55, 6], [55, 6], [61, 0]]));
+    Ok(())
+}
+
+#[test]
+fn files_and_pages_of_one_list_all_go(rt: HostRuntime) -> Result<(), Fail> {
+    let seen = unrelated(rt.alloc())?;
+    // the pages and the cell of each file, and the page; of 64 pages 3 are used beside these, 9 wait
+    // as data and one as metadata
+    assert_eq!(rt; seen, (5, [[51, 0], [51, 10], [60, 1], [61, 0]]));
     Ok(())
 }
 
