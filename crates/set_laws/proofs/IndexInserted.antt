@@ -1,71 +1,44 @@
 -- An index that gets one page more, of which the directory's first cell then tells.
-use Rattle.std.proofs.Common.{◌≡◌, ◌∙◌, ◌≤◌, ◌⊎◌, ℕ, Bool, true, false, cond, Option, Some, None, IfSome, IsSomeAnd, List, [], ◌∷◌, Contains, inl, inr, refl, sym, ap, subst, arith, ⊎_elim}
+use Rattle.std.proofs.Common.{◌≡◌, ◌∙◌, ◌≤◌, ◌⊎◌, ℕ, Bool, true, false, cond, Option, Some, None, IsSomeAnd, List, Contains, inl, inr, refl, sym, ap, subst, ⊎_elim}
 use Rattle.std.proofs.lemmas.Bool.{false_from_ne_true, true≢false}
 use Rattle.std.specs.List.{insert}
 use Rattle.std.specs.Option.{option_and_then, option_map, option_map_or}
-use Rattle.domain_base.specs.declared.place.CellAt.{CellAt}
 use Rattle.domain_base.specs.declared.place.Home.{Home}
 use Rattle.domain_base.specs.declared.place.Kind.{Kind}
 use Rattle.domain_base.specs.declared.place.Kind.TheVariants.{Directory, File}
 use Rattle.domain_base.specs.declared.place.Tag.{Tag}
 use Rattle.page_store.specs.Bitfiles.{Bitfile, Bitfiles, IsDirectory, insert_index, same_tag, shown_index, with_change, with_file}
 use Rattle.page_store.specs.Pages.{Pages, same_home}
-use Rattle.record_table.specs.declared.record.Record.{Record}
 use Rattle.bmt_mcells.specs.Chain.{PlacedCell}
 use Rattle.bmt_mcells.proofs.Changed.{homes_same}
 use Rattle.tag_dirs.specs.Directory.{has_home}
 use Rattle.tag_dirs.specs.declared.dir.TagPlace.{TagPlace}
-use Rattle.extent_maps.specs.declared.run.PagePlace.{PagePlace}
 use Rattle.extent_maps.specs.declared.run.PagePlace.TheVariants.{Absent, At}
-use Rattle.extent_maps.specs.Runs.{place_of}
 use Rattle.free_cells.specs.Cells.{Cells, table_of}
 use Rattle.free_space.specs.VolumeSpace.{with_page}
 use Rattle.free_space.specs.Spaces.{CanTake, IsHeld, Spaces, change_volume}
-use Rattle.bitfile_cells.specs.FileChanges.{AreOnTables}
-use Rattle.bitfile_cells.specs.Files.{AreFile, IsFile, places_of}
-use Rattle.bitfile_cells.proofs.Added.{off_table}
+use Rattle.bitfile_cells.specs.Files.{places_of}
 use Rattle.bitfile_cells.proofs.Spaces.{not_held}
-use Rattle.bitfile_core.specs.declared.attributes.Attributes.{Attributes}
 use Rattle.bitfile_core.specs.declared.indexing.IndexPlace.{IndexPlace}
 use Rattle.bitfile_core.specs.Changes.{ChangesFirst, with_chain, with_first}
-use Rattle.bitfile_core.specs.Files.{Chains, attributes_in, attributes_of, first_record, is_removed, place_at, says_remove}
-use Rattle.bitfile_core.specs.Index.{index_record, says_index}
-use Rattle.bitfile_core.specs.Shown.{AreIndexPages, IsWhat, ShowsAt, ShowsFile, index_in, index_of, page_there, shown_page}
+use Rattle.bitfile_core.specs.Files.{Chains, attributes_of, is_removed, place_at}
+use Rattle.bitfile_core.specs.Index.{says_index}
+use Rattle.bitfile_core.specs.Shown.{AreIndexPages, IsWhat, ShowsAt, ShowsFile, index_of, page_there, shown_page}
 use Rattle.bitfile_core.specs.Together.{AreTogether, IsFilePage}
 use Rattle.bitfile_core.proofs.Created.{together_page}
-use Rattle.bitfile_core.proofs.FirstCell.{find_other, find_put}
-use Rattle.bitfile_core.proofs.FirstTogether.{index_keeps, runs_kept}
 use Rattle.bitfile_core.proofs.Grown.{apart_now, apart_taken}
 use Rattle.bitfile_core.proofs.OneChain.{chain_other, chain_same, same_tag_itself}
 use Rattle.bitfile_core.proofs.OneFile.{tags_same}
-use Rattle.bitfile_laws.proofs.Parts.{file_at}
 use Rattle.stored_index.specs.Changes.{InsertsIndexPage}
-use Rattle.stored_index.specs.Homes.{AreIndexHomes, shown_at}
+use Rattle.stored_index.specs.Homes.{AreIndexHomes}
 use Rattle.stored_index.proofs.Held.{in_inserted}
 use Rattle.stored_index.proofs.Homes.{kept_same, shown}
 use Rattle.set_laws.proofs.Beside.{stands_beside}
+use Rattle.set_laws.proofs.FirstTells.{TellsIndex, off_tables_still, place_told, tells_at}
 use Rattle.set_laws.proofs.IndexPut.{index_is, what_still}
 use Rattle.set_laws.proofs.Kept.{index_kept, page_kept}
 use Rattle.set_laws.proofs.Together.{together_away}
 use Rattle.set_laws.specs.Standing.{Indexes, StandsShown, with_index}
-
--- what a first cell says that tells of an index
-record TellsIndex (index : IndexPlace) (before after : List PlacedCell) : Type 0 where
-  removed : is_removed after ≡ is_removed before
-  attributes : attributes_of after ≡ attributes_of before
-  begins : index_of after ≡ Some index.first
-  places : (k : ℕ) → places_of after k ≡ places_of before k
-
-tells : (index : IndexPlace) (pages : Pages) (cs : List PlacedCell) (at : CellAt) → IsFile pages at cs → TellsIndex index cs (with_first (says_index (Some index)) cs)
-tells index pages [] at is = absurd is
-tells index pages (first ∷ rest) at is =
-    let value : Option Record = Some (index_record index) in
-    record {
-      removed = ap (λ o. option_map_or says_remove o false) (find_other 9 6 value first.cell.records (λ e. omega (arith, e)) refl);
-      attributes = ap (option_and_then attributes_in) (find_other 9 1 value first.cell.records (λ e. omega (arith, e)) refl);
-      begins = ap (option_and_then index_in) (find_put 9 value first.cell.records refl);
-      places = λ k. ap (λ rs. place_of rs k) (runs_kept (says_index (Some index)) first rest (index_keeps pages first rest is.1 (Some index)));
-    }
 
 module _ (fileset : ℕ) (places : List TagPlace) (space : Spaces) (cells : Cells) (old mid : Pages) (chains : Chains) (indexes : Indexes) (files : Bitfiles) (was : StandsShown fileset places space cells old chains indexes files)
     (tag : Tag) (number : ℕ) (page : List ℕ) (home : Home) (index : IndexPlace) (low : 1 ≤ home.vol) (free : CanTake space home.vol home.page) (inserts : InsertsIndexPage index.first home number page old mid (indexes tag)) where
@@ -110,28 +83,13 @@ module _ (fileset : ℕ) (places : List TagPlace) (space : Spaces) (cells : Cell
     indexes_now = with_index tag homes_now indexes
 
     new_same : (h : Home) → ¬ Contains (table_of cells h.vol) h.page → new h ≡ mid h
-    new_same h off = by_chain (chains tag) changes (was.together.on_tables tag)
-      where
-        by_chain : (o : Option (List PlacedCell)) → ChangesFirst o mid new → IfSome o (AreOnTables cells) → new h ≡ mid h
-        by_chain None changes on = ap (λ (ps : Pages). ps h) changes
-        by_chain (Some []) changes on = ap (λ (ps : Pages). ps h) changes
-        by_chain (Some (first ∷ rest)) changes on = changes.1 h (off_table cells first.at h on.0 off)
+    new_same h off = off_tables_still cells (chains tag) mid new (was.together.on_tables tag) changes h off
 
     tells_of : (cs : List PlacedCell) → chains tag ≡ Some cs → TellsIndex index cs (change cs)
-    tells_of cs is = let f = file_at fileset places old chains was.together.files tag cs is in tells index old cs f.at f.is_file
+    tells_of = tells_at fileset places old chains was.together.files tag index
 
     place_now : (t : Tag) (k : ℕ) → place_at now t k ≡ place_at chains t k
-    place_now t k = by_tag (same_tag t tag) refl
-      where
-        by_chain : (o : Option (List PlacedCell)) → chains tag ≡ o → option_map_or (λ cs. places_of cs k) (option_map change o) Absent ≡ option_map_or (λ cs. places_of cs k) o Absent
-        by_chain None is = refl
-        by_chain (Some cs) is = (tells_of cs is).places k
-
-        by_tag : (b : Bool) → same_tag t tag ≡ b → place_at now t k ≡ place_at chains t k
-        by_tag true same =
-            ap (λ o. option_map_or (λ cs. places_of cs k) o Absent) (chain_same tag change chains t same) ∙ ap (λ (u : Tag). option_map_or (λ cs. places_of cs k) (option_map change (chains u)) Absent) (tags_same t tag same)
-            ∙ by_chain (chains tag) refl ∙ ap (λ (u : Tag). place_at chains u k) (sym (tags_same t tag same))
-        by_tag false other = ap (λ o. option_map_or (λ cs. places_of cs k) o Absent) (chain_other tag change chains t other)
+    place_now = place_told fileset places old chains was.together.files tag index
 
     pages_stay : (t : Tag) (k : ℕ) (h : Home) → place_at chains t k ≡ At h → new h ≡ old h
     pages_stay t k h at =

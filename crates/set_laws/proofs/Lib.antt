@@ -1,4 +1,6 @@
 pub mod Beside
+pub mod EntriesSaid
+pub mod FirstTells
 pub mod IndexInserted
 pub mod IndexPut
 pub mod Kept
@@ -7,4 +9,5 @@ pub mod Owned
 pub mod PageAdded
 pub mod TakenOut
 pub mod Together
+pub mod Told
 pub mod Written

@@ -1,6 +1,6 @@
 -- A file or directory that is made.
-use Rattle.std.proofs.Common.{◌≡◌, ◌∙◌, ◌<◌, ◌||◌, ℕ, Bool, true, false, cond, nat_eq, Option, Some, None, IfSome, IsSome, IsSomeAnd, List, [], ◌∷◌, ◌++◌, Contains, slice_get, refl, sym, ap, subst, arith, ⊎_elim}
-use Rattle.std.proofs.lemmas.Bool.{both_ways, cases_Bool, false_from_ne_true, true≢false}
+use Rattle.std.proofs.Common.{◌≡◌, ◌∙◌, ◌||◌, ℕ, Bool, true, false, cond, nat_eq, Some, None, IsSomeAnd, List, [], ◌∷◌, Contains, slice_get, refl, sym, ap, subst, arith, ⊎_elim}
+use Rattle.std.proofs.lemmas.Bool.{false_from_ne_true}
 use Rattle.std.proofs.lemmas.List.Folds.{list_any-append}
 use Rattle.std.specs.Option.{option_and_then, option_map_or}
 use Rattle.domain_base.specs.declared.place.Home.{Home}
@@ -25,9 +25,9 @@ use Rattle.bitfile_cells.proofs.Spaces.{not_held}
 use Rattle.bitfile_core.specs.declared.new_cells.NewFile.{NewFile}
 use Rattle.bitfile_core.specs.Changes.{kind_number}
 use Rattle.bitfile_core.specs.Creation.{Creates, LeavesBeside, TakesForFile, with_new}
-use Rattle.bitfile_core.specs.Files.{Chains, attributes_in, attributes_of, is_removed, place_at, says_remove}
+use Rattle.bitfile_core.specs.Files.{Chains, attributes_in, is_removed, place_at, says_remove}
 use Rattle.bitfile_core.specs.Shown.{AreIndexPages, IsWhat, ShowsAt, ShowsFile, index_in, index_of, page_there, shown_page}
-use Rattle.bitfile_core.specs.Together.{AreTogether, IsFilePage}
+use Rattle.bitfile_core.specs.Together.{IsFilePage}
 use Rattle.bitfile_core.proofs.Grown.{apart_taken, one_apart}
 use Rattle.bitfile_core.proofs.OneChain.{same_tag_itself}
 use Rattle.stored_index.specs.Homes.{AreIndexHomes}

@@ -20,7 +20,6 @@ use Rattle.extent_maps.specs.Runs.{place_of}
 use Rattle.extent_maps.specs.declared.run.PagePlace.TheVariants.{Absent, At}
 use Rattle.free_cells.specs.Cells.{Cells, table_of}
 use Rattle.free_space.specs.Spaces.{Spaces}
-use Rattle.bitfile_cells.specs.FileChanges.{AreOnTables}
 use Rattle.bitfile_cells.specs.Files.{AreFile, IsFile, places_of}
 use Rattle.bitfile_cells.proofs.MapRecords.{kind_found}
 use Rattle.bitfile_core.specs.declared.attributes.Attributes.{Attributes}
@@ -35,7 +34,7 @@ use Rattle.bitfile_core.proofs.OneFile.{tags_same}
 use Rattle.bitfile_core.proofs.Room.{attributes_kind}
 use Rattle.stored_index.specs.Homes.{AreIndexHomes}
 use Rattle.stored_index.proofs.Homes.{kept_same}
-use Rattle.bitfile_cells.proofs.Added.{off_table}
+use Rattle.set_laws.proofs.FirstTells.{off_tables_still}
 use Rattle.set_laws.proofs.Kept.{index_kept, live_map, page_kept}
 use Rattle.set_laws.specs.Standing.{Indexes, StandsShown, owned}
 
@@ -99,12 +98,7 @@ module _ (fileset : ℕ) (places : List TagPlace) (space : Spaces) (cells : Cell
 
   -- a page off the tables does not change
   same : (h : Home) → ¬ Contains (table_of cells h.vol) h.page → new h ≡ old h
-  same h off = by_chain (chains tag) changes (was.together.on_tables tag)
-    where
-      by_chain : (o : Option (List PlacedCell)) → ChangesFirst o old new → IfSome o (AreOnTables cells) → new h ≡ old h
-      by_chain None changes on = ap (λ (ps : Pages). ps h) changes
-      by_chain (Some []) changes on = ap (λ (ps : Pages). ps h) changes
-      by_chain (Some (first ∷ rest)) changes on = changes.1 h (off_table cells first.at h on.0 off)
+  same h off = off_tables_still cells (chains tag) old new (was.together.on_tables tag) changes h off
 
   page_same : (t : Tag) (cs : List PlacedCell) → chains t ≡ Some cs → (k : ℕ) (h : Home) → places_of cs k ≡ At h → new h ≡ old h
   page_same t cs is k h at = same h (was.together.file_pages t k h (ap (λ o. option_map_or (λ cs. places_of cs k) o Absent) is ∙ at)).apart.off_table

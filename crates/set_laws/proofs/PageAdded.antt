@@ -11,7 +11,6 @@ use Rattle.page_store.specs.Pages.{Pages, with_page}
 use Rattle.bmt_mcells.specs.Chain.{PlacedCell}
 use Rattle.tag_dirs.specs.Directory.{has_home}
 use Rattle.tag_dirs.specs.declared.dir.TagPlace.{TagPlace}
-use Rattle.extent_maps.specs.declared.run.PagePlace.{PagePlace}
 use Rattle.extent_maps.specs.declared.run.PagePlace.TheVariants.{Absent, At}
 use Rattle.extent_maps.specs.Runs.{with_place}
 use Rattle.free_cells.specs.Cells.{Cells, table_of}

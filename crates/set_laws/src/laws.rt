@@ -2,7 +2,7 @@
 ghost use Rattle.std.specs.Prelude.{◌≡◌, ◌∷◌, ◌<◌, ◌≤◌, [], ℕ, List, Some, insert};
 ghost use Rattle.domain_base.specs.declared.place.Home.{Home};
 ghost use Rattle.domain_base.specs.declared.place.Tag.{Tag};
-ghost use Rattle.page_store.specs.Bitfiles.{Bitfiles, IsDirectory, count_pages, insert_index, new_file as shown_new, put_index, put_page, shown_index, with_change, with_file, without_file};
+ghost use Rattle.page_store.specs.Bitfiles.{Bitfile, Bitfiles, IsDirectory, count_pages, insert_index, kind_at, links_at, new_file as shown_new, page_at, put_index, put_page, shown_index, with_change, with_file, without_file};
 ghost use Rattle.page_store.specs.Pages.{Pages, with_page};
 ghost use Rattle.tag_dirs.specs.declared.dir.TagPlace.{TagPlace};
 ghost use Rattle.extent_maps.specs.declared.run.PagePlace.TheVariants.{At};
@@ -14,14 +14,15 @@ ghost use Rattle.domain_base.specs.declared.version.Version.{Version};
 ghost use Rattle.bitfile_core.specs.declared.new_cells.NewFile.{NewFile};
 ghost use Rattle.bitfile_core.specs.Changes.{CanSay, ChangesBeside, ChangesFirst, IsLive, says_attributes, with_chain, with_first, without_chain};
 ghost use Rattle.bitfile_core.specs.Creation.{Creates, LeavesBeside, TakesForFile, with_new};
-ghost use Rattle.bitfile_core.specs.Files.{Chains, place_at};
-ghost use Rattle.std.specs.Option.{option_and_then};
+ghost use Rattle.bitfile_core.specs.Files.{Chains, attributes_of, of_live, place_at};
+ghost use Rattle.std.specs.Option.{option_and_then, option_map, option_map_or};
 ghost use Rattle.bmt_mcells.specs.Chain.{PlacedCell};
 ghost use Rattle.bitfile_cells.specs.MapChanges.{LeavesOffTables};
 ghost use Rattle.bitfile_core.specs.declared.indexing.IndexPlace.{IndexPlace};
 ghost use Rattle.bitfile_core.specs.Index.{says_index};
 ghost use Rattle.bitfile_core.specs.Pages.{ChangesFile, TakesHome};
-ghost use Rattle.bitfile_core.specs.Shown.{index_of};
+ghost use Rattle.bitfile_core.specs.Shown.{index_of, page_there};
+ghost use Rattle.stored_index.specs.Homes.{shown_at};
 ghost use Rattle.bitfile_core.specs.Together.{AreTogether};
 ghost use Rattle.stored_index.specs.Changes.{InsertsIndexPage, PutsIndexPage};
 ghost use Rattle.set_laws.specs.Standing.{Indexes, StandsShown, owned, with_index};
@@ -140,4 +141,43 @@ pub fn index_page_is_inserted()
         (with_chain tag (with_first (says_index (Some index))) chains)
         (with_index tag (insert (indexes tag) number home) indexes)
         (with_change tag (insert_index number (shown_index page)) files) }
+{}
+
+/// A set shows the same where it is said anew how many entries a directory's index has.
+pub fn index_entries_are_said()
+    ensures { (fileset : ℕ) (places : List TagPlace) (space : Spaces) (cells : Cells)
+        (old new : Pages) (chains : Chains) (indexes : Indexes) (files : Bitfiles) (tag : Tag)
+        (index : IndexPlace) → StandsShown fileset places space cells old chains indexes files
+        → option_and_then index_of (chains tag) ≡ Some index.first
+        → ChangesFirst (chains tag) old new
+        → AreTogether fileset places space cells new
+        (with_chain tag (with_first (says_index (Some index))) chains)
+        → StandsShown fileset places space cells new
+        (with_chain tag (with_first (says_index (Some index))) chains) indexes files }
+{}
+
+/// What is told of a tag's file is what a set shows of it: whether it is a file or a directory, how
+/// many rows name it, and of a directory each page and its index.
+pub fn set_is_told()
+    ensures kind { (fileset : ℕ) (places : List TagPlace) (space : Spaces) (cells : Cells)
+        (pages : Pages) (chains : Chains) (indexes : Indexes) (files : Bitfiles) (tag : Tag)
+        → StandsShown fileset places space cells pages chains indexes files
+        → kind_at files tag ≡ option_map (λ (is : Attributes). is.kind)
+        (option_and_then (of_live attributes_of) (chains tag)) }
+    ensures links { (fileset : ℕ) (places : List TagPlace) (space : Spaces) (cells : Cells)
+        (pages : Pages) (chains : Chains) (indexes : Indexes) (files : Bitfiles) (tag : Tag)
+        → StandsShown fileset places space cells pages chains indexes files
+        → links_at files tag ≡ option_map_or (λ (is : Attributes). is.links)
+        (option_and_then (of_live attributes_of) (chains tag)) 0 }
+    ensures page { (fileset : ℕ) (places : List TagPlace) (space : Spaces) (cells : Cells)
+        (pages : Pages) (chains : Chains) (indexes : Indexes) (files : Bitfiles) (tag : Tag)
+        (number : ℕ) → StandsShown fileset places space cells pages chains indexes files
+        → IsDirectory files tag
+        → page_at files tag number ≡ page_there pages (place_at chains tag number) }
+    ensures index { (fileset : ℕ) (places : List TagPlace) (space : Spaces) (cells : Cells)
+        (pages : Pages) (chains : Chains) (indexes : Indexes) (files : Bitfiles) (tag : Tag)
+        → StandsShown fileset places space cells pages chains indexes files
+        → IsDirectory files tag
+        → option_map_or (λ (file : Bitfile). file.index) (files tag) []
+        ≡ shown_at pages (indexes tag) }
 {}

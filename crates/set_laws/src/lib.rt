@@ -5,6 +5,7 @@
 mod laws;
 
 pub use laws::{
-    attributes_are_set, file_is_made, index_page_is_inserted, index_page_is_put, index_page_joins,
-    page_is_added, page_is_written, tag_is_taken_out,
+    attributes_are_set, file_is_made, index_entries_are_said, index_page_is_inserted,
+    index_page_is_put, index_page_joins, page_is_added, page_is_written, set_is_told,
+    tag_is_taken_out,
 };
