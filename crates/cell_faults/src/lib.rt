@@ -3,6 +3,7 @@
 
 mod cells;
 mod headers;
+mod homes;
 mod local;
 mod places;
 mod records;

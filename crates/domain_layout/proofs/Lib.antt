@@ -1,3 +1,4 @@
+pub mod NoTables
 pub mod OneFilling
 pub mod OneSlot
 pub mod OneShape

@@ -45,13 +45,18 @@ IsFilesFault pages frame row = (layout : Layout) × (frame_of layout ≡ frame) 
     ⊎ ((row.code ≡ 9) × IsDirectoryFault pages frame layout.table row.home)
     ⊎ ((row.code ≡ 10) × IsIndexFault pages frame layout.table row.home))
 
+-- no rule of the fileset table, of cells, or of tags and what they name is broken: there is no fault
+-- of codes 4 to 6
+pub record HasNoTablesFault (pages : Pages) (frame : Frame) : Type 0 where
+  pub table : (home : Home) → ¬ IsTableFault pages frame home
+  pub tables : (row : FaultRow) → ¬ IsTablesFault pages frame row
+
 -- a row of the list: a fault of the table ends it, and those of tables come without those of files
 abbrev pub IsFault : Pages → Frame → FaultRow → Type 0
 IsFault pages frame row =
     ((row.code ≡ 4) × IsTableFault pages frame row.home)
     ⊎ (((home : Home) → ¬ IsTableFault pages frame home) × IsTablesFault pages frame row)
-    ⊎ (((home : Home) → ¬ IsTableFault pages frame home)
-    × ((other : FaultRow) → ¬ IsTablesFault pages frame other) × IsFilesFault pages frame row)
+    ⊎ (HasNoTablesFault pages frame × IsFilesFault pages frame row)
 
 -- rows in their order: by code, then by volume, then by page
 abbrev pub IsBefore : FaultRow → FaultRow → Type 0

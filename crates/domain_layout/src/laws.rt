@@ -3,9 +3,18 @@ ghost use Rattle.domain_base.specs.declared.place.Home.{Home};
 ghost use Rattle.page_store.specs.Pages.{Pages};
 ghost use Rattle.fileset_model.specs.Filesets.{FilesetMap};
 ghost use Rattle.fileset_model.specs.LooksLike.{LooksLike};
+ghost use Rattle.domain_layout.specs.Faults.{HasNoFault, HasNoTablesFault};
 ghost use Rattle.domain_layout.specs.Filled.{AreFilled, Contents};
+ghost use Rattle.domain_layout.specs.Reached.{Frame};
 ghost use Rattle.fileset_model.specs.Orders.{Name};
 ghost use Rattle.domain_layout.specs.Shape.{HaveShapes, IsSameShapeThere, Shapes};
+
+/// Pages that break no rule break none of the fileset table, of cells, and of tags and what they
+/// name.
+pub fn tables_have_no_fault()
+    ensures { (pages : Pages) (frame : Frame) → HasNoFault pages frame
+        → HasNoTablesFault pages frame }
+{}
 
 /// Pages of metadata have one shape of each fileset at most.
 pub fn one_shape()

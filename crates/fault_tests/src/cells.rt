@@ -26,6 +26,11 @@ fn spelling(name: &str) -> &'static str {
         "clone" => "02001400 z16",
         "short" => "04004400 z64",
         "dense" => "0e003400 z48",
+        "short_last" => "04004400 00000000 02000000 01000000 feffffff z48",
+        "short_behind" => "04004400 00000000 02000000 01000000 ffffffff z48",
+        "short_nowhere" => "04004400 00000000 02000000 00000000 c8000000 z48",
+        "dense_nowhere" => "0e003400 00000200 00000000 c8000000 z36",
+        "extents_nowhere" => "03000401 01000000 03000000 00000000 2c010000 z240",
         "extents" => "03000401 z256",
         "many" => "0d000c01 z264",
         "holes" => "05008400 z128",
@@ -157,10 +162,12 @@ fn first_unlike(
 }
 
 /// Cells that break no rule: in an original, in its clone, and in no fileset, first cells, those of
-/// a chain, and quotas. One that is to be removed may have what its fileset has not.
+/// a chain, and quotas. One that is to be removed may have what its fileset has not, and an extent
+/// may end with page 2^32 - 1.
 const GOOD: &str = "\
 1 1 file short
 1 1 file dense
+1 1 file short_last
 1 1 dir short parent
 1 1 kept short trim
 1 1 over short remove
@@ -183,7 +190,8 @@ const GOOD: &str = "\
 /// without attributes, without extents, with both kinds of them, or with what no first cell has; in
 /// an original a directory without a parent, a file with one, one that keeps fewer pages or more
 /// than all, and one that is read through another; in a clone one that is not; chain cells with no
-/// record, two, or another; quota cells with another.
+/// record, two, or another; quota cells with another; extents on volume 0, and two pages from page
+/// 2^32 - 1 on, also of what is to be removed.
 const WRONG: &str = "\
 4 0 volume
 1 1 short
@@ -201,7 +209,12 @@ const WRONG: &str = "\
 2 0
 2 0 holes trim
 2 0 user
-3 1 trim user";
+3 1 trim user
+1 1 file short_behind
+1 1 file short_nowhere
+1 1 file short_nowhere remove
+1 1 file dense_nowhere
+2 0 extents_nowhere";
 
 /// Cells that are not well formed, and so break no other rule: no kind, records in another order,
 /// one of them twice, and one of no kind.

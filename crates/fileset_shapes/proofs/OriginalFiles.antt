@@ -24,7 +24,8 @@ use Rattle.bitfile_core.specs.Shown.{AreIndexPages, IsWhat, ShowsAt, ShowsFile, 
 use Rattle.bitfile_core.specs.declared.attributes.Attributes.{Attributes}
 use Rattle.page_filling.specs.Stored.{AreStored}
 use Rattle.domain_layout.specs.DirectoryRules.{Has, HasIndexAt, HasWrongSize, IsWrongFile}
-use Rattle.domain_layout.specs.Faults.{HasNoFault}
+use Rattle.domain_layout.proofs.NoTables.{none_of_tables}
+use Rattle.domain_layout.specs.Faults.{HasNoFault, HasNoTablesFault}
 use Rattle.domain_layout.specs.Layout.{IsLayout, Layout}
 use Rattle.domain_layout.specs.Owners.{frame_of}
 use Rattle.domain_layout.specs.Reached.{MayBe}
@@ -141,6 +142,9 @@ pub stored_by : (pages : Pages) (seen : SeenFile) (found : SeenPages) → IsSeen
 stored_by pages seen found is stands page home at = stands page home (sym (is.homes page) ∙ listed found.homes.items page home at)
 
 module _ (pages : Pages) (layout : Layout) (laid : IsLayout pages layout) (no_fault : HasNoFault pages (frame_of layout)) where
+  tables : HasNoTablesFault pages (frame_of layout)
+  tables = none_of_tables pages (frame_of layout) no_fault
+
   -- ---- the rules of files and directories
 
   right_file : (number : ℕ) (tag : Tag) (first : PlacedCell) (rest : List PlacedCell) (seen : SeenFile) → Has pages layout.table number tag (first ∷ rest) seen
@@ -191,7 +195,7 @@ module _ (pages : Pages) (layout : Layout) (laid : IsLayout pages layout) (no_fa
       by_cell : (o : Option CellAt) → cell_of pages places tag ≡ o → IsSomeAnd o (λ at. IsFile pages at (first ∷ rest)) → FileOf number tag first rest
       by_cell None leads is = absurd is
       by_cell (Some at) leads is = record {
-        named = subst (λ a. ¬ ¬ IsFirstOf pages (frame_of layout) number tag a) (sym is.0) (first_there pages layout laid no_fault number first_tag has places directory tag at leads);
+        named = subst (λ a. ¬ ¬ IsFirstOf pages (frame_of layout) number tag a) (sym is.0) (first_there pages layout laid tables number first_tag has places directory tag at leads);
         file = is.1;
       }
 

@@ -20,6 +20,7 @@ use Rattle.fileset_table.specs.Table.{entry_of}
 use Rattle.fileset_table.specs.declared.slot.FilesetEntry.{FilesetEntry}
 use Rattle.fileset_table.specs.declared.slot.SlotItem.{SlotItem}
 use Rattle.fileset_table.specs.declared.slot.SlotItem.TheVariants as slot
+use Rattle.domain_layout.proofs.NoTables.{none_of_tables}
 use Rattle.domain_layout.specs.Layout.{first_tag_of}
 use Rattle.page_filling.specs.Stored.{AreStored}
 use Rattle.domain_layout.specs.DirectoryRules.{Has, IsInClone}
@@ -92,8 +93,7 @@ module _ (pages : Pages) (own behind : FilesetFiles) (number : ℕ) (are : AreCl
     may = record {
       layout = are.layout;
       laid = are.whole.laid;
-      no_fault = are.whole.no_fault;
-      small = are.whole.small;
+      no_fault = none_of_tables pages (frame_of are.layout) are.whole.no_fault;
       first = are.entry.first_tag;
       has = own_tags;
       directory = are.own_files.directory;

@@ -12,6 +12,7 @@ use Rattle.bitfile_cells.specs.Files.{HasFile, IsFile}
 use Rattle.bitfile_core.specs.Files.{AreFiles, Chains, LeadsToFile}
 use Rattle.bitfile_core.specs.Shown.{AreIndexPages, ShowsAt, index_of}
 use Rattle.fileset_table.specs.declared.slot.SlotItem.TheVariants as slot
+use Rattle.domain_layout.proofs.NoTables.{none_of_tables}
 use Rattle.domain_layout.specs.DirectoryRules.{Has}
 use Rattle.domain_layout.specs.Seen.{SeenFile, seen_in}
 use Rattle.domain_layout.specs.Owners.{frame_of}
@@ -102,7 +103,7 @@ module _ (pages : Pages) (files : FilesetFiles) (are : AreOriginals pages files)
       some_frame (index_of (first ∷ rest))
       (whole_index pages are.layout are.whole.laid are.whole.no_fault files.files.fileset tag first rest
       (record {
-        named = subst (λ a. ¬ ¬ IsFirstOf pages (frame_of are.layout) files.files.fileset tag a) (sym is.0) (first_there pages are.layout are.whole.laid are.whole.no_fault files.files.fileset are.entry.first_tag has_tags files.tags are.by.directory tag at leads);
+        named = subst (λ a. ¬ ¬ IsFirstOf pages (frame_of are.layout) files.files.fileset tag a) (sym is.0) (first_there pages are.layout are.whole.laid (none_of_tables pages (frame_of are.layout) are.whole.no_fault) files.files.fileset are.entry.first_tag has_tags files.tags are.by.directory tag at leads);
         file = is.1;
       }))
     where

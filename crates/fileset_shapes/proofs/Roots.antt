@@ -19,6 +19,7 @@ use Rattle.bitfile_core.specs.Shown.{ShowsAt}
 use Rattle.fileset_table.specs.declared.slot.FilesetEntry.{FilesetEntry}
 use Rattle.fileset_table.specs.declared.slot.SlotItem.TheVariants as slot
 use Rattle.name_space.specs.Names.{root_tag}
+use Rattle.domain_layout.proofs.NoTables.{none_of_tables}
 use Rattle.domain_layout.specs.CellRules.{IsUsed, say_removed}
 use Rattle.domain_layout.specs.Layout.{Layout, first_tag_of}
 use Rattle.domain_layout.specs.Owners.{frame_of}
@@ -141,7 +142,7 @@ module _ (pages : Pages) (layout : Layout) (whole : IsWhole pages layout) (numbe
   NoneStays = (at : CellAt) (other : Home) → HasEntry pages (frame_of layout) layout.table number root_tag at other → (cell : Cell) × IsUsed pages (frame_of layout) at cell × (say_removed cell.records ≡ true)
 
   no_root : NoneStays → ⊥
-  no_root none = no_tags pages layout whole.laid whole.no_fault entry.first_tag (inr (inr (inr (inr (inl (record { number = number; item = slot.Original entry; there = there; original = refl; first = refl; none = none }))))))
+  no_root none = no_tags pages layout whole.laid (none_of_tables pages (frame_of layout) whole.no_fault) entry.first_tag (inr (inr (inr (inr (inl (record { number = number; item = slot.Original entry; there = there; original = refl; first = refl; none = none }))))))
 
   removed_by : (at : CellAt) (cells : List PlacedCell) → IsFile pages at cells → of_live attributes_of cells ≡ None → is_removed cells ≡ true
   removed_by at cells file none = by_removed (is_removed cells) reads.0 reads.1 reads.2
@@ -160,7 +161,7 @@ module _ (pages : Pages) (layout : Layout) (whole : IsWhole pages layout) (numbe
       of_cells : (at : CellAt) → cell_of pages is.has.places root_tag ≡ Some at → (cells : List PlacedCell) → IsFile pages at cells → option_and_then (of_live attributes_of) (Some cells) ≡ None → ⊥
       of_cells at leads [] file none = file
       of_cells at leads (first ∷ rest) file none =
-          first_there pages layout whole.laid whole.no_fault number entry.first_tag has_tags is.has.places is.has.directory root_tag at leads
+          first_there pages layout whole.laid (none_of_tables pages (frame_of layout) whole.no_fault) number entry.first_tag has_tags is.has.places is.has.directory root_tag at leads
           (λ named. no_root (λ onto other has.
           let same : at ≡ onto = some_same at onto (sym leads ∙ named_by root_tag onto other has) in
           subst (λ a. (cell : Cell) × IsUsed pages (frame_of layout) a cell × (say_removed cell.records ≡ true)) same

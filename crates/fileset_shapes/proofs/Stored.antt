@@ -14,7 +14,8 @@ use Rattle.extent_maps.proofs.EditLemmas.{over, place_append}
 use Rattle.extent_records.specs.Rows.{runs_in, runs_of}
 use Rattle.extent_records.specs.Writing.{places_in}
 use Rattle.bitfile_cells.specs.Files.{AreFile, places_of}
-use Rattle.domain_layout.specs.Faults.{HasNoFault}
+use Rattle.domain_layout.proofs.NoTables.{none_of_tables}
+use Rattle.domain_layout.specs.Faults.{HasNoFault, HasNoTablesFault}
 use Rattle.domain_layout.specs.Layout.{IsLayout, Layout}
 use Rattle.domain_layout.specs.Owners.{frame_of}
 use Rattle.domain_layout.specs.Reached.{MayBe}
@@ -61,6 +62,9 @@ in_cell (c ∷ cs) value there =
 -- ---- cells in use
 
 module _ (pages : Pages) (layout : Layout) (laid : IsLayout pages layout) (no_fault : HasNoFault pages (frame_of layout)) where
+  tables : HasNoTablesFault pages (frame_of layout)
+  tables = none_of_tables pages (frame_of layout) no_fault
+
   -- each cell of a chain whose first one is in use
   chain_used : (first : PlacedCell) (rest : List PlacedCell) → StandsAt pages first.at first.cell → ¬ ¬ InChain pages layout first.at first.cell → Follow pages first.cell.head rest
       → (c : PlacedCell) → Contains (first ∷ rest) c → StandsAt pages c.at c.cell × (¬ ¬ InChain pages layout c.at c.cell)
@@ -68,7 +72,7 @@ module _ (pages : Pages) (layout : Layout) (laid : IsLayout pages layout) (no_fa
   chain_used first [] stands on follow c (suc k, within, is) = absurd (omega (arith, within))
   chain_used first (d ∷ ds) stands on follow c (zero, within, is) = subst (λ (e : PlacedCell). StandsAt pages e.at e.cell × (¬ ¬ InChain pages layout e.at e.cell)) is (stands, on)
   chain_used first (d ∷ ds) stands on (leads, may, stands_d, more) c (suc k, within, is) =
-      chain_used d ds stands_d (λ away. on (λ in_chain. goes_along pages layout laid no_fault first.at d.at first.cell d.cell in_chain leads stands_d away)) more c (k, omega (arith, within), is)
+      chain_used d ds stands_d (λ away. on (λ in_chain. goes_along pages layout laid tables first.at d.at first.cell d.cell in_chain leads stands_d away)) more c (k, omega (arith, within), is)
 
   may_stand : (c : PlacedCell) → StandsAt pages c.at c.cell → ¬ ¬ InChain pages layout c.at c.cell → (value : Record) → Contains c.cell.records value → (page : ℕ) (home : Home) → places_in value page ≡ At home → MayBe (frame_of layout) home
   may_stand c stands on value among page home at =
@@ -80,7 +84,7 @@ module _ (pages : Pages) (layout : Layout) (laid : IsLayout pages layout) (no_fa
         record {
           page = page;
           home = home;
-          has = record { cell = c.cell; on = on_table pages layout laid c.at c.cell (place_in pages layout laid no_fault c.at c.cell in_chain) stands; value = value; among = among; place = at };
+          has = record { cell = c.cell; on = on_table pages layout laid c.at c.cell (place_in pages layout laid tables c.at c.cell in_chain) stands; value = value; among = among; place = at };
           wrong = inl wrong;
         },
       )))
@@ -91,6 +95,6 @@ module _ (pages : Pages) (layout : Layout) (laid : IsLayout pages layout) (no_fa
   page_may number tag first rest named file page home at =
       let said = said_by (records_of (first ∷ rest)) page home at in
       let of = in_cell (first ∷ rest) said.value said.among in
-      let begins : ¬ ¬ InChain pages layout first.at first.cell = λ away. named (λ is. away (begins_file pages layout laid no_fault first.at first.cell is.place file.links.stands file.primary)) in
+      let begins : ¬ ¬ InChain pages layout first.at first.cell = λ away. named (λ is. away (begins_file pages layout laid tables first.at first.cell is.place file.links.stands file.primary)) in
       let used = chain_used first rest file.links.stands begins file.links.follow of.cell of.is_of in
       may_stand of.cell used.0 used.1 said.value of.among page home said.place

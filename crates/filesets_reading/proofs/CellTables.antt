@@ -14,7 +14,7 @@ use Rattle.bmt_mcells.specs.CellPage.{IsCellPage, cell_at, cell_of, free_cells, 
 use Rattle.bmt_mcells.specs.Chain.{StandsAt}
 use Rattle.bmt_mcells.specs.declared.used.UsedCell.{UsedCell}
 use Rattle.domain_layout.specs.CellRules.{HasWrongHeader, IsCellsFault, IsCellsPage}
-use Rattle.domain_layout.specs.Faults.{IsTableFault, IsTablesFault, FaultRow}
+use Rattle.domain_layout.specs.Faults.{IsTablesFault, FaultRow}
 use Rattle.domain_layout.specs.Layout.{IsCellTable, IsPageAt}
 use Rattle.domain_layout.specs.Reached.{Frame, IsUnread, cells_way, first_cells}
 use Rattle.layout_laws.proofs.ChainsAlike.{same_bytes}
@@ -27,11 +27,8 @@ use Rattle.log_ring.specs.Homes.{IsMember}
 -- ---- what no fault says
 
 module _ (pages : Pages) (frame : Frame) (good : AreGood pages frame) where
-  no_table : (home : Home) → ¬ IsTableFault pages frame home
-  no_table home fault = good.no_fault (record { code = 4; home = home }) (inl (refl, fault))
-
   pub no_tables : (row : FaultRow) → ¬ IsTablesFault pages frame row
-  no_tables row fault = good.no_fault row (inr (inl (no_table, fault)))
+  no_tables row fault = good.no_fault.tables row fault
 
   pub no_cells : (home : Home) → ¬ IsCellsFault pages frame good.table home
   no_cells home fault = no_tables (record { code = 5; home = home }) (good.table, good.says, inl (refl, fault))

@@ -1,4 +1,4 @@
--- Where no rule is broken, the chains of two files share no cell.
+-- Where no rule of tables is broken, the chains of two files share no cell.
 use Rattle.std.proofs.Common.{◌≡◌, ◌∙◌, ◌⊎◌, inl, inr, ℕ, zero, suc, ◌<◌, true, false, nat_eq, nat_lt, ◌&&◌, ◌||◌, List, [], ◌∷◌, ◌++◌, Some, None, Contains, slice_get, refl, sym, ap, subst, arith, ⊎_elim}
 use Rattle.std.proofs.lemmas.Bool.{cases_order, eq-eqb, lt-ltb, or_left, or_right}
 use Rattle.domain_base.specs.declared.place.CellAt.{CellAt}
@@ -13,7 +13,7 @@ use Rattle.bmt_mcells.proofs.Unique.{one_stands}
 use Rattle.bitfile_cells.specs.Files.{AreFile}
 use Rattle.bitfile_core.specs.Files.{AreApart}
 use Rattle.domain_layout.specs.CellRules.{Follows, IsChainHead, IsInChain, IsLink, Link, begins, is_before}
-use Rattle.domain_layout.specs.Faults.{HasNoFault}
+use Rattle.domain_layout.specs.Faults.{HasNoTablesFault}
 use Rattle.domain_layout.specs.Layout.{IsLayout, Layout}
 use Rattle.domain_layout.specs.Owners.{frame_of}
 use Rattle.domain_layout.specs.TagRules.{IsFirstOf}
@@ -58,7 +58,7 @@ index_of (x ∷ xs) at (suc k, within, is) = let more = index_of xs at (k, omega
 no_cell_there : (at : CellAt) → None ≡ Some at → ⊥
 no_cell_there at is = cc
 
-module _ (pages : Pages) (layout : Layout) (laid : IsLayout pages layout) (none : HasNoFault pages (frame_of layout)) where
+module _ (pages : Pages) (layout : Layout) (laid : IsLayout pages layout) (none : HasNoTablesFault pages (frame_of layout)) where
   -- two cells of the chain that begins at a cell, one behind the other
   record Step (start : CellAt) (cs : List PlacedCell) (k : ℕ) (at : CellAt) : Type 0 where
     front : PlacedCell

@@ -1,4 +1,4 @@
--- Where no rule is broken, and the chains of its tags were read, a fileset has its files.
+-- Where no rule of tables is broken, and the chains of its tags were read, a fileset has its files.
 use Rattle.std.proofs.Common.{◌≡◌, ℕ, false, List, [], ◌∷◌, Option, Some, None, IfSome, IsSomeAnd, refl, sym, subst}
 use Rattle.domain_base.specs.declared.place.CellAt.{CellAt}
 use Rattle.domain_base.specs.declared.place.Tag.{Tag}
@@ -50,7 +50,7 @@ module _ (pages : Pages) (number : ℕ) (places : List TagPlace) (may : MayHaveF
       all : cells ≡ first ∷ rest
       at_first : first.at ≡ at
       of : ¬ ¬ IsFirstOf pages (frame_of may.layout) number tag first.at
-      there : FileThere pages may.layout may.laid may.no_fault may.small number tag first rest
+      there : FileThere pages may.layout may.laid may.no_fault number tag first rest
 
     cells_of : (tag : Tag) (at : CellAt) (leads : cell_of pages places tag ≡ Some at) → Cells tag at (links tag at leads).0
     cells_of tag at leads =
@@ -62,7 +62,7 @@ module _ (pages : Pages) (number : ℕ) (places : List TagPlace) (may : MayHaveF
           all = parts.all;
           at_first = parts.links.0;
           of = of;
-          there = file_there pages may.layout may.laid may.no_fault may.small number tag parts.first parts.rest of parts.links.1;
+          there = file_there pages may.layout may.laid may.no_fault number tag parts.first parts.rest of parts.links.1;
         }
 
     none_by : (tag : Tag) (o : Option CellAt) (leads : cell_of pages places tag ≡ o) → chain_by tag o leads ≡ None → o ≡ None

@@ -1,4 +1,4 @@
--- Where no rule is broken, the first cell of a file has one record that says where pages stand, and
+-- Where no rule of tables is broken, the first cell of a file has one record that says where pages stand, and
 -- so has each cell behind it.
 use Rattle.std.proofs.Common.{◌≡◌, ◌∙◌, ◌⊎◌, inl, inr, ℕ, suc, ◌*◌, ◌^◌, ◌≤◌, Bool, true, false, cond, not, nat_eq, nat_le, ◌||◌, List, [], ◌∷◌, Some, None, is_some, Contains, refl, sym, ap, subst, arith, ⊎_elim}
 use Rattle.std.proofs.lemmas.Bool.{and_parts, cases_Bool, eq-eqb, eqb-true, or_cases}

@@ -13,7 +13,7 @@ use Rattle.tag_dirs.specs.declared.dir.TagPlace.{TagPlace}
 use Rattle.fileset_table.specs.Page.{IsTablePage}
 use Rattle.fileset_table.specs.Table.{Table}
 use Rattle.fileset_table.specs.declared.slot.SlotItem.{SlotItem}
-use Rattle.domain_layout.specs.Faults.{HasNoFault, SaysTable}
+use Rattle.domain_layout.specs.Faults.{HasNoTablesFault, SaysTable}
 use Rattle.domain_layout.specs.Layout.{AreTagPlaces, IsCellTable, Layout, first_tag_of}
 use Rattle.domain_layout.specs.Reached.{Frame, first_cells}
 use Rattle.filesets_reading.specs.Good.{AreGood, IsNamed, frame_at}
@@ -48,9 +48,9 @@ has_table pages frame have vol member = have vol member.first (omega (arith, mem
 -- ---- the table of filesets
 
 -- a table that the anchor names stands there
-pub no_table_page : (pages : Pages) (anchor : Anchor) (version : Version) (home : Home) → anchor.table ≡ Some home → HasNoFault pages (frame_at anchor version)
+pub no_table_page : (pages : Pages) (anchor : Anchor) (version : Version) (home : Home) → anchor.table ≡ Some home → HasNoTablesFault pages (frame_at anchor version)
     → ((table : Table) → ¬ IsSomeAnd (pages home) (λ page. IsTablePage page table)) → ⊥
-no_table_page pages anchor version home at none wrong = none (record { code = 4; home = home }) (inl (refl, record { at = at; wrong = inr wrong }))
+no_table_page pages anchor version home at none wrong = none.table home (record { at = at; wrong = inr wrong })
 
 -- a table has 32 slots
 pub few_slots : (pages : Pages) (frame : Frame) (table : Table) → SaysTable pages frame table → (number : ℕ) (item : SlotItem) → slice_get table.slots number ≡ Some item → number < 32
@@ -62,7 +62,7 @@ few_slots pages frame table says number item there = by_page (pages says.home) s
 
 -- ---- the layout
 
-pub good_by : (pages : Pages) (anchor : Anchor) (version : Version) (table : Table) → IsNamed anchor version → HasNoFault pages (frame_at anchor version) → SaysTable pages (frame_at anchor version) table → AreGood pages (frame_at anchor version)
+pub good_by : (pages : Pages) (anchor : Anchor) (version : Version) (table : Table) → IsNamed anchor version → HasNoTablesFault pages (frame_at anchor version) → SaysTable pages (frame_at anchor version) table → AreGood pages (frame_at anchor version)
 good_by pages anchor version table named none says = record { table = table; says = says; version = named.0; no_fault = none }
 
 tags_in : List (List TagPlace) → ℕ → List TagPlace

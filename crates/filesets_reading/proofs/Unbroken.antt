@@ -1,4 +1,4 @@
--- Where no rule is broken, the chain from the first cell of a file, or of quotas, is whole.
+-- Where no rule of tables is broken, the chain from the first cell of a file, or of quotas, is whole.
 use Rattle.std.proofs.Common.{◌≡◌, ◌∙◌, ◌⊎◌, inl, inr, ℕ, true, false, List, [], ◌∷◌, ◌++◌, Some, Contains, IsSomeAnd, refl, sym, ap, subst, arith, ⊎_elim}
 use Rattle.std.proofs.lemmas.Bool.{cases_Bool}
 use Rattle.domain_base.specs.declared.place.CellAt.{CellAt}
@@ -14,7 +14,7 @@ use Rattle.bmt_mcells.proofs.CellKinds.{used_not_zeros}
 use Rattle.bmt_mcells.proofs.Walk.{one_kind}
 use Rattle.domain_layout.specs.CellRules as rule
 use Rattle.domain_layout.specs.CellRules.{Follows, IsCellOf, IsChainHead, IsLink, IsPlace, LeadsTo, Link}
-use Rattle.domain_layout.specs.Faults.{HasNoFault}
+use Rattle.domain_layout.specs.Faults.{HasNoTablesFault}
 use Rattle.domain_layout.specs.Layout.{IsLayout, Layout}
 use Rattle.domain_layout.specs.Owners.{frame_of}
 use Rattle.domain_layout.specs.TagRules.{IsFirstOf}
@@ -30,7 +30,7 @@ kind_some kinds.Chain is = omega (arith, is)
 kind_some kinds.Quota is = omega (arith, is)
 kind_some kinds.Volume is = omega (arith, is)
 
-module _ (pages : Pages) (layout : Layout) (laid : IsLayout pages layout) (none : HasNoFault pages (frame_of layout)) where
+module _ (pages : Pages) (layout : Layout) (laid : IsLayout pages layout) (none : HasNoTablesFault pages (frame_of layout)) where
   -- a cell in use that has a place is well formed
   stands_by : (at : CellAt) (link : Link) → IsLink pages (frame_of layout) at link → ¬ ¬ ((cell : Cell) × StandsAt pages at cell)
   stands_by at link is not =

@@ -1,4 +1,4 @@
--- Pages of a domain in which no rule is broken.
+-- Pages of a domain in which no rule of tables is broken.
 use Rattle.std.specs.Prelude.{◌≡◌, ◌⊎◌, ◌<◌, ℕ, IsSome}
 use Rattle.domain_base.specs.Version.{number_of}
 use Rattle.domain_base.specs.declared.place.CellAt.{CellAt}
@@ -9,7 +9,7 @@ use Rattle.disk_label.specs.declared.anchor.Anchor.{Anchor}
 use Rattle.bmt_mcells.specs.Cell.{Cell}
 use Rattle.bmt_mcells.specs.Chain.{StandsAt}
 use Rattle.fileset_table.specs.Table.{Table}
-use Rattle.domain_layout.specs.Faults.{HasNoFault, SaysTable}
+use Rattle.domain_layout.specs.Faults.{HasNoTablesFault, SaysTable}
 use Rattle.domain_layout.specs.Reached.{Frame}
 use Rattle.domain_layout.specs.TagRules.{HasTags}
 
@@ -21,12 +21,12 @@ frame_at anchor version = record { anchor = anchor; version = version }
 abbrev pub IsNamed : Anchor → Version → Type 0
 IsNamed anchor version = (anchor.version ≡ number_of version) × IsSome anchor.table
 
--- pages that say a table of filesets, and break no rule
+-- pages that say a table of filesets, and break no rule of tables
 pub record AreGood (pages : Pages) (frame : Frame) : Type 0 where
   pub table : Table
   pub says : SaysTable pages frame table
   pub version : frame.anchor.version ≡ number_of frame.version
-  pub no_fault : HasNoFault pages frame
+  pub no_fault : HasNoTablesFault pages frame
 
 -- what is in a slot of their table has a tag directory that begins there
 pub record HasTagsAt (pages : Pages) (frame : Frame) (first : Home) : Type 0 where

@@ -1,5 +1,6 @@
-//! The plain reading of a domain's pages in which no rule is broken: slow, and by the definitions
-//! alone. What it reads is there, which no other proof of it gives.
+//! The plain reading of a domain's pages in which no rule of tables is broken, which are those of its
+//! fileset table, of cells, and of tags and what they name: slow, and by the definitions alone. What
+//! it reads is there, which no other proof of it gives.
 #![tactic(auto)]
 
 mod cells;

@@ -1,6 +1,6 @@
 //! The tables of a domain: that of its filesets, those of cells, and the tag directories.
 ghost use Rattle.std.specs.Prelude.{◌≡◌, ◌↔◌, IfOk, OnOk};
-ghost use Rattle.domain_layout.specs.Faults.{HasNoFault, SaysTable};
+ghost use Rattle.domain_layout.specs.Faults.{HasNoTablesFault, SaysTable};
 ghost use Rattle.domain_layout.specs.Layout.{first_tag_of};
 ghost use Rattle.filesets_reading.specs.Good.{AreGood, HasTagsAt, IsNamed, frame_at};
 ghost use Rattle.filesets_reading.specs.Tables.{AreTablesOf, AreTagsOf, HasCellTable, HasTagsOf, HaveCellTables};
@@ -66,7 +66,7 @@ fn read_filesets_table<M: MetaPages>(
     version: Version,
 ) -> Result<FilesetTable, OutOfMemory>
     requires named { IsNamed anchor.now version }
-    requires no_fault { HasNoFault (M.pages pages.now) (frame_at anchor.now version) }
+    requires no_fault { HasNoTablesFault (M.pages pages.now) (frame_at anchor.now version) }
     ensures { IfOk result (SaysTable (M.pages pages.now) (frame_at anchor.now version)) }
 {
     let Some(home) = anchor.table else {
@@ -134,8 +134,8 @@ fn read_all_tags<M: MetaPages>(
     Ok(tags)
 }
 
-/// The tables of a domain with this anchor: so where no rule is broken, its pages are laid out as
-/// a domain's are.
+/// The tables of a domain with this anchor: so where no rule of tables is broken, its pages are laid
+/// out as a domain's are.
 pub fn read_tables<M: MetaPages>(
     alloc: Global,
     pages: &M,
@@ -143,7 +143,7 @@ pub fn read_tables<M: MetaPages>(
     version: Version,
 ) -> Result<DomainTables, OutOfMemory>
     requires named { IsNamed anchor.now version }
-    requires no_fault { HasNoFault (M.pages pages.now) (frame_at anchor.now version) }
+    requires no_fault { HasNoTablesFault (M.pages pages.now) (frame_at anchor.now version) }
     ensures { IfOk result (AreTablesOf (M.pages pages.now) (frame_at anchor.now version)) }
 {
     let filesets = read_filesets_table(alloc, pages, anchor, version)?;

@@ -217,7 +217,8 @@ module _ (one other : Pages) (frame : Frame) (agree : AgreeOnCells one other fra
       (λ c. inr (⊎_elim (λ w. inl (leads_wrong_alike at w))
       (λ d. inr (⊎_elim (λ w. inl (unchained_alike at w))
       (λ e. inr (⊎_elim (λ w. inl (page_twice_alike at w))
-      (λ f. inr (⊎_elim (λ w. inl (limits_twice_alike at w)) (λ w. inr (holes_alike at w)) f)) e)) d)) c)) b)) a))
+      (λ f. inr (⊎_elim (λ w. inl (limits_twice_alike at w))
+      (λ g. inr (⊎_elim (λ w. inl (holes_alike at w)) (λ w. inr (record { cell = w.cell; used = used_alike one other frame agree at w.cell w.used; wrong = w.wrong })) g)) f)) e)) d)) c)) b)) a))
       fault
 
   pub cells_fault_alike : (home : Home) → IsCellsFault one frame table home → IsCellsFault other frame table home

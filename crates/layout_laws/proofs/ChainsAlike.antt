@@ -24,7 +24,7 @@ use Rattle.fileset_table.specs.declared.slot.FilesetEntry.{FilesetEntry}
 use Rattle.fileset_table.specs.declared.slot.SlotItem.{SlotItem}
 use Rattle.fileset_table.specs.declared.slot.SlotItem.TheVariants as slots
 use Rattle.domain_layout.specs.CellRules.{IsPlace}
-use Rattle.domain_layout.specs.Faults.{HasNoFault}
+use Rattle.domain_layout.specs.Faults.{HasNoTablesFault}
 use Rattle.domain_layout.specs.Layout.{IsLayout, Layout}
 use Rattle.domain_layout.specs.Owners.{frame_of}
 use Rattle.domain_layout.specs.Shape.{AreLimits, AreQuotas, HasChains}
@@ -62,7 +62,7 @@ quota_is (slots.Original found) entry is = ap (λ (e : FilesetEntry). e.quota) (
 quota_is (slots.Clone of number found) entry is = ap (λ (e : FilesetEntry). e.quota) (some_same found entry is)
 quota_is (slots.Removed first_tag quota) entry is = absurd (let e : None ≡ Some entry = is in absurd (cc))
 
-module _ (one other : Pages) (layout : Layout) (laid : IsLayout one layout) (none : HasNoFault one (frame_of layout)) (cells : AgreeOnCells one other (frame_of layout)) where
+module _ (one other : Pages) (layout : Layout) (laid : IsLayout one layout) (none : HasNoTablesFault one (frame_of layout)) (cells : AgreeOnCells one other (frame_of layout)) where
   -- ---- cells
 
   page_alike : (at : CellAt) → ¬ ¬ IsPlace one (frame_of layout) at → one (home_of at) ≡ other (home_of at)

@@ -19,7 +19,7 @@ use Rattle.tag_dirs.specs.Directory.{IsDirectoryAt, cell_for, cell_of, home_with
 use Rattle.tag_dirs.specs.TagPage.{IsTagPage, entry_of, index_of, slot_of}
 use Rattle.tag_dirs.proofs.Slots.{found, page_there}
 use Rattle.domain_layout.specs.CellRules.{Follows, IsCellFault, IsChainHead, IsInChain, IsLink, IsPlace, Link, begins, goes_on, next_in}
-use Rattle.domain_layout.specs.Faults.{HasNoFault}
+use Rattle.domain_layout.specs.Faults.{HasNoTablesFault}
 use Rattle.domain_layout.specs.Layout.{IsLayout, Layout}
 use Rattle.domain_layout.specs.Owners.{frame_of}
 use Rattle.domain_layout.specs.Reached.{IsRead, Reaches, tags_way}
@@ -92,7 +92,7 @@ pub record InChain (pages : Pages) (layout : Layout) (at : CellAt) (cell : Cell)
   pub start : CellAt
   pub is : IsInChain pages (frame_of layout) start at (link_to cell)
 
-module _ (pages : Pages) (layout : Layout) (laid : IsLayout pages layout) (none : HasNoFault pages (frame_of layout)) where
+module _ (pages : Pages) (layout : Layout) (laid : IsLayout pages layout) (none : HasNoTablesFault pages (frame_of layout)) where
   pub no_cell : (at : CellAt) → ¬ IsCellFault pages (frame_of layout) layout.table at
   no_cell at fault = no_cells pages layout laid none (home_of at) (inr (inr (inr (at, refl, fault))))
 

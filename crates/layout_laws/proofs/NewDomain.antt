@@ -102,5 +102,5 @@ module _ (pages : Pages) (frame : Frame) (new : IsNew pages frame) where
   pub no_fault : HasNoFault pages frame
   no_fault row fault =
       ⊎_elim (λ w. no_table_fault pages frame new row.home w.1)
-      (λ a. ⊎_elim (λ w. no_tables_fault pages frame new row w.1) (λ w. no_files_fault row w.2) a)
+      (λ a. ⊎_elim (λ w. no_tables_fault pages frame new row w.1) (λ w. no_files_fault row w.1) a)
       fault

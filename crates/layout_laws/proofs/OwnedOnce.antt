@@ -19,7 +19,8 @@ use Rattle.bitfile_core.specs.Shown.{index_in}
 use Rattle.fileset_table.specs.Page.{IsTablePage}
 use Rattle.domain_layout.specs.CellRules.{IsCellsFault, IsCellsPage, IsUsed}
 use Rattle.domain_layout.specs.DirectoryRules.{HasIndexAt, IsIndexFault}
-use Rattle.domain_layout.specs.Faults.{FaultRow, HasNoFault, IsFilesFault, IsTableFault, IsTablesFault, SaysTable}
+use Rattle.domain_layout.specs.Faults.{FaultRow, HasNoFault, HasNoTablesFault, IsFilesFault, SaysTable}
+use Rattle.domain_layout.proofs.NoTables.{none_of_tables}
 use Rattle.domain_layout.specs.Layout.{AreTagPlaces, IsLayout, IsPageAt, Layout, first_tag_of}
 use Rattle.domain_layout.specs.Owners.{BelongsTo, HasExtent, HasIndexPage, HasTagPage, IsOnTable, IsOwnedOnce, Owner, frame_of}
 use Rattle.domain_layout.specs.Owners.Owner.{of_cells, of_file, of_index, of_log, of_table, of_tags, of_volume}
@@ -88,16 +89,9 @@ on_a_volume page home next small =
         let vol : number_at 4 8 page ≡ home.vol = ap (λ (h : Home). h.vol) same in
         omega (arith, vol, small)
 
-module _ (pages : Pages) (layout : Layout) (laid : IsLayout pages layout) (none : HasNoFault pages (frame_of layout)) where
-  no_table : (home : Home) → ¬ IsTableFault pages (frame_of layout) home
-  no_table home fault = none (record { code = 4; home = home }) (inl (refl, fault))
+-- ---- where no rule of tables is broken
 
-  no_tables : (row : FaultRow) → ¬ IsTablesFault pages (frame_of layout) row
-  no_tables row fault = none row (inr (inl (no_table, fault)))
-
-  pub no_files : (row : FaultRow) → ¬ IsFilesFault pages (frame_of layout) row
-  no_files row fault = none row (inr (inr (no_table, no_tables, fault)))
-
+module _ (pages : Pages) (layout : Layout) (laid : IsLayout pages layout) (none : HasNoTablesFault pages (frame_of layout)) where
   table_one : HasOne layout.anchor.table (λ home. IsSomeAnd (pages home) (λ page. IsTablePage page layout.table))
   table_one = one_of layout.anchor.table (λ home. IsSomeAnd (pages home) (λ page. IsTablePage page layout.table)) laid.table
 
@@ -108,16 +102,10 @@ module _ (pages : Pages) (layout : Layout) (laid : IsLayout pages layout) (none 
   says = record { home = table_one.value; at = table_one.there; there = table_one.is }
 
   pub no_cells : (home : Home) → ¬ IsCellsFault pages (frame_of layout) layout.table home
-  no_cells home fault = no_tables (record { code = 5; home = home }) (layout.table, says, inl (refl, fault))
+  no_cells home fault = none.tables (record { code = 5; home = home }) (layout.table, says, inl (refl, fault))
 
   pub no_tags : (home : Home) → ¬ IsTagsFault pages (frame_of layout) layout.table home
-  no_tags home fault = no_tables (record { code = 6; home = home }) (layout.table, says, inr (refl, fault))
-
-  pub no_extent : (home : Home) → ¬ IsExtentFault pages layout home
-  no_extent home fault = no_files (record { code = 7; home = home }) (layout, refl, laid, inl (refl, fault))
-
-  pub no_index : (home : Home) → ¬ IsIndexFault pages (frame_of layout) layout.table home
-  no_index home fault = no_files (record { code = 10; home = home }) (layout, refl, laid, inr (inr (inr (refl, fault))))
+  no_tags home fault = none.tables (record { code = 6; home = home }) (layout.table, says, inr (refl, fault))
 
   -- ---- pages of cells
 
@@ -229,10 +217,25 @@ module _ (pages : Pages) (layout : Layout) (laid : IsLayout pages layout) (none 
           let read = is_read pages (frame_of layout) (tags_way first) (tags_read number first tags) come.passed home reached in
           record { place = length come.passed; page = read.0; is = record { first = first; has = tags; read = read.1 } }
 
+-- ---- where no rule is broken
+
+module _ (pages : Pages) (layout : Layout) (laid : IsLayout pages layout) (none : HasNoFault pages (frame_of layout)) where
+  tables : HasNoTablesFault pages (frame_of layout)
+  tables = none_of_tables pages (frame_of layout) none
+
+  pub no_files : (row : FaultRow) → ¬ IsFilesFault pages (frame_of layout) row
+  no_files row fault = none row (inr (inr (tables, fault)))
+
+  pub no_extent : (home : Home) → ¬ IsExtentFault pages layout home
+  no_extent home fault = no_files (record { code = 7; home = home }) (layout, refl, laid, inl (refl, fault))
+
+  pub no_index : (home : Home) → ¬ IsIndexFault pages (frame_of layout) layout.table home
+  no_index home fault = no_files (record { code = 10; home = home }) (layout, refl, laid, inr (inr (inr (refl, fault))))
+
   -- ---- pages of indexes
 
   index_at : (at : CellAt) (number : ℕ) (home : Home) (has : HasIndexPage pages layout at number home) → HasIndexAt pages (frame_of layout) at has.first
-  index_at at number home has = record { cell = has.cell; is = used_on at has.cell has.on; value = has.value; there = has.there; begins = has.begins }
+  index_at at number home has = record { cell = has.cell; is = used_on pages layout laid tables at has.cell has.on; value = has.value; there = has.there; begins = has.begins }
 
   pub index_read : (at : CellAt) (first : Home) → HasIndexAt pages (frame_of layout) at first → (home : Home) → ¬ IsUnread pages (frame_of layout) (index_way first) home
   index_read at first has home unread = no_index home (inl (record { at = at; first = first; has = has; wrong = inl unread }))
@@ -244,23 +247,24 @@ module _ (pages : Pages) (layout : Layout) (laid : IsLayout pages layout) (none 
 
   table_stands : (home : Home) → layout.anchor.table ≡ Some home → Stands pages layout 0x42545346 home
   table_stands home at =
-      let same : home ≡ table_one.value = some_same home table_one.value (sym at ∙ table_one.there) in
-      let one = one_of (pages table_one.value) (λ page. IsTablePage page layout.table) table_one.is in
+      let table = table_one pages layout laid tables in
+      let same : home ≡ table.value = some_same home table.value (sym at ∙ table.there) in
+      let one = one_of (pages table.value) (λ page. IsTablePage page layout.table) table.is in
       record {
         page = one.value;
         there = ap pages same ∙ one.there;
         so = one.is.header.magic;
-        free = λ reserved. no_table home (record { at = at; wrong = inl reserved });
+        free = λ reserved. tables.table home (record { at = at; wrong = inl reserved });
       }
 
   cells_stand : (home : Home) → BelongsTo pages layout of_cells home → Stands pages layout 0x50544d42 home
   cells_stand home (member, among) =
-      let place = cell_place home member among in
+      let place = cell_place pages layout laid tables home member among in
       record { page = place.page; there = place.is.read.there; so = eqb-true _ _ place.is.read.begins; free = place.is.read.may.1 }
 
   tags_stand : (number : ℕ) (home : Home) → HasTagPage layout number home → Stands pages layout 0x50474154 home
   tags_stand number home has =
-      let place = tag_place number home has in
+      let place = tag_place pages layout laid tables number home has in
       record { page = place.page; there = place.is.read.there; so = eqb-true _ _ place.is.read.begins; free = place.is.read.may.1 }
 
   index_stands : (at : CellAt) (number : ℕ) (home : Home) → HasIndexPage pages layout at number home → Stands pages layout 0x58524944 home
@@ -284,14 +288,14 @@ module _ (pages : Pages) (layout : Layout) (laid : IsLayout pages layout) (none 
 
   one_tags : (number other : ℕ) (home : Home) → HasTagPage layout number home → HasTagPage layout other home → number ≡ other
   one_tags number other home has also =
-      let one = tag_place number home has in
-      let two = tag_place other home also in
+      let one = tag_place pages layout laid tables number home has in
+      let two = tag_place pages layout laid tables other home also in
       let same : two.page ≡ one.page = some_same two.page one.page (sym two.is.read.there ∙ one.is.read.there) in
       let two_is : IsTagsPage pages (frame_of layout) layout.table other two.place home one.page = subst (IsTagsPage pages (frame_of layout) layout.table other two.place home) same two.is in
       ⊎_elim (λ is. is)
       (λ apart. ⊎_elim
-      (λ less. absurd (no_tags home (inr (inl (record { earlier = number; later = other; order = less; one = one.place; other = two.place; page = one.page; in_earlier = one.is; in_later = two_is })))))
-      (λ more. absurd (no_tags home (inr (inl (record { earlier = other; later = number; order = more; one = two.place; other = one.place; page = one.page; in_earlier = two_is; in_later = one.is }))))) apart)
+      (λ less. absurd (no_tags pages layout laid tables home (inr (inl (record { earlier = number; later = other; order = less; one = one.place; other = two.place; page = one.page; in_earlier = one.is; in_later = two_is })))))
+      (λ more. absurd (no_tags pages layout laid tables home (inr (inl (record { earlier = other; later = number; order = more; one = two.place; other = one.place; page = one.page; in_earlier = two_is; in_later = one.is }))))) apart)
       (cases_order number other)
 
   one_index_cell : (at at' : CellAt) (number other : ℕ) (home : Home) → HasIndexPage pages layout at number home → HasIndexPage pages layout at' other home → ¬ ¬ at' ≡ at

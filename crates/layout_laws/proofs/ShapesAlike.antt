@@ -34,7 +34,8 @@ use Rattle.fileset_table.specs.declared.slot.SlotItem.TheVariants as slots
 use Rattle.fileset_table.proofs.Unique.{table_unique}
 use Rattle.domain_layout.specs.CellRules.{IsPlace, IsUsed}
 use Rattle.domain_layout.specs.DirectoryRules.{HasIndexAt, IsGoodIndexPage, IsWrongFile}
-use Rattle.domain_layout.specs.Faults.{HasNoFault}
+use Rattle.domain_layout.specs.Faults.{HasNoFault, HasNoTablesFault}
+use Rattle.domain_layout.proofs.NoTables.{none_of_tables}
 use Rattle.domain_layout.specs.Layout.{IsLayout, Layout, first_tag_of}
 use Rattle.domain_layout.specs.Owners.{frame_of}
 use Rattle.domain_layout.specs.Reached.{Reaches, begins, goes_on, index_way}
@@ -106,9 +107,12 @@ kept_home keep places page home at some = by_test (nat_lt page keep) refl
     by_test false cut = absurd (some (ap (λ b. home_at (cond b (places page) Absent)) cut))
 
 module _ (one other : Pages) (layout : Layout) (laid : IsLayout one layout) (none : HasNoFault one (frame_of layout)) (shapes : Shapes) (agree : AgreeOnMetadata one other layout shapes) where
+  tables : HasNoTablesFault one (frame_of layout)
+  tables = none_of_tables one (frame_of layout) none
+
   chains_there : (number : ℕ) (item : SlotItem) → slice_get layout.table.slots number ≡ Some item → (entry : FilesetEntry) → entry_of item ≡ Some entry → (chains : Chains) → HasChains one number entry chains → HasChains other number entry chains
   chains_there number item slot entry is chains has =
-      chains_alike one other layout laid none agree.cells agree.tags number entry (record { item = item; there = slot; has = tags_of item entry is }) chains has
+      chains_alike one other layout laid tables agree.cells agree.tags number entry (record { item = item; there = slot; has = tags_of item entry is }) chains has
 
   -- ---- indexes
 
@@ -177,7 +181,7 @@ module _ (one other : Pages) (layout : Layout) (laid : IsLayout one layout) (non
       where
         by_cell : (o : Option CellAt) → cell_of one is.has.places tag ≡ o → IsSomeAnd o (λ at. IsFile one at (first ∷ rest)) → ¬ ¬ IsFirstOf one (frame_of layout) number tag first.at
         by_cell None leads file = absurd file
-        by_cell (Some at) leads file = subst (λ a. ¬ ¬ IsFirstOf one (frame_of layout) number tag a) (sym file.0) (first_there one layout laid none number entry.first_tag has_tags is.has.places is.has.directory tag at leads)
+        by_cell (Some at) leads file = subst (λ a. ¬ ¬ IsFirstOf one (frame_of layout) number tag a) (sym file.0) (first_there one layout laid tables number entry.first_tag has_tags is.has.places is.has.directory tag at leads)
 
     -- a page of a directory stands at a home of its shape
     dir_page_alike : (tag : Tag) (cells : List PlacedCell) (file : Attributes) → is.chains tag ≡ Some cells → is_removed cells ≡ false → attributes_of cells ≡ Some file → file.kind ≡ Directory
@@ -281,7 +285,7 @@ module _ (one other : Pages) (layout : Layout) (laid : IsLayout one layout) (non
       has = chains_there number (slots.Original entry) slot entry refl is.chains is.has;
       files = is.files;
       shown = λ tag. shows_alike tag (is.chains tag) (shape.shown tag) refl (is.shown tag);
-      limits = limits_alike one other layout laid none agree.cells number (slots.Original entry) slot entry refl shape.limits is.limits;
+      limits = limits_alike one other layout laid tables agree.cells number (slots.Original entry) slot entry refl shape.limits is.limits;
     }
 
   -- ---- files of clones
@@ -300,14 +304,14 @@ module _ (one other : Pages) (layout : Layout) (laid : IsLayout one layout) (non
         by_cell : (o : Option CellAt) → cell_of one is.has.places tag ≡ o → IsSomeAnd o (λ at. IsFile one at (first ∷ rest)) → ¬ ¬ IsUsed one (frame_of layout) first.at first.cell
         by_cell None leads file = absurd file
         by_cell (Some at) leads file = λ unused.
-            first_there one layout laid none number entry.first_tag clone_tags is.has.places is.has.directory tag at leads
+            first_there one layout laid tables number entry.first_tag clone_tags is.has.places is.has.directory tag at leads
             (λ (f : IsFirstOf one (frame_of layout) number tag at). unused (record { place = subst (IsPlace one (frame_of layout)) (sym file.0) f.place; stands = file.1.links.stands }))
 
     source_there : (tag : Tag) (cells : List PlacedCell) → is.chains tag ≡ Some cells → is_removed cells ≡ false → (source : CellAt) → source_of cells ≡ Some source → ¬ ¬ IsPlace one (frame_of layout) source
     source_there tag [] there live source through = absurd (own_there tag [] there).is_of
     source_there tag (first ∷ rest) there live source through = λ away.
         own_first tag first rest there (λ used.
-        no_tags one layout laid none (home_of first.at)
+        no_tags one layout laid tables (home_of first.at)
         (inr (inr (inr (inr (inr (inl (
           first.at,
           refl,
@@ -334,7 +338,7 @@ module _ (one other : Pages) (layout : Layout) (laid : IsLayout one layout) (non
     source_alike : (tag : Tag) (cells : List PlacedCell) → is.chains tag ≡ Some cells → is_removed cells ≡ false → (o : Option CellAt) → source_of cells ≡ o → (places : Places) → IsSource one o places → IsSource other o places
     source_alike tag cells there live None through places is_source = is_source
     source_alike tag cells there live (Some at) through places is_source =
-        (is_source.0, file_alike one other layout laid none agree.cells at is_source.0 (source_there tag cells there live at through) is_source.1, is_source.2)
+        (is_source.0, file_alike one other layout laid tables agree.cells at is_source.0 (source_there tag cells there live at through) is_source.1, is_source.2)
 
     own_alike : (tag : Tag) (cells : List PlacedCell) → is.chains tag ≡ Some cells → (b : Bool) → is_removed cells ≡ b → (seen : Option SeenFile) → IsOwnUnless b one cells seen → IsOwnUnless b other cells seen
     own_alike tag cells there true gone seen own = own
@@ -376,7 +380,7 @@ module _ (one other : Pages) (layout : Layout) (laid : IsLayout one layout) (non
       has_behind = chains_there of item there original fileset is.behind is.has_behind;
       files = λ tag. of_clone_alike tag (is.chains tag) refl (is.files tag);
       shown = λ tag. seen_shown tag (shape.files tag) (shape.shown tag) refl (is.shown tag);
-      limits = limits_alike one other layout laid none agree.cells number (slots.Clone of clone entry) slot entry refl shape.limits is.limits;
+      limits = limits_alike one other layout laid tables agree.cells number (slots.Clone of clone entry) slot entry refl shape.limits is.limits;
     }
 
   -- ---- all of them

@@ -96,7 +96,7 @@ module _ (pages : Pages) (bitmap_there : pages (on_first 2) ≡ Some bitmap_page
   pub no_fault : HasNoFault pages (frame_of Three)
   no_fault row fault =
       ⊎_elim (λ w. no_table_fault row.home w.1)
-      (λ a. ⊎_elim (λ w. no_tables_fault row w.1) (λ w. no_files_fault row w.2) a)
+      (λ a. ⊎_elim (λ w. no_tables_fault row w.1) (λ w. no_files_fault row w.1) a)
       fault
 
 bitmap_at : pages_in image_of (on_first 2) ≡ Some bitmap_page

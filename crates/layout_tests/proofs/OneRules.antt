@@ -1,4 +1,6 @@
 -- The domain with one fileset breaks no rule of cells and tags.
+use Rattle.std.specs.List.{AllByRecursion}
+use Rattle.extent_records.specs.Rows.{IsPlaced, runs_of}
 use Rattle.std.proofs.Common.{◌≡◌, ◌∙◌, ◌⊎◌, inl, inr, ℕ, zero, suc, ◌<◌, true, false, nat_eq, List, [], length, Some, None, Contains, IsSomeAnd, slice_get, refl, sym, ap, subst, arith, ⊎_elim}
 use Rattle.std.proofs.lemmas.Bool.{eq-eqb, eqb-true}
 use Rattle.domain_base.specs.declared.place.CellAt.{CellAt}
@@ -187,6 +189,11 @@ module _ (pages : Pages) (cells_there : pages (on_first 3) ≡ Some cells_page) 
       ⊎_elim (λ v. let e : false ≡ true = sym (ap (λ (c : Cell). has_kind 5 c.records) v.1) ∙ holes in absurd (cc))
       (λ p. let e : false ≡ true = sym (ap (λ (c : Cell). has_kind 5 c.records) p.1) ∙ holes in absurd (cc)) (used_is at cell used)
 
+  no_runs : (at : CellAt) (cell : Cell) → IsUsed pages (frame_of Three) at cell → AllByRecursion IsPlaced (runs_of cell.records)
+  no_runs at cell used =
+      ⊎_elim (λ v. subst (λ (c : Cell). AllByRecursion IsPlaced (runs_of c.records)) (sym v.1) tt)
+      (λ p. subst (λ (c : Cell). AllByRecursion IsPlaced (runs_of c.records)) (sym p.1) tt) (used_is at cell used)
+
   no_cell_fault : (at : CellAt) → ¬ IsCellFault pages (frame_of Three) one_table at
   no_cell_fault at fault =
       ⊎_elim (no_wrong_volume at)
@@ -202,7 +209,7 @@ module _ (pages : Pages) (cells_there : pages (on_first 3) ≡ Some cells_page) 
       (λ d. ⊎_elim (λ w. ⊎_elim (not_chain at.cell w.link.kind (link_is at w.link w.is)) (not_quota at.cell w.link.kind (link_is at w.link w.is)) w.kind)
       (λ e. ⊎_elim (λ w. none_before w.chain.start w.chain.before w.chain.passed at w.chain.link w.chain.follows w.chain.among)
       (λ f. ⊎_elim (λ w. none_before w.chain.start w.chain.before w.chain.passed at w.chain.link w.chain.follows w.chain.among)
-      (λ w. no_holes at w.cell w.is w.holes) f) e) d) c) b) a)
+      (λ g. ⊎_elim (λ w. no_holes at w.cell w.is w.holes) (λ w. w.wrong (no_runs at w.cell w.used)) g) f) e) d) c) b) a)
       fault
 
   pub no_cells_fault : (home : Home) → ¬ IsCellsFault pages (frame_of Three) one_table home

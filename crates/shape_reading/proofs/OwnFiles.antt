@@ -124,7 +124,7 @@ module _ (pages : Pages) (clone original : FilesetFiles) (number : ℕ) (are : A
     where
       no_source : IsFirstOf pages (frame_of are.may.layout) clone.files.fileset tag at → ⊥
       no_source named =
-          let there = file_there pages are.may.layout are.may.laid are.may.no_fault are.may.small clone.files.fileset tag first rest
+          let there = file_there pages are.may.layout are.may.laid are.may.no_fault clone.files.fileset tag first rest
           (λ away. away (subst (λ a. IsFirstOf pages (frame_of are.may.layout) clone.files.fileset tag a) (sym is.0) named)) is.1.links in
           no_tags pages are.may.layout are.may.laid are.may.no_fault (home_of first.at)
           (inr (inr (inr (inr (inr (inl (
@@ -159,7 +159,7 @@ module _ (pages : Pages) (clone original : FilesetFiles) (number : ℕ) (are : A
           of_links : (source : CellAt) → ¬ ¬ IsFirstOf pages (frame_of are.may.layout) original.files.fileset tag source → (cells : List PlacedCell) → LinksFrom pages source cells → HasFile pages source
           of_links source named [] links = absurd links
           of_links source named (one ∷ more) links =
-              let there = file_there pages are.may.layout are.may.laid are.may.no_fault are.may.small original.files.fileset tag one more (subst (λ a. ¬ ¬ IsFirstOf pages (frame_of are.may.layout) original.files.fileset tag a) (sym links.0) named) links.1 in
+              let there = file_there pages are.may.layout are.may.laid are.may.no_fault original.files.fileset tag one more (subst (λ a. ¬ ¬ IsFirstOf pages (frame_of are.may.layout) original.files.fileset tag a) (sym links.0) named) links.1 in
               (one ∷ more, (links.0, there.is))
 
 -- ---- the original's file that a clone has too

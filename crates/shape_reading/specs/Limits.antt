@@ -11,16 +11,16 @@ use Rattle.fileset_table.specs.declared.slot.FilesetEntry.{FilesetEntry}
 use Rattle.fileset_table.specs.declared.slot.SlotItem.{SlotItem}
 use Rattle.quota_book.specs.Book.{Book, HasBindingLimits}
 use Rattle.quota_book.specs.QuotaCells.{Said, limits_at}
-use Rattle.domain_layout.specs.Faults.{HasNoFault}
+use Rattle.domain_layout.specs.Faults.{HasNoTablesFault}
 use Rattle.domain_layout.specs.Layout.{IsLayout, Layout}
 use Rattle.domain_layout.specs.Owners.{frame_of}
 use Rattle.domain_layout.specs.Shape.{limits_in}
 
--- a slot of a domain's table, whose pages break no rule, has this fileset
+-- a slot of a domain's table, whose pages break no rule of tables, has this fileset
 pub record IsInSlot (pages : Pages) (entry : FilesetEntry) : Type 0 where
   pub layout : Layout
   pub laid : IsLayout pages layout
-  pub no_fault : HasNoFault pages (frame_of layout)
+  pub no_fault : HasNoTablesFault pages (frame_of layout)
   pub number : ℕ
   pub item : SlotItem
   pub there : slice_get layout.table.slots number ≡ Some item

@@ -1,0 +1,21 @@
+use Rattle.std.proofs.Common.{◌∙◌, get_or, refl, sym}
+use Rattle.std.proofs.lemmas.Option.{slice_get-get_or}
+use mathlib.Core.Bool.{false≢true}
+use Rattle.extent_records.specs.Rows.{runs_at}
+use Rattle.cell_faults.proofs.Placed.{none_left, one_not, one_placed}
+use Rattle.cell_faults.proofs.homes.are_placed.Goals as goal
+
+pub returns-then-not-is_placed : goal.returns-then-not-is_placed
+returns-then-not-is_placed c = (
+  λ told. absurd (false≢true told),
+  λ all. absurd (one_not runs_at c.args.rows.now c.loop-row.row-index (get_or c.args.rows.now c.loop-row.row-index (record { page = 0; count = 0; vol = 0; first = 0 })) (slice_get-get_or c.args.rows.now c.loop-row.row-index (record { page = 0; count = 0; vol = 0; first = 0 }) c.loop-row-test.true)
+      (λ here. false≢true (sym c.if-not-is_placed.true ∙ c.is_placed.ensures.1 here)) c.loop-row.invariant all),
+)
+
+pub loop-row-preserved : goal.loop-row-preserved
+loop-row-preserved c =
+    one_placed runs_at c.args.rows.now c.loop-row.row-index (get_or c.args.rows.now c.loop-row.row-index (record { page = 0; count = 0; vol = 0; first = 0 })) (slice_get-get_or c.args.rows.now c.loop-row.row-index (record { page = 0; count = 0; vol = 0; first = 0 }) c.loop-row-test.true)
+    (c.is_placed.ensures.0 c.if-not-is_placed.false) c.loop-row.invariant
+
+pub returns : goal.returns
+returns c = (λ _. none_left runs_at c.args.rows.now c.loop-row.row-index c.loop-row-test.false c.loop-row.invariant, λ _. refl)
