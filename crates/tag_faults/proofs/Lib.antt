@@ -1,5 +1,11 @@
+pub mod Alone
+pub mod Astray
 pub mod Counted
 pub mod FirstCells
 pub mod InUse
+pub mod LateFiles
+pub mod Rootless
 pub mod SlotEntries
 pub mod SlotPages
+pub mod TagsAll
+pub mod UsedCells

@@ -1,18 +1,18 @@
 -- Used entries of the directories of slots.
-use Rattle.std.proofs.Common.{◌≡◌, ◌∙◌, ◌↔◌, ◌==◌, ℕ, ◌+◌, ◌*◌, ◌<◌, ◌≤◌, true, false, List, length, Contains, Option, Some, None, if◌then◌else◌, slice_get, eqb-true, refl, sym, ap, subst, arith}
+use Rattle.std.proofs.Common.{◌≡◌, ◌↔◌, ◌==◌, ℕ, ◌+◌, ◌*◌, ◌≤◌, true, false, List, length, Option, Some, None, if◌then◌else◌, eqb-true, refl, sym, ap, subst, arith}
 use Rattle.std.proofs.lemmas.Bool.Decides.{nat_tests}
 use Rattle.std.proofs.lemmas.Option.{get_or_from_slice_get, slice_get_read, slice_get_within}
 use Rattle.domain_base.specs.declared.place.CellAt.{CellAt}
 use Rattle.domain_base.specs.declared.place.Home.{Home}
 use Rattle.page_store.specs.Pages.{Pages}
 use Rattle.record_table.specs.Fields.{number_at}
-use Rattle.tag_dirs.specs.TagPage.{cell_in, entry_of, slot_of}
+use Rattle.tag_dirs.specs.TagPage.{cell_in}
 use Rattle.tag_dirs.specs.declared.page.TagEntry.{TagEntry}
 use Rattle.fileset_table.specs.Table.{Table}
 use Rattle.domain_layout.specs.Reached.{Frame}
 use Rattle.domain_layout.specs.TagRules.{HasEntry}
 use Rattle.tag_faults.specs.Directories.{IsReadOf}
-use Rattle.tag_faults.specs.Entries.{IsEntryAmong, IsEntryIn, address_of, named_at, tag_of}
+use Rattle.tag_faults.specs.Entries.{IsEntryAmong, IsEntryIn, address_of, tag_of}
 use Rattle.tag_faults.specs.declared.named.NamedCell.{NamedCell}
 use Rattle.tag_faults.proofs.Counted.{IsBelow, within_of}
 use Rattle.tag_faults.proofs.SlotPages.{moved}

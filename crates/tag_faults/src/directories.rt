@@ -28,7 +28,7 @@ fn first_tag(item: &SlotItem) -> Option<Home>
 }
 
 /// The pages of the tag directory of what is in a slot: none, where it has none.
-pub(crate) fn read_directory<M: MetaPages>(
+pub fn read_directory<M: MetaPages>(
     alloc: Global,
     pages: &M,
     frame: &DomainFrame,
@@ -49,12 +49,12 @@ pub(crate) fn read_directory<M: MetaPages>(
     Ok(read)
 }
 
-/// Puts the home into a set, if there is one.
-fn insert_unread(unread: &Option<Home>, found: &mut HomeSet) -> Result<(), OutOfMemory>
+/// Puts a home into a set, if there is one.
+pub(crate) fn insert_one(one: &Option<Home>, found: &mut HomeSet) -> Result<(), OutOfMemory>
     ensures { OnOk result ((home : Home) → IsHomeIn found.new home ↔ (IsHomeIn found.old home
-        ⊎ (unread.now ≡ Some home))) }
+        ⊎ (one.now ≡ Some home))) }
 {
-    if let Some(home) = unread {
+    if let Some(home) = one {
         found.insert(home)?;
     }
     Ok(())
@@ -100,7 +100,7 @@ fn look_at<M: MetaPages>(
         ⊎ HasPage (M.pages pages.now) (frame_in frame.now) table.now number home)) }
 {
     let read = read_directory(alloc, pages, frame, table, number)?;
-    insert_unread(&read.unread, found)?;
+    insert_one(&read.unread, found)?;
     insert_shared(&read.homes, earlier, found)?;
     insert_wrong_pages(alloc, pages, &read.homes, found)?;
     earlier.insert_all(&read.homes)?;

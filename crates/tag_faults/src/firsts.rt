@@ -26,7 +26,7 @@ use record_table::{u8_at, u16_at, u32_at};
 use std::alloc::Global;
 
 /// The cell to which an entry leads, if it leads to one of the volumes 1 to 8.
-fn cell_of(entry: &NamedCell) -> Option<CellAt>
+pub(crate) fn cell_of(entry: &NamedCell) -> Option<CellAt>
     ensures some { IfSome result (λ at. at ≡ address_of entry.now) }
     ensures none { IfNone result ((1 ≤ entry.now.vol) × (entry.now.vol ≤ 8) → ⊥) }
 {
@@ -39,7 +39,7 @@ fn cell_of(entry: &NamedCell) -> Option<CellAt>
 }
 
 /// Whether a kind is that of first cells.
-fn is_primary(kind: CellKind) -> bool
+pub(crate) fn is_primary(kind: CellKind) -> bool
     ensures { IsTrue result ↔ (kind ≡ Primary) }
 {
     matches!(kind, CellKind::Primary)
@@ -67,7 +67,7 @@ fn says_entry_at<M: MetaPages>(pages: &M, at: &CellAt, entry: &NamedCell) -> boo
 }
 
 /// Whether an entry leads to a first cell of its fileset and tag, whatever else is in that.
-fn leads_to_first<M: MetaPages>(
+pub(crate) fn leads_to_first<M: MetaPages>(
     pages: &M,
     frame: &DomainFrame,
     links: &CellLinks,

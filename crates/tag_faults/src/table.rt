@@ -5,7 +5,7 @@ use domain_base::FilesetNo;
 use fileset_table::FilesetTable;
 
 /// The slot of that number.
-pub(crate) fn slot_number(number: u32) -> FilesetNo
+pub fn slot_number(number: u32) -> FilesetNo
     requires { number < 32 }
     ensures { result ≡ number }
 {
@@ -16,7 +16,7 @@ pub(crate) fn slot_number(number: u32) -> FilesetNo
 }
 
 /// How many slots the table has.
-pub(crate) fn count_slots(table: &FilesetTable) -> u32
+pub fn count_slots(table: &FilesetTable) -> u32
     ensures value { result ≡ 32 }
     ensures whole { length table.now.slots ≡ 32 }
 {

@@ -1,4 +1,4 @@
-use Rattle.std.proofs.Common.{◌≡◌, ◌⊎◌, ◌≤◌, inl, inr, refl, sym, subst, ⊎_elim}
+use Rattle.std.proofs.Common.{inl, inr, refl, sym, subst, ⊎_elim}
 use Rattle.page_ways.specs.Frame.{frame_in}
 use Rattle.home_sets.proofs.Items.{item_of}
 use Rattle.span_sets.proofs.Below.{below_all, below_more, none_below}

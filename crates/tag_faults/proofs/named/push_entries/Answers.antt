@@ -1,4 +1,4 @@
-use Rattle.std.proofs.Common.{◌⊎◌, inl, inr, arith, ⊎_elim}
+use Rattle.std.proofs.Common.{inl, inr, arith, ⊎_elim}
 use Rattle.tag_faults.specs.Entries.{IsEntryAt}
 use Rattle.tag_faults.proofs.Counted.{number_more}
 use Rattle.tag_faults.proofs.named.push_entries.Goals as goal

@@ -1,4 +1,4 @@
-use Rattle.std.proofs.Common.{◌⊎◌, inl, inr, refl, ⊎_elim}
+use Rattle.std.proofs.Common.{inl, inr, refl, ⊎_elim}
 use Rattle.domain_base.specs.declared.place.Home.{Home}
 use Rattle.home_sets.proofs.Items.{item_of}
 use Rattle.span_sets.proofs.Below.{below_all, below_more}

@@ -1,4 +1,4 @@
-use Rattle.std.proofs.Common.{◌⊎◌, inl, inr, List, sym, subst, ⊎_elim}
+use Rattle.std.proofs.Common.{inl, inr, List, sym, subst, ⊎_elim}
 use Rattle.domain_base.specs.declared.place.Home.{Home}
 use Rattle.page_ways.specs.Frame.{frame_in}
 use Rattle.tag_faults.specs.Entries.{IsEntryAmong}

@@ -1,4 +1,4 @@
-use Rattle.std.proofs.Common.{◌≡◌, ◌↔◌, ◌⊎◌, ◌≤◌, inl, inr, Contains, List, length, subst, arith, ⊎_elim}
+use Rattle.std.proofs.Common.{◌↔◌, ◌⊎◌, ◌≤◌, inl, inr, Contains, List, length, subst, arith, ⊎_elim}
 use Rattle.page_ways.specs.Frame.{frame_in}
 use Rattle.tag_faults.specs.Entries.{IsEntryIn}
 use Rattle.tag_faults.specs.declared.named.NamedCell.{NamedCell}

@@ -1,0 +1,34 @@
+-- Entries that are found to lead to files with numbers of clones that were not made are those of the
+-- rule.
+use Rattle.std.proofs.Common.{◌↔◌, List, Contains}
+use Rattle.domain_base.specs.declared.place.Home.{Home}
+use Rattle.page_store.specs.Pages.{Pages}
+use Rattle.fileset_table.specs.Table.{Table}
+use Rattle.domain_layout.specs.Reached.{Frame}
+use Rattle.tag_faults.specs.Entries.{AreEntries, address_of, tag_of}
+use Rattle.tag_faults.specs.Late.{HasLate, LeadsToLate}
+use Rattle.tag_faults.specs.declared.named.NamedCell.{NamedCell}
+
+pub late_all : (pages : Pages) (frame : Frame) (table : Table) (entries : List NamedCell) → AreEntries pages frame table entries → (home : Home)
+    → ((one : NamedCell) × Contains entries one × LeadsToLate pages frame table home one) ↔ HasLate pages frame table home
+late_all pages frame table entries are home = (
+  λ (one, among, (same, original, (cell, is, (value, there, late)))). (
+    address_of one,
+    same,
+    record {
+      number = one.number;
+      tag = tag_of one;
+      home = one.home;
+      named = (are one).0 among;
+      original = original;
+      cell = cell;
+      is = is;
+      value = value;
+      attributes = there;
+      late = late;
+    },
+  ),
+  λ (at, same, late).
+      let one : NamedCell = record { number = late.number; slot = late.tag.slot; seq = late.tag.seq; vol = at.vol; cell = at.cell; page = at.page; home = late.home } in
+      (one, (are one).1 late.named, (same, late.original, (late.cell, late.is, (late.value, late.attributes, late.late)))),
+)

@@ -1,0 +1,40 @@
+use Rattle.std.proofs.Common.{inl, inr, refl, sym, subst, ⊎_elim}
+use Rattle.page_ways.specs.Frame.{frame_in}
+use Rattle.home_sets.proofs.Items.{item_of}
+use Rattle.span_sets.proofs.Below.{below_all, below_more, none_below}
+use Rattle.tag_faults.specs.Entries.{AreEntries}
+use Rattle.tag_faults.specs.Late.{LeadsToLate}
+use Rattle.tag_faults.specs.declared.named.NamedCell.{NamedCell}
+use Rattle.tag_faults.proofs.LateFiles.{late_all}
+use Rattle.tag_faults.proofs.late.late_file_faults.Goals as goal
+
+pub loop-entry-init : goal.loop-entry-init
+loop-entry-init g c home = (
+  λ is. absurd (c.new-found.ensures home is),
+  λ below. absurd (none_below {X = NamedCell} c.deref-entry-items.result.now (LeadsToLate (g.M.MetaPages.pages c.args.pages.now) (frame_in c.args.frame.now) c.args.table.now home) below),
+)
+
+pub loop-entry-preserved : goal.loop-entry-preserved
+loop-entry-preserved g c home =
+    let pages = g.M.MetaPages.pages c.args.pages.now in
+    let frame = frame_in c.args.frame.now in
+    let items = c.deref-entry-items.result.now in
+    let number = c.loop-entry.entry-index in
+    let item = c.entry-item.result in
+    let more = below_more {X = NamedCell} items (LeadsToLate pages frame c.args.table.now home) number item (item_of items items number item refl c.loop-entry-test.true c.entry-item.is) in
+    let put = c.in_ok-insert_late.ensures home in
+    let before = c.loop-entry.invariant home in (
+      λ is. more.0 (⊎_elim (λ was. inl (before.0 was)) (λ here. inr here) (put.0 is)),
+      λ below. put.1 (⊎_elim (λ low. inl (before.1 low)) (λ here. inr here) (more.1 below)),
+    )
+
+pub returns : goal.returns
+returns g c home =
+    let pages = g.M.MetaPages.pages c.args.pages.now in
+    let frame = frame_in c.args.frame.now in
+    let items = c.deref-entry-items.result.now in
+    let number = c.loop-entry.entry-index in
+    let all = below_all {X = NamedCell} items (LeadsToLate pages frame c.args.table.now home) number c.loop-entry-test.false c.loop-entry.auto.entry-index-end in
+    let wrong = late_all pages frame c.args.table.now items (subst (AreEntries pages frame c.args.table.now) (sym c.deref-entry-items.ensures.value) c.in_ok-entries.ensures) home in
+    let are = c.loop-entry.invariant home in
+    ((λ is. wrong.0 (all.0 (are.0 is))), (λ fault. are.1 (all.1 (wrong.1 fault))))

@@ -1,0 +1,11 @@
+use Rattle.std.proofs.Common.{◌↔◌}
+use Rattle.domain_base.specs.declared.place.Home.{Home}
+use Rattle.page_ways.specs.Frame.{frame_in}
+use Rattle.home_sets.specs.Members.{IsIn}
+use Rattle.span_sets.proofs.Below.{IsBelow}
+use Rattle.tag_faults.specs.Late.{LeadsToLate}
+use Rattle.tag_faults.specs.declared.named.NamedCell.{NamedCell}
+use Rattle.tag_faults.proofs.late.late_file_faults.Given as goal
+
+abbrev pub invariant-loop-entry : goal.invariant-loop-entry
+invariant-loop-entry g l = (home : Home) → IsIn l.found home ↔ IsBelow {X = NamedCell} l.entry-items (LeadsToLate (g.M.MetaPages.pages l.pages) (frame_in l.frame) l.table home) l.entry-index

@@ -1,0 +1,11 @@
+use Rattle.std.proofs.Common.{◌↔◌}
+use Rattle.domain_base.specs.declared.place.CellAt.{CellAt}
+use Rattle.page_ways.specs.Frame.{frame_in}
+use Rattle.cell_links.specs.Members.{IsIn}
+use Rattle.span_sets.proofs.Below.{IsBelow}
+use Rattle.tag_faults.specs.Unnamed.{LeadsToFirst}
+use Rattle.tag_faults.specs.declared.named.NamedCell.{NamedCell}
+use Rattle.tag_faults.proofs.unnamed.named_cells.Given as goal
+
+abbrev pub invariant-loop-entry : goal.invariant-loop-entry
+invariant-loop-entry g l = (at : CellAt) → IsIn l.named at ↔ IsBelow {X = NamedCell} l.entry-items (LeadsToFirst (g.M.MetaPages.pages l.pages) (frame_in l.frame) at) l.entry-index

@@ -1,0 +1,30 @@
+-- Files that originals name, with numbers of clones that were not made.
+use Rattle.std.specs.Prelude.{◌≡◌, true, Some, slice_get}
+use Rattle.domain_base.specs.declared.place.CellAt.{CellAt}
+use Rattle.domain_base.specs.declared.place.Home.{Home}
+use Rattle.page_store.specs.Pages.{Pages}
+use Rattle.record_table.specs.declared.record.Record.{Record}
+use Rattle.bmt_mcells.specs.Cell.{Cell, record_of}
+use Rattle.bmt_mcells.specs.CellPage.{home_of}
+use Rattle.fileset_table.specs.Table.{Table}
+use Rattle.domain_layout.specs.CellRules.{IsUsed, of_original}
+use Rattle.domain_layout.specs.Reached.{Frame}
+use Rattle.domain_layout.specs.TagRules.{IsLate, IsLateFile}
+use Rattle.tag_faults.specs.Entries.{address_of}
+use Rattle.tag_faults.specs.declared.named.NamedCell.{NamedCell}
+
+-- a cell in use at a place has a number of a clone that was not made
+abbrev pub HasLateNumber : Pages → Frame → Table → CellAt → Type 0
+HasLateNumber pages frame table at = (cell : Cell) × IsUsed pages frame at cell
+    × ((value : Record) × (record_of 1 cell.records ≡ Some value) × IsLate table.made value)
+
+-- an entry of an original leads to such a cell, which is on the page that stands at a home
+abbrev pub LeadsToLate : Pages → Frame → Table → Home → NamedCell → Type 0
+LeadsToLate pages frame table home entry = (home_of (address_of entry) ≡ home)
+    × (of_original (slice_get table.slots entry.number) ≡ true)
+    × HasLateNumber pages frame table (address_of entry)
+
+-- some cell of a page breaks the rule
+abbrev pub HasLate : Pages → Frame → Table → Home → Type 0
+HasLate pages frame table home =
+    (at : CellAt) × (home_of at ≡ home) × IsLateFile pages frame table at

@@ -1,0 +1,167 @@
+//! Files of clones that are read through a cell which is none of the original's file.
+ghost use Rattle.std.specs.Prelude.{◌≡◌, ◌⊎◌, ◌↔◌, IfNone, IfOk, IfSome, IsTrue, None, OnOk, Some};
+ghost use Rattle.domain_base.specs.declared.place.Home.{Home};
+ghost use Rattle.bmt_mcells.specs.Cell.{Cell};
+ghost use Rattle.bmt_mcells.specs.CellPage.{home_of as home_there};
+ghost use Rattle.bmt_mcells.specs.Chain.{StandsAt};
+ghost use Rattle.domain_layout.specs.CellRules.{item_of};
+ghost use Rattle.domain_layout.specs.Seen.{source_in};
+ghost use Rattle.domain_layout.specs.TagRules.{original_slot};
+ghost use Rattle.page_ways.specs.Frame.{frame_in};
+ghost use Rattle.home_sets.specs.Members.{IsIn as IsHomeIn};
+ghost use Rattle.chain_faults.specs.Links.{AreLinks};
+ghost use Rattle.tag_faults.specs.Entries.{address_of, tag_of};
+ghost use Rattle.tag_faults.specs.Sources.{HasAstray, HasSourceAstray, ReadsAstray, tag_in};
+
+use crate::cells::home_of;
+use crate::firsts::{is_primary, leads_to_first};
+use crate::named::NamedCell;
+use crate::removed::is_removed;
+use bmt_mcells::{CellHead, find_record, read_used};
+use cell_links::CellLinks;
+use domain_base::{CellAt, FilesetNo, OutOfMemory};
+use fileset_table::{FilesetTable, SlotItem};
+use home_sets::HomeSet;
+use page_store::MetaPages;
+use page_ways::DomainFrame;
+use record_table::Record;
+use std::alloc::Global;
+
+/// The slot of the original of which there is a clone in a slot.
+fn original_in(item: &SlotItem) -> Option<FilesetNo>
+    ensures { result ≡ original_slot (Some item.now) }
+{
+    match item {
+        SlotItem::Clone { original, .. } => Some(*original),
+        _ => None,
+    }
+}
+
+/// The slot of the original of which there is a clone in the slot that a head names.
+fn original_of(table: &FilesetTable, head: &CellHead) -> Option<FilesetNo>
+    ensures { result ≡ original_slot (item_of table.now head.now) }
+{
+    match head.fileset {
+        Some(number) => original_in(table.slot(number)),
+        None => None,
+    }
+}
+
+/// The cell through which a clone's file is read, by a record of its first cell, as an entry of a
+/// fileset with the tag of a head.
+fn source_as(value: &Record, number: FilesetNo, head: &CellHead, at: &CellAt) -> Option<NamedCell>
+    ensures some { IfSome result (λ one. (one.number ≡ number) × (tag_of one ≡ tag_in head.now)
+        × (source_in value.now ≡ Some (address_of one))) }
+    ensures none { IfNone result (source_in value.now ≡ None) }
+{
+    match value {
+        Record::CloneFile {
+            source_vol,
+            source_cell,
+            source_page,
+            ..
+        } if *source_vol != 0 => Some(NamedCell {
+            number,
+            slot: u64::from(head.slot),
+            seq: head.seq,
+            vol: *source_vol,
+            cell: *source_cell,
+            page: *source_page,
+            home: home_of(at),
+        }),
+        _ => None,
+    }
+}
+
+/// Whether the file whose first cell stands at a place, with this head, is read through a cell that
+/// is no first one of the original's file of its tag.
+fn has_source_astray<M: MetaPages>(
+    pages: &M,
+    frame: &DomainFrame,
+    table: &FilesetTable,
+    links: &CellLinks,
+    at: &CellAt,
+    head: &CellHead,
+) -> bool
+    requires { AreLinks (M.pages pages.now) (frame_in frame.now) links.now }
+    ensures { (cell : Cell) → StandsAt (M.pages pages.now) at.now cell → head.now ≡ cell.head
+        → IsTrue result
+        ↔ HasSourceAstray (M.pages pages.now) (frame_in frame.now) table.now cell }
+{
+    let Some(number) = original_of(table, head) else {
+        return false;
+    };
+    let Some(value) = find_record(pages, *at, 2) else {
+        return false;
+    };
+    let Some(source) = source_as(&value, number, head, at) else {
+        return false;
+    };
+    !leads_to_first(pages, frame, links, &source)
+}
+
+/// Whether a first cell that stays stands at a place, and its file is read through a cell that is
+/// no first one of the original's file of its tag.
+fn reads_astray<M: MetaPages>(
+    alloc: Global,
+    pages: &M,
+    frame: &DomainFrame,
+    table: &FilesetTable,
+    links: &CellLinks,
+    at: &CellAt,
+) -> Result<bool, OutOfMemory>
+    requires { AreLinks (M.pages pages.now) (frame_in frame.now) links.now }
+    ensures { IfOk result (λ astray. IsTrue astray
+        ↔ ReadsAstray (M.pages pages.now) (frame_in frame.now) table.now at.now) }
+{
+    let Some(used) = read_used(alloc, pages, *at)? else {
+        return Ok(false);
+    };
+    Ok(
+        is_primary(used.head.kind)
+            && !is_removed(pages, at)
+            && has_source_astray(pages, frame, table, links, at, &used.head),
+    )
+}
+
+/// Puts the page of a cell into a set, if it is such a first cell.
+fn insert_astray<M: MetaPages>(
+    alloc: Global,
+    pages: &M,
+    frame: &DomainFrame,
+    table: &FilesetTable,
+    links: &CellLinks,
+    at: &CellAt,
+    found: &mut HomeSet,
+) -> Result<(), OutOfMemory>
+    requires { AreLinks (M.pages pages.now) (frame_in frame.now) links.now }
+    ensures { OnOk result ((home : Home) → IsHomeIn found.new home ↔ (IsHomeIn found.old home
+        ⊎ ((home_there at.now ≡ home)
+        × ReadsAstray (M.pages pages.now) (frame_in frame.now) table.now at.now))) }
+{
+    if reads_astray(alloc, pages, frame, table, links, at)? {
+        found.insert(&home_of(at))?;
+    }
+    Ok(())
+}
+
+/// The pages with a first cell in a clone that is not to be removed, and whose file is read through
+/// a cell that is no first one of the original's file of its tag, by what was read of all cells in
+/// use.
+pub fn source_faults<M: MetaPages>(
+    alloc: Global,
+    pages: &M,
+    frame: &DomainFrame,
+    table: &FilesetTable,
+    links: &CellLinks,
+) -> Result<HomeSet, OutOfMemory>
+    requires { AreLinks (M.pages pages.now) (frame_in frame.now) links.now }
+    ensures { IfOk result (λ found. (home : Home) → IsHomeIn found home
+        ↔ HasAstray (M.pages pages.now) (frame_in frame.now) table.now home) }
+{
+    let mut found = HomeSet::new(alloc);
+    for (_, (at, _)) in links.as_slice() {
+        insert_astray(alloc, pages, frame, table, links, at, &mut found)?;
+    }
+    Ok(found)
+}
