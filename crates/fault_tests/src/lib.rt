@@ -5,9 +5,13 @@
 #[cfg(test)]
 mod all;
 #[cfg(test)]
+mod bits;
+#[cfg(test)]
 mod cells;
 #[cfg(test)]
 mod chains;
+#[cfg(test)]
+mod cloned;
 #[cfg(test)]
 mod entries;
 #[cfg(test)]
@@ -18,6 +22,8 @@ mod holes;
 mod leads;
 #[cfg(test)]
 mod quotas;
+#[cfg(test)]
+mod runs;
 #[cfg(test)]
 mod tables;
 #[cfg(test)]
