@@ -1,5 +1,6 @@
 -- A file that was cut is let go of, and calls go on.
-use Rattle.std.proofs.Common.{◌≡◌, ◌∙◌, ◌⊎◌, ⊎_elim, inl, inr, ℕ, ◌≤◌, false, List, [], ◌∷◌, Option, Some, None, IsSomeAnd, is_some, Contains, refl, sym, ap, subst}
+use Rattle.std.proofs.Common.{◌≡◌, ◌∙◌, ◌⊎◌, ⊎_elim, inl, inr, ℕ, ◌≤◌, false, List, [], ◌∷◌, Option, Some, None, IsSome, IsSomeAnd, is_some, Contains, refl, sym, ap, subst}
+use Rattle.std.proofs.lemmas.Bool.{true≢false}
 use Rattle.std.specs.Option.{option_and_then}
 use Rattle.domain_base.specs.declared.place.CellAt.{CellAt}
 use Rattle.domain_base.specs.declared.place.Home.{Home}
@@ -21,6 +22,7 @@ use Rattle.deferred_delete.specs.Listed.{IsEntry, left_of, to_do}
 use Rattle.deferred_delete.specs.Listing.{Adds, Listing}
 use Rattle.deferred_delete.specs.Standing.{ReadsThrough, Source}
 use Rattle.deferred_delete.specs.Steps.{IsWell, LetsGo, Now, Steps, now_of}
+use Rattle.deferred_delete.proofs.Standings.{linked_at, not_nil, place_by, standing}
 use Rattle.deferred_laws.specs.Calls.{FilesetNow, StandsWell, no_call, one_more, refused}
 use Rattle.deferred_laws.specs.Kept.{IsBeside}
 use Rattle.deferred_laws.specs.Lists.{with_list}
@@ -33,11 +35,13 @@ use Rattle.deferred_laws.proofs.HeldPages.{held_exactly}
 use Rattle.deferred_laws.proofs.HeldSteps.{held_after}
 use Rattle.deferred_laws.proofs.Listing.{entry_among, entry_listed, list_stays, which_entry}
 use Rattle.deferred_laws.proofs.SourcesStay.{sources_stay}
+use Rattle.deferred_laws.proofs.StillThere.{files_stay}
 use Rattle.deferred_laws.proofs.TagCalls.{others_same}
 use Rattle.deferred_laws.proofs.Tags.{tags_stay_together}
 use Rattle.deferred_laws.proofs.TagsBeside.{begin_apart, beside_stay}
 use Rattle.deferred_laws.proofs.Wells.{wells_stay}
 use Rattle.release_tests.specs.Called.{HasCalled, HasCut, HasLetGo, HasNoClone, IsCut, IsWrittenAgain, Parts, fileset_in}
+use Rattle.release_tests.specs.Going.{IsGoing}
 use Rattle.release_tests.proofs.Wells.{none_some, some_same}
 
 -- ---- it is made, given pages and cut
@@ -148,6 +152,48 @@ module _ (fileset : ℕ) (version : Version) (tag : Tag) (at : CellAt) (first : 
           chains = chains_in stops.files cut.chains;
           calls = one_more _ _ no_call (refused (record { places = refl; chains = refl; list = refl; files = refl; space = by_fault stops.before space cells stops.fault stops.cause; cells = refl; pages = refl }));
         }))
+        goes
+
+    -- its file is there still, whether it is to be trimmed on or was
+    trims : (e : Entry) → Contains listed.entries e → e.at ≡ at → to_do e cut_chain.chain ≡ Some Trim
+    trims e inside is =
+        ap (option_and_then (to_do e)) (sym (by_start fileset tag at cut stands c.cut.1 tag c.cut.1 ∙ cut_chain.there))
+        ∙ among.trimmed e inside tag (c.cut.1 ∙ ap Some (sym is))
+
+    module _ (count : ℕ) (now : Now) (steps : Steps 5 version (with_list listed cut.domain) count now) where
+      stood : StandsWell fileset (gone now)
+      stood = stands_gone count now steps
+
+      there_still : IsSome (now.files at)
+      there_still = files_stay 5 version (with_list listed cut.domain) count now well steps at cut_chain.chain cut_chain.there trims
+
+      starts : option_and_then start_of (chains_in now.files cut.chains tag) ≡ Some at
+      starts = ap (λ o. option_and_then start_of (option_and_then now.files o)) c.cut.1 ∙ by_chain (now.files at) refl there_still
+        where
+          by_chain : (o : Option (List PlacedCell)) → now.files at ≡ o → IsSome o → option_and_then start_of o ≡ Some at
+          by_chain None is some = absurd (true≢false (sym some))
+          by_chain (Some []) is some = absurd (not_nil now.pages at (standing now.space now.cells now.pages now.files stood.well.together at [] is).stands)
+          by_chain (Some (first ∷ rest)) is some = ap Some (linked_at now.pages at first rest (standing now.space now.cells now.pages now.files stood.well.together at (first ∷ rest) is).stands).0
+
+      abbrev now_chain : HasChain fileset tag at (gone now)
+      now_chain = chain_at fileset tag at (gone now) stood starts
+
+      going_still : (list : Listing) (space : Spaces) → IsWell (now_of list now.files space now.cells now.pages) → (chain : List PlacedCell) × IsGoing space now.cells now.pages at chain
+      going_still list space well_now = (
+        now_chain.chain,
+        record {
+          allocated = well_now.together.allocated;
+          file = now_chain.file;
+          on_tables = (standing space now.cells now.pages now.files well_now.together at now_chain.chain now_chain.there).on_tables;
+          held = λ p home is. well_now.together.held at p home (place_by now.files at now_chain.chain p now_chain.there ∙ is);
+          once = λ p q home x y. (well_now.together.once at at p q home (place_by now.files at now_chain.chain p now_chain.there ∙ x) (place_by now.files at now_chain.chain q now_chain.there ∙ y)).1;
+        },
+      )
+
+    pub let_go_going : (count : ℕ) (list : Listing) (space : Spaces) (cells : Cells) (pages : Pages) → LetsGo 5 version (with_list listed cut.domain) count list space cells pages → (chain : List PlacedCell) × IsGoing space cells pages at chain
+    let_go_going count list space cells pages goes = ⊎_elim
+        (λ leads. going_still count (now_of list leads.files space cells pages) leads.steps list space leads.well)
+        (λ stops. going_still count (now_of list stops.files stops.before cells pages) stops.steps list space stops.well)
         goes
 
 -- ---- calls go on

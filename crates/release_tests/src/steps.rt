@@ -1,7 +1,7 @@
 //! Files and pages that are let go of, step by step.
 ghost use Rattle.std.specs.Prelude.{◌≤◌};
 
-use crate::again::rewritten;
+use crate::again::{gone_unsaid, rewritten};
 use crate::clones::{
     all_gone, all_kept, both_gone, handed_frozen, handed_full, handed_many, stopped, unrelated,
 };
@@ -9,6 +9,7 @@ use crate::cost::{Cost, removed as removed_in, trimmed_down, trimmed_up};
 use crate::seen::{
     TrimSeen, many_extents, many_removed, of_removed_fileset, removed, tag_page, trim,
 };
+use deferred_delete::Goes;
 use domain_base::{Kind, Version};
 use std::alloc::Global;
 use std::test::Fail;
@@ -168,6 +169,20 @@ fn a_removed_file_lets_go_of_all(rt: HostRuntime) -> Result<(), Fail> {
     let directory = removed(alloc, Kind::Directory, 8_192)?;
     assert_eq!(rt; file, (true, [[55, 0], [55, 6], [61, 0], [61, 0]]));
     assert_eq!(rt; directory, (true, [[55, 0], [55, 6], [55, 6], [61, 0]]));
+    Ok(())
+}
+
+#[test]
+fn a_file_that_says_nothing_goes_where_its_fileset_is_removed(rt: HostRuntime) -> Result<(), Fail> {
+    let alloc = rt.alloc();
+    let seen = [
+        gone_unsaid(alloc, Goes::AsSaid)?,
+        gone_unsaid(alloc, Goes::Whole)?,
+    ];
+    // all pages are kept after the trim of four, and then the first cell has no record any more; of
+    // 64 pages 3 are used beside the file's six
+    let gone = ([(65_536, false), (0, false)], [[55, 4], [55, 6], [61, 0]]);
+    assert_eq!(rt; seen, [gone, gone]);
     Ok(())
 }
 
