@@ -1,0 +1,46 @@
+-- What a set is where a file is made, or none is.
+use Rattle.std.proofs.Common.{◌≡◌, ℕ, List, None, Result, Ok, Err, IfOk, IfErr, OnOk, OnErr, sym, subst}
+use Rattle.domain_base.specs.declared.place.Tag.{Tag}
+use Rattle.domain_base.specs.declared.version.Version.{Version}
+use Rattle.page_store.specs.Bitfiles.{Bitfiles as SetOf, new_file as shown_new, with_file}
+use Rattle.page_store.specs.Pages.{Pages}
+use Rattle.page_store.specs.declared.fault.StoreFault.{StoreFault}
+use Rattle.page_store.specs.declared.fault.StoreFault.TheVariants.{NoPage, OutOfMemory}
+use Rattle.tag_dirs.specs.declared.dir.TagPlace.{TagPlace}
+use Rattle.free_cells.specs.Cells.{Cells}
+use Rattle.free_space.specs.Spaces.{Spaces}
+use Rattle.bitfile_core.specs.declared.bitfiles.Bitfiles.{Bitfiles}
+use Rattle.bitfile_core.specs.declared.new_cells.NewFile.{NewFile}
+use Rattle.bitfile_core.specs.Creation.{Creates, CreatesNone, LeavesBeside, TakesForFile}
+use Rattle.bitfile_core.proofs.Again.{together_missed}
+use Rattle.set_laws.proofs.Made.{made}
+use Rattle.stored_set.proofs.Live.{missed_still, none_shown}
+use Rattle.stored_set.specs.Sets.{StandsAsSet}
+
+module _ (fileset prefer : ℕ) (places places_now : List TagPlace) (space space_now : Spaces) (cells cells_now : Cells) (old new : Pages) (set : SetOf) (was : StandsAsSet fileset places space cells old set) (version : Version) (what : NewFile) where
+  pub made_fresh : (r : Result Tag StoreFault) → IfOk r (λ tag. Creates fileset places_now tag version what was.chains space_now cells cells_now old new) → IfOk r (λ tag. set tag ≡ None)
+  made_fresh (Ok tag) creates = none_shown fileset places space cells old set was tag creates.fresh
+  made_fresh (Err fault) creates = tt
+
+  pub made_shown : (r : Result Tag StoreFault) → IfOk r (λ tag. Creates fileset places_now tag version what was.chains space_now cells cells_now old new) → OnOk r (TakesForFile prefer places places_now space space_now cells cells_now old) → LeavesBeside cells_now places_now old new
+      → (fileset_now : ℕ) → fileset_now ≡ fileset → IfOk r (λ tag. StandsAsSet fileset_now places_now space_now cells_now new (with_file tag (shown_new what.kind what.uid what.gid) set))
+  made_shown (Ok tag) creates takes beside fileset_now is =
+      subst (λ (f : ℕ). StandsAsSet f places_now space_now cells_now new (with_file tag (shown_new what.kind what.uid what.gid) set)) (sym is)
+      (record { chains = _; indexes = was.indexes; stands = made fileset prefer places places_now space space_now cells cells_now old new was.chains was.indexes set was.stands tag version what creates takes beside })
+  made_shown (Err fault) creates takes beside fileset_now is = tt
+
+module _ (files files_now : Bitfiles) (space space_now : Spaces) (cells cells_now : Cells) (old new : Pages) (set : SetOf) (was : StandsAsSet files.fileset files.tags space cells old set) where
+  by_fault : (fault : StoreFault) → CreatesNone files.tags space space_now cells old fault → StandsAsSet files.fileset files.tags space_now cells old set
+  by_fault NoPage none = subst (λ (s : Spaces). StandsAsSet files.fileset files.tags s cells old set) (sym none.1) (record {
+    chains = was.chains;
+    indexes = was.indexes;
+    stands = missed_still files.fileset files.tags space cells old was.chains was.indexes set was.stands (together_missed old files.fileset files.tags was.chains space cells was.stands.together);
+  })
+  by_fault OutOfMemory none = subst (λ (s : Spaces). StandsAsSet files.fileset files.tags s cells old set) (sym none) was
+
+  pub none_made : (r : Result Tag StoreFault) → IfErr r (CreatesNone files.tags space space_now cells old) → OnErr r (files_now ≡ files) → OnErr r (cells_now ≡ cells) → OnErr r (new ≡ old) → OnErr r (StandsAsSet files_now.fileset files_now.tags space_now cells_now new set)
+  none_made (Ok tag) none files_is cells_is pages_is = tt
+  none_made (Err fault) none files_is cells_is pages_is =
+      subst (λ (f : Bitfiles). StandsAsSet f.fileset f.tags space_now cells_now new set) (sym files_is)
+      (subst (λ (c : Cells). StandsAsSet files.fileset files.tags space_now c new set) (sym cells_is)
+      (subst (λ (ps : Pages). StandsAsSet files.fileset files.tags space_now cells ps set) (sym pages_is) (by_fault fault none)))

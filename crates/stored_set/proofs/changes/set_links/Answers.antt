@@ -1,0 +1,37 @@
+use Rattle.std.proofs.Common.{◌≡◌, ◌∙◌, ◌≤◌, IsSomeAnd, ap, subst, sym}
+use Rattle.domain_base.specs.Limits.{max_links}
+use Rattle.page_store.specs.Bitfiles.{Bitfiles as SetOf, linked, with_change}
+use Rattle.bitfile_core.specs.declared.attributes.Attributes.{Attributes}
+use Rattle.bitfile_core.specs.Changes.{CanSay, says_attributes, with_chain, with_first}
+use Rattle.bitfile_core.proofs.SetFirst.{map_ok}
+use Rattle.set_laws.proofs.Owned.{set as owner_set}
+use Rattle.set_laws.specs.Standing.{StandsShown, owned}
+use Rattle.stored_set.proofs.Live.{owned_again}
+use Rattle.stored_set.proofs.changes.set_links.Goals as goal
+
+pub returns-clause-ok : goal.returns-clause-ok
+returns-clause-ok g c = λ set was.
+    let old = g.M.MetaPages.pages c.args.pages.now in
+    let new = g.M.MetaPages.pages c.set_attributes.new.pages in
+    let space = c.args.space.now in
+    let cells = c.args.cells.now in
+    let fileset = c.args.files.now.fileset in
+    let places = c.args.files.now.tags in
+    let tag = c.args.tag in
+    let value = c.with_links-value.result in
+    let said = sym c.in-Some.is ∙ c.attributes.ensures was.chains was.stands.together.files in
+    let can : CanSay value tag was.chains = record {
+      kind = subst (λ o. IsSomeAnd o (λ (w : Attributes). w.kind ≡ value.kind)) said (sym (ap (λ (v : Attributes). v.kind) c.with_links-value.ensures));
+      named = subst (λ (v : Attributes). 1 ≤ v.links) (sym c.with_links-value.ensures) c.requires.named;
+      most = subst (λ (v : Attributes). v.links ≤ max_links) (sym c.with_links-value.ensures) c.requires.most;
+    } in
+    let again : with_change tag (owned value) set ≡ with_change tag (linked c.args.links) set
+    = ap (λ (v : Attributes). with_change tag (owned v) set) c.with_links-value.ensures ∙ owned_again fileset places space cells old set was tag c.in-Some.was c.args.links was.chains was.stands.together.files said in
+    map_ok
+    (λ together. record {
+      chains = with_chain tag (with_first (says_attributes value)) was.chains;
+      indexes = was.indexes;
+      stands = subst (λ (s : SetOf). StandsShown fileset places space cells new (with_chain tag (with_first (says_attributes value)) was.chains) was.indexes s) again
+          (owner_set fileset places space cells old new was.chains was.indexes set was.stands tag value can (c.set_attributes.ensures.beside was.chains was.stands.together.files) together);
+    })
+    c.set_attributes.result (c.set_attributes.ensures.together space cells was.chains was.stands.together)

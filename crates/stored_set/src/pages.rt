@@ -1,0 +1,57 @@
+//! The pages of directories, looked at and written where they stand.
+ghost use Rattle.std.specs.Prelude.{◌≡◌, ◌<◌};
+ghost use Rattle.std.specs.Option.{option_copied};
+ghost use Rattle.page_store.specs.Bitfiles.{Bitfiles as SetOf, IsDirectory, count_pages, page_at, put_page, with_change};
+ghost use Rattle.stored_set.specs.Sets.{HasSet, StandsAsSet};
+
+use bitfile_core::Bitfiles;
+use domain_base::{Page, Tag};
+use free_cells::FreeCells;
+use free_space::FreeSpace;
+use page_store::MetaPages;
+
+/// A directory's page, counted from 0; None exactly where it has no such page. It takes no memory.
+pub fn page_of<'a, M: MetaPages>(
+    pages: &'a M,
+    space: &FreeSpace,
+    cells: &FreeCells,
+    files: &Bitfiles,
+    tag: Tag,
+    page: u32,
+) -> Option<&'a Page>
+    requires set { HasSet files.now.fileset files.now.tags space.now cells.now
+        (M.pages pages.now) }
+    requires directory { (set : SetOf) → StandsAsSet files.now.fileset files.now.tags space.now
+        cells.now (M.pages pages.now) set → IsDirectory set tag }
+    ensures { (set : SetOf) → StandsAsSet files.now.fileset files.now.tags space.now cells.now
+        (M.pages pages.now) set → option_copied result ≡ page_at set tag page }
+{
+    pages.get(files.page_home(pages, tag, page).home()?)
+}
+
+/// Puts a page of a directory in place of the one at that number. It takes no memory.
+pub fn write_page<M: MetaPages>(
+    pages: &mut M,
+    space: &FreeSpace,
+    cells: &FreeCells,
+    files: &Bitfiles,
+    tag: Tag,
+    page: u32,
+    bytes: Page,
+)
+    requires set { HasSet files.now.fileset files.now.tags space.now cells.now
+        (M.pages pages.old) }
+    requires directory { (set : SetOf) → StandsAsSet files.now.fileset files.now.tags space.now
+        cells.now (M.pages pages.old) set → IsDirectory set tag }
+    requires there { (set : SetOf) → StandsAsSet files.now.fileset files.now.tags space.now
+        cells.now (M.pages pages.old) set → page < count_pages set tag }
+    ensures put { (set : SetOf) → StandsAsSet files.now.fileset files.now.tags space.now cells.now
+        (M.pages pages.old) set → StandsAsSet files.now.fileset files.now.tags space.now cells.now
+        (M.pages pages.new) (with_change tag (put_page page bytes) set) }
+    ensures room { M.room pages.new ≡ M.room pages.old }
+    ensures before { M.before pages.new ≡ M.before pages.old }
+{
+    if let Some(home) = files.page_home(pages, tag, page).home() {
+        pages.put(home, bytes);
+    }
+}
