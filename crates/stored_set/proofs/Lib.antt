@@ -1,2 +1,4 @@
+pub mod Adding
+pub mod Indexed
 pub mod Live
 pub mod Making

@@ -3,9 +3,11 @@
 #![tactic(auto)]
 
 mod changes;
+mod indexes;
 mod laws;
 mod pages;
 
 pub use changes::{make, remove, set_links};
+pub use indexes::write_index_page;
 pub use laws::one_set_is_shown;
-pub use pages::{page_of, write_page};
+pub use pages::{add_page, page_of, write_page};

@@ -1,14 +1,19 @@
-//! The pages of directories, looked at and written where they stand.
-ghost use Rattle.std.specs.Prelude.{◌≡◌, ◌<◌};
+//! The pages of directories, looked at, written where they stand, and added.
+ghost use Rattle.std.specs.Prelude.{◌≡◌, ◌<◌, OnErr, OnOk};
 ghost use Rattle.std.specs.Option.{option_copied};
 ghost use Rattle.page_store.specs.Bitfiles.{Bitfiles as SetOf, IsDirectory, count_pages, page_at, put_page, with_change};
+ghost use Rattle.bitfile_core.specs.Files.{Chains};
+ghost use Rattle.bitfile_core.specs.Pages.{MayGrow};
+ghost use Rattle.bitfile_core.specs.Together.{AreTogether};
 ghost use Rattle.stored_set.specs.Sets.{HasSet, StandsAsSet};
 
 use bitfile_core::Bitfiles;
-use domain_base::{Page, Tag};
+use domain_base::limits::FILE_PAGES;
+use domain_base::{Page, Tag, Version, VolIx};
 use free_cells::FreeCells;
 use free_space::FreeSpace;
-use page_store::MetaPages;
+use page_store::{MetaPages, StoreFault};
+use std::alloc::Global;
 
 /// A directory's page, counted from 0; None exactly where it has no such page. It takes no memory.
 pub fn page_of<'a, M: MetaPages>(
@@ -54,4 +59,42 @@ pub fn write_page<M: MetaPages>(
     if let Some(home) = files.page_home(pages, tag, page).home() {
         pages.put(home, bytes);
     }
+}
+
+/// Puts a page of a directory behind its last one, on a free page, of the preferred volume if that
+/// has one; the directory keeps that page and has none there. NoPage and OutOfMemory come as in
+/// `Bitfiles::give_page`; at an Err the set is as it was.
+pub fn add_page<M: MetaPages>(
+    alloc: Global,
+    pages: &mut M,
+    space: &mut FreeSpace,
+    cells: &mut FreeCells,
+    files: &Bitfiles,
+    tag: Tag,
+    page: u32,
+    bytes: Page,
+    prefer: VolIx,
+    version: Version,
+) -> Result<(), StoreFault>
+    requires set { HasSet files.now.fileset files.now.tags space.old cells.old
+        (M.pages pages.old) }
+    requires directory { (set : SetOf) → StandsAsSet files.now.fileset files.now.tags space.old
+        cells.old (M.pages pages.old) set → IsDirectory set tag }
+    requires last { (set : SetOf) → StandsAsSet files.now.fileset files.now.tags space.old
+        cells.old (M.pages pages.old) set → page ≡ count_pages set tag }
+    requires grows { (chains : Chains) → AreTogether files.now.fileset files.now.tags space.old
+        cells.old (M.pages pages.old) chains → MayGrow tag page chains }
+    requires small { page < FILE_PAGES }
+    ensures ok { (set : SetOf) → StandsAsSet files.now.fileset files.now.tags space.old cells.old
+        (M.pages pages.old) set → OnOk result (StandsAsSet files.now.fileset files.now.tags
+        space.new cells.new (M.pages pages.new) (with_change tag (put_page page bytes) set)) }
+    ensures err { (set : SetOf) → StandsAsSet files.now.fileset files.now.tags space.old cells.old
+        (M.pages pages.old) set → OnErr result (StandsAsSet files.now.fileset files.now.tags
+        space.new cells.new (M.pages pages.new) set) }
+    ensures before { M.before pages.new ≡ M.before pages.old }
+{
+    pages.reserve(alloc, 2)?;
+    let home = files.give_page(alloc, pages, space, cells, tag, page, prefer, version)?;
+    pages.put(home, bytes);
+    Ok(())
 }
