@@ -11,16 +11,16 @@ use span_sets::{Span, SpanSet};
 use std::alloc::Global;
 
 /// A set of pages of a volume, which has those of runs that some of the spans has, or another page
-/// of a file that the runs say.
+/// of a file that the runs say, where no two of these have one page of one cell.
 pub fn find_shared(
     alloc: Global,
     mut spans: Vec<Span>,
     runs: &[FileRun],
     vol: VolIx,
 ) -> Result<SpanSet, OutOfMemory>
-    requires { AreApart runs.now }
-    ensures { IfOk result (λ found. (run : RunOf) (page : ℕ) → Contains runs.now run
-        → run.row.vol ≡ vol → IsPageOf run page → HasNumber found (page_in run page)
+    ensures { IfOk result (λ found. AreApart runs.now → (run : RunOf) (page : ℕ)
+        → Contains runs.now run → run.row.vol ≡ vol → IsPageOf run page
+        → HasNumber found (page_in run page)
         ↔ (HasAnyOf spans.items (page_in run page) ⊎ IsShared runs.now run page)) }
 {
     push_runs(runs, vol, &mut spans)?;
