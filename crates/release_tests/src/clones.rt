@@ -45,6 +45,36 @@ fn remove_two(alloc: Global, world: &mut World, file: Tag, clone: Tag) -> Result
     })
 }
 
+/// Takes the name of the second of two files, and sets the size of the first, of which something is
+/// to be let go of then.
+fn remove_and_cut(
+    alloc: Global,
+    world: &mut World,
+    file: Tag,
+    clone: Tag,
+    size: u64,
+) -> Result<Pair, Fail>
+    requires { IsWorld world.old }
+    ensures { IfOk result (HasTwo world.new) }
+{
+    if file.slot == clone.slot {
+        return Err(Fail::from("two tags"));
+    }
+    if world.files.attributes(&world.pages, clone).is_none() {
+        return Err(Fail::from("a live tag"));
+    }
+    let clone_at = world.files.remove(alloc, &mut world.pages, clone)?;
+    if world.files.attributes(&world.pages, file).is_none() {
+        return Err(Fail::from("a live tag"));
+    }
+    let left = world.files.truncate(alloc, &mut world.pages, file, size)?;
+    let at = left.ok_or("a trim")?;
+    Ok(Pair {
+        at,
+        clone: clone_at,
+    })
+}
+
 /// The record of a clone's file that reads through the one that begins there, of which so many
 /// pages were frozen. None where no cell has that number.
 fn clone_record(at: CellAt, frozen: u32) -> Option<Record>
@@ -265,9 +295,9 @@ struct Scene {
     listed: Listed,
 }
 
-/// The two files, whose names were taken.
-fn two_files(alloc: Global, scene: &Scene, own: &[u32]) -> Result<(World, Pair), Fail>
-    ensures { IfOk result (λ made. HasTwo made.0 made.1) }
+/// The two files.
+fn made_files(alloc: Global, scene: &Scene, own: &[u32]) -> Result<(World, [Tag; 2]), Fail>
+    ensures { IfOk result (λ made. IsWorld made.0) }
 {
     if scene.pages < 3 || 128 < scene.pages {
         return Err(Fail::from("a volume of 3 to 128 pages"));
@@ -279,13 +309,36 @@ fn two_files(alloc: Global, scene: &Scene, own: &[u32]) -> Result<(World, Pair),
     give_pages(alloc, &mut world, file, pages.as_slice(), Version::Four)?;
     let clone = make(alloc, &mut world, Kind::File, Version::Four)?;
     give_pages(alloc, &mut world, clone, own, Version::Four)?;
-    let pair = remove_two(alloc, &mut world, file, clone)?;
+    Ok((world, [file, clone]))
+}
+
+/// The two files, whose names were taken.
+fn two_files(alloc: Global, scene: &Scene, own: &[u32]) -> Result<(World, Pair), Fail>
+    ensures { IfOk result (λ made. HasTwo made.0 made.1) }
+{
+    let (mut world, tags) = made_files(alloc, scene, own)?;
+    let pair = remove_two(alloc, &mut world, tags[0], tags[1])?;
     Ok((world, pair))
 }
 
-/// What is seen once the first file was let go of, and the runs that a cell of page 13 names.
-fn handed(alloc: Global, scene: &Scene, own: &[u32]) -> Result<(PairSeen, [Row; 4]), Fail> {
-    let (mut world, pair) = two_files(alloc, scene, own)?;
+/// The two files, of which the first was cut and the name of the second was taken.
+fn cut_files(alloc: Global, scene: &Scene, own: &[u32], size: u64) -> Result<(World, Pair), Fail>
+    ensures { IfOk result (λ made. HasTwo made.0 made.1) }
+{
+    let (mut world, tags) = made_files(alloc, scene, own)?;
+    let pair = remove_and_cut(alloc, &mut world, tags[0], tags[1], size)?;
+    Ok((world, pair))
+}
+
+/// What is seen of two files once the first was let go of, and the runs that a cell of page 13 names.
+fn handed_by(
+    alloc: Global,
+    scene: &Scene,
+    made: (World, Pair),
+) -> Result<(PairSeen, [Row; 4]), Fail>
+    requires { HasTwo made.0 made.1 }
+{
+    let (mut world, pair) = made;
     let mut list = listed_pair(alloc, &mut world, &pair, scene.frozen, scene.listed)?;
     let answer = release_all(alloc, &mut world, &mut list, Version::Four);
     if list.is_empty() != answer.is_ok() {
@@ -300,6 +353,25 @@ fn handed(alloc: Global, scene: &Scene, own: &[u32]) -> Result<(PairSeen, [Row; 
         misses: world.space.misses(),
     };
     Ok((seen, rows_behind(&world)))
+}
+
+/// The same of two files whose names were taken.
+fn handed(alloc: Global, scene: &Scene, own: &[u32]) -> Result<(PairSeen, [Row; 4]), Fail> {
+    handed_by(alloc, scene, two_files(alloc, scene, own)?)
+}
+
+/// The same of a file of which two pages are kept, on a volume of 64 pages, all frozen, beside a file
+/// of the pages 1 and 4.
+pub fn handed_in_a_trim(alloc: Global) -> Result<PairSeen, Fail> {
+    let scene = Scene {
+        pages: 64,
+        others: 0,
+        own: 6,
+        frozen: 6,
+        listed: Listed::First,
+    };
+    let made = cut_files(alloc, &scene, &[1, 4], 16_384)?;
+    Ok(handed_by(alloc, &scene, made)?.0)
 }
 
 /// The same on a volume of 64 pages, of which so many were frozen, beside a file of the pages 1 and
@@ -402,6 +474,19 @@ pub fn all_gone(steps: u32, own: [Row; 4], counts: [u32; 2]) -> PairSeen {
         rows: [[0; 3]; 4],
         own,
         reads: false,
+        counts,
+        misses: 0,
+    }
+}
+
+/// The trim of the first file is done after so many steps, of which these pages are kept; with so many
+/// free pages, and so many of its own that wait.
+pub fn all_trimmed(steps: u32, rows: [Row; 4], own: [Row; 4], counts: [u32; 2]) -> PairSeen {
+    PairSeen {
+        steps: Some(steps),
+        rows,
+        own,
+        reads: true,
         counts,
         misses: 0,
     }

@@ -3,7 +3,8 @@ ghost use Rattle.std.specs.Prelude.{◌≤◌};
 
 use crate::again::{gone_unsaid, rewritten};
 use crate::clones::{
-    all_gone, all_kept, both_gone, handed_frozen, handed_full, handed_many, stopped, unrelated,
+    all_gone, all_kept, all_trimmed, both_gone, handed_frozen, handed_full, handed_in_a_trim,
+    handed_many, stopped, unrelated,
 };
 use crate::cost::{Cost, removed as removed_in, trimmed_down, trimmed_up};
 use crate::seen::{
@@ -128,27 +129,27 @@ fn letting_go_costs_as_much_as_there_are_cells(rt: HostRuntime) -> Result<(), Fa
 #[test]
 fn a_trim_costs_as_much_as_cells_go_and_are_passed(rt: HostRuntime) -> Result<(), Fail> {
     let alloc = rt.alloc();
-    // 4 and 22 extents a cell; of 4, 8 and 16 cells behind the first one the half goes
+    // 4 and 22 extents a cell; of 2, 4 and 8 cells behind the first one the half goes
     let up = [
+        trimmed_up(alloc, 48, 52)?,
         trimmed_up(alloc, 92, 96)?,
         trimmed_up(alloc, 180, 184)?,
-        trimmed_up(alloc, 356, 360)?,
     ];
     let down = [
+        trimmed_down(alloc, 48, 44)?,
         trimmed_down(alloc, 92, 88)?,
         trimmed_down(alloc, 180, 176)?,
-        trimmed_down(alloc, 356, 352)?,
     ];
     assert_eq!(rt;
         up,
-        [trimming_up(2, 2), trimming_up(4, 4), trimming_up(8, 8)]
+        [trimming_up(1, 1), trimming_up(2, 2), trimming_up(4, 4)]
     );
     assert_eq!(rt;
         down,
         [
+            trimming_down(1, 1),
             trimming_down(2, 2),
-            trimming_down(4, 4),
-            trimming_down(8, 8)
+            trimming_down(4, 4)
         ]
     );
     Ok(())
@@ -236,6 +237,17 @@ fn what_a_clone_reads_is_handed_over(rt: HostRuntime) -> Result<(), Fail> {
             all_gone(7, with_all, [53, 3])
         ]
     );
+    Ok(())
+}
+
+#[test]
+fn a_trim_hands_over_what_a_clone_reads(rt: HostRuntime) -> Result<(), Fail> {
+    let seen = handed_in_a_trim(rt.alloc())?;
+    // of the pages 2 to 5 the last one goes to the clone, then 4 is given back, since the clone has
+    // its own, then 3 and 2 go to it, and the record; 3 pages are used beside the 8 of both files
+    let rows = [[0, 3, 2], [0; 3], [0; 3], [0; 3]];
+    let own = [[1, 9, 1], [2, 5, 2], [4, 10, 1], [5, 8, 1]];
+    assert_eq!(rt; seen, all_trimmed(5, rows, own, [53, 1]));
     Ok(())
 }
 
