@@ -27,7 +27,7 @@ use Rattle.chain_release.specs.declared.released.Released.{Released}
 use Rattle.chain_release.specs.declared.released.Released.TheVariants as released
 use Rattle.chain_release.specs.declared.releasing.Plan.{Plan}
 use Rattle.chain_release.specs.Reading.{HasPageFrom, IsGone}
-use Rattle.chain_release.specs.Releases.{GivesBack, LeavesBoth, Progresses, Releases, use_of}
+use Rattle.chain_release.specs.Releases.{ChangesTwo, GivesBack, LeavesBoth, Progresses, Releases, use_of}
 use Rattle.chain_release.specs.Sharing.{frozen_of}
 use Rattle.chain_release.specs.Steps.{AllStand, GivesTail, HandsOver, IsFreed, IsPlanned, PassesOn, WritesEdit, edited, is_freed, went}
 use Rattle.chain_release.proofs.Cuts.{Cuts}
@@ -168,6 +168,22 @@ module _ (from : ℕ) (start : CellAt) (reader : Option Reader) (plan : Plan) (s
     stepped : Steps plan.tail.from mid start chain is.planned.spot.front is.planned.spot.rest is.planned.spot.c is.planned.spot.value plan.edit file_mid is.planned.spot.all is.planned.spot.map is.planned.edit new cells_now cells_new writes
     stepped = steps plan.tail.from mid start chain is.planned.spot.front is.planned.spot.rest is.planned.spot.c is.planned.spot.value plan.edit file_mid is.planned.spot.all is.planned.spot.map is.planned.edit new cells_now cells_new writes
 
+    -- where none is handed over, the pages of the cell that is written, and of the one that is freed
+    abbrev freed_home : Option CellAt → Home
+    freed_home None = home_of plan.edit.at
+    freed_home (Some freed) = home_of freed
+
+    two_pages : mid ≡ old → ChangesTwo old new
+    two_pages same = record {
+      first = home_of plan.edit.at;
+      second = freed_home plan.edit.freed;
+      others = λ home first second. writes.elsewhere home first (each home plan.edit.freed second) ∙ ap (λ (p : Pages). p home) same;
+    }
+      where
+        each : (home : Home) (o : Option CellAt) → same_home home (freed_home o) ≡ false → IfSome o (λ freed. same_home home (home_of freed) ≡ false)
+        each home None apart = tt
+        each home (Some freed) apart = apart
+
     something : HasPageFrom plan.tail.from (places_in is.planned.spot.value) ⊎ ((¬ is.planned.spot.front ≡ []) × ((page : ℕ) → places_in is.planned.spot.value page ≡ Absent))
     something = ⊎_elim (λ has. inl (is.planned.tail.some has)) (λ empty. inr (front_of from chain is.stale is.planned.spot empty.0, empty.1)) is.planned.spot.is_stale
 
@@ -190,6 +206,8 @@ module _ (from : ℕ) (start : CellAt) (reader : Option Reader) (plan : Plan) (s
             not_own = p.not_own;
           };
           first = s.stays.first;
+          one = s.one;
+          few = ⊎_elim (λ same. inl (two_pages same)) (λ hands. inr hands) p.few;
           own_first = p.first;
           within = s.within;
           joined = p.joined;

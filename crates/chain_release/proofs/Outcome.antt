@@ -24,7 +24,7 @@ use Rattle.bitfile_cells.proofs.Chosen.{all_at}
 use Rattle.chain_release.specs.declared.reader.Reader.{Reader}
 use Rattle.chain_release.specs.declared.releasing.Plan.{Plan}
 use Rattle.chain_release.specs.Reading.{IsGone, IsHandedOver, LetsGo, own_or, read_home}
-use Rattle.chain_release.specs.Releases.{GivesBack, TakesForReader}
+use Rattle.chain_release.specs.Releases.{GivesBack, HandsPage, TakesForReader}
 use Rattle.bitfile_core.specs.Files.{AreApart}
 use Rattle.bitfile_core.specs.Together.{IsHeldApart}
 use Rattle.chain_release.specs.Sharing.{IsReader, frozen_of}
@@ -85,6 +85,7 @@ module _ (from : ℕ) (start : CellAt) (reader : Option Reader) (plan : Plan) (s
     pub given : GivesBack (IsGone (places_of own_now) (places_of chain) (places_of after)) kind group between space_now
     pub held : (p : ℕ) (home : Home) → places_of after p ≡ At home → IsHeldApart space_now cells_now home
     pub not_own : (p q : ℕ) (home : Home) → places_of after p ≡ At home → ¬ places_of own_now q ≡ At home
+    pub few : (mid ≡ old) ⊎ HandsPage (frozen_of reader) (places_of own) (places_of own_now) (places_of chain) (places_of after)
 
   -- what is so of the chain in between
   pub record Between : Type 0 where
@@ -176,6 +177,7 @@ module _ (from : ℕ) (start : CellAt) (reader : Option Reader) (plan : Plan) (s
         given = gives_by (IsHomeFrom plan.tail.from (place_of plan.map)) (IsGone (places_of own) (places_of chain) (places_of after)) kind group space space_now gone_by gone_back gives.gives;
         held = held_none;
         not_own = λ p q home there. is.sharing.not_own p q home (still p home there);
+        few = inl gives.same_pages;
       }
 
     -- the last page is handed over
@@ -289,4 +291,5 @@ module _ (from : ℕ) (start : CellAt) (reader : Option Reader) (plan : Plan) (s
         given = record { homes = []; each = λ h. ((λ inside. absurd (omega (arith, inside.1))), (λ g. absurd (none_gone h g))); once = tt; is = refl };
         held = λ p h there. apart_grows plan.tail.from (At home) own home.vol space space_now cells cells_now old hands.taken h (is.sharing.held p h (still p h there));
         not_own = not_own_some;
+        few = inr (record { page = plan.tail.from; is = record { home = home; absent = last.absent; is_frozen = last.is_frozen; was = was_there; is = is_there; gone = now_gone } });
       }

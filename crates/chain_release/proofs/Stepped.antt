@@ -1,5 +1,6 @@
 -- The chain once a cell was written again, or left out.
 use Rattle.std.proofs.Common.{◌≡◌, ◌∙◌, ℕ, zero, suc, ◌<◌, ◌≤◌, ◌||◌, Bool, true, false, cond, nat_lt, List, [], ◌∷◌, ◌++◌, length, Option, Some, None, IfSome, Contains, refl, sym, ap, subst, arith, append_assoc, length-append, ⊎_elim, ◌⊎◌, inl, inr}
+use Rattle.std.proofs.lemmas.List.Elements.{Contains-append_cases, Contains-append_left, Contains-append_right}
 use Rattle.domain_base.specs.declared.place.CellAt.{CellAt}
 use Rattle.page_store.specs.Pages.{Pages}
 use Rattle.record_table.specs.declared.record.Record.{Record}
@@ -23,7 +24,7 @@ use Rattle.bitfile_cells.proofs.Replaced.{records_replaced}
 use Rattle.bitfile_cells.proofs.Walks.{distinct_file}
 use Rattle.chain_release.specs.declared.edits.ChainEdit.{ChainEdit}
 use Rattle.chain_release.specs.Reading.{HasPageFrom}
-use Rattle.chain_release.specs.Releases.{FreesOne, LosesPage, Progresses}
+use Rattle.chain_release.specs.Releases.{ChangesOne, FreesOne, LosesPage, Progresses}
 use Rattle.chain_release.specs.Steps.{AllStand, EditsCell, IsCut, IsFreed, Rewrites, Unlinks, WritesEdit, edited, is_freed, went}
 use Rattle.chain_release.proofs.Chains.{Stays, all_back, all_front, fresh_front, fresh_rest, in_front, in_middle, in_more, places_same, rewritten, unlinked}
 use Rattle.chain_release.proofs.Cuts.{Cuts, cuts_rewritten, cuts_unlinked}
@@ -63,6 +64,20 @@ in_split : (xs ys : List PlacedCell) (at : CellAt) → Contains (places (xs ++ y
 in_split [] ys at inside = inr inside
 in_split (x ∷ xs) ys at (zero, within, is) = inl (in_first at x xs is)
 in_split (x ∷ xs) ys at (suc k, within, is) = ⊎_elim (λ front. inl (in_later at x xs front)) (λ back. inr back) (in_split xs ys at (k, omega (arith, within), is))
+
+-- a row of cells of which one is new
+one_changed : (xs : List PlacedCell) (d : PlacedCell) (ys chain : List PlacedCell) → ((c : PlacedCell) → Contains xs c → Contains chain c) → ((c : PlacedCell) → Contains ys c → Contains chain c) → ChangesOne chain (xs ++ d ∷ ys)
+one_changed xs d ys chain front back = record {
+  at = d.at;
+  others = λ c inside other. ⊎_elim (λ first. front c first) (λ second. by_place c other second) (Contains-append_cases xs (d ∷ ys) c inside);
+}
+  where
+    by_place : (c : PlacedCell) → ¬ c.at ≡ d.at → Contains (d ∷ ys) c → Contains chain c
+    by_place c other (zero, within, is) = absurd (other (ap (λ (x : PlacedCell). x.at) (sym is)))
+    by_place c other (suc k, within, is) = back c (k, omega (arith, within), is)
+
+behind : (d : PlacedCell) (ys : List PlacedCell) (c : PlacedCell) → Contains ys c → Contains (d ∷ ys) c
+behind d ys c (k, within, is) = (suc k, omega (arith, within), is)
 
 -- ---- before it is written
 
@@ -126,6 +141,7 @@ module _ (from : ℕ) (pages : Pages) (start : CellAt) (chain front rest : List 
       pub stays : Stays start new chain after
       pub within : (at : CellAt) → Contains (places after) at → Contains (places chain) at
       pub cuts : Cuts from value chain after
+      pub one : ChangesOne chain after
       pub progress : HasSomething → Progresses (went edit.freed) from chain after cells cells_now
 
     abbrev changed : CellAt → Bool
@@ -185,6 +201,8 @@ module _ (from : ℕ) (pages : Pages) (start : CellAt) (chain front rest : List 
         stays = subst (λ (cs : List PlacedCell). Stays start new cs (front ++ c_now ∷ rest)) (sym all) stays_now;
         within = λ at inside. subst (λ (ps : List CellAt). Contains ps at) same_now inside;
         cuts = subst (λ (cs : List PlacedCell). Cuts from value cs (front ++ c_now ∷ rest)) (sym all) cut_now;
+        one = subst (λ (cs : List PlacedCell). ChangesOne cs (front ++ c_now ∷ rest)) (sym all)
+            (one_changed front c_now rest (front ++ c ∷ rest) (λ x inside. Contains-append_left front (c ∷ rest) x inside) (λ x inside. Contains-append_right front (c ∷ rest) x (behind c rest x inside)));
         progress = λ how. subst (λ o. Progresses (went o) from chain (front ++ c_now ∷ rest) cells cells_now) (sym r.none) (loses how);
       }
 
@@ -244,6 +262,9 @@ module _ (from : ℕ) (pages : Pages) (start : CellAt) (chain front rest : List 
         stays = subst (λ (cs : List PlacedCell). Stays start new cs (u.earlier ++ b_now ∷ rest)) (sym (all ∙ in_row)) stays_out;
         within = λ at inside. subst (λ (cs : List PlacedCell). Contains (places cs) at) (sym all) (in_more front c rest at (subst (λ (ps : List CellAt). Contains ps at) places_out inside));
         cuts = subst (λ (cs : List PlacedCell). Cuts from value cs (u.earlier ++ b_now ∷ rest)) (sym (all ∙ in_row)) cut_out;
+        one = subst (λ (cs : List PlacedCell). ChangesOne cs (u.earlier ++ b_now ∷ rest)) (sym (all ∙ in_row))
+            (one_changed u.earlier b_now rest (u.earlier ++ u.before ∷ c ∷ rest) (λ x inside. Contains-append_left u.earlier (u.before ∷ c ∷ rest) x inside)
+            (λ x inside. Contains-append_right u.earlier (u.before ∷ c ∷ rest) x (behind u.before (c ∷ rest) x (behind c rest x inside))));
         progress = λ _. subst (λ o. Progresses (went o) from chain (u.earlier ++ b_now ∷ rest) cells cells_now) (sym u.freed) frees_one;
       }
 

@@ -1,9 +1,9 @@
 -- What a step of letting go of a file's pages changes.
-use Rattle.std.specs.Prelude.{◌≡◌, ◌⊎◌, ◌+◌, ◌<◌, ◌≤◌, ◌==◌, ◌||◌, ◌↔◌, ℕ, List, [], ◌∷◌, length, Option, Some, Contains, if◌then◌else◌}
+use Rattle.std.specs.Prelude.{◌≡◌, false, ◌⊎◌, ◌+◌, ◌<◌, ◌≤◌, ◌==◌, ◌||◌, ◌↔◌, ℕ, List, [], ◌∷◌, length, Option, Some, Contains, if◌then◌else◌}
 use Rattle.domain_base.specs.declared.place.CellAt.{CellAt}
 use Rattle.domain_base.specs.declared.place.Home.{Home}
 use Rattle.domain_base.specs.declared.version.Version.{Version}
-use Rattle.page_store.specs.Pages.{Pages}
+use Rattle.page_store.specs.Pages.{Pages, same_home}
 use Rattle.record_table.specs.declared.record.Record.{Record}
 use Rattle.record_table.specs.declared.record.Record.TheVariants as written
 use Rattle.bmt_mcells.specs.Cell.{Cell, record_of}
@@ -21,7 +21,7 @@ use Rattle.bitfile_cells.specs.MapChanges.{IsHandedOut, Joins, NoneTakes, TakesI
 use Rattle.chain_release.specs.declared.reader.Reader.{Reader}
 use Rattle.chain_release.specs.declared.released.Released.{Released}
 use Rattle.chain_release.specs.declared.released.Released.TheVariants as released
-use Rattle.chain_release.specs.Reading.{IsGone, LetsGo}
+use Rattle.chain_release.specs.Reading.{IsGone, IsHandedOver, LetsGo}
 use Rattle.chain_release.specs.Sharing.{AreSharing, frozen_of}
 
 -- what a file's pages are used for: those of a directory, and of a file whose data is logged, are
@@ -98,6 +98,23 @@ Progresses released.Pages from chain after cells cells_now =
     LosesPage from chain after cells cells_now
 Progresses released.Cell from chain after cells cells_now = FreesOne chain after cells cells_now
 
+-- of the cells that are left one alone says something else than it did
+pub record ChangesOne (chain after : List PlacedCell) : Type 0 where
+  pub at : CellAt
+  pub others : (c : PlacedCell) → Contains after c → ¬ c.at ≡ at → Contains chain c
+
+-- pages of metadata stay, but for those of two homes
+pub record ChangesTwo (old new : Pages) : Type 0 where
+  pub first : Home
+  pub second : Home
+  pub others : (home : Home) → same_home home first ≡ false → same_home home second ≡ false
+      → new home ≡ old home
+
+-- a page is handed over
+pub record HandsPage (frozen : ℕ) (own own_now source source_now : Places) : Type 0 where
+  pub page : ℕ
+  pub is : IsHandedOver frozen own own_now source source_now page
+
 -- pages of a file from one on go, and cells of it that say of no page where it stands; the reader
 -- reads what it read, through the file or at pages that were handed over, and keeps its cells with
 -- each that is handed out; and what is gone waits
@@ -108,6 +125,9 @@ pub record Releases (from : ℕ) (start : CellAt) (reader : Option Reader) (grou
   pub own_now : List PlacedCell
   pub again : AreSharing start reader space_now cells_now new after own_now
   pub first : SameFirst chain after
+  pub one : ChangesOne chain after
+  pub few : ChangesTwo old new ⊎ HandsPage (frozen_of reader) (places_of own) (places_of own_now)
+      (places_of chain) (places_of after)
   pub own_first : (own_now ≡ own) ⊎ SameFirst own own_now
   pub within : (at : CellAt) → Contains (places after) at → Contains (places chain) at
   pub joined : (c : PlacedCell) → Contains own_now c → ¬ Contains (places own) c.at
