@@ -1,5 +1,5 @@
 -- What a set is where a directory gets a page more, or none is given.
-use Rattle.std.proofs.Common.{◌≡◌, ◌∙◌, ℕ, List, Some, None, Option, IsSomeAnd, refl, sym, ap, subst}
+use Rattle.std.proofs.Common.{◌≡◌, ℕ, List, Some, None, Option, IsSomeAnd, refl, sym, subst}
 use Rattle.domain_base.specs.declared.place.Home.{Home}
 use Rattle.domain_base.specs.declared.place.Tag.{Tag}
 use Rattle.domain_base.specs.declared.version.Version.{Version}
@@ -11,7 +11,7 @@ use Rattle.bmt_mcells.specs.Chain.{PlacedCell}
 use Rattle.tag_dirs.specs.declared.dir.TagPlace.{TagPlace}
 use Rattle.extent_maps.specs.declared.run.PagePlace.TheVariants.{At}
 use Rattle.free_cells.specs.Cells.{Cells}
-use Rattle.free_space.specs.Spaces.{Spaces, missed}
+use Rattle.free_space.specs.Spaces.{Spaces}
 use Rattle.bitfile_cells.specs.MapChanges.{LeavesOffTables}
 use Rattle.bitfile_core.specs.Pages.{ChangesFile, GetsNone, TakesHome}
 use Rattle.bitfile_core.proofs.Again.{together_missed}

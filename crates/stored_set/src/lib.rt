@@ -6,8 +6,10 @@ mod changes;
 mod indexes;
 mod laws;
 mod pages;
+mod reading;
 
 pub use changes::{make, remove, set_links};
 pub use indexes::write_index_page;
 pub use laws::one_set_is_shown;
 pub use pages::{add_page, page_of, write_page};
+pub use reading::{kind_of, links_of};

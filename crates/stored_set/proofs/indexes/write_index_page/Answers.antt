@@ -1,5 +1,4 @@
-use Rattle.std.proofs.Common.{◌≡◌, ◌∙◌, ◌<◌, Option, Some, None, length, ap, subst, sym}
-use Rattle.std.specs.Option.{option_and_then}
+use Rattle.std.proofs.Common.{◌∙◌, ◌<◌, Some, ap, subst, sym}
 use Rattle.stored_index.specs.Changes.{PutsIndexPage}
 use Rattle.set_laws.proofs.IndexPut.{put as index_put}
 use Rattle.stored_set.proofs.Indexed.{begins, counted, first_of, homes_at, not_none}
