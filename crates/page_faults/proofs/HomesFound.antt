@@ -1,0 +1,136 @@
+-- Pages of tables, tag directories and indexes that are found are those of the rules.
+use Rattle.std.proofs.Common.{◌≡◌, ◌∙◌, ◌⊎◌, ◌↔◌, inl, inr, ℕ, ◌≤◌, ◌==◌, Bool, true, false, cond, List, [], ◌∷◌, length, Option, Some, None, Contains, IsSomeAnd, refl, sym, ap, subst, arith, ⊎_elim}
+use Rattle.std.proofs.lemmas.Bool.{cases_order}
+use Rattle.std.proofs.lemmas.Option.{get_or_from_slice_get, slice_get_read, slice_get_within}
+use Rattle.std.specs.List.{AllByRecursion}
+use Rattle.std.specs.Option.{option_and_then}
+use Rattle.domain_base.specs.declared.place.CellAt.{CellAt}
+use Rattle.domain_base.specs.declared.place.Home.{Home}
+use Rattle.page_store.specs.Pages.{Pages}
+use Rattle.record_table.specs.Records.{Allowed, kind_of}
+use Rattle.record_table.specs.declared.record.Record.{Record}
+use Rattle.record_table.specs.declared.record.Record.TheVariants as written
+use Rattle.bmt_mcells.specs.Cell.{Cell, record_of}
+use Rattle.bmt_mcells.specs.Chain.{StandsAt}
+use Rattle.bmt_mcells.proofs.Unique.{one_stands}
+use Rattle.bitfile_core.specs.Shown.{index_in}
+use Rattle.domain_layout.specs.CellRules.{IsPlace}
+use Rattle.domain_layout.specs.Reached.{Frame, IsRead, IsUnread, Reaches, Way, index_way}
+use Rattle.layout_laws.proofs.Reached.{may_be_by}
+use Rattle.page_ways.specs.Walk.{AreRead}
+use Rattle.cell_faults.specs.Tables.{AreTables, IsCellsHome, IsThere}
+use Rattle.cell_faults.specs.declared.tables.CellsPage.{CellsPage}
+use Rattle.page_faults.specs.Owned.{IsIndexOf, IsListed, IsReached}
+
+some_same : {X : Type 0} (a b : X) → Some a ≡ Some b → a ≡ b
+some_same a b e = cc
+
+none_some : {X : Type 0} (x : X) → None ≡ Some x → ⊥
+none_some x e = cc
+
+-- ---- pages that are come to
+
+record BeginsAt (pages : Pages) (way : Way) (home : Home) : Type 0 where
+  page : List ℕ
+  there : pages home ≡ Some page
+  so : way.begins_so page ≡ true
+
+begins_by : (pages : Pages) (way : Way) (home : Home) → ¬ (¬ IsSomeAnd (pages home) (λ page. way.begins_so page ≡ true)) → BeginsAt pages way home
+begins_by pages way home not_wrong = by_page (pages home) refl not_wrong
+  where
+    by_test : (page : List ℕ) (b : Bool) → way.begins_so page ≡ b → pages home ≡ Some page → ¬ (¬ way.begins_so page ≡ true) → BeginsAt pages way home
+    by_test page true so there not_wrong = record { page = page; there = there; so = so }
+    by_test page false other there not_wrong = absurd (not_wrong (λ so. let e : false ≡ true = sym other ∙ so in absurd (cc)))
+
+    by_page : (o : Option (List ℕ)) → pages home ≡ o → ¬ (¬ IsSomeAnd o (λ page. way.begins_so page ≡ true)) → BeginsAt pages way home
+    by_page None none not_wrong = absurd (not_wrong (λ is. is))
+    by_page (Some page) there not_wrong = by_test page (way.begins_so page) refl there not_wrong
+
+same_number : (m n : ℕ) → (m ≡ n) ⊎ ¬ m ≡ n
+same_number m n = ⊎_elim (λ same. inl same) (λ apart. inr (λ same. ⊎_elim (λ less. omega (arith, less, same)) (λ more. omega (arith, more, same)) apart)) (cases_order m n)
+
+same_home : (a b : Home) → (a ≡ b) ⊎ ¬ a ≡ b
+same_home a b =
+    ⊎_elim (λ vol. ⊎_elim (λ page. inl (λ i. record { vol = vol i; page = page i }))
+    (λ other. inr (λ same. other (ap (λ (h : Home). h.page) same))) (same_number a.page b.page))
+    (λ other. inr (λ same. other (ap (λ (h : Home). h.vol) same))) (same_number a.vol b.vol)
+
+is_this : (o : Option Home) (home : Home) → (o ≡ Some home) ⊎ ¬ o ≡ Some home
+is_this None home = inr (λ is. none_some home is)
+is_this (Some other) home = ⊎_elim (λ same. inl (ap (λ (h : Home). Some h) same)) (λ apart. inr (λ is. apart (some_same other home is))) (same_home other home)
+
+module _ (pages : Pages) (frame : Frame) (way : Way) where
+  read_here : (passed : List Home) (home : Home) → Reaches pages frame way passed home → ¬ IsUnread pages frame way home → (page : List ℕ) × IsRead pages frame way (length passed) home page
+  read_here passed home reached none =
+      let begins = begins_by pages way home (λ wrong. none (record { passed = passed; reached = reached; wrong = inr (inr wrong) })) in (
+        begins.page,
+        record {
+          passed = passed;
+          reached = reached;
+          may = may_be_by frame home (λ wrong. none (record { passed = passed; reached = reached; wrong = inl wrong }));
+          fresh = λ among. none (record { passed = passed; reached = reached; wrong = inr (inl among) });
+          there = begins.there;
+          begins = begins.so;
+          at = refl;
+        },
+      )
+
+  pub reached_all : (homes : List Home) (unread : Option Home) → AreRead pages frame way homes unread → (home : Home) → (Contains homes home ⊎ (unread ≡ Some home)) ↔ IsReached pages frame way home
+  reached_all homes unread read home = (
+    λ which. ⊎_elim (λ (k, within, at). let is = ((read.each k home).0 (slice_get_read homes (length homes) k home refl within (sym at))).1 in (is.passed, is.reached))
+        (λ last. let is = (read.wrong home).0 last in (is.passed, is.reached)) which,
+    λ (passed, reached). ⊎_elim (λ last. inr last)
+        (λ apart.
+        let is = read_here passed home reached (λ wrong. apart ((read.wrong home).1 wrong)) in
+        let at = (read.each (length passed) home).1 is in
+        inl (length passed, slice_get_within homes (length passed) home at, get_or_from_slice_get homes (length passed) home home at)) (is_this unread home),
+  )
+
+-- ---- the record of an index
+
+allowed_of : (kind : ℕ) (records : List Record) (value : Record) → AllByRecursion Allowed records → record_of kind records ≡ Some value → Allowed value
+allowed_of kind [] value all there = absurd (none_some value there)
+allowed_of kind (r ∷ rs) value all there = by_kind (kind_of r == kind) there (allowed_of kind rs value all.1)
+  where
+    by_kind : (b : Bool) → cond b (Some r) (record_of kind rs) ≡ Some value → (record_of kind rs ≡ Some value → Allowed value) → Allowed value
+    by_kind true here later = subst Allowed (some_same r value here) all.0
+    by_kind false there later = later there
+
+index_volume : (vol page entries : ℕ) → Allowed (written.DirIndex vol page entries) → (1 ≤ vol) × (vol ≤ 8)
+unfolding Allowed
+index_volume vol page entries is = is.0
+
+module _ (pages : Pages) (at : CellAt) (cell : Cell) (stands : StandsAt pages at cell) where
+  pub on_volume : (vol page entries : ℕ) → record_of 9 cell.records ≡ Some (written.DirIndex vol page entries) → (1 ≤ vol) × (vol ≤ 8)
+  on_volume vol page entries there = index_volume vol page entries (allowed_of 9 cell.records (written.DirIndex vol page entries) stands.is.well_formed.allowed there)
+
+index_some : (o : Option Record) (first : Home) → option_and_then index_in o ≡ Some first → (value : Record) × (o ≡ Some value) × (index_in value ≡ Some first)
+index_some None first is = absurd (none_some first is)
+index_some (Some value) first is = (value, refl, is)
+
+module _ (pages : Pages) (frame : Frame) (at : CellAt) (place : IsPlace pages frame at) (cell : Cell) (stands : StandsAt pages at cell) where
+  first_is : (home : Home) (is : IsIndexOf pages frame at home) → option_and_then index_in (record_of 9 cell.records) ≡ Some is.0
+  first_is home (first, has, reached) =
+      let same = one_stands pages at has.cell cell has.is.stands stands in
+      ap (λ (c : Cell). option_and_then index_in (record_of 9 c.records)) (sym same) ∙ ap (option_and_then index_in) has.there ∙ has.begins
+
+  pub no_index : None ≡ option_and_then index_in (record_of 9 cell.records) → (home : Home) → ¬ IsIndexOf pages frame at home
+  no_index none home is = none_some is.0 (none ∙ first_is home is)
+
+  pub index_from : (first : Home) → Some first ≡ option_and_then index_in (record_of 9 cell.records) → (home : Home) → IsReached pages frame (index_way first) home ↔ IsIndexOf pages frame at home
+  index_from first is home = (
+    λ reached. let found = index_some (record_of 9 cell.records) first (sym is) in
+        (first, record { cell = cell; is = record { place = place; stands = stands }; value = found.0; there = found.1; begins = found.2 }, reached),
+    λ of. subst (λ f. IsReached pages frame (index_way f) home) (some_same of.0 first (sym (first_is home of) ∙ sym is)) of.2,
+  )
+
+pub none_stands : (pages : Pages) (frame : Frame) (at : CellAt) → ((cell : Cell) → ¬ StandsAt pages at cell) → (home : Home) → ¬ IsIndexOf pages frame at home
+none_stands pages frame at none home (first, has, reached) = none has.cell has.is.stands
+
+-- ---- pages of cells
+
+pub cells_listed : (pages : Pages) (frame : Frame) (read : List CellsPage) (unread : List Home) → AreTables pages frame read unread → (home : Home) → IsListed read home ↔ IsCellsHome pages frame home
+cells_listed pages frame read unread are home = (
+  λ (page, among, same). (page.place, subst (λ (h : Home). IsThere pages frame (record { home = h; place = page.place })) same ((are.each page).0 among)),
+  λ (place, is). let page : CellsPage = record { home = home; place = place } in (page, (are.each page).1 is, refl),
+)

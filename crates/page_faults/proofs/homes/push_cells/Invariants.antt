@@ -1,0 +1,8 @@
+use Rattle.std.proofs.Common.{◌≡◌, ◌↔◌, ◌⊎◌, Contains}
+use Rattle.domain_base.specs.declared.place.Home.{Home}
+use Rattle.cell_faults.specs.declared.tables.CellsPage.{CellsPage}
+use Rattle.span_sets.proofs.Below.{IsBelow}
+use Rattle.page_faults.proofs.homes.push_cells.Given as goal
+
+abbrev pub invariant-loop-page : goal.invariant-loop-page
+invariant-loop-page l = (home : Home) → Contains l.homes.items home ↔ (Contains l.initial.homes.items home ⊎ IsBelow {X = CellsPage} l.read (λ page. page.home ≡ home) l.page-index)

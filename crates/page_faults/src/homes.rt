@@ -1,0 +1,203 @@
+//! The pages of tables, of tag directories and of indexes.
+ghost use Rattle.std.specs.Prelude.{◌≡◌, ◌⊎◌, ◌↔◌, Contains, IfOk, OnOk, Some};
+ghost use Rattle.std.specs.Option.{option_and_then};
+ghost use Rattle.domain_base.specs.declared.place.Home.{Home};
+ghost use Rattle.bmt_mcells.specs.Cell.{Cell, record_of};
+ghost use Rattle.bmt_mcells.specs.Chain.{StandsAt};
+ghost use Rattle.bitfile_core.specs.Shown.{index_in};
+ghost use Rattle.domain_layout.specs.CellRules.{IsPlace};
+ghost use Rattle.domain_layout.specs.Reached.{index_way};
+ghost use Rattle.page_ways.specs.Frame.{frame_in};
+ghost use Rattle.cell_faults.specs.Tables.{AreTables};
+ghost use Rattle.chain_faults.specs.Links.{AreLinks};
+ghost use Rattle.tag_faults.specs.Directories.{HasPage};
+ghost use Rattle.page_faults.specs.Owned.{AreOfTables, IsIndexOf, IsListed, IsOfIndex, IsOfTags, IsReached};
+
+use bmt_mcells::{find_record, read_used};
+use cell_faults::{CellTables, CellsPage};
+use cell_links::CellLinks;
+use domain_base::{CellAt, FilesetNo, Home, OutOfMemory, VolIx};
+use fileset_table::FilesetTable;
+use page_store::MetaPages;
+use page_ways::{DomainFrame, IndexWay, read_pages};
+use record_table::Record;
+use std::alloc::Global;
+use tag_faults::{count_slots, read_directory, slot_number};
+
+/// Puts a home behind others.
+fn push_home(one: &Home, homes: &mut Vec<Home>) -> Result<(), OutOfMemory>
+    ensures { OnOk result ((home : Home) → Contains homes.new.items home
+        ↔ (Contains homes.old.items home ⊎ (one.now ≡ home))) }
+{
+    homes.push(*one)?;
+    Ok(())
+}
+
+/// Puts homes behind others.
+fn push_homes(more: &[Home], homes: &mut Vec<Home>) -> Result<(), OutOfMemory>
+    ensures { OnOk result ((home : Home) → Contains homes.new.items home
+        ↔ (Contains homes.old.items home ⊎ Contains more.now home)) }
+{
+    for one in more {
+        push_home(one, homes)?;
+    }
+    Ok(())
+}
+
+/// Puts a home behind others, if there is one.
+fn push_one(one: &Option<Home>, homes: &mut Vec<Home>) -> Result<(), OutOfMemory>
+    ensures { OnOk result ((home : Home) → Contains homes.new.items home
+        ↔ (Contains homes.old.items home ⊎ (one.now ≡ Some home))) }
+{
+    if let Some(home) = one {
+        push_home(home, homes)?;
+    }
+    Ok(())
+}
+
+/// Puts the pages of an index that are come to from its first one behind other homes.
+fn push_reached<M: MetaPages>(
+    alloc: Global,
+    pages: &M,
+    frame: &DomainFrame,
+    first: &Home,
+    homes: &mut Vec<Home>,
+) -> Result<(), OutOfMemory>
+    ensures { OnOk result ((home : Home) → Contains homes.new.items home
+        ↔ (Contains homes.old.items home
+        ⊎ IsReached (M.pages pages.now) (frame_in frame.now) (index_way first.now) home)) }
+{
+    let way = IndexWay { first: *first };
+    let read = read_pages(alloc, pages, frame, &way)?;
+    push_homes(&read.homes, homes)?;
+    push_one(&read.unread, homes)?;
+    Ok(())
+}
+
+/// The first page of the index that the cell in use at a place names, if it names one.
+fn first_of_index<M: MetaPages>(pages: &M, at: &CellAt) -> Option<Home>
+    ensures { (cell : Cell) → StandsAt (M.pages pages.now) at.now cell
+        → result ≡ option_and_then index_in (record_of 9 cell.records) }
+{
+    match find_record(pages, *at, 9)? {
+        Record::DirIndex { vol, page, .. } => Some(Home {
+            vol: VolIx::new(vol)?,
+            page,
+        }),
+        _ => None,
+    }
+}
+
+/// Puts the pages of the index that a cell in use names behind other homes.
+fn push_index<M: MetaPages>(
+    alloc: Global,
+    pages: &M,
+    frame: &DomainFrame,
+    at: &CellAt,
+    homes: &mut Vec<Home>,
+) -> Result<(), OutOfMemory>
+    requires { IsPlace (M.pages pages.now) (frame_in frame.now) at.now }
+    ensures { OnOk result ((home : Home) → Contains homes.new.items home
+        ↔ (Contains homes.old.items home
+        ⊎ IsIndexOf (M.pages pages.now) (frame_in frame.now) at.now home)) }
+{
+    let Some(_used) = read_used(alloc, pages, *at)? else {
+        return Ok(());
+    };
+    let Some(first) = first_of_index(pages, at) else {
+        return Ok(());
+    };
+    push_reached(alloc, pages, frame, &first, homes)?;
+    Ok(())
+}
+
+/// Puts the pages of all indexes behind other homes, by what was read of all cells in use.
+fn push_indexes<M: MetaPages>(
+    alloc: Global,
+    pages: &M,
+    frame: &DomainFrame,
+    links: &CellLinks,
+    homes: &mut Vec<Home>,
+) -> Result<(), OutOfMemory>
+    requires { AreLinks (M.pages pages.now) (frame_in frame.now) links.now }
+    ensures { OnOk result ((home : Home) → Contains homes.new.items home
+        ↔ (Contains homes.old.items home
+        ⊎ IsOfIndex (M.pages pages.now) (frame_in frame.now) home)) }
+{
+    for (_, (at, _)) in links.as_slice() {
+        push_index(alloc, pages, frame, at, homes)?;
+    }
+    Ok(())
+}
+
+/// Puts pages of cells behind other homes.
+fn push_cells(read: &[CellsPage], homes: &mut Vec<Home>) -> Result<(), OutOfMemory>
+    ensures { OnOk result ((home : Home) → Contains homes.new.items home
+        ↔ (Contains homes.old.items home ⊎ IsListed read.now home)) }
+{
+    for page in read {
+        push_home(&page.home, homes)?;
+    }
+    Ok(())
+}
+
+/// Puts the pages of the tag directory of what is in a slot behind other homes.
+fn push_slot<M: MetaPages>(
+    alloc: Global,
+    pages: &M,
+    frame: &DomainFrame,
+    table: &FilesetTable,
+    number: FilesetNo,
+    homes: &mut Vec<Home>,
+) -> Result<(), OutOfMemory>
+    ensures { OnOk result ((home : Home) → Contains homes.new.items home
+        ↔ (Contains homes.old.items home
+        ⊎ HasPage (M.pages pages.now) (frame_in frame.now) table.now number home)) }
+{
+    let read = read_directory(alloc, pages, frame, table, number)?;
+    push_homes(&read.homes, homes)?;
+    Ok(())
+}
+
+/// Puts the pages of all tag directories behind other homes.
+fn push_tags<M: MetaPages>(
+    alloc: Global,
+    pages: &M,
+    frame: &DomainFrame,
+    table: &FilesetTable,
+    homes: &mut Vec<Home>,
+) -> Result<(), OutOfMemory>
+    ensures { OnOk result ((home : Home) → Contains homes.new.items home
+        ↔ (Contains homes.old.items home
+        ⊎ IsOfTags (M.pages pages.now) (frame_in frame.now) table.now home)) }
+{
+    for number in 0..count_slots(table) {
+        let slot = slot_number(number);
+        push_slot(alloc, pages, frame, table, slot, homes)?;
+    }
+    Ok(())
+}
+
+/// The pages of the fileset table, of tables of cells, of tag directories and of indexes, by what
+/// was read of all cells in use.
+pub(crate) fn table_homes<M: MetaPages>(
+    alloc: Global,
+    pages: &M,
+    frame: &DomainFrame,
+    table: &FilesetTable,
+    tables: &CellTables,
+    links: &CellLinks,
+) -> Result<Vec<Home>, OutOfMemory>
+    requires tables { AreTables (M.pages pages.now) (frame_in frame.now) tables.now.read.items
+        tables.now.unread.items }
+    requires links { AreLinks (M.pages pages.now) (frame_in frame.now) links.now }
+    ensures { IfOk result (λ homes. AreOfTables (M.pages pages.now) (frame_in frame.now) table.now
+        homes.items) }
+{
+    let mut homes = Vec::new(alloc);
+    push_one(&frame.anchor.table, &mut homes)?;
+    push_cells(&tables.read, &mut homes)?;
+    push_tags(alloc, pages, frame, table, &mut homes)?;
+    push_indexes(alloc, pages, frame, links, &mut homes)?;
+    Ok(homes)
+}
