@@ -21,6 +21,8 @@ mod holes;
 #[cfg(test)]
 mod leads;
 #[cfg(test)]
+mod pages;
+#[cfg(test)]
 mod quotas;
 #[cfg(test)]
 mod runs;
