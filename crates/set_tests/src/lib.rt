@@ -1,0 +1,5 @@
+//! Tests of a set of files and directories over pages in memory.
+#![tactic(auto)]
+
+#[cfg(test)]
+mod sets;

@@ -1,0 +1,185 @@
+//! A directory made, given a page, linked and taken away.
+ghost use Rattle.std.specs.Prelude.{◌≡◌, IfOk, None, OnOk};
+ghost use Rattle.set_tests.specs.Worlds.{HasTag, IsSet, IsSomeSet, one_directory, with_first_page};
+
+use domain_base::{Kind, Page, Tag, Version};
+use extent_maps::PagePlace;
+use file_tests::world::{World, new_world, volume};
+use std::alloc::Global;
+use std::test::Fail;
+use stored_set::{add_page, kind_of, links_of, make, one_set_is_shown, page_of, remove, set_links};
+
+/// A world without a file.
+fn empty_world(alloc: Global) -> Result<World, Fail>
+    ensures { IfOk result (λ world. IsSet world (λ t. None)) }
+{
+    new_world(alloc, 64)
+}
+
+/// Makes a directory, the only one.
+fn make_one(alloc: Global, world: &mut World) -> Result<Tag, Fail>
+    requires { IsSet world.old (λ t. None) }
+    ensures { IfOk result (λ tag. IsSet world.new (one_directory tag)) }
+{
+    let tag = make(
+        alloc,
+        &mut world.pages,
+        &mut world.space,
+        &mut world.cells,
+        &mut world.files,
+        Kind::Directory,
+        11,
+        12,
+        7,
+        Version::Four,
+        volume(),
+    )?;
+    Ok(tag)
+}
+
+/// Gives it its first page.
+fn add_first(alloc: Global, world: &mut World, tag: Tag, bytes: Page) -> Result<(), Fail>
+    requires { IsSet world.old (one_directory tag) }
+    ensures { OnOk result (IsSet world.new (with_first_page tag bytes)) }
+{
+    one_set_is_shown();
+    let keep = world.files.keep(&world.pages, tag).ok_or("a live tag")?;
+    if keep == 0 {
+        return Err(Fail::from("a page that is kept"));
+    }
+    match world.files.page_home(&world.pages, tag, 0) {
+        PagePlace::Absent => {}
+        _ => return Err(Fail::from("an absent page")),
+    }
+    add_page(
+        alloc,
+        &mut world.pages,
+        &mut world.space,
+        &mut world.cells,
+        &world.files,
+        tag,
+        0,
+        bytes,
+        volume(),
+        Version::Four,
+    )?;
+    Ok(())
+}
+
+/// A page whose first byte is 7.
+fn first_page(alloc: Global) -> Result<Page, Fail> {
+    let mut page = Page::zeros(alloc)?;
+    page.set(0, &[7]);
+    Ok(page)
+}
+
+/// The first byte of the directory's page 0, and whether it has a page 1.
+fn pages_told(world: &World, tag: Tag, bytes: &Page) -> (Option<u8>, bool)
+    requires { IsSet world.now (with_first_page tag bytes.now) }
+{
+    one_set_is_shown();
+    let first = page_of(
+        &world.pages,
+        &world.space,
+        &world.cells,
+        &world.files,
+        tag,
+        0,
+    );
+    let second = page_of(
+        &world.pages,
+        &world.space,
+        &world.cells,
+        &world.files,
+        tag,
+        1,
+    );
+    (first_byte(first), second.is_some())
+}
+
+fn first_byte(page: Option<&Page>) -> Option<u8> {
+    match page {
+        Some(page) => page.bytes().first().copied(),
+        None => None,
+    }
+}
+
+/// A directory of one page: its first byte, and whether it has another page.
+fn told_pages(alloc: Global) -> Result<(Option<u8>, bool), Fail> {
+    let mut world = empty_world(alloc)?;
+    let tag = make_one(alloc, &mut world)?;
+    let bytes = first_page(alloc)?;
+    let again = bytes.copy(alloc)?;
+    add_first(alloc, &mut world, tag, bytes)?;
+    Ok(pages_told(&world, tag, &again))
+}
+
+/// Sets three links of the only directory.
+fn link_thrice(alloc: Global, world: &mut World, tag: Tag) -> Result<(), Fail>
+    requires { IsSet world.old (one_directory tag) }
+    ensures { OnOk result (HasTag world.new tag) }
+{
+    one_set_is_shown();
+    set_links(
+        alloc,
+        &mut world.pages,
+        &world.space,
+        &world.cells,
+        &world.files,
+        tag,
+        3,
+    )?;
+    Ok(())
+}
+
+/// Takes a directory away.
+fn take_away(alloc: Global, world: &mut World, tag: Tag) -> Result<(), Fail>
+    requires { HasTag world.old tag }
+    ensures { OnOk result (IsSomeSet world.new) }
+{
+    one_set_is_shown();
+    remove(
+        alloc,
+        &mut world.pages,
+        &world.space,
+        &world.cells,
+        &mut world.files,
+        tag,
+    )?;
+    Ok(())
+}
+
+/// Whether a tag names a directory, and how many rows name it.
+fn tell(world: &World, tag: Tag) -> (Option<Kind>, u32)
+    requires { IsSomeSet world.now }
+{
+    let kind = kind_of(&world.pages, &world.space, &world.cells, &world.files, tag);
+    let links = links_of(&world.pages, &world.space, &world.cells, &world.files, tag);
+    (kind, links)
+}
+
+/// What is told of a directory once it is made, once three rows name it, and once it is taken away.
+fn told(alloc: Global) -> Result<[(Option<Kind>, u32); 3], Fail> {
+    let mut world = empty_world(alloc)?;
+    let tag = make_one(alloc, &mut world)?;
+    let made = tell(&world, tag);
+    link_thrice(alloc, &mut world, tag)?;
+    let linked = tell(&world, tag);
+    take_away(alloc, &mut world, tag)?;
+    Ok([made, linked, tell(&world, tag)])
+}
+
+#[test]
+fn a_directory_is_made_linked_and_taken_away(rt: HostRuntime) -> Result<(), Fail> {
+    let seen = told(rt.alloc())?;
+    let directory = Some(Kind::Directory);
+    assert_eq!(rt; seen, [(directory, 1), (directory, 3), (None, 0)]);
+    Ok(())
+}
+
+#[test]
+fn a_directory_gets_a_page(rt: HostRuntime) -> Result<(), Fail> {
+    let seen = told_pages(rt.alloc())?;
+    assert_eq!(rt; seen, (Some(7), false));
+    Ok(())
+}
