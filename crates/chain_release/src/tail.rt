@@ -57,7 +57,8 @@ pub struct ReadPage {
 /// none of the reader's own.
 fn last_read(run: &Run, own: &ExtentMap, from: u32, frozen: u32) -> Option<ReadPage>
     requires { IsRun run.now }
-    ensures some { IfSome result (IsReadIn from frozen (place_of own.now) (place_of (run.now ∷ []))) }
+    ensures some { IfSome result (IsReadIn from frozen (place_of own.now)
+        (place_of (run.now ∷ []))) }
     ensures behind { IfSome result (λ read. AreUnread (read.page + 1) frozen (place_of own.now)
         (place_of (run.now ∷ []))) }
     ensures none { IfNone result (AreUnread from frozen (place_of own.now)

@@ -330,7 +330,8 @@ fn cut_files(alloc: Global, scene: &Scene, own: &[u32], size: u64) -> Result<(Wo
     Ok((world, pair))
 }
 
-/// What is seen of two files once the first was let go of, and the runs that a cell of page 13 names.
+/// What is seen of two files once the first was let go of, and the runs that a cell of page 13
+/// names.
 fn handed_by(
     alloc: Global,
     scene: &Scene,
@@ -360,8 +361,8 @@ fn handed(alloc: Global, scene: &Scene, own: &[u32]) -> Result<(PairSeen, [Row; 
     handed_by(alloc, scene, two_files(alloc, scene, own)?)
 }
 
-/// The same of a file of which two pages are kept, on a volume of 64 pages, all frozen, beside a file
-/// of the pages 1 and 4.
+/// The same of a file of which two pages are kept, on a volume of 64 pages, all frozen, beside a
+/// file of the pages 1 and 4.
 pub fn handed_in_a_trim(alloc: Global) -> Result<PairSeen, Fail> {
     let scene = Scene {
         pages: 64,
@@ -479,8 +480,8 @@ pub fn all_gone(steps: u32, own: [Row; 4], counts: [u32; 2]) -> PairSeen {
     }
 }
 
-/// The trim of the first file is done after so many steps, of which these pages are kept; with so many
-/// free pages, and so many of its own that wait.
+/// The trim of the first file is done after so many steps, of which these pages are kept; with so
+/// many free pages, and so many of its own that wait.
 pub fn all_trimmed(steps: u32, rows: [Row; 4], own: [Row; 4], counts: [u32; 2]) -> PairSeen {
     PairSeen {
         steps: Some(steps),
