@@ -1,0 +1,5 @@
+pub mod InOrder
+pub mod Inserted
+pub mod NamesTwice
+pub mod RowPages
+pub mod RowsRead

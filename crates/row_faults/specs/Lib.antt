@@ -1,0 +1,4 @@
+pub mod Names
+pub mod Pages
+pub mod Rows
+pub mod There
