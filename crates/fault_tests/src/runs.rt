@@ -17,8 +17,9 @@ fn runs_of(alloc: Global, rows: [&str; 2]) -> Result<Vec<FileRun>, Fail> {
     put_cell(alloc, &mut page, 2, rows[1])?;
     let mut pages = MemoryPages::new(alloc);
     put(alloc, &mut pages, 3, page)?;
-    let tables = read_tables(alloc, &pages, &frame())?;
-    let links = read_links(alloc, &pages, &frame(), &tables)?;
+    let frame = frame();
+    let tables = read_tables(alloc, &pages, &frame)?;
+    let links = read_links(alloc, &pages, &frame, &tables)?;
     Ok(read_runs(alloc, &pages, &links)?)
 }
 
