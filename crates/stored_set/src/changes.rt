@@ -1,9 +1,15 @@
 //! Files and directories that are made, linked and taken away.
-ghost use Rattle.std.specs.Prelude.{◌≡◌, ◌+◌, ◌≤◌, IfOk, IsSome, None, OnErr, OnOk};
+ghost use Rattle.std.specs.Prelude.{◌≡◌, ◌+◌, ◌≤◌, [], IfErr, IfOk, IsSome, None, OnErr, OnOk};
 ghost use Rattle.domain_base.specs.Limits.{max_links};
 ghost use Rattle.page_store.specs.Bitfiles.{Bitfiles as SetOf, linked, new_file as shown_new, with_change, with_file, without_file};
+ghost use Rattle.bmt_mcells.specs.CellPage.{KeepsHeaders, KeepsWellFormed};
 ghost use Rattle.free_cells.specs.Cells.{Cells};
 ghost use Rattle.free_space.specs.Spaces.{Spaces};
+ghost use Rattle.bitfile_cells.specs.FileChanges.{LeavesOtherCells};
+ghost use Rattle.bitfile_core.specs.Changes.{ChangesBeside, ChangesFirst, KeepsSequences, Removes};
+ghost use Rattle.bitfile_core.specs.Creation.{Creates, CreatesNone, LeavesBeside, TakesForFile, TakesNext, new_file};
+ghost use Rattle.bitfile_core.specs.Files.{AreFiles, Chains};
+ghost use Rattle.bitfile_core.specs.Together.{AreTogether};
 ghost use Rattle.stored_set.specs.Sets.{HasSet, StandsAsSet};
 
 use bitfile_core::{Attributes, Bitfiles};
@@ -14,9 +20,10 @@ use page_store::{MetaPages, StoreFault};
 use std::alloc::Global;
 
 /// Makes a file or a directory of that owner, with one link and no page, which was born at that
-/// clone's number, and answers its tag, which named nothing before. Its cell is taken of the
-/// preferred volume if that has one. NoPage and OutOfMemory come as in `Bitfiles::create`; at an
-/// Err the set is as it was.
+/// clone's number, and answers its tag, which named nothing before and was never answered. Its cell
+/// is taken of the preferred volume if that has one. NoPage comes only where no page is free and one
+/// is wanted, for cells or for tags, or only one and both want one; that is a miss. At an Err nothing
+/// but room and the count of misses has changed, and the set is as it was.
 pub fn make<M: MetaPages>(
     alloc: Global,
     pages: &mut M,
@@ -39,6 +46,23 @@ pub fn make<M: MetaPages>(
     ensures err { (set : SetOf) → StandsAsSet files.old.fileset files.old.tags space.old cells.old
         (M.pages pages.old) set → OnErr result (StandsAsSet files.new.fileset files.new.tags
         space.new cells.new (M.pages pages.new) set) }
+    ensures creates { (chains : Chains) → AreTogether files.old.fileset files.old.tags space.old
+        cells.old (M.pages pages.old) chains → IfOk result (λ tag. Creates files.old.fileset
+        files.new.tags tag version (new_file kind uid gid birth) chains space.new cells.old
+        cells.new (M.pages pages.old) (M.pages pages.new)) }
+    ensures next { IfOk result (λ tag. TakesNext tag files.old.tags files.new.tags
+        (M.pages pages.old) (M.pages pages.new)) }
+    ensures taken { OnOk result (TakesForFile prefer files.old.tags files.new.tags space.old
+        space.new cells.old cells.new (M.pages pages.old)) }
+    ensures none { IfErr result (CreatesNone files.old.tags space.old space.new cells.old
+        (M.pages pages.old)) }
+    ensures fileset { files.new.fileset ≡ files.old.fileset }
+    ensures same { OnErr result (files.new ≡ files.old) }
+    ensures cells { OnErr result (cells.new ≡ cells.old) }
+    ensures pages { OnErr result (M.pages pages.new ≡ M.pages pages.old) }
+    ensures others { LeavesOtherCells cells.old [] (M.pages pages.old) (M.pages pages.new) }
+    ensures elsewhere { LeavesBeside cells.new files.new.tags (M.pages pages.old)
+        (M.pages pages.new) }
     ensures room { M.room pages.old ≤ M.room pages.new + 2 }
     ensures before { M.before pages.new ≡ M.before pages.old }
 {
@@ -64,7 +88,16 @@ pub fn remove<M: MetaPages>(
     ensures ok { (set : SetOf) → StandsAsSet files.old.fileset files.old.tags space.now cells.now
         (M.pages pages.old) set → OnOk result (StandsAsSet files.new.fileset files.new.tags
         space.now cells.now (M.pages pages.new) (without_file tag set)) }
+    ensures removes { (chains : Chains)
+        → AreFiles files.old.fileset files.old.tags (M.pages pages.old) chains
+        → IfOk result (λ at. Removes files.old.fileset files.old.tags tag at chains
+        (M.pages pages.new)) }
     ensures err { OnErr result (M.pages pages.new ≡ M.pages pages.old) }
+    ensures beside { (chains : Chains)
+        → AreFiles files.old.fileset files.old.tags (M.pages pages.old) chains
+        → ChangesBeside files.old.tags (chains tag) (M.pages pages.old) (M.pages pages.new) }
+    ensures sequences { OnOk result (KeepsSequences files.old.tags (M.pages pages.old)
+        (M.pages pages.new)) }
     ensures same { files.new ≡ files.old }
     ensures room { M.room pages.new ≡ M.room pages.old }
     ensures before { M.before pages.new ≡ M.before pages.old }
@@ -107,11 +140,16 @@ pub fn set_links<M: MetaPages>(
         (M.pages pages.old) set → OnOk result (StandsAsSet files.now.fileset files.now.tags
         space.now cells.now (M.pages pages.new) (with_change tag (linked links) set)) }
     ensures err { OnErr result (M.pages pages.new ≡ M.pages pages.old) }
+    ensures beside { (chains : Chains)
+        → AreFiles files.now.fileset files.now.tags (M.pages pages.old) chains
+        → ChangesFirst (chains tag) (M.pages pages.old) (M.pages pages.new) }
+    ensures well_formed { KeepsWellFormed (M.pages pages.old) (M.pages pages.new) }
+    ensures headers { KeepsHeaders (M.pages pages.old) (M.pages pages.new) }
     ensures room { M.room pages.new ≡ M.room pages.old }
     ensures before { M.before pages.new ≡ M.before pages.old }
 {
     let Some(was) = files.attributes(pages, tag) else {
-        return Err(OutOfMemory);
+        unreachable!();
     };
     let value = with_links(&was, links);
     files.set_attributes(alloc, pages, tag, &value)

@@ -6,7 +6,7 @@ use Rattle.bitfile_core.specs.Changes.{CanSay, says_attributes, with_chain, with
 use Rattle.bitfile_core.proofs.SetFirst.{map_ok}
 use Rattle.set_laws.proofs.Owned.{set as owner_set}
 use Rattle.set_laws.specs.Standing.{StandsShown, owned}
-use Rattle.stored_set.proofs.Live.{owned_again}
+use Rattle.stored_set.proofs.Live.{not_live, owned_again}
 use Rattle.stored_set.proofs.changes.set_links.Goals as goal
 
 pub returns-clause-ok : goal.returns-clause-ok
@@ -35,3 +35,10 @@ returns-clause-ok g c = λ set was.
           (owner_set fileset places space cells old new was.chains was.indexes set was.stands tag value can (c.set_attributes.ensures.beside was.chains was.stands.together.files) together);
     })
     c.set_attributes.result (c.set_attributes.ensures.together space cells was.chains was.stands.together)
+
+pub unreachable-requires : goal.unreachable-requires
+unreachable-requires g c =
+    let set = c.requires.set.0 in
+    let was = c.requires.set.1 in
+    not_live c.args.files.now.fileset c.args.files.now.tags c.args.space.now c.args.cells.now (g.M.MetaPages.pages c.args.pages.now) set was c.args.tag (c.requires.live set was) was.chains was.stands.together.files
+    (sym c.in_default.is ∙ c.attributes.ensures was.chains was.stands.together.files)
