@@ -1,11 +1,13 @@
 //! The pages of directories, looked at, written where they stand, and added.
-ghost use Rattle.std.specs.Prelude.{◌≡◌, ◌<◌, OnErr, OnOk};
+ghost use Rattle.std.specs.Prelude.{◌≡◌, ◌+◌, ◌<◌, ◌≤◌, IfErr, IsSomeAnd, OnErr, OnOk};
 ghost use Rattle.std.specs.Option.{option_copied};
 ghost use Rattle.page_store.specs.Bitfiles.{Bitfiles as SetOf, IsDirectory, count_pages, page_at, put_page, with_change};
-ghost use Rattle.bitfile_core.specs.Files.{Chains};
-ghost use Rattle.bitfile_core.specs.Pages.{MayGrow};
+ghost use Rattle.domain_base.specs.declared.place.Home.{Home as HomeOf};
+ghost use Rattle.extent_maps.specs.declared.run.PagePlace.TheVariants.{At};
+ghost use Rattle.bitfile_core.specs.Files.{AreFiles, Chains, place_at};
+ghost use Rattle.bitfile_core.specs.Pages.{GetsNone, MayGrow};
 ghost use Rattle.bitfile_core.specs.Together.{AreTogether};
-ghost use Rattle.stored_set.specs.Sets.{HasSet, StandsAsSet};
+ghost use Rattle.stored_set.specs.Sets.{AddsPage, HasSet, StandsAsSet};
 
 use bitfile_core::Bitfiles;
 use domain_base::limits::FILE_PAGES;
@@ -34,7 +36,8 @@ pub fn page_of<'a, M: MetaPages>(
     pages.get(files.page_home(pages, tag, page).home()?)
 }
 
-/// Puts a page of a directory in place of the one at that number. It takes no memory.
+/// Puts a page of a directory in place of the one at that number, at its home: every other page
+/// stays. It takes no memory.
 pub fn write_page<M: MetaPages>(
     pages: &mut M,
     space: &FreeSpace,
@@ -53,6 +56,10 @@ pub fn write_page<M: MetaPages>(
     ensures put { (set : SetOf) → StandsAsSet files.now.fileset files.now.tags space.now cells.now
         (M.pages pages.old) set → StandsAsSet files.now.fileset files.now.tags space.now cells.now
         (M.pages pages.new) (with_change tag (put_page page bytes) set) }
+    ensures elsewhere { (chains : Chains)
+        → AreFiles files.now.fileset files.now.tags (M.pages pages.old) chains
+        → (home : HomeOf) → ¬ place_at chains tag page ≡ At home
+        → M.pages pages.new home ≡ M.pages pages.old home }
     ensures room { M.room pages.new ≡ M.room pages.old }
     ensures before { M.before pages.new ≡ M.before pages.old }
 {
@@ -62,8 +69,9 @@ pub fn write_page<M: MetaPages>(
 }
 
 /// Puts a page of a directory behind its last one, on a free page, of the preferred volume if that
-/// has one; the directory keeps that page and has none there. NoPage and OutOfMemory come as in
-/// `Bitfiles::give_page`; at an Err the set is as it was.
+/// has one; the directory keeps that page and has none there. NoPage comes only where no page is
+/// free, or none beside this one and a cell more is needed, of which none is free; that is a miss.
+/// At an Err nothing but room and the count of misses has changed, and the set is as it was.
 pub fn add_page<M: MetaPages>(
     alloc: Global,
     pages: &mut M,
@@ -91,6 +99,16 @@ pub fn add_page<M: MetaPages>(
     ensures err { (set : SetOf) → StandsAsSet files.now.fileset files.now.tags space.old cells.old
         (M.pages pages.old) set → OnErr result (StandsAsSet files.now.fileset files.now.tags
         space.new cells.new (M.pages pages.new) set) }
+    ensures adds { (chains : Chains) → AreTogether files.now.fileset files.now.tags space.old
+        cells.old (M.pages pages.old) chains → OnOk result (IsSomeAnd (chains tag)
+        (AddsPage files.now.fileset files.now.tags tag page bytes prefer version chains space.old
+        space.new cells.old cells.new (M.pages pages.old) (M.pages pages.new))) }
+    ensures none { (chains : Chains) → AreTogether files.now.fileset files.now.tags space.old
+        cells.old (M.pages pages.old) chains → IfErr result (λ fault. IsSomeAnd (chains tag)
+        (λ chain. GetsNone page chain space.old space.new cells.old fault)) }
+    ensures cells { OnErr result (cells.new ≡ cells.old) }
+    ensures pages { OnErr result (M.pages pages.new ≡ M.pages pages.old) }
+    ensures room { M.room pages.old ≤ M.room pages.new + 2 }
     ensures before { M.before pages.new ≡ M.before pages.old }
 {
     pages.reserve(alloc, 2)?;

@@ -1,5 +1,9 @@
 use Rattle.std.proofs.Common.{◌∙◌, ◌<◌, Some, ap, subst, sym}
+use Rattle.std.specs.Option.{option_and_then}
+use Rattle.bitfile_core.proofs.Created.{one_chains}
+use Rattle.bitfile_core.specs.Shown.{index_of}
 use Rattle.stored_index.specs.Changes.{PutsIndexPage}
+use Rattle.stored_index.specs.Homes.{AreIndexHomes}
 use Rattle.set_laws.proofs.IndexPut.{put as index_put}
 use Rattle.stored_set.proofs.Indexed.{begins, counted, first_of, homes_at, not_none}
 use Rattle.stored_set.proofs.indexes.write_index_page.Goals as goal
@@ -39,5 +43,27 @@ returns-in-Some-clause-put g c = λ set was.
 
 pub returns-in_default-clause-put : goal.returns-in_default-clause-put
 returns-in_default-clause-put g c = λ set was.
+    absurd (not_none c.args.files.now.fileset c.args.files.now.tags c.args.space.now c.args.cells.now (g.M.MetaPages.pages c.args.pages.now) set was c.args.tag (c.requires.directory set was) c.args.page (c.requires.there set was)
+    (sym c.in_default.is ∙ c.index.ensures was.chains was.stands.together.files))
+
+pub returns-in-Some-clause-elsewhere : goal.returns-in-Some-clause-elsewhere
+returns-in-Some-clause-elsewhere g c = λ chains homes are begin.
+    let old = g.M.MetaPages.pages c.args.pages.now in
+    let new = g.M.MetaPages.pages c.put_index_page.new.pages in
+    let set = c.requires.set.0 in
+    let was = c.requires.set.1 in
+    let fileset = c.args.files.now.fileset in
+    let places = c.args.files.now.tags in
+    let tag = c.args.tag in
+    let first = ap (option_and_then index_of) (one_chains old fileset places chains was.chains are was.stands.together.files tag)
+    ∙ begins fileset places c.args.space.now c.args.cells.now old set was tag (c.requires.directory set was)
+    ∙ ap first_of (sym (c.index.ensures was.chains was.stands.together.files)) ∙ ap first_of c.in-Some.is in
+    subst (λ o. PutsIndexPage o c.args.page c.args.bytes old new homes) (sym first)
+    (c.put_index_page.ensures.put homes (subst (λ o. AreIndexHomes old o homes) first begin))
+
+pub returns-in_default-clause-elsewhere : goal.returns-in_default-clause-elsewhere
+returns-in_default-clause-elsewhere g c = λ chains homes are begin.
+    let set = c.requires.set.0 in
+    let was = c.requires.set.1 in
     absurd (not_none c.args.files.now.fileset c.args.files.now.tags c.args.space.now c.args.cells.now (g.M.MetaPages.pages c.args.pages.now) set was c.args.tag (c.requires.directory set was) c.args.page (c.requires.there set was)
     (sym c.in_default.is ∙ c.index.ensures was.chains was.stands.together.files))
