@@ -1,17 +1,18 @@
--- The set without a file, and the one with a new directory.
-use Rattle.std.proofs.Common.{◌≡◌, ◌<◌, ℕ, Bool, true, cond, Option, Some, None, IsSome, IsSomeAnd, List, [], Contains, length, Result, Ok, Err, IfOk, refl, sym, ap, subst, arith}
+-- The set without a file, and those with a new file or directory.
+use Rattle.std.proofs.Common.{◌≡◌, ℕ, Bool, cond, Some, None, IsSome, IsSomeAnd, List, [], Contains, length, Result, Ok, Err, IfOk, refl, sym, ap, subst, arith}
 use Rattle.std.specs.Option.{option_map_or}
 use Rattle.domain_base.specs.declared.place.Home.{Home}
-use Rattle.domain_base.specs.declared.place.Kind.TheVariants.{Directory}
+use Rattle.domain_base.specs.declared.place.Kind.{Kind}
+use Rattle.domain_base.specs.declared.place.Kind.TheVariants.{Directory, File}
 use Rattle.domain_base.specs.declared.place.Tag.{Tag}
-use Rattle.page_store.specs.Bitfiles.{Bitfile, Bitfiles, IsDirectory, count_pages, linked, new_file, put_page, same_tag, with_change, with_file}
+use Rattle.page_store.specs.Bitfiles.{Bitfile, Bitfiles, IsDirectory, count_pages, linked, new_file, put_page, with_change, with_file}
 use Rattle.page_store.specs.Pages.{Pages}
 use Rattle.tag_dirs.specs.declared.dir.TagPlace.{TagPlace}
 use Rattle.free_cells.specs.Cells.{Cells}
 use Rattle.free_space.specs.Spaces.{Spaces}
 use Rattle.bitfile_core.specs.Together.{AreTogether}
 use Rattle.bitfile_core.proofs.OneChain.{same_tag_itself}
-use Rattle.set_tests.specs.Worlds.{one_directory, with_first_page}
+use Rattle.set_tests.specs.Worlds.{only_new, with_first_page}
 use Rattle.stored_set.specs.Sets.{StandsAsSet}
 
 none_in : (h : Home) → ¬ Contains [] h
@@ -35,27 +36,28 @@ pub if_ok : {A E : Type 0} {P Q : A → Type 0} → ((a : A) → P a → Q a) �
 if_ok f (Ok a) p = f a p
 if_ok f (Err e) p = tt
 
-pub new_there : (tag : Tag) → one_directory tag tag ≡ Some (new_file Directory 11 12)
-new_there tag = ap (λ (b : Bool). cond b (Some (new_file Directory 11 12)) None) (same_tag_itself tag)
+pub new_there : (kind : Kind) (tag : Tag) → only_new kind tag tag ≡ Some (new_file kind 11 12)
+new_there kind tag = ap (λ (b : Bool). cond b (Some (new_file kind 11 12)) None) (same_tag_itself tag)
 
 -- what is so of any set that has the new directory
-pub is_directory : (set : Bitfiles) (tag : Tag) → one_directory tag tag ≡ set tag → IsDirectory set tag
-is_directory set tag same = subst (λ o. IsSomeAnd o (λ (file : Bitfile). file.kind ≡ Directory)) same (subst (λ o. IsSomeAnd o (λ (file : Bitfile). file.kind ≡ Directory)) (sym (new_there tag)) refl)
+pub is_directory : (set : Bitfiles) (tag : Tag) → only_new Directory tag tag ≡ set tag → IsDirectory set tag
+is_directory set tag same = subst (λ o. IsSomeAnd o (λ (file : Bitfile). file.kind ≡ Directory)) same (subst (λ o. IsSomeAnd o (λ (file : Bitfile). file.kind ≡ Directory)) (sym (new_there Directory tag)) refl)
 
-pub has_none : (set : Bitfiles) (tag : Tag) → one_directory tag tag ≡ set tag → 0 ≡ count_pages set tag
-has_none set tag same = subst (λ o. 0 ≡ option_map_or (λ (file : Bitfile). length file.pages) o 0) same (subst (λ o. 0 ≡ option_map_or (λ (file : Bitfile). length file.pages) o 0) (sym (new_there tag)) refl)
+pub has_none : (set : Bitfiles) (tag : Tag) → only_new Directory tag tag ≡ set tag → 0 ≡ count_pages set tag
+has_none set tag same = subst (λ o. 0 ≡ option_map_or (λ (file : Bitfile). length file.pages) o 0) same (subst (λ o. 0 ≡ option_map_or (λ (file : Bitfile). length file.pages) o 0) (sym (new_there Directory tag)) refl)
 
-pub is_some : (set : Bitfiles) (tag : Tag) → one_directory tag tag ≡ set tag → IsSome (set tag)
-is_some set tag same = subst (λ o. IsSome o) same (subst (λ o. IsSome o) (sym (new_there tag)) refl)
+-- or the new file
+pub is_some : (set : Bitfiles) (tag : Tag) → only_new File tag tag ≡ set tag → IsSome (set tag)
+is_some set tag same = subst (λ o. IsSome o) same (subst (λ o. IsSome o) (sym (new_there File tag)) refl)
 
--- and with three links, or a page
-pub linked_there : (tag : Tag) → IsSome (with_change tag (linked 3) (one_directory tag) tag)
+-- a file with three links, and a directory with a page
+pub linked_there : (tag : Tag) → IsSome (with_change tag (linked 3) (only_new File tag) tag)
 linked_there tag =
-    subst (λ o. IsSome (option_map_or (λ (file : Bitfile). with_file tag (linked 3 file) (one_directory tag)) o (one_directory tag) tag)) (sym (new_there tag))
-    (subst (λ (b : Bool). IsSome (cond b (Some (linked 3 (new_file Directory 11 12))) (one_directory tag tag))) (sym (same_tag_itself tag)) refl)
+    subst (λ o. IsSome (option_map_or (λ (file : Bitfile). with_file tag (linked 3 file) (only_new File tag)) o (only_new File tag) tag)) (sym (new_there File tag))
+    (subst (λ (b : Bool). IsSome (cond b (Some (linked 3 (new_file File 11 12))) (only_new File tag tag))) (sym (same_tag_itself tag)) refl)
 
 pub page_directory : (set : Bitfiles) (tag : Tag) (bytes : List ℕ) → with_first_page tag bytes tag ≡ set tag → IsDirectory set tag
 page_directory set tag bytes same =
     subst (λ o. IsSomeAnd o (λ (file : Bitfile). file.kind ≡ Directory)) same
-    (subst (λ o. IsSomeAnd (option_map_or (λ (file : Bitfile). with_file tag (put_page 0 bytes file) (one_directory tag)) o (one_directory tag) tag) (λ (file : Bitfile). file.kind ≡ Directory)) (sym (new_there tag))
-    (subst (λ (b : Bool). IsSomeAnd (cond b (Some (put_page 0 bytes (new_file Directory 11 12))) (one_directory tag tag)) (λ (file : Bitfile). file.kind ≡ Directory)) (sym (same_tag_itself tag)) refl))
+    (subst (λ o. IsSomeAnd (option_map_or (λ (file : Bitfile). with_file tag (put_page 0 bytes file) (only_new Directory tag)) o (only_new Directory tag) tag) (λ (file : Bitfile). file.kind ≡ Directory)) (sym (new_there Directory tag))
+    (subst (λ (b : Bool). IsSomeAnd (cond b (Some (put_page 0 bytes (new_file Directory 11 12))) (only_new Directory tag tag)) (λ (file : Bitfile). file.kind ≡ Directory)) (sym (same_tag_itself tag)) refl))

@@ -1,5 +1,6 @@
 -- What set the files of a world of the tests are.
 use Rattle.std.specs.Prelude.{ℕ, List, None, IsSome}
+use Rattle.domain_base.specs.declared.place.Kind.{Kind}
 use Rattle.domain_base.specs.declared.place.Kind.TheVariants.{Directory}
 use Rattle.domain_base.specs.declared.place.Tag.{Tag}
 use Rattle.memory_store.specs.Homes.{pages_of}
@@ -11,13 +12,13 @@ abbrev pub IsSet : World → Bitfiles → Type 0
 IsSet world set = StandsAsSet world.files.fileset world.files.tags world.space world.cells
     (pages_of world.pages.entries.items) set
 
--- one new directory, and no other file
-abbrev pub one_directory : Tag → Bitfiles
-one_directory tag = with_file tag (new_file Directory 11 12) (λ t. None)
+-- one new file or directory, and no other
+abbrev pub only_new : Kind → Tag → Bitfiles
+only_new kind tag = with_file tag (new_file kind 11 12) (λ t. None)
 
--- the same with a page
+-- one new directory with a page
 abbrev pub with_first_page : Tag → List ℕ → Bitfiles
-with_first_page tag bytes = with_change tag (put_page 0 bytes) (one_directory tag)
+with_first_page tag bytes = with_change tag (put_page 0 bytes) (only_new Directory tag)
 
 -- some set, and one that has a file at a tag
 abbrev pub IsSomeSet : World → Type 0

@@ -1,6 +1,7 @@
-//! A directory made, given a page, linked and taken away.
+//! A directory made and given a page, and a file made, linked and taken away.
 ghost use Rattle.std.specs.Prelude.{◌≡◌, IfOk, None, OnOk};
-ghost use Rattle.set_tests.specs.Worlds.{HasTag, IsSet, IsSomeSet, one_directory, with_first_page};
+ghost use Rattle.domain_base.specs.declared.place.Kind.TheVariants.{Directory, File};
+ghost use Rattle.set_tests.specs.Worlds.{HasTag, IsSet, IsSomeSet, only_new, with_first_page};
 
 use domain_base::{Kind, Page, Tag, Version};
 use extent_maps::PagePlace;
@@ -16,10 +17,10 @@ fn empty_world(alloc: Global) -> Result<World, Fail>
     new_world(alloc, 64)
 }
 
-/// Makes a directory, the only one.
-fn make_one(alloc: Global, world: &mut World) -> Result<Tag, Fail>
+/// Makes a file or a directory, the only one.
+fn make_one(alloc: Global, world: &mut World, kind: Kind) -> Result<Tag, Fail>
     requires { IsSet world.old (λ t. None) }
-    ensures { IfOk result (λ tag. IsSet world.new (one_directory tag)) }
+    ensures { IfOk result (λ tag. IsSet world.new (only_new kind tag)) }
 {
     let tag = make(
         alloc,
@@ -27,7 +28,7 @@ fn make_one(alloc: Global, world: &mut World) -> Result<Tag, Fail>
         &mut world.space,
         &mut world.cells,
         &mut world.files,
-        Kind::Directory,
+        kind,
         11,
         12,
         7,
@@ -37,9 +38,9 @@ fn make_one(alloc: Global, world: &mut World) -> Result<Tag, Fail>
     Ok(tag)
 }
 
-/// Gives it its first page.
+/// Gives the only directory its first page.
 fn add_first(alloc: Global, world: &mut World, tag: Tag, bytes: Page) -> Result<(), Fail>
-    requires { IsSet world.old (one_directory tag) }
+    requires { IsSet world.old (only_new Directory tag) }
     ensures { OnOk result (IsSet world.new (with_first_page tag bytes)) }
 {
     one_set_is_shown();
@@ -107,16 +108,16 @@ fn first_byte(page: Option<&Page>) -> Option<u8> {
 /// A directory of one page: its first byte, and whether it has another page.
 fn told_pages(alloc: Global) -> Result<(Option<u8>, bool), Fail> {
     let mut world = empty_world(alloc)?;
-    let tag = make_one(alloc, &mut world)?;
+    let tag = make_one(alloc, &mut world, Kind::Directory)?;
     let bytes = first_page(alloc)?;
     let again = bytes.copy(alloc)?;
     add_first(alloc, &mut world, tag, bytes)?;
     Ok(pages_told(&world, tag, &again))
 }
 
-/// Sets three links of the only directory.
+/// Sets three links of the only file.
 fn link_thrice(alloc: Global, world: &mut World, tag: Tag) -> Result<(), Fail>
-    requires { IsSet world.old (one_directory tag) }
+    requires { IsSet world.old (only_new File tag) }
     ensures { OnOk result (HasTag world.new tag) }
 {
     one_set_is_shown();
@@ -132,7 +133,7 @@ fn link_thrice(alloc: Global, world: &mut World, tag: Tag) -> Result<(), Fail>
     Ok(())
 }
 
-/// Takes a directory away.
+/// Takes a tag's file away.
 fn take_away(alloc: Global, world: &mut World, tag: Tag) -> Result<(), Fail>
     requires { HasTag world.old tag }
     ensures { OnOk result (IsSomeSet world.new) }
@@ -149,7 +150,7 @@ fn take_away(alloc: Global, world: &mut World, tag: Tag) -> Result<(), Fail>
     Ok(())
 }
 
-/// Whether a tag names a directory, and how many rows name it.
+/// What a tag names, and how many rows name it.
 fn tell(world: &World, tag: Tag) -> (Option<Kind>, u32)
     requires { IsSomeSet world.now }
 {
@@ -158,10 +159,10 @@ fn tell(world: &World, tag: Tag) -> (Option<Kind>, u32)
     (kind, links)
 }
 
-/// What is told of a directory once it is made, once three rows name it, and once it is taken away.
+/// What is told of a file once it is made, once it has three links, and once it is taken away.
 fn told(alloc: Global) -> Result<[(Option<Kind>, u32); 3], Fail> {
     let mut world = empty_world(alloc)?;
-    let tag = make_one(alloc, &mut world)?;
+    let tag = make_one(alloc, &mut world, Kind::File)?;
     let made = tell(&world, tag);
     link_thrice(alloc, &mut world, tag)?;
     let linked = tell(&world, tag);
@@ -170,10 +171,10 @@ fn told(alloc: Global) -> Result<[(Option<Kind>, u32); 3], Fail> {
 }
 
 #[test]
-fn a_directory_is_made_linked_and_taken_away(rt: HostRuntime) -> Result<(), Fail> {
+fn a_file_is_made_linked_and_taken_away(rt: HostRuntime) -> Result<(), Fail> {
     let seen = told(rt.alloc())?;
-    let directory = Some(Kind::Directory);
-    assert_eq!(rt; seen, [(directory, 1), (directory, 3), (None, 0)]);
+    let file = Some(Kind::File);
+    assert_eq!(rt; seen, [(file, 1), (file, 3), (None, 0)]);
     Ok(())
 }
 

@@ -1,12 +1,13 @@
+use Rattle.domain_base.specs.declared.place.Kind.TheVariants.{File}
 use Rattle.memory_store.specs.Homes.{pages_of}
 use Rattle.set_tests.proofs.First.{is_some, linked_there}
-use Rattle.set_tests.specs.Worlds.{one_directory}
+use Rattle.set_tests.specs.Worlds.{only_new}
 use Rattle.set_tests.proofs.sets.link_thrice.Goals as goal
 
 pub set_links-requires-clause-live : goal.set_links-requires-clause-live
 set_links-requires-clause-live c = λ set was.
     let world = c.args.world.now in
-    is_some set c.args.tag (c.one_set_is_shown.ensures world.files.fileset world.files.tags world.space world.space world.cells world.cells (pages_of world.pages.entries.items) (one_directory c.args.tag) set c.args.tag c.requires was)
+    is_some set c.args.tag (c.one_set_is_shown.ensures world.files.fileset world.files.tags world.space world.space world.cells world.cells (pages_of world.pages.entries.items) (only_new File c.args.tag) set c.args.tag c.requires was)
 
 pub returns : goal.returns
-returns c = (_, c.in_ok-set_links.ensures.ok (one_directory c.args.tag) c.requires, linked_there c.args.tag)
+returns c = (_, c.in_ok-set_links.ensures.ok (only_new File c.args.tag) c.requires, linked_there c.args.tag)
