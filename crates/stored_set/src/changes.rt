@@ -21,9 +21,9 @@ use std::alloc::Global;
 
 /// Makes a file or a directory of that owner, with one link and no page, which was born at that
 /// clone's number, and answers its tag, which named nothing before and was never answered. Its cell
-/// is taken of the preferred volume if that has one. NoPage comes only where no page is free and one
-/// is wanted, for cells or for tags, or only one and both want one; that is a miss. At an Err nothing
-/// but room and the count of misses has changed, and the set is as it was.
+/// is taken of the preferred volume if that has one. NoPage comes only where no page is free and
+/// one is wanted, for cells or for tags, or only one and both want one; that is a miss. At an Err
+/// nothing but room and the count of misses has changed, and the set is as it was.
 pub fn make<M: MetaPages>(
     alloc: Global,
     pages: &mut M,

@@ -17,8 +17,8 @@ use page_store::MetaPages;
 use stored_index::put_index_page;
 
 /// Puts a page of a directory's index in place of the one at that number, at its home: every other
-/// page stays. Where the next page stands is the index's own, whatever the bytes say of it. It takes
-/// no memory.
+/// page stays. Where the next page stands is the index's own, whatever the bytes say of it. It
+/// takes no memory.
 pub fn write_index_page<M: MetaPages>(
     pages: &mut M,
     space: &FreeSpace,
