@@ -1,14 +1,15 @@
 //! Files and directories that are made, linked and taken away.
-ghost use Rattle.std.specs.Prelude.{◌≡◌, ◌+◌, ◌≤◌, [], IfErr, IfOk, IsSome, None, OnErr, OnOk};
+ghost use Rattle.std.specs.Prelude.{◌≡◌, ◌+◌, ◌≤◌, [], IfErr, IfOk, IsSome, IsSomeAnd, None, OnErr, OnOk};
+ghost use Rattle.std.specs.Option.{option_and_then};
 ghost use Rattle.domain_base.specs.Limits.{max_links};
 ghost use Rattle.page_store.specs.Bitfiles.{Bitfiles as SetOf, linked, new_file as shown_new, with_change, with_file, without_file};
 ghost use Rattle.bmt_mcells.specs.CellPage.{KeepsHeaders, KeepsWellFormed};
 ghost use Rattle.free_cells.specs.Cells.{Cells};
 ghost use Rattle.free_space.specs.Spaces.{Spaces};
 ghost use Rattle.bitfile_cells.specs.FileChanges.{LeavesOtherCells};
-ghost use Rattle.bitfile_core.specs.Changes.{ChangesBeside, ChangesFirst, KeepsSequences, Removes};
+ghost use Rattle.bitfile_core.specs.Changes.{ChangesBeside, ChangesFirst, KeepsSequences, Removes, says_attributes, with_chain, with_first};
 ghost use Rattle.bitfile_core.specs.Creation.{Creates, CreatesNone, LeavesBeside, TakesForFile, TakesNext, new_file};
-ghost use Rattle.bitfile_core.specs.Files.{AreFiles, Chains};
+ghost use Rattle.bitfile_core.specs.Files.{AreFiles, Chains, attributes_of, of_live};
 ghost use Rattle.bitfile_core.specs.Together.{AreTogether};
 ghost use Rattle.stored_set.specs.Sets.{HasSet, StandsAsSet};
 
@@ -119,8 +120,8 @@ fn with_links(was: &Attributes, links: u32) -> Attributes
     }
 }
 
-/// Sets how many rows name a tag's file or directory, from 1 to 1,000. At an Err the set is as it
-/// was.
+/// Sets how many rows name a tag's file or directory, from 1 to 1,000: all else that is said of it
+/// stays. At an Err the set is as it was.
 pub fn set_links<M: MetaPages>(
     alloc: Global,
     pages: &mut M,
@@ -139,6 +140,11 @@ pub fn set_links<M: MetaPages>(
     ensures ok { (set : SetOf) → StandsAsSet files.now.fileset files.now.tags space.now cells.now
         (M.pages pages.old) set → OnOk result (StandsAsSet files.now.fileset files.now.tags
         space.now cells.now (M.pages pages.new) (with_change tag (linked links) set)) }
+    ensures says { (chains : Chains) → AreTogether files.now.fileset files.now.tags space.now
+        cells.now (M.pages pages.old) chains → OnOk result (IsSomeAnd
+        (option_and_then (of_live attributes_of) (chains tag)) (λ was. AreTogether files.now.fileset
+        files.now.tags space.now cells.now (M.pages pages.new)
+        (with_chain tag (with_first (says_attributes (record was { links = links }))) chains))) }
     ensures err { OnErr result (M.pages pages.new ≡ M.pages pages.old) }
     ensures beside { (chains : Chains)
         → AreFiles files.now.fileset files.now.tags (M.pages pages.old) chains

@@ -3,6 +3,7 @@ use Rattle.domain_base.specs.Limits.{max_links}
 use Rattle.page_store.specs.Bitfiles.{Bitfiles as SetOf, linked, with_change}
 use Rattle.bitfile_core.specs.declared.attributes.Attributes.{Attributes}
 use Rattle.bitfile_core.specs.Changes.{CanSay, says_attributes, with_chain, with_first}
+use Rattle.bitfile_core.specs.Together.{AreTogether}
 use Rattle.bitfile_core.proofs.SetFirst.{map_ok}
 use Rattle.set_laws.proofs.Owned.{set as owner_set}
 use Rattle.set_laws.specs.Standing.{StandsShown, owned}
@@ -35,6 +36,19 @@ returns-clause-ok g c = λ set was.
           (owner_set fileset places space cells old new was.chains was.indexes set was.stands tag value can (c.set_attributes.ensures.beside was.chains was.stands.together.files) together);
     })
     c.set_attributes.result (c.set_attributes.ensures.together space cells was.chains was.stands.together)
+
+pub returns-clause-says : goal.returns-clause-says
+returns-clause-says g c = λ chains together.
+    let new = g.M.MetaPages.pages c.set_attributes.new.pages in
+    let space = c.args.space.now in
+    let cells = c.args.cells.now in
+    let fileset = c.args.files.now.fileset in
+    let places = c.args.files.now.tags in
+    let tag = c.args.tag in
+    map_ok
+    (λ after. subst (λ o. IsSomeAnd o (λ (w : Attributes). AreTogether fileset places space cells new (with_chain tag (with_first (says_attributes (record w { links = c.args.links }))) chains))) (sym c.in-Some.is ∙ c.attributes.ensures chains together.files)
+    (subst (λ (v : Attributes). AreTogether fileset places space cells new (with_chain tag (with_first (says_attributes v)) chains)) c.with_links-value.ensures after))
+    c.set_attributes.result (c.set_attributes.ensures.together space cells chains together)
 
 pub unreachable-requires : goal.unreachable-requires
 unreachable-requires g c =
