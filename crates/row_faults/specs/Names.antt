@@ -1,6 +1,13 @@
 -- Rows with the name of an earlier one.
-use Rattle.std.specs.Prelude.{◌≡◌, ◌<◌, ℕ, List, Some, slice_get}
+use Rattle.std.specs.Prelude.{◌≡◌, ◌<◌, ℕ, List, Some, IsTrue, slice_get}
+use Rattle.std.specs.BTreeSet.{BTreeSet, contains_by}
+use Rattle.std.specs.Cmp.Lexicographic.{slice_cmp}
+use Rattle.std.specs.Ordering.{nat_cmp, ordering_then}
+use Rattle.std.specs.declared.cmp.Ordering.{Ordering}
+use denote.Ref.{Bor}
+use Rattle.domain_base.specs.contracts.place.TagOrd.TheImpl as tags
 use Rattle.domain_base.specs.declared.place.Home.{Home}
+use Rattle.domain_base.specs.declared.place.Tag.{Tag}
 use Rattle.page_store.specs.Pages.{Pages}
 use Rattle.dir_pages.specs.declared.row.Row.{Row}
 use Rattle.fileset_table.specs.Table.{Table}
@@ -16,6 +23,15 @@ IsNamedAlike one other = (one.at.dir ≡ other.at.dir) × (one.row.name ≡ othe
 abbrev pub IsNamedBefore : List RowThere → ℕ → RowThere → Type 0
 IsNamedBefore rows number r = (k : ℕ) × (one : RowThere) × (k < number)
     × (slice_get rows k ≡ Some one) × IsNamedAlike one r
+
+-- the directory and name of a row against those that were noted, in order
+abbrev pub name_order : RowThere → Tag × Bor (List ℕ) → Ordering
+name_order r noted = ordering_then ((tags.ghosts).cmp r.at.dir noted.0)
+    (slice_cmp nat_cmp r.row.name noted.1.now)
+
+-- a row's name was noted by its directory
+abbrev pub IsNoted : BTreeSet (Tag × Bor (List ℕ)) → RowThere → Type 0
+IsNoted names r = IsTrue (contains_by (name_order r) names)
 
 -- a row of the fileset in a slot has the name of an earlier one of its directory
 pub record HasNameTwice (pages : Pages) (frame : Frame) (table : Table) (number : ℕ) (home : Home)
