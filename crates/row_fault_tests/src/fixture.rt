@@ -5,6 +5,7 @@ use disk_label::{Anchor, Member};
 use domain_base::{CellAt, Home, Kind, OutOfMemory, Page, Tag, Version, VolIx};
 use filesets_reading::SeenPages;
 use hex::decode;
+use home_sets::HomeSet;
 use memory_store::MemoryPages;
 use page_store::MetaPages;
 use page_ways::DomainFrame;
@@ -114,4 +115,13 @@ pub fn files_of(alloc: Global, rows: &'static str) -> Result<Vec<FileThere>, Fai
         files.push(file_of(alloc, row)?)?;
     }
     Ok(files)
+}
+
+/// The pages of a set, in their order.
+pub fn pages_in(found: &HomeSet) -> [u32; 3] {
+    let mut pages = [0; 3];
+    for (place, (_, home)) in found.as_slice().iter().take(3).enumerate() {
+        pages[place] = home.page;
+    }
+    pages
 }

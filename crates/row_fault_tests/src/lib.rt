@@ -5,3 +5,5 @@
 mod fixture;
 #[cfg(test)]
 mod pages;
+#[cfg(test)]
+mod wrong;

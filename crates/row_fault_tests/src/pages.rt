@@ -1,5 +1,5 @@
 //! Pages of directories that are no pages of rows, and names that stand twice.
-use crate::fixture::{files_of, frame, pages_of};
+use crate::fixture::{files_of, frame, pages_in, pages_of};
 use home_sets::HomeSet;
 use row_faults::{insert_names_twice, insert_row_pages, read_rows};
 use std::alloc::Global;
@@ -25,15 +25,6 @@ const FILES: &str = "\
 2 dir 203
 3 file 205
 4 dir 204";
-
-/// The pages of a set, in their order.
-fn pages_in(found: &HomeSet) -> [u32; 3] {
-    let mut pages = [0; 3];
-    for (place, (_, home)) in found.as_slice().iter().take(3).enumerate() {
-        pages[place] = home.page;
-    }
-    pages
-}
 
 /// The pages with wrong forms, and those with a name twice.
 fn faults(alloc: Global, files: &'static str) -> Result<([u32; 3], [u32; 3]), Fail> {

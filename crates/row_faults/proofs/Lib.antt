@@ -1,5 +1,6 @@
 pub mod InOrder
 pub mod Inserted
+pub mod LedWrong
 pub mod NamesTwice
 pub mod Noted
 pub mod RowPages

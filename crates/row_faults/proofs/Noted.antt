@@ -19,19 +19,19 @@ use Rattle.row_faults.specs.declared.rows.RowThere.{RowThere}
 
 -- ---- the order of names
 
-then_equal : (a b : Ordering) → ordering_then a b ≡ Equal → (a ≡ Equal) × (b ≡ Equal)
+pub then_equal : (a b : Ordering) → ordering_then a b ≡ Equal → (a ≡ Equal) × (b ≡ Equal)
 then_equal Less b e = absurd (false≢true ((Equal-is Less).1 e))
 then_equal Equal b e = (refl, e)
 then_equal Greater b e = absurd (false≢true ((Equal-is Greater).1 e))
 
-tags_alike : (a b : Tag) → (tags.ghosts).cmp a b ≡ Equal → a ≡ b
+pub tags_alike : (a b : Tag) → (tags.ghosts).cmp a b ≡ Equal → a ≡ b
 tags_alike a b e =
     let both = then_equal (nat_cmp a.slot b.slot) (nat_cmp a.seq b.seq) e in
     let slot = exact_unsigned a.slot b.slot both.0 in
     let seq = exact_unsigned a.seq b.seq both.1 in
     λ i. record { slot = slot i; seq = seq i }
 
-tag_itself : (a : Tag) → (tags.ghosts).cmp a a ≡ Equal
+pub tag_itself : (a : Tag) → (tags.ghosts).cmp a a ≡ Equal
 tag_itself a = subst (λ o. ordering_then o (nat_cmp a.seq a.seq) ≡ Equal) (nat_cmp_is a.slot a.slot Equal refl) (sym (nat_cmp_is a.seq a.seq Equal refl))
 
 abbrev pub Noted : Type 0
@@ -71,7 +71,7 @@ pub was_noted : (names : BTreeSet Noted) (row : RowThere) (key : Noted) (added :
     → added ≡ not (contains noted_order names key) → (not added ≡ true) ↔ IsNoted names row
 was_noted names row key added dir name is = not_not added (contains_by (name_order row) names) (is ∙ ap not (orders_same names row key dir name))
 
-cond_true : (test has : Bool) → (cond test true has ≡ true) ↔ ((has ≡ true) ⊎ (test ≡ true))
+pub cond_true : (test has : Bool) → (cond test true has ≡ true) ↔ ((has ≡ true) ⊎ (test ≡ true))
 cond_true true has = ((λ _. inr refl), (λ _. refl))
 cond_true false has = ((λ is. inl is), (λ which. ⊎_elim (λ is. is) (λ is. absurd (false≢true is)) which))
 

@@ -5,8 +5,10 @@ mod names;
 mod pages;
 mod rows;
 mod there;
+mod wrong;
 
 pub use names::insert_names_twice;
 pub use pages::insert_row_pages;
 pub use rows::{PageAt, RowThere, read_rows};
 pub use there::FileThere;
+pub use wrong::insert_wrong_rows;
