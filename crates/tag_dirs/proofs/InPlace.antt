@@ -1,12 +1,14 @@
 -- Pages of which eight bytes were written in place.
-use Rattle.std.proofs.Common.{◌≡◌, ◌∙◌, ℕ, ◌+◌, ◌*◌, ◌<◌, Bool, false, cond, Option, Some, None, IsSomeAnd, List, refl, ap}
+use Rattle.std.proofs.Common.{◌≡◌, ◌∙◌, ℕ, ◌+◌, ◌*◌, ◌<◌, Bool, false, cond, Option, Some, None, IsSomeAnd, List, length, refl, ap}
 use Rattle.domain_base.specs.Page.{overwritten}
 use Rattle.domain_base.specs.declared.place.Home.{Home}
 use Rattle.page_store.specs.Pages.{Pages, same_home, with_page}
 use Rattle.bmt_mcells.proofs.Changed.{same_itself}
 use Rattle.tag_dirs.specs.declared.page.TagEntry.{TagEntry}
-use Rattle.tag_dirs.specs.TagPage.{IsTagPage, SpellsEntry, SpellsNext}
-use Rattle.tag_dirs.specs.Directory.{CanHave, ChangesAt, LinksAt}
+use Rattle.record_table.specs.Fields.{number_at}
+use Rattle.tag_dirs.specs.TagPage.{IsInFront, IsTagPage, SpellsEntry, SpellsNext}
+use Rattle.tag_dirs.specs.Directory.{CanHave, ChangesAt, EndsAt, LinksAt}
+use Rattle.tag_dirs.proofs.NewPage.{ended}
 
 module _ (old new : Pages) (home : Home) where
   -- the page that was written is there, and all others are as they were
@@ -44,5 +46,20 @@ module _ (old new : Pages) (home : Home) where
         was = at;
         is = there (overwritten page 8 bytes) writes;
         change = spells page good;
+        elsewhere = away (overwritten page 8 bytes) writes;
+      }
+
+  pub end_set : (next : Home) (bytes : List ℕ) → length bytes ≡ 8 → number_at 4 0 bytes ≡ 0 → IsSomeAnd (old home) (IsInFront next) → Writes 8 bytes → EndsAt home next old new
+  end_set next bytes len none front writes = by_page (old home) refl front writes
+    where
+      by_page : (o : Option (List ℕ)) → old home ≡ o → IsSomeAnd o (IsInFront next) → IsSomeAnd o (λ page. new ≡ with_page home (overwritten page 8 bytes) old) → EndsAt home next old new
+      by_page None at front writes = absurd front
+      by_page (Some page) at front writes = record {
+        page = page;
+        changed = overwritten page 8 bytes;
+        was = at;
+        led = front.leads;
+        is = there (overwritten page 8 bytes) writes;
+        change = ended page bytes len front.whole none;
         elsewhere = away (overwritten page 8 bytes) writes;
       }

@@ -14,7 +14,7 @@ use Rattle.bmt_mcells.proofs.Changed.{number-same}
 use Rattle.bmt_mcells.proofs.Places.{long_still, part_before, rest_after}
 use Rattle.bmt_mcells.proofs.Written.{any_of, pass_any}
 use Rattle.tag_dirs.specs.declared.page.TagEntry.{TagEntry}
-use Rattle.tag_dirs.specs.TagPage.{IsAllowed, IsNewPage, IsTagPage, LinksPage, cell_in, entry_of, next_of, slot_of}
+use Rattle.tag_dirs.specs.TagPage.{EndsPage, IsAllowed, IsNewPage, IsTagPage, LinksPage, cell_in, entry_of, index_of, next_of, slot_of}
 use Rattle.bmt_mcells.specs.Cell.{IsAddress}
 use Rattle.tag_dirs.proofs.WrittenEntry.{address_same}
 
@@ -124,18 +124,21 @@ module _ (page bytes : List ℕ) (b : ℕ) (fits : b + length bytes ≤ length p
       ∙ ap (take w) (drop-append-le o bytes rest (omega (arith, le)))
       ∙ take-append-le w (drop o bytes) rest (omega (arith, le, length-drop o bytes)))
 
-module _ (page bytes : List ℕ) (home : Home) (len : length bytes ≡ 8) (vol : number_at 4 0 bytes ≡ home.vol) (number : number_at 4 4 bytes ≡ home.page) (least : 1 ≤ home.vol) (most : home.vol ≤ 8) (was : IsTagPage page) where
+module _ (page bytes : List ℕ) (len : length bytes ≡ 8) (whole : length page ≡ 8192) where
   abbrev end : List ℕ
   end = overwritten page 8 bytes
 
   room : 8 + length bytes ≤ length page
-  room = omega (arith, was.whole, len)
+  room = omega (arith, whole, len)
 
   before : (w a : ℕ) → a + w ≤ 8 → number_at w a end ≡ number_at w a page
   before w a le = number-same w a end page (part_before page bytes 8 room a w le)
 
   behind : (w a : ℕ) → 16 ≤ a → number_at w a end ≡ number_at w a page
   behind w a le = number-same w a end page (ap (take w) (rest_after page bytes 8 room a (omega (arith, le, len))))
+
+  index_still : index_of end ≡ index_of page
+  index_still = before 4 4 (omega arith)
 
   entry_still : (e : ℕ) → entry_of end e ≡ entry_of page e
   entry_still e = λ i. record {
@@ -144,35 +147,61 @@ module _ (page bytes : List ℕ) (home : Home) (len : length bytes ≡ 8) (vol :
         (Some (record { vol = behind 1 (18 + 8 * e) (omega arith) i; page = behind 4 (20 + 8 * e) (omega arith) i; cell = behind 1 (19 + 8 * e) (omega arith) i }));
   }
 
-  vol_there : number_at 4 8 end ≡ home.vol
-  vol_there = piece_there page bytes 8 room 4 0 8 (omega (arith, len)) refl ∙ vol
+  vol_there : number_at 4 8 end ≡ number_at 4 0 bytes
+  vol_there = piece_there page bytes 8 room 4 0 8 (omega (arith, len)) refl
 
-  page_there : number_at 4 12 end ≡ home.page
-  page_there = piece_there page bytes 8 room 4 4 12 (omega (arith, len)) refl ∙ number
+  page_there : number_at 4 12 end ≡ number_at 4 4 bytes
+  page_there = piece_there page bytes 8 room 4 4 12 (omega (arith, len)) refl
 
-  next_is : next_of end ≡ Some home
-  next_is = by_test (nat_eq (number_at 4 8 end) 0) refl
+  good_still : IsTagPage page → number_at 4 0 bytes ≤ 8 → IsTagPage end
+  good_still was most = record {
+    whole = long_still page bytes 8 room ∙ was.whole;
+    magic = before 4 0 (omega arith) ∙ was.magic;
+    index = subst (λ n. n < 4202512) (sym index_still) was.index;
+    next = subst (λ n. n ≤ 8) (sym vol_there) most;
+    spelled = λ e below. subst (λ at. IsAddress (number_at 1 (18 + 8 * e) end) (number_at 1 (19 + 8 * e) end) (number_at 4 (20 + 8 * e) end) at) (sym (ap (λ (x : TagEntry). x.at) (entry_still e)))
+        (address_same (number_at 1 (18 + 8 * e) page) (number_at 1 (18 + 8 * e) end) (number_at 1 (19 + 8 * e) page) (number_at 1 (19 + 8 * e) end) (number_at 4 (20 + 8 * e) page) (number_at 4 (20 + 8 * e) end) (cell_in page e)
+        (behind 1 (18 + 8 * e) (omega arith)) (behind 1 (19 + 8 * e) (omega arith)) (behind 4 (20 + 8 * e) (omega arith)) (was.spelled e below));
+    entries = λ e below. subst (λ n. IsAllowed (1022 * n + e) (entry_of end e)) (sym index_still) (subst (IsAllowed (slot_of page e)) (sym (entry_still e)) (was.entries e below));
+  }
+
+  pub ended : number_at 4 0 bytes ≡ 0 → EndsPage page end
+  ended none = record {
+    next = ap (λ n. cond (nat_eq n 0) None (Some (record { vol = number_at 4 8 end; page = number_at 4 12 end }))) (vol_there ∙ none);
+    index = index_still;
+    entries = entry_still;
+    good = λ was. good_still was (subst (λ n. n ≤ 8) (sym none) (omega arith));
+  }
+
+-- eight zeros name no volume
+pub zeros_name_none : number_at 4 0 (0 ∷ 0 ∷ 0 ∷ 0 ∷ 0 ∷ 0 ∷ 0 ∷ 0 ∷ []) ≡ 0
+unfolding number_at
+zeros_name_none = refl
+
+module _ (page bytes : List ℕ) (home : Home) (len : length bytes ≡ 8) (vol : number_at 4 0 bytes ≡ home.vol) (number : number_at 4 4 bytes ≡ home.page) (least : 1 ≤ home.vol) (most : home.vol ≤ 8) (was : IsTagPage page) where
+  abbrev now : List ℕ
+  now = overwritten page 8 bytes
+
+  vol_is : number_at 4 8 now ≡ home.vol
+  vol_is = vol_there page bytes len was.whole ∙ vol
+
+  page_is : number_at 4 12 now ≡ home.page
+  page_is = page_there page bytes len was.whole ∙ number
+
+  next_is : next_of now ≡ Some home
+  next_is = by_test (nat_eq (number_at 4 8 now) 0) refl
     where
       some : 1 ≤ home.vol → home.vol ≡ 0 → ⊥
       some le none = omega (arith, le, none)
 
-      by_test : (b : Bool) → nat_eq (number_at 4 8 end) 0 ≡ b → next_of end ≡ Some home
-      by_test true is = absurd (some least (sym vol_there ∙ eqb-true (number_at 4 8 end) 0 is))
-      by_test false is = ap (λ b. cond b None (Some (record { vol = number_at 4 8 end; page = number_at 4 12 end }))) is ∙ (λ i. Some (record { vol = vol_there i; page = page_there i }))
+      by_test : (b : Bool) → nat_eq (number_at 4 8 now) 0 ≡ b → next_of now ≡ Some home
+      by_test true is = absurd (some least (sym vol_is ∙ eqb-true (number_at 4 8 now) 0 is))
+      by_test false is = ap (λ b. cond b None (Some (record { vol = number_at 4 8 now; page = number_at 4 12 now }))) is ∙ (λ i. Some (record { vol = vol_is i; page = page_is i }))
 
-  pub linked : LinksPage home page end
+  pub linked : LinksPage home page now
   linked = record {
     next = next_is;
-    index = before 4 4 (omega arith);
-    entries = entry_still;
-    good = record {
-      whole = long_still page bytes 8 room ∙ was.whole;
-      magic = before 4 0 (omega arith) ∙ was.magic;
-      index = subst (λ n. n < 4202512) (sym (before 4 4 (omega arith))) was.index;
-      next = subst (λ n. n ≤ 8) (sym vol_there) most;
-      spelled = λ e below. subst (λ at. IsAddress (number_at 1 (18 + 8 * e) end) (number_at 1 (19 + 8 * e) end) (number_at 4 (20 + 8 * e) end) at) (sym (ap (λ (x : TagEntry). x.at) (entry_still e)))
-          (address_same (number_at 1 (18 + 8 * e) page) (number_at 1 (18 + 8 * e) end) (number_at 1 (19 + 8 * e) page) (number_at 1 (19 + 8 * e) end) (number_at 4 (20 + 8 * e) page) (number_at 4 (20 + 8 * e) end) (cell_in page e)
-          (behind 1 (18 + 8 * e) (omega arith)) (behind 1 (19 + 8 * e) (omega arith)) (behind 4 (20 + 8 * e) (omega arith)) (was.spelled e below));
-      entries = λ e below. subst (λ n. IsAllowed (1022 * n + e) (entry_of end e)) (sym (before 4 4 (omega arith))) (subst (IsAllowed (slot_of page e)) (sym (entry_still e)) (was.entries e below));
-    };
+    index = index_still page bytes len was.whole;
+    entries = entry_still page bytes len was.whole;
+    good = good_still page bytes len was.whole was (subst (λ n. n ≤ 8) (sym vol) most);
   }

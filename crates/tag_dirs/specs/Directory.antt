@@ -1,5 +1,5 @@
 -- Tag directories: the pages of one, and what their entries say.
-use Rattle.std.specs.Prelude.{◌≡◌, ◌==◌, ◌+◌, ◌/◌, ◌%◌, ◌<◌, ℕ, Bool, true, false, List, [], ◌∷◌, ◌++◌, ◌⊎◌, length, Option, Some, None, IfSome, IsSomeAnd, slice_get, if◌then◌else◌}
+use Rattle.std.specs.Prelude.{◌≡◌, ◌==◌, ◌+◌, ◌/◌, ◌%◌, ◌<◌, ℕ, Bool, true, false, List, [], ◌∷◌, ◌++◌, ◌⊎◌, length, Option, Some, None, IfSome, IsSome, IsSomeAnd, slice_get, if◌then◌else◌}
 use Rattle.std.specs.List.{list_any}
 use Rattle.std.specs.Option.{option_and_then, option_map, option_map_or}
 use Rattle.domain_base.specs.declared.place.CellAt.{CellAt}
@@ -10,7 +10,7 @@ use Rattle.page_store.specs.Bitfiles.{same_tag}
 use Rattle.tag_dirs.specs.declared.dir.ReadyPage.{ReadyPage}
 use Rattle.tag_dirs.specs.declared.dir.TagPlace.{TagPlace}
 use Rattle.tag_dirs.specs.declared.page.TagEntry.{TagEntry}
-use Rattle.tag_dirs.specs.TagPage.{ChangesEntry, IsAllowed, IsNewPage, IsTagPage, LinksPage, entry_of, index_of, is_takeable, next_of, slot_of}
+use Rattle.tag_dirs.specs.TagPage.{ChangesEntry, EndsPage, IsAllowed, IsNewPage, IsTagPage, LinksPage, entry_of, index_of, is_takeable, next_of, slot_of}
 
 -- the home of the page that comes behind the one at a place
 abbrev pub home_behind : List TagPlace → ℕ → Option Home
@@ -105,6 +105,23 @@ HasNone pages place =
     (slot : ℕ) → slot / 1022 ≡ place.index → ¬ slot ≡ 0
     → IfSome (pages place.home) (λ page. is_takeable (entry_of page (slot % 1022)) ≡ false)
 
+-- the tag's entry stands on the page at a place, and leads to a cell
+abbrev pub IsUsedOn : Pages → TagPlace → Tag → Type 0
+IsUsedOn pages place tag =
+    (tag.slot / 1022 ≡ place.index)
+    × IsSomeAnd (pages place.home)
+    (λ page. IsSome (cell_for tag.seq (entry_of page (tag.slot % 1022))))
+
+-- no entry of the page at a place leads to one
+abbrev pub UsesNone : Pages → TagPlace → Type 0
+UsesNone pages place = (slot : ℕ) → slot / 1022 ≡ place.index
+    → IfSome (pages place.home) (λ page. (entry_of page (slot % 1022)).at ≡ None)
+
+-- the tag's slot is one of the page with that number along the chain
+abbrev pub IsOnPage : List TagPlace → ℕ → Tag → Type 0
+IsOnPage places number tag =
+    IsSomeAnd (slice_get places number) (λ place. tag.slot / 1022 ≡ place.index)
+
 -- pages of which one has another entry
 pub record ChangesAt (home : Home) (place : ℕ) (entry : TagEntry) (old new : Pages) : Type 0 where
   pub page : List ℕ
@@ -159,6 +176,27 @@ pub record LinksFrom (places : List TagPlace) (home : Home) (old new : Pages) : 
 -- the last of the places, if there is one, leads to the home
 abbrev pub LinksLast : List TagPlace → Home → Pages → Pages → Type 0
 LinksLast places home old new = ((places ≡ []) × (new ≡ old)) ⊎ LinksFrom places home old new
+
+-- the page at a home led to the one at another, and leads to none now; all other pages stay
+pub record EndsAt (home next : Home) (old new : Pages) : Type 0 where
+  pub page : List ℕ
+  pub changed : List ℕ
+  pub was : old home ≡ Some page
+  pub led : next_of page ≡ Some next
+  pub is : new home ≡ Some changed
+  pub change : EndsPage page changed
+  pub elsewhere : (h : Home) → same_home h home ≡ false → new h ≡ old h
+
+-- no page stands there, or one that does not lead to that home; and no page changes
+pub record LeadsElsewhere (home next : Home) (old new : Pages) : Type 0 where
+  pub other : IfSome (old home) (λ page. ¬ next_of page ≡ Some next)
+  pub same : new ≡ old
+
+-- the page at a home, if one is given and it leads to that one, leads to none now, and no other
+-- page changes
+abbrev pub Unlinks : Option Home → Home → Pages → Pages → Type 0
+Unlinks None next old new = new ≡ old
+Unlinks (Some home) next old new = EndsAt home next old new ⊎ LeadsElsewhere home next old new
 
 -- a directory with one page more, whose entries were never used; all other slots are as they were
 pub record AddsPage (place : TagPlace) (places : List TagPlace) (old new : Pages) : Type 0 where

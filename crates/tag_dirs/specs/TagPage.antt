@@ -79,6 +79,18 @@ pub record LinksPage (home : Home) (old new : List ℕ) : Type 0 where
   pub entries : (e : ℕ) → entry_of new e ≡ entry_of old e
   pub good : IsTagPage new
 
+-- a page that leads to no next one, and is else as it was
+pub record EndsPage (old new : List ℕ) : Type 0 where
+  pub next : next_of new ≡ None
+  pub index : index_of new ≡ index_of old
+  pub entries : (e : ℕ) → entry_of new e ≡ entry_of old e
+  pub good : IsTagPage old → IsTagPage new
+
+-- a page of all its bytes that leads to this next one
+pub record IsInFront (next : Home) (page : List ℕ) : Type 0 where
+  pub whole : length page ≡ 8192
+  pub leads : next_of page ≡ Some next
+
 -- a well-formed page with this index, no next page, and no entry that was ever used
 pub record IsNewPage (index : ℕ) (page : List ℕ) : Type 0 where
   pub good : IsTagPage page

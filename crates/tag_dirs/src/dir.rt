@@ -7,10 +7,10 @@ ghost use Rattle.tag_dirs.specs.TagPage.{IsAllowed, IsTagPage};
 ghost use Rattle.tag_dirs.specs.Directory.{IsNextIndex, IsReady};
 ghost use Rattle.tag_dirs.specs.declared.dir.TagPlace.{TagPlace as PlaceOf};
 ghost use Rattle.domain_base.specs.declared.place.Tag.{Tag};
-ghost use Rattle.tag_dirs.specs.Directory.{AddsPage, IsLast, has_home, ChangesSlot, IsDirectory, SetsTag, cell_of, entry_at as entry_there, home_with, number_with, sequence_of, CanJoin, CanTake, HasDirectory, IsDirectoryAt, JoinsPage};
+ghost use Rattle.tag_dirs.specs.Directory.{AddsPage, IsLast, has_home, ChangesSlot, IsDirectory, SetsTag, cell_of, entry_at as entry_there, home_with, number_with, sequence_of, CanJoin, CanTake, HasDirectory, IsDirectoryAt, IsOnPage, JoinsPage};
 
 use crate::entries::{change_entry, lead_on};
-use crate::finding::{find_in, guess_in};
+use crate::finding::{find_in, guess_in, used_on};
 use crate::guess::Guess;
 use crate::page::{ENTRIES, TagEntry, can_take, new_page, read_entry, read_index, read_next};
 use domain_base::{CellAt, Home, OutOfMemory, Page, Tag};
@@ -365,6 +365,22 @@ impl TagDir {
             return guessed;
         }
         find_in(pages, self.places.as_slice())
+    }
+
+    /// A tag in use of the page with that number, counted along the chain from 0. None exactly where
+    /// that page has none, or the directory has no such page. So all tags of a directory are found,
+    /// page by page, while each is taken out of use.
+    pub fn tag_on<M: MetaPages>(&self, pages: &M, number: usize) -> Option<Tag>
+        requires { IsDirectory (M.pages pages.now) self.now }
+        ensures there { IfSome result (λ tag. IsSome (cell_of (M.pages pages.now) self.now tag)) }
+        ensures on { IfSome result (IsOnPage self.now number) }
+        ensures none { IfNone result ((tag : Tag) → IsOnPage self.now number tag
+            → cell_of (M.pages pages.now) self.now tag ≡ None) }
+    {
+        if self.places.len() <= number {
+            return None;
+        }
+        used_on(pages, &self.places[number])
     }
 
     /// The number of the page that has the slot, counted along the chain.

@@ -1,9 +1,9 @@
 //! One entry of a page among the pages of metadata.
-ghost use Rattle.std.specs.Prelude.{◌≡◌, ◌<◌, IfSome, IsSomeAnd};
-ghost use Rattle.tag_dirs.specs.TagPage.{IsTagPage};
-ghost use Rattle.tag_dirs.specs.Directory.{CanHave, ChangesAt, Leads, LinksAt};
+ghost use Rattle.std.specs.Prelude.{◌≡◌, ◌<◌, IfSome, IsSomeAnd, Some, false, true};
+ghost use Rattle.tag_dirs.specs.TagPage.{IsInFront, IsTagPage, next_of};
+ghost use Rattle.tag_dirs.specs.Directory.{CanHave, ChangesAt, EndsAt, Leads, LinksAt, Unlinks};
 
-use crate::page::{TagEntry, can_take, entry_bytes, next_bytes, read_entry};
+use crate::page::{TagEntry, can_take, entry_bytes, leads_to, next_bytes, read_entry};
 use domain_base::Home;
 use page_store::MetaPages;
 
@@ -45,6 +45,43 @@ fn change_next<M: MetaPages>(pages: &mut M, home: &Home, next: &Home)
     ensures before { M.before pages.new ≡ M.before pages.old }
 {
     pages.set(*home, 8, &next_bytes(next));
+}
+
+/// Makes the page at a home lead to no next page.
+fn lead_nowhere<M: MetaPages>(pages: &mut M, home: &Home, next: &Home)
+    requires { IsSomeAnd (M.pages pages.old home.now) (IsInFront next.now) }
+    ensures ends { EndsAt home.now next.now (M.pages pages.old) (M.pages pages.new) }
+    ensures room { M.room pages.new ≡ M.room pages.old }
+    ensures before { M.before pages.new ≡ M.before pages.old }
+{
+    pages.set(*home, 8, &[0; 8]);
+}
+
+/// Whether a page stands at a home that says that the next one stands at another.
+fn is_in_front<M: MetaPages>(pages: &M, home: &Home, next: &Home) -> bool
+    ensures yes { result ≡ true → IsSomeAnd (M.pages pages.now home.now) (IsInFront next.now) }
+    ensures no { result ≡ false → IfSome (M.pages pages.now home.now)
+        (λ page. ¬ next_of page ≡ Some next.now) }
+{
+    match pages.get(*home) {
+        Some(page) => leads_to(page, next),
+        None => false,
+    }
+}
+
+/// Makes the page at a home, if one is given, lead to no next page of its directory, where it leads
+/// to that one: so it can be given back. It takes no memory.
+pub fn unlink_page<M: MetaPages>(pages: &mut M, front: &Option<Home>, next: &Home)
+    ensures unlinks { Unlinks front.now next.now (M.pages pages.old) (M.pages pages.new) }
+    ensures room { M.room pages.new ≡ M.room pages.old }
+    ensures before { M.before pages.new ≡ M.before pages.old }
+{
+    let Some(home) = front else {
+        return;
+    };
+    if is_in_front(pages, home, next) {
+        lead_nowhere(pages, home, next);
+    }
 }
 
 /// Makes the page at a home, if one is given, lead to another next page.

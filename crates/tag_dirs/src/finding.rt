@@ -2,11 +2,11 @@
 ghost use Rattle.std.specs.Prelude.{◌≡◌, IfNone, IfSome, IsSomeAnd, length};
 ghost use Rattle.domain_base.specs.declared.place.Tag.{Tag};
 ghost use Rattle.tag_dirs.specs.TagPage.{HasIndex};
-ghost use Rattle.tag_dirs.specs.Directory.{CanTake, HasNone, IsDirectory, TakesOn};
+ghost use Rattle.tag_dirs.specs.Directory.{CanTake, HasNone, IsDirectory, IsUsedOn, TakesOn, UsesNone};
 
 use crate::dir::TagPlace;
 use crate::guess::{Guess, first_entry};
-use crate::page::{ENTRIES, find_takeable, read_entry};
+use crate::page::{ENTRIES, find_takeable, find_used, read_entry};
 use domain_base::Tag;
 use page_store::MetaPages;
 
@@ -22,6 +22,20 @@ fn find_on<M: MetaPages>(pages: &M, place: &TagPlace, from: usize) -> Option<Tag
     Some(Tag {
         slot: ENTRIES as u32 * place.index + entry as u32,
         seq: read_entry(page, entry).seq + 1,
+    })
+}
+
+/// A tag in use of the page at a place.
+pub(crate) fn used_on<M: MetaPages>(pages: &M, place: &TagPlace) -> Option<Tag>
+    requires { IsSomeAnd (M.pages pages.now place.now.home) (HasIndex place.now.index) }
+    ensures some { IfSome result (IsUsedOn (M.pages pages.now) place.now) }
+    ensures none { IfNone result (UsesNone (M.pages pages.now) place.now) }
+{
+    let page = pages.get(place.home)?;
+    let entry = find_used(page)?;
+    Some(Tag {
+        slot: ENTRIES as u32 * place.index + entry as u32,
+        seq: read_entry(page, entry).seq,
     })
 }
 

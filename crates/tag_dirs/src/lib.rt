@@ -9,4 +9,5 @@ mod laws;
 mod page;
 
 pub use dir::{ReadyPage, TagDir, TagPlace, put_ready};
+pub use entries::unlink_page;
 pub use laws::one_directory;

@@ -1,5 +1,5 @@
 //! Tag pages: what they begin with, and their entries.
-ghost use Rattle.std.specs.Prelude.{IfOk, ℕ, ◌≡◌, ◌+◌, ◌*◌, ◌<◌, ◌≤◌, true, false, length, IfOk, IfSome, IfNone};
+ghost use Rattle.std.specs.Prelude.{IfOk, ℕ, ◌≡◌, ◌+◌, ◌*◌, ◌<◌, ◌≤◌, true, false, length, IfOk, IfSome, IfNone, IsSome, None, Some};
 ghost use Rattle.domain_base.specs.Page.{zero_bytes};
 ghost use Rattle.record_table.specs.Fields.{number_at};
 ghost use Rattle.bmt_mcells.specs.Cell.{IsAddress};
@@ -75,6 +75,15 @@ pub(crate) fn read_next(page: &Page) -> Option<Home>
     })
 }
 
+/// Whether a page says that the next one of its directory stands at that home.
+pub(crate) fn leads_to(page: &Page, next: &Home) -> bool
+    ensures yes { result ≡ true → next_of page.now ≡ Some next.now }
+    ensures no { result ≡ false → ¬ next_of page.now ≡ Some next.now }
+{
+    let bytes = page.bytes();
+    u32_at(bytes, 8) == next.vol.number() && u32_at(bytes, 12) == next.page
+}
+
 /// Whether an entry may be taken: it is free, and its sequence can rise.
 pub(crate) fn can_take(entry: &TagEntry) -> bool
     ensures { result ≡ is_takeable entry.now }
@@ -92,6 +101,20 @@ pub(crate) fn find_takeable(page: &Page, first: usize) -> Option<usize>
 {
     for entry in first..ENTRIES {
         if can_take(&read_entry(page, entry)) {
+            return Some(entry);
+        }
+    }
+    None
+}
+
+/// The first entry of a page that is used.
+pub(crate) fn find_used(page: &Page) -> Option<usize>
+    requires { IsTagPage page.now }
+    ensures some { IfSome result (λ e. (e < 1022) × IsSome (entry_of page.now e).at) }
+    ensures none { IfNone result ((e : ℕ) → e < 1022 → (entry_of page.now e).at ≡ None) }
+{
+    for entry in 0..ENTRIES {
+        if read_entry(page, entry).at.is_some() {
             return Some(entry);
         }
     }

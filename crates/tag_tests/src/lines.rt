@@ -133,6 +133,14 @@ fn look(alloc: Global, trial: &Trial, rest: &str) -> Result<String, Fail>
     Ok(cell_word(alloc, page)?)
 }
 
+/// A tag in use of the page with that number.
+fn tag_on(alloc: Global, trial: &Trial, rest: &str) -> Result<String, Fail>
+    requires { IsTrial trial.now.pages trial.now.dir trial.now.last }
+{
+    let tag = trial.tag_on(rest.parse()?);
+    Ok(tag_word(alloc, tag)?)
+}
+
 /// Enters as many tags as a word says.
 fn fill_word(alloc: Global, trial: &mut Trial, rest: &str) -> Result<String, Fail>
     requires { IsTrial trial.old.pages trial.old.dir trial.old.last }
@@ -164,6 +172,7 @@ fn call(alloc: Global, trial: &mut Trial, word: &str, rest: &str) -> Result<Stri
         "switch" => switch(alloc, trial, rest),
         "drop" => drop_tag(alloc, trial, rest),
         "look" => look(alloc, trial, rest),
+        "on" => tag_on(alloc, trial, rest),
         "page" => shown(alloc, trial, rest.parse()?),
         _ => reopen(alloc, trial),
     }
@@ -196,12 +205,16 @@ fn first_wrong(alloc: Global, text: &str) -> Result<Option<usize>, Fail> {
 /// A tag comes and goes: it leads to nothing once it is dropped, also where its slot is taken
 /// again, with the next sequence.
 static COMES_AND_GOES: &str = "add 0 = done
+on 0 = no
+on 1 = no
 enter 20 = 1.1
+on 0 = 1.1
 look 1.1 = 20
 switch 1.1 30 = done
 look 1.1 = 30
 look 1.2 = no
 drop 1.1 = done
+on 0 = no
 look 1.1 = no
 enter 40 = 1.2
 look 1.1 = no
@@ -237,10 +250,15 @@ look 4088.1 = no
 look 7154.3 = 27
 look 8175.65535 = 28
 look 8176.1 = no
+on 0 = 1.1
+on 1 = 7154.3
+on 2 = 3066.2
+on 3 = no
 switch 3066.2 40 = done
 switch 8175.65535 41 = done
 drop 7154.3 = done
 drop 1021.5 = done
+on 1 = 8175.65535
 look 3066.2 = 40
 look 8175.65535 = 41
 look 7154.3 = no
@@ -354,5 +372,34 @@ fn each_line_answers_what_it_tells(rt: HostRuntime) -> Result<(), Fail> {
         first_wrong(alloc, FULL_PAGE)?,
     ];
     assert_eq!(rt; wrong, [None; 5]);
+    Ok(())
+}
+
+/// The bytes of the first of two pages, whose homes are pages 100 and 101, once the page at the one
+/// home, if one is told, was to lead to the one at the other no more.
+fn unlinked(alloc: Global, front: Option<u32>, next: u32) -> Result<String, Fail> {
+    let mut trial = Trial::new(alloc);
+    trial.add(alloc, 0)?;
+    trial.add(alloc, 7)?;
+    match front {
+        Some(page) => trial.unlink(&Some(home(page)), &home(next)),
+        None => trial.unlink(&None, &home(next)),
+    }
+    shown(alloc, &trial, 100)
+}
+
+#[test]
+fn a_page_that_is_unlinked_leads_to_none(rt: HostRuntime) -> Result<(), Fail> {
+    let alloc = rt.alloc();
+    let gone = unlinked(alloc, Some(100), 101)?;
+    let others = [
+        unlinked(alloc, Some(100), 102)?,
+        unlinked(alloc, Some(101), 101)?,
+        unlinked(alloc, Some(105), 101)?,
+        unlinked(alloc, None, 101)?,
+    ];
+    let linked = "0:5441475000000000 1:0100000065000000";
+    assert_eq!(rt; gone.as_str(), "0:5441475000000000");
+    assert_eq!(rt; others.iter().filter(|text| text.as_str() == linked).count(), 4);
     Ok(())
 }

@@ -8,7 +8,7 @@ use memory_store::MemoryPages;
 use page_store::MetaPages;
 use std::alloc::Global;
 use std::test::Fail;
-use tag_dirs::{TagDir, TagPlace};
+use tag_dirs::{TagDir, TagPlace, unlink_page};
 
 /// A directory with the pages that it stands on, and the last slot that a tag was entered in.
 #[derive(Drop)]
@@ -156,6 +156,18 @@ impl Trial {
     {
         let at = self.dir.look(&self.pages, tag)?;
         (at.vol.number() == 1 && at.cell == 5).then_some(at.page)
+    }
+
+    /// A tag in use of the page with that number.
+    pub fn tag_on(&self, number: usize) -> Option<Tag>
+        requires { IsTrial self.now.pages self.now.dir self.now.last }
+    {
+        self.dir.tag_on(&self.pages, number)
+    }
+
+    /// Makes the page at a home lead to none, where it leads to that one.
+    pub fn unlink(&mut self, front: &Option<Home>, next: &Home) {
+        unlink_page(&mut self.pages, front, next);
     }
 
     /// The last slot that a tag was entered in.

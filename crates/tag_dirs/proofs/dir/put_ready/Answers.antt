@@ -1,8 +1,7 @@
-use Rattle.std.proofs.Common.{◌≡◌, List, false, subst}
+use Rattle.std.proofs.Common.{◌≡◌, false, subst}
 use Rattle.domain_base.specs.declared.place.Home.{Home}
-use Rattle.tag_dirs.specs.Directory.{AddsPage, Leads, has_home}
+use Rattle.tag_dirs.specs.Directory.{AddsPage, has_home}
 use Rattle.tag_dirs.proofs.Added.{links_last, page_added}
-use Rattle.page_store.specs.Pages.{Pages, with_page}
 use Rattle.tag_dirs.proofs.dir.put_ready.Goals as goal
 
 pub returns-clause-added : goal.returns-clause-added

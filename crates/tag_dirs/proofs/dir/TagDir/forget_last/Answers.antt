@@ -1,4 +1,4 @@
-use Rattle.std.proofs.Common.{take, ◌-◌, length-take, ◌≡◌, ◌∙◌, ◌++◌, ◌∷◌, ◌+◌, [], Bool, true, false, cond, nat_eq, List, length, vec_len, length-append, Option, Some, None, ℕ, sym, ap, subst, arith, rules, refl}
+use Rattle.std.proofs.Common.{take, ◌-◌, length-take, ◌≡◌, ◌∙◌, ◌++◌, ◌∷◌, [], cond, nat_eq, List, length, vec_len, length-append, Option, None, ℕ, sym, ap, arith, rules}
 use Rattle.tag_dirs.specs.declared.dir.TagPlace.{TagPlace}
 use Rattle.tag_dirs.specs.Directory.{home_with, number_with}
 use Rattle.tag_dirs.proofs.Places.{number_forgotten}
