@@ -13,3 +13,4 @@ pub mod Halves
 pub mod Parted
 pub mod Still
 pub mod Switched
+pub mod FewPages

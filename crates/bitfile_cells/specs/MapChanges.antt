@@ -1,5 +1,5 @@
 -- The change of the one record of a cell that says where pages stand.
-use Rattle.std.specs.Prelude.{◌≡◌, ◌⊎◌, ◌<◌, ℕ, false, List, [], ◌∷◌, Some, Contains}
+use Rattle.std.specs.Prelude.{◌≡◌, ◌⊎◌, ◌<◌, ◌≤◌, ℕ, false, List, [], ◌∷◌, Some, Contains, length}
 use Rattle.std.specs.List.{AllByRecursion}
 use Rattle.domain_base.specs.declared.place.CellAt.{CellAt}
 use Rattle.domain_base.specs.declared.place.Home.{Home}
@@ -104,6 +104,12 @@ TakesIfFull page place chain prefer space space_now cells cells_now old =
 abbrev pub LeavesOffTables : Cells → Pages → Pages → Type 0
 LeavesOffTables cells old new =
     (home : Home) → ¬ Contains (table_of cells home.vol) home.page → new home ≡ old home
+
+-- each page stays but those of some homes, which are so many at most
+pub record ChangesAtMost (count : ℕ) (old new : Pages) : Type 0 where
+  pub homes : List Home
+  pub few : length homes ≤ count
+  pub others : (home : Home) → ¬ Contains homes home → new home ≡ old home
 
 -- the record has the page
 abbrev pub HasPage : ℕ → Record → Type 0

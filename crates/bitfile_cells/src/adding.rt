@@ -14,7 +14,7 @@ ghost use Rattle.bitfile_cells.specs.Allocated.{AreAllocated, FindsNone};
 ghost use Rattle.bitfile_cells.specs.Changes.{IsInUse};
 ghost use Rattle.bitfile_cells.specs.FileChanges.{AreOnTables, LeavesOtherCells};
 ghost use Rattle.bitfile_cells.specs.Files.{HasFile, IsFile, places_of};
-ghost use Rattle.bitfile_cells.specs.MapChanges.{ChangesOnTables, LeavesOffTables, TakesOne};
+ghost use Rattle.bitfile_cells.specs.MapChanges.{ChangesAtMost, ChangesOnTables, LeavesOffTables, TakesOne};
 
 use crate::taking::take_cell;
 use bmt_mcells::{CellHead, CellKind, RecordList, read_used, write_cell};
@@ -128,6 +128,7 @@ pub(crate) fn put_in_new_cell<M: MetaPages>(
     ensures others { (chain : List PlacedCell) → IsFile (M.pages pages.old) start.now chain
         → LeavesOtherCells cells.old chain (M.pages pages.old) (M.pages pages.new) }
     ensures elsewhere { LeavesOffTables cells.new (M.pages pages.old) (M.pages pages.new) }
+    ensures few { OnOk result (ChangesAtMost 3 (M.pages pages.old) (M.pages pages.new)) }
     ensures allocated { AreAllocated space.new cells.new (M.pages pages.new) }
     ensures room { M.room pages.old ≤ M.room pages.new + 1 }
     ensures before { M.before pages.new ≡ M.before pages.old }

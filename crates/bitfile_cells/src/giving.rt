@@ -6,7 +6,7 @@ ghost use Rattle.extent_maps.specs.declared.run.PagePlace.TheVariants.{Absent, A
 ghost use Rattle.bitfile_cells.specs.Allocated.{AreAllocated, FindsNone};
 ghost use Rattle.bitfile_cells.specs.FileChanges.{AreOnTables, LeavesOtherCells};
 ghost use Rattle.bitfile_cells.specs.Files.{HasFile, IsFile, places_of};
-ghost use Rattle.bitfile_cells.specs.MapChanges.{ChangesOnTables, LeavesOffTables, NoneTakes, TakesIfFull};
+ghost use Rattle.bitfile_cells.specs.MapChanges.{ChangesAtMost, ChangesOnTables, LeavesOffTables, NoneTakes, TakesIfFull};
 
 use crate::adding::put_in_new_cell;
 use crate::putting::put_in_records;
@@ -22,7 +22,8 @@ use std::alloc::Global;
 /// that is handed out, of the preferred volume if that has one, and linked right behind the file's
 /// first cell, with a record as that version writes it. The file is the one whose chain begins at
 /// that cell; every cell in use but those of its chain stays, and every page that stands on no
-/// volume's table. NoPage comes only where no record has room, no cell is free, and no page that
+/// volume's table. At most three pages of metadata change: that of the record; or those of the
+/// new cell, of the first one, and the last one of the table, where that gets a page. NoPage comes only where no record has room, no cell is free, and no page that
 /// would hold more, which is a miss. At an Err nothing but room and the count of misses has
 /// changed.
 pub fn put_page<M: MetaPages>(
@@ -57,6 +58,7 @@ pub fn put_page<M: MetaPages>(
     ensures others { (chain : List PlacedCell) → IsFile (M.pages pages.old) start chain
         → LeavesOtherCells cells.old chain (M.pages pages.old) (M.pages pages.new) }
     ensures elsewhere { LeavesOffTables cells.new (M.pages pages.old) (M.pages pages.new) }
+    ensures few { OnOk result (ChangesAtMost 3 (M.pages pages.old) (M.pages pages.new)) }
     ensures allocated { AreAllocated space.new cells.new (M.pages pages.new) }
     ensures room { M.room pages.old ≤ M.room pages.new + 1 }
     ensures before { M.before pages.new ≡ M.before pages.old }

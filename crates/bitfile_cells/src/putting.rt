@@ -8,7 +8,7 @@ ghost use Rattle.extent_maps.specs.declared.run.PagePlace.TheVariants.{Absent, A
 ghost use Rattle.extent_records.specs.Chains.{Takes};
 ghost use Rattle.extent_records.specs.Writing.{places_in};
 ghost use Rattle.bitfile_cells.specs.Files.{HasFile, IsFile, places_of};
-ghost use Rattle.bitfile_cells.specs.MapChanges.{ChangesInPlace, ChangesMap, HasMapIs, LeavesApart, LeavesPages, NoneTakes};
+ghost use Rattle.bitfile_cells.specs.MapChanges.{ChangesAtMost, ChangesInPlace, ChangesMap, HasMapIs, LeavesApart, LeavesPages, NoneTakes};
 
 use crate::changing::set_record;
 use crate::maps::read_maps;
@@ -74,6 +74,7 @@ pub fn put_in_records<M: MetaPages>(
         → LeavesApart chain (M.pages pages.old) (M.pages pages.new) }
     ensures elsewhere { (chain : List PlacedCell) → IsFile (M.pages pages.old) start chain
         → LeavesPages chain (M.pages pages.old) (M.pages pages.new) }
+    ensures few { OnOk result (ChangesAtMost 1 (M.pages pages.old) (M.pages pages.new)) }
     ensures well_formed { KeepsWellFormed (M.pages pages.old) (M.pages pages.new) }
     ensures headers { KeepsHeaders (M.pages pages.old) (M.pages pages.new) }
     ensures room { M.room pages.new ≡ M.room pages.old }

@@ -1,4 +1,4 @@
-use Rattle.std.proofs.Common.{◌∙◌, ◌≤◌, IfNone, IfSome, List, rules, subst}
+use Rattle.std.proofs.Common.{◌∙◌, ◌≤◌, IfNone, IfSome, List, refl, rules, subst}
 use Rattle.record_table.specs.declared.record.Record.{Record}
 use Rattle.bmt_mcells.specs.declared.head.CellKind.TheVariants.{Chain}
 use Rattle.bmt_mcells.specs.declared.used.UsedCell.{UsedCell}
@@ -7,6 +7,7 @@ use Rattle.bmt_mcells.specs.Chain.{StandsAt}
 use Rattle.extent_maps.specs.declared.run.PagePlace.TheVariants.{At}
 use Rattle.bitfile_cells.proofs.Added.{added, at_on, first_cell, not_zeros, off_table, other_stay, stands_taken, start_on, table_kept, taken_elsewhere}
 use Rattle.bitfile_cells.proofs.ChainChanges.{at_apart}
+use Rattle.bitfile_cells.proofs.FewPages.{linked_changes, none_changes}
 use Rattle.bitfile_cells.proofs.OnePage.{one_fits}
 use Rattle.bitfile_cells.proofs.Still.{allocated_linked}
 use Rattle.bitfile_cells.proofs.adding.put_in_new_cell.Goals as goal
@@ -112,3 +113,11 @@ returns-clause-elsewhere g c = λ h out.
     (off_table c.take_cell.new.cells at h (at_on c.args.prefer at c.args.space.now c.take_cell.new.space c.args.cells.now c.take_cell.new.cells old between low c.requires.allocated c.in_ok-at.ensures.ok) out)
     (off_table c.take_cell.new.cells start h (table_kept c.args.prefer at c.args.space.now c.take_cell.new.space c.args.cells.now c.take_cell.new.cells old between low c.requires.allocated c.in_ok-at.ensures.ok start.vol start.page (start_on old c.args.cells.now start c.requires.file.0 c.requires.file.1 (c.requires.tables c.requires.file.0 c.requires.file.1))) out)
     ∙ taken_elsewhere c.args.prefer at c.args.space.now c.take_cell.new.space c.args.cells.now c.take_cell.new.cells old between low c.requires.allocated c.in_ok-at.ensures.ok h out
+
+pub returns-in_default-clause-few : goal.returns-in_default-clause-few
+returns-in_default-clause-few g c = none_changes 3 (g.M.MetaPages.pages c.args.pages.now) (g.M.MetaPages.pages c.args.pages.now) refl
+
+pub returns-clause-few : goal.returns-clause-few
+returns-clause-few g c =
+    linked_changes c.args.prefer c.in_ok-at.at c.args.space.now c.take_cell.new.space c.args.cells.now c.take_cell.new.cells (g.M.MetaPages.pages c.args.pages.now) (g.M.MetaPages.pages c.take_cell.new.pages) (g.M.MetaPages.pages c.link_behind.new.pages)
+    c.in_ok-at.ensures.ok c.args.start.now c.link_behind.ensures.elsewhere

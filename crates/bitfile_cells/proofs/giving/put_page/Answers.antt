@@ -1,10 +1,12 @@
-use Rattle.std.proofs.Common.{Contains, List, inl, subst, sym}
+use Rattle.std.proofs.Common.{Contains, List, OnOk, arith, inl, subst, sym}
 use Rattle.domain_base.specs.declared.place.CellAt.{CellAt}
 use Rattle.page_store.specs.Pages.{Pages}
 use Rattle.bitfile_cells.specs.FileChanges.{LeavesOtherCells}
 use Rattle.bitfile_cells.specs.Files.{IsFile}
 use Rattle.bitfile_cells.proofs.Added.{off_tables}
 use Rattle.bitfile_cells.proofs.ChainChanges.{inside_places}
+use Rattle.bitfile_cells.specs.MapChanges.{ChangesAtMost, LeavesOffTables}
+use Rattle.bitfile_cells.proofs.FewPages.{at_most}
 use Rattle.bitfile_cells.proofs.Still.{allocated_apart, if_err, on_by_places, others_stay}
 use Rattle.bitfile_cells.proofs.giving.put_page.Goals as goal
 
@@ -40,3 +42,16 @@ returns-clause-others g c = λ chain is.
 
 pub returns-clause-full : goal.returns-clause-full
 returns-clause-full g c = λ chain is. if_err c.put_in_new_cell.result (λ fault _. c.in_ok-put_in_records.ensures.full chain is c.if-branch.false)
+
+pub returns-then-branch-clause-few : goal.returns-then-branch-clause-few
+returns-then-branch-clause-few g c = at_most 1 3 (g.M.MetaPages.pages c.args.pages.now) (g.M.MetaPages.pages c.put_in_records.new.pages) (omega arith) c.in_ok-put_in_records.ensures.few
+
+pub returns-clause-few : goal.returns-clause-few
+returns-clause-few g c =
+    let kept = c.in_ok-put_in_records.ensures.kept c.if-branch.false in
+    subst (λ (pages : Pages). OnOk c.put_in_new_cell.result (ChangesAtMost 3 pages (g.M.MetaPages.pages c.put_in_new_cell.new.pages))) kept c.put_in_new_cell.ensures.few
+
+pub returns-clause-elsewhere : goal.returns-clause-elsewhere
+returns-clause-elsewhere g c =
+    let kept = c.in_ok-put_in_records.ensures.kept c.if-branch.false in
+    subst (λ (pages : Pages). LeavesOffTables c.put_in_new_cell.new.cells pages (g.M.MetaPages.pages c.put_in_new_cell.new.pages)) kept c.put_in_new_cell.ensures.elsewhere

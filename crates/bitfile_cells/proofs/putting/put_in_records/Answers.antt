@@ -1,4 +1,4 @@
-use Rattle.std.proofs.Common.{◌≡◌, ◌∙◌, ◌<◌, List, false, length, ap, subst, sym, arith}
+use Rattle.std.proofs.Common.{◌≡◌, ◌∙◌, ◌<◌, List, false, length, ap, refl, subst, sym, arith}
 use Rattle.std.specs.List.{AllByRecursion}
 use Rattle.domain_base.specs.declared.place.CellAt.{CellAt}
 use Rattle.page_store.specs.Pages.{same_home}
@@ -8,6 +8,7 @@ use Rattle.extent_maps.specs.declared.run.PagePlace.TheVariants.{At}
 use Rattle.extent_records.specs.Chains.{CanTake, IsChoice}
 use Rattle.bitfile_cells.proofs.ChainChanges.{apart_stays, can_take_all, in_place}
 use Rattle.bitfile_cells.proofs.Chosen.{absent_value, all_at, choice_within, lists_long, picked}
+use Rattle.bitfile_cells.proofs.FewPages.{none_changes, one_changes}
 use Rattle.bitfile_cells.proofs.putting.put_in_records.Goals as goal
 
 pub record_for-requires-clause-records : goal.record_for-requires-clause-records
@@ -81,3 +82,10 @@ returns-clause-elsewhere g c = λ chain is home all.
     (choice_within c.args.page c.in-Some.i (At c.args.home) c.as_slice.result.now (subst (IsChoice c.args.page (At c.args.home) c.as_slice.result.now) c.in-Some.is c.in_ok-i.ensures)))
     (sym c.index.ensures) (sym c.index-2.ensures) in
     c.in_ok-put_at.ensures.elsewhere home (all_at (λ (at : CellAt). same_home home (home_of at) ≡ false) chain c.index.result.now all p.inside)
+
+pub returns-in_default-clause-few : goal.returns-in_default-clause-few
+returns-in_default-clause-few g c = none_changes 1 (g.M.MetaPages.pages c.args.pages.now) (g.M.MetaPages.pages c.args.pages.now) refl
+
+pub returns-clause-few : goal.returns-clause-few
+returns-clause-few g c =
+    one_changes (g.M.MetaPages.pages c.args.pages.now) (g.M.MetaPages.pages c.put_at.new.pages) (home_of c.index.result.now) c.in_ok-put_at.ensures.elsewhere
