@@ -1,7 +1,9 @@
 //! The files of a fileset, looked at.
-ghost use Rattle.std.specs.Prelude.{◌≡◌, ℕ, IfOk, List, OnErr, OnOk, Some, true, false};
+ghost use Rattle.std.specs.Prelude.{◌≡◌, ℕ, IfNone, IfOk, IfSome, IsSome, List, None, OnErr, OnOk, Some, true, false};
 ghost use Rattle.std.specs.Option.{option_and_then};
 ghost use Rattle.domain_base.specs.declared.place.Home.{Home as HomeOf};
+ghost use Rattle.domain_base.specs.declared.place.Tag.{Tag as TagOf};
+ghost use Rattle.tag_dirs.specs.Directory.{IsOnPage};
 ghost use Rattle.page_store.specs.Pages.{same_home};
 ghost use Rattle.bmt_mcells.specs.Cell.{Cell};
 ghost use Rattle.bmt_mcells.specs.CellPage.{KeepsHeaders, KeepsWellFormed, home_of as home_there};
@@ -24,7 +26,7 @@ use extent_maps::{ExtentMap, PagePlace, Run};
 use page_store::MetaPages;
 use record_table::{Leftover, Record};
 use std::alloc::Global;
-use tag_dirs::TagDir;
+use tag_dirs::{TagDir, TagPlace};
 
 /// The files and directories of a fileset: its number, and its tag directory. The pages of cells
 /// and tags stand among the pages of metadata that each call is given.
@@ -136,7 +138,7 @@ impl Bitfiles {
     }
 
     /// The first cell of the file that a tag names, if it is not to be removed.
-    pub(crate) fn live_cell<M: MetaPages>(&self, pages: &M, tag: Tag) -> Option<CellAt>
+    pub fn live_cell<M: MetaPages>(&self, pages: &M, tag: Tag) -> Option<CellAt>
         requires { HasFiles self.now.fileset self.now.tags (M.pages pages.now) }
         ensures { (chains : Chains)
             → AreFiles self.now.fileset self.now.tags (M.pages pages.now) chains
@@ -147,6 +149,31 @@ impl Bitfiles {
             return None;
         }
         Some(at)
+    }
+
+    /// Where the pages of the tag directory stand, in their chain's order.
+    pub fn tag_places(&self) -> &[TagPlace]
+        ensures { result.now ≡ self.now.tags }
+    {
+        self.tags.places()
+    }
+
+    /// A tag that names a file or directory, and whose entry stands on the page of the tag directory
+    /// with that number, counted along the chain from 0. None exactly where there is none on that
+    /// page, or no such page. So all files of a fileset that goes are found, page by page, while
+    /// each tag is taken out of use.
+    pub fn tag_on<M: MetaPages>(&self, pages: &M, number: usize) -> Option<Tag>
+        requires { HasFiles self.now.fileset self.now.tags (M.pages pages.now) }
+        ensures there { (chains : Chains)
+            → AreFiles self.now.fileset self.now.tags (M.pages pages.now) chains
+            → IfSome result (λ tag. IsSome (chains tag)) }
+        ensures on { IfSome result (IsOnPage self.now.tags number) }
+        ensures none { (chains : Chains)
+            → AreFiles self.now.fileset self.now.tags (M.pages pages.now) chains
+            → IfNone result ((tag : TagOf) → IsOnPage self.now.tags number tag
+            → chains tag ≡ None) }
+    {
+        self.tags.tag_on(pages, number)
     }
 
     /// What the file or directory is that a tag names. None exactly where it names none, or one

@@ -1,4 +1,4 @@
-use Rattle.std.proofs.Common.{ℕ, ◌<◌, ◌≤◌, ◌^◌, rules, arith}
+use Rattle.std.proofs.Common.{ℕ, ◌<◌, ◌≤◌, ◌^◌, rules}
 use Rattle.record_table.specs.declared.record.Record.TheVariants.{DirIndex}
 use Rattle.record_table.specs.Records.{Allowed}
 use Rattle.bitfile_core.proofs.indexing.index_record.Goals as goal

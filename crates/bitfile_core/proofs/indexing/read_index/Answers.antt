@@ -1,4 +1,4 @@
-use Rattle.std.proofs.Common.{◌≡◌, ℕ, ◌≤◌, subst}
+use Rattle.std.proofs.Common.{ℕ, ◌≤◌, subst}
 use Rattle.record_table.specs.declared.record.Record.TheVariants.{DirIndex}
 use Rattle.record_table.specs.Records.{Allowed}
 use Rattle.bitfile_core.proofs.indexing.read_index.Goals as goal
