@@ -18,16 +18,17 @@ use Rattle.free_space.specs.Spaces.{Spaces}
 use Rattle.bitfile_cells.specs.Allocated.{AreAllocated}
 use Rattle.bitfile_cells.specs.FileChanges.{AreOnTables, LeavesOtherCells}
 use Rattle.bitfile_cells.specs.Files.{IsFile, places_of}
-use Rattle.bitfile_cells.specs.MapChanges.{LeavesOffTables}
+use Rattle.bitfile_cells.specs.MapChanges.{ChangesAtMost, LeavesOffTables}
 use Rattle.bitfile_cells.proofs.Added.{off_table, used_of}
 use Rattle.bitfile_cells.proofs.ChainChanges.{at_apart, stand_file}
+use Rattle.bitfile_cells.proofs.FewPages.{then_changes, two_change}
 use Rattle.bitfile_cells.proofs.OnePage.{place_stands}
 use Rattle.chain_release.specs.declared.reader.Reader.{Reader}
 use Rattle.chain_release.specs.declared.released.Released.{Released}
 use Rattle.chain_release.specs.declared.released.Released.TheVariants as released
 use Rattle.chain_release.specs.declared.releasing.Plan.{Plan}
 use Rattle.chain_release.specs.Reading.{HasPageFrom, IsGone}
-use Rattle.chain_release.specs.Releases.{ChangesTwo, GivesBack, LeavesBoth, Progresses, Releases, use_of}
+use Rattle.chain_release.specs.Releases.{GivesBack, LeavesBoth, Progresses, Releases, use_of}
 use Rattle.chain_release.specs.Sharing.{frozen_of}
 use Rattle.chain_release.specs.Steps.{AllStand, GivesTail, HandsOver, IsFreed, IsPlanned, PassesOn, WritesEdit, edited, is_freed, went}
 use Rattle.chain_release.proofs.Cuts.{Cuts}
@@ -168,17 +169,13 @@ module _ (from : ℕ) (start : CellAt) (reader : Option Reader) (plan : Plan) (s
     stepped : Steps plan.tail.from mid start chain is.planned.spot.front is.planned.spot.rest is.planned.spot.c is.planned.spot.value plan.edit file_mid is.planned.spot.all is.planned.spot.map is.planned.edit new cells_now cells_new writes
     stepped = steps plan.tail.from mid start chain is.planned.spot.front is.planned.spot.rest is.planned.spot.c is.planned.spot.value plan.edit file_mid is.planned.spot.all is.planned.spot.map is.planned.edit new cells_now cells_new writes
 
-    -- where none is handed over, the pages of the cell that is written, and of the one that is freed
+    -- of the edit the pages of the cell that is written, and of the one that is freed
     abbrev freed_home : Option CellAt → Home
     freed_home None = home_of plan.edit.at
     freed_home (Some freed) = home_of freed
 
-    two_pages : mid ≡ old → ChangesTwo old new
-    two_pages same = record {
-      first = home_of plan.edit.at;
-      second = freed_home plan.edit.freed;
-      others = λ home first second. writes.elsewhere home first (each home plan.edit.freed second) ∙ ap (λ (p : Pages). p home) same;
-    }
+    edit_changes : ChangesAtMost 2 mid new
+    edit_changes = two_change mid new (home_of plan.edit.at) (freed_home plan.edit.freed) (λ home first second. writes.elsewhere home first (each home plan.edit.freed second))
       where
         each : (home : Home) (o : Option CellAt) → same_home home (freed_home o) ≡ false → IfSome o (λ freed. same_home home (home_of freed) ≡ false)
         each home None apart = tt
@@ -207,7 +204,10 @@ module _ (from : ℕ) (start : CellAt) (reader : Option Reader) (plan : Plan) (s
           };
           first = s.stays.first;
           one = s.one;
-          few = ⊎_elim (λ same. inl (two_pages same)) (λ hands. inr hands) p.few;
+          few = ⊎_elim
+              (λ same. inl (subst (λ (pages : Pages). ChangesAtMost 2 pages new) same edit_changes))
+              (λ hands. inr (hands.0, then_changes 3 2 old mid new hands.1 edit_changes))
+              p.few;
           own_first = p.first;
           within = s.within;
           joined = p.joined;

@@ -18,7 +18,7 @@ use Rattle.free_space.specs.declared.waiting.PageUse.{PageUse}
 use Rattle.free_space.specs.Spaces.{IsHeld, Spaces}
 use Rattle.bitfile_cells.specs.FileChanges.{AreOnTables, LeavesOtherCells, SameFirst}
 use Rattle.bitfile_cells.specs.Files.{places_of}
-use Rattle.bitfile_cells.specs.MapChanges.{IsHandedOut, Joins, LeavesOffTables}
+use Rattle.bitfile_cells.specs.MapChanges.{ChangesAtMost, IsHandedOut, Joins, LeavesOffTables}
 use Rattle.bitfile_cells.proofs.ChainChanges.{inside_places, stand_file}
 use Rattle.bitfile_cells.proofs.Chosen.{all_at}
 use Rattle.chain_release.specs.declared.reader.Reader.{Reader}
@@ -85,7 +85,7 @@ module _ (from : ℕ) (start : CellAt) (reader : Option Reader) (plan : Plan) (s
     pub given : GivesBack (IsGone (places_of own_now) (places_of chain) (places_of after)) kind group between space_now
     pub held : (p : ℕ) (home : Home) → places_of after p ≡ At home → IsHeldApart space_now cells_now home
     pub not_own : (p q : ℕ) (home : Home) → places_of after p ≡ At home → ¬ places_of own_now q ≡ At home
-    pub few : (mid ≡ old) ⊎ HandsPage (frozen_of reader) (places_of own) (places_of own_now) (places_of chain) (places_of after)
+    pub few : (mid ≡ old) ⊎ (HandsPage (frozen_of reader) (places_of own) (places_of own_now) (places_of chain) (places_of after) × ChangesAtMost 3 old mid)
 
   -- what is so of the chain in between
   pub record Between : Type 0 where
@@ -291,5 +291,5 @@ module _ (from : ℕ) (start : CellAt) (reader : Option Reader) (plan : Plan) (s
         given = record { homes = []; each = λ h. ((λ inside. absurd (omega (arith, inside.1))), (λ g. absurd (none_gone h g))); once = tt; is = refl };
         held = λ p h there. apart_grows plan.tail.from (At home) own home.vol space space_now cells cells_now old hands.taken h (is.sharing.held p h (still p h there));
         not_own = not_own_some;
-        few = inr (record { page = plan.tail.from; is = record { home = home; absent = last.absent; is_frozen = last.is_frozen; was = was_there; is = is_there; gone = now_gone } });
+        few = inr (record { page = plan.tail.from; is = record { home = home; absent = last.absent; is_frozen = last.is_frozen; was = was_there; is = is_there; gone = now_gone } }, hands.few);
       }

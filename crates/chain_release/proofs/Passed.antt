@@ -79,6 +79,10 @@ pub on_both : {A E P Q R : Type 0} (r : Result A E) → (P → Q → R) → OnOk
 on_both (Ok x) f p q = f p q
 on_both (Err e) f p q = tt
 
+pub on_three : {A E P Q S R : Type 0} (r : Result A E) → (P → Q → S → R) → OnOk r P → OnOk r Q → OnOk r S → OnOk r R
+on_three (Ok x) f p q s = f p q s
+on_three (Err e) f p q s = tt
+
 -- the reader's chain
 pub reader_is : (pages : Pages) (reader : Option Reader) (r : Reader) (page : ℕ) (cells : Cells) (own : List PlacedCell) → reader ≡ Some r → MayHandOver page reader cells pages own → IsFile pages r.at own
 reader_is pages reader r page cells own is may = subst (λ o. IsReader pages o own) is may.reads

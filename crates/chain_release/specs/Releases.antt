@@ -1,9 +1,9 @@
 -- What a step of letting go of a file's pages changes.
-use Rattle.std.specs.Prelude.{◌≡◌, false, ◌⊎◌, ◌+◌, ◌<◌, ◌≤◌, ◌==◌, ◌||◌, ◌↔◌, ℕ, List, [], ◌∷◌, length, Option, Some, Contains, if◌then◌else◌}
+use Rattle.std.specs.Prelude.{◌≡◌, ◌⊎◌, ◌+◌, ◌<◌, ◌≤◌, ◌==◌, ◌||◌, ◌↔◌, ℕ, List, [], ◌∷◌, length, Option, Some, Contains, if◌then◌else◌}
 use Rattle.domain_base.specs.declared.place.CellAt.{CellAt}
 use Rattle.domain_base.specs.declared.place.Home.{Home}
 use Rattle.domain_base.specs.declared.version.Version.{Version}
-use Rattle.page_store.specs.Pages.{Pages, same_home}
+use Rattle.page_store.specs.Pages.{Pages}
 use Rattle.record_table.specs.declared.record.Record.{Record}
 use Rattle.record_table.specs.declared.record.Record.TheVariants as written
 use Rattle.bmt_mcells.specs.Cell.{Cell, record_of}
@@ -17,7 +17,7 @@ use Rattle.free_space.specs.VolumeSpace.{with_waiting}
 use Rattle.free_space.specs.Spaces.{Spaces, change_volume}
 use Rattle.bitfile_cells.specs.FileChanges.{SameFirst}
 use Rattle.bitfile_cells.specs.Files.{places_of}
-use Rattle.bitfile_cells.specs.MapChanges.{IsHandedOut, Joins, NoneTakes, TakesIfFull}
+use Rattle.bitfile_cells.specs.MapChanges.{ChangesAtMost, IsHandedOut, Joins, NoneTakes, TakesIfFull}
 use Rattle.chain_release.specs.declared.reader.Reader.{Reader}
 use Rattle.chain_release.specs.declared.released.Released.{Released}
 use Rattle.chain_release.specs.declared.released.Released.TheVariants as released
@@ -103,13 +103,6 @@ pub record ChangesOne (chain after : List PlacedCell) : Type 0 where
   pub at : CellAt
   pub others : (c : PlacedCell) → Contains after c → ¬ c.at ≡ at → Contains chain c
 
--- pages of metadata stay, but for those of two homes
-pub record ChangesTwo (old new : Pages) : Type 0 where
-  pub first : Home
-  pub second : Home
-  pub others : (home : Home) → same_home home first ≡ false → same_home home second ≡ false
-      → new home ≡ old home
-
 -- a page is handed over
 pub record HandsPage (frozen : ℕ) (own own_now source source_now : Places) : Type 0 where
   pub page : ℕ
@@ -126,8 +119,8 @@ pub record Releases (from : ℕ) (start : CellAt) (reader : Option Reader) (grou
   pub again : AreSharing start reader space_now cells_now new after own_now
   pub first : SameFirst chain after
   pub one : ChangesOne chain after
-  pub few : ChangesTwo old new ⊎ HandsPage (frozen_of reader) (places_of own) (places_of own_now)
-      (places_of chain) (places_of after)
+  pub few : ChangesAtMost 2 old new ⊎ (HandsPage (frozen_of reader) (places_of own)
+      (places_of own_now) (places_of chain) (places_of after) × ChangesAtMost 5 old new)
   pub own_first : (own_now ≡ own) ⊎ SameFirst own own_now
   pub within : (at : CellAt) → Contains (places after) at → Contains (places chain) at
   pub joined : (c : PlacedCell) → Contains own_now c → ¬ Contains (places own) c.at

@@ -21,7 +21,7 @@ use Rattle.free_space.specs.Spaces.{Spaces}
 use Rattle.bitfile_cells.specs.Changes.{with_record}
 use Rattle.bitfile_cells.specs.FileChanges.{AreOnTables, LeavesOtherCells}
 use Rattle.bitfile_cells.specs.Files.{HasMap, IsFile, places_of}
-use Rattle.bitfile_cells.specs.MapChanges.{ChangesOnTables, LeavesOffTables, TakesIfFull}
+use Rattle.bitfile_cells.specs.MapChanges.{ChangesAtMost, ChangesOnTables, LeavesOffTables, TakesIfFull}
 use Rattle.chain_release.specs.declared.edits.ChainEdit.{ChainEdit}
 use Rattle.chain_release.specs.declared.reader.Reader.{Reader}
 use Rattle.chain_release.specs.declared.released.Released.{Released}
@@ -213,6 +213,7 @@ pub record HandsOver (page : ℕ) (home : Home) (at : CellAt) (own : List Placed
   pub taken : TakesIfFull page (At home) own home.vol space space_now cells cells_now old
   pub others : LeavesOtherCells cells own old new
   pub elsewhere : LeavesOffTables cells_now old new
+  pub few : ChangesAtMost 3 old new
 
 -- the pages from one on wait
 pub record GivesTail (from : ℕ) (map : Places) (kind : PageUse) (group : ℕ)

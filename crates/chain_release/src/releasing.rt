@@ -10,11 +10,11 @@ ghost use Rattle.free_space.specs.Spaces.{Spaces};
 ghost use Rattle.bitfile_cells.specs.Allocated.{AreAllocated, FindsNone};
 ghost use Rattle.bitfile_cells.specs.FileChanges.{LeavesOtherCells};
 ghost use Rattle.bitfile_cells.specs.Files.{IsFile, places_of};
-ghost use Rattle.bitfile_cells.specs.MapChanges.{LeavesOffTables, NoneTakes};
+ghost use Rattle.bitfile_cells.specs.MapChanges.{ChangesAtMost, LeavesOffTables, NoneTakes};
 ghost use Rattle.chain_release.specs.declared.released.Released.TheVariants as released;
 ghost use Rattle.chain_release.specs.Releases.{LacksPlace, LeavesBoth, Releases};
-ghost use Rattle.chain_release.specs.Sharing.{AreSharing, HasSharing, IsReleased, frozen_of};
-ghost use Rattle.chain_release.specs.Steps.{HandsOver, IsPlan, IsPlanned, IsStaleCell, MayHandOver, MayPlan, PassesOn, went};
+ghost use Rattle.chain_release.specs.Sharing.{AreSharing, HasSharing, IsReader, IsReleased, frozen_of};
+ghost use Rattle.chain_release.specs.Steps.{HandsOver, IsPlan, IsPlanned, IsStaleCell, IsTail, MayHandOver, MayPlan, PassesOn, went};
 
 use crate::edits::{ChainEdit, edit_for, write_edit};
 use crate::giving_back::{give_back_from, use_of};
@@ -40,6 +40,28 @@ pub struct Plan {
     pub edit: ChainEdit,
 }
 
+/// Which pages of a map go in one step. The reader's cells are looked at only where a page that it
+/// may read through the file is one of them: a frozen one that has a home.
+fn tail_for<M: MetaPages>(
+    alloc: Global,
+    pages: &M,
+    map: &ExtentMap,
+    from: u32,
+    reader: &Option<Reader>,
+) -> Result<Tail, OutOfMemory>
+    requires { (own : List PlacedCell) × IsReader (M.pages pages.now) reader.now own }
+    ensures { (own : List PlacedCell) → IsReader (M.pages pages.now) reader.now own
+        → IfOk result (IsTail from (frozen_of reader.now) (places_of own) (place_of map.now)) }
+{
+    let frozen = frozen_pages(reader);
+    let alone = tail_of(map, &ExtentMap::new(alloc), from, frozen);
+    if alone.home.is_none() && alone.from == from {
+        return Ok(alone);
+    }
+    let own = reader_map(alloc, pages, reader)?;
+    Ok(tail_of(map, &own, from, frozen))
+}
+
 /// What goes of a cell in one step. It takes all memory that the step wants but for what is handed
 /// over.
 fn plan_step<M: MetaPages>(
@@ -55,9 +77,8 @@ fn plan_step<M: MetaPages>(
         → MayPlan from reader.now stale.now (M.pages pages.now) chain own
         → IfOk result (IsPlan from (frozen_of reader.now) chain own stale.now) }
 {
-    let own = reader_map(alloc, pages, reader)?;
     let map = cell_map(alloc, pages, &stale.at)?;
-    let tail = tail_of(&map, &own, from, frozen_pages(reader));
+    let tail = tail_for(alloc, pages, &map, from, reader)?;
     let edit = edit_for(alloc, pages, stale, tail.from)?;
     Ok(Plan { map, tail, edit })
 }
@@ -264,7 +285,8 @@ fn release_at<M: MetaPages>(
 /// last one alone, where the reader reads it: it is put in the reader's chain. All others are given
 /// back, and wait for the group: as metadata, where the file is a directory or its data is logged,
 /// and else as data. A cell behind the first that has no page left is unlinked and freed. `Nothing`
-/// exactly where no such cell is there: nothing has changed then.
+/// exactly where no such cell is there: nothing has changed then. Two pages of metadata change at
+/// most, and five where a page is handed over.
 ///
 /// NoPage comes only where the reader reads a page through the file that no record of its chain
 /// can have, no cell is free, and no page that would hold more, which is a miss. At an Err nothing
@@ -315,8 +337,8 @@ pub fn release_tail<M: MetaPages>(
     }
 }
 
-/// Frees the only cell of a file that has no page left: nothing is left of the file then. It takes
-/// no memory.
+/// Frees the only cell of a file that has no page left: nothing is left of the file then. It
+/// changes the page of that cell alone, and takes no memory.
 pub fn release_last<M: MetaPages>(pages: &mut M, cells: &mut FreeCells, start: CellAt)
     requires file { (first : PlacedCell) × IsFile (M.pages pages.old) start (first ∷ [])
         × ((page : ℕ) → places_of (first ∷ []) page ≡ Absent) }
@@ -325,6 +347,7 @@ pub fn release_last<M: MetaPages>(pages: &mut M, cells: &mut FreeCells, start: C
     ensures frees { FreesCell start cells.old cells.new }
     ensures others { LeavesOthers (is_at start) (M.pages pages.old) (M.pages pages.new) }
     ensures elsewhere { LeavesOffTables cells.new (M.pages pages.old) (M.pages pages.new) }
+    ensures few { ChangesAtMost 1 (M.pages pages.old) (M.pages pages.new) }
     ensures allocated { (space : Spaces) → AreAllocated space cells.old (M.pages pages.old)
         → AreAllocated space cells.new (M.pages pages.new) }
     ensures room { M.room pages.new ≡ M.room pages.old }

@@ -4,7 +4,7 @@ use Rattle.bitfile_cells.specs.FileChanges.{AreOnTables}
 use Rattle.bitfile_cells.specs.Files.{places_of}
 use Rattle.chain_release.specs.Steps.{HandsOver}
 use Rattle.bitfile_core.proofs.Given.{one_file}
-use Rattle.chain_release.proofs.Passed.{on_both, reader_is}
+use Rattle.chain_release.proofs.Passed.{on_three, reader_is}
 use Rattle.chain_release.proofs.releasing.hand_over.Goals as goal
 
 pub put_page-requires-clause-tables : goal.put_page-requires-clause-tables
@@ -29,7 +29,7 @@ returns-in-Some-clause-ok g c = λ own may.
     subst
     (λ o. OnOk c.put_page.result (IfSome o (λ r. HandsOver c.args.page c.args.home r.at own c.args.version c.args.space.now c.put_page.new.space c.args.cells.now c.put_page.new.cells old new)))
     (sym c.in-Some.is)
-    (on_both c.put_page.result (λ changes taken. record { changes = changes; taken = taken; others = c.put_page.ensures.others own is; elsewhere = c.put_page.ensures.elsewhere }) (c.put_page.ensures.ok own is) (c.put_page.ensures.taken own is))
+    (on_three c.put_page.result (λ changes taken few. record { changes = changes; taken = taken; others = c.put_page.ensures.others own is; elsewhere = c.put_page.ensures.elsewhere; few = few }) (c.put_page.ensures.ok own is) (c.put_page.ensures.taken own is) c.put_page.ensures.few)
 
 pub returns-in-Some-clause-others : goal.returns-in-Some-clause-others
 returns-in-Some-clause-others g c = λ own may.

@@ -2,9 +2,8 @@ use Rattle.extent_maps.specs.Runs.{place_of}
 use Rattle.extent_records.specs.Writing.{places_in}
 use Rattle.bitfile_cells.specs.Files.{places_of}
 use Rattle.chain_release.specs.Sharing.{frozen_of}
-use Rattle.chain_release.specs.Steps.{IsTail}
 use Rattle.chain_release.proofs.Planned.{before_used, cell_stands, front_stand, has_map, stands_there, tail_by}
-use Rattle.std.proofs.Common.{ℕ, subst}
+use Rattle.std.proofs.Common.{refl}
 use Rattle.chain_release.proofs.releasing.plan_step.Goals as goal
 
 pub cell_map-requires : goal.cell_map-requires
@@ -24,8 +23,10 @@ returns g c = λ chain own may.
     record {
       spot = may.spot;
       map = map;
-      tail = tail_by c.args.from (frozen_of c.args.reader.now) (place_of c.in_ok-own.own) (places_of own) (place_of c.in_ok-map.map) (places_in may.spot.value) c.tail_of-tail.result (c.in_ok-own.ensures own may.reads) map
-          (subst (λ (n : ℕ). IsTail c.args.from n (place_of c.in_ok-own.own) (place_of c.in_ok-map.map) c.tail_of-tail.result) c.frozen_pages.ensures c.tail_of-tail.ensures);
+      tail = tail_by c.args.from (frozen_of c.args.reader.now) (places_of own) (places_of own) (place_of c.in_ok-map.map) (places_in may.spot.value) c.in_ok-tail.tail (λ p. refl) map (c.in_ok-tail.ensures own may.reads);
       edit = c.in_ok-edit.ensures may.spot.front may.spot.c may.spot.value (front_stand c.args.from c.args.reader.now c.args.stale.now pages chain own may) (cell_stands c.args.from c.args.reader.now c.args.stale.now pages chain own may)
           may.spot.is_at may.spot.before may.spot.map;
     }
+
+pub tail_for-requires : goal.tail_for-requires
+tail_for-requires g c = (c.requires.1, c.requires.2.reads)

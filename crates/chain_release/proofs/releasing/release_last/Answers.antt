@@ -1,5 +1,7 @@
 use Rattle.std.proofs.Common.{ℕ, List, Contains, subst, sym}
 use Rattle.bitfile_cells.proofs.Added.{off_table}
+use Rattle.bmt_mcells.specs.CellPage.{home_of}
+use Rattle.bitfile_cells.proofs.FewPages.{one_changes}
 use Rattle.chain_release.proofs.Freed.{allocated_freed}
 use Rattle.chain_release.proofs.releasing.release_last.Goals as goal
 
@@ -10,3 +12,6 @@ returns-clause-elsewhere g c = λ home out.
 pub returns-clause-allocated : goal.returns-clause-allocated
 returns-clause-allocated g c = λ space allocated.
     allocated_freed c.args.start space c.args.cells.now c.free_cell.new.self (g.M.MetaPages.pages c.args.pages.now) (g.M.MetaPages.pages c.free_cell.new.pages) allocated c.free_cell.ensures.value c.free_cell.ensures.belong c.free_cell.ensures.headers
+
+pub returns-clause-few : goal.returns-clause-few
+returns-clause-few g c = one_changes (g.M.MetaPages.pages c.args.pages.now) (g.M.MetaPages.pages c.free_cell.new.pages) (home_of c.args.start) c.free_cell.ensures.elsewhere
