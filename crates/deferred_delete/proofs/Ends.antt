@@ -19,11 +19,13 @@ use Rattle.bitfile_cells.proofs.MapRecords.{value_has_rows}
 use Rattle.bitfile_core.specs.Together.{IsHeldApart}
 use Rattle.bitfile_core.proofs.Grown.{on_grown}
 use Rattle.deferred_delete.specs.declared.list.Entry.{Entry}
-use Rattle.deferred_delete.specs.Listed.{IsEntry, IsListed}
+use Rattle.deferred_delete.specs.Listed.{IsEntry, IsListed, SaysWhatGoes, record_at}
 use Rattle.deferred_delete.specs.Listing.{clone_but, without, without_clone}
 use Rattle.deferred_delete.specs.Standing.{Files, ReadsThrough, Source, StandTogether, place_in, source_at, source_in, source_of, with_file}
 use Rattle.deferred_delete.specs.Steps.{says_no_source, says_trimmed, without_source}
+use Rattle.bitfile_core.specs.Files.{first_record}
 use Rattle.deferred_delete.proofs.Changed.{first_place, first_together}
+use Rattle.deferred_delete.proofs.Firsts.{says_by, says_same}
 use Rattle.deferred_delete.proofs.Lists.{IsIn, but_other, but_some, earlier, in_start, in_without, is_in, last_in, not_last, once_front, once_last, once_without, order_front, order_last, order_without, this}
 use Rattle.deferred_delete.proofs.Records.{sourceless_maps, sourceless_other, sourceless_there, trimmed_attributes, trimmed_maps, trimmed_other}
 use Rattle.deferred_delete.proofs.Spread.{none_not, some_same}
@@ -34,7 +36,7 @@ use Rattle.deferred_delete.proofs.Standings.{AreNarrower, apart_by, chain_beside
 -- each earlier entry's file is as it was, and what reads through it
 module _ (space : Spaces) (cells cells_now : Cells) (files now : Files) (front : List Entry) (entry : Entry) (pages : List Home)
     (listed : IsListed space cells files (record { entries = front ++ entry ∷ []; tag_pages = pages }))
-    (same : (a : CellAt) → ¬ a ≡ entry.at → is_some (now a) ≡ is_some (files a))
+    (same : (a : CellAt) → ¬ a ≡ entry.at → is_some (now a) ≡ is_some (files a)) (says : (a : CellAt) → ¬ a ≡ entry.at → SaysWhatGoes files a → SaysWhatGoes now a)
     (reads : (a b : CellAt) → ¬ b ≡ entry.at → ReadsThrough now a b → ReadsThrough files a b) (still : (a b : CellAt) → ¬ b ≡ entry.at → (e : Entry) → Contains front e → e.at ≡ b → ReadsThrough files a b → ReadsThrough now a b)
     (places : (a : CellAt) (p : ℕ) (home : Home) → place_in now a p ≡ At home → place_in files a p ≡ At home) (held : (home : Home) → IsHeldApart space cells home → IsHeldApart space cells_now home) where
   earlier_entry : (e : Entry) → Contains front e → IsEntry now e
@@ -43,6 +45,7 @@ module _ (space : Spaces) (cells cells_now : Cells) (files now : Files) (front :
       let was = listed.each e (in_start front (entry ∷ []) e inside) in
       record {
         there = same e.at not_at ∙ was.there;
+        says = says e.at not_at was.says;
         given = λ c some. still c e.at not_at e inside refl (was.given c some);
         all = λ c is. was.all c (reads c e.at not_at is);
       }
@@ -105,6 +108,7 @@ module _ (space : Spaces) (cells : Cells) (old new : Pages) (files : Files) (tog
   pub trim_listed : IsListed space cells files (record { entries = front ++ entry ∷ []; tag_pages = pages }) → IsListed space cells trimmed_now (record { entries = front; tag_pages = pages })
   trim_listed listed = listed_front space cells cells files trimmed_now front entry pages listed
       (λ a not_at. ap is_some (file_other entry.at (Some trimmed) files a not_at))
+      (λ a not_at. says_same files trimmed_now a (file_other entry.at (Some trimmed) files a not_at))
       (λ a b not_at x. reads_by files trimmed_now a b (trim_sources a) x)
       (λ a b not_at e inside same x. reads_by trimmed_now files a b (sym (trim_sources a)) x)
       (λ a p home there. sym (first_place space cells old new files together entry.at first rest is file says_trimmed leaves stands good headers refl trim_maps trim_attributes a p) ∙ there)
@@ -181,9 +185,21 @@ module _ (space : Spaces) (cells : Cells) (old new : Pages) (files : Files) (tog
       (λ not_at. ap is_some (file_other clone (Some alone) files a not_at))
       (same_or_not a clone)
 
+  alone_first : (k : ℕ) → ¬ k ≡ 2 → (a : CellAt) → record_at alone_now k a ≡ record_at files k a
+  alone_first k two a = ⊎_elim
+      (λ same.
+      ap (option_and_then (first_record k)) (ap alone_now same ∙ file_there clone (Some alone) files) ∙ sourceless_other first.cell k two
+      ∙ sym (ap (option_and_then (first_record k)) (ap files same ∙ is)))
+      (λ not_at. ap (option_and_then (first_record k)) (file_other clone (Some alone) files a not_at))
+      (same_or_not a clone)
+
+  alone_says : (a : CellAt) → SaysWhatGoes files a → SaysWhatGoes alone_now a
+  alone_says a says = says_by files alone_now a (alone_first 6 (λ e. omega (arith, e)) a) (alone_first 1 (λ e. omega (arith, e)) a) says
+
   pub alone_listed : IsListed space cells alone_now (record { entries = front ++ record entry { clone = None } ∷ []; tag_pages = pages })
   alone_listed = listed_last space cells cells files alone_now front entry pages listed
       (λ a not_at. alone_there a)
+      (λ a not_at. alone_says a)
       (λ a b not_at x. alone_reads a b x)
       (λ a b not_at e inside same x. ⊎_elim
       (λ is_clone. absurd (not_at (one_source (source_at files a) b entry.at x (subst (λ (q : CellAt). ReadsThrough files q entry.at) (sym is_clone) (is_last.given clone given)))))
@@ -194,6 +210,7 @@ module _ (space : Spaces) (cells : Cells) (old new : Pages) (files : Files) (tog
       (record entry { clone = None }) refl refl
       (record {
         there = alone_there entry.at ∙ is_last.there;
+        says = alone_says entry.at is_last.says;
         given = λ c some. absurd (none_not c some);
         all = λ c reads. absurd (none_reads entry.at (subst (λ (q : CellAt). ReadsThrough alone_now q entry.at) (some_same c clone (sym (is_last.all c (alone_reads c entry.at reads)) ∙ given)) reads));
       })
@@ -251,6 +268,7 @@ module _ (space : Spaces) (cells cells_now : Cells) (old new : Pages) (files : F
       let is = listed.each was (in_start front (entry ∷ []) was inside) in
       record {
         there = ap is_some (gone_other was.at (not_last front entry was listed.once inside)) ∙ is.there;
+        says = says_same files gone_now was.at (gone_other was.at (not_last front entry was listed.once inside)) is.says;
         given = λ c some. let o = but_some entry.at c was.clone some in still_reads c was.at o.1 (is.given c o.0);
         all = λ c reads. ap (clone_but entry.at) (is.all c (gone_reads c was.at reads)) ∙ but_other entry.at c (not_gone c was.at reads);
       }

@@ -1,6 +1,8 @@
--- Records of first cells that say nothing of pages, where those that do are others.
-use Rattle.std.proofs.Common.{◌≡◌, ◌∙◌, ℕ, not, true, false, nat_le, List, [], ◌∷◌, Option, Some, None, refl, sym, ap}
+-- Records of first cells that say nothing of pages, where those that do are others; and what goes by
+-- what first cells say.
+use Rattle.std.proofs.Common.{◌≡◌, ◌∙◌, inl, inr, ℕ, not, true, false, is_some, nat_le, List, [], ◌∷◌, Option, Some, None, refl, sym, ap, ⊎_elim}
 use Rattle.std.specs.Option.{option_and_then}
+use Rattle.domain_base.specs.declared.place.CellAt.{CellAt}
 use Rattle.record_table.specs.declared.record.Record.{Record}
 use Rattle.record_table.specs.Records.{kind_of}
 use Rattle.bmt_mcells.specs.Cell.{record_of}
@@ -10,6 +12,8 @@ use Rattle.bitfile_cells.specs.FileChanges.{SameFirst}
 use Rattle.bitfile_cells.specs.Files.{has_rows}
 use Rattle.bitfile_core.specs.Files.{first_record}
 use Rattle.bitfile_core.proofs.FirstCell.{find_filter}
+use Rattle.deferred_delete.specs.Listed.{SaysWhatGoes, record_at}
+use Rattle.deferred_delete.specs.Standing.{Files}
 
 pub first_same : (k : ℕ) → nat_le 1 (most_rows k) ≡ false → (chain after : List PlacedCell) → SameFirst chain after → first_record k after ≡ first_record k chain
 first_same k none [] after same = absurd same
@@ -23,3 +27,10 @@ first_same k none (a ∷ xs) (b ∷ ys) same =
 pub then_then : {X Y Z : Type 0} (f : Y → Option Z) (g : X → Option Y) (o : Option X) → option_and_then (λ x. option_and_then f (g x)) o ≡ option_and_then f (option_and_then g o)
 then_then f g None = refl
 then_then f g (Some x) = refl
+
+-- where a first cell has the same records of what is left and of attributes, the same goes
+pub says_by : (files now : Files) (a : CellAt) → record_at now 6 a ≡ record_at files 6 a → record_at now 1 a ≡ record_at files 1 a → SaysWhatGoes files a → SaysWhatGoes now a
+says_by files now a six one says = ⊎_elim (λ some. inl (ap is_some six ∙ some)) (λ none. inr (one ∙ none)) says
+
+pub says_same : (files now : Files) (a : CellAt) → now a ≡ files a → SaysWhatGoes files a → SaysWhatGoes now a
+says_same files now a same says = says_by files now a (ap (option_and_then (first_record 6)) same) (ap (option_and_then (first_record 1)) same) says

@@ -9,3 +9,4 @@ pub mod Spread
 pub mod Standings
 pub mod Stepping
 pub mod Well
+pub mod FewSteps

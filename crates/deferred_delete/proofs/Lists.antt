@@ -1,7 +1,8 @@
 -- Lists with one thing behind the others.
-use Rattle.std.proofs.Common.{◌≡◌, ◌∙◌, ◌⊎◌, inl, inr, ℕ, zero, suc, ◌<◌, true, cond, List, [], ◌∷◌, ◌++◌, Option, Some, None, Contains, get_or, length, slice_set, refl, sym, ap, subst, arith, ⊎_elim}
+use Rattle.std.proofs.Common.{◌≡◌, ◌∙◌, ◌⊎◌, inl, inr, ℕ, zero, suc, ◌-◌, ◌<◌, true, cond, List, [], ◌∷◌, ◌++◌, Option, Some, None, Contains, get_or, length, slice_set, refl, sym, ap, subst, arith, ⊎_elim}
 use Rattle.std.proofs.lemmas.Bool.{cases_lt}
 use Rattle.std.proofs.lemmas.List.{get_or-map, length-map}
+use Rattle.std.proofs.lemmas.Option.{get_or_from_slice_get, slice_get_within}
 use Rattle.domain_base.specs.declared.place.CellAt.{CellAt}
 use Rattle.domain_base.specs.declared.place.Home.{Home}
 use Rattle.bmt_mcells.specs.Chain.{is_at}
@@ -10,6 +11,7 @@ use Rattle.bitfile_cells.proofs.ChainChanges.{at_apart}
 use Rattle.chain_release.specs.Releases.{AreAllOnce}
 use Rattle.deferred_delete.specs.declared.list.Entry.{Entry}
 use Rattle.deferred_delete.specs.Listing.{AreInOrder, clone_but, without, without_clone}
+use Rattle.deferred_delete.specs.Steps.{last_home}
 use Rattle.deferred_delete.proofs.Spread.{some_same}
 use Rattle.deferred_delete.proofs.Standings.{at_itself, same_or_not}
 
@@ -176,6 +178,9 @@ nil_of [] none = refl
 nil_of (x ∷ xs) none = absurd (omega (arith, none))
 
 -- homes
+pub last_inside : (homes : List Home) (home : Home) → last_home homes ≡ Some home → Contains homes home
+last_inside homes home is = (length homes - 1, slice_get_within homes (length homes - 1) home is, get_or_from_slice_get homes (length homes - 1) home home is)
+
 pub homes_front : (front : List Home) (last : Home) → AreAllOnce (front ++ last ∷ []) → AreAllOnce front
 homes_front [] last once = tt
 homes_front (x ∷ front) last once = ((λ inside. once.0 (in_start front (last ∷ []) x inside)), homes_front front last once.1)

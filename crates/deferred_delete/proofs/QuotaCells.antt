@@ -21,6 +21,7 @@ use Rattle.free_space.specs.Spaces.{Spaces}
 use Rattle.bitfile_cells.specs.Allocated.{AreAllocated}
 use Rattle.bitfile_cells.specs.Changes.{IsInUse}
 use Rattle.bitfile_cells.proofs.Added.{not_zeros, off_table, used_of}
+use Rattle.bitfile_cells.proofs.FewPages.{one_changes, then_changes}
 use Rattle.bitfile_cells.proofs.Still.{allocated_still}
 use Rattle.chain_release.proofs.Edited.{belong_written}
 use Rattle.chain_release.proofs.Freed.{allocated_freed}
@@ -34,13 +35,15 @@ use Rattle.chain_release.specs.Sharing.{IsReleased}
 use Rattle.chain_release.proofs.Stepped.{stand_apart}
 use Rattle.deferred_delete.specs.declared.list.Entry.{Entry}
 use Rattle.deferred_delete.specs.declared.went.Went.TheVariants as went
-use Rattle.deferred_delete.specs.Listed.{IsListed, left_of, leftover_in}
+use Rattle.deferred_delete.specs.Listed.{IsListed, leftover_in, record_at}
 use Rattle.deferred_delete.specs.Listing.{Listing}
 use Rattle.deferred_delete.specs.Standing.{Files, IsFileOrQuotas, IsQuotas, IsStanding, StandTogether, source_at, source_of, with_file}
 use Rattle.deferred_delete.specs.Steps.{HasEntry, HasFileEntry, HasQuotas, IsEndingWhole, Leaves, Now, leads_to, list_after, now_of, quota_goes}
 use Rattle.deferred_delete.proofs.Lists.{last_in}
 use Rattle.deferred_delete.proofs.Spread.{none_not, some_same}
-use Rattle.deferred_delete.proofs.Standings.{AreNarrower, apart_by, chain_by, file_other, file_there, narrower_together, quota_first, quota_place, reads_by, said_trim, same_or_not, stand_chain, standing, was_there}
+use Rattle.bitfile_core.specs.Files.{first_record}
+use Rattle.deferred_delete.proofs.Firsts.{says_by}
+use Rattle.deferred_delete.proofs.Standings.{AreNarrower, apart_by, chain_by, file_other, file_there, narrower_together, quota_first, quota_place, reads_by, same_or_not, stand_chain, standing, was_there}
 use Rattle.deferred_delete.proofs.Well.{chain_of}
 
 -- ---- the chain then
@@ -170,10 +173,17 @@ module _ (space : Spaces) (cells cells_now : Cells) (old new : Pages) (files : F
       (λ not_at. ap is_some (quota_other a not_at))
       (same_or_not a at)
 
+  quota_records : (k : ℕ) (a : CellAt) → record_at quota_now k a ≡ record_at files k a
+  quota_records k a = ⊎_elim
+      (λ same. ap (option_and_then (first_record k)) (ap quota_now same ∙ quota_there) ∙ ap (first_record k) after_is ∙ sym (ap (option_and_then (first_record k)) (ap files same ∙ is)))
+      (λ not_at. ap (option_and_then (first_record k)) (quota_other a not_at))
+      (same_or_not a at)
+
   pub quota_listed : (list : Listing) → IsListed space cells files list → IsListed space cells_now quota_now list
   quota_listed list listed = record {
     each = λ e inside. let was = listed.each e inside in record {
       there = quota_some e.at ∙ was.there;
+      says = says_by files quota_now e.at (quota_records 6 e.at) (quota_records 1 e.at) was.says;
       given = λ c some. reads_by quota_now files c e.at (sym (quota_sources c)) (was.given c some);
       all = λ c reads. was.all c (reads_by files quota_now c e.at (quota_sources c) reads);
     };
@@ -312,6 +322,7 @@ module _ (list : Listing) (front : List Entry) (files : Files) (entry : Entry) (
               allocated = allocated;
               others = others;
               elsewhere = elsewhere;
+              few = then_changes 1 1 old mid new (one_changes old mid (home_of entry.at) leaves_off) (one_changes mid new (home_of next) clears_off);
             });
             well = record {
               together = quota_together space cells cells_now old new files has.has.well.together entry.at two.first two.second two.rest two.is two.quotas after refl after_quotas others frees_second allocated;
@@ -332,7 +343,7 @@ quota_ending front entry at has leads = record {
   has = has.has;
   chain = has.chain;
   is = has.is;
-  whole = λ trim. let e : None ≡ Some Trim = sym (ap (option_and_then leftover_in) (quota_first at.pages entry.at has.chain has.quotas 6 (λ e. omega (arith, e)) (λ e. omega (arith, e)))) ∙ said_trim entry.goes (left_of has.chain) trim in absurd (cc);
+  whole = λ trim. let e : None ≡ Some Trim = sym (ap (option_and_then leftover_in) (quota_first at.pages entry.at has.chain has.quotas 6 (λ e. omega (arith, e)) (λ e. omega (arith, e)))) ∙ trim in absurd (cc);
   done = last_quota at.pages entry.at has.chain has.quotas leads;
 }
 

@@ -35,7 +35,7 @@ use Rattle.deferred_delete.specs.Listed.{IsEntry, IsListed, stale_from}
 use Rattle.deferred_delete.specs.Listing.{Listing}
 use Rattle.deferred_delete.specs.Standing.{Files, IsStanding, Source, StandTogether, place_in, source_at, source_in, source_of, with_file}
 use Rattle.deferred_delete.specs.Steps.{IsGiven, with_clone}
-use Rattle.deferred_delete.proofs.Firsts.{first_same, then_then}
+use Rattle.deferred_delete.proofs.Firsts.{first_same, says_by, then_then}
 use Rattle.deferred_delete.proofs.Standings.{apart_by, apart_from, chain_by, each_from, file_other, file_there, low_home, place_by, reads_by, same_or_not, source_file, stand_chain, standing}
 
 pub some_same : {X : Type 0} (x y : X) → Some x ≡ Some y → x ≡ y
@@ -137,12 +137,12 @@ module _ (space : Spaces) (cells : Cells) (old : Pages) (files : Files) (togethe
         has;
   }
 
-  module _ (group : ℕ) (version : Version) (space_now : Spaces) (cells_now : Cells) (new : Pages) (what : Released) (r : Releases (stale_from entry chain) entry.at reader group version chain own space space_now cells cells_now old new what)
+  module _ (group : ℕ) (version : Version) (space_now : Spaces) (cells_now : Cells) (new : Pages) (what : Released) (r : Releases (stale_from chain) entry.at reader group version chain own space space_now cells cells_now old new what)
       (others : LeavesBoth cells chain own old new) (allocated : AreAllocated space_now cells_now new) where
     abbrev pub now : Files
     now = with_file entry.at (Some r.after) (with_clone entry.clone r.own_now files)
 
-    same_tables : (what : Released) → Progresses what (stale_from entry chain) chain r.after r.cells_between cells_now → (vol : ℕ) → table_of cells_now vol ≡ table_of r.cells_between vol
+    same_tables : (what : Released) → Progresses what (stale_from chain) chain r.after r.cells_between cells_now → (vol : ℕ) → table_of cells_now vol ≡ table_of r.cells_between vol
     same_tables released.Nothing progress vol = absurd progress
     same_tables released.Pages progress vol = ap (λ (c : Cells). table_of c vol) progress.same_cells
     same_tables released.Cell progress vol = progress.frees.tables vol
@@ -372,6 +372,7 @@ module _ (space : Spaces) (cells : Cells) (old : Pages) (files : Files) (togethe
     spread_listed list listed = record {
       each = λ e inside. let was = listed.each e inside in record {
         there = there_now e.at was.there;
+        says = says_by files now e.at (firsts 6 refl e.at) (firsts 1 refl e.at) was.says;
         given = λ c some. reads_by now files c e.at (sym (sources_now c)) (was.given c some);
         all = λ c reads. was.all c (reads_by files now c e.at (sources_now c) reads);
       };

@@ -7,8 +7,7 @@ use Rattle.std.specs.Option.{option_and_then, option_map_or}
 use Rattle.domain_base.specs.declared.place.CellAt.{CellAt}
 use Rattle.domain_base.specs.declared.place.Home.{Home}
 use Rattle.page_store.specs.Pages.{Pages}
-use Rattle.record_table.specs.declared.record.Leftover.{Leftover}
-use Rattle.record_table.specs.declared.record.Leftover.TheVariants.{Remove, Trim}
+use Rattle.record_table.specs.declared.record.Leftover.TheVariants.{Trim}
 use Rattle.record_table.specs.declared.record.Record.{Record}
 use Rattle.record_table.specs.declared.record.Record.TheVariants as written
 use Rattle.record_table.specs.Records.{kind_of}
@@ -29,9 +28,7 @@ use Rattle.bitfile_core.specs.Together.{IsHeldApart}
 use Rattle.bitfile_core.proofs.OneChain.{file_by, follow_by}
 use Rattle.chain_release.proofs.Once.{absent_not, file_map, good_page}
 use Rattle.chain_release.proofs.Stepped.{stand_apart}
-use Rattle.deferred_delete.specs.declared.list.Goes.{Goes}
-use Rattle.deferred_delete.specs.declared.list.Goes.TheVariants.{AsSaid, Whole}
-use Rattle.deferred_delete.specs.Listed.{done_by, left_of, leftover_in}
+use Rattle.deferred_delete.specs.Listed.{left_of, leftover_in}
 use Rattle.deferred_delete.specs.Standing.{Files, IsFileOrQuotas, IsQuotaCell, IsQuotas, IsStanding, ReadsThrough, Source, StandTogether, place_in, source_at, source_in, source_of, with_file}
 
 -- ---- places of cells
@@ -148,15 +145,6 @@ file_if pages at (first ∷ rest) o says is some = is_file pages at (first ∷ r
     (λ none.
     let l = linked_at pages at first rest is in
     true≢false (sym some ∙ ap is_some (says first.cell (subst (λ (a : CellAt). StandsAt pages a first.cell) l.0 l.1.stands) ∙ none)))
-
--- what is to be trimmed by an entry says so itself
-pub said_trim : (goes : Goes) (o : Option Leftover) → done_by goes o ≡ Some Trim → o ≡ Some Trim
-said_trim AsSaid o trim = trim
-said_trim Whole o trim = let e : Some Remove ≡ Some Trim = trim in absurd (cc)
-
-pub still_trim : (goes : Goes) (a b : Option Leftover) → (a ≡ Some Trim → b ≡ Some Trim) → done_by goes a ≡ Some Trim → done_by goes b ≡ Some Trim
-still_trim AsSaid a b still trim = still trim
-still_trim Whole a b still trim = trim
 
 pub trim_file : (pages : Pages) (at : CellAt) (cs : List PlacedCell) → IsFileOrQuotas pages at cs → left_of cs ≡ Some Trim → IsFile pages at cs
 trim_file pages at cs is trim = is_file pages at cs is 6 (λ e. omega (arith, e)) (λ e. omega (arith, e)) (λ none. let e : None ≡ Some Trim = sym (ap (option_and_then leftover_in) none) ∙ trim in absurd (cc))

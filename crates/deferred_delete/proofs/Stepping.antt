@@ -16,8 +16,9 @@ use Rattle.free_cells.specs.Cells.{Cells, FreesCell, table_of}
 use Rattle.free_space.specs.Spaces.{Spaces}
 use Rattle.bitfile_cells.specs.Allocated.{AreAllocated}
 use Rattle.bitfile_cells.specs.Files.{IsFile}
-use Rattle.bitfile_cells.specs.MapChanges.{LeavesOffTables}
+use Rattle.bitfile_cells.specs.MapChanges.{ChangesAtMost, LeavesOffTables}
 use Rattle.bitfile_cells.proofs.Added.{off_table, used_of}
+use Rattle.bitfile_cells.proofs.FewPages.{one_changes}
 use Rattle.bitfile_core.specs.Changes.{with_first}
 use Rattle.chain_release.specs.declared.reader.Reader.{Reader}
 use Rattle.chain_release.specs.declared.released.Released.{Released}
@@ -25,14 +26,14 @@ use Rattle.chain_release.specs.Releases.{LacksPlace, LeavesBoth, Releases}
 use Rattle.chain_release.specs.Sharing.{IsReleased, frozen_of}
 use Rattle.deferred_delete.specs.declared.list.Entry.{Entry}
 use Rattle.deferred_delete.specs.declared.went.Went.TheVariants as went
-use Rattle.deferred_delete.specs.Listed.{GoesWhole, IsListed, from_by, left_of, to_do}
+use Rattle.deferred_delete.specs.Listed.{GoesWhole, IsListed, from_by, left_of}
 use Rattle.deferred_delete.specs.Listing.{Listing}
 use Rattle.deferred_delete.specs.Standing.{Files, IsFileOrQuotas, IsStanding, source_in, source_of, with_file}
 use Rattle.deferred_delete.specs.Steps.{HasEntry, HasRecord, IsEnding, IsEndingWhole, IsWell, LacksRoom, Leaves, Now, TakesTagPage, file_ends, list_after, now_of, pages_go, reading_ends, says_no_source, says_trimmed, tag_page_goes, trim_ends}
 use Rattle.deferred_delete.proofs.Ends.{alone_listed, alone_together, gone_listed, gone_together, trim_listed, trim_together}
 use Rattle.deferred_delete.proofs.Lists.{last_in}
 use Rattle.deferred_delete.proofs.Spread.{now, some_same, spread_listed, spread_together}
-use Rattle.deferred_delete.proofs.Standings.{linked_at, not_nil, said_trim, source_file, standing, trim_file}
+use Rattle.deferred_delete.proofs.Standings.{linked_at, not_nil, source_file, standing, trim_file}
 use Rattle.deferred_delete.proofs.Well.{IsReady, source_chain, tag_page_well}
 
 -- pages or a cell went
@@ -106,10 +107,10 @@ pub trim_went : (group : ℕ) (version : Version) (list : Listing) (front : List
     → Leaves group version (now_of list files space cells old) (list_after went.Last front entry list) space cells new
 trim_went group version list front files entry space cells old new ending stands leaves good headers elsewhere = by_chain ending.chain ending.is ending.left_is ending.done
   where
-    by_chain : (chain : List PlacedCell) → files entry.at ≡ Some chain → to_do entry chain ≡ Some Trim → IsReleased (from_by (Some Trim) chain) chain → Leaves group version (now_of list files space cells old) (list_after went.Last front entry list) space cells new
+    by_chain : (chain : List PlacedCell) → files entry.at ≡ Some chain → left_of chain ≡ Some Trim → IsReleased (from_by (Some Trim) chain) chain → Leaves group version (now_of list files space cells old) (list_after went.Last front entry list) space cells new
     by_chain [] is left done = absurd (not_nil old entry.at (standing space cells old files ending.has.well.together entry.at [] is).stands)
     by_chain (first ∷ rest) is left done =
-        let file = trim_file old entry.at (first ∷ rest) (standing space cells old files ending.has.well.together entry.at (first ∷ rest) is).stands (said_trim entry.goes (left_of (first ∷ rest)) left) in
+        let file = trim_file old entry.at (first ∷ rest) (standing space cells old files ending.has.well.together entry.at (first ∷ rest) is).stands left in
         let here = stands first.cell (first_stands old entry.at first rest (standing space cells old files ending.has.well.together entry.at (first ∷ rest) is).stands) in
         record {
           files = with_file entry.at (Some (with_first says_trimmed (first ∷ rest))) files;
@@ -130,6 +131,7 @@ trim_went group version list front files entry space cells old new ending stands
             headers = headers;
             others = leaves;
             elsewhere = λ h off. elsewhere h (off_first old cells entry.at (first ∷ rest) h (standing space cells old files ending.has.well.together entry.at (first ∷ rest) is) off);
+            few = one_changes old new (home_of entry.at) elsewhere;
           });
           well = record {
             together = trim_together space cells old new files ending.has.well.together front entry list.tag_pages first rest is file leaves here good headers;
@@ -204,6 +206,7 @@ reading_went group version list front files entry space cells old new clone give
             headers = headers;
             others = leaves;
             elsewhere = λ h off. elsewhere h (off_first old cells clone (first ∷ rest) h (standing space cells old files ending.has.well.together clone (first ∷ rest) is) off);
+            few = one_changes old new (home_of clone) elsewhere;
           });
           well = record {
             together = alone_together space cells old new files ending.has.well.together front entry list.tag_pages listed clone given first rest is file leaves here good headers;
@@ -232,10 +235,10 @@ module _ (list : Listing) (front : List Entry) (files : Files) (entry : Entry) (
 
 -- the last cell of a file, or of quotas, goes
 pub cell_went : (group : ℕ) (version : Version) (list : Listing) (front : List Entry) (files : Files) (entry : Entry) (space : Spaces) (cells cells_now : Cells) (old new : Pages) → entry.clone ≡ None → HasEntry front entry (now_of list files space cells old)
-    → (chain : List PlacedCell) → files entry.at ≡ Some chain → GoesWhole entry chain → IsReleased 0 chain → LeavesOthers (is_at entry.at) old new → FreesCell entry.at cells cells_now → AreAllocated space cells_now new → LeavesOffTables cells_now old new
+    → (chain : List PlacedCell) → files entry.at ≡ Some chain → GoesWhole chain → IsReleased 0 chain → LeavesOthers (is_at entry.at) old new → FreesCell entry.at cells cells_now → AreAllocated space cells_now new → LeavesOffTables cells_now old new → ChangesAtMost 1 old new
     → Leaves group version (now_of list files space cells old) (list_after went.File front entry list) space cells_now new
-cell_went group version list front files entry space cells cells_now old new alone has [] is left done leaves frees allocated elsewhere = absurd (not_nil old entry.at (standing space cells old files has.well.together entry.at [] is).stands)
-cell_went group version list front files entry space cells cells_now old new alone has (first ∷ rest) is left done leaves frees allocated elsewhere =
+cell_went group version list front files entry space cells cells_now old new alone has [] is left done leaves frees allocated elsewhere few = absurd (not_nil old entry.at (standing space cells old files has.well.together entry.at [] is).stands)
+cell_went group version list front files entry space cells cells_now old new alone has (first ∷ rest) is left done leaves frees allocated elsewhere few =
     let listed = listed_as space cells files list front entry has.last has.well.listed in
     record {
       files = with_file entry.at None files;
@@ -255,6 +258,7 @@ cell_went group version list front files entry space cells cells_now old new alo
         allocated = allocated;
         others = leaves;
         elsewhere = elsewhere;
+        few = few;
       });
       well = record {
         together = gone_together space cells cells_now old new files has.well.together front entry list.tag_pages listed first rest is leaves frees allocated;
@@ -263,10 +267,10 @@ cell_went group version list front files entry space cells cells_now old new alo
     }
 
 pub file_went : (group : ℕ) (version : Version) (list : Listing) (front : List Entry) (files : Files) (entry : Entry) (space : Spaces) (cells cells_now : Cells) (old new : Pages) → entry.clone ≡ None → IsEndingWhole front entry (now_of list files space cells old)
-    → LeavesOthers (is_at entry.at) old new → FreesCell entry.at cells cells_now → AreAllocated space cells_now new → LeavesOffTables cells_now old new
+    → LeavesOthers (is_at entry.at) old new → FreesCell entry.at cells cells_now → AreAllocated space cells_now new → LeavesOffTables cells_now old new → ChangesAtMost 1 old new
     → Leaves group version (now_of list files space cells old) (list_after went.File front entry list) space cells_now new
-file_went group version list front files entry space cells cells_now old new alone ending leaves frees allocated elsewhere =
-    cell_went group version list front files entry space cells cells_now old new alone ending.has ending.chain ending.is ending.whole ending.done leaves frees allocated elsewhere
+file_went group version list front files entry space cells cells_now old new alone ending leaves frees allocated elsewhere few =
+    cell_went group version list front files entry space cells cells_now old new alone ending.has ending.chain ending.is ending.whole ending.done leaves frees allocated elsewhere few
 
 -- ---- from what a step of the chain answers
 
@@ -307,10 +311,10 @@ lacks_room list front files entry left from reader space cells old has ready lac
 }
 
 -- a page of a tag directory goes
-pub tag_page_went : (group : ℕ) (version : Version) (list list_now : Listing) (files : Files) (space space_now : Spaces) (cells : Cells) (pages : Pages) → IsWell (now_of list files space cells pages) → list.entries ≡ [] → TakesTagPage group list list_now space space_now
-    → Leaves group version (now_of list files space cells pages) list_now space_now cells pages
-tag_page_went group version list list_now files space space_now cells pages well none takes = record {
+pub tag_page_went : (group : ℕ) (version : Version) (list list_now : Listing) (files : Files) (space space_now : Spaces) (cells : Cells) (pages pages_now : Pages) → IsWell (now_of list files space cells pages) → list.entries ≡ []
+    → TakesTagPage group list list_now space space_now pages pages_now → Leaves group version (now_of list files space cells pages) list_now space_now cells pages_now
+tag_page_went group version list list_now files space space_now cells pages pages_now well none takes = record {
   files = files;
-  step = tag_page_goes (record { no_entry = none; takes = takes; same_files = refl; same_cells = refl; same_pages = refl });
-  well = tag_page_well group list list_now files space space_now cells pages well takes;
+  step = tag_page_goes (record { no_entry = none; takes = takes; same_files = refl; same_cells = refl });
+  well = tag_page_well group list list_now files space space_now cells pages pages_now well takes;
 }

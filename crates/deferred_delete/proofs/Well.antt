@@ -1,34 +1,40 @@
 -- A list and files that belong together, before a step and after it.
-use Rattle.std.proofs.Common.{◌≡◌, ◌∙◌, ℕ, zero, suc, ◌≤◌, List, [], ◌∷◌, ◌++◌, Option, Some, None, IsSome, IsSomeAnd, Contains, refl, sym, ap, subst, arith}
-use Rattle.std.proofs.lemmas.Bool.{true≢false}
+use Rattle.std.proofs.Common.{◌≡◌, ◌∙◌, ℕ, zero, suc, ◌≤◌, List, [], ◌∷◌, ◌++◌, Option, Some, None, IsSome, IsSomeAnd, Contains, refl, sym, ap, subst, arith, false, ⊎_elim}
+use Rattle.std.proofs.lemmas.Bool.{false_from_ne_true, true≢false}
+use Rattle.std.specs.List.{AllByRecursion}
 use Rattle.std.specs.Option.{option_and_then}
 use Rattle.domain_base.specs.declared.place.CellAt.{CellAt}
 use Rattle.domain_base.specs.declared.place.Home.{Home}
-use Rattle.page_store.specs.Pages.{Pages}
+use Rattle.page_store.specs.Pages.{Pages, same_home}
 use Rattle.page_store.specs.declared.fault.StoreFault.{StoreFault}
 use Rattle.page_store.specs.declared.fault.StoreFault.TheVariants.{NoPage, OutOfMemory}
 use Rattle.record_table.specs.declared.record.Leftover.{Leftover}
-use Rattle.bmt_mcells.specs.Chain.{PlacedCell}
+use Rattle.bmt_mcells.specs.CellPage.{home_of}
+use Rattle.bmt_mcells.specs.Chain.{PlacedCell, StandsAt}
+use Rattle.bmt_mcells.proofs.Changed.{homes_same}
+use Rattle.tag_dirs.specs.Directory.{Unlinks}
 use Rattle.extent_maps.specs.declared.run.PagePlace.TheVariants.{At}
-use Rattle.free_cells.specs.Cells.{Cells}
+use Rattle.free_cells.specs.Cells.{Cells, table_of}
 use Rattle.free_space.specs.declared.waiting.PageUse.TheVariants.{Metadata}
 use Rattle.free_space.specs.Spaces.{Spaces, missed}
 use Rattle.bitfile_cells.specs.Allocated.{FindsNone}
+use Rattle.bitfile_cells.specs.FileChanges.{AreOnTables}
 use Rattle.bitfile_cells.specs.Files.{IsFile}
 use Rattle.bitfile_cells.proofs.Allocated.{allocated_missed}
 use Rattle.bitfile_core.specs.Together.{IsHeldApart}
+use Rattle.bitfile_core.proofs.Created.{allocated_beside, stands_by_page}
 use Rattle.chain_release.specs.declared.reader.Reader.{Reader}
 use Rattle.chain_release.specs.Releases.{AreAllOnce, with_given}
 use Rattle.chain_release.specs.Sharing.{AreSharing}
 use Rattle.chain_release.proofs.Given.{allocated_given, held_given}
 use Rattle.deferred_delete.specs.declared.list.Entry.{Entry}
-use Rattle.deferred_delete.specs.Listed.{IsEntry, IsListed, from_by, stale_from, to_do}
+use Rattle.deferred_delete.specs.Listed.{IsEntry, IsListed, from_by, left_of, stale_from}
 use Rattle.deferred_delete.specs.Listing.{Listing}
-use Rattle.deferred_delete.specs.Standing.{Files, ReadsThrough, Source, StandTogether, source_of}
-use Rattle.deferred_delete.specs.Steps.{HasEntry, HasFileEntry, IsGiven, IsWell, ReadsFrozen, TakesTagPage, now_of}
-use Rattle.deferred_delete.proofs.Lists.{home_not_last, homes_front, in_start, last_in}
+use Rattle.deferred_delete.specs.Standing.{Files, IsStanding, ReadsThrough, Source, StandTogether, source_of}
+use Rattle.deferred_delete.specs.Steps.{HasEntry, HasFileEntry, IsGiven, IsWell, ReadsFrozen, TakesTagPage, last_home, now_of}
+use Rattle.deferred_delete.proofs.Lists.{home_not_last, homes_front, in_start, last_in, last_inside}
 use Rattle.deferred_delete.proofs.Spread.{sharing}
-use Rattle.deferred_delete.proofs.Standings.{low_home, source_file, standing}
+use Rattle.deferred_delete.proofs.Standings.{chain_by, each_from, low_home, source_file, stand_chain, standing}
 
 -- ---- nothing was done
 
@@ -62,7 +68,7 @@ well_still OutOfMemory list files space space_now cells pages none well = subst 
 
 -- ---- a page of a tag directory goes
 
-module _ (group : ℕ) (list list_now : Listing) (files : Files) (space space_now : Spaces) (cells : Cells) (pages : Pages) (well : IsWell (now_of list files space cells pages)) (takes : TakesTagPage group list list_now space space_now) where
+module _ (group : ℕ) (list list_now : Listing) (files : Files) (space space_now : Spaces) (cells : Cells) (pages pages_now : Pages) (well : IsWell (now_of list files space cells pages)) (takes : TakesTagPage group list list_now space space_now pages pages_now) where
   there : Contains list.tag_pages takes.home
   there = subst (λ (hs : List Home). Contains hs takes.home) (sym takes.last) (last_in takes.front takes.home)
 
@@ -73,6 +79,27 @@ module _ (group : ℕ) (list list_now : Listing) (files : Files) (space space_no
   only home (zero, within, is) = is
   only home (suc k, within, is) = absurd (omega (arith, within))
 
+  -- the page in front stands on no table
+  page_same : (h : Home) → Contains (table_of cells h.vol) h.page → pages_now h ≡ pages h
+  page_same h on = by_front (last_home takes.front) refl takes.unlinks
+    where
+      apart : (f : Home) → last_home takes.front ≡ Some f → same_home h f ≡ false
+      apart f is = false_from_ne_true (same_home h f)
+          (λ same. (well.listed.pages_held f (before f (last_inside takes.front f is))).off_table (subst (λ (x : Home). Contains (table_of cells x.vol) x.page) (homes_same h f same) on))
+
+      by_front : (o : Option Home) → last_home takes.front ≡ o → Unlinks o takes.home pages pages_now → pages_now h ≡ pages h
+      by_front None is same = ap (λ (ps : Pages). ps h) same
+      by_front (Some f) is unlinks = ⊎_elim (λ ends. ends.elsewhere h (apart f is)) (λ other. ap (λ (ps : Pages). ps h) other.same) unlinks
+
+  stand_still : (cs : List PlacedCell) → AreOnTables cells cs → AllByRecursion (λ (c : PlacedCell). StandsAt pages c.at c.cell) cs → AllByRecursion (λ (c : PlacedCell). StandsAt pages_now c.at c.cell) cs
+  stand_still [] on stand = tt
+  stand_still (c ∷ cs) on stand = (stands_by_page pages pages_now c.at c.cell (page_same (home_of c.at) on.0) stand.0, stand_still cs on.1 stand.1)
+
+  each_still : (a : CellAt) (cs : List PlacedCell) → files a ≡ Some cs → IsStanding cells pages_now a cs
+  each_still a cs is =
+      let was = standing space cells pages files well.together a cs is in
+      record { stands = chain_by pages pages_now a cs (stand_still cs was.on_tables (stand_chain pages a cs was.stands)) was.stands; on_tables = was.on_tables }
+
   abbrev after : Spaces
   after = with_given Metadata group (takes.home ∷ []) space
 
@@ -82,13 +109,13 @@ module _ (group : ℕ) (list list_now : Listing) (files : Files) (space space_no
     off_table = is.off_table;
   }
 
-  together_after : StandTogether after cells pages files
+  together_after : StandTogether after cells pages_now files
   together_after = record {
-    allocated = allocated_given Metadata group (takes.home ∷ []) space cells pages
+    allocated = allocated_beside after cells pages pages_now page_same (allocated_given Metadata group (takes.home ∷ []) space cells pages
         (λ x inside. subst (λ (h : Home). 1 ≤ h.vol) (only x inside) (well.listed.pages_low takes.home there))
         (λ x inside on. (subst (IsHeldApart space cells) (only x inside) (well.listed.pages_held takes.home there)).off_table on)
-        well.together.allocated;
-    each = well.together.each;
+        well.together.allocated);
+    each = each_from cells pages_now files each_still;
     apart = well.together.apart;
     held = λ a p home is. kept home (low_home space cells pages files well.together a p home is) (λ same. well.listed.pages_apart takes.home there a p (is ∙ ap At (sym same))) (well.together.held a p home is);
     once = well.together.once;
@@ -111,10 +138,10 @@ module _ (group : ℕ) (list list_now : Listing) (files : Files) (space space_no
     pages_apart = λ home inside. well.listed.pages_apart home (before home inside);
   }
 
-  pub tag_page_well : IsWell (now_of list_now files space_now cells pages)
+  pub tag_page_well : IsWell (now_of list_now files space_now cells pages_now)
   tag_page_well =
-      subst (λ (l : Listing). IsWell (now_of l files space_now cells pages)) (sym takes.is)
-      (subst (λ (s : Spaces). IsWell (now_of (record { entries = list.entries; tag_pages = takes.front }) files s cells pages)) (sym takes.waits)
+      subst (λ (l : Listing). IsWell (now_of l files space_now cells pages_now)) (sym takes.is)
+      (subst (λ (s : Spaces). IsWell (now_of (record { entries = list.entries; tag_pages = takes.front }) files s cells pages_now)) (sym takes.waits)
       (record { together = together_after; listed = listed_after }))
 
 -- ---- what is known of the last entry
@@ -125,8 +152,8 @@ pub record IsReady (files : Files) (entry : Entry) (left : Option Leftover) (fro
   pub chain : List PlacedCell
   pub is : files entry.at ≡ Some chain
   pub file : IsFile pages entry.at chain
-  pub left_is : to_do entry chain ≡ left
-  pub from_is : from ≡ stale_from entry chain
+  pub left_is : left_of chain ≡ left
+  pub from_is : from ≡ stale_from chain
   pub own : List PlacedCell
   pub given : IsGiven files entry.clone reader own
   pub shares : AreSharing entry.at reader space cells pages chain own
@@ -169,7 +196,7 @@ pub as_file : (list : Listing) (front : List Entry) (files : Files) (entry : Ent
 as_file list front files entry space cells pages has chain is = has.file chain is
 
 pub ready : (list : Listing) (front : List Entry) (files : Files) (entry : Entry) (left : Option Leftover) (from : ℕ) (reader : Option Reader) (space : Spaces) (cells : Cells) (pages : Pages) → HasEntry front entry (now_of list files space cells pages) → ((chain : List PlacedCell) → files entry.at ≡ Some chain → IsFile pages entry.at chain)
-    → ((chain : List PlacedCell) → IsFile pages entry.at chain → left ≡ to_do entry chain) → ((chain : List PlacedCell) → IsFile pages entry.at chain → from ≡ from_by left chain) → (entry.clone ≡ None → reader ≡ None)
+    → ((chain : List PlacedCell) → IsFile pages entry.at chain → left ≡ left_of chain) → ((chain : List PlacedCell) → IsFile pages entry.at chain → from ≡ from_by left chain) → (entry.clone ≡ None → reader ≡ None)
     → ((at : CellAt) (own : List PlacedCell) → entry.clone ≡ Some at → IsFile pages at own → IsSome (source_of own) → ReadsFrozen at own reader) → IsReady files entry left from reader space cells pages
 ready list front files entry left from reader space cells pages has kind lefts froms none some =
     let is_entry = has.well.listed.each entry (subst (λ (es : List Entry). Contains es entry) (sym has.last) (last_in front entry)) in

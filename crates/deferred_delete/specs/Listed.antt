@@ -1,5 +1,5 @@
 -- What is on a list of things to be let go of.
-use Rattle.std.specs.Prelude.{◌≡◌, ◌<◌, ◌≤◌, ℕ, List, Option, Some, None, IsSome, Contains, get_or, length, unwrap_or}
+use Rattle.std.specs.Prelude.{◌≡◌, ◌⊎◌, ◌<◌, ◌≤◌, ℕ, List, Option, Some, None, IsSome, Contains, get_or, length, unwrap_or}
 use Rattle.std.specs.Option.{option_and_then}
 use Rattle.domain_base.specs.declared.place.CellAt.{CellAt}
 use Rattle.domain_base.specs.declared.place.Home.{Home}
@@ -15,8 +15,6 @@ use Rattle.chain_release.specs.Releases.{AreAllOnce}
 use Rattle.bitfile_core.specs.Files.{first_record, keep_of}
 use Rattle.bitfile_core.specs.Together.{IsHeldApart}
 use Rattle.deferred_delete.specs.declared.list.Entry.{Entry}
-use Rattle.deferred_delete.specs.declared.list.Goes.{Goes}
-use Rattle.deferred_delete.specs.declared.list.Goes.TheVariants.{AsSaid, Whole}
 use Rattle.deferred_delete.specs.Listing.{AreInOrder, Listing}
 use Rattle.deferred_delete.specs.Standing.{Files, ReadsThrough, place_in}
 
@@ -34,25 +32,26 @@ from_by (Some Trim) cells = unwrap_or (keep_of cells) 65536
 from_by (Some Remove) cells = 0
 from_by None cells = 0
 
--- what is to be done with an entry's file: what its first cell says, or to remove it
-abbrev pub done_by : Goes → Option Leftover → Option Leftover
-done_by AsSaid left = left
-done_by Whole left = Some Remove
+abbrev pub stale_from : List PlacedCell → ℕ
+stale_from cells = from_by (left_of cells) cells
 
-abbrev pub to_do : Entry → List PlacedCell → Option Leftover
-to_do entry cells = done_by entry.goes (left_of cells)
+-- all of it goes: a file that is to be removed, or quota cells
+abbrev pub GoesWhole : List PlacedCell → Type 0
+GoesWhole cells = ¬ left_of cells ≡ Some Trim
 
-abbrev pub stale_from : Entry → List PlacedCell → ℕ
-stale_from entry cells = from_by (to_do entry cells) cells
+-- the first record of a kind in the first cell of what begins there
+abbrev pub record_at : Files → ℕ → CellAt → Option Record
+record_at files kind at = option_and_then (first_record kind) (files at)
 
--- all of an entry's file goes: the entry says so, or its first cell does not say that it is to be
--- trimmed
-abbrev pub GoesWhole : Entry → List PlacedCell → Type 0
-GoesWhole entry cells = ¬ to_do entry cells ≡ Some Trim
+-- a first cell says what is left to be done, or has no attributes, and so is one of quotas
+abbrev pub SaysWhatGoes : Files → CellAt → Type 0
+SaysWhatGoes files at = IsSome (record_at files 6 at) ⊎ (record_at files 1 at ≡ None)
 
--- a file is there; the clone's file is given that reads through it, and none where none does
+-- a file of which something is to be let go of is there, as its first cell says, or quota cells
+-- are; the clone's file is given that reads through it, and none where none does
 pub record IsEntry (files : Files) (entry : Entry) : Type 0 where
   pub there : IsSome (files entry.at)
+  pub says : SaysWhatGoes files entry.at
   pub given : (clone : CellAt) → entry.clone ≡ Some clone → ReadsThrough files clone entry.at
   pub all : (clone : CellAt) → ReadsThrough files clone entry.at → entry.clone ≡ Some clone
 

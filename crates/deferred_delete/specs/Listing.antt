@@ -5,7 +5,6 @@ use Rattle.domain_base.specs.declared.place.CellAt.{CellAt}
 use Rattle.domain_base.specs.declared.place.Home.{Home}
 use Rattle.bmt_mcells.specs.Chain.{is_at}
 use Rattle.deferred_delete.specs.declared.list.Entry.{Entry}
-use Rattle.deferred_delete.specs.declared.list.Goes.{Goes}
 
 -- files of which something or all is to be let go of, and pages of tag directories
 pub record Listing : Type 0 where
@@ -23,24 +22,22 @@ AreInOrder entries = (i j : ℕ) (d : Entry) → i < length entries → j < leng
 
 -- ** What is added
 
--- the file had an entry at a place, which has that clone now and by which so much of it goes, and
--- each other one is as it was
-pub record SetsEntry (at : CellAt) (clone : Option CellAt) (goes : Goes) (place : ℕ)
-    (old new : List Entry) : Type 0 where
-  pub within : place < length old
-  pub was : (d : Entry) → (get_or old place d).at ≡ at
-  pub is : new ≡ slice_set old place (record { at = at; clone = clone; goes = goes })
+-- the file had an entry at a place, which has that clone now, and each other one is as it was
+pub record SetsEntry (at : CellAt) (clone : Option CellAt) (place : ℕ) (old new : List Entry) : Type 0
+  where
+    pub within : place < length old
+    pub was : (d : Entry) → (get_or old place d).at ≡ at
+    pub is : new ≡ slice_set old place (record { at = at; clone = clone })
 
 -- no entry had the file, and one has it now, behind all others
-pub record AddsEntry (at : CellAt) (clone : Option CellAt) (goes : Goes) (place : ℕ)
-    (old new : List Entry) : Type 0 where
-  pub none : (entry : Entry) → Contains old entry → ¬ entry.at ≡ at
-  pub behind : place ≡ length old
-  pub is : new ≡ old ++ record { at = at; clone = clone; goes = goes } ∷ []
+pub record AddsEntry (at : CellAt) (clone : Option CellAt) (place : ℕ) (old new : List Entry) : Type 0
+  where
+    pub none : (entry : Entry) → Contains old entry → ¬ entry.at ≡ at
+    pub behind : place ≡ length old
+    pub is : new ≡ old ++ record { at = at; clone = clone } ∷ []
 
-abbrev pub Puts : CellAt → Option CellAt → Goes → ℕ → List Entry → List Entry → Type 0
-Puts at clone goes place old new =
-    SetsEntry at clone goes place old new ⊎ AddsEntry at clone goes place old new
+abbrev pub Puts : CellAt → Option CellAt → ℕ → List Entry → List Entry → Type 0
+Puts at clone place old new = SetsEntry at clone place old new ⊎ AddsEntry at clone place old new
 
 -- a file has an entry in front of a place, and the two entries change places
 pub record ChangesPlaces (at : CellAt) (place : ℕ) (old new : List Entry) : Type 0 where
@@ -60,14 +57,12 @@ Orders None place old new = new ≡ old
 Orders (Some clone) place old new =
     ChangesPlaces clone place old new ⊎ HasNoneInFront clone place old new
 
--- an entry has the file, with that clone and by which so much of it goes, and that of the clone's
--- file does not stand in front of it
-pub record Adds (at : CellAt) (clone : Option CellAt) (goes : Goes) (old new : List Entry) : Type 0
-  where
-    pub place : ℕ
-    pub between : List Entry
-    pub puts : Puts at clone goes place old between
-    pub orders : Orders clone place between new
+-- an entry has the file, with that clone, and that of the clone's file does not stand in front of it
+pub record Adds (at : CellAt) (clone : Option CellAt) (old new : List Entry) : Type 0 where
+  pub place : ℕ
+  pub between : List Entry
+  pub puts : Puts at clone place old between
+  pub orders : Orders clone place between new
 
 -- ** What is gone
 

@@ -1,5 +1,5 @@
 -- The steps in which the things of a list are let go of.
-use Rattle.std.specs.Prelude.{◌≡◌, ◌⊎◌, ◌++◌, ◌∷◌, ◌+◌, ◌||◌, ◌≤◌, ℕ, List, [], Option, Some, None, IsSomeAnd}
+use Rattle.std.specs.Prelude.{◌≡◌, ◌⊎◌, ◌++◌, ◌∷◌, ◌+◌, ◌-◌, ◌||◌, ◌≤◌, ℕ, List, [], Option, Some, None, IsSomeAnd, length, slice_get}
 use Rattle.std.specs.Option.{option_map}
 use Rattle.domain_base.specs.declared.place.CellAt.{CellAt}
 use Rattle.domain_base.specs.declared.place.Home.{Home}
@@ -14,6 +14,7 @@ use Rattle.bmt_mcells.specs.CellPage.{KeepsHeaders, KeepsWellFormed}
 use Rattle.bmt_mcells.specs.Chain.{LeavesOthers, PlacedCell, StandsAt, is_at}
 use Rattle.page_store.specs.declared.fault.StoreFault.{StoreFault}
 use Rattle.page_store.specs.declared.fault.StoreFault.TheVariants.{NoPage}
+use Rattle.tag_dirs.specs.Directory.{Unlinks}
 use Rattle.free_cells.specs.Cells.{Cells, FreesCell}
 use Rattle.free_space.specs.declared.waiting.PageUse.TheVariants.{Metadata}
 use Rattle.free_space.specs.Spaces.{Spaces, change_volume}
@@ -21,7 +22,7 @@ use Rattle.free_space.specs.VolumeSpace.{with_waiting}
 use Rattle.bitfile_cells.specs.Allocated.{AreAllocated, FindsNone}
 use Rattle.bitfile_cells.specs.Changes.{with_record}
 use Rattle.bitfile_cells.specs.Files.{IsFile}
-use Rattle.bitfile_cells.specs.MapChanges.{LeavesOffTables}
+use Rattle.bitfile_cells.specs.MapChanges.{ChangesAtMost, LeavesOffTables}
 use Rattle.bitfile_core.specs.Changes.{with_first}
 use Rattle.chain_release.specs.declared.reader.Reader.{Reader}
 use Rattle.chain_release.specs.declared.released.Released.{Released}
@@ -30,7 +31,7 @@ use Rattle.chain_release.specs.Sharing.{IsReleased, frozen_of}
 use Rattle.deferred_delete.specs.declared.list.Entry.{Entry}
 use Rattle.deferred_delete.specs.declared.went.Went.{Went}
 use Rattle.deferred_delete.specs.declared.went.Went.TheVariants as went
-use Rattle.deferred_delete.specs.Listed.{GoesWhole, IsListed, from_by, stale_from, to_do}
+use Rattle.deferred_delete.specs.Listed.{GoesWhole, IsListed, from_by, left_of, stale_from}
 use Rattle.deferred_delete.specs.Listing.{Listing, without_clone}
 use Rattle.deferred_delete.specs.Standing.{Files, IsQuotas, StandTogether, source_of, with_file}
 
@@ -91,7 +92,7 @@ pub record LetsPages (group : ℕ) (version : Version) (old new : Now) : Type 0 
   pub own : List PlacedCell
   pub given : IsGiven old.files entry.clone reader own
   pub what : Released
-  pub releases : Releases (stale_from entry chain) entry.at reader group version chain own old.space
+  pub releases : Releases (stale_from chain) entry.at reader group version chain own old.space
       new.space old.cells new.cells old.pages new.pages what
   pub files : new.files ≡ with_file entry.at (Some releases.after)
       (with_clone entry.clone releases.own_now old.files)
@@ -127,6 +128,7 @@ pub record LosesQuotaCell (old new : Now) : Type 0 where
   pub allocated : AreAllocated new.space new.cells new.pages
   pub others : LeavesOthers (λ at. is_at first.at at || is_at second.at at) old.pages new.pages
   pub elsewhere : LeavesOffTables new.cells old.pages new.pages
+  pub few : ChangesAtMost 2 old.pages new.pages
 
 -- a record of attributes that says that all pages are kept
 abbrev pub kept_all : Record → Record
@@ -147,8 +149,8 @@ pub record EndsTrim (old new : Now) : Type 0 where
   pub last : IsLast front entry old.list
   pub chain : List PlacedCell
   pub is : old.files entry.at ≡ Some chain
-  pub trim : to_do entry chain ≡ Some Trim
-  pub done : IsReleased (stale_from entry chain) chain
+  pub trim : left_of chain ≡ Some Trim
+  pub done : IsReleased (stale_from chain) chain
   pub files : new.files ≡ with_file entry.at (Some (with_first says_trimmed chain)) old.files
   pub list : new.list ≡ record { entries = front; tag_pages = old.list.tag_pages }
   pub same_space : new.space ≡ old.space
@@ -159,6 +161,7 @@ pub record EndsTrim (old new : Now) : Type 0 where
   pub headers : KeepsHeaders old.pages new.pages
   pub others : LeavesOthers (is_at entry.at) old.pages new.pages
   pub elsewhere : LeavesOffTables new.cells old.pages new.pages
+  pub few : ChangesAtMost 1 old.pages new.pages
 
 -- a record of a clone's file that says that it reads through none
 abbrev pub without_source : Record → Record
@@ -176,7 +179,7 @@ pub record EndsReading (old new : Now) : Type 0 where
   pub last : IsLast front entry old.list
   pub chain : List PlacedCell
   pub is : old.files entry.at ≡ Some chain
-  pub whole : GoesWhole entry chain
+  pub whole : GoesWhole chain
   pub done : IsReleased 0 chain
   pub clone : CellAt
   pub given : entry.clone ≡ Some clone
@@ -195,6 +198,7 @@ pub record EndsReading (old new : Now) : Type 0 where
   pub headers : KeepsHeaders old.pages new.pages
   pub others : LeavesOthers (is_at clone) old.pages new.pages
   pub elsewhere : LeavesOffTables new.cells old.pages new.pages
+  pub few : ChangesAtMost 1 old.pages new.pages
 
 -- the last entry's file goes, or its quota cells, has no page left and no clone: its last cell is
 -- free, nothing is left of it, and no entry gives it as its clone's any more
@@ -204,7 +208,7 @@ pub record EndsFile (old new : Now) : Type 0 where
   pub last : IsLast front entry old.list
   pub chain : List PlacedCell
   pub is : old.files entry.at ≡ Some chain
-  pub whole : GoesWhole entry chain
+  pub whole : GoesWhole chain
   pub done : IsReleased 0 chain
   pub alone : entry.clone ≡ None
   pub files : new.files ≡ with_file entry.at None old.files
@@ -217,27 +221,33 @@ pub record EndsFile (old new : Now) : Type 0 where
   pub allocated : AreAllocated new.space new.cells new.pages
   pub others : LeavesOthers (is_at entry.at) old.pages new.pages
   pub elsewhere : LeavesOffTables new.cells old.pages new.pages
+  pub few : ChangesAtMost 1 old.pages new.pages
 
--- the last page of a tag directory on a list is on it no more, and waits as metadata
-pub record TakesTagPage (group : ℕ) (list list_now : Listing) (space space_now : Spaces) : Type 0
-  where
-    pub front : List Home
-    pub home : Home
-    pub last : list.tag_pages ≡ front ++ home ∷ []
-    pub is : list_now ≡ record { entries = list.entries; tag_pages = front }
-    pub waits : space_now ≡ change_volume (with_waiting (record {
-      page = home.page;
-      kind = Metadata;
-      group = group;
-    })) space home.vol
+-- the last of some homes
+abbrev pub last_home : List Home → Option Home
+last_home homes = slice_get homes (length homes - 1)
+
+-- the last page of a tag directory on a list is on it no more, and waits as metadata; and the page
+-- in front of it on the list leads to it no more
+pub record TakesTagPage (group : ℕ) (list list_now : Listing) (space space_now : Spaces)
+    (old new : Pages) : Type 0 where
+  pub front : List Home
+  pub home : Home
+  pub last : list.tag_pages ≡ front ++ home ∷ []
+  pub is : list_now ≡ record { entries = list.entries; tag_pages = front }
+  pub waits : space_now ≡ change_volume (with_waiting (record {
+    page = home.page;
+    kind = Metadata;
+    group = group;
+  })) space home.vol
+  pub unlinks : Unlinks (last_home front) home old new
 
 -- no file is on the list, and a page of a tag directory goes
 pub record GivesTagPage (group : ℕ) (old new : Now) : Type 0 where
   pub no_entry : old.list.entries ≡ []
-  pub takes : TakesTagPage group old.list new.list old.space new.space
+  pub takes : TakesTagPage group old.list new.list old.space new.space old.pages new.pages
   pub same_files : new.files ≡ old.files
   pub same_cells : new.cells ≡ old.cells
-  pub same_pages : new.pages ≡ old.pages
 
 -- something of a list is let go of
 pub data Step (group : ℕ) (version : Version) (old new : Now) : Type 0 where
@@ -255,6 +265,19 @@ pub data Steps (group : ℕ) (version : Version) (first : Now) : ℕ → Now →
       → Step group version between last → Steps group version first (n + 1) last
 
 -- ** What a call answers
+
+-- how many pages of metadata the next step changes at most: two, and five where a clone's file is
+-- given, to which a page may be handed over
+abbrev pub pages_beside : Option CellAt → ℕ
+pages_beside None = 2
+pages_beside (Some clone) = 5
+
+abbrev pub pages_of_entry : Option Entry → ℕ
+pages_of_entry None = 2
+pages_of_entry (Some entry) = pages_beside entry.clone
+
+abbrev pub step_pages : Listing → ℕ
+step_pages list = pages_of_entry (slice_get list.entries (length list.entries - 1))
 
 -- what a step of an entry leaves of it: all, all but its clone, or nothing; and of the others all,
 -- but a clone of which nothing is left
@@ -289,7 +312,7 @@ pub record IsEnding (front : List Entry) (entry : Entry) (left : Option Leftover
   pub chain : List PlacedCell
   pub is : now.files entry.at ≡ Some chain
   pub file : IsFile now.pages entry.at chain
-  pub left_is : to_do entry chain ≡ left
+  pub left_is : left_of chain ≡ left
   pub done : IsReleased (from_by left chain) chain
 
 -- the same of a file of which all goes
@@ -297,7 +320,7 @@ pub record IsEndingWhole (front : List Entry) (entry : Entry) (now : Now) : Type
   pub has : HasEntry front entry now
   pub chain : List PlacedCell
   pub is : now.files entry.at ≡ Some chain
-  pub whole : GoesWhole entry chain
+  pub whole : GoesWhole chain
   pub done : IsReleased 0 chain
 
 -- all is well, and the list's last entry is of quota cells
@@ -337,7 +360,7 @@ pub record LacksRoom (list : Listing) (files : Files) : Type 0 where
   pub reader : Option Reader
   pub own : List PlacedCell
   pub given : IsGiven files entry.clone reader own
-  pub lacks : LacksPlace (stale_from entry chain) (frozen_of reader) chain own
+  pub lacks : LacksPlace (stale_from chain) (frozen_of reader) chain own
 
 -- so many steps were done, at least one, and then one was not for want of a page or of memory
 pub record StopsAfter (group : ℕ) (version : Version) (first : Now) (count : ℕ) (list : Listing)

@@ -11,7 +11,7 @@ ghost use Rattle.deferred_delete.specs.Steps.{HasEntry, HasFileEntry, IsEnding, 
 
 use crate::ending::{end_reading, end_trim};
 use crate::list::Entry;
-use crate::looking::{is_of_quotas, reader_at, stale_at, to_do_at};
+use crate::looking::{is_of_quotas, left_at, reader_at, stale_at};
 use crate::quotas::release_quotas;
 use crate::went::Went;
 use chain_release::{Released, release_tail};
@@ -113,7 +113,7 @@ fn release_file<M: MetaPages>(
     ensures room { M.room pages.old ≤ M.room pages.new + 1 }
     ensures before { M.before pages.new ≡ M.before pages.old }
 {
-    let left = to_do_at(pages, entry);
+    let left = left_at(pages, &entry.at);
     let from = stale_at(pages, &entry.at, &left);
     let reader = reader_at(pages, &entry.clone);
     match release_tail(

@@ -9,4 +9,4 @@ mod quotas;
 mod release;
 mod went;
 
-pub use list::{Deferred, Entry, Goes};
+pub use list::{Deferred, Entry};

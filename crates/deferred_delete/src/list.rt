@@ -7,24 +7,14 @@ use domain_base::{CellAt, Home, OutOfMemory};
 use std::alloc::Global;
 use std::marker::Model;
 
-/// How much goes of a file that is on a list.
-#[derive(Clone, Copy, Debug, PartialEq, Eq)]
-pub enum Goes {
-    /// What its first cell says is left to be done: the pages behind those that it keeps, where it
-    /// is to be trimmed, and else all of it.
-    AsSaid,
-    /// All of it, whatever its first cell says: so of the files of a fileset that was removed.
-    Whole,
-}
-
-/// A file of which something is to be let go of: its first cell, the first cell of the clone's file
-/// that reads through it, if one does, and how much of it goes. Or the quota cells of a fileset
-/// that was removed, by the first of them, which all go.
+/// A file of which something is to be let go of: its first cell, and the first cell of the clone's
+/// file that reads through it, if one does. What goes of it its first cell says: the pages behind
+/// those that it keeps, or all. Or the quota cells of a fileset that was removed, by the first of
+/// them, which all go.
 #[derive(Clone, Copy, Debug, PartialEq, Eq)]
 pub struct Entry {
     pub at: CellAt,
     pub clone: Option<CellAt>,
-    pub goes: Goes,
 }
 
 /// Files of which pages behind those that they keep, or all, are to be let go of, and pages of tag
@@ -110,11 +100,11 @@ impl Deferred {
         }
     }
 
-    /// Gives the file that begins at a cell an entry with that clone, of which so much goes: where
-    /// it has one, and else behind all others. It answers where that stands.
-    fn put(&mut self, at: CellAt, clone: Option<CellAt>, goes: Goes) -> Result<usize, OutOfMemory>
+    /// Gives the file that begins at a cell an entry with that clone: where it has one, and else
+    /// behind all others. It answers where that stands.
+    fn put(&mut self, at: CellAt, clone: Option<CellAt>) -> Result<usize, OutOfMemory>
         ensures ok { OnOk result (self.new.tag_pages ≡ self.old.tag_pages) }
-        ensures puts { IfOk result (λ place. Puts at clone goes place self.old.entries
+        ensures puts { IfOk result (λ place. Puts at clone place self.old.entries
             self.new.entries) }
         ensures within { IfOk result (λ place. place < length self.new.entries) }
         ensures err { OnErr result (self.new ≡ self.old) }
@@ -123,36 +113,39 @@ impl Deferred {
     {
         match find_entry(self.entries.as_slice(), &at) {
             Some(i) => {
-                self.entries[i] = Entry { at, clone, goes };
+                self.entries[i] = Entry { at, clone };
                 Ok(i)
             }
             None => {
                 let behind = self.entries.len();
-                self.entries.push(Entry { at, clone, goes })?;
+                self.entries.push(Entry { at, clone })?;
                 Ok(behind)
             }
         }
     }
 
-    /// Adds the file that begins at a cell, with the clone's file that reads through it and how much
-    /// of it goes, or the first quota cell of a fileset that was removed. Where it is there already,
-    /// its clone and how much of it goes are set anew, and that takes no memory: so a file that was
-    /// to be trimmed goes as a whole once its fileset was removed. Where the clone's file stands on
-    /// the list in front of it, the two change places, so that the clone's goes first. After an
-    /// error nothing has changed.
-    pub fn add(&mut self, at: CellAt, clone: Option<CellAt>, goes: Goes) -> Result<(), OutOfMemory>
-        ensures ok { OnOk result (Adds at clone goes self.old.entries self.new.entries) }
+    /// Adds the file that begins at a cell, with the clone's file that reads through it, or the first
+    /// quota cell of a fileset that was removed. Where it is there already, its clone is set anew, and
+    /// that takes no memory. Where the clone's file stands on the list in front of it, the two change
+    /// places, so that the clone's goes first. After an error nothing has changed.
+    ///
+    /// What goes of a file is what its first cell says then: so a file that is to be trimmed and is
+    /// taken out of use goes as a whole, listed again or not. The steps want one that says something.
+    pub fn add(&mut self, at: CellAt, clone: Option<CellAt>) -> Result<(), OutOfMemory>
+        ensures ok { OnOk result (Adds at clone self.old.entries self.new.entries) }
         ensures tag_pages { self.new.tag_pages ≡ self.old.tag_pages }
         ensures err { OnErr result (self.new ≡ self.old) }
         ensures there { (entry : EntryOf) → Contains self.old.entries entry → entry.at ≡ at
             → IsOk result }
     {
-        let place = self.put(at, clone, goes)?;
+        let place = self.put(at, clone)?;
         put_behind(&mut self.entries, place, &clone);
         Ok(())
     }
 
-    /// Adds the page of a tag directory that was removed. After an error nothing has changed.
+    /// Adds the page of a tag directory that was removed, of which no tag is in use any more. The
+    /// pages of a directory are added in their chain's order, so that the last one is given back
+    /// first, and then the one in front of it leads to none. After an error nothing has changed.
     pub fn add_tag_page(&mut self, home: Home) -> Result<(), OutOfMemory>
         ensures ok { OnOk result (self.new.tag_pages ≡ self.old.tag_pages ++ home ∷ []) }
         ensures entries { self.new.entries ≡ self.old.entries }

@@ -5,11 +5,10 @@ ghost use Rattle.domain_base.specs.declared.place.CellAt.{CellAt as CellAtOf};
 ghost use Rattle.record_table.specs.declared.record.Leftover.TheVariants.{Trim};
 ghost use Rattle.bmt_mcells.specs.Chain.{PlacedCell};
 ghost use Rattle.bitfile_cells.specs.Files.{IsFile};
-ghost use Rattle.deferred_delete.specs.Listed.{from_by, left_of, to_do};
+ghost use Rattle.deferred_delete.specs.Listed.{from_by, left_of};
 ghost use Rattle.deferred_delete.specs.Standing.{IsFileOrQuotas, IsQuotas, Source, source_in, source_of};
 ghost use Rattle.deferred_delete.specs.Steps.{ReadsFrozen};
 
-use crate::list::{Entry, Goes};
 use bmt_mcells::find_record;
 use chain_release::Reader;
 use domain_base::CellAt;
@@ -30,24 +29,13 @@ pub(crate) fn is_of_quotas<M: MetaPages>(pages: &M, at: &CellAt) -> bool
 }
 
 /// What the first cell of a file says is left to be done.
-fn left_at<M: MetaPages>(pages: &M, at: &CellAt) -> Option<Leftover>
+pub(crate) fn left_at<M: MetaPages>(pages: &M, at: &CellAt) -> Option<Leftover>
     ensures { (chain : List PlacedCell) → IsFile (M.pages pages.now) at.now chain
         → result ≡ left_of chain }
 {
     match find_record(pages, *at, 6) {
         Some(Record::Pending { what }) => Some(what),
         _ => None,
-    }
-}
-
-/// What is to be done with an entry's file.
-pub(crate) fn to_do_at<M: MetaPages>(pages: &M, entry: &Entry) -> Option<Leftover>
-    ensures { (chain : List PlacedCell) → IsFile (M.pages pages.now) entry.now.at chain
-        → result ≡ to_do entry.now chain }
-{
-    match entry.goes {
-        Goes::AsSaid => left_at(pages, &entry.at),
-        Goes::Whole => Some(Leftover::Remove),
     }
 }
 

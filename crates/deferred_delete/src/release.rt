@@ -1,25 +1,30 @@
 //! Steps of letting go of what is on a list.
-ghost use Rattle.std.specs.Prelude.{◌≡◌, ◌≤◌, ◌+◌, ◌↔◌, [], Contains, IfErr, IfOk, List, OnErr, false, true};
+ghost use Rattle.std.specs.Prelude.{◌≡◌, ◌≤◌, ◌+◌, ◌↔◌, [], Contains, IfErr, IfOk, List, Ok, OnErr, OnOk, false, true};
 ghost use Rattle.domain_base.specs.declared.place.Home.{Home as HomeOf};
 ghost use Rattle.free_space.specs.Spaces.{IsHeld};
 ghost use Rattle.deferred_delete.specs.declared.list.Entry.{Entry as EntryOf};
 ghost use Rattle.deferred_delete.specs.Listing.{IsEmpty};
 ghost use Rattle.page_store.specs.declared.fault.StoreFault.TheVariants.{NoPage};
 ghost use Rattle.bitfile_cells.specs.Allocated.{FindsNone};
+ghost use Rattle.bitfile_cells.specs.MapChanges.{ChangesAtMost};
 ghost use Rattle.deferred_delete.specs.Standing.{Files};
-ghost use Rattle.deferred_delete.specs.Steps.{IsLast, IsWell, LacksRoom, Leaves, LetsGo, TakesTagPage, list_after, now_of};
+ghost use Rattle.deferred_delete.specs.Steps.{IsLast, IsWell, LacksRoom, Leaves, LetsGo, TakesTagPage, list_after, now_of, step_pages as pages_of_step};
 
 use crate::entries::release_entry;
-use crate::list::{Deferred, forget};
+use crate::list::{Deferred, Entry, forget};
 use crate::went::Went;
 use domain_base::Version;
 use free_cells::FreeCells;
 use free_space::{FreeSpace, PageUse};
 use page_store::{MetaPages, StoreFault};
 use std::alloc::Global;
+use tag_dirs::unlink_page;
 
 /// How many steps a call does at most.
 const STEPS: u32 = 16;
+
+/// How many pages of metadata they change at most, beside those of bitmaps.
+const PAGES: u32 = 30;
 
 impl Deferred {
     /// Takes off the last entry what went of it, and off the others a clone of which nothing is
@@ -47,21 +52,40 @@ impl Deferred {
     }
 
     /// Gives back the last page of a tag directory, where no file is on the list: whether one was
-    /// there.
-    fn give_tag_page(&mut self, space: &mut FreeSpace, group: u64) -> bool
+    /// there. The page in front of it on the list leads to none then.
+    fn give_tag_page<M: MetaPages>(
+        &mut self,
+        pages: &mut M,
+        space: &mut FreeSpace,
+        group: u64,
+    ) -> bool
         requires none { self.old.entries ≡ [] }
         requires held { (home : HomeOf) → Contains self.old.tag_pages home
             → IsHeld space.old home.vol home.page }
-        ensures some { result ≡ true → TakesTagPage group self.old self.new space.old space.new }
+        ensures some { result ≡ true → TakesTagPage group self.old self.new space.old space.new
+            (M.pages pages.old) (M.pages pages.new) }
         ensures nothing { result ≡ false → (self.old.tag_pages ≡ []) × (self.new ≡ self.old)
-            × (space.new ≡ space.old) }
+            × (space.new ≡ space.old) × (M.pages pages.new ≡ M.pages pages.old) }
+        ensures room { M.room pages.new ≡ M.room pages.old }
+        ensures before { M.before pages.new ≡ M.before pages.old }
     {
         match self.tag_pages.pop() {
             Some(home) => {
+                unlink_page(pages, &self.tag_pages.last().copied(), &home);
                 space.give_back(home, PageUse::Metadata, group);
                 true
             }
             None => false,
+        }
+    }
+
+    /// How many pages of metadata the next step changes at most.
+    fn step_pages(&self) -> u32
+        ensures { result ≡ pages_of_step self.now }
+    {
+        match self.last() {
+            Some(Entry { clone: Some(_), .. }) => 5,
+            _ => 2,
         }
     }
 
@@ -86,6 +110,7 @@ impl Deferred {
             × (self.new ≡ self.old) × (space.new ≡ space.old) × (cells.new ≡ cells.old)
             × (M.pages pages.new ≡ M.pages pages.old)) }
         ensures there { IfOk result (λ some. some ≡ true → ¬ IsEmpty self.old) }
+        ensures listed { OnErr result (¬ IsEmpty self.old) }
         ensures err { IfErr result (FindsNone space.old space.new cells.old) }
         ensures full { (files : Files) → IsWell (now_of self.old files space.old cells.old
             (M.pages pages.old)) → IfErr result (λ fault. fault ≡ NoPage
@@ -98,7 +123,7 @@ impl Deferred {
     {
         let count = self.entries.len();
         if count == 0 {
-            return Ok(self.give_tag_page(space, group));
+            return Ok(self.give_tag_page(pages, space, group));
         }
         let entry = self.entries[count - 1];
         match release_entry(alloc, pages, space, cells, &entry, group, version) {
@@ -114,9 +139,11 @@ impl Deferred {
     /// with the last pages that it names, or a tail of the pages of one cell, or one page that is
     /// handed over to the clone's file that reads it; the second of some quota cells; a trim's
     /// Pending record, with which all pages are kept again; a clone's reading through a file that
-    /// goes; the last cell of a removed file or of quotas; or a page of a tag directory. It answers
-    /// how many steps were done, 0 exactly where the list is empty. What no file has any more waits
-    /// for the group.
+    /// goes; the last cell of a removed file or of quotas; or a page of a tag directory, to which the
+    /// page in front of it leads no more. It answers how many steps were done, 0 exactly where the
+    /// list is empty. What no file has any more waits for the group. At most 30 pages of metadata
+    /// change, beside those of bitmaps, which the caller keeps: it stops in front of a step with which
+    /// there might be more, which has two pages, or five where the entry gives a clone.
     ///
     /// Where a step cannot be done, those in front of it are answered, if there is one, and the
     /// next call says why. So at an Err nothing but room and the count of misses has changed.
@@ -143,7 +170,9 @@ impl Deferred {
             (now_of self.old files space.old cells.old (M.pages pages.old)) count self.new space.new
             cells.new (M.pages pages.new)) }
         ensures some { IfOk result (λ count. (count ≡ 0) ↔ IsEmpty self.old) }
+        ensures empty { IsEmpty self.old → result ≡ Ok 0 }
         ensures most { IfOk result (λ count. count ≤ 16) }
+        ensures few { OnOk result (ChangesAtMost 30 (M.pages pages.old) (M.pages pages.new)) }
         ensures err { IfErr result (FindsNone space.old space.new cells.old) }
         ensures full { (files : Files) → IsWell (now_of self.old files space.old cells.old
             (M.pages pages.old)) → IfErr result (λ fault. fault ≡ NoPage
@@ -155,7 +184,12 @@ impl Deferred {
         ensures before { M.before pages.new ≡ M.before pages.old }
     {
         let mut count = 0;
+        let mut changed = 0;
         for _ in 0..STEPS {
+            changed += self.step_pages();
+            if PAGES < changed {
+                return Ok(count);
+            }
             match self.release_one(alloc, pages, space, cells, group, version) {
                 Ok(true) => count += 1,
                 Ok(false) => return Ok(count),

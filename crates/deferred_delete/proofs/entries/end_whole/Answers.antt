@@ -1,4 +1,6 @@
 use Rattle.std.proofs.Common.{ℕ, List, Contains, subst, sym}
+use Rattle.bmt_mcells.specs.CellPage.{home_of}
+use Rattle.bitfile_cells.proofs.FewPages.{one_changes}
 use Rattle.bitfile_cells.proofs.Added.{off_table}
 use Rattle.chain_release.proofs.Freed.{allocated_freed}
 use Rattle.deferred_delete.proofs.Stepping.{clone_record, entry_on, entry_used, file_went, reading_went}
@@ -32,3 +34,4 @@ returns-in-None-clause-ok g c = λ group version list front files space ending.
     file_went group version list front files c.args.entry.now space c.args.cells.now c.free_cell.new.self old new c.in-None.is ending e.others e.value
     (allocated_freed at space c.args.cells.now c.free_cell.new.self old new ending.has.well.together.allocated e.value e.belong e.headers)
     (λ home off. e.elsewhere home (off_table c.args.cells.now at home (entry_on list front files c.args.entry.now space c.args.cells.now old ending) (λ on. off (subst (λ (t : List ℕ). Contains t home.page) (sym (e.value.tables home.vol)) on))))
+    (one_changes old new (home_of at) e.elsewhere)

@@ -9,14 +9,14 @@ pub release_tail-requires-clause-sharing : goal.release_tail-requires-clause-sha
 release_tail-requires-clause-sharing g c =
     let pages = g.M.MetaPages.pages c.args.pages.now in
     let w = c.requires.well in
-    let it = ready w.0 w.1 w.2 c.args.entry.now c.to_do_at-left.result c.stale_at-from.result c.reader_at-reader.result c.args.space.now c.args.cells.now pages w.3.has (as_file w.0 w.1 w.2 c.args.entry.now c.args.space.now c.args.cells.now pages w.3) c.to_do_at-left.ensures c.stale_at-from.ensures c.reader_at-reader.ensures.none c.reader_at-reader.ensures.some in
+    let it = ready w.0 w.1 w.2 c.args.entry.now c.left_at-left.result c.stale_at-from.result c.reader_at-reader.result c.args.space.now c.args.cells.now pages w.3.has (as_file w.0 w.1 w.2 c.args.entry.now c.args.space.now c.args.cells.now pages w.3) c.left_at-left.ensures c.stale_at-from.ensures c.reader_at-reader.ensures.none c.reader_at-reader.ensures.some in
     (it.chain, it.own, it.shares)
 
 pub end_entry-requires : goal.end_entry-requires
 end_entry-requires g c =
     let pages = g.M.MetaPages.pages c.args.pages.now in
     let w = c.requires.well in
-    let it = ready w.0 w.1 w.2 c.args.entry.now c.to_do_at-left.result c.stale_at-from.result c.reader_at-reader.result c.args.space.now c.args.cells.now pages w.3.has (as_file w.0 w.1 w.2 c.args.entry.now c.args.space.now c.args.cells.now pages w.3) c.to_do_at-left.ensures c.stale_at-from.ensures c.reader_at-reader.ensures.none c.reader_at-reader.ensures.some in
+    let it = ready w.0 w.1 w.2 c.args.entry.now c.left_at-left.result c.stale_at-from.result c.reader_at-reader.result c.args.space.now c.args.cells.now pages w.3.has (as_file w.0 w.1 w.2 c.args.entry.now c.args.space.now c.args.cells.now pages w.3) c.left_at-left.ensures c.stale_at-from.ensures c.reader_at-reader.ensures.none c.reader_at-reader.ensures.some in
     let e = c.in-Ok-Nothing.ensures in
     let kept = e.kept c.in-Ok-Nothing.field-0-is in
     record {
@@ -25,7 +25,7 @@ end_entry-requires g c =
         w.1,
         w.2,
         c.args.space.now,
-        ending_now w.0 w.1 w.2 c.args.entry.now c.to_do_at-left.result c.stale_at-from.result c.reader_at-reader.result c.args.space.now c.args.cells.now c.release_tail.new.cells pages (g.M.MetaPages.pages c.release_tail.new.pages) w.3.has it kept.1 kept.2
+        ending_now w.0 w.1 w.2 c.args.entry.now c.left_at-left.result c.stale_at-from.result c.reader_at-reader.result c.args.space.now c.args.cells.now c.release_tail.new.cells pages (g.M.MetaPages.pages c.release_tail.new.pages) w.3.has it kept.1 kept.2
             ((e.nothing it.chain it.own it.shares).0 c.in-Ok-Nothing.field-0-is),
       );
     }
@@ -33,13 +33,13 @@ end_entry-requires g c =
 pub returns-in_ok-end_entry-in-Ok-Nothing-clause-ok : goal.returns-in_ok-end_entry-in-Ok-Nothing-clause-ok
 returns-in_ok-end_entry-in-Ok-Nothing-clause-ok g c = λ list front files has.
     let pages = g.M.MetaPages.pages c.args.pages.now in
-    let it = ready list front files c.args.entry.now c.to_do_at-left.result c.stale_at-from.result c.reader_at-reader.result c.args.space.now c.args.cells.now pages has.has (as_file list front files c.args.entry.now c.args.space.now c.args.cells.now pages has) c.to_do_at-left.ensures c.stale_at-from.ensures c.reader_at-reader.ensures.none c.reader_at-reader.ensures.some in
+    let it = ready list front files c.args.entry.now c.left_at-left.result c.stale_at-from.result c.reader_at-reader.result c.args.space.now c.args.cells.now pages has.has (as_file list front files c.args.entry.now c.args.space.now c.args.cells.now pages has) c.left_at-left.ensures c.stale_at-from.ensures c.reader_at-reader.ensures.none c.reader_at-reader.ensures.some in
     let e = c.in-Ok-Nothing.ensures in
     let kept = e.kept c.in-Ok-Nothing.field-0-is in
     left_as c.args.group c.args.version list files c.args.space.now c.release_tail.new.space c.args.cells.now c.release_tail.new.cells c.end_entry.new.cells pages (g.M.MetaPages.pages c.release_tail.new.pages) (g.M.MetaPages.pages c.end_entry.new.pages)
     (list_after c.in_ok-end_entry-in-Ok-Nothing.field-0 front c.args.entry.now list) kept.0 kept.1 kept.2
     (c.in_ok-end_entry-in-Ok-Nothing.ensures.ok c.args.group c.args.version list front files c.args.space.now
-    (ending_now list front files c.args.entry.now c.to_do_at-left.result c.stale_at-from.result c.reader_at-reader.result c.args.space.now c.args.cells.now c.release_tail.new.cells pages (g.M.MetaPages.pages c.release_tail.new.pages) has.has it kept.1 kept.2
+    (ending_now list front files c.args.entry.now c.left_at-left.result c.stale_at-from.result c.reader_at-reader.result c.args.space.now c.args.cells.now c.release_tail.new.cells pages (g.M.MetaPages.pages c.release_tail.new.pages) has.has it kept.1 kept.2
     ((e.nothing it.chain it.own it.shares).0 c.in-Ok-Nothing.field-0-is)))
 
 pages_not : released.Pages ≡ released.Nothing → ⊥
@@ -52,9 +52,9 @@ pub returns-in-Ok-Pages : goal.returns-in-Ok-Pages
 returns-in-Ok-Pages g c = record {
   ok = λ list front files has.
       let pages = g.M.MetaPages.pages c.args.pages.now in
-      let it = ready list front files c.args.entry.now c.to_do_at-left.result c.stale_at-from.result c.reader_at-reader.result c.args.space.now c.args.cells.now pages has.has (as_file list front files c.args.entry.now c.args.space.now c.args.cells.now pages has) c.to_do_at-left.ensures c.stale_at-from.ensures c.reader_at-reader.ensures.none c.reader_at-reader.ensures.some in
+      let it = ready list front files c.args.entry.now c.left_at-left.result c.stale_at-from.result c.reader_at-reader.result c.args.space.now c.args.cells.now pages has.has (as_file list front files c.args.entry.now c.args.space.now c.args.cells.now pages has) c.left_at-left.ensures c.stale_at-from.ensures c.reader_at-reader.ensures.none c.reader_at-reader.ensures.some in
       let e = c.in-Ok-Pages.ensures in
-      part_went c.args.group c.args.version list front files c.args.entry.now c.to_do_at-left.result c.stale_at-from.result c.reader_at-reader.result c.args.space.now c.release_tail.new.space c.args.cells.now c.release_tail.new.cells pages (g.M.MetaPages.pages c.release_tail.new.pages) c.in-Ok-Pages.field-0 has.has it
+      part_went c.args.group c.args.version list front files c.args.entry.now c.left_at-left.result c.stale_at-from.result c.reader_at-reader.result c.args.space.now c.release_tail.new.space c.args.cells.now c.release_tail.new.cells pages (g.M.MetaPages.pages c.release_tail.new.pages) c.in-Ok-Pages.field-0 has.has it
       (e.ok it.chain it.own it.shares (λ e. pages_not (sym c.in-Ok-Pages.field-0-is ∙ e))) (e.others it.chain it.own it.shares) e.elsewhere e.allocated;
   err = tt;
   full = λ list front files has. tt;
@@ -68,9 +68,9 @@ pub returns-in-Ok-Cell : goal.returns-in-Ok-Cell
 returns-in-Ok-Cell g c = record {
   ok = λ list front files has.
       let pages = g.M.MetaPages.pages c.args.pages.now in
-      let it = ready list front files c.args.entry.now c.to_do_at-left.result c.stale_at-from.result c.reader_at-reader.result c.args.space.now c.args.cells.now pages has.has (as_file list front files c.args.entry.now c.args.space.now c.args.cells.now pages has) c.to_do_at-left.ensures c.stale_at-from.ensures c.reader_at-reader.ensures.none c.reader_at-reader.ensures.some in
+      let it = ready list front files c.args.entry.now c.left_at-left.result c.stale_at-from.result c.reader_at-reader.result c.args.space.now c.args.cells.now pages has.has (as_file list front files c.args.entry.now c.args.space.now c.args.cells.now pages has) c.left_at-left.ensures c.stale_at-from.ensures c.reader_at-reader.ensures.none c.reader_at-reader.ensures.some in
       let e = c.in-Ok-Cell.ensures in
-      part_went c.args.group c.args.version list front files c.args.entry.now c.to_do_at-left.result c.stale_at-from.result c.reader_at-reader.result c.args.space.now c.release_tail.new.space c.args.cells.now c.release_tail.new.cells pages (g.M.MetaPages.pages c.release_tail.new.pages) c.in-Ok-Cell.field-0 has.has it
+      part_went c.args.group c.args.version list front files c.args.entry.now c.left_at-left.result c.stale_at-from.result c.reader_at-reader.result c.args.space.now c.release_tail.new.space c.args.cells.now c.release_tail.new.cells pages (g.M.MetaPages.pages c.release_tail.new.pages) c.in-Ok-Cell.field-0 has.has it
       (e.ok it.chain it.own it.shares (λ e. cell_not (sym c.in-Ok-Cell.field-0-is ∙ e))) (e.others it.chain it.own it.shares) e.elsewhere e.allocated;
   err = tt;
   full = λ list front files has. tt;
@@ -83,5 +83,5 @@ returns-in-Ok-Cell g c = record {
 pub returns-in-Err-clause-full : goal.returns-in-Err-clause-full
 returns-in-Err-clause-full g c = λ list front files has no_page.
     let pages = g.M.MetaPages.pages c.args.pages.now in
-    let it = ready list front files c.args.entry.now c.to_do_at-left.result c.stale_at-from.result c.reader_at-reader.result c.args.space.now c.args.cells.now pages has.has (as_file list front files c.args.entry.now c.args.space.now c.args.cells.now pages has) c.to_do_at-left.ensures c.stale_at-from.ensures c.reader_at-reader.ensures.none c.reader_at-reader.ensures.some in
-    lacks_room list front files c.args.entry.now c.to_do_at-left.result c.stale_at-from.result c.reader_at-reader.result c.args.space.now c.args.cells.now pages has.has it (c.in-Err.ensures.full it.chain it.own it.shares no_page)
+    let it = ready list front files c.args.entry.now c.left_at-left.result c.stale_at-from.result c.reader_at-reader.result c.args.space.now c.args.cells.now pages has.has (as_file list front files c.args.entry.now c.args.space.now c.args.cells.now pages has) c.left_at-left.ensures c.stale_at-from.ensures c.reader_at-reader.ensures.none c.reader_at-reader.ensures.some in
+    lacks_room list front files c.args.entry.now c.left_at-left.result c.stale_at-from.result c.reader_at-reader.result c.args.space.now c.args.cells.now pages has.has it (c.in-Err.ensures.full it.chain it.own it.shares no_page)

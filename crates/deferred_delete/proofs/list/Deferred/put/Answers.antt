@@ -14,5 +14,5 @@ returns-in_ok-push-in-None-clause-puts c =
     inr (record {
       behind = omega (arith, c.len-behind.ensures, c.self.inside.entries.ok.0, ap length entries);
       none = λ entry inside. c.in-None.ensures.none entry (subst (λ (es : List Entry). Contains es entry) (sym entries ∙ sym c.as_slice.ensures.value) inside);
-      is = c.in_ok-push-in-None.ensures.items ∙ ap (λ (es : List Entry). es ++ record { at = c.args.at; clone = c.args.clone; goes = c.args.goes } ∷ []) entries;
+      is = c.in_ok-push-in-None.ensures.items ∙ ap (λ (es : List Entry). es ++ record { at = c.args.at; clone = c.args.clone } ∷ []) entries;
     })

@@ -2,6 +2,10 @@ use Rattle.std.proofs.Common.{◌≡◌, ◌∙◌, ◌+◌, ◌≤◌, ℕ, ap,
 use Rattle.std.proofs.lemmas.Bool.{cases_lt}
 use Rattle.deferred_delete.specs.Listing.{IsEmpty}
 use Rattle.deferred_delete.specs.Steps.{now_of}
+use Rattle.page_store.specs.Pages.{Pages}
+use Rattle.bitfile_cells.specs.MapChanges.{ChangesAtMost}
+use Rattle.bitfile_cells.proofs.FewPages.{at_most, none_changes}
+use Rattle.deferred_delete.proofs.FewSteps.{at_most_five, call_changes}
 use Rattle.deferred_delete.proofs.Loops.{leads_more, leads_none, stops}
 use Rattle.deferred_delete.proofs.list.Deferred.release_some.Goals as goal
 
@@ -14,6 +18,9 @@ loop-init g c = (
   (λ less empty. omega (arith, less)),
   omega arith,
   refl,
+  none_changes 0 (g.M.MetaPages.pages c.args.pages.now) (g.M.MetaPages.pages c.args.pages.now) refl,
+  omega arith,
+  omega arith,
 )
 
 pub release_one-requires : goal.release_one-requires
@@ -47,4 +54,29 @@ loop-preserved g c =
           (cases_lt 0 c.loop.count)),
       omega (arith, e.room, c.loop.invariant.5),
       e.before ∙ c.loop.invariant.6,
+      subst (λ (n : ℕ). ChangesAtMost (c.loop.changed + n) (g.M.MetaPages.pages c.args.pages.now) (g.M.MetaPages.pages c.release_one.new.pages)) (sym c.step_pages-changed.ensures)
+          (let w = c.requires.well in
+          let leads = c.loop.invariant.0 w.0 w.1 in
+          call_changes c.args.group c.args.version c.loop.self c.release_one.new.self leads.files c.loop.space c.release_one.new.space c.loop.cells c.release_one.new.cells (g.M.MetaPages.pages c.args.pages.now) (g.M.MetaPages.pages c.loop.pages) (g.M.MetaPages.pages c.release_one.new.pages)
+          c.loop.changed (e.ok leads.files leads.well c.in-Ok-true.field-0-test) c.loop.invariant.7),
+      omega (arith, c.if-changed-gt-PAGES.false),
+      (let five = at_most_five c.loop.self in omega (arith, c.loop.invariant.9, c.step_pages-changed.ensures, five)),
     )
+
+pub returns-in-Ok-false-clause-few : goal.returns-in-Ok-false-clause-few
+returns-in-Ok-false-clause-few g c =
+    subst (λ (pages : Pages). ChangesAtMost 30 (g.M.MetaPages.pages c.args.pages.now) pages) (sym (c.in-Ok-false.ensures.nothing c.in-Ok-false.field-0-test).4)
+    (at_most c.loop.changed 30 (g.M.MetaPages.pages c.args.pages.now) (g.M.MetaPages.pages c.loop.pages) c.loop.invariant.8 c.loop.invariant.7)
+
+pub returns-in-Err-2-clause-few : goal.returns-in-Err-2-clause-few
+returns-in-Err-2-clause-few g c =
+    subst (λ (pages : Pages). ChangesAtMost 30 (g.M.MetaPages.pages c.args.pages.now) pages) (sym c.in-Err.ensures.pages)
+    (at_most c.loop.changed 30 (g.M.MetaPages.pages c.args.pages.now) (g.M.MetaPages.pages c.loop.pages) c.loop.invariant.8 c.loop.invariant.7)
+
+pub returns-clause-few : goal.returns-clause-few
+returns-clause-few g c =
+    at_most c.loop.changed 30 (g.M.MetaPages.pages c.args.pages.now) (g.M.MetaPages.pages c.loop.pages) c.loop.invariant.8 c.loop.invariant.7
+
+pub returns-in-Err-clause-empty : goal.returns-in-Err-clause-empty
+returns-in-Err-clause-empty g c = λ empty.
+    absurd (c.in-Err.ensures.listed (subst IsEmpty (sym (c.loop.invariant.2 c.if-count-eq0.true)) empty))

@@ -1,4 +1,5 @@
-use Rattle.std.proofs.Common.{◌≡◌, ◌+◌, ◌≤◌}
+use Rattle.std.proofs.Common.{◌≡◌, ◌+◌, ◌*◌, ◌≤◌}
+use Rattle.bitfile_cells.specs.MapChanges.{ChangesAtMost}
 use Rattle.deferred_delete.specs.Listing.{IsEmpty}
 use Rattle.deferred_delete.specs.Standing.{Files}
 use Rattle.deferred_delete.specs.Steps.{IsWell, LeadsTo, now_of}
@@ -11,3 +12,5 @@ invariant-loop g l =
     × (l.count ≡ l.counter) × (l.count ≡ 0 → l.self ≡ l.fn.self) × (l.count ≡ 0 → (l.space ≡ l.fn.space) × (l.cells ≡ l.fn.cells) × (g.M.MetaPages.pages l.pages ≡ g.M.MetaPages.pages l.fn.pages)) × (1 ≤ l.count → IsEmpty l.fn.self → ⊥)
     × (g.M.MetaPages.room l.fn.pages ≤ g.M.MetaPages.room l.pages + l.counter)
     × (g.M.MetaPages.before l.pages ≡ g.M.MetaPages.before l.fn.pages)
+    × ChangesAtMost l.changed (g.M.MetaPages.pages l.fn.pages) (g.M.MetaPages.pages l.pages)
+    × (l.changed ≤ 30) × (l.changed ≤ 5 * l.counter)
