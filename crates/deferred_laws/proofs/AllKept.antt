@@ -16,20 +16,20 @@ use Rattle.bitfile_core.specs.Changes.{with_first}
 use Rattle.bitfile_core.specs.Files.{first_record, keep_in, keep_of}
 use Rattle.bitfile_core.proofs.FirstCell.{find_other, find_put}
 use Rattle.deferred_delete.specs.declared.list.Entry.{Entry}
-use Rattle.deferred_delete.specs.Listed.{done_by, left_of, leftover_in, to_do}
+use Rattle.deferred_delete.specs.Listed.{left_of, leftover_in}
 use Rattle.deferred_delete.specs.Listing.{without}
 use Rattle.deferred_delete.specs.Steps.{EndsFile, EndsReading, EndsTrim, IsLast, IsWell, LetsPages, Now, Step, Steps, file_ends, kept_all, more, none, pages_go, quota_goes, reading_ends, says_no_source, says_trimmed, tag_page_goes, trim_ends}
 use Rattle.deferred_delete.proofs.Lists.{IsIn, earlier, in_start, last_in, not_last, this}
 use Rattle.deferred_delete.proofs.Records.{kept_kind, sourceless_other}
 use Rattle.deferred_delete.proofs.Spread.{Which, other, reading, some_same, source, which}
-use Rattle.deferred_delete.proofs.Standings.{said_trim, same_or_not}
+use Rattle.deferred_delete.proofs.Standings.{same_or_not}
 use Rattle.deferred_laws.specs.Kept.{KeepsAll}
 use Rattle.deferred_laws.proofs.Emptied.{place_in_list, sole}
 use Rattle.deferred_laws.proofs.Ended.{ended_other, file_now, file_once, reading_other, reading_there, same_file, trim_front, trim_once, trim_other, trim_there}
 use Rattle.deferred_laws.proofs.Fits.{Fits, alone, trim_maps, well_fits}
 use Rattle.deferred_laws.proofs.Laws.{fits_step}
 use Rattle.deferred_laws.proofs.Narrower.{in_last, inside_by, narrower_step}
-use Rattle.deferred_laws.proofs.PagesGo.{after_to_do, at_other, at_source, clone_now, clone_was, own_first}
+use Rattle.deferred_laws.proofs.PagesGo.{after_left, at_other, at_source, clone_now, clone_was, own_first}
 use Rattle.deferred_laws.proofs.QuotaStep.{not_trimmed, quota_beside}
 
 -- ---- what a first cell says then
@@ -83,7 +83,7 @@ record IsToTrim (now : Now) (a : CellAt) : Type 0 where
   at : entry.at ≡ a
   chain : List PlacedCell
   is : now.files a ≡ Some chain
-  left : to_do entry chain ≡ Some Trim
+  left : left_of chain ≡ Some Trim
 
 -- the file keeps all, and no entry is its
 record IsDone (now : Now) (a : CellAt) : Type 0 where
@@ -95,8 +95,8 @@ record IsDone (now : Now) (a : CellAt) : Type 0 where
 
 module _ (group : ℕ) (version : Version) (old new : Now) (fits : Fits old) (a : CellAt) where
   module _ (k : IsToTrim old a) where
-    still_to_trim : (e : Entry) → e.goes ≡ k.entry.goes → Contains new.list.entries e → e.at ≡ a → new.files a ≡ old.files a → IsToTrim new a
-    still_to_trim e goes inside at same = record { entry = e; inside = inside; at = at; chain = k.chain; is = same ∙ k.is; left = ap (λ g. done_by g (left_of k.chain)) goes ∙ k.left }
+    still_to_trim : (e : Entry) → Contains new.list.entries e → e.at ≡ a → new.files a ≡ old.files a → IsToTrim new a
+    still_to_trim e inside at same = record { entry = e; inside = inside; at = at; chain = k.chain; is = same ∙ k.is; left = k.left }
 
     -- it is the last entry's file
     entry_chain : (chain : List PlacedCell) (at : CellAt) → old.files at ≡ Some chain → a ≡ at → chain ≡ k.chain
@@ -115,10 +115,10 @@ module _ (group : ℕ) (version : Version) (old new : Now) (fits : Fits old) (a 
           at = k.at;
           chain = s.releases.after;
           is = ap new.files same ∙ at_source group version old new fits s;
-          left = after_to_do group version old new fits s k.entry ∙ ap (to_do k.entry) (entry_chain s.chain s.entry.at s.is same) ∙ k.left;
+          left = after_left group version old new fits s ∙ ap left_of (entry_chain s.chain s.entry.at s.is same) ∙ k.left;
         }
         by_which (reading some) = absurd (alone old fits s.front s.entry s.last k.entry k.inside (some ∙ ap Some (sym k.at)))
-        by_which (other not_at not_it) = still_to_trim k.entry refl inside_now k.at (at_other group version old new fits s a not_at not_it)
+        by_which (other not_at not_it) = still_to_trim k.entry inside_now k.at (at_other group version old new fits s a not_at not_it)
 
     trim_done : EndsTrim old new → IsToTrim new a ⊎ IsDone new a
     trim_done s = by_place (place_in_list old.list s.front s.entry k.entry s.last k.inside)
@@ -132,11 +132,11 @@ module _ (group : ℕ) (version : Version) (old new : Now) (fits : Fits old) (a 
         trimmed_left (first ∷ rest) = ap (option_and_then leftover_in) (none_trimmed first.cell)
 
         not_nil : ¬ s.chain ≡ []
-        not_nil empty = let e : Some Trim ≡ None = sym (said_trim s.entry.goes (left_of s.chain) s.trim) ∙ ap left_of empty in absurd (cc)
+        not_nil empty = let e : Some Trim ≡ None = sym s.trim ∙ ap left_of empty in absurd (cc)
 
         by_place : IsIn s.front s.entry k.entry → IsToTrim new a ⊎ IsDone new a
         by_place (earlier is) =
-            inl (still_to_trim k.entry refl (inside_by new.list (record { entries = s.front; tag_pages = old.list.tag_pages }) k.entry (sym s.list) is) k.at
+            inl (still_to_trim k.entry (inside_by new.list (record { entries = s.front; tag_pages = old.list.tag_pages }) k.entry (sym s.list) is) k.at
             (trim_other group version old new fits s a (λ same. not_last s.front s.entry k.entry (trim_once group version old new fits s) is (k.at ∙ same))))
         by_place (this same) =
             let at : a ≡ s.entry.at = sym k.at ∙ ap (λ (e : Entry). e.at) same in
@@ -158,27 +158,27 @@ module _ (group : ℕ) (version : Version) (old new : Now) (fits : Fits old) (a 
         same_chain = reading_other group version old new fits s a (λ same. alone old fits s.front s.entry s.last k.entry k.inside (s.given ∙ ap Some (sym same ∙ sym k.at)))
 
         by_place : IsIn s.front s.entry k.entry → IsToTrim new a
-        by_place (earlier is) = still_to_trim k.entry refl (now_in k.entry (in_start s.front ((sole s.entry) ∷ []) k.entry is)) k.at same_chain
-        by_place (this same) = still_to_trim (sole s.entry) (sym (ap (λ (e : Entry). e.goes) same)) (now_in (sole s.entry) (last_in s.front (sole s.entry))) (sym (ap (λ (e : Entry). e.at) same) ∙ k.at) same_chain
+        by_place (earlier is) = still_to_trim k.entry (now_in k.entry (in_start s.front ((sole s.entry) ∷ []) k.entry is)) k.at same_chain
+        by_place (this same) = still_to_trim (sole s.entry) (now_in (sole s.entry) (last_in s.front (sole s.entry))) (sym (ap (λ (e : Entry). e.at) same) ∙ k.at) same_chain
 
     file_to_trim : EndsFile old new → IsToTrim new a
     file_to_trim s = by_place (place_in_list old.list s.front s.entry k.entry s.last k.inside)
       where
         by_place : IsIn s.front s.entry k.entry → IsToTrim new a
         by_place (earlier is) =
-            still_to_trim (without s.entry.at k.entry) refl (file_now group version old new fits s k.entry is) k.at
+            still_to_trim (without s.entry.at k.entry) (file_now group version old new fits s k.entry is) k.at
             (ended_other group version old new fits s a (λ same. not_last s.front s.entry k.entry (file_once group version old new fits s) is (k.at ∙ same)))
         by_place (this same) =
-            absurd (s.whole (ap (to_do s.entry) (entry_chain s.chain s.entry.at s.is (sym k.at ∙ ap (λ (e : Entry). e.at) same)) ∙ ap (λ e. to_do e k.chain) (sym same) ∙ k.left))
+            absurd (s.whole (ap left_of (entry_chain s.chain s.entry.at s.is (sym k.at ∙ ap (λ (e : Entry). e.at) same)) ∙ k.left))
 
     to_trim_step : Step group version old new → IsToTrim new a ⊎ IsDone new a
     to_trim_step (pages_go s) = inl (lets_to_trim s)
     to_trim_step (quota_goes s) =
-        inl (still_to_trim k.entry refl (inside_by new.list old.list k.entry (sym s.same_list) k.inside) k.at (quota_beside group version old new s a (λ same. not_trimmed group version old new s k.entry k.chain (sym (ap old.files same) ∙ k.is) k.left)))
+        inl (still_to_trim k.entry (inside_by new.list old.list k.entry (sym s.same_list) k.inside) k.at (quota_beside group version old new s a (λ same. not_trimmed group version old new s k.chain (sym (ap old.files same) ∙ k.is) k.left)))
     to_trim_step (trim_ends s) = trim_done s
     to_trim_step (reading_ends s) = inl (reading_to_trim s)
     to_trim_step (file_ends s) = inl (file_to_trim s)
-    to_trim_step (tag_page_goes s) = inl (still_to_trim k.entry refl (inside_by new.list (record { entries = old.list.entries; tag_pages = s.takes.front }) k.entry (sym s.takes.is) k.inside) k.at (same_file group version old new fits s a))
+    to_trim_step (tag_page_goes s) = inl (still_to_trim k.entry (inside_by new.list (record { entries = old.list.entries; tag_pages = s.takes.front }) k.entry (sym s.takes.is) k.inside) k.at (same_file group version old new fits s a))
 
   -- ---- and it goes on to keep all
 
@@ -244,7 +244,7 @@ trims_still group version first count last well steps a k =
     ]
 
 pub trimmed_keep_all : (group : ℕ) (version : Version) (first : Now) (count : ℕ) (last : Now) → IsWell first → Steps group version first count last → last.list.entries ≡ []
-    → (entry : Entry) → Contains first.list.entries entry → (chain : List PlacedCell) → first.files entry.at ≡ Some chain → to_do entry chain ≡ Some Trim → KeepsAll (last.files entry.at)
+    → (entry : Entry) → Contains first.list.entries entry → (chain : List PlacedCell) → first.files entry.at ≡ Some chain → left_of chain ≡ Some Trim → KeepsAll (last.files entry.at)
 trimmed_keep_all group version first count last well steps empty entry inside chain is left =
     ⊎_elim
     (λ k. absurd (nothing k.entry (subst (λ (es : List Entry). Contains es k.entry) empty k.inside)))

@@ -14,7 +14,7 @@ use Rattle.deferred_delete.specs.Standing.{Files, with_file}
 use Rattle.deferred_delete.specs.Steps.{IsWell}
 use Rattle.deferred_delete.proofs.Spread.{none_not, some_same}
 use Rattle.deferred_delete.proofs.Standings.{file_other}
-use Rattle.deferred_laws.specs.Calls.{StandsWell, Call, Calls, Drops, FilesetNow, Makes, PutsPage, SetsFirst, cut, described, dropped, given, made, moved, no_call, one_more, put_in, refused}
+use Rattle.deferred_laws.specs.Calls.{StandsWell, Call, Calls, Drops, FilesetNow, Makes, PutsPage, SetsFirst, cut, described, dropped, given, indexed, made, moved, no_call, one_more, put_in, refused}
 use Rattle.deferred_laws.specs.Tags.{AreAmong, start_of}
 use Rattle.deferred_laws.proofs.CallsWell.{stands_call}
 use Rattle.deferred_laws.proofs.CallTables.{chain_put}
@@ -85,6 +85,7 @@ module _ (fileset : ℕ) (version : Version) (tag : Tag) (old new : FilesetNow) 
   call_beside (moved s) = put_beside s.home s.chain s.puts
   call_beside (described value s) = set_beside _ s
   call_beside (put_in parent s) = set_beside _ s
+  call_beside (indexed index s) = set_beside _ s
   call_beside (cut size lowered s) = set_beside _ s
   call_beside (dropped s) = drop_beside s
   call_beside (made s) = make_beside s

@@ -19,7 +19,7 @@ use Rattle.bitfile_core.specs.Together.{IsFilePage}
 use Rattle.bitfile_core.proofs.Grown.{one_tables, tables_grow}
 use Rattle.bitfile_core.proofs.OneChain.{same_tag_itself, tag_after}
 use Rattle.chain_release.proofs.Once.{file_map, good_page}
-use Rattle.deferred_laws.specs.Calls.{Call, FilesetNow, Gives, Makes, Moves, PutsPage, cut, described, dropped, given, made, moved, put_in, refused}
+use Rattle.deferred_laws.specs.Calls.{Call, FilesetNow, Gives, Makes, Moves, PutsPage, cut, described, dropped, given, indexed, made, moved, put_in, refused}
 
 -- a page of a table goes on to be one
 abbrev pub TablesGrow : FilesetNow → FilesetNow → Type 0
@@ -50,6 +50,7 @@ module _ (fileset : ℕ) (version : Version) (tag : Tag) (old new : FilesetNow) 
   call_tables (moved s) = moved_tables s
   call_tables (described value s) = same_tables old new s.cells
   call_tables (put_in parent s) = same_tables old new s.cells
+  call_tables (indexed index s) = same_tables old new s.cells
   call_tables (cut size lowered s) = same_tables old new s.cells
   call_tables (dropped s) = same_tables old new s.cells
   call_tables (made s) = made_tables s
@@ -72,6 +73,7 @@ module _ (fileset : ℕ) (version : Version) (tag : Tag) (old new : FilesetNow) 
   call_places (moved s) = same_places s.puts.places
   call_places (described value s) = same_places s.places
   call_places (put_in parent s) = same_places s.places
+  call_places (indexed index s) = same_places s.places
   call_places (cut size lowered s) = same_places s.places
   call_places (dropped s) = same_places s.places
   call_places (made s) = made_places s

@@ -12,9 +12,9 @@ use Rattle.bitfile_core.specs.Together.{AreTogether, IsHeldApart}
 use Rattle.deferred_delete.specs.Listing.{Listing}
 use Rattle.deferred_delete.specs.Standing.{Files}
 use Rattle.deferred_delete.specs.Steps.{IsWell, now_of}
-use Rattle.deferred_laws.specs.Calls.{StandsWell, Call, Calls, FilesetNow, Refuses, cut, described, dropped, given, made, moved, no_call, one_more, put_in, refused}
+use Rattle.deferred_laws.specs.Calls.{StandsWell, Call, Calls, FilesetNow, Refuses, cut, described, dropped, given, indexed, made, moved, no_call, one_more, put_in, refused}
 use Rattle.deferred_laws.specs.Tags.{AreAmong}
-use Rattle.deferred_laws.proofs.FirstWell.{attributes_beside, attributes_live, dropped_among, dropped_well, first_among, first_well, parent_beside, parent_live, set_file, truncated_beside, truncated_live}
+use Rattle.deferred_laws.proofs.FirstWell.{attributes_beside, attributes_live, dropped_among, dropped_well, first_among, first_well, index_beside, index_live, parent_beside, parent_live, set_file, truncated_beside, truncated_live}
 use Rattle.deferred_laws.proofs.MakeWell.{made_among, made_well}
 use Rattle.deferred_laws.proofs.PutWell.{among_by, given_among, given_well, moved_among, moved_well}
 use Rattle.deferred_laws.proofs.TagCalls.{together_call}
@@ -67,6 +67,7 @@ module _ (fileset : ℕ) (version : Version) (tag : Tag) (old new : FilesetNow) 
   well_call (moved s) = moved_well fileset version tag old new stood s
   well_call (described value s) = let file = set_file fileset tag old new stood _ s in first_well fileset tag old new stood _ s (attributes_beside old.domain.pages s.first s.rest file value) (attributes_live old.domain.pages s.first s.rest file value)
   well_call (put_in parent s) = let file = set_file fileset tag old new stood _ s in first_well fileset tag old new stood _ s (parent_beside old.domain.pages s.first s.rest file parent) (parent_live old.domain.pages s.first s.rest file parent)
+  well_call (indexed index s) = let file = set_file fileset tag old new stood _ s in first_well fileset tag old new stood _ s (index_beside old.domain.pages s.first s.rest file index) (index_live old.domain.pages s.first s.rest file index)
   well_call (cut size lowered s) =
       let file = set_file fileset tag old new stood _ s in
       first_well fileset tag old new stood _ s (truncated_beside old.domain.pages s.first s.rest file size lowered) (truncated_live old.domain.pages s.first s.rest file size lowered)
@@ -80,6 +81,7 @@ module _ (fileset : ℕ) (version : Version) (tag : Tag) (old new : FilesetNow) 
   among_call (moved s) = moved_among fileset version tag old new stood s
   among_call (described value s) = let file = set_file fileset tag old new stood _ s in first_among fileset tag old new stood _ s (attributes_beside old.domain.pages s.first s.rest file value) (attributes_live old.domain.pages s.first s.rest file value)
   among_call (put_in parent s) = let file = set_file fileset tag old new stood _ s in first_among fileset tag old new stood _ s (parent_beside old.domain.pages s.first s.rest file parent) (parent_live old.domain.pages s.first s.rest file parent)
+  among_call (indexed index s) = let file = set_file fileset tag old new stood _ s in first_among fileset tag old new stood _ s (index_beside old.domain.pages s.first s.rest file index) (index_live old.domain.pages s.first s.rest file index)
   among_call (cut size lowered s) =
       let file = set_file fileset tag old new stood _ s in
       first_among fileset tag old new stood _ s (truncated_beside old.domain.pages s.first s.rest file size lowered) (truncated_live old.domain.pages s.first s.rest file size lowered)

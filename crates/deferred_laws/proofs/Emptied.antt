@@ -4,7 +4,7 @@ use Rattle.domain_base.specs.declared.place.CellAt.{CellAt}
 use Rattle.domain_base.specs.declared.version.Version.{Version}
 use Rattle.bmt_mcells.specs.Chain.{PlacedCell}
 use Rattle.deferred_delete.specs.declared.list.Entry.{Entry}
-use Rattle.deferred_delete.specs.Listed.{GoesWhole, done_by, left_of, to_do}
+use Rattle.deferred_delete.specs.Listed.{GoesWhole, left_of}
 use Rattle.deferred_delete.specs.Listing.{Listing, without}
 use Rattle.deferred_delete.specs.Steps.{EndsFile, EndsReading, EndsTrim, IsWell, LetsPages, LosesQuotaCell, Now, Step, Steps, file_ends, more, none, pages_go, quota_goes, reading_ends, tag_page_goes, trim_ends}
 use Rattle.deferred_delete.proofs.Lists.{IsIn, earlier, in_start, is_in, last_in, not_last, this}
@@ -15,7 +15,7 @@ use Rattle.deferred_laws.proofs.Fits.{Fits, alone, well_fits}
 use Rattle.deferred_laws.proofs.Laws.{fits_step}
 use Rattle.deferred_laws.proofs.Narrower.{inside_by}
 use Rattle.deferred_laws.proofs.Others.{beside_same, beside_still}
-use Rattle.deferred_laws.proofs.PagesGo.{after_to_do, at_other, at_source}
+use Rattle.deferred_laws.proofs.PagesGo.{after_left, at_other, at_source}
 use Rattle.deferred_laws.proofs.QuotaStep.{quota_beside, quota_is, quota_whole}
 use Rattle.deferred_delete.proofs.Standings.{same_or_not}
 
@@ -26,7 +26,7 @@ record IsLeaving (now : Now) (a : CellAt) : Type 0 where
   at : entry.at ≡ a
   chain : List PlacedCell
   is : now.files a ≡ Some chain
-  left : GoesWhole entry chain
+  left : GoesWhole chain
 
 record IsGone (now : Now) (a : CellAt) : Type 0 where
   gone : now.files a ≡ None
@@ -40,8 +40,8 @@ sole e = record e { clone = None }
 
 module _ (group : ℕ) (version : Version) (old new : Now) (fits : Fits old) (a : CellAt) (k : IsLeaving old a) where
   -- the same file, by an entry of the list then
-  still_leaving : (e : Entry) → e.goes ≡ k.entry.goes → Contains new.list.entries e → e.at ≡ a → new.files a ≡ old.files a → IsLeaving new a
-  still_leaving e goes inside at same = record { entry = e; inside = inside; at = at; chain = k.chain; is = same ∙ k.is; left = λ trim. k.left (ap (λ g. done_by g (left_of k.chain)) (sym goes) ∙ trim) }
+  still_leaving : (e : Entry) → Contains new.list.entries e → e.at ≡ a → new.files a ≡ old.files a → IsLeaving new a
+  still_leaving e inside at same = record { entry = e; inside = inside; at = at; chain = k.chain; is = same ∙ k.is; left = k.left }
 
   lets_leaving : LetsPages group version old new → IsLeaving new a
   lets_leaving s = by_which (which s.entry.at s.entry.clone a)
@@ -58,17 +58,17 @@ module _ (group : ℕ) (version : Version) (old new : Now) (fits : Fits old) (a 
             at = k.at;
             chain = s.releases.after;
             is = ap new.files same ∙ at_source group version old new fits s;
-            left = λ trim. k.left (sym (ap (to_do k.entry) was) ∙ sym (after_to_do group version old new fits s k.entry) ∙ trim);
+            left = λ trim. k.left (sym (ap left_of was) ∙ sym (after_left group version old new fits s) ∙ trim);
           }
       by_which (reading some) = absurd (alone old fits s.front s.entry s.last k.entry k.inside (some ∙ ap Some (sym k.at)))
-      by_which (other not_at not_it) = still_leaving k.entry refl inside_now k.at (at_other group version old new fits s a not_at not_it)
+      by_which (other not_at not_it) = still_leaving k.entry inside_now k.at (at_other group version old new fits s a not_at not_it)
 
   quota_leaving : LosesQuotaCell old new → IsLeaving new a
   quota_leaving s =
       let inside_now = inside_by new.list old.list k.entry (sym s.same_list) k.inside in
       ⊎_elim
-      (λ same. record { entry = k.entry; inside = inside_now; at = k.at; chain = s.after; is = ap new.files same ∙ quota_is group version old new s; left = quota_whole group version old new s k.entry })
-      (λ not_at. still_leaving k.entry refl inside_now k.at (quota_beside group version old new s a not_at))
+      (λ same. record { entry = k.entry; inside = inside_now; at = k.at; chain = s.after; is = ap new.files same ∙ quota_is group version old new s; left = quota_whole group version old new s })
+      (λ not_at. still_leaving k.entry inside_now k.at (quota_beside group version old new s a not_at))
       (same_or_not a s.entry.at)
 
   trim_leaving : EndsTrim old new → IsLeaving new a
@@ -76,11 +76,11 @@ module _ (group : ℕ) (version : Version) (old new : Now) (fits : Fits old) (a 
     where
       by_place : IsIn s.front s.entry k.entry → IsLeaving new a
       by_place (earlier is) =
-          still_leaving k.entry refl (inside_by new.list (record { entries = s.front; tag_pages = old.list.tag_pages }) k.entry (sym s.list) is) k.at
+          still_leaving k.entry (inside_by new.list (record { entries = s.front; tag_pages = old.list.tag_pages }) k.entry (sym s.list) is) k.at
           (trim_other group version old new fits s a (λ same. not_last s.front s.entry k.entry (trim_once group version old new fits s) is (k.at ∙ same)))
       by_place (this same) =
           let was : s.chain ≡ k.chain = some_same s.chain k.chain (sym s.is ∙ ap old.files (sym (ap (λ (e : Entry). e.at) same) ∙ k.at) ∙ k.is) in
-          absurd (k.left (ap (λ e. to_do e k.chain) same ∙ sym (ap (to_do s.entry) was) ∙ s.trim))
+          absurd (k.left (sym (ap left_of was) ∙ s.trim))
 
   reading_leaving : EndsReading old new → IsLeaving new a
   reading_leaving s = by_place (place_in_list old.list s.front s.entry k.entry s.last k.inside)
@@ -92,15 +92,15 @@ module _ (group : ℕ) (version : Version) (old new : Now) (fits : Fits old) (a 
       same_chain = reading_other group version old new fits s a (λ same. alone old fits s.front s.entry s.last k.entry k.inside (s.given ∙ ap Some (sym same ∙ sym k.at)))
 
       by_place : IsIn s.front s.entry k.entry → IsLeaving new a
-      by_place (earlier is) = still_leaving k.entry refl (now_in k.entry (in_start s.front ((sole s.entry) ∷ []) k.entry is)) k.at same_chain
-      by_place (this same) = still_leaving (sole s.entry) (sym (ap (λ (e : Entry). e.goes) same)) (now_in (sole s.entry) (last_in s.front (sole s.entry))) (sym (ap (λ (e : Entry). e.at) same) ∙ k.at) same_chain
+      by_place (earlier is) = still_leaving k.entry (now_in k.entry (in_start s.front ((sole s.entry) ∷ []) k.entry is)) k.at same_chain
+      by_place (this same) = still_leaving (sole s.entry) (now_in (sole s.entry) (last_in s.front (sole s.entry))) (sym (ap (λ (e : Entry). e.at) same) ∙ k.at) same_chain
 
   file_leaving : EndsFile old new → IsLeaving new a ⊎ IsGone new a
   file_leaving s = by_place (place_in_list old.list s.front s.entry k.entry s.last k.inside)
     where
       by_place : IsIn s.front s.entry k.entry → IsLeaving new a ⊎ IsGone new a
       by_place (earlier is) =
-          inl (still_leaving (without s.entry.at k.entry) refl (file_now group version old new fits s k.entry is) k.at
+          inl (still_leaving (without s.entry.at k.entry) (file_now group version old new fits s k.entry is) k.at
           (ended_other group version old new fits s a (λ same. not_last s.front s.entry k.entry (file_once group version old new fits s) is (k.at ∙ same))))
       by_place (this same) =
           let at : a ≡ s.entry.at = sym k.at ∙ ap (λ (e : Entry). e.at) same in
@@ -120,7 +120,7 @@ module _ (group : ℕ) (version : Version) (old new : Now) (fits : Fits old) (a 
   leaving_step (trim_ends s) = inl (trim_leaving s)
   leaving_step (reading_ends s) = inl (reading_leaving s)
   leaving_step (file_ends s) = file_leaving s
-  leaving_step (tag_page_goes s) = inl (still_leaving k.entry refl (inside_by new.list (record { entries = old.list.entries; tag_pages = s.takes.front }) k.entry (sym s.takes.is) k.inside) k.at (same_file group version old new fits s a))
+  leaving_step (tag_page_goes s) = inl (still_leaving k.entry (inside_by new.list (record { entries = old.list.entries; tag_pages = s.takes.front }) k.entry (sym s.takes.is) k.inside) k.at (same_file group version old new fits s a))
 
 record LeavesStill (now : Now) (a : CellAt) : Type 0 where
   fits : Fits now
@@ -140,7 +140,7 @@ leaves_still group version first count last well steps a leaving =
     ]
 
 pub removed_are_gone : (group : ℕ) (version : Version) (first : Now) (count : ℕ) (last : Now) → IsWell first → Steps group version first count last → last.list.entries ≡ []
-    → (entry : Entry) → Contains first.list.entries entry → (chain : List PlacedCell) → first.files entry.at ≡ Some chain → GoesWhole entry chain → last.files entry.at ≡ None
+    → (entry : Entry) → Contains first.list.entries entry → (chain : List PlacedCell) → first.files entry.at ≡ Some chain → GoesWhole chain → last.files entry.at ≡ None
 removed_are_gone group version first count last well steps empty entry inside chain is left =
     ⊎_elim
     (λ k. absurd (nothing k.entry (subst (λ (es : List Entry). Contains es k.entry) empty k.inside)))

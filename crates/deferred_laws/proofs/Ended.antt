@@ -9,7 +9,7 @@ use Rattle.bitfile_cells.specs.Files.{places_of}
 use Rattle.bitfile_core.specs.Changes.{with_first}
 use Rattle.chain_release.specs.Reading.{own_or}
 use Rattle.deferred_delete.specs.declared.list.Entry.{Entry}
-use Rattle.deferred_delete.specs.Listed.{stale_from, to_do}
+use Rattle.deferred_delete.specs.Listed.{left_of, stale_from}
 use Rattle.deferred_delete.specs.Listing.{AreInOrder, Listing, clone_but, without, without_clone}
 use Rattle.deferred_delete.specs.Standing.{Files, ReadsThrough, Source, place_in, read_at, read_of, source_at, source_of}
 use Rattle.deferred_delete.specs.Steps.{EndsFile, EndsReading, EndsTrim, GivesTagPage, Now, file_ends, reading_ends, says_no_source, says_trimmed, tag_page_goes, trim_ends}
@@ -20,7 +20,7 @@ use Rattle.deferred_delete.proofs.Stepping.{whole_from}
 use Rattle.deferred_laws.specs.Kept.{Stays}
 use Rattle.deferred_laws.proofs.FirstCells.{first_maps, first_other, first_place, first_places, first_there, sourceless_keeps, sourceless_source, trimmed_keeps, trimmed_source}
 use Rattle.deferred_laws.proofs.Fits.{Fits, alone, fits_by, reading_maps, trim_maps}
-use Rattle.deferred_laws.proofs.Narrower.{in_front, in_last, inside_by, narrower_step, stale_was}
+use Rattle.deferred_laws.proofs.Narrower.{in_front, in_last, inside_by, narrower_step}
 use Rattle.deferred_laws.proofs.ReadHomes.{none_either, read_beside, read_same, read_there, through}
 
 no_source_there : (files : Files) (a b : CellAt) → source_at files a ≡ None → ¬ ReadsThrough files a b
@@ -48,7 +48,7 @@ module _ (group : ℕ) (version : Version) (old new : Now) (fits : Fits old) (s 
   pub trim_other : (a : CellAt) → ¬ a ≡ s.entry.at → new.files a ≡ old.files a
   trim_other a not_at = first_other says_trimmed trimmed_keeps old new fits s.entry.at s.chain s.is (trim_maps old new fits s) s.files a not_at
 
-  trim_sources : (a : CellAt) → source_at new.files a ≡ source_at old.files a
+  pub trim_sources : (a : CellAt) → source_at new.files a ≡ source_at old.files a
   trim_sources a = ⊎_elim
       (λ same. ap (option_and_then source_of) (ap new.files same ∙ trim_there) ∙ trimmed_source s.chain ∙ sym (ap (option_and_then source_of) (ap old.files same ∙ s.is)))
       (λ not_at. ap (option_and_then source_of) (trim_other a not_at))
@@ -108,7 +108,7 @@ module _ (group : ℕ) (version : Version) (old new : Now) (fits : Fits old) (s 
   other_source : (a : CellAt) → ¬ a ≡ s.clone → source_at new.files a ≡ source_at old.files a
   other_source a not_at = ap (option_and_then source_of) (reading_other a not_at)
 
-  reading_back : (a b : CellAt) → ReadsThrough new.files a b → ReadsThrough old.files a b
+  pub reading_back : (a b : CellAt) → ReadsThrough new.files a b → ReadsThrough old.files a b
   reading_back a b reads = reads_by old.files new.files a b (other_source a (not_the_clone a b reads)) reads
 
   clone_reads_entry : ReadsThrough old.files s.clone s.entry.at
@@ -144,7 +144,7 @@ module _ (group : ℕ) (version : Version) (old new : Now) (fits : Fits old) (s 
   reading_stays a p stays e inside at ds is =
       let n = narrower_step group version old new (reading_ends s) e inside in
       let apart : ¬ a ≡ s.clone = (λ same. alone old fits s.front s.entry s.last n.was n.inside (s.given ∙ ap Some (sym same ∙ sym at ∙ sym n.at))) in
-      subst (λ (k : ℕ). p < k) (sym (stale_was old.list new.list e n ds)) (stays n.was n.inside (n.at ∙ at) ds (sym (reading_other a apart) ∙ is))
+      stays n.was n.inside (n.at ∙ at) ds (sym (reading_other a apart) ∙ is)
 
   pub reading_place : (b : CellAt) (p : ℕ) → place_in new.files b p ≡ place_in old.files b p
   reading_place b p = first_place says_no_source sourceless_keeps old new fits s.clone s.own s.own_is (reading_maps old new fits s) s.files b p
@@ -199,7 +199,7 @@ module _ (group : ℕ) (version : Version) (old new : Now) (fits : Fits old) (s 
   not_the_file : (c b : CellAt) → ReadsThrough new.files c b → ¬ c ≡ s.entry.at
   not_the_file c b reads same = no_source_there new.files s.entry.at b (ap (option_and_then source_of) file_gone) (subst (λ (q : CellAt). ReadsThrough new.files q b) same reads)
 
-  ended_back : (a b : CellAt) → ReadsThrough new.files a b → ReadsThrough old.files a b
+  pub ended_back : (a b : CellAt) → ReadsThrough new.files a b → ReadsThrough old.files a b
   ended_back a b reads = reads_by old.files new.files a b (ap (option_and_then source_of) (ended_other a (not_the_file a b reads))) reads
 
   ended_all : (e : Entry) → Contains new.list.entries e → (c : CellAt) → ReadsThrough new.files c e.at → e.clone ≡ Some c
@@ -223,13 +223,13 @@ module _ (group : ℕ) (version : Version) (old new : Now) (fits : Fits old) (s 
       let w = file_was e inside in
       let was_at : w.0.at ≡ a = sym (ap (λ (x : Entry). x.at) w.2) ∙ at in
       let apart : ¬ a ≡ s.entry.at = (λ same. not_last s.front s.entry w.0 file_once w.1 (was_at ∙ same)) in
-      subst (λ (x : Entry). p < stale_from x ds) (sym w.2) (stays w.0 (in_front old.list s.front s.entry w.0 s.last w.1) was_at ds (sym (ended_other a apart) ∙ is))
+      (stays w.0 (in_front old.list s.front s.entry w.0 s.last w.1) was_at ds (sym (ended_other a apart) ∙ is))
 
   pub ended_reads : (a : CellAt) (p : ℕ) → Stays old a p → read_at new.files a p ≡ read_at old.files a p
   ended_reads a p stays = ⊎_elim
       (λ same.
-      let less : p < stale_from s.entry s.chain = stays s.entry file_in (sym same) s.chain (ap old.files same ∙ s.is) in
-      let none : stale_from s.entry s.chain ≡ 0 = whole_from (to_do s.entry s.chain) s.chain s.whole in
+      let less : p < stale_from s.chain = stays s.entry file_in (sym same) s.chain (ap old.files same ∙ s.is) in
+      let none : stale_from s.chain ≡ 0 = whole_from (left_of s.chain) s.chain s.whole in
       absurd (omega (arith, less, none)))
       (λ not_at. read_beside old.files new.files a p (ended_other a not_at) (λ x is_x.
       ap (λ o. option_map_or (λ cs. places_of cs p) o Absent) (ended_other x.at (λ it.
@@ -248,7 +248,7 @@ module _ (group : ℕ) (version : Version) (old new : Now) (fits : Fits old) (s 
   pub same_file : (a : CellAt) → new.files a ≡ old.files a
   same_file a = ap (λ (f : Files). f a) s.same_files
 
-  tag_sources : (a : CellAt) → source_at new.files a ≡ source_at old.files a
+  pub tag_sources : (a : CellAt) → source_at new.files a ≡ source_at old.files a
   tag_sources a = ap (option_and_then source_of) (same_file a)
 
   pub tag_fits : Fits new

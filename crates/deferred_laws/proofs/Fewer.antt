@@ -99,8 +99,8 @@ and_no : (b : Bool) → (b && false) ≡ false
 and_no true = refl
 and_no false = refl
 
-goes_not : (e : Entry) (chain : List PlacedCell) (page : ℕ) → places_of chain page ≡ Absent → goes e chain page ≡ false
-goes_not e chain page gone = ap (λ x. nat_le (stale_from e chain) page && is_there x) gone ∙ and_no (nat_le (stale_from e chain) page)
+goes_not : (chain : List PlacedCell) (page : ℕ) → places_of chain page ≡ Absent → goes chain page ≡ false
+goes_not chain page gone = ap (λ x. nat_le (stale_from chain) page && is_there x) gone ∙ and_no (nat_le (stale_from chain) page)
 
 -- ---- the steps
 
@@ -115,31 +115,31 @@ module _ (group : ℕ) (version : Version) (old new : Now) (well : IsWell old) w
   g = left_of_entry new.files
 
   same_entry : (e : Entry) → new.files e.at ≡ old.files e.at → g e ≡ f e
-  same_entry e same = ap (λ o. 1 + cond (is_some e.clone) 1 0 + option_map_or (left_in e) o 0) same
+  same_entry e same = ap (λ o. 1 + cond (is_some e.clone) 1 0 + option_map_or left_in o 0) same
 
   once_by : (front : List Entry) (entry : Entry) → old.list.entries ≡ front ++ entry ∷ [] → AreEntriesOnce (front ++ entry ∷ [])
   once_by front entry last = subst AreEntriesOnce last well.listed.once
 
   module _ (s : LetsPages group version old new) where
-    still_goes : (k : ℕ) → goes s.entry s.releases.after k ≡ true → goes s.entry s.chain k ≡ true
+    still_goes : (k : ℕ) → goes s.releases.after k ≡ true → goes s.chain k ≡ true
     still_goes k is = ⊎_elim
         (λ kept.
-        sym (ap (λ n. nat_le n k && is_there (places_of s.releases.after k)) (after_stale group version old new fits s s.entry) ∙ ap (λ x. nat_le (stale_from s.entry s.chain) k && is_there x) kept) ∙ is)
-        (λ gone. absurd (true≢false (sym is ∙ goes_not s.entry s.releases.after k gone)))
+        sym (ap (λ n. nat_le n k && is_there (places_of s.releases.after k)) (after_stale group version old new fits s) ∙ ap (λ x. nat_le (stale_from s.chain) k && is_there x) kept) ∙ is)
+        (λ gone. absurd (true≢false (sym is ∙ goes_not s.releases.after k gone)))
         (s.releases.pages.left k)
 
-    fewer : (what : Released) (between : Cells) → Progresses what (stale_from s.entry s.chain) s.chain s.releases.after between new.cells → left_in s.entry s.releases.after + 1 ≤ left_in s.entry s.chain
+    fewer : (what : Released) (between : Cells) → Progresses what (stale_from s.chain) s.chain s.releases.after between new.cells → left_in s.releases.after + 1 ≤ left_in s.chain
     fewer released.Nothing between progress = absurd progress
     fewer released.Pages between progress =
         let small = small_page (runs_of (records_of s.chain)) (file_map old.pages s.entry.at s.chain s.file).placed progress.page progress.was in
-        let went = count_less (goes s.entry s.chain) (goes s.entry s.releases.after) 65536 progress.page small still_goes
-        (and_from (nat_le (stale_from s.entry s.chain) progress.page) (is_there (places_of s.chain progress.page)) (le-leb (stale_from s.entry s.chain) progress.page progress.begins) (there_is (places_of s.chain progress.page) progress.was))
-        (goes_not s.entry s.releases.after progress.page progress.gone) in
+        let went = count_less (goes s.chain) (goes s.releases.after) 65536 progress.page small still_goes
+        (and_from (nat_le (stale_from s.chain) progress.page) (is_there (places_of s.chain progress.page)) (le-leb (stale_from s.chain) progress.page progress.begins) (there_is (places_of s.chain progress.page) progress.was))
+        (goes_not s.releases.after progress.page progress.gone) in
         let long : length s.releases.after ≡ length s.chain =
         sym (length-map s.releases.after (λ (c : PlacedCell). c.at)) ∙ ap length progress.same_places ∙ length-map s.chain (λ (c : PlacedCell). c.at) in
         omega (arith, went, long)
     fewer released.Cell between progress =
-        let went = count_le (goes s.entry s.chain) (goes s.entry s.releases.after) 65536 still_goes in
+        let went = count_le (goes s.chain) (goes s.releases.after) 65536 still_goes in
         let long = progress.fewer in
         omega (arith, went, long)
 
@@ -148,8 +148,8 @@ module _ (group : ℕ) (version : Version) (old new : Now) (well : IsWell old) w
         let inside = in_last old.list s.front s.entry s.last in
         let front = sum_same f g s.front (λ e is. same_entry e (at_other group version old new fits s e.at (not_last s.front s.entry e (once_by s.front s.entry s.last) is)
         (alone old fits s.front s.entry s.last e (in_front old.list s.front s.entry e s.last is)))) in
-        let was : f s.entry ≡ 1 + cond (is_some s.entry.clone) 1 0 + left_in s.entry s.chain = ap (λ o. 1 + cond (is_some s.entry.clone) 1 0 + option_map_or (left_in s.entry) o 0) s.is in
-        let is : g s.entry ≡ 1 + cond (is_some s.entry.clone) 1 0 + left_in s.entry s.releases.after = ap (λ o. 1 + cond (is_some s.entry.clone) 1 0 + option_map_or (left_in s.entry) o 0) (at_source group version old new fits s) in
+        let was : f s.entry ≡ 1 + cond (is_some s.entry.clone) 1 0 + left_in s.chain = ap (λ o. 1 + cond (is_some s.entry.clone) 1 0 + option_map_or left_in o 0) s.is in
+        let is : g s.entry ≡ 1 + cond (is_some s.entry.clone) 1 0 + left_in s.releases.after = ap (λ o. 1 + cond (is_some s.entry.clone) 1 0 + option_map_or left_in o 0) (at_source group version old new fits s) in
         let less = fewer s.what s.releases.cells_between s.releases.progress in
         let all_old : sum_by f old.list.entries ≡ sum_by f s.front + f s.entry = ap (sum_by f) s.last ∙ sum_by_push f s.front s.entry in
         let all_new : sum_by g new.list.entries ≡ sum_by g s.front + g s.entry = ap (λ (l : Listing). sum_by g l.entries) s.same_list ∙ ap (sum_by g) s.last ∙ sum_by_push g s.front s.entry in
@@ -161,11 +161,11 @@ module _ (group : ℕ) (version : Version) (old new : Now) (well : IsWell old) w
   quota_fewer s =
       let cells = chain group version old new s in
       let front = sum_same f g s.front (λ e is. same_entry e (quota_beside group version old new s e.at (not_last s.front s.entry e (once_by s.front s.entry s.last) is))) in
-      let was : f s.entry ≡ 1 + cond (is_some s.entry.clone) 1 0 + left_in s.entry cells = ap (λ o. 1 + cond (is_some s.entry.clone) 1 0 + option_map_or (left_in s.entry) o 0) s.is in
-      let is : g s.entry ≡ 1 + cond (is_some s.entry.clone) 1 0 + left_in s.entry s.after = ap (λ o. 1 + cond (is_some s.entry.clone) 1 0 + option_map_or (left_in s.entry) o 0) (quota_is group version old new s) in
-      let gone : (k : ℕ) → goes s.entry s.after k ≡ true → goes s.entry cells k ≡ true =
-      λ k there. absurd (true≢false (sym there ∙ goes_not s.entry s.after k (quota_place new.pages s.entry.at s.after s.stands k))) in
-      let pages = count_le (goes s.entry cells) (goes s.entry s.after) 65536 gone in
+      let was : f s.entry ≡ 1 + cond (is_some s.entry.clone) 1 0 + left_in cells = ap (λ o. 1 + cond (is_some s.entry.clone) 1 0 + option_map_or left_in o 0) s.is in
+      let is : g s.entry ≡ 1 + cond (is_some s.entry.clone) 1 0 + left_in s.after = ap (λ o. 1 + cond (is_some s.entry.clone) 1 0 + option_map_or left_in o 0) (quota_is group version old new s) in
+      let gone : (k : ℕ) → goes s.after k ≡ true → goes cells k ≡ true =
+      λ k there. absurd (true≢false (sym there ∙ goes_not s.after k (quota_place new.pages s.entry.at s.after s.stands k))) in
+      let pages = count_le (goes cells) (goes s.after) 65536 gone in
       let long : length s.after ≡ suc (length s.rest) = ap length s.after_is in
       let all_old : sum_by f old.list.entries ≡ sum_by f s.front + f s.entry = ap (sum_by f) s.last ∙ sum_by_push f s.front s.entry in
       let all_new : sum_by g new.list.entries ≡ sum_by g s.front + g s.entry = ap (λ (l : Listing). sum_by g l.entries) s.same_list ∙ ap (sum_by g) s.last ∙ sum_by_push g s.front s.entry in
@@ -191,7 +191,7 @@ module _ (group : ℕ) (version : Version) (old new : Now) (well : IsWell old) w
   file_fewer : EndsFile old new → left_to_do new + 1 ≤ left_to_do old
   file_fewer s =
       let less = sum_below f g s.entry.at s.front (λ e is.
-      let same = ap (λ o. option_map_or (left_in e) o 0) (ended_other group version old new fits s e.at (not_last s.front s.entry e (once_by s.front s.entry s.last) is)) in
+      let same = ap (λ o. option_map_or left_in o 0) (ended_other group version old new fits s e.at (not_last s.front s.entry e (once_by s.front s.entry s.last) is)) in
       let clone = clone_or_not s.entry.at e.clone in
       omega (arith, same, clone)) in
       let all_old : sum_by f old.list.entries ≡ sum_by f s.front + f s.entry = ap (sum_by f) s.last ∙ sum_by_push f s.front s.entry in
@@ -207,8 +207,8 @@ module _ (group : ℕ) (version : Version) (old new : Now) (well : IsWell old) w
       let sole : Entry = record s.entry { clone = None } in
       let front = sum_same f g s.front (λ e is. same_entry e (beside e (in_front old.list s.front s.entry e s.last is))) in
       let chain = beside s.entry inside in
-      let was : f s.entry ≡ 1 + 1 + option_map_or (left_in s.entry) (old.files s.entry.at) 0 = ap (λ o. 1 + cond (is_some o) 1 0 + option_map_or (left_in s.entry) (old.files s.entry.at) 0) s.given in
-      let is : g sole ≡ 1 + 0 + option_map_or (left_in s.entry) (old.files s.entry.at) 0 = ap (λ o. 1 + 0 + option_map_or (left_in s.entry) o 0) chain in
+      let was : f s.entry ≡ 1 + 1 + option_map_or left_in (old.files s.entry.at) 0 = ap (λ o. 1 + cond (is_some o) 1 0 + option_map_or left_in (old.files s.entry.at) 0) s.given in
+      let is : g sole ≡ 1 + 0 + option_map_or left_in (old.files s.entry.at) 0 = ap (λ o. 1 + 0 + option_map_or left_in o 0) chain in
       let all_old : sum_by f old.list.entries ≡ sum_by f s.front + f s.entry = ap (sum_by f) s.last ∙ sum_by_push f s.front s.entry in
       let all_new : sum_by g new.list.entries ≡ sum_by g s.front + g sole = ap (λ (l : Listing). sum_by g l.entries) s.list ∙ sum_by_push g s.front sole in
       let tags : length new.list.tag_pages ≡ length old.list.tag_pages = ap (λ (l : Listing). length l.tag_pages) s.list in

@@ -1,6 +1,6 @@
 -- All goes on to belong together where the first cell of a tag's file says something else, or the
 -- tag goes.
-use Rattle.std.proofs.Common.{◌≡◌, ◌∙◌, ℕ, Bool, false, cond, List, ◌∷◌, Option, Some, None, IfSome, IsSomeAnd, Contains, refl, sym, ap, subst, arith, inl}
+use Rattle.std.proofs.Common.{◌≡◌, ◌∙◌, ℕ, Bool, false, cond, List, ◌∷◌, Option, Some, None, IfSome, IsSomeAnd, Contains, refl, sym, ap, subst, arith, inl, IsSome, is_some}
 use Rattle.std.specs.Option.{option_and_then, option_map, option_map_or}
 use Rattle.domain_base.specs.declared.place.CellAt.{CellAt}
 use Rattle.domain_base.specs.declared.place.Home.{Home}
@@ -21,21 +21,23 @@ use Rattle.bitfile_cells.proofs.ChainChanges.{in_first}
 use Rattle.bitfile_cells.proofs.MapRecords.{kind_found}
 use Rattle.bitfile_core.specs.declared.attributes.Attributes.{Attributes}
 use Rattle.bitfile_core.specs.Changes.{ChangesBeside, ChangesFirst, says_attributes, says_parent, says_removed, with_attributes, with_chain, with_first, without_chain}
+use Rattle.bitfile_core.specs.declared.indexing.IndexPlace.{IndexPlace}
+use Rattle.bitfile_core.specs.Index.{index_record, says_index}
 use Rattle.bitfile_core.specs.Files.{AreApart, AreFiles, Chains, LeadsToFile, is_removed, says_remove}
 use Rattle.bitfile_core.specs.Truncation.{resized, says_size, says_truncated}
 use Rattle.bitfile_core.proofs.FirstCell.{find_other, find_put}
-use Rattle.bitfile_core.proofs.FirstTogether.{attributes_keep, parent_keeps, runs_kept, truncated_keeps}
+use Rattle.bitfile_core.proofs.FirstTogether.{attributes_keep, index_keeps, parent_keeps, runs_kept, truncated_keeps}
 use Rattle.bitfile_core.proofs.OneChain.{chain_other, chain_same, same_tag_itself}
 use Rattle.bitfile_core.proofs.RemovedTogether.{removed_keeps}
 use Rattle.bitfile_core.proofs.Room.{attributes_kind}
 use Rattle.bitfile_core.proofs.Truncated.{resized_kind}
-use Rattle.deferred_delete.specs.Listed.{left_of, leftover_in, to_do}
+use Rattle.deferred_delete.specs.Listed.{left_of, leftover_in}
 use Rattle.deferred_delete.specs.Standing.{Files, IsFileOrQuotas, IsStanding, source_in, with_file}
 use Rattle.deferred_delete.specs.Steps.{IsWell, now_of}
-use Rattle.deferred_delete.proofs.Standings.{apart_by, chain_beside, file_there, place_by, source_by, standing, still_trim}
+use Rattle.deferred_delete.proofs.Standings.{apart_by, chain_beside, file_there, place_by, source_by, standing}
 use Rattle.deferred_laws.specs.Calls.{StandsWell, Drops, FilesetNow, SetsFirst}
 use Rattle.deferred_laws.specs.Tags.{AreAmong, chains_in, start_of}
-use Rattle.deferred_laws.proofs.OneFile.{IsPut, put_listed, put_together}
+use Rattle.deferred_laws.proofs.OneFile.{IsPut, put_listed, put_together, SaysByFirst}
 use Rattle.deferred_laws.proofs.PutWell.{among_by}
 use Rattle.deferred_laws.proofs.StillAmong.{still_among}
 use Rattle.deferred_laws.proofs.TagFile.{file_is, other_starts}
@@ -94,6 +96,22 @@ module _ (pages : Pages) (first : PlacedCell) (rest : List PlacedCell) (file : A
   pub parent_live : (parent : Tag) → StaysLive (says_parent parent) first.cell
   parent_live parent = by_same_live (says_parent parent) first.cell (parent_other parent 6 (λ e. omega (arith, e)))
 
+  index_kind : (o : Option IndexPlace) → IfSome (option_map index_record o) (λ r. kind_of r ≡ 9)
+  index_kind None = tt
+  index_kind (Some index) = refl
+
+  index_other : (index : Option IndexPlace) (k : ℕ) → ¬ k ≡ 9 → record_of k (says_index index first.cell).records ≡ record_of k first.cell.records
+  index_other index k nine = find_other 9 k (option_map index_record index) first.cell.records nine (index_kind index)
+
+  pub index_beside : (index : Option IndexPlace) → SaysBeside (says_index index) first.cell
+  index_beside index = record {
+    maps = index_keeps pages first rest file index;
+    source = index_other index 2 (λ e. omega (arith, e));
+  }
+
+  pub index_live : (index : Option IndexPlace) → StaysLive (says_index index) first.cell
+  index_live index = by_same_live (says_index index) first.cell (index_other index 6 (λ e. omega (arith, e)))
+
   size_other : (size : ℕ) (lowered : Option ℕ) (k : ℕ) → ¬ k ≡ 1 → record_of k (says_size size lowered first.cell).records ≡ record_of k first.cell.records
   size_other size lowered k one = find_other 1 k (option_map (resized size lowered) (record_of 1 first.cell.records)) first.cell.records one (changed_kind 1 (resized size lowered) (resized_kind size lowered) first.cell.records)
 
@@ -122,6 +140,11 @@ module _ (pages : Pages) (first : PlacedCell) (rest : List PlacedCell) (file : A
     maps = removed_keeps pages first rest file;
     source = find_other 6 2 (Some (written.Pending Remove)) first.cell.records (λ e. omega (arith, e)) refl;
   }
+
+-- a record of what is left is there
+pub some_record : (o : Option Record) → option_and_then leftover_in o ≡ Some Trim → IsSome o
+some_record None trim = absurd (none_not Trim trim)
+some_record (Some r) trim = refl
 
 -- ---- the file, and all others
 
@@ -169,15 +192,15 @@ module _ (fileset : ℕ) (tag : Tag) (old : FilesetNow) (stood : StandsWell file
     source = ap (option_and_then source_in) beside.source ∙ sym (source_by files first.at (first ∷ rest) there);
   }
 
-  pub set_well : IsWell (now_of old.domain.list (with_file first.at (Some after) files) old.domain.space old.domain.cells new)
-  set_well = record {
+  pub set_well : ((e : Entry) → Contains old.domain.list.entries e → e.at ≡ first.at → SaysByFirst after) → IsWell (now_of old.domain.list (with_file first.at (Some after) files) old.domain.space old.domain.cells new)
+  set_well says_first = record {
     together = put_together old.domain.space old.domain.space old.domain.cells old.domain.cells old.domain.pages new files stood.well.together first.at after NoMore set_put;
-    listed = put_listed old.domain.space old.domain.space old.domain.cells old.domain.cells old.domain.pages new files stood.well.together first.at after NoMore set_put old.domain.list stood.well.listed
+    listed = put_listed old.domain.space old.domain.space old.domain.cells old.domain.cells old.domain.pages new files stood.well.together first.at after NoMore set_put old.domain.list stood.well.listed says_first
         (λ home inside p more. more);
   }
 
   pub set_among : (chains_now : Chains) → ((t : Tag) → same_tag t tag ≡ false → chains_now t ≡ old.chains t) → chains_in (with_file first.at (Some after) files) chains_now tag ≡ chains_now tag → IfSome (chains_now tag) (λ cs. is_removed cs ≡ false)
-      → ((e : Entry) → Contains old.domain.list.entries e → option_and_then start_of (chains_now tag) ≡ Some e.at → option_and_then (to_do e) (chains_now tag) ≡ Some Trim)
+      → ((e : Entry) → Contains old.domain.list.entries e → option_and_then start_of (chains_now tag) ≡ Some e.at → option_and_then left_of (chains_now tag) ≡ Some Trim)
       → AreAmong (now_of old.domain.list (with_file first.at (Some after) files) old.domain.space old.domain.cells new) old.places chains_now
   set_among chains_now others own live trim =
       still_among old.domain.list old.domain.space old.domain.space old.domain.cells old.domain.cells old.domain.pages new files stood.well.together first.at after NoMore set_put
@@ -213,9 +236,14 @@ module _ (fileset : ℕ) (tag : Tag) (old new : FilesetNow) (stood : StandsWell 
   set_file = are_file fileset old.places old.domain.pages old.chains stood.together.files tag s.first s.rest s.is
 
   module _ (beside : SaysBeside says s.first.cell) (live : StaysLive says s.first.cell) where
+    -- where it is on the list, it is to be trimmed
+    left_trim : (e : Entry) → Contains old.domain.list.entries e → e.at ≡ s.first.at → left_of (s.first ∷ s.rest) ≡ Some Trim
+    left_trim e inside same = ap (option_and_then left_of) (sym s.is) ∙ stood.among.trimmed e inside tag (ap (option_and_then start_of) s.is ∙ ap Some (sym same))
+
     pub first_well : IsWell new.domain
     first_well = well_by new.domain old.domain.list _ old.domain.space old.domain.cells s.list s.files s.space s.cells
-        (set_well fileset tag old stood new.domain.pages s.first s.rest s.is says s.together.allocated (first_file (cell_of new.domain.pages old.places tag) led.leads) set_beside beside)
+        (set_well fileset tag old stood new.domain.pages s.first s.rest s.is says s.together.allocated (first_file (cell_of new.domain.pages old.places tag) led.leads) set_beside beside
+        (λ e inside same. inl (some_record (record_of 6 (says s.first.cell).records) (live.trim (left_trim e inside same)))))
 
     pub first_among : AreAmong new.domain new.places new.chains
     first_among = among_by new.domain old.places new.places chains_set new.chains old.domain.list _ old.domain.space old.domain.cells s.list s.files s.places s.chains
@@ -224,8 +252,8 @@ module _ (fileset : ℕ) (tag : Tag) (old new : FilesetNow) (stood : StandsWell 
         (ap (λ o. option_and_then (with_file s.first.at (Some (with_first says (s.first ∷ s.rest))) old.domain.files) (option_and_then start_of o)) tag_now
         ∙ file_there s.first.at (Some (with_first says (s.first ∷ s.rest))) old.domain.files ∙ sym tag_now)
         (subst (λ o. IfSome o (λ cs. is_removed cs ≡ false)) (sym tag_now) (live.live (subst (λ o. IfSome o (λ cs. is_removed cs ≡ false)) s.is (stood.among.live tag))))
-        (λ e inside is. ap (option_and_then (to_do e)) tag_now
-        ∙ still_trim e.goes (left_of (s.first ∷ s.rest)) (left_of (with_first says (s.first ∷ s.rest))) live.trim (ap (option_and_then (to_do e)) (sym s.is) ∙ stood.among.trimmed e inside tag (ap (option_and_then start_of) s.is ∙ sym (ap (option_and_then start_of) tag_now) ∙ is))))
+        (λ e inside is. ap (option_and_then left_of) tag_now
+        ∙ live.trim (ap (option_and_then left_of) (sym s.is) ∙ stood.among.trimmed e inside tag (ap (option_and_then start_of) s.is ∙ sym (ap (option_and_then start_of) tag_now) ∙ is))))
 
 module _ (fileset : ℕ) (tag : Tag) (old new : FilesetNow) (stood : StandsWell fileset old) (s : Drops fileset tag old new) where
   abbrev pub chains_left : Chains
@@ -254,7 +282,8 @@ module _ (fileset : ℕ) (tag : Tag) (old new : FilesetNow) (stood : StandsWell 
 
   pub dropped_well : IsWell new.domain
   dropped_well = well_by new.domain old.domain.list _ old.domain.space old.domain.cells s.list files_left s.space s.cells
-      (set_well fileset tag old stood new.domain.pages s.first s.rest s.is says_removed s.together.allocated dropped_now dropped_beside (removed_beside old.domain.pages s.first s.rest dropped_was))
+      (set_well fileset tag old stood new.domain.pages s.first s.rest s.is says_removed s.together.allocated dropped_now dropped_beside (removed_beside old.domain.pages s.first s.rest dropped_was)
+      (λ e inside same. inl (ap is_some (find_put 6 (Some (written.Pending Remove)) s.first.cell.records refl))))
 
   pub dropped_among : AreAmong new.domain new.places new.chains
   dropped_among = among_by new.domain old.places new.places chains_left new.chains old.domain.list _ old.domain.space old.domain.cells s.list files_left s.places s.chains

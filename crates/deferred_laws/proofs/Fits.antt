@@ -11,13 +11,13 @@ use Rattle.bitfile_core.specs.Files.{first_record}
 use Rattle.record_table.specs.declared.record.Leftover.TheVariants.{Trim}
 use Rattle.std.specs.Option.{option_and_then}
 use Rattle.deferred_delete.specs.declared.list.Entry.{Entry}
-use Rattle.deferred_delete.specs.Listed.{left_of, leftover_in}
+use Rattle.deferred_delete.specs.Listed.{leftover_in}
 use Rattle.deferred_delete.specs.Listing.{AreInOrder}
 use Rattle.deferred_delete.specs.Standing.{IsQuotaCell, ReadsThrough, Source, source_in}
 use Rattle.deferred_delete.specs.Steps.{EndsReading, EndsTrim, IsLast, IsWell, Now, Step}
 use Rattle.deferred_delete.proofs.Lists.{AreEntriesOnce, last_alone}
 use Rattle.deferred_delete.proofs.Spread.{none_not}
-use Rattle.deferred_delete.proofs.Standings.{no_record, said_trim, source_by, standing}
+use Rattle.deferred_delete.proofs.Standings.{no_record, source_by, standing}
 use Rattle.deferred_laws.proofs.Narrower.{in_last, narrower_step}
 
 pub record HasOneMap (cell : Cell) : Type 0 where
@@ -65,7 +65,7 @@ maps_by now fits a cells is k seven eight has first rest all = ⊎_elim
 
 pub trim_maps : (old new : Now) → Fits old → (s : EndsTrim old new) → HasMaps s.chain
 trim_maps old new fits s = maps_by old fits s.entry.at s.chain s.is 6 (λ e. omega (arith, e)) (λ e. omega (arith, e))
-    (λ none. let e : None ≡ Some Trim = sym (ap (option_and_then leftover_in) none) ∙ said_trim s.entry.goes (left_of s.chain) s.trim in absurd (cc))
+    (λ none. let e : None ≡ Some Trim = sym (ap (option_and_then leftover_in) none) ∙ s.trim in absurd (cc))
 
 pub reading_maps : (old new : Now) → Fits old → (s : EndsReading old new) → HasMaps s.own
 reading_maps old new fits s = maps_by old fits s.clone s.own s.own_is 2 (λ e. omega (arith, e)) (λ e. omega (arith, e))

@@ -7,9 +7,9 @@ use Rattle.bmt_mcells.specs.Chain.{PlacedCell}
 use Rattle.bitfile_cells.specs.Files.{places_of}
 use Rattle.bitfile_core.specs.Changes.{with_first}
 use Rattle.deferred_delete.specs.declared.list.Entry.{Entry}
-use Rattle.deferred_delete.specs.Listed.{stale_from, to_do}
+use Rattle.deferred_delete.specs.Listed.{left_of, stale_from}
 use Rattle.deferred_delete.specs.Steps.{EndsFile, EndsReading, EndsTrim, IsWell, LetsPages, Now, Step, Steps, file_ends, more, none, pages_go, quota_goes, reading_ends, says_trimmed, tag_page_goes, trim_ends}
-use Rattle.deferred_delete.proofs.Lists.{not_last, one_entry}
+use Rattle.deferred_delete.proofs.Lists.{not_last}
 use Rattle.deferred_delete.proofs.Spread.{Which, none_not, other, reading, some_same, source, which}
 use Rattle.deferred_delete.proofs.Standings.{same_or_not}
 use Rattle.deferred_laws.specs.Kept.{KeepsFront}
@@ -17,8 +17,8 @@ use Rattle.deferred_laws.proofs.Ended.{ended_other, reading_other, same_file, tr
 use Rattle.deferred_laws.proofs.FirstCells.{first_places, trimmed_keeps}
 use Rattle.deferred_laws.proofs.Fits.{Fits, trim_maps, well_fits}
 use Rattle.deferred_laws.proofs.Laws.{fits_step}
-use Rattle.deferred_laws.proofs.Narrower.{in_last, inside_by, narrower_step, stale_was, to_do_was}
-use Rattle.deferred_laws.proofs.PagesGo.{after_stale, after_to_do, at_other, at_source}
+use Rattle.deferred_laws.proofs.Narrower.{in_last, inside_by, narrower_step}
+use Rattle.deferred_laws.proofs.PagesGo.{after_left, after_stale, at_other, at_source}
 use Rattle.deferred_laws.proofs.QuotaStep.{not_trimmed, quota_beside}
 
 -- the file is there with those pages, no entry gives it as a clone's, and one that is its own says
@@ -28,7 +28,7 @@ pub record IsTrimmed (from : ℕ) (chain : List PlacedCell) (now : Now) (a : Cel
   pub is : now.files a ≡ Some after
   pub places : (p : ℕ) → p < from → places_of after p ≡ places_of chain p
   pub no_clone : (e : Entry) → Contains now.list.entries e → ¬ e.clone ≡ Some a
-  pub left : (e : Entry) → Contains now.list.entries e → e.at ≡ a → (to_do e after ≡ Some Trim) × (stale_from e after ≡ from)
+  pub left : (e : Entry) → Contains now.list.entries e → e.at ≡ a → (left_of after ≡ Some Trim) × (stale_from after ≡ from)
 
 module _ (group : ℕ) (version : Version) (old new : Now) (from : ℕ) (chain : List PlacedCell) (a : CellAt) (k : IsTrimmed from chain old a) where
   no_clone_now : Step group version old new → (e : Entry) → Contains new.list.entries e → ¬ e.clone ≡ Some a
@@ -45,7 +45,7 @@ module _ (group : ℕ) (version : Version) (old new : Now) (from : ℕ) (chain :
     left = λ e inside at.
         let n = narrower_step group version old new step e inside in
         let was = k.left n.was n.inside (n.at ∙ at) in
-        (to_do_was old.list new.list e n k.after ∙ was.0, stale_was old.list new.list e n k.after ∙ was.1);
+        (was.0, was.1);
   }
 
   module _ (fits : Fits old) where
@@ -59,7 +59,7 @@ module _ (group : ℕ) (version : Version) (old new : Now) (from : ℕ) (chain :
         by_which (source same) =
             let was : s.chain ≡ k.after = some_same s.chain k.after (sym s.is ∙ sym (ap old.files same) ∙ k.is) in
             let left = k.left s.entry entry_in (sym same) in
-            let same_from : stale_from s.entry s.chain ≡ from = ap (stale_from s.entry) was ∙ left.1 in
+            let same_from : stale_from s.chain ≡ from = ap stale_from was ∙ left.1 in
             record {
               after = s.releases.after;
               is = ap new.files same ∙ at_source group version old new fits s;
@@ -67,7 +67,7 @@ module _ (group : ℕ) (version : Version) (old new : Now) (from : ℕ) (chain :
               no_clone = no_clone_now (pages_go s);
               left = λ e inside at.
                   let of_e = k.left e (inside_by old.list new.list e s.same_list inside) at in
-                  (after_to_do group version old new fits s e ∙ ap (to_do e) was ∙ of_e.0, after_stale group version old new fits s e ∙ ap (stale_from e) was ∙ of_e.1);
+                  (after_left group version old new fits s ∙ ap left_of was ∙ of_e.0, after_stale group version old new fits s ∙ ap stale_from was ∙ of_e.1);
             }
         by_which (reading some) = absurd (k.no_clone s.entry entry_in some)
         by_which (other not_at not_it) = still_trimmed (pages_go s) (at_other group version old new fits s a not_at not_it)
@@ -94,12 +94,12 @@ module _ (group : ℕ) (version : Version) (old new : Now) (from : ℕ) (chain :
     file_trimmed s = still_trimmed (file_ends s)
         (ended_other group version old new fits s a (λ same.
         let was : s.chain ≡ k.after = some_same s.chain k.after (sym s.is ∙ sym (ap old.files same) ∙ k.is) in
-        s.whole (ap (to_do s.entry) was ∙ (k.left s.entry (in_last old.list s.front s.entry s.last) (sym same)).0)))
+        s.whole (ap left_of was ∙ (k.left s.entry (in_last old.list s.front s.entry s.last) (sym same)).0)))
 
     pub trimmed_step : Step group version old new → IsTrimmed from chain new a
     trimmed_step (pages_go s) = lets_trimmed s
     trimmed_step (quota_goes s) = still_trimmed (quota_goes s)
-        (quota_beside group version old new s a (λ same. not_trimmed group version old new s s.entry k.after (sym (ap old.files same) ∙ k.is) (k.left s.entry (in_last old.list s.front s.entry s.last) (sym same)).0))
+        (quota_beside group version old new s a (λ same. not_trimmed group version old new s k.after (sym (ap old.files same) ∙ k.is) (k.left s.entry (in_last old.list s.front s.entry s.last) (sym same)).0))
     trimmed_step (trim_ends s) = trim_trimmed s
     trimmed_step (reading_ends s) = reading_trimmed s
     trimmed_step (file_ends s) = file_trimmed s
@@ -110,9 +110,9 @@ record TrimmedStill (from : ℕ) (chain : List PlacedCell) (now : Now) (a : Cell
   trimmed : IsTrimmed from chain now a
 
 trimmed_still : (group : ℕ) (version : Version) (first : Now) (count : ℕ) (last : Now) → IsWell first → Steps group version first count last
-    → (entry : Entry) → Contains first.list.entries entry → ((e : Entry) → Contains first.list.entries e → ¬ e.clone ≡ Some entry.at) → (chain : List PlacedCell) → first.files entry.at ≡ Some chain → to_do entry chain ≡ Some Trim → TrimmedStill (stale_from entry chain) chain last entry.at
+    → (entry : Entry) → Contains first.list.entries entry → ((e : Entry) → Contains first.list.entries e → ¬ e.clone ≡ Some entry.at) → (chain : List PlacedCell) → first.files entry.at ≡ Some chain → left_of chain ≡ Some Trim → TrimmedStill (stale_from chain) chain last entry.at
 trimmed_still group version first count last well steps entry inside no_clone chain is left =
-    elim steps as (λ count last steps. TrimmedStill (stale_from entry chain) chain last entry.at) [
+    elim steps as (λ count last steps. TrimmedStill (stale_from chain) chain last entry.at) [
       | none ↦ record {
         fits = well_fits first well;
         trimmed = record {
@@ -120,17 +120,17 @@ trimmed_still group version first count last well steps entry inside no_clone ch
           is = is;
           places = λ p less. refl;
           no_clone = no_clone;
-          left = λ e in_e at. subst (λ (x : Entry). (to_do x chain ≡ Some Trim) × (stale_from x chain ≡ stale_from entry chain)) (one_entry first.list.entries well.listed.once entry e inside in_e (sym at)) (left, refl);
+          left = λ e in_e at. (left, refl);
         };
       }
       | more n between last (steps → was) step ↦ record {
         fits = fits_step group version between last was.fits step;
-        trimmed = trimmed_step group version between last (stale_from entry chain) chain entry.at was.trimmed was.fits step;
+        trimmed = trimmed_step group version between last (stale_from chain) chain entry.at was.trimmed was.fits step;
       }
     ]
 
 pub fronts_stay : (group : ℕ) (version : Version) (first : Now) (count : ℕ) (last : Now) → IsWell first → Steps group version first count last
-    → (entry : Entry) → Contains first.list.entries entry → ((e : Entry) → Contains first.list.entries e → ¬ e.clone ≡ Some entry.at) → (chain : List PlacedCell) → first.files entry.at ≡ Some chain → to_do entry chain ≡ Some Trim → KeepsFront entry chain (last.files entry.at)
+    → (entry : Entry) → Contains first.list.entries entry → ((e : Entry) → Contains first.list.entries e → ¬ e.clone ≡ Some entry.at) → (chain : List PlacedCell) → first.files entry.at ≡ Some chain → left_of chain ≡ Some Trim → KeepsFront chain (last.files entry.at)
 fronts_stay group version first count last well steps entry inside no_clone chain is left =
     let k = (trimmed_still group version first count last well steps entry inside no_clone chain is left).trimmed in
-    subst (KeepsFront entry chain) (sym k.is) k.places
+    subst (KeepsFront chain) (sym k.is) k.places

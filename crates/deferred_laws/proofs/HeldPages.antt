@@ -19,7 +19,7 @@ use Rattle.free_space.proofs.Places.{volume_of-change_other, volume_of-change_sa
 use Rattle.bitfile_cells.specs.MapChanges.{TakesOne}
 use Rattle.bitfile_cells.proofs.Allocated.{there_is}
 use Rattle.bitfile_cells.proofs.Spaces.{held_still, not_held}
-use Rattle.deferred_laws.specs.Calls.{Call, Calls, FilesetNow, Gives, Makes, Moves, cut, described, dropped, given, made, moved, no_call, one_more, put_in, refused}
+use Rattle.deferred_laws.specs.Calls.{Call, Calls, FilesetNow, Gives, Makes, Moves, cut, described, dropped, given, indexed, made, moved, no_call, one_more, put_in, refused}
 use Rattle.deferred_laws.specs.Taken.{IsGiven, IsHeldAt, IsTaken}
 use Rattle.deferred_laws.proofs.CallTables.{call_places, call_tables, low_put, page_put}
 use Rattle.deferred_laws.proofs.TagCalls.{StandsTogether, together_still}
@@ -169,6 +169,7 @@ module _ (fileset : ℕ) (version : Version) (tag : Tag) (old new : FilesetNow) 
   call_grows (moved s) = moved_grows s
   call_grows (described value s) = call_same s.space
   call_grows (put_in parent s) = call_same s.space
+  call_grows (indexed index s) = call_same s.space
   call_grows (cut size lowered s) = call_same s.space
   call_grows (dropped s) = call_same s.space
   call_grows (made s) = made_grows s

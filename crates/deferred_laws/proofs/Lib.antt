@@ -39,3 +39,8 @@ pub mod SaysStill
 pub mod NewPages
 pub mod StillThere
 pub mod ShownStill
+pub mod OtherPages
+pub mod OtherFilesets
+pub mod ReadBack
+pub mod Linked
+pub mod Left

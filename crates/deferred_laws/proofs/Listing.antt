@@ -21,15 +21,14 @@ use Rattle.free_space.specs.Spaces.{Spaces}
 use Rattle.page_store.specs.Pages.{Pages}
 use Rattle.chain_release.specs.Releases.{AreAllOnce}
 use Rattle.deferred_delete.specs.declared.list.Entry.{Entry}
-use Rattle.deferred_delete.specs.declared.list.Goes.{Goes}
-use Rattle.deferred_delete.specs.Listed.{IsEntry, left_of, leftover_in, to_do}
+use Rattle.deferred_delete.specs.Listed.{IsEntry, left_of, leftover_in}
 use Rattle.deferred_delete.specs.Listing.{Adds, AddsEntry, AreInOrder, ChangesPlaces, HasNoneInFront, Listing, Orders, Puts, SetsEntry}
 use Rattle.deferred_delete.specs.Standing.{Files, ReadsThrough, StandTogether}
 use Rattle.deferred_delete.specs.Steps.{IsWell, Now}
 use Rattle.deferred_delete.proofs.Lists.{AreEntriesOnce, get_front, get_last, longer}
 use Rattle.deferred_delete.proofs.Spread.{none_not, some_same}
 use Rattle.deferred_delete.proofs.Standings.{file_there}
-use Rattle.deferred_laws.specs.Calls.{Call, Calls, Drops, FilesetNow, SetsFirst, cut, described, dropped, given, made, moved, no_call, one_more, put_in, refused}
+use Rattle.deferred_laws.specs.Calls.{Call, Calls, Drops, FilesetNow, SetsFirst, cut, described, dropped, given, indexed, made, moved, no_call, one_more, put_in, refused}
 use Rattle.deferred_laws.specs.Lists.{with_list}
 use Rattle.deferred_laws.specs.Waits.{IsNowhere, StandsApart}
 use Rattle.tag_dirs.specs.declared.dir.TagPlace.{TagPlace}
@@ -168,16 +167,16 @@ module _ (xs ys : List Entry) (i j : ℕ) (ahead : i < j) (within : j < length x
 
 -- ---- an entry more
 
-inside_puts : (old new : List Entry) (at : CellAt) (clone : Option CellAt) (goes : Goes) (place : ℕ) → Puts at clone goes place old new → (e : Entry) → Contains new e → Contains old e ⊎ (e ≡ record { at = at; clone = clone; goes = goes })
-inside_puts old new at clone goes place puts e inside = ⊎_elim
-    (λ s. inside_set old place (record { at = at; clone = clone; goes = goes }) e (subst (λ (es : List Entry). Contains es e) s.is inside))
-    (λ s. inside_last old (record { at = at; clone = clone; goes = goes }) e (subst (λ (es : List Entry). Contains es e) s.is inside))
+inside_puts : (old new : List Entry) (at : CellAt) (clone : Option CellAt) (place : ℕ) → Puts at clone place old new → (e : Entry) → Contains new e → Contains old e ⊎ (e ≡ record { at = at; clone = clone })
+inside_puts old new at clone place puts e inside = ⊎_elim
+    (λ s. inside_set old place (record { at = at; clone = clone }) e (subst (λ (es : List Entry). Contains es e) s.is inside))
+    (λ s. inside_last old (record { at = at; clone = clone }) e (subst (λ (es : List Entry). Contains es e) s.is inside))
     puts
 
-place_within : (old new : List Entry) (at : CellAt) (clone : Option CellAt) (goes : Goes) (place : ℕ) → Puts at clone goes place old new → place < length new
-place_within old new at clone goes place puts = ⊎_elim
-    (λ s. let n = ap length s.is ∙ length-set old place (record { at = at; clone = clone; goes = goes }) in omega (arith, n, s.within))
-    (λ s. let n = ap length s.is ∙ longer old (record { at = at; clone = clone; goes = goes }) in omega (arith, n, s.behind))
+place_within : (old new : List Entry) (at : CellAt) (clone : Option CellAt) (place : ℕ) → Puts at clone place old new → place < length new
+place_within old new at clone place puts = ⊎_elim
+    (λ s. let n = ap length s.is ∙ length-set old place (record { at = at; clone = clone }) in omega (arith, n, s.within))
+    (λ s. let n = ap length s.is ∙ longer old (record { at = at; clone = clone }) in omega (arith, n, s.behind))
     puts
 
 inside_orders : (clone : Option CellAt) (place : ℕ) (old new : List Entry) → place < length old → Orders clone place old new → (e : Entry) → Contains new e → Contains old e
@@ -188,10 +187,10 @@ inside_orders (Some c) place old new within orders e inside = ⊎_elim
     orders
 
 -- an entry was there, or is the one that was added
-pub which_entry : (old new : List Entry) (at : CellAt) (clone : Option CellAt) (goes : Goes) → Adds at clone goes old new → (e : Entry) → Contains new e → Contains old e ⊎ (e ≡ record { at = at; clone = clone; goes = goes })
-which_entry old new at clone goes adds e inside =
-    inside_puts old adds.between at clone goes adds.place adds.puts e
-    (inside_orders clone adds.place adds.between new (place_within old adds.between at clone goes adds.place adds.puts) adds.orders e inside)
+pub which_entry : (old new : List Entry) (at : CellAt) (clone : Option CellAt) → Adds at clone old new → (e : Entry) → Contains new e → Contains old e ⊎ (e ≡ record { at = at; clone = clone })
+which_entry old new at clone adds e inside =
+    inside_puts old adds.between at clone adds.place adds.puts e
+    (inside_orders clone adds.place adds.between new (place_within old adds.between at clone adds.place adds.puts) adds.orders e inside)
 
 -- the entry stands at its place, and each other one's clone has no entry in front of it
 record IsPut (entry : Entry) (place : ℕ) (entries : List Entry) : Type 0 where
@@ -200,11 +199,11 @@ record IsPut (entry : Entry) (place : ℕ) (entries : List Entry) : Type 0 where
   there : (d : Entry) → get_or entries place d ≡ entry
   order : (i j : ℕ) (d : Entry) → ¬ i ≡ place → i < length entries → j < length entries → (get_or entries i d).clone ≡ Some (get_or entries j d).at → i < j
 
-module _ (old new : List Entry) (at : CellAt) (clone : Option CellAt) (goes : Goes) (place : ℕ) (once : AreEntriesOnce old) (order : AreInOrder old) where
+module _ (old new : List Entry) (at : CellAt) (clone : Option CellAt) (place : ℕ) (once : AreEntriesOnce old) (order : AreInOrder old) where
   abbrev one : Entry
-  one = record { at = at; clone = clone; goes = goes }
+  one = record { at = at; clone = clone }
 
-  is_set : SetsEntry at clone goes place old (slice_set old place one) → IsPut one place (slice_set old place one)
+  is_set : SetsEntry at clone place old (slice_set old place one) → IsPut one place (slice_set old place one)
   is_set s = record {
     once = once_set old place one s.was once;
     within = omega (arith, s.within, length-set old place one);
@@ -213,7 +212,7 @@ module _ (old new : List Entry) (at : CellAt) (clone : Option CellAt) (goes : Go
         (sym (ap (λ (e : Entry). e.clone) (set_other old place i one d other)) ∙ same ∙ ap Some (set_files old place one s.was j d));
   }
 
-  is_added : AddsEntry at clone goes place old (old ++ one ∷ []) → IsPut one place (old ++ one ∷ [])
+  is_added : AddsEntry at clone place old (old ++ one ∷ []) → IsPut one place (old ++ one ∷ [])
   is_added s = record {
     once = once_more old one s.none once;
     within = omega (arith, s.behind, longer old one);
@@ -226,7 +225,7 @@ module _ (old new : List Entry) (at : CellAt) (clone : Option CellAt) (goes : Go
         (cases_lt j (length old));
   }
 
-  is_put : Puts at clone goes place old new → IsPut one place new
+  is_put : Puts at clone place old new → IsPut one place new
   is_put puts = ⊎_elim
       (λ s. subst (IsPut one place) (sym s.is) (is_set (record { within = s.within; was = s.was; is = refl })))
       (λ s. subst (IsPut one place) (sym s.is) (is_added (record { none = s.none; behind = s.behind; is = refl })))
@@ -234,7 +233,7 @@ module _ (old new : List Entry) (at : CellAt) (clone : Option CellAt) (goes : Go
 
 -- no clone's file has an entry in front of that of the file then
 module _ (space : Spaces) (cells : Cells) (pages : Pages) (files : Files) (together : StandTogether space cells pages files) (at c : CellAt) (place : ℕ) (entries new : List Entry) (each : (e : Entry) → Contains entries e → IsEntry files e)
-    (goes : Goes) (put : IsPut (record { at = at; clone = Some c; goes = goes }) place entries) (reads : ReadsThrough files c at) where
+    (put : IsPut (record { at = at; clone = Some c }) place entries) (reads : ReadsThrough files c at) where
   place_at : (d : Entry) → (get_or entries place d).at ≡ at
   place_at d = ap (λ (e : Entry). e.at) (put.there d)
 
@@ -305,12 +304,12 @@ record AreListed (entries : List Entry) : Type 0 where
   once : AreEntriesOnce entries
   order : AreInOrder entries
 
-module _ (now : Now) (at : CellAt) (clone : Option CellAt) (goes : Goes) (list : Listing) (well : IsWell now) (may : IsEntry now.files (record { at = at; clone = clone; goes = goes })) (adds : Adds at clone goes now.list.entries list.entries) where
-  entry_added : (e : Entry) → Contains now.list.entries e ⊎ (e ≡ record { at = at; clone = clone; goes = goes }) → IsEntry now.files e
+module _ (now : Now) (at : CellAt) (clone : Option CellAt) (list : Listing) (well : IsWell now) (may : IsEntry now.files (record { at = at; clone = clone })) (adds : Adds at clone now.list.entries list.entries) where
+  entry_added : (e : Entry) → Contains now.list.entries e ⊎ (e ≡ record { at = at; clone = clone }) → IsEntry now.files e
   entry_added e which = ⊎_elim (λ was. well.listed.each e was) (λ this. subst (IsEntry now.files) (sym this) may) which
 
-  put : IsPut (record { at = at; clone = clone; goes = goes }) adds.place adds.between
-  put = is_put now.list.entries adds.between at clone goes adds.place well.listed.once well.listed.order adds.puts
+  put : IsPut (record { at = at; clone = clone }) adds.place adds.between
+  put = is_put now.list.entries adds.between at clone adds.place well.listed.once well.listed.order adds.puts
 
   by_clone : (o : Option CellAt) → clone ≡ o → AreListed list.entries
   by_clone None none =
@@ -324,27 +323,27 @@ module _ (now : Now) (at : CellAt) (clone : Option CellAt) (goes : Goes) (list :
       })
   by_clone (Some c) some =
       let orders : Orders (Some c) adds.place adds.between list.entries = subst (λ o. Orders o adds.place adds.between list.entries) some adds.orders in
-      let is_put : IsPut (record { at = at; clone = Some c; goes = goes }) adds.place adds.between = subst (λ o. IsPut (record { at = at; clone = o; goes = goes }) adds.place adds.between) some put in
+      let is_put : IsPut (record { at = at; clone = Some c }) adds.place adds.between = subst (λ o. IsPut (record { at = at; clone = o }) adds.place adds.between) some put in
       let reads = may.given c some in
-      let each : (e : Entry) → Contains adds.between e → IsEntry now.files e = (λ e inside. entry_added e (inside_puts now.list.entries adds.between at clone goes adds.place adds.puts e inside)) in
+      let each : (e : Entry) → Contains adds.between e → IsEntry now.files e = (λ e inside. entry_added e (inside_puts now.list.entries adds.between at clone adds.place adds.puts e inside)) in
       ⊎_elim
       (λ s. record {
         once = swapped_once adds.between list.entries s.front adds.place s.in_front is_put.within s.is is_put.once;
-        order = order_swapped now.space now.cells now.pages now.files well.together at c adds.place adds.between list.entries each goes is_put reads s;
+        order = order_swapped now.space now.cells now.pages now.files well.together at c adds.place adds.between list.entries each is_put reads s;
       })
       (λ s. subst AreListed (sym s.is) (record {
         once = is_put.once;
-        order = in_order now.space now.cells now.pages now.files well.together at c adds.place adds.between list.entries each goes is_put reads s;
+        order = in_order now.space now.cells now.pages now.files well.together at c adds.place adds.between list.entries each is_put reads s;
       }))
       orders
 
-pub entry_listed : (now : Now) (at : CellAt) (clone : Option CellAt) (goes : Goes) (list : Listing) → IsWell now → IsEntry now.files (record { at = at; clone = clone; goes = goes }) → Adds at clone goes now.list.entries list.entries → list.tag_pages ≡ now.list.tag_pages → IsWell (with_list list now)
-entry_listed now at clone goes list well may adds same =
-    let all = by_clone now at clone goes list well may adds clone refl in
+pub entry_listed : (now : Now) (at : CellAt) (clone : Option CellAt) (list : Listing) → IsWell now → IsEntry now.files (record { at = at; clone = clone }) → Adds at clone now.list.entries list.entries → list.tag_pages ≡ now.list.tag_pages → IsWell (with_list list now)
+entry_listed now at clone list well may adds same =
+    let all = by_clone now at clone list well may adds clone refl in
     record {
       together = well.together;
       listed = record {
-        each = λ e inside. entry_added now at clone goes list well may adds e (which_entry now.list.entries list.entries at clone goes adds e inside);
+        each = λ e inside. entry_added now at clone list well may adds e (which_entry now.list.entries list.entries at clone adds e inside);
         once = all.once;
         order = all.order;
         pages_once = subst AreAllOnce (sym same) well.listed.pages_once;
@@ -388,12 +387,13 @@ page_listed now home list well may adds same = record {
 
 -- ---- calls change no list
 
-list_call : (fileset : ℕ) (version : Version) (tag : Tag) (old new : FilesetNow) → Call fileset version tag old new → new.domain.list ≡ old.domain.list
+pub list_call : (fileset : ℕ) (version : Version) (tag : Tag) (old new : FilesetNow) → Call fileset version tag old new → new.domain.list ≡ old.domain.list
 list_call fileset version tag old new (refused s) = s.list
 list_call fileset version tag old new (given s) = s.puts.list
 list_call fileset version tag old new (moved s) = s.puts.list
 list_call fileset version tag old new (described value s) = s.list
 list_call fileset version tag old new (put_in parent s) = s.list
+list_call fileset version tag old new (indexed index s) = s.list
 list_call fileset version tag old new (cut size lowered s) = s.list
 list_call fileset version tag old new (dropped s) = s.list
 list_call fileset version tag old new (made s) = s.list
@@ -422,17 +422,17 @@ cut_left fileset tag size keep old new s =
 -- ---- the files of a fileset
 
 module _ (now : Now) (list : Listing) (places : List TagPlace) (chains : Chains) (among : AreAmong now places chains) where
-  among_list : ((e : Entry) → Contains list.entries e → (tag : Tag) → option_and_then start_of (chains tag) ≡ Some e.at → option_and_then (to_do e) (chains tag) ≡ Some Trim) → ((home : Home) → Contains list.tag_pages home → has_home places home ≡ false)
+  among_list : ((e : Entry) → Contains list.entries e → (tag : Tag) → option_and_then start_of (chains tag) ≡ Some e.at → option_and_then left_of (chains tag) ≡ Some Trim) → ((home : Home) → Contains list.tag_pages home → has_home places home ≡ false)
       → AreAmong (with_list list now) places chains
   among_list trimmed not_listed = record { same = among.same; live = among.live; trimmed = trimmed; low = among.low; no_tags = among.no_tags; not_listed = not_listed }
 
-  pub entry_among : (at : CellAt) (clone : Option CellAt) (goes : Goes) → Adds at clone goes now.list.entries list.entries → list.tag_pages ≡ now.list.tag_pages
-      → ((tag : Tag) → option_and_then start_of (chains tag) ≡ Some at → option_and_then (to_do (record { at = at; clone = clone; goes = goes })) (chains tag) ≡ Some Trim) → AreAmong (with_list list now) places chains
-  entry_among at clone goes adds same trim = among_list
+  pub entry_among : (at : CellAt) (clone : Option CellAt) → Adds at clone now.list.entries list.entries → list.tag_pages ≡ now.list.tag_pages
+      → ((tag : Tag) → option_and_then start_of (chains tag) ≡ Some at → option_and_then left_of (chains tag) ≡ Some Trim) → AreAmong (with_list list now) places chains
+  entry_among at clone adds same trim = among_list
       (λ e inside tag starts. ⊎_elim
       (λ was. among.trimmed e was tag starts)
-      (λ this. subst (λ (x : Entry). option_and_then (to_do x) (chains tag) ≡ Some Trim) (sym this) (trim tag (starts ∙ ap (λ (x : Entry). Some x.at) this)))
-      (which_entry now.list.entries list.entries at clone goes adds e inside))
+      (λ this. subst (λ (x : Entry). option_and_then left_of (chains tag) ≡ Some Trim) (sym this) (trim tag (starts ∙ ap (λ (x : Entry). Some x.at) this)))
+      (which_entry now.list.entries list.entries at clone adds e inside))
       (λ home inside. among.not_listed home (subst (λ (hs : List Home). Contains hs home) same inside))
 
   pub page_among : (home : Home) → list.tag_pages ≡ now.list.tag_pages ++ home ∷ [] → list.entries ≡ now.list.entries → has_home places home ≡ false → AreAmong (with_list list now) places chains

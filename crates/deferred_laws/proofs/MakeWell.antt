@@ -57,7 +57,7 @@ no_home_more places p h other none =
     ∙ ⊎_elim (λ same. absurd (other (homes_same h p.home same))) (λ differ. ap (λ (b : Bool). b || false) differ) (cases_Bool (same_home h p.home))
 
 -- what it has was there, or is the home of that page
-one_home_more : (places : List TagPlace) (p : TagPlace) (h : Home) → has_home (places ++ p ∷ []) h ≡ true → (has_home places h ≡ true) ⊎ (h ≡ p.home)
+pub one_home_more : (places : List TagPlace) (p : TagPlace) (h : Home) → has_home (places ++ p ∷ []) h ≡ true → (has_home places h ≡ true) ⊎ (h ≡ p.home)
 one_home_more places p h has = ⊎_elim
     (λ was. inl was)
     (λ this. ⊎_elim (λ same. inr (homes_same h p.home same)) (λ none. absurd (true≢false (sym none))) (or_cases (same_home h p.home) false this))
@@ -95,7 +95,7 @@ module _ (fileset : ℕ) (version : Version) (tag : Tag) (old new : FilesetNow) 
   apart a cs is q (zero, within, here) in_cs = not_used a cs is (subst (Contains (cell_places cs)) (sym here) in_cs)
   apart a cs is q (suc k, within, here) in_cs = omega (arith, within)
 
-  held : (h : Home) → IsHeldApart old.domain.space old.domain.cells h → IsHeldApart new.domain.space new.domain.cells h
+  pub held : (h : Home) → IsHeldApart old.domain.space old.domain.cells h → IsHeldApart new.domain.space new.domain.cells h
   held h is = ⊎_elim
       (λ cell. one_apart s.prefer old.domain.space new.domain.space old.domain.cells new.domain.cells old.domain.pages cell.cell h is)
       (λ page. one_apart s.prefer _ new.domain.space old.domain.cells new.domain.cells old.domain.pages page.cell h (apart_taken old.domain.space old.domain.cells page.home h is))
@@ -160,6 +160,7 @@ module _ (fileset : ℕ) (version : Version) (tag : Tag) (old new : FilesetNow) 
       (record {
         together = put_together old.domain.space new.domain.space old.domain.cells new.domain.cells old.domain.pages new.domain.pages files stood.well.together first.at after NoMore put;
         listed = put_listed old.domain.space new.domain.space old.domain.cells new.domain.cells old.domain.pages new.domain.pages files stood.well.together first.at after NoMore put old.domain.list stood.well.listed
+            (λ e inside same. absurd (not_listed_yet e inside (sym same)))
             (λ home inside p more. more);
       })
 

@@ -1,27 +1,17 @@
 -- The entries that steps leave on a list.
-use Rattle.std.proofs.Common.{◌≡◌, ◌⊎◌, inl, inr, ℕ, List, [], ◌∷◌, ◌++◌, None, Contains, refl, sym, ap, subst}
+use Rattle.std.proofs.Common.{◌≡◌, ◌⊎◌, inl, inr, ℕ, List, [], ◌∷◌, ◌++◌, None, Contains, refl, sym, subst}
 use Rattle.domain_base.specs.declared.version.Version.{Version}
 use Rattle.deferred_delete.specs.declared.list.Entry.{Entry}
-use Rattle.bmt_mcells.specs.Chain.{PlacedCell}
-use Rattle.deferred_delete.specs.Listed.{done_by, from_by, left_of, stale_from, to_do}
 use Rattle.deferred_delete.specs.Listing.{Listing, without_clone}
 use Rattle.deferred_delete.specs.Steps.{IsLast, Now, Step, file_ends, pages_go, quota_goes, reading_ends, tag_page_goes, trim_ends}
 use Rattle.deferred_delete.proofs.Lists.{IsIn, but_either, earlier, in_start, in_without, is_in, last_in, this}
 
--- each entry has the file of one of the other list, of which as much goes, and its clone or none
+-- each entry has the file of one of the other list, and its clone or none
 pub record IsNarrower (old new : Listing) (entry : Entry) : Type 0 where
   pub was : Entry
   pub inside : Contains old.entries was
   pub at : was.at ≡ entry.at
   pub clone : (entry.clone ≡ was.clone) ⊎ (entry.clone ≡ None)
-  pub goes : was.goes ≡ entry.goes
-
--- so as much is to be done with the file
-pub to_do_was : (old new : Listing) (entry : Entry) (n : IsNarrower old new entry) (cells : List PlacedCell) → to_do entry cells ≡ to_do n.was cells
-to_do_was old new entry n cells = ap (λ g. done_by g (left_of cells)) (sym n.goes)
-
-pub stale_was : (old new : Listing) (entry : Entry) (n : IsNarrower old new entry) (cells : List PlacedCell) → stale_from entry cells ≡ stale_from n.was cells
-stale_was old new entry n cells = ap (λ o. from_by o cells) (to_do_was old new entry n cells)
 
 pub in_last : (list : Listing) (front : List Entry) (entry : Entry) → IsLast front entry list → Contains list.entries entry
 in_last list front entry last = subst (λ (es : List Entry). Contains es entry) (sym last) (last_in front entry)
@@ -33,7 +23,7 @@ pub inside_by : (old new : Listing) (e : Entry) → new ≡ old → Contains new
 inside_by old new e same inside = subst (λ (l : Listing). Contains l.entries e) same inside
 
 as_it_was : (old new : Listing) (e : Entry) → Contains old.entries e → IsNarrower old new e
-as_it_was old new e inside = record { was = e; inside = inside; at = refl; clone = inl refl; goes = refl }
+as_it_was old new e inside = record { was = e; inside = inside; at = refl; clone = inl refl }
 
 pub narrower_step : (group : ℕ) (version : Version) (old new : Now) → Step group version old new → (e : Entry) → Contains new.list.entries e → IsNarrower old.list new.list e
 narrower_step group version old new (pages_go s) e inside = as_it_was old.list new.list e (inside_by old.list new.list e s.same_list inside)
@@ -46,7 +36,6 @@ narrower_step group version old new (file_ends s) e inside =
       inside = in_front old.list s.front s.entry w.0 s.last w.1;
       at = refl;
       clone = but_either s.entry.at w.0.clone;
-      goes = refl;
     })
 narrower_step group version old new (tag_page_goes s) e inside = as_it_was old.list new.list e (inside_by (record { entries = old.list.entries; tag_pages = s.takes.front }) new.list e s.takes.is inside)
 narrower_step group version old new (reading_ends s) e inside =
@@ -54,4 +43,4 @@ narrower_step group version old new (reading_ends s) e inside =
   where
     by_place : IsIn s.front (record s.entry { clone = None }) e → IsNarrower old.list new.list e
     by_place (earlier is) = as_it_was old.list new.list e (in_front old.list s.front s.entry e s.last is)
-    by_place (this same) = subst (IsNarrower old.list new.list) (sym same) (record { was = s.entry; inside = in_last old.list s.front s.entry s.last; at = refl; clone = inr refl; goes = refl })
+    by_place (this same) = subst (IsNarrower old.list new.list) (sym same) (record { was = s.entry; inside = in_last old.list s.front s.entry s.last; at = refl; clone = inr refl })

@@ -1,5 +1,5 @@
 -- A page that calls took of the free space stands in a file, or was put elsewhere since.
-use Rattle.std.proofs.Common.{◌≡◌, ◌∙◌, ◌⊎◌, inl, inr, ◌↔◌, ℕ, ◌≤◌, Bool, true, false, cond, nat_eq, List, [], ◌∷◌, Option, Some, None, Contains, refl, sym, ap, subst, ⊎_elim}
+use Rattle.std.proofs.Common.{◌≡◌, ◌∙◌, ◌⊎◌, inl, inr, ℕ, ◌≤◌, Bool, true, false, cond, nat_eq, List, [], ◌∷◌, Option, Some, Contains, refl, sym, ap, subst, ⊎_elim}
 use Rattle.std.proofs.lemmas.Bool.{eq-eqb, eqb-true}
 use Rattle.std.specs.Option.{option_map_or}
 use Rattle.domain_base.specs.declared.place.CellAt.{CellAt}
@@ -18,11 +18,11 @@ use Rattle.bitfile_core.proofs.FirstTogether.{runs_kept}
 use Rattle.chain_release.proofs.Given.{absent_home}
 use Rattle.deferred_delete.specs.Standing.{Files, place_in, with_file}
 use Rattle.deferred_delete.proofs.Standings.{file_other, file_there, place_by, same_or_not}
-use Rattle.deferred_laws.specs.Calls.{StandsWell, Call, Calls, Drops, FilesetNow, Makes, PutsPage, SetsFirst, cut, described, dropped, given, made, moved, no_call, one_more, put_in, refused}
+use Rattle.deferred_laws.specs.Calls.{StandsWell, Call, Calls, Drops, FilesetNow, Makes, PutsPage, cut, described, dropped, given, indexed, made, moved, no_call, one_more, put_in, refused}
 use Rattle.deferred_laws.specs.Tags.{start_of}
-use Rattle.deferred_laws.specs.Taken.{HasHome, IsGiven, IsHeldAt, IsPutElsewhere, IsTaken}
+use Rattle.deferred_laws.specs.Taken.{HasHome, IsGiven, IsHeldAt, IsPutElsewhere}
 use Rattle.deferred_laws.proofs.CallsWell.{stands_call, stands_still}
-use Rattle.deferred_laws.proofs.FirstWell.{SaysBeside, are_file, attributes_beside, files_left, parent_beside, removed_beside, set_file, truncated_beside}
+use Rattle.deferred_laws.proofs.FirstWell.{SaysBeside, are_file, attributes_beside, files_left, index_beside, parent_beside, removed_beside, set_file, truncated_beside}
 use Rattle.deferred_laws.proofs.HeldPages.{held_exactly}
 use Rattle.deferred_laws.proofs.MakeWell.{no_file}
 use Rattle.deferred_laws.proofs.TagFile.{file_is, started}
@@ -97,6 +97,7 @@ module _ (fileset : ℕ) (version : Version) (tag : Tag) (old new : FilesetNow) 
     call_home (moved s) = put_home s.home s.chain s.puts
     call_home (described value s) = inl (first_home _ s.first s.rest s.is (attributes_beside old.domain.pages s.first s.rest (set_file fileset tag old new stood _ s) value) s.files)
     call_home (put_in parent s) = inl (first_home _ s.first s.rest s.is (parent_beside old.domain.pages s.first s.rest (set_file fileset tag old new stood _ s) parent) s.files)
+    call_home (indexed index s) = inl (first_home _ s.first s.rest s.is (index_beside old.domain.pages s.first s.rest (set_file fileset tag old new stood _ s) index) s.files)
     call_home (cut size lowered s) = inl (first_home _ s.first s.rest s.is (truncated_beside old.domain.pages s.first s.rest (set_file fileset tag old new stood _ s) size lowered) s.files)
     call_home (dropped s) = inl (dropped_home s)
     call_home (made s) = inl (made_home s)

@@ -1,5 +1,5 @@
 -- Files stand together once one of them is another, or new.
-use Rattle.std.proofs.Common.{◌≡◌, ◌∙◌, ℕ, List, Some, is_some, Contains, sym, ap, subst, ⊎_elim, ◌⊎◌, inl, inr}
+use Rattle.std.proofs.Common.{◌≡◌, ◌∙◌, ℕ, List, Some, is_some, Contains, sym, ap, subst, ⊎_elim, ◌⊎◌, inl, inr, IsSome, None}
 use Rattle.std.specs.Option.{option_and_then, option_map_or}
 use Rattle.domain_base.specs.declared.place.CellAt.{CellAt}
 use Rattle.domain_base.specs.declared.place.Home.{Home}
@@ -10,15 +10,21 @@ use Rattle.free_cells.specs.Cells.{Cells, table_of}
 use Rattle.free_space.specs.Spaces.{Spaces}
 use Rattle.bitfile_cells.specs.Allocated.{AreAllocated}
 use Rattle.bitfile_cells.specs.Files.{places_of}
-use Rattle.bitfile_core.specs.Files.{AreApart}
+use Rattle.bitfile_core.specs.Files.{AreApart, first_record}
 use Rattle.bitfile_core.specs.Together.{IsHeldApart}
 use Rattle.bitfile_core.proofs.Grown.{on_grown}
-use Rattle.deferred_delete.specs.Listed.{IsListed}
+use Rattle.deferred_delete.specs.Listed.{IsListed, SaysWhatGoes}
 use Rattle.deferred_delete.specs.Listing.{Listing}
 use Rattle.deferred_delete.specs.Standing.{Files, IsFileOrQuotas, IsStanding, StandTogether, place_in, source_at, source_of, with_file}
 use Rattle.deferred_delete.proofs.Spread.{some_same}
 use Rattle.deferred_delete.proofs.Standings.{apart_by, apart_from, each_from, file_other, file_there, place_by, reads_by, same_or_not, standing}
 use Rattle.deferred_laws.specs.Waits.{IsNowhere}
+use Rattle.deferred_delete.specs.declared.list.Entry.{Entry}
+use Rattle.deferred_delete.proofs.Firsts.{says_same}
+
+-- a first cell says what goes, or is one of quotas
+abbrev pub SaysByFirst : List PlacedCell → Type 0
+SaysByFirst cells = IsSome (first_record 6 cells) ⊎ (first_record 1 cells ≡ None)
 
 -- what is to be known of the file, of what was left, and of pages that no file had
 pub record IsPut (space space_now : Spaces) (cells cells_now : Cells) (new : Pages) (files : Files) (at : CellAt) (after : List PlacedCell) (more : ℕ → Home → Type 0) : Type 0 where
@@ -111,13 +117,24 @@ module _ (space space_now : Spaces) (cells cells_now : Cells) (old new : Pages) 
     one_deep = λ a b c x y. together.one_deep a b c (reads_by files now a b (sources_now a) x) (reads_by files now b c (sources_now b) y);
   }
 
-  pub put_listed : (list : Listing) → IsListed space cells files list → ((home : Home) → Contains list.tag_pages home → (p : ℕ) → ¬ more p home)
+  -- what goes of the file is said by its first cell
+  after_says : (a : CellAt) → a ≡ at → SaysByFirst after → SaysWhatGoes now a
+  after_says a same says = subst (SaysWhatGoes now) (sym same) (⊎_elim
+      (λ some. inl (ap (λ o. is_some (option_and_then (first_record 6) o)) there ∙ some))
+      (λ none. inr (ap (option_and_then (first_record 1)) there ∙ none))
+      says)
+
+  pub put_listed : (list : Listing) → IsListed space cells files list → ((e : Entry) → Contains list.entries e → e.at ≡ at → SaysByFirst after) → ((home : Home) → Contains list.tag_pages home → (p : ℕ) → ¬ more p home)
       → IsListed space_now cells_now now list
-  put_listed list listed apart = record {
+  put_listed list listed says apart = record {
     each = λ e inside. let was = listed.each e inside in record {
       there = ⊎_elim
           (λ same. ap is_some (ap now same ∙ there))
           (λ not_at. ap is_some (other e.at not_at) ∙ was.there)
+          (same_or_not e.at at);
+      says = ⊎_elim
+          (λ same. after_says e.at same (says e inside same))
+          (λ not_at. says_same files now e.at (other e.at not_at) was.says)
           (same_or_not e.at at);
       given = λ c some. reads_by now files c e.at (sym (sources_now c)) (was.given c some);
       all = λ c reads. was.all c (reads_by files now c e.at (sources_now c) reads);

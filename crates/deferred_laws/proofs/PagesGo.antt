@@ -12,7 +12,7 @@ use Rattle.bitfile_core.specs.Files.{first_record}
 use Rattle.chain_release.specs.Reading.{own_or, read_home}
 use Rattle.chain_release.specs.Sharing.{IsReader, frozen_of}
 use Rattle.deferred_delete.specs.declared.list.Entry.{Entry}
-use Rattle.deferred_delete.specs.Listed.{left_of, stale_from, to_do}
+use Rattle.deferred_delete.specs.Listed.{left_of, stale_from}
 use Rattle.deferred_delete.specs.Listing.{AreInOrder, Listing}
 use Rattle.deferred_delete.specs.Standing.{Files, IsQuotaCell, ReadsThrough, Source, place_in, read_at, read_of, source_at, source_in, source_of, with_file}
 use Rattle.deferred_delete.specs.Steps.{LetsPages, Now, pages_go, with_clone}
@@ -24,7 +24,7 @@ use Rattle.deferred_laws.specs.Kept.{Stays}
 use Rattle.deferred_laws.proofs.Fits.{Fits, HasOneMap, alone, fits_by, map_in}
 use Rattle.deferred_laws.proofs.Narrower.{in_last, inside_by}
 use Rattle.deferred_laws.proofs.Others.{clone_other}
-use Rattle.deferred_laws.proofs.ReadHomes.{left_same, read_beside, read_same, read_there, stale_same, through, to_do_same}
+use Rattle.deferred_laws.proofs.ReadHomes.{left_same, read_beside, read_same, read_there, stale_same, through}
 
 clone_there : (clone : Option CellAt) (own : List PlacedCell) (files : Files) (a : CellAt) → clone ≡ Some a → with_clone clone own files a ≡ Some own
 clone_there None own files a some = absurd (none_not a some)
@@ -81,17 +81,14 @@ module _ (group : ℕ) (version : Version) (old new : Now) (fits : Fits old) (s 
           ∙ sym (ap (option_and_then (first_record k)) (clone_was a some))
       by_which (other not_at not_it) = ap (option_and_then (first_record k)) (at_other a not_at not_it)
 
-  sources : (a : CellAt) → source_at new.files a ≡ source_at old.files a
+  pub sources : (a : CellAt) → source_at new.files a ≡ source_at old.files a
   sources a = then_then source_in (first_record 2) (new.files a) ∙ ap (option_and_then source_in) (firsts 2 refl a) ∙ sym (then_then source_in (first_record 2) (old.files a))
 
   pub after_left : left_of s.releases.after ≡ left_of s.chain
   after_left = left_same s.chain s.releases.after (after_first 6 refl)
 
-  pub after_to_do : (e : Entry) → to_do e s.releases.after ≡ to_do e s.chain
-  after_to_do e = to_do_same e s.chain s.releases.after after_left
-
-  pub after_stale : (e : Entry) → stale_from e s.releases.after ≡ stale_from e s.chain
-  after_stale e = stale_same e s.chain s.releases.after (after_first 6 refl) (after_first 1 refl)
+  pub after_stale : stale_from s.releases.after ≡ stale_from s.chain
+  after_stale = stale_same s.chain s.releases.after (after_first 6 refl) (after_first 1 refl)
 
   maps_now : (a : CellAt) (first : PlacedCell) (rest : List PlacedCell) → new.files a ≡ Some (first ∷ rest) → HasOneMap first.cell ⊎ IsQuotaCell first.cell
   maps_now a first rest is = by_which (which s.entry.at s.entry.clone a)
@@ -121,10 +118,10 @@ module _ (group : ℕ) (version : Version) (old new : Now) (fits : Fits old) (s 
   pub lets_stays : (a : CellAt) (p : ℕ) → Stays old a p → Stays new a p
   lets_stays a p stays e inside at ds is = by_which (which s.entry.at s.entry.clone a)
     where
-      by_which : Which s.entry.at s.entry.clone a → p < stale_from e ds
+      by_which : Which s.entry.at s.entry.clone a → p < stale_from ds
       by_which (source same) =
-          subst (λ (cs : List PlacedCell). p < stale_from e cs) (some_same s.releases.after ds (sym at_source ∙ sym (ap new.files same) ∙ is))
-          (subst (λ (n : ℕ). p < n) (sym (after_stale e)) (stays e (was_in e inside) at s.chain (ap old.files same ∙ s.is)))
+          subst (λ (cs : List PlacedCell). p < stale_from cs) (some_same s.releases.after ds (sym at_source ∙ sym (ap new.files same) ∙ is))
+          (subst (λ (n : ℕ). p < n) (sym after_stale) (stays e (was_in e inside) at s.chain (ap old.files same ∙ s.is)))
       by_which (reading some) = absurd (alone old fits s.front s.entry s.last e (was_in e inside) (some ∙ ap Some (sym at)))
       by_which (other not_at not_it) = stays e (was_in e inside) at ds (sym (at_other a not_at not_it) ∙ is)
 

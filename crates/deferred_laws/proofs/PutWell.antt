@@ -1,5 +1,5 @@
 -- All goes on to belong together where a tag's file has a page at a home.
-use Rattle.std.proofs.Common.{◌≡◌, ◌∙◌, ℕ, Bool, true, false, cond, nat_eq, List, [], ◌∷◌, Some, IfSome, Contains, refl, sym, ap, subst, ⊎_elim, ◌⊎◌, inl, inr}
+use Rattle.std.proofs.Common.{◌≡◌, ◌∙◌, ℕ, Bool, true, false, cond, nat_eq, List, [], ◌∷◌, Some, IfSome, Contains, refl, sym, ap, subst, ⊎_elim, ◌⊎◌, inl, inr, is_some}
 use Rattle.std.proofs.lemmas.Bool.{eqb-true}
 use Rattle.std.specs.List.{AllByRecursion}
 use Rattle.std.specs.Option.{option_and_then}
@@ -19,24 +19,23 @@ use Rattle.bitfile_cells.proofs.Chosen.{all_at}
 use Rattle.bitfile_cells.specs.Changes.{IsInUse}
 use Rattle.bitfile_cells.proofs.Spaces.{not_held}
 use Rattle.bitfile_core.specs.Changes.{with_chain}
-use Rattle.bitfile_core.specs.Files.{AreApart, Chains, is_removed}
+use Rattle.bitfile_core.specs.Files.{AreApart, Chains, is_removed, first_record}
 use Rattle.bitfile_core.specs.Together.{IsFilePage, IsHeldApart}
 use Rattle.bitfile_core.proofs.Again.{one_home}
 use Rattle.bitfile_core.proofs.Grown.{apart_grows, apart_taken, one_apart}
 use Rattle.bitfile_core.proofs.OneChain.{chain_other, placed_at}
 use Rattle.chain_release.proofs.Outcome.{on_at}
-use Rattle.deferred_delete.specs.Listed.{leftover_in, to_do}
+use Rattle.deferred_delete.specs.Listed.{left_of, leftover_in, SaysWhatGoes}
 use Rattle.deferred_delete.specs.Listing.{Listing}
 use Rattle.deferred_delete.specs.Standing.{Files, place_in, source_in, with_file}
 use Rattle.deferred_delete.specs.Steps.{IsWell, Now, now_of}
 use Rattle.deferred_delete.proofs.Firsts.{first_same}
-use Rattle.deferred_laws.proofs.ReadHomes.{to_do_same}
 use Rattle.deferred_delete.proofs.Standings.{apart_by, file_there, place_by, source_by, stand_chain, standing}
 use Rattle.deferred_laws.specs.Calls.{StandsWell, FilesetNow, Gives, Moves, PutsPage}
 use Rattle.deferred_laws.specs.Tags.{AreAmong, start_of}
 use Rattle.deferred_laws.specs.Waits.{IsNowhere}
 use Rattle.deferred_laws.proofs.CallTables.{chain_put, given_tables, moved_tables, page_put}
-use Rattle.deferred_laws.proofs.OneFile.{IsPut, put_listed, put_together}
+use Rattle.deferred_laws.proofs.OneFile.{IsPut, put_listed, put_together, SaysByFirst}
 use Rattle.deferred_laws.proofs.Said.{says_first}
 use Rattle.deferred_laws.proofs.StillAmong.{still_among}
 use Rattle.deferred_laws.proofs.TagFile.{beside_left, file_is, other_starts, started}
@@ -61,13 +60,13 @@ among_by now places places_now chains chains_now list files space cells same_lis
 module _ (fileset : ℕ) (version : Version) (tag : Tag) (old new : FilesetNow) (stood : StandsWell fileset old) (home : Home) (chain : List PlacedCell) (s : PutsPage fileset version tag home chain old new)
     (tables : (vol p : ℕ) → Contains (table_of old.domain.cells vol) p → Contains (table_of new.domain.cells vol) p) (held : (h : Home) → IsHeldApart old.domain.space old.domain.cells h → IsHeldApart new.domain.space new.domain.cells h)
     (nowhere : IsNowhere old.domain.files home) (not_listed : ¬ Contains old.domain.list.tag_pages home) where
-  abbrev after : List PlacedCell
+  abbrev pub after : List PlacedCell
   after = s.change.change.changes.after
 
-  abbrev at : CellAt
+  abbrev pub at : CellAt
   at = s.change.start
 
-  abbrev files : Files
+  abbrev pub files : Files
   files = old.domain.files
 
   begins : (start_of chain ≡ Some at) × (start_of after ≡ Some at)
@@ -88,7 +87,7 @@ module _ (fileset : ℕ) (version : Version) (tag : Tag) (old new : FilesetNow) 
       joins.was_free cell.0 (subst (λ (b : CellAt). StandsAt old.domain.pages b cell.0) (sym c.2) cell.1)
       (subst (λ (b : CellAt). Contains (table_of old.domain.cells b.vol) b.page) (sym c.2) (on_at old.domain.cells cs q was.on_tables in_cs))
 
-  abbrev More : ℕ → Home → Type 0
+  abbrev pub More : ℕ → Home → Type 0
   More p h = (p ≡ s.page) × (h ≡ home)
 
   chain_now : with_chain tag (λ _. after) old.chains tag ≡ Some after
@@ -104,7 +103,7 @@ module _ (fileset : ℕ) (version : Version) (tag : Tag) (old new : FilesetNow) 
       by_page true same = inr (eqb-true p s.page same, sym (one_home home h (sym (ap (λ (b : Bool). cond b (At home) (places_of chain p)) same) ∙ sym (s.change.change.changes.at p) ∙ is)))
       by_page false other = inl (place_by files at chain p there ∙ sym (ap (λ (b : Bool). cond b (At home) (places_of chain p)) other) ∙ sym (s.change.change.changes.at p) ∙ is)
 
-  put : IsPut old.domain.space new.domain.space old.domain.cells new.domain.cells new.domain.pages files at after More
+  pub put : IsPut old.domain.space new.domain.space old.domain.cells new.domain.cells new.domain.pages files at after More
   put = record {
     allocated = s.change.together.allocated;
     stands = record { stands = inl s.change.change.changes.is_file; on_tables = s.change.change.on_tables };
@@ -119,19 +118,26 @@ module _ (fileset : ℕ) (version : Version) (tag : Tag) (old new : FilesetNow) 
     source = ap (option_and_then source_in) (first_same 2 refl chain after s.change.change.changes.first) ∙ sym (source_by files at chain there);
   }
 
+  says_still : SaysWhatGoes files at → SaysByFirst after
+  says_still says = ⊎_elim
+      (λ some. inl (ap is_some (first_same 6 refl chain after s.change.change.changes.first) ∙ ap (λ o. is_some (option_and_then (first_record 6) o)) (sym there) ∙ some))
+      (λ none. inr (first_same 1 refl chain after s.change.change.changes.first ∙ ap (option_and_then (first_record 1)) (sym there) ∙ none))
+      says
+
   begins_same : (e : Entry) → option_and_then start_of (with_chain tag (λ _. after) old.chains tag) ≡ Some e.at → option_and_then start_of (old.chains tag) ≡ Some e.at
   begins_same e is = ap (option_and_then start_of) s.is ∙ begins.0 ∙ sym begins.1 ∙ sym (ap (option_and_then start_of) chain_now) ∙ is
 
-  left_same : (e : Entry) → option_and_then (to_do e) (with_chain tag (λ _. after) old.chains tag) ≡ option_and_then (to_do e) (old.chains tag)
-  left_same e =
-      ap (option_and_then (to_do e)) chain_now ∙ to_do_same e chain after (ap (option_and_then leftover_in) (first_same 6 refl chain after s.change.change.changes.first))
-      ∙ sym (ap (option_and_then (to_do e)) s.is)
+  left_same : option_and_then left_of (with_chain tag (λ _. after) old.chains tag) ≡ option_and_then left_of (old.chains tag)
+  left_same =
+      ap (option_and_then left_of) chain_now ∙ (ap (option_and_then leftover_in) (first_same 6 refl chain after s.change.change.changes.first))
+      ∙ sym (ap (option_and_then left_of) s.is)
 
   pub puts_well : IsWell new.domain
   puts_well = well_by new.domain old.domain.list (with_file at (Some after) files) new.domain.space new.domain.cells s.list s.files refl refl
       (record {
         together = put_together old.domain.space new.domain.space old.domain.cells new.domain.cells old.domain.pages new.domain.pages files stood.well.together at after More put;
         listed = put_listed old.domain.space new.domain.space old.domain.cells new.domain.cells old.domain.pages new.domain.pages files stood.well.together at after More put old.domain.list stood.well.listed
+            (λ e inside same. says_still (subst (SaysWhatGoes files) same (stood.well.listed.each e inside).says))
             (λ h inside p more. not_listed (subst (Contains old.domain.list.tag_pages) more.1 inside));
       })
 
@@ -147,7 +153,7 @@ module _ (fileset : ℕ) (version : Version) (tag : Tag) (old new : FilesetNow) 
       (λ t other. chain_other tag (λ _. after) old.chains t other)
       (other_starts fileset old.places old.domain.pages old.chains stood.together.files files stood.among.same tag chain s.is at begins.0)
       (ap (λ o. option_and_then (with_file at (Some after) files) (option_and_then start_of o)) chain_now ∙ ap (option_and_then (with_file at (Some after) files)) begins.1 ∙ file_there at (Some after) files ∙ sym chain_now)
-      live_now (λ e inside is. left_same e ∙ stood.among.trimmed e inside tag (begins_same e is))
+      live_now (λ e inside is. left_same ∙ stood.among.trimmed e inside tag (begins_same e is))
       stood.among.low (λ h is no. no)
       (λ p h more. subst (λ (h : Home). has_home old.places h ≡ false) (sym more.1) page_now.no_tags)
       stood.well.listed.pages_held)
@@ -156,13 +162,13 @@ module _ (fileset : ℕ) (version : Version) (tag : Tag) (old new : FilesetNow) 
 
 module _ (fileset : ℕ) (version : Version) (tag : Tag) (old new : FilesetNow) (stood : StandsWell fileset old) where
   module _ (s : Gives fileset version tag old new) where
-    given_held : (h : Home) → IsHeldApart old.domain.space old.domain.cells h → IsHeldApart new.domain.space new.domain.cells h
+    pub given_held : (h : Home) → IsHeldApart old.domain.space old.domain.cells h → IsHeldApart new.domain.space new.domain.cells h
     given_held h is = apart_grows s.puts.page (At s.home) s.chain s.prefer _ new.domain.space old.domain.cells new.domain.cells old.domain.pages s.taken.taken h (apart_taken old.domain.space old.domain.cells s.home h is)
 
-    not_free : (h : Home) → s.home ≡ h → IsHeldApart old.domain.space old.domain.cells h → ⊥
+    pub not_free : (h : Home) → s.home ≡ h → IsHeldApart old.domain.space old.domain.cells h → ⊥
     not_free h same is = not_held old.domain.space s.home.vol s.home.page s.taken.free (subst (IsHeldApart old.domain.space old.domain.cells) (sym same) is).held
 
-    nowhere : IsNowhere old.domain.files s.home
+    pub nowhere : IsNowhere old.domain.files s.home
     nowhere a p is = not_free s.home refl (stood.well.together.held a p s.home is)
 
     pub given_well : IsWell new.domain
@@ -172,7 +178,7 @@ module _ (fileset : ℕ) (version : Version) (tag : Tag) (old new : FilesetNow) 
     given_among = puts_among fileset version tag old new stood s.home s.chain s.puts (given_tables fileset version tag old new s) given_held nowhere (λ inside. not_free s.home refl (stood.well.listed.pages_held s.home inside))
 
   module _ (s : Moves fileset version tag old new) where
-    moved_held : (h : Home) → IsHeldApart old.domain.space old.domain.cells h → IsHeldApart new.domain.space new.domain.cells h
+    pub moved_held : (h : Home) → IsHeldApart old.domain.space old.domain.cells h → IsHeldApart new.domain.space new.domain.cells h
     moved_held h is = ⊎_elim
         (λ same. subst (λ (sp : Spaces). IsHeldApart sp new.domain.cells h) (sym same.0) (subst (λ (c : Cells). IsHeldApart old.domain.space c h) (sym same.1) is))
         (λ one. one_apart s.home.vol old.domain.space new.domain.space old.domain.cells new.domain.cells old.domain.pages one.1 h is)

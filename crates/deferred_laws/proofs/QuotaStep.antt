@@ -11,14 +11,14 @@ use Rattle.bitfile_cells.specs.FileChanges.{SameFirst}
 use Rattle.bitfile_cells.specs.Files.{places_of}
 use Rattle.bitfile_core.specs.Files.{first_record}
 use Rattle.deferred_delete.specs.declared.list.Entry.{Entry}
-use Rattle.deferred_delete.specs.Listed.{GoesWhole, left_of, leftover_in, stale_from, to_do}
+use Rattle.deferred_delete.specs.Listed.{GoesWhole, left_of, leftover_in, stale_from}
 use Rattle.deferred_delete.specs.Listing.{AreInOrder, Listing}
 use Rattle.deferred_delete.specs.Standing.{Files, IsQuotaCell, IsQuotas, place_in, read_at, source_at, source_in, source_of}
 use Rattle.deferred_delete.specs.Steps.{LosesQuotaCell, Now, quota_goes}
 use Rattle.deferred_delete.proofs.Firsts.{first_same}
 use Rattle.deferred_delete.proofs.Lists.{AreEntriesOnce}
 use Rattle.deferred_delete.proofs.Spread.{some_same}
-use Rattle.deferred_delete.proofs.Standings.{file_other, file_there, place_by, quota_first, quota_place, reads_by, said_trim, same_or_not}
+use Rattle.deferred_delete.proofs.Standings.{file_other, file_there, place_by, quota_first, quota_place, reads_by, same_or_not}
 use Rattle.deferred_laws.specs.Kept.{Stays}
 use Rattle.deferred_laws.proofs.Fits.{Fits, HasOneMap, fits_by}
 use Rattle.deferred_laws.proofs.Narrower.{inside_by}
@@ -44,11 +44,11 @@ module _ (group : ℕ) (version : Version) (old new : Now) (s : LosesQuotaCell o
   pub quota_left : left_of chain ≡ None
   quota_left = ap (option_and_then leftover_in) (quota_first old.pages s.entry.at chain s.quotas 6 (λ e. omega (arith, e)) (λ e. omega (arith, e)))
 
-  pub not_trimmed : (e : Entry) (cells : List PlacedCell) → old.files s.entry.at ≡ Some cells → ¬ to_do e cells ≡ Some Trim
-  not_trimmed e cells is trim = let no : None ≡ Some Trim = sym quota_left ∙ ap left_of (some_same chain cells (sym s.is ∙ is)) ∙ said_trim e.goes (left_of cells) trim in absurd (cc)
+  pub not_trimmed : (cells : List PlacedCell) → old.files s.entry.at ≡ Some cells → ¬ left_of cells ≡ Some Trim
+  not_trimmed cells is trim = let no : None ≡ Some Trim = sym quota_left ∙ ap left_of (some_same chain cells (sym s.is ∙ is)) ∙ trim in absurd (cc)
 
-  pub quota_whole : (e : Entry) → GoesWhole e s.after
-  quota_whole e trim = let no : None ≡ Some Trim = sym quota_left ∙ sym (ap (option_and_then leftover_in) (quota_record 6 refl)) ∙ said_trim e.goes (left_of s.after) trim in absurd (cc)
+  pub quota_whole : GoesWhole s.after
+  quota_whole trim = let no : None ≡ Some Trim = sym quota_left ∙ sym (ap (option_and_then leftover_in) (quota_record 6 refl)) ∙ trim in absurd (cc)
 
   pub quota_absent : (p : ℕ) → places_of chain p ≡ Absent
   quota_absent p = quota_place old.pages s.entry.at chain s.quotas p
@@ -96,8 +96,8 @@ module _ (group : ℕ) (version : Version) (old new : Now) (s : LosesQuotaCell o
     pub quota_stays : (a : CellAt) (p : ℕ) → Stays old a p → Stays new a p
     quota_stays a p stays e inside at ds is = ⊎_elim
         (λ same.
-        subst (λ (cs : List PlacedCell). p < stale_from e cs) (some_same s.after ds (sym quota_is ∙ sym (ap new.files same) ∙ is))
-        (subst (λ (n : ℕ). p < n) (sym (stale_same e chain s.after (quota_record 6 refl) (quota_record 1 refl))) (stays e (quota_was e inside) at chain (ap old.files same ∙ s.is))))
+        subst (λ (cs : List PlacedCell). p < stale_from cs) (some_same s.after ds (sym quota_is ∙ sym (ap new.files same) ∙ is))
+        (subst (λ (n : ℕ). p < n) (sym (stale_same chain s.after (quota_record 6 refl) (quota_record 1 refl))) (stays e (quota_was e inside) at chain (ap old.files same ∙ s.is))))
         (λ not_at. stays e (quota_was e inside) at ds (sym (quota_beside a not_at) ∙ is))
         (same_or_not a s.entry.at)
 

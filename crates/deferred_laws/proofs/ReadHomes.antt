@@ -11,8 +11,7 @@ use Rattle.extent_maps.specs.Runs.{home_at}
 use Rattle.bitfile_cells.specs.Files.{places_of}
 use Rattle.bitfile_core.specs.Files.{first_record, keep_in}
 use Rattle.chain_release.specs.Reading.{own_or}
-use Rattle.deferred_delete.specs.declared.list.Entry.{Entry}
-use Rattle.deferred_delete.specs.Listed.{done_by, from_by, left_of, leftover_in, stale_from, to_do}
+use Rattle.deferred_delete.specs.Listed.{from_by, left_of, leftover_in, stale_from}
 use Rattle.deferred_delete.specs.Standing.{Files, ReadsThrough, Source, place_in, read_at, read_of, source_at, source_of}
 use Rattle.deferred_delete.proofs.Standings.{source_by}
 
@@ -56,8 +55,5 @@ from_same None cs ds one = refl
 pub left_same : (cs ds : List PlacedCell) → first_record 6 ds ≡ first_record 6 cs → left_of ds ≡ left_of cs
 left_same cs ds six = ap (option_and_then leftover_in) six
 
-pub to_do_same : (e : Entry) (cs ds : List PlacedCell) → left_of ds ≡ left_of cs → to_do e ds ≡ to_do e cs
-to_do_same e cs ds same = ap (done_by e.goes) same
-
-pub stale_same : (e : Entry) (cs ds : List PlacedCell) → first_record 6 ds ≡ first_record 6 cs → first_record 1 ds ≡ first_record 1 cs → stale_from e ds ≡ stale_from e cs
-stale_same e cs ds six one = ap (λ o. from_by o ds) (to_do_same e cs ds (left_same cs ds six)) ∙ from_same (to_do e cs) cs ds one
+pub stale_same : (cs ds : List PlacedCell) → first_record 6 ds ≡ first_record 6 cs → first_record 1 ds ≡ first_record 1 cs → stale_from ds ≡ stale_from cs
+stale_same cs ds six one = ap (λ o. from_by o ds) (left_same cs ds six) ∙ from_same (left_of cs) cs ds one

@@ -27,7 +27,7 @@ use Rattle.deferred_laws.specs.Tags.{AreAmong, chains_in, start_of}
 use Rattle.deferred_laws.proofs.HeldSteps.{held_still, tables_on}
 use Rattle.deferred_laws.proofs.SaysStill.{said_so}
 use Rattle.deferred_laws.proofs.StillAmong.{file_of_tag}
-use Rattle.deferred_laws.proofs.Tags.{page_stays}
+use Rattle.deferred_laws.proofs.Tags.{page_stays, was_listed}
 use Rattle.deferred_laws.proofs.TagsBeside.{beside_stay}
 use Rattle.deferred_laws.proofs.Wells.{well_step, wells_stay}
 
@@ -35,26 +35,28 @@ use Rattle.deferred_laws.proofs.Wells.{well_step, wells_stay}
 
 record PagesStill (first now : Now) (h : Home) : Type 0 where
   well : IsWell now
+  gone : ¬ Contains now.list.tag_pages h
   same : ¬ Contains (table_of now.cells h.vol) h.page → now.pages h ≡ first.pages h
 
-pages_still : (group : ℕ) (version : Version) (first : Now) (count : ℕ) (last : Now) → IsWell first → Steps group version first count last → (h : Home) → PagesStill first last h
-pages_still group version first count last well steps h =
+pages_still : (group : ℕ) (version : Version) (first : Now) (count : ℕ) (last : Now) → IsWell first → Steps group version first count last → (h : Home) → ¬ Contains first.list.tag_pages h → PagesStill first last h
+pages_still group version first count last well steps h out =
     elim steps as (λ count last steps. PagesStill first last h) [
-      | none ↦ record { well = well; same = λ off. refl }
+      | none ↦ record { well = well; gone = out; same = λ off. refl }
       | more n between last (steps → was) step ↦ record {
         well = well_step group version between last was.well step;
-        same = λ off. page_stays group version between last was.well step h off ∙ was.same (λ on. off (tables_on group version between last was.well step h.vol h.page on));
+        gone = λ inside. was.gone (was_listed group version between last was.well step h inside);
+        same = λ off. page_stays group version between last was.well step h off was.gone ∙ was.same (λ on. off (tables_on group version between last was.well step h.vol h.page on));
       }
     ]
 
 module _ (group : ℕ) (version : Version) (first : Now) (count : ℕ) (last : Now) (well : IsWell first) (steps : Steps group version first count last) where
-  same_page : (h : Home) → ¬ Contains (table_of last.cells h.vol) h.page → last.pages h ≡ first.pages h
-  same_page h off = (pages_still group version first count last well steps h).same off
+  same_page : (h : Home) → ¬ Contains first.list.tag_pages h → ¬ Contains (table_of last.cells h.vol) h.page → last.pages h ≡ first.pages h
+  same_page h out off = (pages_still group version first count last well steps h out).same off
 
   -- ---- the pages of an index
 
   apart_page : (h : Home) → StandsApart first h → last.pages h ≡ first.pages h
-  apart_page h stands = same_page h ((held_still group version first count last well steps h stands.low).stands stands).apart.off_table
+  apart_page h stands = same_page h stands.not_listed ((held_still group version first count last well steps h stands.low).stands stands).apart.off_table
 
   -- where the pages behind it are read again
   page_again : (page : List ℕ) (others : List (List ℕ)) → ((start : Option Home) → IsIndexApart first start others → AreIndexPages first.pages start others → AreIndexPages last.pages start others) → (o : Option (List ℕ))
@@ -111,7 +113,7 @@ module _ (group : ℕ) (version : Version) (first : Now) (count : ℕ) (last : N
         by_place (At home) at =
             let held = (wells_stay group version first count last well steps).together.held file_at.at number home
             (place_by last.files file_at.at after number file_at.there ∙ ap (λ (cs : List PlacedCell). places_of cs number) (same_cells of_kind) ∙ at) in
-            ap (page_there last.pages) at ∙ same_page home held.off_table ∙ sym (ap (page_there first.pages) at)
+            ap (page_there last.pages) at ∙ same_page home (λ inside. well.listed.pages_apart home inside file_at.at number (place_by first.files file_at.at cells number file_at.was ∙ at)) held.off_table ∙ sym (ap (page_there first.pages) at)
 
     pub shown_still : ShowsFile first.pages cells file → ShowsFile last.pages after file
     shown_still shows = record {

@@ -12,10 +12,10 @@ use Rattle.bitfile_core.specs.Changes.{says_removed, with_first}
 use Rattle.deferred_delete.specs.Standing.{Files, source_at, source_in, source_of, with_file}
 use Rattle.deferred_delete.proofs.Firsts.{first_same}
 use Rattle.deferred_delete.proofs.Standings.{file_other, file_there, same_or_not, source_by}
-use Rattle.deferred_laws.specs.Calls.{Call, Calls, FilesetNow, PutsPage, StandsWell, cut, described, dropped, given, made, moved, no_call, one_more, put_in, refused}
+use Rattle.deferred_laws.specs.Calls.{Call, Calls, FilesetNow, PutsPage, StandsWell, cut, described, dropped, given, indexed, made, moved, no_call, one_more, put_in, refused}
 use Rattle.deferred_laws.specs.Tags.{start_of}
 use Rattle.deferred_laws.proofs.CallsWell.{stands_call}
-use Rattle.deferred_laws.proofs.FirstWell.{SaysBeside, attributes_beside, dropped_was, files_left, parent_beside, removed_beside, set_file, truncated_beside}
+use Rattle.deferred_laws.proofs.FirstWell.{SaysBeside, attributes_beside, dropped_was, files_left, index_beside, parent_beside, removed_beside, set_file, truncated_beside}
 use Rattle.deferred_laws.proofs.MakeWell.{put}
 use Rattle.deferred_laws.proofs.TagFile.{file_is, started}
 
@@ -54,6 +54,7 @@ module _ (fileset : ℕ) (version : Version) (tag : Tag) (old new : FilesetNow) 
   source_call (moved s) = put_source s.home s.chain s.puts
   source_call (described value s) = set_source _ s.first s.rest s.is (attributes_beside old.domain.pages s.first s.rest (set_file fileset tag old new stood _ s) value) s.files
   source_call (put_in parent s) = set_source _ s.first s.rest s.is (parent_beside old.domain.pages s.first s.rest (set_file fileset tag old new stood _ s) parent) s.files
+  source_call (indexed index s) = set_source _ s.first s.rest s.is (index_beside old.domain.pages s.first s.rest (set_file fileset tag old new stood _ s) index) s.files
   source_call (cut size lowered s) = set_source _ s.first s.rest s.is (truncated_beside old.domain.pages s.first s.rest (set_file fileset tag old new stood _ s) size lowered) s.files
   source_call (dropped s) = set_source says_removed s.first s.rest s.is (removed_beside old.domain.pages s.first s.rest (dropped_was fileset tag old new stood s)) (files_left fileset tag old new stood s)
   source_call (made s) = by_put s.creates.first.at (s.creates.first ∷ []) s.files (put fileset version tag old new stood s).source

@@ -17,7 +17,7 @@ use Rattle.bitfile_core.specs.Files.{Chains, is_removed}
 use Rattle.bitfile_core.specs.Together.{IsHeldApart}
 use Rattle.bitfile_core.proofs.OneFile.{tags_same}
 use Rattle.deferred_delete.specs.declared.list.Entry.{Entry}
-use Rattle.deferred_delete.specs.Listed.{to_do}
+use Rattle.deferred_delete.specs.Listed.{left_of}
 use Rattle.deferred_delete.specs.Listing.{Listing}
 use Rattle.deferred_delete.specs.Standing.{Files, StandTogether, with_file}
 use Rattle.deferred_delete.specs.Steps.{now_of}
@@ -33,7 +33,7 @@ file_of_tag files chains tag cs at same is start =
 module _ (list : Listing) (space space_now : Spaces) (cells cells_now : Cells) (old new : Pages) (files : Files) (together : StandTogether space cells old files) (at : CellAt) (after : List PlacedCell) (more : ℕ → Home → Type 0) (put : IsPut space space_now cells cells_now new files at after more)
     (tag : Tag) (places places_now : List TagPlace) (chains chains_now : Chains) (among : AreAmong (now_of list files space cells old) places chains) (others : (t : Tag) → same_tag t tag ≡ false → chains_now t ≡ chains t)
     (starts : (t : Tag) (a : CellAt) → same_tag t tag ≡ false → option_and_then start_of (chains t) ≡ Some a → ¬ a ≡ at) (own : chains_in (with_file at (Some after) files) chains_now tag ≡ chains_now tag) (live : IfSome (chains_now tag) (λ cells. is_removed cells ≡ false))
-    (trim : (e : Entry) → Contains list.entries e → option_and_then start_of (chains_now tag) ≡ Some e.at → option_and_then (to_do e) (chains_now tag) ≡ Some Trim)
+    (trim : (e : Entry) → Contains list.entries e → option_and_then start_of (chains_now tag) ≡ Some e.at → option_and_then left_of (chains_now tag) ≡ Some Trim)
     (low : (home : Home) → has_home places_now home ≡ true → 1 ≤ home.vol) (tags : (home : Home) → IsHeldApart space cells home → has_home places home ≡ false → has_home places_now home ≡ false) (more_tags : (p : ℕ) (home : Home) → more p home → has_home places_now home ≡ false)
     (listed : (home : Home) → Contains list.tag_pages home → IsHeldApart space cells home) where
   abbrev now : Files
@@ -59,8 +59,8 @@ module _ (list : Listing) (space space_now : Spaces) (cells cells_now : Cells) (
         (λ other. subst (λ o. IfSome o (λ cells. is_removed cells ≡ false)) (sym (others t other)) (among.live t))
         (cases_Bool (same_tag t tag));
     trimmed = λ e inside t. ⊎_elim
-        (λ same. subst (λ (u : Tag). option_and_then start_of (chains_now u) ≡ Some e.at → option_and_then (to_do e) (chains_now u) ≡ Some Trim) (sym (tags_same t tag same)) (trim e inside))
-        (λ other. subst (λ o. option_and_then start_of o ≡ Some e.at → option_and_then (to_do e) o ≡ Some Trim) (sym (others t other)) (among.trimmed e inside t))
+        (λ same. subst (λ (u : Tag). option_and_then start_of (chains_now u) ≡ Some e.at → option_and_then left_of (chains_now u) ≡ Some Trim) (sym (tags_same t tag same)) (trim e inside))
+        (λ other. subst (λ o. option_and_then start_of o ≡ Some e.at → option_and_then left_of o ≡ Some Trim) (sym (others t other)) (among.trimmed e inside t))
         (cases_Bool (same_tag t tag));
     low = low;
     no_tags = λ a p home is. ⊎_elim

@@ -1,35 +1,35 @@
 -- A file that does not go as a whole is there after steps, and so is the file of each entry's clone.
-use Rattle.std.proofs.Common.{◌≡◌, ◌∙◌, ℕ, List, Some, IsSome, is_some, Contains, refl, sym, ap, ⊎_elim}
+use Rattle.std.proofs.Common.{◌≡◌, ◌∙◌, ℕ, List, Some, IsSome, is_some, Contains, sym, ap, ⊎_elim}
 use Rattle.domain_base.specs.declared.place.CellAt.{CellAt}
 use Rattle.domain_base.specs.declared.version.Version.{Version}
 use Rattle.record_table.specs.declared.record.Leftover.TheVariants.{Trim}
 use Rattle.bmt_mcells.specs.Chain.{PlacedCell}
 use Rattle.bitfile_core.specs.Changes.{with_first}
 use Rattle.deferred_delete.specs.declared.list.Entry.{Entry}
-use Rattle.deferred_delete.specs.Listed.{to_do}
-use Rattle.deferred_delete.specs.Steps.{EndsFile, EndsReading, EndsTrim, IsLast, IsWell, LetsPages, Now, Step, Steps, file_ends, more, none, pages_go, quota_goes, reading_ends, says_no_source, says_trimmed, tag_page_goes, trim_ends}
+use Rattle.deferred_delete.specs.Listed.{left_of}
+use Rattle.deferred_delete.specs.Steps.{EndsReading, EndsTrim, IsLast, IsWell, LetsPages, Now, Step, Steps, file_ends, more, none, pages_go, quota_goes, reading_ends, says_no_source, says_trimmed, tag_page_goes, trim_ends}
 use Rattle.deferred_delete.proofs.Lists.{not_last}
 use Rattle.deferred_delete.proofs.Spread.{Which, other, reading, some_same, source, which}
 use Rattle.deferred_delete.proofs.Standings.{same_or_not}
 use Rattle.deferred_laws.proofs.Ended.{ended_other, reading_other, reading_there, same_file, trim_front, trim_once, trim_other, trim_there}
 use Rattle.deferred_laws.proofs.Fits.{Fits, alone, well_fits}
 use Rattle.deferred_laws.proofs.Laws.{fits_step}
-use Rattle.deferred_laws.proofs.Narrower.{in_last, inside_by, narrower_step, to_do_was}
-use Rattle.deferred_laws.proofs.PagesGo.{after_to_do, at_other, at_source, clone_now}
+use Rattle.deferred_laws.proofs.Narrower.{in_last, inside_by, narrower_step}
+use Rattle.deferred_laws.proofs.PagesGo.{after_left, at_other, at_source, clone_now}
 use Rattle.deferred_laws.proofs.QuotaStep.{not_trimmed, quota_beside}
 
 -- the file is there, and an entry that is its own says that it is trimmed
 record IsThere (now : Now) (a : CellAt) : Type 0 where
   after : List PlacedCell
   is : now.files a ≡ Some after
-  left : (e : Entry) → Contains now.list.entries e → e.at ≡ a → to_do e after ≡ Some Trim
+  left : (e : Entry) → Contains now.list.entries e → e.at ≡ a → left_of after ≡ Some Trim
 
 module _ (group : ℕ) (version : Version) (old new : Now) (fits : Fits old) (a : CellAt) (k : IsThere old a) where
   still_there : Step group version old new → new.files a ≡ old.files a → IsThere new a
   still_there step same = record {
     after = k.after;
     is = same ∙ k.is;
-    left = λ e inside at. let n = narrower_step group version old new step e inside in to_do_was old.list new.list e n k.after ∙ k.left n.was n.inside (n.at ∙ at);
+    left = λ e inside at. let n = narrower_step group version old new step e inside in k.left n.was n.inside (n.at ∙ at);
   }
 
   -- the last entry gives the file as its clone's, so no entry is of it
@@ -52,7 +52,7 @@ module _ (group : ℕ) (version : Version) (old new : Now) (fits : Fits old) (a 
         after = s.releases.after;
         is = ap new.files same ∙ at_source group version old new fits s;
         left = λ e inside at.
-            after_to_do group version old new fits s e ∙ ap (to_do e) (it_was s.entry s.chain s.is same) ∙ k.left e (inside_by old.list new.list e s.same_list inside) at;
+            after_left group version old new fits s ∙ ap left_of (it_was s.entry s.chain s.is same) ∙ k.left e (inside_by old.list new.list e s.same_list inside) at;
       }
       by_which (reading some) = clone_there (pages_go s) s.front s.entry s.last some s.releases.own_now (clone_now group version old new fits s a some)
       by_which (other not_at not_it) = still_there (pages_go s) (at_other group version old new fits s a not_at not_it)
@@ -76,11 +76,11 @@ module _ (group : ℕ) (version : Version) (old new : Now) (fits : Fits old) (a 
   there_step : Step group version old new → IsThere new a
   there_step (pages_go s) = lets_there s
   there_step (quota_goes s) = still_there (quota_goes s)
-      (quota_beside group version old new s a (λ same. not_trimmed group version old new s s.entry k.after (sym (ap old.files same) ∙ k.is) (k.left s.entry (in_last old.list s.front s.entry s.last) (sym same))))
+      (quota_beside group version old new s a (λ same. not_trimmed group version old new s k.after (sym (ap old.files same) ∙ k.is) (k.left s.entry (in_last old.list s.front s.entry s.last) (sym same))))
   there_step (trim_ends s) = trim_is_there s
   there_step (reading_ends s) = reading_is_there s
   there_step (file_ends s) = still_there (file_ends s)
-      (ended_other group version old new fits s a (λ same. s.whole (ap (to_do s.entry) (it_was s.entry s.chain s.is same) ∙ k.left s.entry (in_last old.list s.front s.entry s.last) (sym same))))
+      (ended_other group version old new fits s a (λ same. s.whole (ap left_of (it_was s.entry s.chain s.is same) ∙ k.left s.entry (in_last old.list s.front s.entry s.last) (sym same))))
   there_step (tag_page_goes s) = still_there (tag_page_goes s) (same_file group version old new fits s a)
 
 record ThereStill (now : Now) (a : CellAt) : Type 0 where
@@ -88,7 +88,7 @@ record ThereStill (now : Now) (a : CellAt) : Type 0 where
   there : IsThere now a
 
 there_still : (group : ℕ) (version : Version) (first : Now) (count : ℕ) (last : Now) → IsWell first → Steps group version first count last
-    → (a : CellAt) (chain : List PlacedCell) → first.files a ≡ Some chain → ((e : Entry) → Contains first.list.entries e → e.at ≡ a → to_do e chain ≡ Some Trim) → ThereStill last a
+    → (a : CellAt) (chain : List PlacedCell) → first.files a ≡ Some chain → ((e : Entry) → Contains first.list.entries e → e.at ≡ a → left_of chain ≡ Some Trim) → ThereStill last a
 there_still group version first count last well steps a chain is left =
     elim steps as (λ count last steps. ThereStill last a) [
       | none ↦ record { fits = well_fits first well; there = record { after = chain; is = is; left = left } }
@@ -99,6 +99,6 @@ there_still group version first count last well steps a chain is left =
     ]
 
 pub files_stay : (group : ℕ) (version : Version) (first : Now) (count : ℕ) (last : Now) → IsWell first → Steps group version first count last
-    → (a : CellAt) (chain : List PlacedCell) → first.files a ≡ Some chain → ((e : Entry) → Contains first.list.entries e → e.at ≡ a → to_do e chain ≡ Some Trim) → IsSome (last.files a)
+    → (a : CellAt) (chain : List PlacedCell) → first.files a ≡ Some chain → ((e : Entry) → Contains first.list.entries e → e.at ≡ a → left_of chain ≡ Some Trim) → IsSome (last.files a)
 files_stay group version first count last well steps a chain is left =
     ap is_some (there_still group version first count last well steps a chain is left).there.is

@@ -11,7 +11,7 @@ use Rattle.free_space.specs.VolumeSpace.{VolumeSpace, with_page}
 use Rattle.free_space.specs.Spaces.{Spaces, change_volume, volume_of}
 use Rattle.free_space.proofs.Places.{volume_of-change_other, volume_of-change_same}
 use Rattle.bitfile_cells.specs.MapChanges.{TakesOne}
-use Rattle.deferred_laws.specs.Calls.{Call, Calls, FilesetNow, cut, described, dropped, given, made, moved, no_call, one_more, put_in, refused}
+use Rattle.deferred_laws.specs.Calls.{Call, Calls, FilesetNow, cut, described, dropped, given, indexed, made, moved, no_call, one_more, put_in, refused}
 use Rattle.deferred_laws.specs.Waits.{Waits}
 
 -- what waits on a volume
@@ -58,6 +58,7 @@ module _ (fileset : ℕ) (version : Version) (tag : Tag) (old new : FilesetNow) 
       s.taken
   waiting_call (described value s) = same_space s.space
   waiting_call (put_in parent s) = same_space s.space
+  waiting_call (indexed index s) = same_space s.space
   waiting_call (cut size lowered s) = same_space s.space
   waiting_call (dropped s) = same_space s.space
   waiting_call (made s) = ⊎_elim

@@ -15,7 +15,7 @@ use Rattle.bitfile_core.proofs.Again.{together_missed}
 use Rattle.bitfile_core.proofs.OneChain.{chain_other}
 use Rattle.bmt_mcells.specs.Chain.{PlacedCell}
 use Rattle.domain_base.specs.declared.place.Home.{Home}
-use Rattle.deferred_laws.specs.Calls.{Call, Calls, FilesetNow, PutsPage, Refuses, SetsFirst, cut, described, dropped, given, made, moved, no_call, one_more, put_in, refused}
+use Rattle.deferred_laws.specs.Calls.{Call, Calls, FilesetNow, PutsPage, Refuses, SetsFirst, cut, described, dropped, given, indexed, made, moved, no_call, one_more, put_in, refused}
 
 abbrev pub StandsTogether : ℕ → FilesetNow → Type 0
 StandsTogether fileset at = AreTogether fileset at.places at.domain.space at.domain.cells at.domain.pages at.chains
@@ -35,6 +35,7 @@ module _ (fileset : ℕ) (version : Version) (tag : Tag) (old new : FilesetNow) 
   same_call (moved s) = put_other s.home s.chain s.puts
   same_call (described value s) = set_other _ s
   same_call (put_in parent s) = set_other _ s
+  same_call (indexed index s) = set_other _ s
   same_call (cut size lowered s) = set_other _ s
   same_call (dropped s) = ap (λ (c : Chains). c t) s.chains ∙ ap (λ (b : Bool). cond b None (old.chains t)) other
   same_call (made s) = ap (λ (c : Chains). c t) s.chains ∙ ap (λ (b : Bool). cond b (Some (s.creates.first ∷ [])) (old.chains t)) other
@@ -77,6 +78,7 @@ module _ (fileset : ℕ) (version : Version) (tag : Tag) (old new : FilesetNow) 
   together_call (moved s) together = put_together s.home s.chain s.puts
   together_call (described value s) together = set_together _ s
   together_call (put_in parent s) together = set_together _ s
+  together_call (indexed index s) together = set_together _ s
   together_call (cut size lowered s) together = set_together _ s
   together_call (dropped s) together = together_by fileset old.places new.places old.domain.space new.domain.space old.domain.cells new.domain.cells new.domain.pages new.domain.pages _ new.chains s.places s.space s.cells refl s.chains s.together
   together_call (made s) together = subst (λ (cs : Chains). AreTogether fileset new.places new.domain.space new.domain.cells new.domain.pages cs) (sym s.chains) s.creates.together

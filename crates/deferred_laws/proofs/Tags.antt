@@ -1,16 +1,16 @@
 -- Files that tags name, their pages and the pages of their directory belong together after steps.
 use Rattle.std.proofs.Common.{Contains, IfSome, IsSomeAnd, List, None, Option, Some, [], ℕ, ⊎_elim, ◌∙◌, ◌∷◌, ◌≡◌, ◌≤◌, ap, arith, false, is_some, refl, slice_get, subst, suc, sym, true, zero}
-use Rattle.std.proofs.lemmas.Bool.{cases_Bool, true≢false}
+use Rattle.std.proofs.lemmas.Bool.{cases_Bool, true≢false, false_from_ne_true}
 use Rattle.std.specs.Option.{option_and_then, option_map_or}
 use Rattle.domain_base.specs.declared.place.CellAt.{CellAt}
 use Rattle.domain_base.specs.declared.place.Home.{Home}
 use Rattle.domain_base.specs.declared.place.Tag.{Tag}
 use Rattle.domain_base.specs.declared.version.Version.{Version}
 use Rattle.page_store.specs.Bitfiles.{same_tag}
-use Rattle.page_store.specs.Pages.{Pages}
+use Rattle.page_store.specs.Pages.{Pages, same_home}
 use Rattle.bmt_mcells.specs.Chain.{PlacedCell, places as cell_places}
 use Rattle.tag_dirs.specs.declared.dir.TagPlace.{TagPlace}
-use Rattle.tag_dirs.specs.Directory.{cell_of, has_home}
+use Rattle.tag_dirs.specs.Directory.{cell_of, has_home, Unlinks}
 use Rattle.extent_maps.specs.declared.run.PagePlace.TheVariants.{Absent, At}
 use Rattle.free_cells.specs.Cells.{Cells, table_of}
 use Rattle.free_space.specs.declared.waiting.PageUse.TheVariants.{Metadata}
@@ -25,23 +25,23 @@ use Rattle.bitfile_core.proofs.Tags.{cell_same, directory_same, pages_same}
 use Rattle.chain_release.proofs.Given.{held_given}
 use Rattle.chain_release.proofs.Once.{absent_not}
 use Rattle.deferred_delete.specs.Standing.{Files, IsStanding, place_in}
-use Rattle.deferred_delete.specs.Steps.{IsWell, Now, Step, Steps, file_ends, more, none, pages_go, quota_goes, reading_ends, says_no_source, says_trimmed, tag_page_goes, trim_ends}
-use Rattle.deferred_delete.proofs.Lists.{in_start, last_in, not_last}
+use Rattle.deferred_delete.specs.Steps.{IsWell, Now, Step, Steps, file_ends, more, none, pages_go, quota_goes, reading_ends, says_no_source, says_trimmed, tag_page_goes, trim_ends, last_home}
+use Rattle.deferred_delete.proofs.Lists.{in_start, last_in, not_last, last_inside}
 use Rattle.deferred_delete.proofs.Spread.{Which, held_still, none_not, other, reading, some_same, source, was_there, which}
 use Rattle.deferred_delete.proofs.Standings.{apart_by, is_file, place_by, same_or_not, standing}
 use Rattle.deferred_laws.specs.Tags.{AreAmong, chains_in, start_of}
 use Rattle.deferred_laws.proofs.Ended.{ended_other, file_gone, reading_other, reading_place, reading_there, same_file, trim_front, trim_once, trim_other, trim_there}
 use Rattle.deferred_laws.proofs.FirstCells.{first_place, trimmed_keeps}
 use Rattle.deferred_laws.proofs.Fits.{Fits, trim_maps, well_fits}
-use Rattle.deferred_laws.proofs.Narrower.{in_last, narrower_step, to_do_was}
-use Rattle.deferred_laws.proofs.ReadHomes.{to_do_same}
+use Rattle.deferred_laws.proofs.Narrower.{in_last, narrower_step}
 use Rattle.deferred_laws.proofs.PagesGo.{at_other, at_source, clone_now, clone_was}
 use Rattle.deferred_laws.proofs.Said.{SaysSame, left_alone, left_first, says_alone, says_first, says_itself, says_trim}
 use Rattle.deferred_laws.proofs.Wells.{well_step}
 use Rattle.deferred_delete.specs.declared.list.Entry.{Entry}
-use Rattle.deferred_delete.specs.Listed.{left_of, to_do}
+use Rattle.deferred_delete.specs.Listed.{left_of}
 use Rattle.record_table.specs.declared.record.Leftover.TheVariants.{Trim}
 use Rattle.deferred_laws.proofs.QuotaStep.{not_trimmed, quota_beside, quota_places}
+use Rattle.bmt_mcells.proofs.Changed.{homes_same}
 
 -- ---- what one step does to each file
 
@@ -59,7 +59,7 @@ module _ (group : ℕ) (version : Version) (old new : Now) (well : IsWell old) w
   as_it_was : (a : CellAt) (cells : List PlacedCell) → old.files a ≡ Some cells → new.files a ≡ old.files a → IsStill new a cells
   as_it_was a cells was same = record { after = cells; is = same ∙ was; says = says_itself cells; left = λ e inside at. refl }
 
-  still : Step group version old new → (a : CellAt) (cells : List PlacedCell) → old.files a ≡ Some cells → ((e : Entry) → Contains old.list.entries e → e.at ≡ a → to_do e cells ≡ Some Trim) → IsStill new a cells
+  still : Step group version old new → (a : CellAt) (cells : List PlacedCell) → old.files a ≡ Some cells → ((e : Entry) → Contains old.list.entries e → e.at ≡ a → left_of cells ≡ Some Trim) → IsStill new a cells
   still (pages_go s) a cells was trims = by_which (which s.entry.at s.entry.clone a)
     where
       by_which : Which s.entry.at s.entry.clone a → IsStill new a cells
@@ -82,7 +82,7 @@ module _ (group : ℕ) (version : Version) (old new : Now) (well : IsWell old) w
           }
       by_which (other not_at not_it) = as_it_was a cells was (at_other group version old new fits s a not_at not_it)
   still (quota_goes s) a cells was trims =
-      as_it_was a cells was (quota_beside group version old new s a (λ same. not_trimmed group version old new s s.entry cells (sym (ap old.files same) ∙ was) (trims s.entry (in_last old.list s.front s.entry s.last) (sym same))))
+      as_it_was a cells was (quota_beside group version old new s a (λ same. not_trimmed group version old new s cells (sym (ap old.files same) ∙ was) (trims s.entry (in_last old.list s.front s.entry s.last) (sym same))))
   still (trim_ends s) a cells was trims = ⊎_elim
       (λ same.
       let it : s.chain ≡ cells = some_same s.chain cells (sym s.is ∙ sym (ap old.files same) ∙ was) in
@@ -108,7 +108,7 @@ module _ (group : ℕ) (version : Version) (old new : Now) (well : IsWell old) w
   still (file_ends s) a cells was trims = ⊎_elim
       (λ same.
       let it : s.chain ≡ cells = some_same s.chain cells (sym s.is ∙ sym (ap old.files same) ∙ was) in
-      absurd (s.whole (ap (to_do s.entry) it ∙ trims s.entry (in_last old.list s.front s.entry s.last) (sym same))))
+      absurd (s.whole (ap left_of it ∙ trims s.entry (in_last old.list s.front s.entry s.last) (sym same))))
       (λ not_at. as_it_was a cells was (ended_other group version old new fits s a not_at))
       (same_or_not a s.entry.at)
   still (tag_page_goes s) a cells was trims = as_it_was a cells was (same_file group version old new fits s a)
@@ -178,23 +178,32 @@ module _ (group : ℕ) (version : Version) (old new : Now) (well : IsWell old) w
       only h (zero, within, is) = is
       only h (suc k, within, is) = absurd (omega (arith, within))
 
-  pub page_stays : Step group version old new → (home : Home) → ¬ Contains (table_of new.cells home.vol) home.page → new.pages home ≡ old.pages home
-  page_stays (pages_go s) home off = s.elsewhere home off
-  page_stays (quota_goes s) home off = s.elsewhere home off
-  page_stays (trim_ends s) home off = s.elsewhere home off
-  page_stays (reading_ends s) home off = s.elsewhere home off
-  page_stays (file_ends s) home off = s.elsewhere home off
-  page_stays (tag_page_goes s) home off = ap (λ (pages : Pages). pages home) s.same_pages
+  -- so does what stands on a page that is none of cells and not on the list
+  pub page_stays : Step group version old new → (home : Home) → ¬ Contains (table_of new.cells home.vol) home.page → ¬ Contains old.list.tag_pages home → new.pages home ≡ old.pages home
+  page_stays (pages_go s) home off out = s.elsewhere home off
+  page_stays (quota_goes s) home off out = s.elsewhere home off
+  page_stays (trim_ends s) home off out = s.elsewhere home off
+  page_stays (reading_ends s) home off out = s.elsewhere home off
+  page_stays (file_ends s) home off out = s.elsewhere home off
+  page_stays (tag_page_goes s) home off out = by_front (last_home s.takes.front) refl s.takes.unlinks
+    where
+      other : (f : Home) → last_home s.takes.front ≡ Some f → same_home home f ≡ false
+      other f is = false_from_ne_true (same_home home f) (λ same.
+          out (subst (Contains old.list.tag_pages) (sym (homes_same home f same)) (subst (λ (hs : List Home). Contains hs f) (sym s.takes.last) (in_start s.takes.front (s.takes.home ∷ []) f (last_inside s.takes.front f is)))))
+
+      by_front : (o : Option Home) → last_home s.takes.front ≡ o → Unlinks o s.takes.home old.pages new.pages → new.pages home ≡ old.pages home
+      by_front None is same = ap (λ (pages : Pages). pages home) same
+      by_front (Some f) is unlinks = ⊎_elim (λ ends. ends.elsewhere home (other f is)) (λ e. ap (λ (pages : Pages). pages home) e.same) unlinks
 
 -- ---- the file of a tag
 
 -- it begins there
-record IsNamed (files : Files) (cells : List PlacedCell) : Type 0 where
-  at : CellAt
-  start : start_of cells ≡ Some at
-  is : files at ≡ Some cells
+pub record IsNamed (files : Files) (cells : List PlacedCell) : Type 0 where
+  pub at : CellAt
+  pub start : start_of cells ≡ Some at
+  pub is : files at ≡ Some cells
 
-named : (files : Files) (chains : Chains) (t : Tag) (cells : List PlacedCell) → chains t ≡ Some cells → chains_in files chains t ≡ chains t → IsNamed files cells
+pub named : (files : Files) (chains : Chains) (t : Tag) (cells : List PlacedCell) → chains t ≡ Some cells → chains_in files chains t ≡ chains t → IsNamed files cells
 named files chains t cells is same = by_cells cells (sym (ap (λ o. option_and_then files (option_and_then start_of o)) is) ∙ same ∙ is)
   where
     by_cells : (cs : List PlacedCell) → option_and_then files (option_and_then start_of (Some cs)) ≡ Some cs → IsNamed files cs
@@ -205,11 +214,11 @@ start_in : (cells : List PlacedCell) (at : CellAt) → start_of cells ≡ Some a
 start_in [] at start = absurd (none_not at start)
 start_in (first ∷ rest) at start = (0, omega arith, some_same first.at at start)
 
-has_attributes : (pages : Pages) (a : CellAt) (cells : List PlacedCell) → IsFile pages a cells → ¬ first_record 1 cells ≡ None
+pub has_attributes : (pages : Pages) (a : CellAt) (cells : List PlacedCell) → IsFile pages a cells → ¬ first_record 1 cells ≡ None
 has_attributes pages a [] file nothing = file
 has_attributes pages a (first ∷ rest) file nothing = true≢false (sym file.1.attributes ∙ ap is_some nothing)
 
-file_start : (pages : Pages) (a at : CellAt) (cells : List PlacedCell) → IsFile pages a cells → start_of cells ≡ Some at → a ≡ at
+pub file_start : (pages : Pages) (a at : CellAt) (cells : List PlacedCell) → IsFile pages a cells → start_of cells ≡ Some at → a ≡ at
 file_start pages a at [] file start = absurd file
 file_start pages a at (first ∷ rest) file start = sym file.0 ∙ some_same first.at at start
 
@@ -247,7 +256,7 @@ module _ (group : ℕ) (version : Version) (old new : Now) (well : IsWell old) (
   goes t cells is =
       let n = named old.files chains t cells is (was.among.same t) in
       let live = subst (λ o. IfSome o (λ cs. is_removed cs ≡ false)) is (was.among.live t) in
-      let s = still group version old new well step n.at cells n.is (λ e inside at. ap (option_and_then (to_do e)) (sym is) ∙ was.among.trimmed e inside t (ap (option_and_then start_of) is ∙ n.start ∙ ap Some (sym at))) in
+      let s = still group version old new well step n.at cells n.is (λ e inside at. ap (option_and_then left_of) (sym is) ∙ was.among.trimmed e inside t (ap (option_and_then start_of) is ∙ n.start ∙ ap Some (sym at))) in
       record {
         at = n.at;
         start = n.start;
@@ -282,7 +291,7 @@ module _ (group : ℕ) (version : Version) (old new : Now) (well : IsWell old) (
       (was.together.tag_pages home has) step
 
   tags_stay : (k : ℕ) → IfSome (slice_get places k) (λ place. new.pages place.home ≡ old.pages place.home)
-  tags_stay = pages_same old.pages new.pages places (λ home has. page_stays group version old new well step home (held_now home has).off_table)
+  tags_stay = pages_same old.pages new.pages places (λ home has. page_stays group version old new well step home (held_now home has).off_table (λ inside. true≢false (sym has ∙ was.among.not_listed home inside)))
 
   cells_lead : (t : Tag) → cell_of new.pages places t ≡ cell_of old.pages places t
   cells_lead = cell_same old.pages new.pages places was.together.files.directory tags_stay
@@ -369,12 +378,12 @@ module _ (group : ℕ) (version : Version) (old new : Now) (well : IsWell old) (
       same = λ t. all_now t (λ o. option_and_then new.files (option_and_then start_of o) ≡ o) refl
           (λ cells is g. ap (option_and_then new.files) (g.says.start ∙ g.start) ∙ g.there);
       live = λ t. all_now t (λ o. IfSome o (λ cells. is_removed cells ≡ false)) tt (λ cells is g. g.live);
-      trimmed = λ e inside t. all_now t (λ o. option_and_then start_of o ≡ Some e.at → option_and_then (to_do e) o ≡ Some Trim)
+      trimmed = λ e inside t. all_now t (λ o. option_and_then start_of o ≡ Some e.at → option_and_then left_of o ≡ Some Trim)
           (λ start. absurd (none_not e.at start))
           (λ cells is g start.
           let n = narrower_step group version old new step e inside in
           let at : g.at ≡ e.at = some_same g.at e.at (sym (g.says.start ∙ g.start) ∙ start) in
-          to_do_same e cells g.after (g.left e inside (sym at)) ∙ to_do_was old.list new.list e n cells ∙ ap (option_and_then (to_do n.was)) (sym is) ∙ was.among.trimmed n.was n.inside t (ap (option_and_then start_of) is ∙ g.start ∙ ap Some (at ∙ sym n.at)));
+          g.left e inside (sym at) ∙ ap (option_and_then left_of) (sym is) ∙ was.among.trimmed n.was n.inside t (ap (option_and_then start_of) is ∙ g.start ∙ ap Some (at ∙ sym n.at)));
       low = was.among.low;
       no_tags = no_tags_now;
       not_listed = λ home inside. was.among.not_listed home (was_listed group version old new well step home inside);

@@ -11,7 +11,7 @@ use Rattle.deferred_delete.specs.Standing.{Files, source_of, with_file}
 use Rattle.deferred_delete.specs.Steps.{EndsFile, EndsReading, EndsTrim, GivesTagPage, IsWell, LetsPages, LosesQuotaCell, Now, Step, Steps, file_ends, more, none, now_of, pages_go, quota_goes, reading_ends, says_no_source, says_trimmed, tag_page_goes, trim_ends}
 use Rattle.deferred_delete.proofs.Ends.{alone_listed, alone_together, gone_listed, gone_together, trim_listed, trim_together}
 use Rattle.deferred_delete.proofs.Spread.{now, some_same, spread_listed, spread_together}
-use Rattle.deferred_delete.proofs.Standings.{not_nil, said_trim, source_file, standing, trim_file}
+use Rattle.deferred_delete.proofs.Standings.{not_nil, source_file, standing, trim_file}
 use Rattle.deferred_delete.proofs.Stepping.{first_stands, listed_as}
 use Rattle.deferred_delete.proofs.Well.{source_chain, tag_page_well}
 use Rattle.deferred_laws.proofs.Narrower.{in_last}
@@ -45,7 +45,7 @@ module _ (group : ℕ) (version : Version) (old new : Now) (well : IsWell old) w
       by_chain : (chain : List PlacedCell) → old.files s.entry.at ≡ Some chain → new.files ≡ with_file s.entry.at (Some (with_first says_trimmed chain)) old.files → IsWell new
       by_chain [] is files = absurd (not_nil old.pages s.entry.at (standing old.space old.cells old.pages old.files well.together s.entry.at [] is).stands)
       by_chain (first ∷ rest) is files =
-          let file = trim_file old.pages s.entry.at (first ∷ rest) (standing old.space old.cells old.pages old.files well.together s.entry.at (first ∷ rest) is).stands (ap left_of (some_same (first ∷ rest) s.chain (sym is ∙ s.is)) ∙ said_trim s.entry.goes (left_of s.chain) s.trim) in
+          let file = trim_file old.pages s.entry.at (first ∷ rest) (standing old.space old.cells old.pages old.files well.together s.entry.at (first ∷ rest) is).stands (ap left_of (some_same (first ∷ rest) s.chain (sym is ∙ s.is)) ∙ s.trim) in
           let here = s.stands first.cell (first_stands old.pages s.entry.at first rest (standing old.space old.cells old.pages old.files well.together s.entry.at (first ∷ rest) is).stands) in
           well_by new (record { entries = s.front; tag_pages = old.list.tag_pages }) (with_file s.entry.at (Some (with_first says_trimmed (first ∷ rest))) old.files) old.space old.cells s.list files s.same_space s.same_cells
           (record {
@@ -97,9 +97,8 @@ module _ (group : ℕ) (version : Version) (old new : Now) (well : IsWell old) w
   tag_well : GivesTagPage group old new → IsWell new
   tag_well s =
       let was : IsWell (now_of old.list old.files old.space old.cells old.pages) = record { together = well.together; listed = well.listed } in
-      let is = tag_page_well group old.list new.list old.files old.space new.space old.cells old.pages was s.takes in
       well_by new new.list old.files new.space old.cells refl s.same_files refl s.same_cells
-      (subst (λ pages. IsWell (now_of new.list old.files new.space old.cells pages)) (sym s.same_pages) is)
+      (tag_page_well group old.list new.list old.files old.space new.space old.cells old.pages new.pages was s.takes)
 
   pub well_step : Step group version old new → IsWell new
   well_step (pages_go s) = lets_well s

@@ -10,12 +10,15 @@ use Rattle.tag_dirs.specs.declared.dir.TagPlace.{TagPlace}
 use Rattle.extent_maps.specs.declared.run.PagePlace.TheVariants.{At}
 use Rattle.free_space.specs.Spaces.{missed}
 use Rattle.bitfile_cells.specs.FileChanges.{LeavesOtherCells}
+use Rattle.bitfile_cells.specs.MapChanges.{LeavesOffTables}
 use Rattle.bitfile_cells.specs.Moving.{TakesIfHolderFull}
 use Rattle.bitfile_core.specs.declared.attributes.Attributes.{Attributes}
+use Rattle.bitfile_core.specs.declared.indexing.IndexPlace.{IndexPlace}
 use Rattle.bitfile_core.specs.declared.new_cells.NewFile.{NewFile}
 use Rattle.bitfile_core.specs.Changes.{ChangesBeside, ChangesFirst, Removes, says_attributes, says_parent, says_removed, with_chain, with_first, without_chain}
 use Rattle.bitfile_core.specs.Creation.{Creates, LeavesBeside, TakesForFile, with_new}
 use Rattle.bitfile_core.specs.Files.{Chains}
+use Rattle.bitfile_core.specs.Index.{says_index}
 use Rattle.bitfile_core.specs.Pages.{ChangesFile, TakesHome}
 use Rattle.bitfile_core.specs.Together.{AreTogether}
 use Rattle.bitfile_core.specs.Truncation.{says_truncated}
@@ -57,6 +60,7 @@ pub record PutsPage (fileset : ℕ) (version : Version) (tag : Tag) (home : Home
   pub change : ChangesFile fileset old.places tag page (At home) version old.chains new.domain.space
       old.domain.cells new.domain.cells old.domain.pages new.domain.pages chain
   pub others : LeavesOtherCells old.domain.cells chain old.domain.pages new.domain.pages
+  pub elsewhere : LeavesOffTables new.domain.cells old.domain.pages new.domain.pages
   pub places : new.places ≡ old.places
   pub chains : new.chains ≡ with_chain tag (λ _. change.change.changes.after) old.chains
   pub list : new.domain.list ≡ old.domain.list
@@ -140,6 +144,8 @@ pub data Call (fileset : ℕ) (version : Version) (tag : Tag) (old new : Fileset
   described : (value : Attributes) → SetsFirst fileset tag (says_attributes value) old new
       → Call fileset version tag old new
   put_in : (parent : Tag) → SetsFirst fileset tag (says_parent parent) old new
+      → Call fileset version tag old new
+  indexed : (index : Option IndexPlace) → SetsFirst fileset tag (says_index index) old new
       → Call fileset version tag old new
   cut : (size : ℕ) (lowered : Option ℕ)
       → SetsFirst fileset tag (says_truncated size lowered) old new

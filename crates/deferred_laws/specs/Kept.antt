@@ -21,11 +21,11 @@ IsBeside list at = (entry : Entry) → Contains list.entries entry
 -- them
 abbrev pub Stays : Now → CellAt → ℕ → Type 0
 Stays now at page = (entry : Entry) → Contains now.list.entries entry → entry.at ≡ at
-    → (chain : List PlacedCell) → now.files at ≡ Some chain → page < stale_from entry chain
+    → (chain : List PlacedCell) → now.files at ≡ Some chain → page < stale_from chain
 
 -- a file is there, and its pages in front of those that go stand where they stood
-abbrev pub KeepsFront : Entry → List PlacedCell → Option (List PlacedCell) → Type 0
-KeepsFront entry chain now = IsSomeAnd now (λ after. (page : ℕ) → page < stale_from entry chain
+abbrev pub KeepsFront : List PlacedCell → Option (List PlacedCell) → Type 0
+KeepsFront chain now = IsSomeAnd now (λ after. (page : ℕ) → page < stale_from chain
     → places_of after page ≡ places_of chain page)
 
 -- a file is there that keeps all of 65,536 pages, and of which nothing is left to be let go of

@@ -1,5 +1,7 @@
+pub mod Beside
 pub mod Calls
 pub mod Kept
+pub mod Links
 pub mod Lists
 pub mod Shown
 pub mod Taken

@@ -11,7 +11,7 @@ use Rattle.tag_dirs.specs.Directory.{has_home}
 use Rattle.extent_maps.specs.declared.run.PagePlace.TheVariants.{At}
 use Rattle.bitfile_core.specs.Files.{Chains, is_removed}
 use Rattle.deferred_delete.specs.declared.list.Entry.{Entry}
-use Rattle.deferred_delete.specs.Listed.{to_do}
+use Rattle.deferred_delete.specs.Listed.{left_of}
 use Rattle.deferred_delete.specs.Standing.{Files, place_in}
 use Rattle.deferred_delete.specs.Steps.{Now}
 
@@ -32,7 +32,7 @@ pub record AreAmong (now : Now) (places : List TagPlace) (chains : Chains) : Typ
   pub live : (tag : Tag) → IfSome (chains tag) (λ cells. is_removed cells ≡ false)
   pub trimmed : (entry : Entry) → Contains now.list.entries entry → (tag : Tag)
       → option_and_then start_of (chains tag) ≡ Some entry.at
-      → option_and_then (to_do entry) (chains tag) ≡ Some Trim
+      → option_and_then left_of (chains tag) ≡ Some Trim
   pub low : (home : Home) → has_home places home ≡ true → 1 ≤ home.vol
   pub no_tags : (at : CellAt) (page : ℕ) (home : Home) → place_in now.files at page ≡ At home
       → has_home places home ≡ false

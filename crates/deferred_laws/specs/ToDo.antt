@@ -16,8 +16,8 @@ is_there Hole = true
 is_there Absent = false
 
 -- a page of an entry's file is there, and goes
-abbrev pub goes : Entry → List PlacedCell → ℕ → Bool
-goes entry chain page = nat_le (stale_from entry chain) page && is_there (places_of chain page)
+abbrev pub goes : List PlacedCell → ℕ → Bool
+goes chain page = nat_le (stale_from chain) page && is_there (places_of chain page)
 
 -- of how many numbers in front of one it is so
 unfoldable pub count_below : (ℕ → Bool) → ℕ → ℕ
@@ -25,13 +25,13 @@ count_below is zero = 0
 count_below is (suc n) = (if is n then 1 else 0) + count_below is n
 
 -- the cells of an entry's file, and its pages that go
-abbrev pub left_in : Entry → List PlacedCell → ℕ
-left_in entry chain = length chain + count_below (goes entry chain) 65536
+abbrev pub left_in : List PlacedCell → ℕ
+left_in chain = length chain + count_below (goes chain) 65536
 
 -- an entry, its clone if one is given, and what is left of its file
 abbrev pub left_of_entry : Files → Entry → ℕ
 left_of_entry files entry =
-    1 + (if is_some entry.clone then 1 else 0) + option_map_or (left_in entry) (files entry.at) 0
+    1 + (if is_some entry.clone then 1 else 0) + option_map_or left_in (files entry.at) 0
 
 -- all that is left of the list
 abbrev pub left_to_do : Now → ℕ

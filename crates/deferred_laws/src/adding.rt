@@ -5,26 +5,27 @@ ghost use Rattle.domain_base.specs.declared.place.CellAt.{CellAt};
 ghost use Rattle.domain_base.specs.declared.place.Home.{Home};
 ghost use Rattle.domain_base.specs.declared.place.Tag.{Tag};
 ghost use Rattle.record_table.specs.declared.record.Leftover.TheVariants.{Remove, Trim};
+ghost use Rattle.page_store.specs.Pages.{Pages};
 ghost use Rattle.tag_dirs.specs.declared.dir.TagPlace.{TagPlace};
-ghost use Rattle.tag_dirs.specs.Directory.{has_home};
+ghost use Rattle.tag_dirs.specs.Directory.{IsDirectory, has_home};
 ghost use Rattle.bitfile_core.specs.Files.{Chains};
 ghost use Rattle.bitfile_core.specs.Truncation.{says_truncated};
-ghost use Rattle.deferred_delete.specs.declared.list.Goes.{Goes};
-ghost use Rattle.deferred_delete.specs.Listed.{IsEntry, left_of, to_do};
+ghost use Rattle.deferred_delete.specs.Listed.{IsEntry, left_of};
 ghost use Rattle.deferred_delete.specs.Listing.{Adds, Listing};
 ghost use Rattle.deferred_delete.specs.Steps.{IsWell, Now};
 ghost use Rattle.deferred_laws.specs.Calls.{Drops, FilesetNow, SetsFirst};
+ghost use Rattle.deferred_laws.specs.Links.{LeadOn, homes_of};
 ghost use Rattle.deferred_laws.specs.Lists.{with_list};
 ghost use Rattle.deferred_laws.specs.Tags.{AreAmong, start_of};
 ghost use Rattle.deferred_laws.specs.Waits.{StandsApart};
 
-/// A file that is put on the list, or whose clone and how much of it goes are set anew there, may
-/// then be let go of with all else on the list: it has to be there, and the clone be the one whose
+/// A file that is put on the list, or whose clone is set anew there, may then be let go of with all
+/// else on the list: it has to be there and to say what goes of it, and the clone be the one whose
 /// file reads through it.
 pub fn all_stays_well_where_a_file_is_listed()
-    ensures { (first : Now) (at : CellAt) (clone : Option CellAt) (goes : Goes) (list : Listing)
-        → IsWell first → IsEntry first.files (record { at = at; clone = clone; goes = goes })
-        → Adds at clone goes first.list.entries list.entries
+    ensures { (first : Now) (at : CellAt) (clone : Option CellAt) (list : Listing)
+        → IsWell first → IsEntry first.files (record { at = at; clone = clone })
+        → Adds at clone first.list.entries list.entries
         → list.tag_pages ≡ first.list.tag_pages → IsWell (with_list list first) }
 {}
 
@@ -35,15 +36,23 @@ pub fn all_stays_well_where_a_page_is_listed()
         → list.entries ≡ first.list.entries → IsWell (with_list list first) }
 {}
 
+/// The pages of a tag directory that are listed in their chain's order lead each to the next one on
+/// the list, and the last to none, as all others on it do.
+pub fn a_directory_is_listed_in_order()
+    ensures { (pages : Pages) (homes : List Home) (places : List TagPlace)
+        → IsDirectory pages places → LeadOn pages homes
+        → LeadOn pages (homes ++ homes_of places) }
+{}
+
 /// The files of a fileset are among the domain's once a file is listed, where one that a tag names
 /// is to be trimmed.
 pub fn tags_stay_among_where_a_file_is_listed()
     ensures { (first : Now) (list : Listing) (places : List TagPlace) (chains : Chains)
-        → AreAmong first places chains → (at : CellAt) (clone : Option CellAt) (goes : Goes)
-        → Adds at clone goes first.list.entries list.entries
+        → AreAmong first places chains → (at : CellAt) (clone : Option CellAt)
+        → Adds at clone first.list.entries list.entries
         → list.tag_pages ≡ first.list.tag_pages
         → ((tag : Tag) → option_and_then start_of (chains tag) ≡ Some at → option_and_then
-        (to_do (record { at = at; clone = clone; goes = goes })) (chains tag) ≡ Some Trim)
+        left_of (chains tag) ≡ Some Trim)
         → AreAmong (with_list list first) places chains }
 {}
 

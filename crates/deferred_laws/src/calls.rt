@@ -7,12 +7,15 @@ ghost use Rattle.domain_base.specs.declared.place.Home.{Home};
 ghost use Rattle.domain_base.specs.declared.place.Tag.{Tag};
 ghost use Rattle.domain_base.specs.declared.version.Version.{Version};
 ghost use Rattle.page_store.specs.Bitfiles.{same_tag};
+ghost use Rattle.tag_dirs.specs.declared.dir.TagPlace.{TagPlace};
 ghost use Rattle.tag_dirs.specs.Directory.{has_home};
 ghost use Rattle.free_cells.specs.Cells.{table_of};
 ghost use Rattle.free_space.specs.declared.waiting.Waiting.{Waiting};
+ghost use Rattle.bitfile_core.specs.Files.{Chains};
 ghost use Rattle.bitfile_core.specs.Together.{AreTogether};
 ghost use Rattle.deferred_delete.specs.Standing.{source_at};
 ghost use Rattle.deferred_delete.specs.Steps.{IsWell};
+ghost use Rattle.deferred_laws.specs.Beside.{AreApartOf, StandsBeside};
 ghost use Rattle.deferred_laws.specs.Calls.{Calls, FilesetNow, StandsWell};
 ghost use Rattle.deferred_laws.specs.Tags.{AreAmong, start_of};
 ghost use Rattle.deferred_laws.specs.Taken.{HasHome, IsGiven, IsHeldAt, IsPutElsewhere, IsTaken};
@@ -91,6 +94,29 @@ pub fn other_files_stay()
         → (at : CellAt) (chain : List PlacedCell) → first.domain.files at ≡ Some chain
         → ¬ option_and_then start_of (first.chains tag) ≡ Some at
         → last.domain.files at ≡ Some chain }
+{}
+
+/// Each page stays that is none of cells and none of the fileset's tag directory after the calls:
+/// what files hold, indexes, and the tag pages of other filesets.
+pub fn other_pages_stay()
+    ensures { (fileset : ℕ) (version : Version) (tag : Tag) (first last : FilesetNow)
+        → Calls fileset version tag first last
+        → AreTogether fileset first.places first.domain.space first.domain.cells
+        first.domain.pages first.chains
+        → (home : Home) → ¬ Contains (table_of last.domain.cells home.vol) home.page
+        → has_home last.places home ≡ false → last.domain.pages home ≡ first.domain.pages home }
+{}
+
+/// Another fileset of the domain has the same tags with the same files, which belong together with
+/// its tag directory as they did: so calls on its files may follow. Where a call puts a page at a
+/// home that the caller held, that is asked to be none of that directory.
+pub fn other_filesets_stay()
+    ensures { (fileset : ℕ) (version : Version) (tag : Tag) (first last : FilesetNow)
+        → (calls : Calls fileset version tag first last) → StandsWell fileset first
+        → (other : ℕ) → ¬ other ≡ fileset → (places : List TagPlace) (chains : Chains)
+        → StandsBeside other places chains first
+        → AreApartOf fileset version tag places first last calls
+        → StandsBeside other places chains last }
 {}
 
 /// Exactly those pages wait after the calls that did before, with the same use and for the same

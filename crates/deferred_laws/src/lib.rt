@@ -10,21 +10,23 @@ mod together;
 mod waiting;
 
 pub use adding::{
-    all_stays_well_where_a_file_is_listed, all_stays_well_where_a_page_is_listed,
-    cut_files_are_to_be_trimmed, dropped_files_are_to_be_removed,
-    tags_stay_among_where_a_file_is_listed, tags_stay_among_where_a_page_is_listed,
+    a_directory_is_listed_in_order, all_stays_well_where_a_file_is_listed,
+    all_stays_well_where_a_page_is_listed, cut_files_are_to_be_trimmed,
+    dropped_files_are_to_be_removed, tags_stay_among_where_a_file_is_listed,
+    tags_stay_among_where_a_page_is_listed,
 };
 pub use calls::{
     all_stays_well_over_calls, files_stay_together, given_pages_were_free, new_pages_are_of_files,
-    other_files_stay, other_tags_stay, pages_are_held_exactly, the_list_stays,
-    what_is_read_through_stays, what_waits_stays,
+    other_files_stay, other_filesets_stay, other_pages_stay, other_tags_stay,
+    pages_are_held_exactly, the_list_stays, what_is_read_through_stays, what_waits_stays,
 };
 pub use giving_back::{
     a_page_that_is_given_back_waits, all_stays_well_where_a_page_is_given_back,
     no_other_page_is_given_back, tags_stay_together_where_a_page_is_given_back,
 };
 pub use steps::{
-    each_step_leaves_less, files_that_do_not_go_are_there, others_stay,
+    each_step_leaves_less, few_pages_change, files_that_do_not_go_are_there,
+    listed_directories_stay_ones, listed_pages_lead_on, nothing_more_is_read_through, others_stay,
     pages_are_held_exactly_over_steps, pages_are_read_as_before, removed_files_are_gone,
     trimmed_files_keep_all, trimmed_files_keep_their_front, what_files_say_stays,
     what_is_shown_stays,

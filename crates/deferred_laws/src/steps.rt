@@ -1,5 +1,5 @@
 //! What steps leave as it was.
-ghost use Rattle.std.specs.Prelude.{◌≡◌, ◌+◌, ◌≤◌, ◌⊎◌, ◌↔◌, ℕ, List, [], Some, None, Contains, IsSome};
+ghost use Rattle.std.specs.Prelude.{◌≡◌, ◌+◌, ◌*◌, ◌≤◌, ◌⊎◌, ◌↔◌, ℕ, List, [], Some, None, Contains, IsSome};
 ghost use Rattle.domain_base.specs.declared.place.CellAt.{CellAt};
 ghost use Rattle.domain_base.specs.declared.place.Home.{Home};
 ghost use Rattle.domain_base.specs.declared.place.Tag.{Tag};
@@ -8,15 +8,18 @@ ghost use Rattle.record_table.specs.declared.record.Leftover.TheVariants.{Trim};
 ghost use Rattle.bmt_mcells.specs.Chain.{PlacedCell};
 ghost use Rattle.page_store.specs.Bitfiles.{Bitfile};
 ghost use Rattle.tag_dirs.specs.declared.dir.TagPlace.{TagPlace};
+ghost use Rattle.tag_dirs.specs.Directory.{IsDirectory};
 ghost use Rattle.free_cells.specs.Cells.{table_of};
 ghost use Rattle.free_space.specs.Spaces.{IsHeld};
+ghost use Rattle.bitfile_cells.specs.MapChanges.{ChangesAtMost};
 ghost use Rattle.bitfile_core.specs.Files.{Chains};
 ghost use Rattle.bitfile_core.specs.Shown.{ShowsFile};
 ghost use Rattle.deferred_delete.specs.declared.list.Entry.{Entry};
-ghost use Rattle.deferred_delete.specs.Listed.{GoesWhole, to_do};
-ghost use Rattle.deferred_delete.specs.Standing.{read_at};
+ghost use Rattle.deferred_delete.specs.Listed.{GoesWhole, left_of};
+ghost use Rattle.deferred_delete.specs.Standing.{ReadsThrough, read_at};
 ghost use Rattle.deferred_delete.specs.Steps.{IsWell, Now, Steps};
 ghost use Rattle.deferred_laws.specs.Kept.{IsBeside, KeepsAll, KeepsFront, SaysTheSame, Stays};
+ghost use Rattle.deferred_laws.specs.Links.{IsLeft, LeadOn, homes_of};
 ghost use Rattle.deferred_laws.specs.Shown.{StaysShown};
 ghost use Rattle.deferred_laws.specs.Tags.{AreAmong, chains_in};
 ghost use Rattle.deferred_laws.specs.ToDo.{left_to_do};
@@ -36,7 +39,7 @@ pub fn files_that_do_not_go_are_there()
         → IsWell first → Steps group version first count last
         → (at : CellAt) (chain : List PlacedCell) → first.files at ≡ Some chain
         → ((entry : Entry) → Contains first.list.entries entry → entry.at ≡ at
-        → to_do entry chain ≡ Some Trim) → IsSome (last.files at) }
+        → left_of chain ≡ Some Trim) → IsSome (last.files at) }
 {}
 
 /// A file that is trimmed, and that no entry gives as its clone's, is there still, and each page in
@@ -47,7 +50,7 @@ pub fn trimmed_files_keep_their_front()
         → (entry : Entry) → Contains first.list.entries entry
         → ((other : Entry) → Contains first.list.entries other → ¬ other.clone ≡ Some entry.at)
         → (chain : List PlacedCell) → first.files entry.at ≡ Some chain
-        → to_do entry chain ≡ Some Trim → KeepsFront entry chain (last.files entry.at) }
+        → left_of chain ≡ Some Trim → KeepsFront chain (last.files entry.at) }
 {}
 
 /// Each page of each file, but those that go, is read at the home at which it was read, or as zeros
@@ -65,7 +68,7 @@ pub fn removed_files_are_gone()
         → IsWell first → Steps group version first count last → last.list.entries ≡ []
         → (entry : Entry) → Contains first.list.entries entry
         → (chain : List PlacedCell) → first.files entry.at ≡ Some chain
-        → GoesWhole entry chain → last.files entry.at ≡ None }
+        → GoesWhole chain → last.files entry.at ≡ None }
 {}
 
 /// A file that was to be trimmed keeps all of 65,536 pages once no file is on the list, and nothing
@@ -75,7 +78,7 @@ pub fn trimmed_files_keep_all()
         → IsWell first → Steps group version first count last → last.list.entries ≡ []
         → (entry : Entry) → Contains first.list.entries entry
         → (chain : List PlacedCell) → first.files entry.at ≡ Some chain
-        → to_do entry chain ≡ Some Trim → KeepsAll (last.files entry.at) }
+        → left_of chain ≡ Some Trim → KeepsAll (last.files entry.at) }
 {}
 
 /// With each step less is left to be let go of: of the cells and pages of the entries' files that
@@ -85,6 +88,13 @@ pub fn each_step_leaves_less()
     ensures { (group : ℕ) (version : Version) (first : Now) (count : ℕ) (last : Now)
         → IsWell first → Steps group version first count last
         → count + left_to_do last ≤ left_to_do first }
+{}
+
+/// Each step changes five pages of metadata at most.
+pub fn few_pages_change()
+    ensures { (group : ℕ) (version : Version) (first : Now) (count : ℕ) (last : Now)
+        → Steps group version first count last
+        → ChangesAtMost (5 * count) first.pages last.pages }
 {}
 
 /// Exactly these pages are held after the steps: those that were before and were not given up, and
@@ -106,6 +116,30 @@ pub fn what_files_say_stays()
         → IsWell first → Steps group version first count last
         → (at : CellAt) (after : List PlacedCell) → last.files at ≡ Some after
         → (chain : List PlacedCell) × (first.files at ≡ Some chain) × SaysTheSame chain after }
+{}
+
+/// What reads through a file after the steps did so before them.
+pub fn nothing_more_is_read_through()
+    ensures { (group : ℕ) (version : Version) (first : Now) (count : ℕ) (last : Now)
+        → IsWell first → Steps group version first count last → (clone at : CellAt)
+        → ReadsThrough last.files clone at → ReadsThrough first.files clone at }
+{}
+
+/// Where each page of a tag directory that is on the list leads to the next one on it, or to none,
+/// it does so after the steps: so no page leads to one that was given back.
+pub fn listed_pages_lead_on()
+    ensures { (group : ℕ) (version : Version) (first : Now) (count : ℕ) (last : Now)
+        → IsWell first → Steps group version first count last
+        → LeadOn first.pages first.list.tag_pages → LeadOn last.pages last.list.tag_pages }
+{}
+
+/// Where the pages of a tag directory are on the list, in their chain's order, those in front are on
+/// it after the steps, and what is left of the directory is one, whose last page leads to none.
+pub fn listed_directories_stay_ones()
+    ensures { (group : ℕ) (version : Version) (first : Now) (count : ℕ) (last : Now)
+        → IsWell first → Steps group version first count last → (places : List TagPlace)
+        → homes_of places ≡ first.list.tag_pages → IsDirectory first.pages places
+        → IsLeft places last }
 {}
 
 /// What a set of files shows of a tag's file is the same after the steps: of a file each, and of a
