@@ -1,6 +1,5 @@
 -- A file that was cut is let go of, and calls go on.
-use Rattle.std.proofs.Common.{◌≡◌, ◌∙◌, ◌⊎◌, ⊎_elim, inl, inr, ℕ, ◌≤◌, false, List, [], ◌∷◌, Option, Some, None, IsSome, IsSomeAnd, is_some, Contains, refl, sym, ap, subst}
-use Rattle.std.proofs.lemmas.Bool.{true≢false}
+use Rattle.std.proofs.Common.{◌≡◌, ◌∙◌, ◌⊎◌, ⊎_elim, inl, inr, ℕ, ◌≤◌, false, List, [], ◌∷◌, Option, Some, None, IsSomeAnd, is_some, Contains, refl, sym, ap, subst}
 use Rattle.std.specs.Option.{option_and_then}
 use Rattle.domain_base.specs.declared.place.CellAt.{CellAt}
 use Rattle.domain_base.specs.declared.place.Home.{Home}
@@ -17,12 +16,10 @@ use Rattle.free_space.specs.Spaces.{Spaces, missed}
 use Rattle.bitfile_cells.specs.Allocated.{FindsNone}
 use Rattle.bitfile_cells.specs.Files.{IsFile}
 use Rattle.deferred_delete.specs.declared.list.Entry.{Entry}
-use Rattle.deferred_delete.specs.declared.list.Goes.TheVariants.{AsSaid}
-use Rattle.deferred_delete.specs.Listed.{IsEntry, left_of, to_do}
+use Rattle.deferred_delete.specs.Listed.{IsEntry, left_of}
 use Rattle.deferred_delete.specs.Listing.{Adds, Listing}
 use Rattle.deferred_delete.specs.Standing.{ReadsThrough, Source}
 use Rattle.deferred_delete.specs.Steps.{IsWell, LetsGo, Now, Steps, now_of}
-use Rattle.deferred_delete.proofs.Standings.{linked_at, not_nil, place_by, standing}
 use Rattle.deferred_laws.specs.Calls.{FilesetNow, StandsWell, no_call, one_more, refused}
 use Rattle.deferred_laws.specs.Kept.{IsBeside}
 use Rattle.deferred_laws.specs.Lists.{with_list}
@@ -30,18 +27,17 @@ use Rattle.deferred_laws.specs.Tags.{AreAmong, chains_in, start_of}
 use Rattle.deferred_laws.specs.Taken.{IsHeldAt, IsTaken}
 use Rattle.deferred_laws.specs.Waits.{IsGivenUp}
 use Rattle.deferred_laws.proofs.CallsWell.{stands_still}
-use Rattle.deferred_laws.proofs.FirstWell.{are_file}
+use Rattle.bitfile_core.specs.Files.{first_record}
+use Rattle.deferred_laws.proofs.FirstWell.{are_file, some_record}
 use Rattle.deferred_laws.proofs.HeldPages.{held_exactly}
 use Rattle.deferred_laws.proofs.HeldSteps.{held_after}
 use Rattle.deferred_laws.proofs.Listing.{entry_among, entry_listed, list_stays, which_entry}
 use Rattle.deferred_laws.proofs.SourcesStay.{sources_stay}
-use Rattle.deferred_laws.proofs.StillThere.{files_stay}
 use Rattle.deferred_laws.proofs.TagCalls.{others_same}
 use Rattle.deferred_laws.proofs.Tags.{tags_stay_together}
 use Rattle.deferred_laws.proofs.TagsBeside.{begin_apart, beside_stay}
 use Rattle.deferred_laws.proofs.Wells.{wells_stay}
 use Rattle.release_tests.specs.Called.{HasCalled, HasCut, HasLetGo, HasNoClone, IsCut, IsWrittenAgain, Parts, fileset_in}
-use Rattle.release_tests.specs.Going.{IsGoing}
 use Rattle.release_tests.proofs.Wells.{none_some, some_same}
 
 -- ---- it is made, given pages and cut
@@ -88,7 +84,7 @@ module _ (fileset : ℕ) (version : Version) (tag : Tag) (at : CellAt) (first : 
   abbrev pub cut : FilesetNow
   cut = fileset_in parts c.cut.0.files c.cut.0.chains
 
-  stands : StandsWell fileset cut
+  pub stands : StandsWell fileset cut
   stands = stands_still fileset version tag first cut c.cut.0.calls c.stood
 
   pub cut_chain : HasChain fileset tag at cut
@@ -97,20 +93,21 @@ module _ (fileset : ℕ) (version : Version) (tag : Tag) (at : CellAt) (first : 
   reads_none : (a b : CellAt) → ReadsThrough cut.domain.files a b → ⊥
   reads_none a b reads = subst (λ o. IsSomeAnd o (λ (source : Source). source.at ≡ b)) (sources_stay fileset version tag first cut c.cut.0.calls c.stood a ∙ c.alone a) reads
 
-  may : IsEntry cut.domain.files (record { at = at; clone = None; goes = AsSaid })
-  may = record {
+  may : left_of cut_chain.chain ≡ Some Trim → IsEntry cut.domain.files (record { at = at; clone = None })
+  may trim = record {
     there = ap is_some cut_chain.there;
+    says = inl (ap (λ o. is_some (option_and_then (first_record 6) o)) cut_chain.there ∙ some_record (first_record 6 cut_chain.chain) trim);
     given = λ clone is. absurd (none_some clone is);
     all = λ clone reads. absurd (reads_none clone at reads);
   }
 
-  module _ (listed : Listing) (adds : Adds at None AsSaid parts.list.entries listed.entries) (same : listed.tag_pages ≡ parts.list.tag_pages) (trim : left_of cut_chain.chain ≡ Some Trim) where
+  module _ (listed : Listing) (adds : Adds at None parts.list.entries listed.entries) (same : listed.tag_pages ≡ parts.list.tag_pages) (trim : left_of cut_chain.chain ≡ Some Trim) where
     pub well : IsWell (with_list listed cut.domain)
-    well = entry_listed cut.domain at None AsSaid listed stands.well may adds same
+    well = entry_listed cut.domain at None listed stands.well (may trim) adds same
 
-    among : AreAmong (with_list listed cut.domain) cut.places cut.chains
-    among = entry_among cut.domain listed cut.places cut.chains stands.among at None AsSaid adds same
-        (λ t starts. ap (option_and_then (to_do (record { at = at; clone = None; goes = AsSaid }))) (by_start fileset tag at cut stands c.cut.1 t starts ∙ cut_chain.there) ∙ trim)
+    pub among : AreAmong (with_list listed cut.domain) cut.places cut.chains
+    among = entry_among cut.domain listed cut.places cut.chains stands.among at None adds same
+        (λ t starts. ap (option_and_then left_of) (by_start fileset tag at cut stands c.cut.1 t starts ∙ cut_chain.there) ∙ trim)
 
     abbrev gone : (now : Now) → FilesetNow
     gone now = record { places = parts.places; chains = chains_in now.files cut.chains; domain = now }
@@ -152,48 +149,6 @@ module _ (fileset : ℕ) (version : Version) (tag : Tag) (at : CellAt) (first : 
           chains = chains_in stops.files cut.chains;
           calls = one_more _ _ no_call (refused (record { places = refl; chains = refl; list = refl; files = refl; space = by_fault stops.before space cells stops.fault stops.cause; cells = refl; pages = refl }));
         }))
-        goes
-
-    -- its file is there still, whether it is to be trimmed on or was
-    trims : (e : Entry) → Contains listed.entries e → e.at ≡ at → to_do e cut_chain.chain ≡ Some Trim
-    trims e inside is =
-        ap (option_and_then (to_do e)) (sym (by_start fileset tag at cut stands c.cut.1 tag c.cut.1 ∙ cut_chain.there))
-        ∙ among.trimmed e inside tag (c.cut.1 ∙ ap Some (sym is))
-
-    module _ (count : ℕ) (now : Now) (steps : Steps 5 version (with_list listed cut.domain) count now) where
-      stood : StandsWell fileset (gone now)
-      stood = stands_gone count now steps
-
-      there_still : IsSome (now.files at)
-      there_still = files_stay 5 version (with_list listed cut.domain) count now well steps at cut_chain.chain cut_chain.there trims
-
-      starts : option_and_then start_of (chains_in now.files cut.chains tag) ≡ Some at
-      starts = ap (λ o. option_and_then start_of (option_and_then now.files o)) c.cut.1 ∙ by_chain (now.files at) refl there_still
-        where
-          by_chain : (o : Option (List PlacedCell)) → now.files at ≡ o → IsSome o → option_and_then start_of o ≡ Some at
-          by_chain None is some = absurd (true≢false (sym some))
-          by_chain (Some []) is some = absurd (not_nil now.pages at (standing now.space now.cells now.pages now.files stood.well.together at [] is).stands)
-          by_chain (Some (first ∷ rest)) is some = ap Some (linked_at now.pages at first rest (standing now.space now.cells now.pages now.files stood.well.together at (first ∷ rest) is).stands).0
-
-      abbrev now_chain : HasChain fileset tag at (gone now)
-      now_chain = chain_at fileset tag at (gone now) stood starts
-
-      going_still : (list : Listing) (space : Spaces) → IsWell (now_of list now.files space now.cells now.pages) → (chain : List PlacedCell) × IsGoing space now.cells now.pages at chain
-      going_still list space well_now = (
-        now_chain.chain,
-        record {
-          allocated = well_now.together.allocated;
-          file = now_chain.file;
-          on_tables = (standing space now.cells now.pages now.files well_now.together at now_chain.chain now_chain.there).on_tables;
-          held = λ p home is. well_now.together.held at p home (place_by now.files at now_chain.chain p now_chain.there ∙ is);
-          once = λ p q home x y. (well_now.together.once at at p q home (place_by now.files at now_chain.chain p now_chain.there ∙ x) (place_by now.files at now_chain.chain q now_chain.there ∙ y)).1;
-        },
-      )
-
-    pub let_go_going : (count : ℕ) (list : Listing) (space : Spaces) (cells : Cells) (pages : Pages) → LetsGo 5 version (with_list listed cut.domain) count list space cells pages → (chain : List PlacedCell) × IsGoing space cells pages at chain
-    let_go_going count list space cells pages goes = ⊎_elim
-        (λ leads. going_still count (now_of list leads.files space cells pages) leads.steps list space leads.well)
-        (λ stops. going_still count (now_of list stops.files stops.before cells pages) stops.steps list space stops.well)
         goes
 
 -- ---- calls go on
@@ -247,7 +202,7 @@ module _ (fileset : ℕ) (version : Version) (tag : Tag) (first : FilesetNow) (n
                 (went.begins ∙ ap Some (sym (ap (λ (x : Entry). x.at) this) ∙ is))),
             (λ is. none_some a (sym (ap (λ (x : Entry). x.clone) this) ∙ is)),
           ))
-          (which_entry went.cut.domain.list.entries went.listed.entries went.at None AsSaid went.adds e inside)
+          (which_entry went.cut.domain.list.entries went.listed.entries went.at None went.adds e inside)
 
   module _ (home : Home) (low : 1 ≤ home.vol) where
     abbrev IsKept : Type 0

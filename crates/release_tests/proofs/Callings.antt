@@ -18,6 +18,7 @@ use Rattle.free_cells.specs.Cells.{Cells}
 use Rattle.free_space.specs.Spaces.{Spaces, missed}
 use Rattle.bitfile_cells.specs.FileChanges.{LeavesOtherCells}
 use Rattle.bitfile_cells.specs.Files.{IsFile}
+use Rattle.bitfile_cells.specs.MapChanges.{LeavesOffTables}
 use Rattle.bitfile_core.specs.Changes.{ChangesFirst, with_chain, with_first}
 use Rattle.bitfile_core.specs.Creation.{Creates, LeavesBeside, TakesForFile, with_new}
 use Rattle.bitfile_core.specs.declared.new_cells.NewFile.{NewFile}
@@ -48,8 +49,8 @@ module _ (fileset : ℕ) (version : Version) (tag : Tag) (first : FilesetNow) (p
 
   pub gave : (prefer page : ℕ) (r : Result Home StoreFault) → IfOk r (λ home. IsSomeAnd (chains tag) (ChangesFile fileset places tag page (At home) version chains space_now cells cells_now old new))
       → IfOk r (λ home. IsSomeAnd (chains tag) (λ chain. TakesHome prefer page home chain space space_now cells cells_now old)) → IfErr r (λ fault. IsSomeAnd (chains tag) (λ chain. GetsNone page chain space space_now cells fault))
-      → OnErr r (cells_now ≡ cells) → OnErr r (new ≡ old) → IfSome (chains tag) (λ chain. LeavesOtherCells cells chain old new) → HasCalled fileset version tag first now
-  gave prefer page (Ok home) changes takes none same_cells same_pages others = by_chain (chains tag) refl changes takes others
+      → OnErr r (cells_now ≡ cells) → OnErr r (new ≡ old) → IfSome (chains tag) (λ chain. LeavesOtherCells cells chain old new) → LeavesOffTables cells_now old new → HasCalled fileset version tag first now
+  gave prefer page (Ok home) changes takes none same_cells same_pages others elsewhere = by_chain (chains tag) refl changes takes others
     where
       by_chain : (o : Option (List PlacedCell)) → chains tag ≡ o → IsSomeAnd o (ChangesFile fileset places tag page (At home) version chains space_now cells cells_now old new)
           → IsSomeAnd o (λ chain. TakesHome prefer page home chain space space_now cells cells_now old) → IfSome o (λ chain. LeavesOtherCells cells chain old new) → HasCalled fileset version tag first now
@@ -60,12 +61,12 @@ module _ (fileset : ℕ) (version : Version) (tag : Tag) (first : FilesetNow) (p
         calls = one_more _ _ called.calls (given (record {
           home = home;
           chain = chain;
-          puts = record { page = page; is = is; change = change; others = others; places = refl; chains = refl; list = refl; files = refl };
+          puts = record { page = page; is = is; change = change; others = others; elsewhere = elsewhere; places = refl; chains = refl; list = refl; files = refl };
           prefer = prefer;
           taken = take;
         }));
       }
-  gave prefer page (Err fault) changes takes none same_cells same_pages others = by_chain (chains tag) none
+  gave prefer page (Err fault) changes takes none same_cells same_pages others elsewhere = by_chain (chains tag) none
     where
       by_fault : (chain : List PlacedCell) (f : StoreFault) → GetsNone page chain space space_now cells f → (space_now ≡ space) ⊎ (space_now ≡ missed space)
       by_fault chain NoPage gets = inr gets.1

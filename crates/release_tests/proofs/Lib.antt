@@ -5,3 +5,5 @@ pub mod Removals
 pub mod Trims
 pub mod Callings
 pub mod Agains
+pub mod Stoods
+pub mod Besides

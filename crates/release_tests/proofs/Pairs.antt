@@ -23,14 +23,13 @@ use Rattle.bitfile_cells.proofs.ChainChanges.{at_apart}
 use Rattle.bitfile_cells.proofs.Spaces.{not_held}
 use Rattle.bitfile_cells.proofs.Still.{allocated_still}
 use Rattle.bitfile_core.specs.Changes.{with_first}
-use Rattle.bitfile_core.specs.Files.{AreApart, is_first_kind}
+use Rattle.bitfile_core.specs.Files.{AreApart, first_record, is_first_kind}
 use Rattle.bitfile_core.proofs.FirstCell.{file_now, find_other, find_put, map_stays}
 use Rattle.bitfile_core.proofs.FirstRoom.{first_room, kinds_replaced}
 use Rattle.bitfile_core.proofs.FirstTogether.{not_of, rows, runs_kept}
 use Rattle.bitfile_core.proofs.Grown.{allocated_taken, apart_now, apart_taken}
 use Rattle.chain_release.proofs.Once.{absent_not}
-use Rattle.deferred_delete.specs.declared.list.Goes.{Goes}
-use Rattle.deferred_delete.specs.Listed.{IsEntry, IsListed}
+use Rattle.deferred_delete.specs.Listed.{IsEntry, IsListed, SaysWhatGoes}
 use Rattle.deferred_delete.specs.Listing.{Adds, Listing}
 use Rattle.deferred_delete.specs.Standing.{Files, IsStanding, ReadsThrough, Source, StandTogether, place_in, source_in, source_of, with_file}
 use Rattle.deferred_delete.specs.Steps.{IsWell, now_of}
@@ -40,7 +39,7 @@ use Rattle.deferred_laws.specs.Waits.{IsNowhere}
 use Rattle.deferred_laws.proofs.CallsWell.{well_held}
 use Rattle.deferred_laws.proofs.Listing.{entry_listed, page_listed}
 use Rattle.release_tests.specs.Pairs.{AreTwo, IsCloneOf, IsPair}
-use Rattle.release_tests.proofs.Wells.{in_none, in_one, listing, no_files, none_some, some_same}
+use Rattle.release_tests.proofs.Wells.{in_none, listing, no_files, none_some, some_same}
 
 -- ---- files of two chains
 
@@ -129,7 +128,10 @@ module _ (space : Spaces) (cells : Cells) (pages : Pages) (a b : CellAt) (chain 
     pages_apart = λ home inside. absurd (in_none home inside);
   }
 
-  module _ (frozen : ℕ) (alone : source_of chain ≡ None) (reads : source_of own ≡ Some (record { at = a; frozen = frozen })) where
+  says_at : (at : CellAt) (cs : List PlacedCell) → files at ≡ Some cs → IsSome (first_record 6 cs) → SaysWhatGoes files at
+  says_at at cs is says = inl (ap (λ o. is_some (option_and_then (first_record 6) o)) is ∙ says)
+
+  module _ (frozen : ℕ) (alone : source_of chain ≡ None) (says : IsSome (first_record 6 chain)) (own_says : IsSome (first_record 6 own)) (reads : source_of own ≡ Some (record { at = a; frozen = frozen })) where
     reads_one : (x y : CellAt) → ReadsThrough files x y → (x ≡ b) × (a ≡ y)
     reads_one x y is = by_chain (files x) refl is
       where
@@ -143,17 +145,19 @@ module _ (space : Spaces) (cells : Cells) (pages : Pages) (a b : CellAt) (chain 
     together : StandTogether space cells pages files
     together = stand (λ x y z xy yz. differ (sym (reads_one y z yz).0 ∙ sym (reads_one x y xy).1))
 
-    is_entry : (goes : Goes) → IsEntry files (record { at = a; clone = Some b; goes = goes })
-    is_entry goes = record {
+    is_entry : IsEntry files (record { at = a; clone = Some b })
+    is_entry = record {
       there = ap is_some at_a;
+      says = says_at a chain at_a says;
       given = λ c is. subst (λ (q : CellAt). ReadsThrough files q a) (some_same b c is) (subst (λ o. IsSomeAnd o (λ (s : Source). s.at ≡ a)) (sym (source_by files b own at_b ∙ reads)) refl);
       all = λ c is. ap Some (sym (reads_one c a is).0);
     }
 
     -- and none reads through the second
-    clone_entry : (goes : Goes) → IsEntry files (record { at = b; clone = None; goes = goes })
-    clone_entry goes = record {
+    clone_entry : IsEntry files (record { at = b; clone = None })
+    clone_entry = record {
       there = ap is_some at_b;
+      says = says_at b own at_b own_says;
       given = λ c is. absurd (none_some c is);
       all = λ c is. absurd (differ (sym (reads_one c b is).1));
     }
@@ -169,7 +173,7 @@ module _ (space : Spaces) (cells : Cells) (pages : Pages) (a b : CellAt) (chain 
     }
 
   -- neither reads through a file: both on a list, with a page that was free
-  module _ (first_alone : source_of chain ≡ None) (second_alone : source_of own ≡ None) where
+  module _ (first_alone : source_of chain ≡ None) (second_alone : source_of own ≡ None) (first_says : IsSome (first_record 6 chain)) (second_says : IsSome (first_record 6 own)) where
     reads_none : (x y : CellAt) → ReadsThrough files x y → ⊥
     reads_none x y is = by_chain (files x) refl is
       where
@@ -180,9 +184,10 @@ module _ (space : Spaces) (cells : Cells) (pages : Pages) (a b : CellAt) (chain 
             (λ it. subst (λ o. IsSomeAnd o (λ (s : Source). s.at ≡ y)) (ap source_of it.1 ∙ second_alone) said)
             (one_of x cs is_x)
 
-    lone_entry : (at : CellAt) (goes : Goes) → IsSome (files at) → IsEntry files (record { at = at; clone = None; goes = goes })
-    lone_entry at goes there = record {
+    lone_entry : (at : CellAt) → IsSome (files at) → SaysWhatGoes files at → IsEntry files (record { at = at; clone = None })
+    lone_entry at there says = record {
       there = there;
+      says = says;
       given = λ c is. absurd (none_some c is);
       all = λ c is. absurd (reads_none c at is);
     }
@@ -204,12 +209,12 @@ module _ (space : Spaces) (cells : Cells) (pages : Pages) (a b : CellAt) (chain 
           (λ it. not_held space home.vol home.page can (two.reader.held p home it.1).held)
           (page_of x p home is)
 
-      pub all_listed : (goes_a goes_b : Goes) (none one both all : Listing) → none.entries ≡ [] → none.tag_pages ≡ [] → Adds a None goes_a none.entries one.entries → one.tag_pages ≡ none.tag_pages → Adds b None goes_b one.entries both.entries → both.tag_pages ≡ one.tag_pages
+      pub all_listed : (none one both all : Listing) → none.entries ≡ [] → none.tag_pages ≡ [] → Adds a None none.entries one.entries → one.tag_pages ≡ none.tag_pages → Adds b None one.entries both.entries → both.tag_pages ≡ one.tag_pages
           → all.tag_pages ≡ both.tag_pages ++ home ∷ [] → all.entries ≡ both.entries → (space_now : Spaces) → space_now ≡ taken → (fs : Files) × IsWell (now_of all fs space_now cells pages)
-      all_listed goes_a goes_b none one both all no_entry no_page adds_a same_a adds_b same_b adds same space_now is =
+      all_listed none one both all no_entry no_page adds_a same_a adds_b same_b adds same space_now is =
           let empty : IsWell (now_of none files taken cells pages) = subst (λ (l : Listing). IsWell (now_of l files taken cells pages)) (λ i. listing (sym no_entry i) (sym no_page i)) well_with in
-          let first = entry_listed (now_of none files taken cells pages) a None goes_a one empty (lone_entry a goes_a (ap is_some at_a)) adds_a same_a in
-          let second = entry_listed (now_of one files taken cells pages) b None goes_b both (record { together = first.together; listed = first.listed }) (lone_entry b goes_b (ap is_some at_b)) adds_b same_b in
+          let first = entry_listed (now_of none files taken cells pages) a None one empty (lone_entry a (ap is_some at_a) (says_at a chain at_a first_says)) adds_a same_a in
+          let second = entry_listed (now_of one files taken cells pages) b None both (record { together = first.together; listed = first.listed }) (lone_entry b (ap is_some at_b) (says_at b own at_b second_says)) adds_b same_b in
           let no_pages : both.tag_pages ≡ [] = same_b ∙ same_a ∙ no_page in
           let last = page_listed (now_of both files taken cells pages) home all (record { together = second.together; listed = second.listed })
           (record {
@@ -290,8 +295,12 @@ module _ (space : Spaces) (cells : Cells) (old new : Pages) (a b : CellAt) (chai
     kinds = kinds_replaced (kind_of value) (Some value) first.cell.records two.kinds (ap is_first_kind is.of_kind);
   }
 
-  pub now_pair : source_of chain ≡ None → (fs : Files) × IsPair space cells new a b (listing [] []) fs
-  now_pair alone = (_, pair_is space cells new a b chain own now frozen alone reads)
+  -- what is left to be done is said as before
+  own_says : IsSome (first_record 6 (first ∷ rest)) → IsSome (first_record 6 own)
+  own_says says = ap is_some (find_other (kind_of value) 6 (Some value) first.cell.records (λ same. omega (arith, same, is.of_kind)) refl) ∙ says
+
+  pub now_pair : source_of chain ≡ None → IsSome (first_record 6 chain) → IsSome (first_record 6 (first ∷ rest)) → (fs : Files) × IsPair space cells new a b (listing [] []) fs
+  now_pair alone says reader_says = (_, pair_is space cells new a b chain own now frozen alone says (own_says reader_says) reads)
 
 -- room for the record
 pub pair_room : (space : Spaces) (cells : Cells) (pages : Pages) (a b : CellAt) (chain own : List PlacedCell) → AreTwo space cells pages a b chain own → (frozen : ℕ) (value : Record) → IsCloneOf a frozen value → HasRoom pages b (kind_of value) (Some value)
@@ -300,18 +309,18 @@ pair_room space cells pages a b chain (first ∷ rest) two frozen value is =
     first_room pages b first.cell value (subst (λ (q : CellAt). StandsAt pages q first.cell) two.reader.file.0 two.reader.file.1.links.stands) two.kinds (ap is_first_kind is.of_kind) is.allowed
 
 pub pair_well : (space : Spaces) (cells : Cells) (old new : Pages) (a b : CellAt) (chain own : List PlacedCell) → AreTwo space cells old a b chain own → (frozen : ℕ) (value : Record) → IsCloneOf a frozen value
-    → ((cell : Cell) → StandsAt old b cell → StandsAt new b (with_record (kind_of value) (Some value) cell)) → LeavesOthers (is_at b) old new → KeepsWellFormed old new → KeepsHeaders old new → source_of chain ≡ None
+    → ((cell : Cell) → StandsAt old b cell → StandsAt new b (with_record (kind_of value) (Some value) cell)) → LeavesOthers (is_at b) old new → KeepsWellFormed old new → KeepsHeaders old new → source_of chain ≡ None → IsSome (first_record 6 chain) → IsSome (first_record 6 own)
     → (list : Listing) → list.entries ≡ [] → list.tag_pages ≡ [] → (fs : Files) × IsPair space cells new a b list fs
-pair_well space cells old new a b chain [] two frozen value is stands leaves good headers alone list no_entry no_page = absurd two.reader.file
-pair_well space cells old new a b chain (first ∷ rest) two frozen value is stands leaves good headers alone list no_entry no_page =
+pair_well space cells old new a b chain [] two frozen value is stands leaves good headers alone says own_says list no_entry no_page = absurd two.reader.file
+pair_well space cells old new a b chain (first ∷ rest) two frozen value is stands leaves good headers alone says own_says list no_entry no_page =
     let here = stands first.cell (subst (λ (q : CellAt). StandsAt old q first.cell) two.reader.file.0 two.reader.file.1.links.stands) in
-    let pair = now_pair space cells old new a b chain first rest two frozen value is here leaves good headers alone in
+    let pair = now_pair space cells old new a b chain first rest two frozen value is here leaves good headers alone says own_says in
     (pair.0, subst (λ (l : Listing). IsPair space cells new a b l pair.0) (λ i. listing (sym no_entry i) (sym no_page i)) pair.1)
 
 -- ---- one of the two, or both, on the list
 
-pub pair_listed : (space : Spaces) (cells : Cells) (pages : Pages) (a b at : CellAt) (clone : Option CellAt) (goes : Goes) (before list : Listing) (files : Files) → IsPair space cells pages a b before files → IsEntry files (record { at = at; clone = clone; goes = goes })
-    → Adds at clone goes before.entries list.entries → list.tag_pages ≡ before.tag_pages → IsPair space cells pages a b list files
-pair_listed space cells pages a b at clone goes before list files pair entry adds same =
-    let well = entry_listed (now_of before files space cells pages) at clone goes list pair.well entry adds same in
+pub pair_listed : (space : Spaces) (cells : Cells) (pages : Pages) (a b at : CellAt) (clone : Option CellAt) (before list : Listing) (files : Files) → IsPair space cells pages a b before files → IsEntry files (record { at = at; clone = clone })
+    → Adds at clone before.entries list.entries → list.tag_pages ≡ before.tag_pages → IsPair space cells pages a b list files
+pair_listed space cells pages a b at clone before list files pair entry adds same =
+    let well = entry_listed (now_of before files space cells pages) at clone list pair.well entry adds same in
     record { well = record { together = well.together; listed = well.listed }; first = pair.first; second = pair.second }

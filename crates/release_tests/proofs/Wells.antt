@@ -1,5 +1,5 @@
 -- Lists of one file, or of a page of a tag directory, that belong together with all else.
-use Rattle.std.proofs.Common.{◌≡◌, ◌∙◌, inl, ℕ, ◌≤◌, zero, suc, List, [], ◌∷◌, ◌++◌, Some, None, Result, Ok, Err, IfOk, IfErr, OnErr, is_some, IsSomeAnd, Contains, get_or, slice_set, arith, refl, sym, ap, subst, ⊎_elim}
+use Rattle.std.proofs.Common.{◌≡◌, ◌∙◌, inl, ℕ, ◌≤◌, zero, suc, List, [], ◌∷◌, ◌++◌, Some, None, Result, Ok, Err, IfOk, IfErr, OnErr, is_some, IsSome, IsSomeAnd, Contains, get_or, arith, refl, sym, ap, subst, ⊎_elim}
 use Rattle.std.specs.Option.{option_and_then, option_map_or}
 use Rattle.domain_base.specs.declared.place.CellAt.{CellAt}
 use Rattle.domain_base.specs.declared.place.Home.{Home}
@@ -15,7 +15,7 @@ use Rattle.bitfile_cells.specs.Files.{places_of}
 use Rattle.bitfile_core.specs.Together.{IsHeldApart}
 use Rattle.chain_release.proofs.Once.{absent_not}
 use Rattle.deferred_delete.specs.declared.list.Entry.{Entry}
-use Rattle.deferred_delete.specs.declared.list.Goes.{Goes}
+use Rattle.bitfile_core.specs.Files.{first_record}
 use Rattle.deferred_delete.specs.Listed.{IsEntry, IsListed}
 use Rattle.deferred_delete.specs.Listing.{Adds, AreInOrder, Listing}
 use Rattle.deferred_delete.specs.Standing.{Files, IsStanding, ReadsThrough, Source, StandTogether, place_in, source_at, source_of, with_file}
@@ -53,7 +53,7 @@ one_order entry none (suc i) j d less_i less_j same = absurd (omega (arith, less
 abbrev pub no_files : Files
 no_files = λ a. None
 
-module _ (space : Spaces) (cells : Cells) (pages : Pages) (at : CellAt) (chain : List PlacedCell) (going : IsGoing space cells pages at chain) (alone : source_of chain ≡ None) where
+module _ (space : Spaces) (cells : Cells) (pages : Pages) (at : CellAt) (chain : List PlacedCell) (going : IsGoing space cells pages at chain) (alone : source_of chain ≡ None) (says : IsSome (first_record 6 chain)) where
   abbrev files : Files
   files = with_file at (Some chain) no_files
 
@@ -99,59 +99,44 @@ module _ (space : Spaces) (cells : Cells) (pages : Pages) (at : CellAt) (chain :
     one_deep = λ a b c reads. absurd (reads_none a b reads);
   }
 
-  abbrev entry : Goes → Entry
-  entry goes = record { at = at; clone = None; goes = goes }
+  abbrev entry : Entry
+  entry = record { at = at; clone = None }
 
-  is_entry : (goes : Goes) → IsEntry files (entry goes)
-  is_entry goes = record {
+  is_entry : IsEntry files entry
+  is_entry = record {
     there = ap is_some there;
+    says = inl (ap (λ o. is_some (option_and_then (first_record 6) o)) there ∙ says);
     given = λ clone is. absurd (none_some clone is);
     all = λ clone reads. absurd (reads_none clone at reads);
   }
 
-  is_listed : (goes : Goes) → IsListed space cells files (listing (entry goes ∷ []) [])
-  is_listed goes = record {
-    each = λ e inside. subst (IsEntry files) (sym (in_one (entry goes) e inside)) (is_entry goes);
+  is_listed : IsListed space cells files (listing (entry ∷ []) [])
+  is_listed = record {
+    each = λ e inside. subst (IsEntry files) (sym (in_one entry e inside)) is_entry;
     once = λ i j d less_i less_j same. omega (arith, less_i, less_j);
-    order = one_order (entry goes) refl;
+    order = one_order entry refl;
     pages_once = tt;
     pages_low = λ home inside. absurd (in_none home inside);
     pages_held = λ home inside. absurd (in_none home inside);
     pages_apart = λ home inside. absurd (in_none home inside);
   }
 
-  added : (goes : Goes) (entries : List Entry) → Adds at None goes [] entries → entries ≡ entry goes ∷ []
-  added goes entries adds = adds.orders ∙ ⊎_elim (λ sets. absurd (let within = sets.within in omega (arith, within))) (λ is. is.is) adds.puts
+  added : (entries : List Entry) → Adds at None [] entries → entries ≡ entry ∷ []
+  added entries adds = adds.orders ∙ ⊎_elim (λ sets. absurd (let within = sets.within in omega (arith, within))) (λ is. is.is) adds.puts
 
-  -- the same where it was listed before
-  added_again : (was goes : Goes) (entries : List Entry) → Adds at None goes (entry was ∷ []) entries → entries ≡ entry goes ∷ []
-  added_again was goes entries adds = adds.orders ∙ ⊎_elim
-      (λ sets.
-      let first : adds.place ≡ 0 = omega (arith, sets.within) in
-      sets.is ∙ ap (λ n. slice_set (entry was ∷ []) n (entry goes)) first)
-      (λ more. absurd (more.none (entry was) (0, omega arith, refl) refl))
-      adds.puts
-
-  listed_well : (goes : Goes) (entries : List Entry) (tag_pages : List Home) → entries ≡ entry goes ∷ [] → tag_pages ≡ [] → IsWell (now_of (listing entries tag_pages) files space cells pages)
-  listed_well goes entries tag_pages is none = record {
+  listed_well : (entries : List Entry) (tag_pages : List Home) → entries ≡ entry ∷ [] → tag_pages ≡ [] → IsWell (now_of (listing entries tag_pages) files space cells pages)
+  listed_well entries tag_pages is none = record {
     together = together;
     listed = subst (λ (es : List Entry). IsListed space cells files (listing es tag_pages)) (sym is)
-        (subst (λ (hs : List Home). IsListed space cells files (listing (entry goes ∷ []) hs)) (sym none) (is_listed goes));
+        (subst (λ (hs : List Home). IsListed space cells files (listing (entry ∷ []) hs)) (sym none) is_listed);
   }
 
-  pub again_well : (was goes : Goes) (old between new : Listing) → old.entries ≡ [] → old.tag_pages ≡ [] → Adds at None was old.entries between.entries → between.tag_pages ≡ old.tag_pages → Adds at None goes between.entries new.entries → new.tag_pages ≡ between.tag_pages
-      → (fs : Files) × IsWell (now_of new fs space cells pages)
-  again_well was goes old between new no_entry no_page adds same adds_again same_again =
-      let first = added was between.entries (subst (λ (es : List Entry). Adds at None was es between.entries) no_entry adds) in
-      let second = added_again was goes new.entries (subst (λ (es : List Entry). Adds at None goes es new.entries) first adds_again) in
-      (_, listed_well goes new.entries new.tag_pages second (same_again ∙ same ∙ no_page))
+  pub one_is_well : (old new : Listing) → old.entries ≡ [] → old.tag_pages ≡ [] → Adds at None old.entries new.entries → new.tag_pages ≡ old.tag_pages → IsWell (now_of new (with_file at (Some chain) no_files) space cells pages)
+  one_is_well old new no_entry no_page adds same =
+      listed_well new.entries new.tag_pages (added new.entries (subst (λ (es : List Entry). Adds at None es new.entries) no_entry adds)) (same ∙ no_page)
 
-  pub one_is_well : (goes : Goes) (old new : Listing) → old.entries ≡ [] → old.tag_pages ≡ [] → Adds at None goes old.entries new.entries → new.tag_pages ≡ old.tag_pages → IsWell (now_of new (with_file at (Some chain) no_files) space cells pages)
-  one_is_well goes old new no_entry no_page adds same =
-      listed_well goes new.entries new.tag_pages (added goes new.entries (subst (λ (es : List Entry). Adds at None goes es new.entries) no_entry adds)) (same ∙ no_page)
-
-  pub one_well : (goes : Goes) (old new : Listing) → old.entries ≡ [] → old.tag_pages ≡ [] → Adds at None goes old.entries new.entries → new.tag_pages ≡ old.tag_pages → (fs : Files) × IsWell (now_of new fs space cells pages)
-  one_well goes old new no_entry no_page adds same = (_, one_is_well goes old new no_entry no_page adds same)
+  pub one_well : (old new : Listing) → old.entries ≡ [] → old.tag_pages ≡ [] → Adds at None old.entries new.entries → new.tag_pages ≡ old.tag_pages → (fs : Files) × IsWell (now_of new fs space cells pages)
+  one_well old new no_entry no_page adds same = (_, one_is_well old new no_entry no_page adds same)
 
 -- ---- no file
 

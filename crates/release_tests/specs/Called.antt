@@ -12,7 +12,6 @@ use Rattle.tag_dirs.specs.declared.dir.TagPlace.{TagPlace}
 use Rattle.free_cells.specs.Cells.{Cells, table_of}
 use Rattle.free_space.specs.Spaces.{Spaces}
 use Rattle.bitfile_core.specs.Files.{Chains}
-use Rattle.deferred_delete.specs.declared.list.Goes.TheVariants.{AsSaid}
 use Rattle.deferred_delete.specs.Listing.{Adds, Listing}
 use Rattle.deferred_delete.specs.Standing.{Files, source_at}
 use Rattle.deferred_delete.specs.Steps.{IsWell, Steps, now_of}
@@ -80,7 +79,7 @@ pub record HasLetGo (fileset : ℕ) (version : Version) (tag : Tag) (first : Fil
   pub at : CellAt
   pub begins : option_and_then start_of (cut.chains tag) ≡ Some at
   pub listed : Listing
-  pub adds : Adds at None AsSaid cut.domain.list.entries listed.entries
+  pub adds : Adds at None cut.domain.list.entries listed.entries
   pub well : IsWell (with_list listed cut.domain)
   pub among : AreAmong (with_list listed cut.domain) cut.places cut.chains
   pub gone : FilesetNow

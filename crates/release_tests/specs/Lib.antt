@@ -1,3 +1,5 @@
+pub mod Beside
 pub mod Called
 pub mod Going
 pub mod Pairs
+pub mod Stood

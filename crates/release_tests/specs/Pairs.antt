@@ -12,7 +12,6 @@ use Rattle.free_cells.specs.Cells.{Cells}
 use Rattle.free_space.specs.Spaces.{Spaces}
 use Rattle.bitfile_cells.specs.Files.{places_of}
 use Rattle.bitfile_core.specs.Files.{AreApart, HasFirstKinds}
-use Rattle.deferred_delete.specs.declared.list.Goes.{Goes}
 use Rattle.deferred_delete.specs.Listed.{IsEntry}
 use Rattle.deferred_delete.specs.Listing.{Listing}
 use Rattle.deferred_delete.specs.Standing.{Files, source_in}
@@ -46,8 +45,8 @@ pub record IsCloneOf (at : CellAt) (frozen : ℕ) (value : Record) : Type 0 wher
 pub record IsPair (space : Spaces) (cells : Cells) (pages : Pages) (at clone : CellAt)
     (list : Listing) (files : Files) : Type 0 where
   pub well : IsWell (now_of list files space cells pages)
-  pub first : (goes : Goes) → IsEntry files (record { at = at; clone = Some clone; goes = goes })
-  pub second : (goes : Goes) → IsEntry files (record { at = clone; clone = None; goes = goes })
+  pub first : IsEntry files (record { at = at; clone = Some clone })
+  pub second : IsEntry files (record { at = clone; clone = None })
 
 abbrev pub HasPair : World → Pair → Listing → Type 0
 HasPair world pair list = (files : Files) × IsPair world.space world.cells

@@ -8,15 +8,14 @@ ghost use Rattle.bitfile_core.specs.Files.{Chains};
 ghost use Rattle.deferred_delete.specs.Listed.{left_of};
 ghost use Rattle.deferred_delete.specs.Standing.{Files};
 ghost use Rattle.deferred_laws.specs.Calls.{FilesetNow, StandsWell};
-ghost use Rattle.release_tests.specs.Going.{HasGoing};
 ghost use Rattle.release_tests.specs.Called.{HasLetGo, HasNoClone, IsCut, IsWrittenAgain, fileset_in, parts_of};
 
 use crate::clones::{Row, rows};
-use crate::going::{counts, listed, release_all};
+use crate::going::counts;
 use crate::making::{cut, give_pages, make};
 use crate::seen::kept;
 use bmt_mcells::find_record;
-use deferred_delete::{Deferred, Goes};
+use deferred_delete::Deferred;
 use domain_base::{CellAt, Kind, Tag, Version};
 use file_tests::world::{World, new_world};
 use record_table::{Leftover, Record};
@@ -24,7 +23,7 @@ use std::alloc::Global;
 use std::test::Fail;
 
 /// Whether pages of a file are to be let go of behind those that it keeps.
-fn is_trimmed(world: &World, at: &CellAt) -> bool
+pub fn is_trimmed(world: &World, at: &CellAt) -> bool
     ensures { (chain : List PlacedCell) → IsFile (pages_of world.now.pages.entries.items) at.now
         chain → IsTrue result → left_of chain ≡ Some Trim }
 {
@@ -50,12 +49,11 @@ fn let_go(
         → IsCut world.old.files.fileset version tag at.now first (parts_of world.old list.old)
         → IfOk result (λ _. HasLetGo world.new.files.fileset version tag first
         (parts_of world.new list.new)) }
-    ensures going { IfOk result (λ _. HasGoing world.new at.now) }
 {
     if !is_trimmed(world, at) {
         return Err(Fail::from("a file that was cut"));
     }
-    list.add(*at, None, Goes::AsSaid)?;
+    list.add(*at, None)?;
     Ok(list.release_some(
         alloc,
         &mut world.pages,
@@ -102,26 +100,4 @@ pub fn rewritten(alloc: Global) -> Result<(u32, [Row; 4], (u32, bool), [u32; 2])
     let mut list = Deferred::new(alloc);
     let (_, at, steps) = write_again(alloc, &mut world, &mut list, Version::Four)?;
     Ok((steps, rows(&world, &at), kept(&world, &at), counts(&world)))
-}
-
-/// What is seen of a file of the pages 0 to 5 that is cut to two, trimmed to the end, and then goes
-/// since its fileset is removed, as its first cell says or by the entry: what it keeps and whether
-/// something is left to be done, once it is trimmed and once it is gone; and the free and waiting
-/// pages then, and once the group is durable.
-pub fn gone_unsaid(alloc: Global, goes: Goes) -> Result<([(u32, bool); 2], [[u32; 2]; 3]), Fail> {
-    let mut world = new_world(alloc, 64)?;
-    let mut list = Deferred::new(alloc);
-    let tag = make(alloc, &mut world, Kind::File, Version::Four)?;
-    give_pages(alloc, &mut world, tag, &[0, 1, 2, 3, 4, 5], Version::Four)?;
-    let at = cut(alloc, &mut world, tag, 16_384)?.ok_or("a trim")?;
-    let_go(alloc, &mut world, &mut list, tag, &at, Version::Four)?;
-    let trimmed = (kept(&world, &at), counts(&world));
-    let mut last = listed(alloc, &world, &at, goes)?;
-    release_all(alloc, &mut world, &mut last, Version::Four)?;
-    if !list.is_empty() || !last.is_empty() {
-        return Err(Fail::from("two empty lists"));
-    }
-    let gone = (kept(&world, &at), counts(&world));
-    world.space.made_durable(5);
-    Ok(([trimmed.0, gone.0], [trimmed.1, gone.1, counts(&world)]))
 }

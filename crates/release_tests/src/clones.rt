@@ -1,14 +1,14 @@
 //! Files that a clone's file reads through, let go of.
-ghost use Rattle.std.specs.Prelude.{IfOk, IfSome};
+ghost use Rattle.std.specs.Prelude.{◌≤◌, IfOk, IfSome};
 ghost use Rattle.file_tests.specs.Worlds.{IsWorld};
 ghost use Rattle.release_tests.specs.Going.{HasWell};
 ghost use Rattle.release_tests.specs.Pairs.{HasPair, HasTwo, IsCloneOf};
 
-use crate::going::{counts, is_of_clone, may_go, release, release_all};
-use crate::making::{first_pages, give_pages, make};
+use crate::going::{counts, may_go, release, release_all};
+use crate::making::{first_pages, give_pages, make, second_pages};
 use bitfile_cells::set_record;
 use bmt_mcells::find_record;
-use deferred_delete::{Deferred, Entry, Goes};
+use deferred_delete::{Deferred, Entry};
 use domain_base::{CellAt, Kind, Tag, Version};
 use file_tests::world::{World, new_world, volume};
 use page_store::StoreFault;
@@ -102,8 +102,8 @@ fn unlisted_pair(
     requires { HasTwo world.old pair.now }
     ensures { IfOk result (HasPair world.new pair.now) }
 {
-    if is_of_clone(world, &pair.clone) || !may_go(world, &pair.at) {
-        return Err(Fail::from("a file that goes, and two that are of no clone"));
+    if !may_go(world, &pair.clone) || !may_go(world, &pair.at) {
+        return Err(Fail::from("two files that go and are of no clone"));
     }
     let record = clone_record(pair.at, frozen).ok_or("a cell")?;
     set_record(alloc, &mut world.pages, pair.clone, &record)?;
@@ -125,7 +125,7 @@ fn list_second(world: &World, list: &mut Deferred, pair: &Pair, is_listed: bool)
     ensures { IfOk result (λ _. HasPair world.now pair.now list.new) }
 {
     if is_listed {
-        list.add(pair.clone, None, Goes::AsSaid)?;
+        list.add(pair.clone, None)?;
     }
     Ok(())
 }
@@ -135,7 +135,7 @@ fn list_first(world: &World, list: &mut Deferred, pair: &Pair) -> Result<(), Fai
     requires { HasPair world.now pair.now list.old }
     ensures { IfOk result (λ _. HasPair world.now pair.now list.new) }
 {
-    list.add(pair.at, Some(pair.clone), Goes::AsSaid)?;
+    list.add(pair.at, Some(pair.clone))?;
     Ok(())
 }
 
@@ -158,21 +158,21 @@ fn listed_pair(
     Ok(list)
 }
 
-/// A list of two files of which neither reads through the other, the second of which goes by its
-/// entry, and of a page of a tag directory, which is taken for it.
+/// A list of two files of which neither reads through the other, and of a page of a tag directory,
+/// which is taken for it.
 fn listed_unrelated(alloc: Global, world: &mut World, pair: &Pair) -> Result<Deferred, Fail>
     requires { HasTwo world.old pair.now }
     ensures { IfOk result (HasWell world.new) }
 {
-    if is_of_clone(world, &pair.at) || is_of_clone(world, &pair.clone) {
-        return Err(Fail::from("two files that are of no clone"));
+    if !may_go(world, &pair.at) || !may_go(world, &pair.clone) {
+        return Err(Fail::from("two files that go and are of no clone"));
     }
     let Some(home) = world.space.allocate(volume()) else {
         return Err(Fail::from("a free page"));
     };
     let mut list = Deferred::new(alloc);
-    list.add(pair.at, None, Goes::AsSaid)?;
-    list.add(pair.clone, None, Goes::Whole)?;
+    list.add(pair.at, None)?;
+    list.add(pair.clone, None)?;
     list.add_tag_page(home)?;
     Ok(list)
 }
@@ -321,6 +321,30 @@ fn two_files(alloc: Global, scene: &Scene, own: &[u32]) -> Result<(World, Pair),
     Ok((world, pair))
 }
 
+/// A file of so many extents that is on a list, beside a clone's file of so many of its own, which
+/// reads those of its pages through it that were frozen.
+pub fn listed_beside(
+    alloc: Global,
+    extents: u32,
+    own: u32,
+    frozen: u32,
+) -> Result<(World, Deferred), Fail>
+    requires extents { extents ≤ 1000 }
+    requires own { own ≤ 1000 }
+    ensures { IfOk result (λ made. HasWell made.0 made.1) }
+{
+    let mut world = new_world(alloc, 4_096)?;
+    let file = make(alloc, &mut world, Kind::File, Version::Four)?;
+    let pages = second_pages(alloc, extents)?;
+    give_pages(alloc, &mut world, file, pages.as_slice(), Version::Four)?;
+    let clone = make(alloc, &mut world, Kind::File, Version::Four)?;
+    let pages = second_pages(alloc, own)?;
+    give_pages(alloc, &mut world, clone, pages.as_slice(), Version::Four)?;
+    let pair = remove_two(alloc, &mut world, file, clone)?;
+    let list = listed_pair(alloc, &mut world, &pair, frozen, Listed::First)?;
+    Ok((world, list))
+}
+
 /// The two files, of which the first was cut and the name of the second was taken.
 fn cut_files(alloc: Global, scene: &Scene, own: &[u32], size: u64) -> Result<(World, Pair), Fail>
     ensures { IfOk result (λ made. HasTwo made.0 made.1) }
@@ -451,7 +475,6 @@ pub fn stopped(alloc: Global) -> Result<Stopped, Fail> {
         == Some(Entry {
             at: pair.at,
             clone: Some(pair.clone),
-            goes: Goes::AsSaid,
         });
     let refused = match release(alloc, &mut world, &mut list, Version::Four) {
         Err(StoreFault::NoPage) => true,

@@ -3,10 +3,11 @@ ghost use Rattle.std.specs.Prelude.{◌≤◌, IfOk};
 ghost use Rattle.file_tests.specs.Worlds.{IsWorld};
 ghost use Rattle.release_tests.specs.Going.{HasWell, HasWellBy};
 
+use crate::clones::listed_beside;
 use crate::going::{listed, release_by};
 use crate::looks::Counted;
 use crate::making::{cut, give_pages, make, remove, second_pages, second_pages_down};
-use deferred_delete::{Deferred, Goes};
+use deferred_delete::Deferred;
 use domain_base::{Kind, Tag, Version};
 use file_tests::world::{World, new_world};
 use free_cells::FreeCells;
@@ -15,7 +16,7 @@ use page_store::{MetaPages, StoreFault};
 use std::alloc::Global;
 use std::test::Fail;
 
-/// Lets go of all on a list in ten calls: how many steps were done.
+/// Lets go of all on a list in at most forty calls: how many steps were done.
 fn release_counted(
     alloc: Global,
     pages: &mut Counted,
@@ -26,7 +27,7 @@ fn release_counted(
     requires { HasWellBy (⟦<Counted as MetaPages>⟧.pages pages.old) space.old cells.old list.old }
 {
     let mut steps = 0;
-    for _ in 0..10_u32 {
+    for _ in 0..40_u32 {
         match release_by(alloc, pages, space, cells, list, Version::Four) {
             Ok(count) => steps += count,
             Err(fault) => return Err(fault),
@@ -41,6 +42,32 @@ pub struct Cost {
     pub steps: u32,
     pub looks: u32,
     pub changes: u32,
+}
+
+/// Whether one number is at most another and a few more.
+fn is_at_most(one: u32, other: u32) -> bool {
+    u64::from(one) <= u64::from(other) + 64
+}
+
+/// Whether one number is at most twice another and a few more.
+fn is_at_most_twice(one: u32, other: u32) -> bool {
+    u64::from(one) <= 2 * u64::from(other) + 64
+}
+
+impl Cost {
+    /// Whether this is at most the cost of another, and a few steps, looks and changes more.
+    pub fn is_at_most(&self, other: &Cost) -> bool {
+        is_at_most(self.steps, other.steps)
+            && is_at_most(self.looks, other.looks)
+            && is_at_most(self.changes, other.changes)
+    }
+
+    /// Whether this is at most twice the cost of another, and a few steps, looks and changes more.
+    pub fn is_at_most_twice(&self, other: &Cost) -> bool {
+        is_at_most_twice(self.steps, other.steps)
+            && is_at_most_twice(self.looks, other.looks)
+            && is_at_most_twice(self.changes, other.changes)
+    }
 }
 
 /// What letting go of a listed file takes.
@@ -83,7 +110,7 @@ pub fn removed(alloc: Global, extents: u32) -> Result<Cost, Fail>
     let pages = second_pages(alloc, extents)?;
     let (mut world, tag) = many(alloc, pages.as_slice())?;
     let at = remove(alloc, &mut world, tag)?;
-    let list = listed(alloc, &world, &at, Goes::AsSaid)?;
+    let list = listed(alloc, &world, &at)?;
     cost_of(alloc, world, list)
 }
 
@@ -92,7 +119,7 @@ pub fn removed(alloc: Global, extents: u32) -> Result<Cost, Fail>
 fn trimmed(alloc: Global, pages: &[u32], left: u32) -> Result<Cost, Fail> {
     let (mut world, tag) = many(alloc, pages)?;
     let at = cut(alloc, &mut world, tag, 8_192 * u64::from(left))?.ok_or("a trim")?;
-    let list = listed(alloc, &world, &at, Goes::AsSaid)?;
+    let list = listed(alloc, &world, &at)?;
     cost_of(alloc, world, list)
 }
 
@@ -110,4 +137,14 @@ pub fn trimmed_down(alloc: Global, extents: u32, left: u32) -> Result<Cost, Fail
 {
     let pages = second_pages_down(alloc, extents)?;
     trimmed(alloc, pages.as_slice(), left)
+}
+
+/// What it takes to let go of a removed file of so many extents beside a clone's file with so many
+/// of its own, which reads those of its pages through it that were frozen.
+pub fn removed_beside(alloc: Global, extents: u32, own: u32, frozen: u32) -> Result<Cost, Fail>
+    requires extents { extents ≤ 1000 }
+    requires own { own ≤ 1000 }
+{
+    let (world, list) = listed_beside(alloc, extents, own, frozen)?;
+    cost_of(alloc, world, list)
 }

@@ -1,14 +1,15 @@
 //! Lists of files and pages that are let go of.
-ghost use Rattle.std.specs.Prelude.{◌≡◌, ◌≤◌, IfOk, IsTrue, List, None};
+ghost use Rattle.std.specs.Prelude.{◌≡◌, ◌≤◌, IfOk, IsSome, IsTrue, List, None};
 ghost use Rattle.memory_store.specs.Homes.{pages_of};
 ghost use Rattle.bmt_mcells.specs.Chain.{PlacedCell};
 ghost use Rattle.bitfile_cells.specs.Files.{IsFile};
+ghost use Rattle.bitfile_core.specs.Files.{first_record};
 ghost use Rattle.deferred_delete.specs.Standing.{source_of};
 ghost use Rattle.file_tests.specs.Worlds.{IsWorld};
 ghost use Rattle.release_tests.specs.Going.{HasGoing, HasWell, HasWellBy};
 
 use bmt_mcells::find_record;
-use deferred_delete::{Deferred, Goes};
+use deferred_delete::Deferred;
 use domain_base::{CellAt, Version};
 use file_tests::world::{World, volume};
 use free_cells::FreeCells;
@@ -19,7 +20,10 @@ use std::alloc::Global;
 use std::test::Fail;
 
 /// Whether a file's first cell says that something is left to be done.
-fn is_pending(world: &World, at: &CellAt) -> bool {
+fn is_pending(world: &World, at: &CellAt) -> bool
+    ensures { (chain : List PlacedCell) → IsFile (pages_of world.now.pages.entries.items) at.now
+        chain → IsTrue result → IsSome (first_record 6 chain) }
+{
     match find_record(&world.pages, *at, 6) {
         Some(Record::Pending { .. }) => true,
         _ => false,
@@ -27,7 +31,7 @@ fn is_pending(world: &World, at: &CellAt) -> bool {
 }
 
 /// Whether a file is that of a clone.
-pub fn is_of_clone(world: &World, at: &CellAt) -> bool
+fn is_of_clone(world: &World, at: &CellAt) -> bool
     ensures { (chain : List PlacedCell) → IsFile (pages_of world.now.pages.entries.items) at.now
         chain → ¬ IsTrue result → source_of chain ≡ None }
 {
@@ -36,8 +40,12 @@ pub fn is_of_clone(world: &World, at: &CellAt) -> bool
 
 /// Whether something is left to be done with a file, and it is of no clone.
 pub fn may_go(world: &World, at: &CellAt) -> bool
-    ensures { (chain : List PlacedCell) → IsFile (pages_of world.now.pages.entries.items) at.now
-        chain → IsTrue result → source_of chain ≡ None }
+    ensures alone { (chain : List PlacedCell)
+        → IsFile (pages_of world.now.pages.entries.items) at.now chain → IsTrue result
+        → source_of chain ≡ None }
+    ensures says { (chain : List PlacedCell)
+        → IsFile (pages_of world.now.pages.entries.items) at.now chain → IsTrue result
+        → IsSome (first_record 6 chain) }
 {
     if is_of_clone(world, at) {
         return false;
@@ -45,47 +53,17 @@ pub fn may_go(world: &World, at: &CellAt) -> bool
     is_pending(world, at)
 }
 
-/// A list of this file alone, of which so much goes.
-pub fn listed(alloc: Global, world: &World, at: &CellAt, goes: Goes) -> Result<Deferred, Fail>
+/// A list of this file alone.
+pub fn listed(alloc: Global, world: &World, at: &CellAt) -> Result<Deferred, Fail>
     requires { HasGoing world.now at.now }
     ensures { IfOk result (HasWell world.now) }
 {
-    if is_of_clone(world, at) {
-        return Err(Fail::from("a file of no clone"));
+    if !may_go(world, at) {
+        return Err(Fail::from("a file that goes, of no clone"));
     }
     let mut list = Deferred::new(alloc);
-    list.add(*at, None, goes)?;
+    list.add(*at, None)?;
     Ok(list)
-}
-
-/// The same of a file that was listed to be trimmed, and is listed again.
-fn listed_again(alloc: Global, world: &World, at: &CellAt, goes: Goes) -> Result<Deferred, Fail>
-    requires { HasGoing world.now at.now }
-    ensures { IfOk result (HasWell world.now) }
-{
-    if is_of_clone(world, at) {
-        return Err(Fail::from("a file of no clone"));
-    }
-    let mut list = Deferred::new(alloc);
-    list.add(*at, None, Goes::AsSaid)?;
-    list.add(*at, None, goes)?;
-    Ok(list)
-}
-
-/// A list of this file alone, all of which goes: it is listed once, or was listed to be trimmed.
-pub fn listed_whole(
-    alloc: Global,
-    world: &World,
-    at: &CellAt,
-    is_again: bool,
-) -> Result<Deferred, Fail>
-    requires { HasGoing world.now at.now }
-    ensures { IfOk result (HasWell world.now) }
-{
-    if is_again {
-        return listed_again(alloc, world, at, Goes::Whole);
-    }
-    listed(alloc, world, at, Goes::Whole)
 }
 
 /// A list of a page of a tag directory, which is taken for it.

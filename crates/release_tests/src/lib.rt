@@ -2,11 +2,13 @@
 #![tactic(auto)]
 
 pub mod again;
+pub mod beside;
 pub mod clones;
 pub mod cost;
 pub mod going;
 pub mod looks;
 pub mod making;
+pub mod removing;
 pub mod seen;
 #[cfg(test)]
 mod steps;

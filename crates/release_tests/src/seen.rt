@@ -1,10 +1,9 @@
 //! What is seen of files and pages that are let go of.
 ghost use Rattle.std.specs.Prelude.{◌≤◌};
 
-use crate::going::{counts, listed, listed_page, listed_whole, release_all};
+use crate::going::{counts, listed, listed_page, release_all};
 use crate::making::{cut, give_pages, make, remove, second_pages};
 use bmt_mcells::find_record;
-use deferred_delete::Goes;
 use domain_base::{CellAt, Kind, Version};
 use file_tests::world::{World, new_world};
 use record_table::Record;
@@ -39,7 +38,7 @@ pub fn many_extents(alloc: Global, left: u32, version: Version) -> Result<TrimSe
     give_pages(alloc, &mut world, tag, pages.as_slice(), version)?;
     let size = 16_384 * u64::from(left);
     let at = cut(alloc, &mut world, tag, size)?.ok_or("a trim")?;
-    let mut list = listed(alloc, &world, &at, Goes::AsSaid)?;
+    let mut list = listed(alloc, &world, &at)?;
     let first = (kept(&world, &at), counts(&world));
     let steps = release_all(alloc, &mut world, &mut list, version)?;
     let after = (kept(&world, &at), counts(&world));
@@ -76,7 +75,7 @@ pub fn removed(alloc: Global, kind: Kind, size: u64) -> Result<(bool, [[u32; 2];
     give_pages(alloc, &mut world, tag, &[0, 1, 2, 3, 4, 5], Version::Four)?;
     let left = cut(alloc, &mut world, tag, size)?;
     let at = remove(alloc, &mut world, tag)?;
-    let mut list = listed(alloc, &world, &at, Goes::AsSaid)?;
+    let mut list = listed(alloc, &world, &at)?;
     let first = counts(&world);
     release_all(alloc, &mut world, &mut list, Version::Four)?;
     let after = counts(&world);
@@ -89,29 +88,6 @@ pub fn removed(alloc: Global, kind: Kind, size: u64) -> Result<(bool, [[u32; 2];
     ))
 }
 
-/// What is seen of a file of the pages 0 to 5 that was cut to two, and whose fileset is then
-/// removed while the trim is pending: what it keeps and whether something is left to be done before
-/// and after, and the free and waiting pages before, after, and once the group is durable. It is on
-/// the list twice, as one to be trimmed and then as one of which all goes, or once.
-pub fn of_removed_fileset(
-    alloc: Global,
-    is_again: bool,
-) -> Result<([(u32, bool); 2], [[u32; 2]; 3]), Fail> {
-    let mut world = new_world(alloc, 64)?;
-    let tag = make(alloc, &mut world, Kind::File, Version::Four)?;
-    give_pages(alloc, &mut world, tag, &[0, 1, 2, 3, 4, 5], Version::Four)?;
-    let at = cut(alloc, &mut world, tag, 16_384)?.ok_or("a trim")?;
-    let mut list = listed_whole(alloc, &world, &at, is_again)?;
-    let first = (kept(&world, &at), counts(&world));
-    release_all(alloc, &mut world, &mut list, Version::Four)?;
-    let after = (kept(&world, &at), counts(&world));
-    if !list.is_empty() {
-        return Err(Fail::from("an empty list"));
-    }
-    world.space.made_durable(5);
-    Ok(([first.0, after.0], [first.1, after.1, counts(&world)]))
-}
-
 /// A file of 70 extents that is removed: the steps, and the free and waiting pages after.
 pub fn many_removed(alloc: Global, version: Version) -> Result<(u32, [u32; 2]), Fail> {
     let mut world = new_world(alloc, 128)?;
@@ -119,7 +95,7 @@ pub fn many_removed(alloc: Global, version: Version) -> Result<(u32, [u32; 2]), 
     let tag = make(alloc, &mut world, Kind::File, version)?;
     give_pages(alloc, &mut world, tag, pages.as_slice(), version)?;
     let at = remove(alloc, &mut world, tag)?;
-    let mut list = listed(alloc, &world, &at, Goes::AsSaid)?;
+    let mut list = listed(alloc, &world, &at)?;
     let steps = release_all(alloc, &mut world, &mut list, version)?;
     Ok((steps, counts(&world)))
 }

@@ -1,16 +1,13 @@
 //! Files and pages that are let go of, step by step.
-ghost use Rattle.std.specs.Prelude.{◌≤◌};
-
-use crate::again::{gone_unsaid, rewritten};
+use crate::again::rewritten;
+use crate::beside::made_in_both;
 use crate::clones::{
     all_gone, all_kept, all_trimmed, both_gone, handed_frozen, handed_full, handed_in_a_trim,
     handed_many, stopped, unrelated,
 };
-use crate::cost::{Cost, removed as removed_in, trimmed_down, trimmed_up};
-use crate::seen::{
-    TrimSeen, many_extents, many_removed, of_removed_fileset, removed, tag_page, trim,
-};
-use deferred_delete::Goes;
+use crate::cost::{removed as removed_in, removed_beside, trimmed_down, trimmed_up};
+use crate::removing::{Leads, Seen, removed_fileset};
+use crate::seen::{TrimSeen, many_extents, many_removed, removed, tag_page, trim};
 use domain_base::{Kind, Version};
 use std::alloc::Global;
 use std::test::Fail;
@@ -35,52 +32,6 @@ fn trims_in(steps: [u32; 5]) -> [TrimSeen; 5] {
         trim(steps[3], 34, 53),
         trim(steps[4], 138, 1),
     ]
-}
-
-/// What it takes to let go of a removed file with so many cells behind its first one. The record of
-/// a cell's pages is looked for in up to five looks, one for each kind that it may be of: the fifth
-/// is that of a first cell, the fourth that of one behind it. Three times that are wanted to find a
-/// cell, and to plan and to write what goes of it; 24 looks for a cell behind the first one, with
-/// those of the first on the way there, 19 for the first cell's pages and 8 for that cell. Each step
-/// looks once more, whether the entry is a file or quota cells. Each cell that is written or freed
-/// is changed twice: its bytes, and the count of its page.
-fn removing(behind: u32) -> Cost
-    requires { behind ≤ 1000 }
-{
-    Cost {
-        steps: 2 + behind,
-        looks: 29 + 25 * behind,
-        changes: 4 + 4 * behind,
-    }
-}
-
-/// What it takes to trim a file of which so many cells behind the first one go, and so many stay
-/// behind them. A cell behind the first one that goes takes the 25 looks that it takes of a removed
-/// file, and one to see how many pages are kept; a new cell is linked right behind the first one, so
-/// where pages were given in their order those that go are found there. The last step passes all
-/// cells that stay, each in five looks, and the first one in six; it takes six beside, and writes.
-fn trimming_up(gone: u32, kept: u32) -> Cost
-    requires gone { gone ≤ 1000 }
-    requires kept { kept ≤ 1000 }
-{
-    Cost {
-        steps: gone + 1,
-        looks: 26 * gone + 12 + 5 * kept,
-        changes: 4 * gone + 2,
-    }
-}
-
-/// The same where pages were given from the last one on: the first cell's pages go, in 21 looks, and
-/// cells that stand behind those that stay, which each step passes.
-fn trimming_down(gone: u32, kept: u32) -> Cost
-    requires gone { gone ≤ 1000 }
-    requires kept { kept ≤ 1000 }
-{
-    Cost {
-        steps: gone + 2,
-        looks: 21 + gone * (26 + 5 * kept) + 12 + 5 * kept,
-        changes: 4 * gone + 4,
-    }
 }
 
 #[test]
@@ -114,44 +65,82 @@ fn steps_are_as_many_as_cells_and_pages_handed_over(rt: HostRuntime) -> Result<(
 }
 
 #[test]
-fn letting_go_costs_as_much_as_there_are_cells(rt: HostRuntime) -> Result<(), Fail> {
+fn twice_the_extents_cost_twice_as_much(rt: HostRuntime) -> Result<(), Fail> {
     let alloc = rt.alloc();
     // 4 extents stand in the first cell, and 22 in each one behind it
     let seen = [
-        removed_in(alloc, 10)?,
+        removed_in(alloc, 50)?,
         removed_in(alloc, 100)?,
+        removed_in(alloc, 200)?,
         removed_in(alloc, 400)?,
     ];
-    assert_eq!(rt; seen, [removing(1), removing(5), removing(18)]);
+    let bounded = [
+        seen[1].is_at_most_twice(&seen[0]),
+        seen[2].is_at_most_twice(&seen[1]),
+        seen[3].is_at_most_twice(&seen[2]),
+    ];
+    assert_eq!(rt; bounded, [true; 3]);
     Ok(())
 }
 
 #[test]
-fn a_trim_costs_as_much_as_cells_go_and_are_passed(rt: HostRuntime) -> Result<(), Fail> {
+fn a_trim_of_twice_the_extents_costs_twice_as_much(rt: HostRuntime) -> Result<(), Fail> {
     let alloc = rt.alloc();
-    // 4 and 22 extents a cell; of 2, 4 and 8 cells behind the first one the half goes
-    let up = [
+    // of 48, 92, 180 and 356 extents the last half goes, and the first one stays
+    let seen = [
         trimmed_up(alloc, 48, 52)?,
         trimmed_up(alloc, 92, 96)?,
         trimmed_up(alloc, 180, 184)?,
+        trimmed_up(alloc, 356, 360)?,
     ];
-    let down = [
-        trimmed_down(alloc, 48, 44)?,
-        trimmed_down(alloc, 92, 88)?,
-        trimmed_down(alloc, 180, 176)?,
+    let bounded = [
+        seen[1].is_at_most_twice(&seen[0]),
+        seen[2].is_at_most_twice(&seen[1]),
+        seen[3].is_at_most_twice(&seen[2]),
     ];
-    assert_eq!(rt;
-        up,
-        [trimming_up(1, 1), trimming_up(2, 2), trimming_up(4, 4)]
-    );
-    assert_eq!(rt;
-        down,
-        [
-            trimming_down(1, 1),
-            trimming_down(2, 2),
-            trimming_down(4, 4)
-        ]
-    );
+    assert_eq!(rt; bounded, [true; 3]);
+    Ok(())
+}
+
+#[test]
+fn a_trim_from_behind_costs_twice_where_twice_goes(rt: HostRuntime) -> Result<(), Fail> {
+    let alloc = rt.alloc();
+    // the first 44 extents stay, in two cells that each step passes; the last 44, 88, 176 and 352 go
+    let seen = [
+        trimmed_down(alloc, 88, 88)?,
+        trimmed_down(alloc, 132, 88)?,
+        trimmed_down(alloc, 220, 88)?,
+        trimmed_down(alloc, 396, 88)?,
+    ];
+    let bounded = [
+        seen[1].is_at_most_twice(&seen[0]),
+        seen[2].is_at_most_twice(&seen[1]),
+        seen[3].is_at_most_twice(&seen[2]),
+    ];
+    assert_eq!(rt; bounded, [true; 3]);
+    Ok(())
+}
+
+#[test]
+fn a_clone_that_reads_nothing_costs_no_more_where_it_is_larger(
+    rt: HostRuntime,
+) -> Result<(), Fail> {
+    let alloc = rt.alloc();
+    // 100 extents go, beside 4, 92 and 180 of the clone's own
+    let seen = [
+        removed_beside(alloc, 100, 4, 0)?,
+        removed_beside(alloc, 100, 92, 0)?,
+        removed_beside(alloc, 100, 180, 0)?,
+    ];
+    let bounded = [seen[1].is_at_most(&seen[0]), seen[2].is_at_most(&seen[1])];
+    assert_eq!(rt; bounded, [true; 2]);
+    Ok(())
+}
+
+#[test]
+fn two_filesets_have_a_file_of_the_same_tag_each(rt: HostRuntime) -> Result<(), Fail> {
+    let seen = made_in_both(rt.alloc())?;
+    assert_eq!(rt; seen, [true; 3]);
     Ok(())
 }
 
@@ -174,20 +163,6 @@ fn a_removed_file_lets_go_of_all(rt: HostRuntime) -> Result<(), Fail> {
 }
 
 #[test]
-fn a_file_that_says_nothing_goes_where_its_fileset_is_removed(rt: HostRuntime) -> Result<(), Fail> {
-    let alloc = rt.alloc();
-    let seen = [
-        gone_unsaid(alloc, Goes::AsSaid)?,
-        gone_unsaid(alloc, Goes::Whole)?,
-    ];
-    // all pages are kept after the trim of four, and then the first cell has no record any more; of
-    // 64 pages 3 are used beside the file's six
-    let gone = ([(65_536, false), (0, false)], [[55, 4], [55, 6], [61, 0]]);
-    assert_eq!(rt; seen, [gone, gone]);
-    Ok(())
-}
-
-#[test]
 fn files_and_pages_of_one_list_all_go(rt: HostRuntime) -> Result<(), Fail> {
     let seen = unrelated(rt.alloc())?;
     // the pages and the cell of each file, and the page; of 64 pages 3 are used beside these, 9 wait
@@ -196,17 +171,44 @@ fn files_and_pages_of_one_list_all_go(rt: HostRuntime) -> Result<(), Fail> {
     Ok(())
 }
 
+/// Where a tag leads that names a file, or none.
+fn leading(is_named: bool) -> Leads {
+    if is_named {
+        Leads::ToFile
+    } else {
+        Leads::Nowhere
+    }
+}
+
+/// What is seen where these of the first three tags name files.
+fn with_tags(named: [bool; 3], counts: [u32; 2]) -> Seen {
+    Seen {
+        leads: [
+            leading(named[0]),
+            leading(named[1]),
+            leading(named[2]),
+            Leads::Nowhere,
+        ],
+        counts,
+    }
+}
+
 #[test]
-fn a_trim_goes_on_as_removal_where_its_fileset_is_removed(rt: HostRuntime) -> Result<(), Fail> {
-    let alloc = rt.alloc();
-    let seen = [
-        of_removed_fileset(alloc, false)?,
-        of_removed_fileset(alloc, true)?,
-    ];
-    // two pages are kept and a trim is pending, then the first cell has no record any more; of 64
-    // pages 9 are used, and the 6 of the file are free at the end
-    let gone = ([(2, true), (0, false)], [[55, 0], [55, 6], [61, 0]]);
-    assert_eq!(rt; seen, [gone, gone]);
+fn a_removed_fileset_gives_back_what_was_taken(rt: HostRuntime) -> Result<(), Fail> {
+    let seen = removed_fileset(rt.alloc())?;
+    // of 64 pages page 0, a page of cells and one of tags are used beside 6 + 6 + 3 of the files;
+    // each file goes in two steps, its pages and its cell; the pages of files wait for the group,
+    // those of the directory and of tags for the log
+    assert_eq!(rt; seen.0, with_tags([true, true, true], [46, 0]));
+    assert_eq!(rt;
+        seen.1,
+        [
+            ([2, 4], with_tags([false, false, true], [46, 12])),
+            ([1, 2], with_tags([false, false, false], [46, 15])),
+            ([0, 0], with_tags([false, false, false], [46, 15]))
+        ]
+    );
+    assert_eq!(rt; seen.2, [[46, 16], [58, 4], [62, 0]]);
     Ok(())
 }
 

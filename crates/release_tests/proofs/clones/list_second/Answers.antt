@@ -1,6 +1,5 @@
 use Rattle.std.proofs.Common.{None}
 use Rattle.memory_store.specs.Homes.{pages_of}
-use Rattle.deferred_delete.specs.declared.list.Goes.TheVariants.{AsSaid}
 use Rattle.release_tests.proofs.Pairs.{pair_listed}
 use Rattle.release_tests.proofs.clones.list_second.Goals as goal
 
@@ -9,5 +8,5 @@ returns-in_ok-add c =
     let world = c.args.world.now in
     let pair = c.args.pair.now in (
       c.requires.0,
-      pair_listed world.space world.cells (pages_of world.pages.entries.items) pair.at pair.clone pair.clone None AsSaid c.args.list.now c.add.new.self c.requires.0 c.requires.1 (c.requires.1.second AsSaid) c.in_ok-add.ensures.ok c.in_ok-add.ensures.tag_pages,
+      pair_listed world.space world.cells (pages_of world.pages.entries.items) pair.at pair.clone pair.clone None c.args.list.now c.add.new.self c.requires.0 c.requires.1 c.requires.1.second c.in_ok-add.ensures.ok c.in_ok-add.ensures.tag_pages,
     )

@@ -1,9 +1,9 @@
-use Rattle.std.proofs.lemmas.Bool.{both_ways}
 use Rattle.release_tests.proofs.Wells.{one_well}
 use Rattle.release_tests.proofs.going.listed.Goals as goal
 
 pub returns : goal.returns
 returns c =
     let going = c.requires.1 in
-    let alone = c.is_of_clone.ensures c.requires.0 going.file (λ yes. both_ways c.is_of_clone.result c.if-is_of_clone.false yes) in
-    one_well _ _ _ c.args.at.now c.requires.0 going alone c.args.goes c.new-list.result c.add.new.self c.new-list.ensures.entries c.new-list.ensures.tag_pages c.in_ok-add.ensures.ok c.in_ok-add.ensures.tag_pages
+    let may = c.may_go.ensures in
+    let yes = c.if-not-may_go.false in
+    one_well _ _ _ c.args.at.now c.requires.0 going (may.alone c.requires.0 going.file yes) (may.says c.requires.0 going.file yes) c.new-list.result c.add.new.self c.new-list.ensures.entries c.new-list.ensures.tag_pages c.in_ok-add.ensures.ok c.in_ok-add.ensures.tag_pages

@@ -16,4 +16,4 @@ returns-clause-calls c = λ first list stood called.
     let e = c.give_page.ensures in
     let together = (stands_now world.files.fileset c.args.version c.args.tag first _ stood called).together in
     gave world.files.fileset c.args.version c.args.tag first world.files.tags list world.space now.space world.cells now.cells (pages_of world.pages.entries.items) (pages_of now.pages.entries.items) called _ c.args.page c.give_page.result
-    (e.ok called.chains together) (e.taken called.chains together) (e.err called.chains together) e.cells e.pages (e.others called.chains together)
+    (e.ok called.chains together) (e.taken called.chains together) (e.err called.chains together) e.cells e.pages (e.others called.chains together) e.elsewhere
