@@ -12,7 +12,7 @@ use Rattle.dir_pages.specs.Rows.{IsRow, is_row_name, spelling}
 use Rattle.dir_pages.specs.declared.row.Row.{Row}
 use Rattle.name_space.proofs.Originals.{tags_differ, tags_same}
 use Rattle.domain_layout.specs.DirectoryRules.{RowPlace}
-use Rattle.layout_laws.proofs.OwnedOnce.{same_number}
+use Rattle.layout_laws.proofs.Reached.{same_number}
 
 pub list_decided : (xs ys : List ℕ) → (xs ≡ ys) ⊎ ¬ xs ≡ ys
 list_decided [] [] = inl refl

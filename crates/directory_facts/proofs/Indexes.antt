@@ -22,8 +22,7 @@ use Rattle.domain_layout.specs.DirectoryRules.{AreAllPages, AreReadPages, Counts
 use Rattle.domain_layout.specs.Reached.{Frame, IsRead, IsUnread, IsWithin, index_way}
 use Rattle.domain_layout.specs.Seen.{SeenFile}
 use Rattle.domain_layout.specs.Reached.Reaches.{begins}
-use Rattle.layout_laws.proofs.OwnedOnce.{same_number}
-use Rattle.layout_laws.proofs.Reached.{is_read}
+use Rattle.layout_laws.proofs.Reached.{is_read, same_number}
 use Rattle.directory_facts.specs.Showing.{HasEachPage, ShowsFileset, ShowsIndex}
 use Rattle.directory_facts.proofs.Entered.{all_shown, counted_there, entered, pages_rise}
 use Rattle.directory_facts.proofs.RowFacts as facts

@@ -29,7 +29,7 @@ use Rattle.domain_layout.specs.DirectoryRules.RowsLead.{one as leads_one, more a
 use Rattle.domain_layout.specs.Reached.{Frame}
 use Rattle.domain_layout.specs.Seen.{SeenFile}
 use Rattle.domain_layout.specs.Shape.{shown_at}
-use Rattle.layout_laws.proofs.OwnedOnce.{same_number}
+use Rattle.layout_laws.proofs.Reached.{same_number}
 use Rattle.fileset_names.specs.Rows.{AreAllThere, AreFilesetRows, AreNamesOf, IsBeside, IsCounted, NameIn, row_of}
 use Rattle.directory_facts.specs.Showing.{HaveTheirIndexes, IsShownOf, ListsDirectories, ShowsFileset}
 use Rattle.directory_facts.proofs.Decided.{dir_page_decided, kind_decided, place_decided}

@@ -27,7 +27,7 @@ use Rattle.domain_layout.specs.DirectoryRules.{AreAllRead, AreRowsTo, Has, IsDir
 use Rattle.domain_layout.specs.DirectoryRules.RowsLead.{one as leads_one, more as leads_more}
 use Rattle.domain_layout.specs.Reached.{Frame}
 use Rattle.domain_layout.specs.Seen.{SeenFile}
-use Rattle.layout_laws.proofs.OwnedOnce.{same_number}
+use Rattle.layout_laws.proofs.Reached.{same_number}
 use Rattle.fileset_names.specs.Rows.{AreAllThere, AreFilesetRows, AreNamesOf, AreWhole, IsBeside, IsCounted, NameIn, row_of}
 use Rattle.directory_facts.specs.Showing.{HaveTheirIndexes, ListsDirectories, ShowsFileset}
 use Rattle.directory_facts.proofs.Decided.{place_decided}

@@ -1,8 +1,11 @@
--- Pages that break no rule break none of tables.
-use Rattle.std.proofs.Common.{inl, inr, refl}
+-- Pages that break no rule break none of tables, and none of extents.
+use Rattle.std.proofs.Common.{◌≡◌, inl, inr, refl}
 use Rattle.domain_base.specs.declared.place.Home.{Home}
 use Rattle.page_store.specs.Pages.{Pages}
-use Rattle.domain_layout.specs.Faults.{FaultRow, HasNoFault, HasNoTablesFault, IsTableFault, IsTablesFault}
+use Rattle.domain_layout.specs.Faults.{FaultRow, HasNoExtentFault, HasNoFault, HasNoTablesFault, IsTableFault, IsTablesFault}
+use Rattle.domain_layout.specs.Layout.{IsLayout, Layout}
+use Rattle.domain_layout.specs.Owners.{frame_of}
+use Rattle.domain_layout.specs.PageRules.{IsExtentFault}
 use Rattle.domain_layout.specs.Reached.{Frame}
 
 module _ (pages : Pages) (frame : Frame) (none : HasNoFault pages frame) where
@@ -14,3 +17,9 @@ module _ (pages : Pages) (frame : Frame) (none : HasNoFault pages frame) where
 
   pub none_of_tables : HasNoTablesFault pages frame
   none_of_tables = record { table = no_table; tables = no_tables }
+
+  no_extent : (layout : Layout) (home : Home) → frame_of layout ≡ frame → IsLayout pages layout → ¬ IsExtentFault pages layout home
+  no_extent layout home same laid fault = none (record { code = 7; home = home }) (inr (inr (none_of_tables, (layout, same, laid, inl (refl, fault)))))
+
+  pub none_of_extents : HasNoExtentFault pages frame
+  none_of_extents = record { tables = none_of_tables; extents = no_extent }

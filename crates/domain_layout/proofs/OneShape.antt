@@ -20,7 +20,7 @@ use Rattle.bitfile_core.specs.Files.{AreFiles, Chains, is_removed}
 use Rattle.bitfile_core.specs.Shown.{ShowsAt}
 use Rattle.bitfile_core.specs.declared.attributes.Attributes.{Attributes}
 use Rattle.bitfile_core.proofs.Created.{one_chains}
-use Rattle.bitfile_core.proofs.Given.{one_file, one_follow}
+use Rattle.bitfile_core.proofs.Given.{one_follow}
 use Rattle.bitfile_core.proofs.ShownOnce.{same_each, show_once}
 use Rattle.fileset_model.specs.Orders.{Name}
 use Rattle.fileset_model.specs.declared.command.Owner.{Owner}
@@ -56,7 +56,7 @@ chains_same pages number entry a b has also =
     let places = same_directory pages entry.first_tag has.places also.places has.directory also.directory in
     one_chains pages number also.places a b (subst (λ (p : List TagPlace). AreFiles number p pages a) places has.files) also.files
 
-links_same : (pages : Pages) (at : CellAt) (xs ys : List PlacedCell) → LinksFrom pages at xs → LinksFrom pages at ys → xs ≡ ys
+pub links_same : (pages : Pages) (at : CellAt) (xs ys : List PlacedCell) → LinksFrom pages at xs → LinksFrom pages at ys → xs ≡ ys
 links_same pages at [] ys f g = absurd f
 links_same pages at (x ∷ xs) [] f g = absurd g
 links_same pages at (x ∷ xs) (y ∷ ys) f g =
@@ -92,12 +92,12 @@ original_same pages number entry a b is also = record {
 
 source_same : (pages : Pages) (at : Option CellAt) (a b : Places) → IsSource pages at a → IsSource pages at b → (page : ℕ) → a page ≡ b page
 source_same pages None a b is also page = is page ∙ sym (also page)
-source_same pages (Some at) a b is also page = is.2 page ∙ ap (λ cells. places_of cells page) (one_file pages at is.0 also.0 is.1 also.1) ∙ sym (also.2 page)
+source_same pages (Some at) a b is also page = is.2 page ∙ ap (λ cells. places_of cells page) (links_same pages at is.0 also.0 is.1 also.1) ∙ sym (also.2 page)
 
 read_same : (frozen : ℕ) (own a b : Places) (page : ℕ) → a page ≡ b page → read_home frozen own a page ≡ read_home frozen own b page
 read_same frozen own a b page same = ap (λ (p : PagePlace). own_or (own page) (cond (nat_lt page frozen) (home_at p) None)) same
 
-own_same : (pages : Pages) (cells : List PlacedCell) (a b : SeenFile) → IsOwn pages cells a → IsOwn pages cells b → IsSameSeen a b
+pub own_same : (pages : Pages) (cells : List PlacedCell) (a b : SeenFile) → IsOwn pages cells a → IsOwn pages cells b → IsSameSeen a b
 own_same pages cells a b is also = record {
   is = some_same a.is b.is (sym is.is ∙ also.is);
   homes = λ page. is.homes page

@@ -19,7 +19,6 @@ use Rattle.bmt_mcells.specs.declared.head.CellHead.{CellHead}
 use Rattle.bmt_mcells.specs.declared.head.CellKind.{CellKind}
 use Rattle.bmt_mcells.specs.declared.head.CellKind.TheVariants.{Chain, Primary, Quota, Volume}
 use Rattle.extent_maps.specs.declared.run.PagePlace.TheVariants.{Absent}
-use Rattle.extent_records.specs.Rows.{IsPlaced, runs_of}
 use Rattle.extent_records.specs.Writing.{places_in}
 use Rattle.bitfile_core.specs.Files.{is_first_kind, says_remove}
 use Rattle.fileset_table.specs.Table.{Table, is_original}
@@ -332,15 +331,6 @@ pub record AreHolesOfOriginal (pages : Pages) (frame : Frame) (table : Table) (a
   pub is : IsUsed pages frame at cell
   pub holes : has_kind 5 cell.records ≡ true
 
--- ** Homes of pages
-
--- a record says of pages of a file that they stand where no page of a volume can be: on volume 0, or
--- behind the last number that a page can have
-pub record NamesNoHome (pages : Pages) (frame : Frame) (at : CellAt) : Type 0 where
-  pub cell : Cell
-  pub used : IsUsed pages frame at cell
-  pub wrong : ¬ AllByRecursion IsPlaced (runs_of cell.records)
-
 -- ** All of them
 
 -- a rule of cells is broken at a cell
@@ -349,7 +339,7 @@ IsCellFault pages frame table at =
     IsWrongVolumeCell pages frame at ⊎ IsWrongFirst pages frame table at
     ⊎ IsWrongLater pages frame at ⊎ LeadsWrong pages frame at ⊎ IsUnchained pages frame at
     ⊎ IsPageTwice pages frame at ⊎ AreLimitsTwice pages frame at
-    ⊎ AreHolesOfOriginal pages frame table at ⊎ NamesNoHome pages frame at
+    ⊎ AreHolesOfOriginal pages frame table at
 
 -- a rule of cells is broken on a page: code 5
 abbrev pub IsCellsFault : Pages → Frame → Table → Home → Type 0

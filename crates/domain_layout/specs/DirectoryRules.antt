@@ -1,5 +1,5 @@
 -- The rules of directories and of their indexes, where the pages of tables stand as they should.
-use Rattle.std.specs.Prelude.{◌≡◌, ◌⊎◌, ◌*◌, ◌<◌, ◌≤◌, ◌↔◌, ℕ, true, false, List, [], ◌∷◌, length, Option, Some, None, IsSome, IsSomeAnd, Contains, nat_le, slice_get, if◌then◌else◌}
+use Rattle.std.specs.Prelude.{◌≡◌, ◌⊎◌, ◌*◌, ◌<◌, ◌≤◌, ◌↔◌, ℕ, true, false, List, [], ◌∷◌, length, Some, None, IsSome, IsSomeAnd, Contains, nat_le, slice_get, if◌then◌else◌}
 use Rattle.std.specs.List.{AllByRecursion, flat_map}
 use Rattle.std.specs.Option.{option_and_then}
 use Rattle.domain_base.specs.Limits.{max_links}
@@ -14,11 +14,14 @@ use Rattle.record_table.specs.declared.record.Record.{Record}
 use Rattle.record_table.specs.declared.record.Record.TheVariants as written
 use Rattle.bmt_mcells.specs.Cell.{Cell, record_of}
 use Rattle.bmt_mcells.specs.CellPage.{home_of}
-use Rattle.bmt_mcells.specs.Chain.{PlacedCell}
+use Rattle.bmt_mcells.specs.Chain.{LinksFrom, PlacedCell}
+use Rattle.tag_dirs.specs.Directory.{IsDirectoryAt, cell_of}
+use Rattle.tag_dirs.specs.declared.dir.TagPlace.{TagPlace}
 use Rattle.extent_maps.specs.Runs.{home_at}
 use Rattle.bitfile_cells.specs.Files.{places_of}
-use Rattle.bitfile_core.specs.Files.{Chains, first_record, is_removed}
+use Rattle.bitfile_core.specs.Files.{first_record, is_removed}
 use Rattle.bitfile_core.specs.Shown.{index_in}
+use Rattle.bitfile_core.specs.State.{parent_of}
 use Rattle.dir_index.specs.Entries.{is_below}
 use Rattle.dir_index.specs.Index.{IsIndexPage, entries_of}
 use Rattle.dir_index.specs.declared.entry.IndexEntry.{IndexEntry}
@@ -33,51 +36,50 @@ use Rattle.name_space.specs.Names.{root_tag}
 use Rattle.domain_layout.specs.CellRules.{IsUsed, of_clone}
 use Rattle.domain_layout.specs.Reached.{Frame, IsRead, IsUnread, IsWithin, index_way}
 use Rattle.domain_layout.specs.Seen.{IsOwn, SeenFile, seen_in, seen_through}
-use Rattle.domain_layout.specs.Shape.{HasChains}
 
 -- ** What a fileset has at a tag
 
--- a fileset has a file at a tag, and these are its cells
-pub record IsThere (pages : Pages) (number : ℕ) (entry : FilesetEntry) (tag : Tag)
-    (cells : List PlacedCell) : Type 0 where
-  pub chains : Chains
-  pub has : HasChains pages number entry chains
-  pub there : chains tag ≡ Some cells
+-- a fileset's entry of a tag leads to the first of these cells, each of which leads to the next one.
+-- What their records say is not asked
+pub record IsThere (pages : Pages) (entry : FilesetEntry) (tag : Tag) (cells : List PlacedCell)
+    : Type 0 where
+  pub places : List TagPlace
+  pub directory : IsDirectoryAt pages entry.first_tag places
+  pub leads : IsSomeAnd (cell_of pages places tag) (λ at. LinksFrom pages at cells)
 
--- and none
-pub record IsNotThere (pages : Pages) (number : ℕ) (entry : FilesetEntry) (tag : Tag) : Type 0 where
-  pub chains : Chains
-  pub has : HasChains pages number entry chains
-  pub none : chains tag ≡ None
+-- it has no entry of the tag
+pub record IsNotThere (pages : Pages) (entry : FilesetEntry) (tag : Tag) : Type 0 where
+  pub places : List TagPlace
+  pub directory : IsDirectoryAt pages entry.first_tag places
+  pub none : cell_of pages places tag ≡ None
 
 -- the file of these cells as the original in a slot has it
-pub record IsInOriginal (pages : Pages) (number : ℕ) (entry : FilesetEntry) (tag : Tag)
+pub record IsInOriginal (pages : Pages) (entry : FilesetEntry) (tag : Tag)
     (cells : List PlacedCell) (seen : SeenFile) : Type 0 where
-  pub there : IsThere pages number entry tag cells
+  pub there : IsThere pages entry tag cells
   pub is : seen_in cells ≡ Some seen
 
 -- the same of a clone: they are its own, or the original's
-pub record IsInClone (pages : Pages) (number of : ℕ) (entry original : FilesetEntry) (clone : ℕ)
-    (tag : Tag) (cells : List PlacedCell) (seen : SeenFile) : Type 0 where
-  pub is : (IsThere pages number entry tag cells × (is_removed cells ≡ false)
-      × IsOwn pages cells seen)
-      ⊎ (IsNotThere pages number entry tag × IsThere pages of original tag cells
+pub record IsInClone (pages : Pages) (entry original : FilesetEntry) (clone : ℕ) (tag : Tag)
+    (cells : List PlacedCell) (seen : SeenFile) : Type 0 where
+  pub is : (IsThere pages entry tag cells × (is_removed cells ≡ false) × IsOwn pages cells seen)
+      ⊎ (IsNotThere pages entry tag × IsThere pages original tag cells
       × (seen_through clone cells ≡ Some seen))
 
-abbrev pub IsInItem : Pages → Table → ℕ → SlotItem → Tag → List PlacedCell → SeenFile → Type 0
-IsInItem pages table number (slot.Original entry) tag cells seen =
-    IsInOriginal pages number entry tag cells seen
-IsInItem pages table number (slot.Clone of clone entry) tag cells seen =
+abbrev pub IsInItem : Pages → Table → SlotItem → Tag → List PlacedCell → SeenFile → Type 0
+IsInItem pages table (slot.Original entry) tag cells seen =
+    IsInOriginal pages entry tag cells seen
+IsInItem pages table (slot.Clone of clone entry) tag cells seen =
     IsSomeAnd (option_and_then fileset_of (slice_get table.slots of))
-    (λ original. IsInClone pages number of entry original clone tag cells seen)
-IsInItem pages table number _ tag cells seen = ⊥
+    (λ original. IsInClone pages entry original clone tag cells seen)
+IsInItem pages table _ tag cells seen = ⊥
 
 -- a fileset that is not being removed has the file of these cells at a tag
 pub record Has (pages : Pages) (table : Table) (number : ℕ) (tag : Tag) (cells : List PlacedCell)
     (seen : SeenFile) : Type 0 where
   pub item : SlotItem
   pub there : slice_get table.slots number ≡ Some item
-  pub is : IsInItem pages table number item tag cells seen
+  pub is : IsInItem pages table item tag cells seen
 
 -- of that kind
 abbrev pub HasOfKind : Pages → Table → ℕ → Tag → Kind → Type 0
@@ -216,14 +218,6 @@ abbrev pub HasWrongSize : List PlacedCell → SeenFile → Type 0
 HasWrongSize cells seen = ¬ ((count : ℕ) × (seen.is.size ≡ 8192 * count)
     × ((page : ℕ) → IsSome (seen.homes page) ↔ (page < count)))
     ⊎ ((page : ℕ) × IsSome (home_at (places_of cells page)) × (seen.homes page ≡ None))
-
--- the directory that it says to stand in
-abbrev pub parent_in : Record → Option Tag
-parent_in (written.Parent slot seq) = Some (record { slot = slot; seq = seq })
-parent_in _ = None
-
-abbrev pub parent_of : List PlacedCell → Option Tag
-parent_of cells = option_and_then parent_in (first_record 10 cells)
 
 -- a row that leads to a directory stands in another one than it says
 pub record HasWrongParent (pages : Pages) (frame : Frame) (table : Table) (number : ℕ) (tag : Tag)

@@ -51,6 +51,12 @@ pub record HasNoTablesFault (pages : Pages) (frame : Frame) : Type 0 where
   pub table : (home : Home) → ¬ IsTableFault pages frame home
   pub tables : (row : FaultRow) → ¬ IsTablesFault pages frame row
 
+-- nor does a cell say a wrong page of a file: there is no fault of codes 4 to 7
+pub record HasNoExtentFault (pages : Pages) (frame : Frame) : Type 0 where
+  pub tables : HasNoTablesFault pages frame
+  pub extents : (layout : Layout) (home : Home) → frame_of layout ≡ frame → IsLayout pages layout
+      → ¬ IsExtentFault pages layout home
+
 -- a row of the list: a fault of the table ends it, and those of tables come without those of files
 abbrev pub IsFault : Pages → Frame → FaultRow → Type 0
 IsFault pages frame row =

@@ -6,11 +6,11 @@ use Rattle.domain_base.specs.declared.place.Home.{Home}
 use Rattle.page_store.specs.Pages.{Pages}
 use Rattle.record_table.specs.declared.record.Record.{Record}
 use Rattle.record_table.specs.declared.record.Record.TheVariants as written
-use Rattle.bmt_mcells.specs.Chain.{PlacedCell}
+use Rattle.bmt_mcells.specs.Chain.{LinksFrom, PlacedCell}
 use Rattle.extent_maps.specs.Runs.{Places, home_at}
 use Rattle.extent_maps.specs.declared.run.PagePlace.TheVariants.{Absent}
 use Rattle.extent_records.specs.Writing.{places_before}
-use Rattle.bitfile_cells.specs.Files.{IsFile, places_of}
+use Rattle.bitfile_cells.specs.Files.{places_of}
 use Rattle.chain_release.specs.Reading.{read_home}
 use Rattle.bitfile_core.specs.Files.{attributes_of, first_record, is_removed, keep_of, of_live}
 use Rattle.bitfile_core.specs.declared.attributes.Attributes.{Attributes}
@@ -58,7 +58,7 @@ frozen_of cells = option_map_or frozen_in (first_record 2 cells) 0
 -- where the source has its pages, whatever it keeps of them
 abbrev pub IsSource : Pages → Option CellAt → Places → Type 0
 IsSource pages None places = (page : ℕ) → places page ≡ Absent
-IsSource pages (Some at) places = (cells : List PlacedCell) × IsFile pages at cells
+IsSource pages (Some at) places = (cells : List PlacedCell) × LinksFrom pages at cells
     × ((page : ℕ) → places page ≡ places_of cells page)
 
 -- the file of a clone's own cells

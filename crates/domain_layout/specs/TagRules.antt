@@ -13,7 +13,8 @@ use Rattle.bmt_mcells.specs.Cell.{Cell, IsFileset, kind_number, record_of}
 use Rattle.bmt_mcells.specs.CellPage.{cell_at, home_of}
 use Rattle.bmt_mcells.specs.declared.head.CellKind.TheVariants.{Primary, Quota}
 use Rattle.tag_dirs.specs.TagPage.{IsTagPage, entry_of, index_of, slot_of}
-use Rattle.fileset_table.specs.Table.{Table}
+use Rattle.fileset_table.specs.Table.{Table, entry_of as fileset_of}
+use Rattle.fileset_table.specs.declared.slot.FilesetEntry.{FilesetEntry}
 use Rattle.fileset_table.specs.declared.slot.SlotItem.{SlotItem}
 use Rattle.fileset_table.specs.declared.slot.SlotItem.TheVariants as slot
 use Rattle.name_space.specs.Names.{root_tag}
@@ -149,13 +150,14 @@ IsLate made (written.Attributes kind uid gid flags size keep links birth unsynce
     (made < birth) ⊎ (made < unsynced)
 IsLate made _ = ⊥
 
--- a file that an original names has a number of a clone that was not made
+-- a first cell that an original's entry of its tag names has a number of a clone that was not made
 pub record IsLateFile (pages : Pages) (frame : Frame) (table : Table) (at : CellAt) : Type 0 where
   pub number : ℕ
   pub tag : Tag
   pub home : Home
   pub named : HasEntry pages frame table number tag at home
   pub original : of_original (slice_get table.slots number) ≡ true
+  pub first : IsFirstOf pages frame number tag at
   pub cell : Cell
   pub is : IsUsed pages frame at cell
   pub value : Record
@@ -194,11 +196,14 @@ pub record IsQuotaOf (pages : Pages) (frame : Frame) (number : ℕ) (at : CellAt
   pub kind : number_at 1 15 bytes ≡ kind_number Quota
   pub fileset : IsFileset (number_at 1 14 bytes) (Some number)
 
--- what a slot has for its first quota cell is none of its fileset, or another leads to it
+-- what an original or a clone has for its first quota cell is none of its fileset, or another leads
+-- to it
 pub record HasWrongQuota (pages : Pages) (frame : Frame) (number : ℕ) (item : SlotItem) : Type 0
   where
+    pub entry : FilesetEntry
+    pub is : fileset_of item ≡ Some entry
     pub at : CellAt
-    pub named : quota_of item ≡ Some at
+    pub named : entry.quota ≡ Some at
     pub wrong : ¬ IsQuotaOf pages frame number at
         ⊎ ((other : CellAt) × LeadsTo pages frame other at)
 

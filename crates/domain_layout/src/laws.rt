@@ -3,7 +3,7 @@ ghost use Rattle.domain_base.specs.declared.place.Home.{Home};
 ghost use Rattle.page_store.specs.Pages.{Pages};
 ghost use Rattle.fileset_model.specs.Filesets.{FilesetMap};
 ghost use Rattle.fileset_model.specs.LooksLike.{LooksLike};
-ghost use Rattle.domain_layout.specs.Faults.{HasNoFault, HasNoTablesFault};
+ghost use Rattle.domain_layout.specs.Faults.{HasNoExtentFault, HasNoFault, HasNoTablesFault};
 ghost use Rattle.domain_layout.specs.Filled.{AreFilled, Contents};
 ghost use Rattle.domain_layout.specs.Reached.{Frame};
 ghost use Rattle.fileset_model.specs.Orders.{Name};
@@ -14,6 +14,12 @@ ghost use Rattle.domain_layout.specs.Shape.{HaveShapes, IsSameShapeThere, Shapes
 pub fn tables_have_no_fault()
     ensures { (pages : Pages) (frame : Frame) → HasNoFault pages frame
         → HasNoTablesFault pages frame }
+{}
+
+/// Nor do they break one of extents.
+pub fn extents_have_no_fault()
+    ensures { (pages : Pages) (frame : Frame) → HasNoFault pages frame
+        → HasNoExtentFault pages frame }
 {}
 
 /// Pages of metadata have one shape of each fileset at most.

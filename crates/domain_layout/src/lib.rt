@@ -4,4 +4,4 @@
 
 mod laws;
 
-pub use laws::{one_filling, one_shape, tables_have_no_fault};
+pub use laws::{extents_have_no_fault, one_filling, one_shape, tables_have_no_fault};

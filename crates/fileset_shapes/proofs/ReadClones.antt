@@ -7,7 +7,7 @@ use Rattle.domain_base.specs.declared.place.Kind.{Kind}
 use Rattle.domain_base.specs.declared.place.Kind.TheVariants.{Directory, File}
 use Rattle.domain_base.specs.declared.place.Tag.{Tag}
 use Rattle.page_store.specs.Pages.{Pages}
-use Rattle.bmt_mcells.specs.Chain.{PlacedCell}
+use Rattle.bmt_mcells.specs.Chain.{LinksFrom, PlacedCell}
 use Rattle.tag_dirs.specs.Directory.{cell_of}
 use Rattle.extent_maps.specs.Runs.{Places, home_at}
 use Rattle.extent_maps.specs.declared.run.PagePlace.{PagePlace}
@@ -20,7 +20,9 @@ use Rattle.fileset_table.specs.Table.{entry_of}
 use Rattle.fileset_table.specs.declared.slot.FilesetEntry.{FilesetEntry}
 use Rattle.fileset_table.specs.declared.slot.SlotItem.{SlotItem}
 use Rattle.fileset_table.specs.declared.slot.SlotItem.TheVariants as slot
-use Rattle.domain_layout.proofs.NoTables.{none_of_tables}
+use Rattle.domain_layout.proofs.NoTables.{none_of_extents}
+use Rattle.domain_layout.proofs.There.{is_not_there, is_there}
+use Rattle.filesets_reading.proofs.ChainsThere.{file_there}
 use Rattle.domain_layout.specs.Layout.{first_tag_of}
 use Rattle.page_filling.specs.Stored.{AreStored}
 use Rattle.domain_layout.specs.DirectoryRules.{Has, IsInClone}
@@ -93,7 +95,8 @@ module _ (pages : Pages) (own behind : FilesetFiles) (number : ℕ) (are : AreCl
     may = record {
       layout = are.layout;
       laid = are.whole.laid;
-      no_fault = none_of_tables pages (frame_of are.layout) are.whole.no_fault;
+      no_fault = none_of_extents pages (frame_of are.layout) are.whole.no_fault;
+      small = are.whole.small;
       first = are.entry.first_tag;
       has = own_tags;
       directory = are.own_files.directory;
@@ -112,11 +115,11 @@ module _ (pages : Pages) (own behind : FilesetFiles) (number : ℕ) (are : AreCl
       pub has : Has pages are.layout.table own.files.fileset tag (first ∷ rest) seen
       pub may : (page : ℕ) (home : Home) → seen.homes page ≡ Some home → MayBe (frame_of are.layout) home
 
-    has_in : (cells : List PlacedCell) (seen : SeenFile) → IsInClone pages own.files.fileset behind.files.fileset are.entry are.original number tag cells seen → Has pages are.layout.table own.files.fileset tag cells seen
+    has_in : (cells : List PlacedCell) (seen : SeenFile) → IsInClone pages are.entry are.original number tag cells seen → Has pages are.layout.table own.files.fileset tag cells seen
     has_in cells seen is = record {
       item = slot.Clone behind.files.fileset number are.entry;
       there = are.there;
-      is = subst (λ o. IsSomeAnd o (λ (original : FilesetEntry). IsInClone pages own.files.fileset behind.files.fileset are.entry original number tag cells seen)) (sym (ap (option_and_then entry_of) are.there_behind ∙ are.original_is)) is;
+      is = subst (λ o. IsSomeAnd o (λ (original : FilesetEntry). IsInClone pages are.entry original number tag cells seen)) (sym (ap (option_and_then entry_of) are.there_behind ∙ are.original_is)) is;
     }
 
     own_chains : HasChains pages own.files.fileset are.entry chains
@@ -141,11 +144,14 @@ module _ (pages : Pages) (own behind : FilesetFiles) (number : ℕ) (are : AreCl
             by_cell None none file = absurd file
             by_cell (Some a) at_cell file = named_source pages own behind number of_clone tag a from first rest at_cell file live is
 
-        by_cells : (from : CellAt) → source_of (first ∷ rest) ≡ Some from → (cells : List PlacedCell) → IsFile pages from cells → source page ≡ places_of cells page → MayBe (frame_of are.layout) home
-        by_cells from is [] file same = absurd file
-        by_cells from is (one ∷ more) file same =
-            page_may pages are.layout are.whole.laid are.whole.no_fault behind.files.fileset tag one more
-            (subst (λ a. ¬ ¬ IsFirstOf pages (frame_of are.layout) behind.files.fileset tag a) (sym file.0) (named from is)) file.1 page home (sym same ∙ at)
+        by_cells : (from : CellAt) → source_of (first ∷ rest) ≡ Some from → (cells : List PlacedCell) → LinksFrom pages from cells → source page ≡ places_of cells page → MayBe (frame_of are.layout) home
+        by_cells from is [] links same = absurd links
+        by_cells from is (one ∷ more) links same =
+            let first_of : ¬ ¬ IsFirstOf pages (frame_of are.layout) behind.files.fileset tag one.at =
+            subst (λ a. ¬ ¬ IsFirstOf pages (frame_of are.layout) behind.files.fileset tag a) (sym links.0) (named from is) in
+            let file =
+            file_there pages are.layout are.whole.laid (none_of_extents pages (frame_of are.layout) are.whole.no_fault) are.whole.small behind.files.fileset tag one more first_of links.1 in
+            page_may pages are.layout are.whole.laid are.whole.no_fault behind.files.fileset tag one more first_of file.is page home (sym same ∙ at)
 
         by_source : (o : Option CellAt) → source_of (first ∷ rest) ≡ o → IsSource pages o source → MayBe (frame_of are.layout) home
         by_source None is reads = absurd (let e : Absent ≡ At home = sym (reads page) ∙ at in absurd (cc))
@@ -158,7 +164,7 @@ module _ (pages : Pages) (own behind : FilesetFiles) (number : ℕ) (are : AreCl
       rest = rest;
       file = of.file;
       what = is.is;
-      has = has_in (first ∷ rest) seen (record { is = inl (record { chains = chains; has = own_chains; there = there }, live, is) });
+      has = has_in (first ∷ rest) seen (record { is = inl (is_there pages own.files.fileset are.entry chains own_chains tag (first ∷ rest) there, live, is) });
       may = λ page home at.
           ⊎_elim (λ here. page_may pages are.layout are.whole.laid are.whole.no_fault own.files.fileset tag first rest of.named of.file page home here)
           (λ there_source. source_may first rest there live is.source is.through page home there_source)
@@ -177,8 +183,8 @@ module _ (pages : Pages) (own behind : FilesetFiles) (number : ℕ) (are : AreCl
       what = k.what;
       has = has_in (first ∷ rest) seen (record {
         is = inr (
-          record { chains = chains; has = own_chains; none = none },
-          record { chains = chains_behind; has = behind_chains; there = there },
+          is_not_there pages own.files.fileset are.entry chains own_chains tag none,
+          is_there pages behind.files.fileset are.original chains_behind behind_chains tag (first ∷ rest) there,
           is,
         );
       });

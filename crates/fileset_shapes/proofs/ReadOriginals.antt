@@ -13,6 +13,7 @@ use Rattle.bitfile_core.specs.Files.{AreFiles, Chains, LeadsToFile}
 use Rattle.bitfile_core.specs.Shown.{AreIndexPages, ShowsAt, index_of}
 use Rattle.fileset_table.specs.declared.slot.SlotItem.TheVariants as slot
 use Rattle.domain_layout.proofs.NoTables.{none_of_tables}
+use Rattle.domain_layout.proofs.There.{is_there}
 use Rattle.domain_layout.specs.DirectoryRules.{Has}
 use Rattle.domain_layout.specs.Seen.{SeenFile, seen_in}
 use Rattle.domain_layout.specs.Owners.{frame_of}
@@ -78,7 +79,10 @@ module _ (pages : Pages) (files : FilesetFiles) (are : AreOriginals pages files)
   has_file chains fs found s = record {
     item = slot.Original are.entry;
     there = are.there;
-    is = record { there = record { chains = chains; has = record { places = files.tags; directory = are.by.directory; files = fs }; there = s.there }; is = s.is };
+    is = record {
+      there = is_there pages files.files.fileset are.entry chains (record { places = files.tags; directory = are.by.directory; files = fs }) tag (s.first ∷ s.rest) s.there;
+      is = s.is;
+    };
   }
 
   -- a tag at which a file is seen leads to its cell

@@ -1,5 +1,5 @@
 -- The shape of a fileset, by the list of its files.
-use Rattle.std.proofs.Common.{◌≡◌, ◌∙◌, ℕ, zero, suc, Bool, true, false, cond, List, [], ◌∷◌, Option, Some, None, IfSome, IsSomeAnd, slice_get, refl, sym, ap, subst}
+use Rattle.std.proofs.Common.{◌≡◌, ◌∙◌, ℕ, zero, suc, ◌^◌, ◌≤◌, Bool, true, false, cond, List, [], ◌∷◌, Option, Some, None, IfSome, IsSomeAnd, slice_get, refl, sym, ap, subst}
 use Rattle.std.specs.List.{list_all}
 use Rattle.std.specs.Prelude.{◌&&◌}
 use Rattle.std.specs.Option.{option_and_then, option_map, option_map_or}
@@ -7,6 +7,7 @@ use Rattle.domain_base.specs.Version.{number_of}
 use Rattle.domain_base.specs.declared.place.Tag.{Tag}
 use Rattle.page_store.specs.Bitfiles.{same_tag}
 use Rattle.page_store.specs.Pages.{Pages}
+use Rattle.log_ring.specs.Homes.{IsMember, member_of}
 use Rattle.tag_dirs.specs.declared.dir.TagPlace.{TagPlace}
 use Rattle.tag_dirs.specs.Directory.{IsDirectoryAt}
 use Rattle.tag_dirs.proofs.Reading.{same_directory}
@@ -17,8 +18,8 @@ use Rattle.fileset_table.specs.Table.{IsTable, Table, entry_of, is_original, lea
 use Rattle.fileset_table.specs.declared.slot.FilesetEntry.{FilesetEntry}
 use Rattle.fileset_table.specs.declared.slot.SlotItem.{SlotItem}
 use Rattle.fileset_table.specs.declared.slot.SlotItem.TheVariants as slot
-use Rattle.domain_layout.proofs.NoTables.{none_of_tables}
-use Rattle.domain_layout.specs.Faults.{HasNoFault, HasNoTablesFault, SaysTable}
+use Rattle.domain_layout.proofs.NoTables.{none_of_extents, none_of_tables}
+use Rattle.domain_layout.specs.Faults.{HasNoExtentFault, HasNoFault, SaysTable}
 use Rattle.domain_layout.specs.Layout.{Layout}
 use Rattle.domain_layout.specs.Owners.{frame_of}
 use Rattle.domain_layout.specs.Reached.{Frame}
@@ -102,11 +103,14 @@ module _ (pages : Pages) (frame : Frame) (tables : DomainTables) (domain : IsDom
   no_fault : HasNoFault pages (frame_of layout)
   no_fault = subst (HasNoFault pages) (sym domain.tables_are.is) domain.no_fault
 
-  no_tables_fault : HasNoTablesFault pages (frame_of layout)
-  no_tables_fault = none_of_tables pages (frame_of layout) no_fault
+  small : (vol : ℕ) → IsMember layout.anchor vol → (member_of layout.anchor vol).pages ≤ 2 ^ 32
+  small = subst (λ (f : Frame). (vol : ℕ) → IsMember f.anchor vol → (member_of f.anchor vol).pages ≤ 2 ^ 32) (sym domain.tables_are.is) domain.tables_are.small
+
+  no_extent_fault : HasNoExtentFault pages (frame_of layout)
+  no_extent_fault = none_of_extents pages (frame_of layout) no_fault
 
   pub whole : IsWhole pages layout
-  whole = record { laid = domain.tables_are.laid; no_fault = no_fault; all = subst (HasAllPages pages) (sym domain.tables_are.is) domain.all }
+  whole = record { laid = domain.tables_are.laid; no_fault = no_fault; small = small; all = subst (HasAllPages pages) (sym domain.tables_are.is) domain.all }
 
   table : HasOne layout.anchor.table (λ home. IsSomeAnd (pages home) (λ page. IsTablePage page layout.table))
   table = one_of layout.anchor.table (λ home. IsSomeAnd (pages home) (λ page. IsTablePage page layout.table)) domain.tables_are.laid.table
@@ -133,10 +137,10 @@ module _ (pages : Pages) (frame : Frame) (tables : DomainTables) (domain : IsDom
     tags_at = record { table = layout.table; says = says; number = number; has = has_tags }
 
     pub may_have_files : (places : List TagPlace) → IsDirectoryAt pages entry.first_tag places → MayHaveFiles pages number places
-    may_have_files places directory = record { layout = layout; laid = domain.tables_are.laid; no_fault = no_tables_fault; first = entry.first_tag; has = has_tags; directory = directory }
+    may_have_files places directory = record { layout = layout; laid = domain.tables_are.laid; no_fault = no_extent_fault; small = small; first = entry.first_tag; has = has_tags; directory = directory }
 
     pub in_slot : IsInSlot pages entry
-    in_slot = record { layout = layout; laid = domain.tables_are.laid; no_fault = no_tables_fault; number = number; item = has.item; there = slot_there number has.item has.there; is = has.is }
+    in_slot = record { layout = layout; laid = domain.tables_are.laid; no_fault = no_extent_fault.tables; number = number; item = has.item; there = slot_there number has.item has.there; is = has.is }
 
   -- the files by two readings of their tag directory
   pub files_by : (number : ℕ) (entry : FilesetEntry) (files : FilesetFiles) (again : List TagPlace) → files.files.fileset ≡ number → files.files.tags ≡ again

@@ -1,5 +1,5 @@
 -- Where no rule is broken: what the shape of a fileset has at a tag.
-use Rattle.std.proofs.Common.{◌≡◌, ◌∙◌, ◌⊎◌, inl, inr, ℕ, ◌≤◌, Bool, true, false, cond, nat_lt, List, [], ◌∷◌, Option, Some, None, IfSome, IsSomeAnd, refl, sym, ap, subst, ⊎_elim}
+use Rattle.std.proofs.Common.{◌≡◌, ◌∙◌, ◌⊎◌, inl, inr, ℕ, ◌≤◌, Bool, true, false, cond, List, [], ◌∷◌, Option, Some, None, IfSome, IsSomeAnd, refl, sym, ap, subst, ⊎_elim}
 use Rattle.std.specs.Prelude.{map, slice_get}
 use Rattle.std.specs.Option.{option_and_then}
 use Rattle.domain_base.specs.Limits.{max_links}
@@ -15,16 +15,11 @@ use Rattle.record_table.specs.declared.record.Record.{Record}
 use Rattle.record_table.specs.declared.record.Record.TheVariants as written
 use Rattle.bmt_mcells.specs.Cell.{record_of}
 use Rattle.bmt_mcells.specs.CellPage.{home_of}
-use Rattle.bmt_mcells.specs.Chain.{PlacedCell}
-use Rattle.tag_dirs.specs.declared.dir.TagPlace.{TagPlace}
-use Rattle.tag_dirs.proofs.Reading.{same_directory}
-use Rattle.extent_maps.specs.Runs.{Places, home_at}
-use Rattle.bitfile_cells.specs.Files.{AreFile, places_of}
-use Rattle.bitfile_core.proofs.Created.{one_chains}
-use Rattle.bitfile_core.proofs.Given.{one_file}
+use Rattle.bmt_mcells.specs.Chain.{LinksFrom, PlacedCell}
+use Rattle.tag_dirs.specs.Directory.{cell_of}
+use Rattle.bitfile_cells.specs.Files.{AreFile}
 use Rattle.bitfile_core.proofs.Room.{allowed_found}
-use Rattle.chain_release.specs.Reading.{own_or}
-use Rattle.bitfile_core.specs.Files.{AreFiles, Chains, LeadsToFile, attributes_in, attributes_of, is_removed, of_live}
+use Rattle.bitfile_core.specs.Files.{LeadsToFile, attributes_in, attributes_of, is_removed, of_live}
 use Rattle.bitfile_core.specs.Shown.{AreIndexPages, IsWhat, ShowsAt, ShowsFile, index_in, shown_page}
 use Rattle.bitfile_core.specs.declared.attributes.Attributes.{Attributes}
 use Rattle.fileset_table.specs.Table.{Table, entry_of}
@@ -36,8 +31,10 @@ use Rattle.domain_layout.specs.DirectoryRules.{AreReadPages, Has, HasIndex, HasI
 use Rattle.domain_layout.specs.Layout.{Layout}
 use Rattle.domain_layout.specs.Owners.{frame_of}
 use Rattle.domain_layout.specs.Reached.{IsUnread, MayBe, index_way}
-use Rattle.domain_layout.specs.Seen.{IsOfClone, IsOwn, IsOwnUnless, IsSource, SeenFile, frozen_of, seen_in, seen_through, source_of}
-use Rattle.domain_layout.specs.Shape.{FilesetShape, HasChains, IsClone, IsOriginal, IsSameSeen, IsShapeOf, ShowsSeen, ShowsSeenAt, shown_at}
+use Rattle.domain_layout.specs.Seen.{IsOfClone, IsOwn, IsOwnUnless, SeenFile, seen_in, seen_through}
+use Rattle.domain_layout.proofs.OneShape.{own_same}
+use Rattle.domain_layout.proofs.There.{chain_is, chain_none, is_there}
+use Rattle.domain_layout.specs.Shape.{FilesetShape, IsClone, IsOriginal, IsSameSeen, IsShapeOf, ShowsSeen, ShowsSeenAt, shown_at}
 use Rattle.domain_layout.specs.TagRules.{HasTags}
 use Rattle.layout_laws.proofs.OnePage.{HasOne, one_of, some_same}
 use Rattle.shape_reading.specs.declared.files.FilesetFiles.{FilesetFiles}
@@ -53,44 +50,30 @@ no_pages pages (page ∷ more) are = absurd are
 
 -- ---- one file
 
-chains_same : (pages : Pages) (number : ℕ) (entry : FilesetEntry) (a b : Chains) → HasChains pages number entry a → HasChains pages number entry b → (tag : Tag) → a tag ≡ b tag
-chains_same pages number entry a b has also =
-    let places = same_directory pages entry.first_tag has.places also.places has.directory also.directory in
-    one_chains pages number also.places a b (subst (λ (p : List TagPlace). AreFiles number p pages a) places has.files) also.files
-
-source_same : (pages : Pages) (at : Option CellAt) (a b : Places) → IsSource pages at a → IsSource pages at b → (page : ℕ) → a page ≡ b page
-source_same pages None a b is also page = is page ∙ sym (also page)
-source_same pages (Some at) a b is also page = is.2 page ∙ ap (λ cells. places_of cells page) (one_file pages at is.0 also.0 is.1 also.1) ∙ sym (also.2 page)
-
-own_same : (pages : Pages) (cells : List PlacedCell) (a b : SeenFile) → IsOwn pages cells a → IsOwn pages cells b → IsSameSeen a b
-own_same pages cells a b is also = record {
-  is = some_same a.is b.is (sym is.is ∙ also.is);
-  homes = λ page. is.homes page
-      ∙ ap (λ place. own_or (places_of cells page) (cond (nat_lt page (frozen_of cells)) (home_at place) None)) (source_same pages (source_of cells) is.source also.source is.through also.through page)
-      ∙ sym (also.homes page);
-}
-
 -- the cells of a file have a first one
-first_home : (number : ℕ) (places : List TagPlace) (pages : Pages) (tag : Tag) (cells : List PlacedCell) → LeadsToFile number places pages tag cells → (home : Home) × IsFirstHome cells home
-first_home number places pages tag [] leads = absurd leads.is_of
-first_home number places pages tag (first ∷ rest) leads = (home_of first.at, refl)
+links_first : (pages : Pages) (at : CellAt) (cells : List PlacedCell) → LinksFrom pages at cells → (home : Home) × IsFirstHome cells home
+links_first pages at [] links = absurd links
+links_first pages at (first ∷ rest) links = (home_of first.at, refl)
 
-there_first : (pages : Pages) (number : ℕ) (entry : FilesetEntry) (tag : Tag) (cells : List PlacedCell) → IsThere pages number entry tag cells → (home : Home) × IsFirstHome cells home
-there_first pages number entry tag cells is =
-    first_home number is.has.places pages tag cells (subst (λ o. IfSome o (LeadsToFile number is.has.places pages tag)) is.there (is.has.files.some tag))
+there_first : (pages : Pages) (entry : FilesetEntry) (tag : Tag) (cells : List PlacedCell) → IsThere pages entry tag cells → (home : Home) × IsFirstHome cells home
+there_first pages entry tag cells is = by_cell (cell_of pages is.places tag) is.leads
+  where
+    by_cell : (o : Option CellAt) → IsSomeAnd o (λ at. LinksFrom pages at cells) → (home : Home) × IsFirstHome cells home
+    by_cell None links = absurd links
+    by_cell (Some at) links = links_first pages at cells links
 
 -- each file that a fileset has has a first cell
 pub has_first : (pages : Pages) (table : Table) (number : ℕ) (tag : Tag) (cells : List PlacedCell) (seen : SeenFile) → Has pages table number tag cells seen → (home : Home) × IsFirstHome cells home
 has_first pages table number tag cells seen has = by_item has.item has.is
   where
-    by_entry : (of clone : ℕ) (entry : FilesetEntry) (o : Option FilesetEntry) → IsSomeAnd o (λ original. IsInClone pages number of entry original clone tag cells seen) → (home : Home) × IsFirstHome cells home
+    by_entry : (of clone : ℕ) (entry : FilesetEntry) (o : Option FilesetEntry) → IsSomeAnd o (λ original. IsInClone pages entry original clone tag cells seen) → (home : Home) × IsFirstHome cells home
     by_entry of clone entry None is = absurd is
-    by_entry of clone entry (Some original) is = ⊎_elim (λ own. there_first pages number entry tag cells own.0) (λ behind. there_first pages of original tag cells behind.1) is.is
+    by_entry of clone entry (Some original) is = ⊎_elim (λ own. there_first pages entry tag cells own.0) (λ behind. there_first pages original tag cells behind.1) is.is
 
-    by_item : (item : SlotItem) → IsInItem pages table number item tag cells seen → (home : Home) × IsFirstHome cells home
+    by_item : (item : SlotItem) → IsInItem pages table item tag cells seen → (home : Home) × IsFirstHome cells home
     by_item slot.Free is = absurd is
     by_item (slot.Removed first_tag quota) is = absurd is
-    by_item (slot.Original entry) is = there_first pages number entry tag cells is.there
+    by_item (slot.Original entry) is = there_first pages entry tag cells is.there
     by_item (slot.Clone of clone entry) is = by_entry of clone entry (option_and_then entry_of (slice_get table.slots of)) is
 
 -- how many links attributes may say
@@ -176,7 +159,7 @@ module _ (pages : Pages) (layout : Layout) (whole : IsWhole pages layout) where
         record {
           item = slot.Original entry;
           there = there;
-          is = record { there = record { chains = is.chains; has = is.has; there = c.at }; is = c.in_cells };
+          is = record { there = is_there pages number entry is.chains is.has tag (c.first ∷ c.rest) c.at; is = c.in_cells };
         } in
         record {
           first = c.first;
@@ -212,11 +195,11 @@ module _ (pages : Pages) (layout : Layout) (whole : IsWhole pages layout) where
     pub original_only : (tag : Tag) (cells : List PlacedCell) (seen : SeenFile) → Has pages layout.table number tag cells seen → IsSomeAnd (shape.files tag) (λ also. IsSameSeen also seen)
     original_only tag cells seen has = subst (λ o. IsSomeAnd o (λ (also : SeenFile). IsSameSeen also seen)) (sym (is.files tag ∙ ap (option_and_then seen_in) at ∙ in_original.is)) (record { is = refl; homes = λ page. refl })
       where
-        in_original : IsInOriginal pages number entry tag cells seen
-        in_original = subst (λ item. IsInItem pages layout.table number item tag cells seen) (some_same has.item (slot.Original entry) (sym has.there ∙ there)) has.is
+        in_original : IsInOriginal pages entry tag cells seen
+        in_original = subst (λ item. IsInItem pages layout.table item tag cells seen) (some_same has.item (slot.Original entry) (sym has.there ∙ there)) has.is
 
         at : is.chains tag ≡ Some cells
-        at = chains_same pages number entry is.chains in_original.there.chains is.has in_original.there.has tag ∙ in_original.there.there
+        at = chain_is pages number entry is.chains is.has tag cells in_original.there
 
     pub original_absent : (tag : Tag) → shape.files tag ≡ None → shape.shown tag ≡ None
     original_absent tag none = by_file (shape.shown tag) refl (is.shown tag)
@@ -324,26 +307,26 @@ module _ (pages : Pages) (layout : Layout) (whole : IsWhole pages layout) where
     pub clone_only : (tag : Tag) (cells : List PlacedCell) (seen : SeenFile) → Has pages layout.table number tag cells seen → IsSomeAnd (shape.files tag) (λ also. IsSameSeen also seen)
     clone_only tag cells seen has = ⊎_elim by_own by_behind in_clone.is
       where
-        in_item : IsInItem pages layout.table number (slot.Clone of clone entry) tag cells seen
-        in_item = subst (λ i. IsInItem pages layout.table number i tag cells seen) (some_same has.item (slot.Clone of clone entry) (sym has.there ∙ there)) has.is
+        in_item : IsInItem pages layout.table (slot.Clone of clone entry) tag cells seen
+        in_item = subst (λ i. IsInItem pages layout.table i tag cells seen) (some_same has.item (slot.Clone of clone entry) (sym has.there ∙ there)) has.is
 
-        in_clone : IsInClone pages number of entry original clone tag cells seen
-        in_clone = subst (λ o. IsSomeAnd o (λ (e : FilesetEntry). IsInClone pages number of entry e clone tag cells seen)) (ap (option_and_then entry_of) behind ∙ is_behind) in_item
+        in_clone : IsInClone pages entry original clone tag cells seen
+        in_clone = subst (λ o. IsSomeAnd o (λ (e : FilesetEntry). IsInClone pages entry e clone tag cells seen)) (ap (option_and_then entry_of) behind ∙ is_behind) in_item
 
         same_own : (o : Option SeenFile) → IsSomeAnd o (IsOwn pages cells) → IsOwn pages cells seen → IsSomeAnd o (λ (also : SeenFile). IsSameSeen also seen)
         same_own None also is_own = absurd also
         same_own (Some also) own_also is_own = own_same pages cells also seen own_also is_own
 
-        by_own : IsThere pages number entry tag cells × (is_removed cells ≡ false) × IsOwn pages cells seen → IsSomeAnd (shape.files tag) (λ (also : SeenFile). IsSameSeen also seen)
+        by_own : IsThere pages entry tag cells × (is_removed cells ≡ false) × IsOwn pages cells seen → IsSomeAnd (shape.files tag) (λ (also : SeenFile). IsSameSeen also seen)
         by_own (here, live, is_own) =
-            let at : is.chains tag ≡ Some cells = chains_same pages number entry is.chains here.chains is.has here.has tag ∙ here.there in
+            let at : is.chains tag ≡ Some cells = chain_is pages number entry is.chains is.has tag cells here in
             same_own (shape.files tag)
             (subst (λ b. IsOwnUnless b pages cells (shape.files tag)) live (subst (λ o. IsOfClone pages clone o (is.behind tag) (shape.files tag)) at (is.files tag))) is_own
 
-        by_behind : IsNotThere pages number entry tag × IsThere pages of original tag cells × (seen_through clone cells ≡ Some seen) → IsSomeAnd (shape.files tag) (λ (also : SeenFile). IsSameSeen also seen)
+        by_behind : IsNotThere pages entry tag × IsThere pages original tag cells × (seen_through clone cells ≡ Some seen) → IsSomeAnd (shape.files tag) (λ (also : SeenFile). IsSameSeen also seen)
         by_behind (not_here, here, is_through) =
-            let none : is.chains tag ≡ None = chains_same pages number entry is.chains not_here.chains is.has not_here.has tag ∙ not_here.none in
-            let at : is.behind tag ≡ Some cells = chains_same pages of original is.behind here.chains is.has_behind here.has tag ∙ here.there in
+            let none : is.chains tag ≡ None = chain_none pages number entry is.chains is.has tag not_here in
+            let at : is.behind tag ≡ Some cells = chain_is pages of original is.behind is.has_behind tag cells here in
             let files : shape.files tag ≡ option_and_then (seen_through clone) (is.behind tag) = subst (λ o. IsOfClone pages clone o (is.behind tag) (shape.files tag)) none (is.files tag) in
             subst (λ o. IsSomeAnd o (λ (also : SeenFile). IsSameSeen also seen)) (sym (files ∙ ap (option_and_then (seen_through clone)) at ∙ is_through)) (record { is = refl; homes = λ page. refl })
 

@@ -1,8 +1,9 @@
 -- The files of a fileset, tag by tag, as they are read.
-use Rattle.std.specs.Prelude.{◌≡◌, ℕ, List, Option, Some, IfSome, slice_get}
+use Rattle.std.specs.Prelude.{◌≡◌, ◌^◌, ◌≤◌, ℕ, List, Option, Some, IfSome, slice_get}
 use Rattle.std.specs.Option.{option_and_then, option_map}
 use Rattle.domain_base.specs.declared.place.Tag.{Tag}
 use Rattle.page_store.specs.Pages.{Pages}
+use Rattle.log_ring.specs.Homes.{IsMember, member_of}
 use Rattle.bmt_mcells.specs.Chain.{PlacedCell}
 use Rattle.tag_dirs.specs.Directory.{IsDirectoryAt}
 use Rattle.bitfile_core.specs.Files.{AreFiles, Chains}
@@ -25,10 +26,12 @@ use Rattle.fileset_shapes.specs.declared.found.TaggedFile.{TaggedFile}
 
 -- ** What stands on a domain's pages
 
--- pages are laid out as a domain's, break no rule, and are all there
+-- pages are laid out as a domain's, break no rule, and are all there; no member has more of them
+-- than a number of four bytes says
 pub record IsWhole (pages : Pages) (layout : Layout) : Type 0 where
   pub laid : IsLayout pages layout
   pub no_fault : HasNoFault pages (frame_of layout)
+  pub small : (vol : ℕ) → IsMember layout.anchor vol → (member_of layout.anchor vol).pages ≤ 2 ^ 32
   pub all : HasAllPages pages (frame_of layout)
 
 -- the files of a fileset with this entry are there, by its tag directory

@@ -1,11 +1,12 @@
 -- Where no rule is broken, what is read of a fileset says one.
-use Rattle.std.proofs.Common.{◌≡◌, ◌∙◌, ◌⊎◌, inl, inr, ⊎_elim, ℕ, zero, suc, false, List, [], ◌∷◌, length, map, Option, Some, None, IsSome, IsSomeAnd, is_some, Contains, slice_get, refl, sym, ap, subst}
+use Rattle.std.proofs.Common.{◌≡◌, ◌∙◌, ◌⊎◌, inl, inr, ⊎_elim, ℕ, zero, suc, ◌^◌, ◌≤◌, false, List, [], ◌∷◌, length, map, Option, Some, None, IsSome, IsSomeAnd, is_some, Contains, slice_get, refl, sym, ap, subst}
 use Rattle.std.specs.Option.{option_and_then, option_map, option_map_or}
 use Rattle.domain_base.specs.declared.place.Home.{Home}
 use Rattle.domain_base.specs.declared.place.Kind.TheVariants.{Directory}
 use Rattle.domain_base.specs.declared.place.Tag.{Tag}
 use Rattle.page_store.specs.Bitfiles.{Bitfile, Bitfiles, IsDirectory}
 use Rattle.page_store.specs.Pages.{Pages}
+use Rattle.log_ring.specs.Homes.{IsMember, member_of}
 use Rattle.dir_index.specs.Index.{index_pages}
 use Rattle.fileset_laws.proofs.ValidLemmas.{from_some_and, some_inj, to_some_and}
 use Rattle.fileset_model.specs.Orders.{Name}
@@ -81,6 +82,7 @@ module _ (pages : Pages) (frame : Frame) (tables : DomainTables) (domain : IsDom
   whole = record {
     laid = domain.tables_are.laid;
     no_fault = subst (HasNoFault pages) (sym domain.tables_are.is) domain.no_fault;
+    small = subst (λ (f : Frame). (vol : ℕ) → IsMember f.anchor vol → (member_of f.anchor vol).pages ≤ 2 ^ 32) (sym domain.tables_are.is) domain.tables_are.small;
     all = subst (HasAllPages pages) (sym domain.tables_are.is) domain.all;
   }
 

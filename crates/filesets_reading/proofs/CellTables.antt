@@ -19,7 +19,7 @@ use Rattle.domain_layout.specs.Layout.{IsCellTable, IsPageAt}
 use Rattle.domain_layout.specs.Reached.{Frame, IsUnread, cells_way, first_cells}
 use Rattle.layout_laws.proofs.ChainsAlike.{same_bytes}
 use Rattle.layout_laws.proofs.OnePage.{one_of, some_same}
-use Rattle.layout_laws.proofs.OwnedOnce.{same_number}
+use Rattle.layout_laws.proofs.Reached.{same_number}
 use Rattle.filesets_reading.specs.Good.{AreDecided, AreGood, IsDecided}
 use Rattle.filesets_reading.proofs.Ways.{IsWayTo, IsWholeWay, comes_read, get_map, get_pushed, map_pushed, way_begins, way_ends, way_on}
 use Rattle.log_ring.specs.Homes.{IsMember}

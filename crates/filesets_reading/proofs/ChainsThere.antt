@@ -1,39 +1,45 @@
--- Where no rule of tables is broken, the chain of cells from the first cell of a file is that file's.
-use Rattle.std.proofs.Common.{◌≡◌, ◌∙◌, inl, inr, ℕ, zero, suc, ◌+◌, ◌≤◌, Bool, true, false, cond, not, ◌&&◌, ◌||◌, List, [], ◌∷◌, ◌++◌, Option, Some, None, Contains, refl, sym, ap, subst, arith, ⊎_elim}
+-- Where no rule of tables and extents is broken, the chain of cells from the first cell of a file is that file's.
+use Rattle.std.proofs.Common.{◌≡◌, ◌∙◌, inl, inr, ℕ, zero, suc, ◌+◌, ◌^◌, ◌≤◌, Bool, true, false, cond, not, ◌&&◌, ◌||◌, List, [], ◌∷◌, ◌++◌, Option, Some, None, Contains, refl, sym, ap, subst, arith, ⊎_elim}
 use Rattle.std.proofs.lemmas.Bool.{and_parts, cases_Bool, cases_lt}
 use Rattle.std.proofs.lemmas.Bool.{le-leb}
 use Rattle.std.proofs.lemmas.Grind.{flat_map-append}
 use Rattle.std.proofs.lemmas.List.{append-nil}
 use Rattle.std.specs.List.{AllByRecursion, list_all}
 use Rattle.domain_base.specs.declared.place.CellAt.{CellAt}
+use Rattle.domain_base.specs.declared.place.Home.{Home}
 use Rattle.domain_base.specs.declared.place.Tag.{Tag}
+use Rattle.log_ring.specs.Homes.{IsMember, member_of}
 use Rattle.page_store.specs.Pages.{Pages}
 use Rattle.record_table.specs.Fields.{number_at}
 use Rattle.record_table.specs.Records.{Allowed, kind_of}
 use Rattle.record_table.specs.declared.record.Record.{Record}
 use Rattle.bmt_mcells.specs.Cell.{Cell, IsFileset, record_of}
+use Rattle.bmt_mcells.specs.CellPage.{home_of}
 use Rattle.bmt_mcells.specs.Chain.{AreLinked, Follow, PlacedCell, StandsAt, may_follow, records_of}
 use Rattle.bmt_mcells.specs.declared.head.CellKind.{CellKind}
 use Rattle.bmt_mcells.specs.declared.head.CellKind.TheVariants as kinds
 use Rattle.bmt_mcells.proofs.Walk.{one_kind}
-use Rattle.extent_maps.specs.declared.run.PagePlace.TheVariants.{Absent}
+use Rattle.extent_maps.specs.declared.run.PagePlace.TheVariants.{Absent, At}
 use Rattle.extent_records.specs.Rows.{IsPlaced, NoPageTwice, runs_in, runs_of, times}
 use Rattle.extent_records.specs.Writing.{IsMapRecord, most_rows, places_in}
-use Rattle.extent_records.proofs.PutLemmas.{all_back, all_front, times_append}
+use Rattle.extent_records.proofs.PutLemmas.{times_append}
 use Rattle.bitfile_cells.specs.Files.{AreFile, HasMap, IsMapCell, map_records}
 use Rattle.bitfile_cells.proofs.MapRecords.{runs_by_map}
 use Rattle.bitfile_core.specs.Files.{HasFirstKinds, IsOf, is_first_kind}
 use Rattle.domain_layout.specs.CellRules.{Follows, IsChainHead, IsUsed, Link, agree, begins, has_first_records, has_its_kinds, has_kind, is_chain_records, is_good_first, item_of, keeps_well, of_clone, of_original, say_removed}
 use Rattle.std.specs.Option.{option_map_or}
 use Rattle.fileset_table.specs.Table.{Table}
-use Rattle.domain_layout.specs.Faults.{HasNoTablesFault}
+use Rattle.domain_layout.specs.Faults.{HasNoExtentFault, HasNoTablesFault}
 use Rattle.domain_layout.specs.Layout.{IsLayout, Layout}
 use Rattle.domain_layout.specs.Owners.{frame_of}
+use Rattle.domain_layout.specs.Reached.{MayBe}
 use Rattle.domain_layout.specs.TagRules.{IsFirstOf}
 use Rattle.layout_laws.proofs.Named.{follows_on, last_link, link_of, link_to, no_cell}
 use Rattle.layout_laws.proofs.OnePage.{some_same}
+use Rattle.layout_laws.proofs.Reached.{may_be_by}
 use Rattle.filesets_reading.proofs.FirstCells.{OneRecord, all_first, chain_record, one_record}
-use Rattle.filesets_reading.proofs.MapRecords.{map_record, placed_by, some_times}
+use Rattle.filesets_reading.proofs.MapRecords.{map_record, some_times}
+use Rattle.filesets_reading.proofs.OnTables.{on_table}
 use Rattle.filesets_reading.proofs.TagPlaces.{equal_by, most_by}
 
 true_by : (b : Bool) → ¬ b ≡ false → b ≡ true
@@ -43,11 +49,6 @@ allowed_in : (rs : List Record) (r : Record) → AllByRecursion Allowed rs → C
 allowed_in [] r all (k, within, is) = absurd (omega (arith, within))
 allowed_in (x ∷ xs) r all (zero, within, is) = subst Allowed is all.0
 allowed_in (x ∷ xs) r all (suc k, within, is) = allowed_in xs r all.1 (k, omega (arith, within), is)
-
-placed_in : (rs : List Record) (value : Record) → Contains rs value → AllByRecursion IsPlaced (runs_of rs) → AllByRecursion IsPlaced (runs_in value)
-placed_in [] value (k, within, is) all = absurd (omega (arith, within))
-placed_in (r ∷ rs) value (zero, within, is) all = subst (λ v. AllByRecursion IsPlaced (runs_in v)) is (all_front IsPlaced (runs_in r) (runs_of rs) all)
-placed_in (r ∷ rs) value (suc k, within, is) all = placed_in rs value (k, omega (arith, within), is) (all_back IsPlaced (runs_in r) (runs_of rs) all)
 
 no_bool : false ≡ true → ⊥
 no_bool is = cc
@@ -152,16 +153,21 @@ all_placed (c ∷ cs) maps =
 
 -- ---- the cells of a chain
 
-module _ (pages : Pages) (layout : Layout) (laid : IsLayout pages layout) (none : HasNoTablesFault pages (frame_of layout)) where
-  -- each page that a cell in use names has a home
-  has_homes : (at : CellAt) (cell : Cell) → ¬ ¬ IsUsed pages (frame_of layout) at cell → AllByRecursion IsPlaced (runs_of cell.records)
-  has_homes at cell used =
-      placed_by (runs_of cell.records)
-      (λ wrong. used (λ is. no_cell pages layout laid none at (inr (inr (inr (inr (inr (inr (inr (inr (record { cell = cell; used = is; wrong = wrong })))))))))))
+module _ (pages : Pages) (layout : Layout) (laid : IsLayout pages layout) (fault : HasNoExtentFault pages (frame_of layout)) (small : (vol : ℕ) → IsMember layout.anchor vol → (member_of layout.anchor vol).pages ≤ 2 ^ 32) where
+  none : HasNoTablesFault pages (frame_of layout)
+  none = fault.tables
+
+  -- what a cell in use says of pages
+  may_stand : (at : CellAt) (cell : Cell) → ¬ ¬ IsUsed pages (frame_of layout) at cell → (value : Record) → Contains cell.records value → (p : ℕ) (home : Home) → places_in value p ≡ At home → MayBe (frame_of layout) home
+  may_stand at cell used value among p home stands =
+      may_be_by (frame_of layout) home
+      (λ wrong. used (λ is.
+      fault.extents layout (home_of at) refl laid
+      (at, refl, record { page = p; home = home; has = record { cell = cell; on = on_table pages layout laid at cell is.place is.stands; value = value; among = among; place = stands }; wrong = inl wrong })))
 
   map_of : (at : CellAt) (cell : Cell) → StandsAt pages at cell → ¬ ¬ IsUsed pages (frame_of layout) at cell → (value : Record) → Contains cell.records value → 1 ≤ most_rows (kind_of value) → IsMapRecord value
   map_of at cell stands used value among rows =
-      map_record value (allowed_in cell.records value stands.is.well_formed.allowed among) rows (placed_in cell.records value among (has_homes at cell used))
+      map_record (frame_of layout) small value (allowed_in cell.records value stands.is.well_formed.allowed among) rows (may_stand at cell used value among)
 
   module _ (start : CellAt) (first : Link) (head : ¬ ¬ IsChainHead pages (frame_of layout) start first) where
     used_on : (passed : List CellAt) (c : PlacedCell) → ¬ ¬ Follows pages (frame_of layout) start passed c.at (link_to c.cell) → StandsAt pages c.at c.cell → ¬ ¬ IsUsed pages (frame_of layout) c.at c.cell

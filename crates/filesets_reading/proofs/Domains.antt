@@ -1,27 +1,29 @@
 -- What is in each slot of a domain's table may have its files.
-use Rattle.std.proofs.Common.{◌≡◌, ℕ, ◌<◌, List, Option, Some, None, IsSomeAnd, length, slice_get, sym, ap, subst, arith}
+use Rattle.std.proofs.Common.{◌≡◌, ℕ, ◌^◌, ◌<◌, ◌≤◌, List, Option, Some, None, IsSomeAnd, length, slice_get, sym, ap, subst, arith}
 use Rattle.std.proofs.lemmas.Option.{slice_get_within}
 use Rattle.domain_base.specs.declared.place.Home.{Home}
+use Rattle.log_ring.specs.Homes.{IsMember, member_of}
 use Rattle.page_store.specs.Pages.{Pages}
 use Rattle.tag_dirs.specs.declared.dir.TagPlace.{TagPlace}
 use Rattle.tag_dirs.specs.Directory.{IsDirectoryAt}
 use Rattle.fileset_table.specs.Page.{IsTablePage}
 use Rattle.fileset_table.specs.Table.{Table}
 use Rattle.fileset_table.specs.declared.slot.SlotItem.{SlotItem}
-use Rattle.domain_layout.specs.Faults.{HasNoTablesFault}
+use Rattle.domain_layout.specs.Faults.{HasNoExtentFault}
 use Rattle.domain_layout.specs.Layout.{AreTagPlaces, first_tag_of}
 use Rattle.domain_layout.specs.Reached.{Frame}
 use Rattle.filesets_reading.specs.Chains.{MayHaveFiles}
 use Rattle.filesets_reading.specs.Tables.{AreTablesOf}
 use Rattle.filesets_reading.specs.declared.tables.DomainTables.{DomainTables}
 
-pub may_have : (pages : Pages) (frame : Frame) (tables : DomainTables) → AreTablesOf pages frame tables → HasNoTablesFault pages frame
+pub may_have : (pages : Pages) (frame : Frame) (tables : DomainTables) → AreTablesOf pages frame tables → HasNoExtentFault pages frame
     → (number : ℕ) (item : SlotItem) (first : Home) (places : List TagPlace) → slice_get tables.filesets.slots number ≡ Some item → first_tag_of item ≡ Some first
     → slice_get tables.tags.items number ≡ Some places → MayHaveFiles pages number places
 may_have pages frame tables are none number item first places there has at = record {
   layout = are.layout;
   laid = are.laid;
-  no_fault = subst (HasNoTablesFault pages) (sym are.is) none;
+  no_fault = subst (HasNoExtentFault pages) (sym are.is) none;
+  small = λ vol member. subst (λ (f : Frame). IsMember f.anchor vol → (member_of f.anchor vol).pages ≤ 2 ^ 32) (sym are.is) (are.small vol) member;
   first = first;
   has = record { item = item; there = slot; has = has };
   directory = subst (IsDirectoryAt pages first) (are.tags number places at) (subst (λ o. AreTagPlaces pages o (are.layout.tags number)) has (are.laid.tags number item slot));

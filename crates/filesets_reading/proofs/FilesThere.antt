@@ -1,4 +1,4 @@
--- Where no rule of tables is broken, and the chains of its tags were read, a fileset has its files.
+-- Where no rule of tables and extents is broken, and the chains of its tags were read, a fileset has its files.
 use Rattle.std.proofs.Common.{◌≡◌, ℕ, false, List, [], ◌∷◌, Option, Some, None, IfSome, IsSomeAnd, refl, sym, subst}
 use Rattle.domain_base.specs.declared.place.CellAt.{CellAt}
 use Rattle.domain_base.specs.declared.place.Tag.{Tag}
@@ -30,10 +30,10 @@ parted pages at (first ∷ rest) links = record { first = first; rest = rest; al
 
 module _ (pages : Pages) (number : ℕ) (places : List TagPlace) (may : MayHaveFiles pages number places) where
   named : (tag : Tag) (at : CellAt) → cell_of pages places tag ≡ Some at → ¬ ¬ IsFirstOf pages (frame_of may.layout) number tag at
-  named tag at leads = first_there pages may.layout may.laid may.no_fault number may.first may.has places may.directory tag at leads
+  named tag at leads = first_there pages may.layout may.laid may.no_fault.tables number may.first may.has places may.directory tag at leads
 
   pub are_unbroken : IsUnbroken pages places
-  are_unbroken tag at x leads = unbroken pages may.layout may.laid may.no_fault number tag at (named tag at leads) x
+  are_unbroken tag at x leads = unbroken pages may.layout may.laid may.no_fault.tables number tag at (named tag at leads) x
 
   module _ (links : HaveLinks pages places) where
     chain_by : (tag : Tag) (o : Option CellAt) → cell_of pages places tag ≡ o → Option (List PlacedCell)
@@ -50,7 +50,7 @@ module _ (pages : Pages) (number : ℕ) (places : List TagPlace) (may : MayHaveF
       all : cells ≡ first ∷ rest
       at_first : first.at ≡ at
       of : ¬ ¬ IsFirstOf pages (frame_of may.layout) number tag first.at
-      there : FileThere pages may.layout may.laid may.no_fault number tag first rest
+      there : FileThere pages may.layout may.laid may.no_fault may.small number tag first rest
 
     cells_of : (tag : Tag) (at : CellAt) (leads : cell_of pages places tag ≡ Some at) → Cells tag at (links tag at leads).0
     cells_of tag at leads =
@@ -62,7 +62,7 @@ module _ (pages : Pages) (number : ℕ) (places : List TagPlace) (may : MayHaveF
           all = parts.all;
           at_first = parts.links.0;
           of = of;
-          there = file_there pages may.layout may.laid may.no_fault number tag parts.first parts.rest of parts.links.1;
+          there = file_there pages may.layout may.laid may.no_fault may.small number tag parts.first parts.rest of parts.links.1;
         }
 
     none_by : (tag : Tag) (o : Option CellAt) (leads : cell_of pages places tag ≡ o) → chain_by tag o leads ≡ None → o ≡ None
@@ -95,7 +95,7 @@ module _ (pages : Pages) (number : ℕ) (places : List TagPlace) (may : MayHaveF
         let ys = cells_of t onto other in
         subst (λ cs. AreApart cs (links t onto other).0) (sym xs.all)
         (subst (AreApart (xs.first ∷ xs.rest)) (sym ys.all)
-        (files_apart pages may.layout may.laid may.no_fault number s t xs.first xs.rest ys.first ys.rest xs.of xs.there.is ys.of ys.there.is differ))
+        (files_apart pages may.layout may.laid may.no_fault.tables number s t xs.first xs.rest ys.first ys.rest xs.of xs.there.is ys.of ys.there.is differ))
 
     pub have_files : HasFiles number places pages
     have_files = (

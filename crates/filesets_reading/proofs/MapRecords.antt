@@ -1,9 +1,9 @@
--- Records that the format allows say each page once.
+-- Records that the format allows say each page once, and place each that stands where one may.
 use Rattle.std.proofs.Common.{◌≡◌, ◌∙◌, inl, inr, ℕ, zero, suc, ◌+◌, ◌-◌, ◌^◌, ◌<◌, ◌≤◌, Bool, true, false, cond, nat_eq, List, [], ◌∷◌, ◌++◌, refl, sym, ap, subst, arith, ⊎_elim}
 use Rattle.std.proofs.lemmas.Bool.{cases_Bool, cases_lt, eqb-true}
 use Rattle.std.specs.List.{AllByRecursion, flat_map}
-use Rattle.domain_base.specs.Limits.{file_pages, max_volumes}
 use Rattle.domain_base.specs.declared.place.Home.{Home}
+use Rattle.log_ring.specs.Homes.{IsMember, member_of}
 use Rattle.record_table.specs.Records.{Allowed, AreExtents, AreHoles, NoExtent, NoHole, kind_of}
 use Rattle.record_table.specs.declared.record.ExtentField.{ExtentField}
 use Rattle.record_table.specs.declared.record.HoleField.{HoleField}
@@ -18,7 +18,7 @@ use Rattle.extent_maps.proofs.EditLemmas.{covers_from}
 use Rattle.extent_maps.proofs.RunLemmas.{covers_not_before, covers_not_behind}
 use Rattle.extent_records.specs.Rows.{IsPlaced, NoPageTwice, OnVolume, holes_at, run_of, runs_at, runs_in, times}
 use Rattle.extent_records.specs.Writing.{IsMapRecord, most_rows, places_in}
-use Rattle.filesets_reading.proofs.TagPlaces.{most_by}
+use Rattle.domain_layout.specs.Reached.{Frame, MayBe}
 
 -- ---- runs that rise
 
@@ -94,34 +94,66 @@ some_times (r ∷ rs) p some absent = by_cover (covers r p) refl some absent (so
     by_cover true is some absent later = not_absent (behind (p - r.page) r.first) absent
     by_cover false is some absent later = later (omega (arith, some)) absent
 
--- ---- runs that cannot but have homes
+-- ---- pages that stand where they may
 
-fits_by : (count : ℕ) (first : RunPlace) → ¬ ¬ FitsVolume count first → FitsVolume count first
-fits_by count (place.At home) not = most_by (home.page + count) (2 ^ 32) not
-fits_by count place.Holes not = tt
+module _ (frame : Frame) (small : (vol : ℕ) → IsMember frame.anchor vol → (member_of frame.anchor vol).pages ≤ 2 ^ 32) where
+  -- what is said of a run that is in front
+  first_page : (r : Run) (rs : List Run) → 1 ≤ r.count → place_of (r ∷ rs) r.page ≡ placed (behind 0 r.first)
+  first_page r rs some =
+      let zero_behind : r.page - r.page ≡ 0 = omega arith in
+      ap (λ b. cond b (placed (behind (r.page - r.page) r.first)) (place_of rs r.page)) (covers_from r r.page (omega arith) (omega (arith, some)))
+      ∙ ap (λ n. placed (behind n r.first)) zero_behind
 
-volume_by : (first : RunPlace) → ¬ ¬ OnVolume first → OnVolume first
-volume_by (place.At home) not = (most_by 1 home.vol (λ away. not (λ is. away is.0)), most_by home.vol max_volumes (λ away. not (λ is. away is.1)))
-volume_by place.Holes not = tt
+  last_page : (r : Run) (rs : List Run) (n : ℕ) → r.count ≡ suc n → place_of (r ∷ rs) (r.page + n) ≡ placed (behind n r.first)
+  last_page r rs n count =
+      let offset : (r.page + n) - r.page ≡ n = omega arith in
+      ap (λ b. cond b (placed (behind ((r.page + n) - r.page) r.first)) (place_of rs (r.page + n))) (covers_from r (r.page + n) (omega arith) (omega (arith, count)))
+      ∙ ap (λ m. placed (behind m r.first)) offset
 
-run_by : (r : Run) → ¬ ¬ IsPlaced r → IsPlaced r
-run_by r not = record {
-  is_run = record {
-    some = most_by 1 r.count (λ away. not (λ is. away is.is_run.some));
-    ends = most_by (end_of r) file_pages (λ away. not (λ is. away is.is_run.ends));
-    homes = fits_by r.count r.first (λ away. not (λ is. away is.is_run.homes));
-  };
-  volume = volume_by r.first (λ away. not (λ is. away is.volume));
-}
+  run_placed : (r : Run) (rs : List Run) → 1 ≤ r.count → end_of r ≤ 65536 → ((p : ℕ) (home : Home) → place_of (r ∷ rs) p ≡ At home → MayBe frame home) → IsPlaced r
+  run_placed r rs some ends may = by_first r.first refl
+    where
+      by_count : (home : Home) → r.first ≡ place.At home → (n : ℕ) → r.count ≡ n → home.page + r.count ≤ 2 ^ 32
+      by_count home at zero count = omega (arith, some, count)
+      by_count home at (suc n) count =
+          let stands : place_of (r ∷ rs) (r.page + n) ≡ At (record { vol = home.vol; page = home.page + n }) = last_page r rs n count ∙ ap (λ f. placed (behind n f)) at in
+          let within = (may (r.page + n) (record { vol = home.vol; page = home.page + n }) stands).0 in
+          omega (arith, within.1, small home.vol within.0, count)
 
-pub placed_by : (runs : List Run) → ¬ ¬ AllByRecursion IsPlaced runs → AllByRecursion IsPlaced runs
-placed_by [] not = tt
-placed_by (r ∷ rs) not = (run_by r (λ away. not (λ all. away all.0)), placed_by rs (λ away. not (λ all. away all.1)))
+      by_first : (first : RunPlace) → r.first ≡ first → IsPlaced r
+      by_first place.Holes at = record {
+        is_run = record { some = some; ends = ends; homes = subst (FitsVolume r.count) (sym at) tt };
+        volume = subst OnVolume (sym at) tt;
+      }
+      by_first (place.At home) at =
+          let stands : place_of (r ∷ rs) r.page ≡ At (record { vol = home.vol; page = home.page + 0 }) = first_page r rs some ∙ ap (λ f. placed (behind 0 f)) at in
+          let member = (may r.page (record { vol = home.vol; page = home.page + 0 }) stands).0.0 in
+          record {
+            is_run = record { some = some; ends = ends; homes = subst (FitsVolume r.count) (sym at) (by_count home at r.count refl) };
+            volume = subst OnVolume (sym at) (member.first, member.last);
+          }
 
-pub map_record : (r : Record) → Allowed r → 1 ≤ most_rows (kind_of r) → AllByRecursion IsPlaced (runs_in r) → IsMapRecord r
-map_record r allowed some placed = record {
-  has_rows = some;
-  allowed = allowed;
-  placed = placed;
-  once = rising_once 0 (runs_in r) (allowed_rise r allowed);
-}
+  -- a page in front of all runs is in none
+  absent_before : (from : ℕ) (runs : List Run) (p : ℕ) → RunsFrom from runs → p < from → place_of runs p ≡ Absent
+  absent_before from [] p rise low = refl
+  absent_before from (r ∷ rs) p rise low =
+      let before : p < r.page = omega (arith, low, rise.0) in
+      ap (λ b. cond b (placed (behind (p - r.page) r.first)) (place_of rs p)) (covers_not_before r p before)
+      ∙ absent_before (end_of r) rs p rise.3 (omega (arith, before))
+
+  runs_placed : (from : ℕ) (runs : List Run) → RunsFrom from runs → ((p : ℕ) (home : Home) → place_of runs p ≡ At home → MayBe frame home) → AllByRecursion IsPlaced runs
+  runs_placed from [] rise may = tt
+  runs_placed from (r ∷ rs) rise may = (run_placed r rs rise.1 rise.2 may, runs_placed (end_of r) rs rise.3 later)
+    where
+      later : (p : ℕ) (home : Home) → place_of rs p ≡ At home → MayBe frame home
+      later p home at =
+          ⊎_elim (λ low. absurd (let e : Absent ≡ At home = sym (absent_before (end_of r) rs p rise.3 low) ∙ at in absurd (cc)))
+          (λ high. may p home (ap (λ b. cond b (placed (behind (p - r.page) r.first)) (place_of rs p)) (covers_not_behind r p high) ∙ at)) (cases_lt p (end_of r))
+
+  pub map_record : (r : Record) → Allowed r → 1 ≤ most_rows (kind_of r) → ((p : ℕ) (home : Home) → places_in r p ≡ At home → MayBe frame home) → IsMapRecord r
+  map_record r allowed some may = record {
+    has_rows = some;
+    allowed = allowed;
+    placed = runs_placed 0 (runs_in r) (allowed_rise r allowed) may;
+    once = rising_once 0 (runs_in r) (allowed_rise r allowed);
+  }

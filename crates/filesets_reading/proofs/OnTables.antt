@@ -15,7 +15,7 @@ use Rattle.layout_laws.proofs.OnePage.{some_same}
 use Rattle.filesets_reading.proofs.Ways.{pushed, within_of}
 use Rattle.log_ring.specs.Homes.{IsMember}
 
-contains_at : (xs : List ℕ) (k x : ℕ) → slice_get xs k ≡ Some x → Contains xs x
+pub contains_at : (xs : List ℕ) (k x : ℕ) → slice_get xs k ≡ Some x → Contains xs x
 contains_at [] k x is = absurd (let e : None ≡ Some x = is in absurd (cc))
 contains_at (y ∷ ys) zero x is = (0, omega arith, some_same y x is)
 contains_at (y ∷ ys) (suc k) x is = let more = contains_at ys k x is in (suc more.0, omega (arith, more.1), more.2)
@@ -31,9 +31,9 @@ index_at (y ∷ ys) zero x is = some_same y x is
 index_at (y ∷ ys) (suc k) x is = index_at ys k x is
 
 -- a home that is come to behind so many pages is that page of the table
-record IsThere (table : List ℕ) (vol : ℕ) (passed : List Home) (home : Home) : Type 0 where
-  same : home.vol ≡ vol
-  there : slice_get table (length passed) ≡ Some home.page
+pub record IsThere (table : List ℕ) (vol : ℕ) (passed : List Home) (home : Home) : Type 0 where
+  pub same : home.vol ≡ vol
+  pub there : slice_get table (length passed) ≡ Some home.page
 
 module _ (pages : Pages) (layout : Layout) (laid : IsLayout pages layout) (vol : ℕ) (member : IsMember layout.anchor vol) where
   leads_on : (passed : List Home) (home onto : Home) (page : List ℕ) → IsThere (layout.cells vol) vol passed home → pages home ≡ Some page
@@ -61,7 +61,7 @@ module _ (pages : Pages) (layout : Layout) (laid : IsLayout pages layout) (vol :
           eq_zero : (n : ℕ) → n ≡ 0 → nat_eq n 0 ≡ true
           eq_zero n is = ap (λ m. nat_eq m 0) is
 
-  is_there : (passed : List Home) (home : Home) → Reaches pages (frame_of layout) (cells_way (frame_of layout) vol) passed home → IsThere (layout.cells vol) vol passed home
+  pub is_there : (passed : List Home) (home : Home) → Reaches pages (frame_of layout) (cells_way (frame_of layout) vol) passed home → IsThere (layout.cells vol) vol passed home
   is_there passed home reached = elim reached as (λ passed home reached. IsThere (layout.cells vol) vol passed home) [
     | begins ↦ record { same = refl; there = (laid.cells vol member).begins }
     | goes_on passed home onto page (before → earlier) may fresh there so leads ↦ leads_on passed home onto page earlier there leads

@@ -17,7 +17,8 @@ use Rattle.domain_layout.specs.TagRules.{HasTags, IsTagsFault, IsTagsPage}
 use Rattle.fileset_table.proofs.Unique.{table_unique}
 use Rattle.fileset_table.specs.Page.{IsTablePage}
 use Rattle.layout_laws.proofs.OnePage.{one_of, some_same}
-use Rattle.layout_laws.proofs.OwnedOnce.{on_a_volume, same_number}
+use Rattle.layout_laws.proofs.OwnedOnce.{on_a_volume}
+use Rattle.layout_laws.proofs.Reached.{same_number}
 use Rattle.filesets_reading.specs.Good.{AreGood, HasTagsAt}
 use Rattle.filesets_reading.proofs.CellTables.{no_tables}
 use Rattle.filesets_reading.proofs.Ways.{IsWayTo, IsWholeWay, comes_read, get_map, get_pushed, map_pushed, way_begins, way_ends, way_on}

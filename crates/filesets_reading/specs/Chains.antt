@@ -1,13 +1,14 @@
--- The chains of a fileset's files, which are whole where no rule of tables is broken.
-use Rattle.std.specs.Prelude.{◌≡◌, ◌/◌, ℕ, List, Some, slice_get}
+-- The chains of a fileset's files, which are whole where no rule of tables and extents is broken.
+use Rattle.std.specs.Prelude.{◌≡◌, ◌/◌, ◌^◌, ◌≤◌, ℕ, List, Some, slice_get}
 use Rattle.domain_base.specs.declared.place.CellAt.{CellAt}
 use Rattle.domain_base.specs.declared.place.Home.{Home}
 use Rattle.domain_base.specs.declared.place.Tag.{Tag}
 use Rattle.page_store.specs.Pages.{Pages}
+use Rattle.log_ring.specs.Homes.{IsMember, member_of}
 use Rattle.bmt_mcells.specs.Chain.{IsBroken, LinksFrom, PlacedCell}
 use Rattle.tag_dirs.specs.Directory.{IsDirectoryAt, cell_of}
 use Rattle.tag_dirs.specs.declared.dir.TagPlace.{TagPlace}
-use Rattle.domain_layout.specs.Faults.{HasNoTablesFault}
+use Rattle.domain_layout.specs.Faults.{HasNoExtentFault}
 use Rattle.domain_layout.specs.Layout.{IsLayout, Layout}
 use Rattle.domain_layout.specs.Owners.{frame_of}
 use Rattle.domain_layout.specs.TagRules.{HasTags}
@@ -39,12 +40,13 @@ abbrev pub IsUnbroken : Pages → List TagPlace → Type 0
 IsUnbroken pages places = (tag : Tag) (at broken : CellAt) → cell_of pages places tag ≡ Some at
     → ¬ IsBroken pages at broken
 
--- pages that are laid out as a domain's and break no rule of tables; what is in a slot has this tag
--- directory
+-- pages that are laid out as a domain's and break no rule of tables and extents; what is in a slot
+-- has this tag directory, and no member has more pages than a number of four bytes says
 pub record MayHaveFiles (pages : Pages) (number : ℕ) (places : List TagPlace) : Type 0 where
   pub layout : Layout
   pub laid : IsLayout pages layout
-  pub no_fault : HasNoTablesFault pages (frame_of layout)
+  pub no_fault : HasNoExtentFault pages (frame_of layout)
+  pub small : (vol : ℕ) → IsMember layout.anchor vol → (member_of layout.anchor vol).pages ≤ 2 ^ 32
   pub first : Home
   pub has : HasTags layout.table number first
   pub directory : IsDirectoryAt pages first places

@@ -73,7 +73,8 @@ fn look_at_tags<M: MetaPages>(
     Ok(())
 }
 
-/// Reads the chain of each file of a fileset: so where no rule of tables is broken, it has its files.
+/// Reads the chain of each file of a fileset: so where no rule of tables and extents is broken, it
+/// has its files.
 pub fn look_at_files<M: MetaPages>(
     alloc: Global,
     pages: &M,

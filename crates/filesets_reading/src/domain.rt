@@ -1,6 +1,6 @@
 //! All tables and files of a domain.
 ghost use Rattle.std.specs.Prelude.{◌≡◌, IfOk, OnOk, Some, slice_get};
-ghost use Rattle.domain_layout.specs.Faults.{HasNoTablesFault};
+ghost use Rattle.domain_layout.specs.Faults.{HasNoExtentFault};
 ghost use Rattle.filesets_reading.specs.Good.{IsNamed, frame_at};
 ghost use Rattle.filesets_reading.specs.Domain.{HasFilesOf, HaveAllFiles};
 ghost use Rattle.filesets_reading.specs.Tables.{AreTablesOf};
@@ -22,7 +22,7 @@ fn look_at_slot<M: MetaPages>(
     number: FilesetNo,
 ) -> Result<(), OutOfMemory>
     requires tables { AreTablesOf (M.pages pages.now) (frame_at anchor.now version) tables.now }
-    requires no_fault { HasNoTablesFault (M.pages pages.now) (frame_at anchor.now version) }
+    requires no_fault { HasNoExtentFault (M.pages pages.now) (frame_at anchor.now version) }
     ensures { OnOk result (HasFilesOf (M.pages pages.now) tables.now number) }
 {
     match first_tag(tables.filesets.slot(number)) {
@@ -31,8 +31,8 @@ fn look_at_slot<M: MetaPages>(
     }
 }
 
-/// The tables of a domain with this anchor, where no rule of tables is broken: its pages are laid out
-/// as a domain's are, and each fileset has its files.
+/// The tables of a domain with this anchor, where no rule of tables and extents is broken: its pages
+/// are laid out as a domain's are, and each fileset has its files.
 pub fn read_domain<M: MetaPages>(
     alloc: Global,
     pages: &M,
@@ -40,7 +40,7 @@ pub fn read_domain<M: MetaPages>(
     version: Version,
 ) -> Result<DomainTables, OutOfMemory>
     requires named { IsNamed anchor.now version }
-    requires no_fault { HasNoTablesFault (M.pages pages.now) (frame_at anchor.now version) }
+    requires no_fault { HasNoExtentFault (M.pages pages.now) (frame_at anchor.now version) }
     ensures tables { IfOk result (AreTablesOf (M.pages pages.now) (frame_at anchor.now version)) }
     ensures files { IfOk result (HaveAllFiles (M.pages pages.now)) }
 {

@@ -12,6 +12,7 @@ use Rattle.domain_layout.specs.CellRules as rule
 use Rattle.domain_layout.specs.CellRules.{AreHolesOfOriginal, AreInChain, AreLimitsTwice, Follows, HasWrongCell, HasWrongHeader, IsCellFault, IsCellsFault, IsCellsPage, IsChainHead, IsInChain, IsLedTo, IsLink, IsNoCellsPage, IsPageTwice, IsPlace, IsUnchained, IsUsed, IsWrongFirst, IsWrongLater, IsWrongVolumeCell, LeadsTo, LeadsWrong, Link}
 use Rattle.domain_layout.specs.Reached.{Frame, IsRead, IsUnread, MayBe, Reaches, Way, begins, cells_way, goes_on}
 use Rattle.layout_laws.specs.Alike.{AgreeOnCells, AgreeOnWay}
+use Rattle.layout_laws.proofs.Reached.{may_or_not}
 
 -- ---- which pages are read
 
@@ -19,18 +20,18 @@ pub reaches : (one other : Pages) (frame : Frame) (way : Way) → AgreeOnWay one
 reaches one other frame way agree passed home reached = elim reached as (λ passed home reached. Reaches other frame way passed home) [
   | begins ↦ begins
   | goes_on passed home onto page (before → earlier) may fresh there so leads ↦
-      goes_on passed home onto page earlier may fresh (sym (agree passed home before) ∙ there) so leads
+      goes_on passed home onto page earlier may fresh (sym (agree passed home before may) ∙ there) so leads
 ]
 
 reaches_back : (one other : Pages) (frame : Frame) (way : Way) → AgreeOnWay one other frame way → (passed : List Home) (home : Home) → Reaches other frame way passed home → Reaches one frame way passed home
 reaches_back one other frame way agree passed home reached = elim reached as (λ passed home reached. Reaches one frame way passed home) [
   | begins ↦ begins
   | goes_on passed home onto page (before → earlier) may fresh there so leads ↦
-      goes_on passed home onto page earlier may fresh (agree passed home earlier ∙ there) so leads
+      goes_on passed home onto page earlier may fresh (agree passed home earlier may ∙ there) so leads
 ]
 
 pub turned : (one other : Pages) (frame : Frame) (way : Way) → AgreeOnWay one other frame way → AgreeOnWay other one frame way
-turned one other frame way agree passed home reached = sym (agree passed home (reaches_back one other frame way agree passed home reached))
+turned one other frame way agree passed home reached may = sym (agree passed home (reaches_back one other frame way agree passed home reached) may)
 
 pub read : (one other : Pages) (frame : Frame) (way : Way) → AgreeOnWay one other frame way → (place : ℕ) (home : Home) (page : List ℕ) → IsRead one frame way place home page → IsRead other frame way place home page
 read one other frame way agree place home page is = record {
@@ -38,7 +39,7 @@ read one other frame way agree place home page is = record {
   reached = reaches one other frame way agree is.passed home is.reached;
   may = is.may;
   fresh = is.fresh;
-  there = sym (agree is.passed home is.reached) ∙ is.there;
+  there = sym (agree is.passed home is.reached is.may) ∙ is.there;
   begins = is.begins;
   at = is.at;
 }
@@ -47,7 +48,9 @@ pub unread : (one other : Pages) (frame : Frame) (way : Way) → AgreeOnWay one 
 unread one other frame way agree home is = record {
   passed = is.passed;
   reached = reaches one other frame way agree is.passed home is.reached;
-  wrong = subst (λ o. ¬ MayBe frame home ⊎ Contains is.passed home ⊎ ¬ IsSomeAnd o (λ page. way.begins_so page ≡ true)) (agree is.passed home is.reached) is.wrong;
+  wrong = ⊎_elim (λ may.
+      subst (λ o. ¬ MayBe frame home ⊎ Contains is.passed home ⊎ ¬ IsSomeAnd o (λ page. way.begins_so page ≡ true)) (agree is.passed home is.reached may) is.wrong)
+      (λ none. inl none) (may_or_not frame home);
 }
 
 pub turned_cells : (one other : Pages) (frame : Frame) → AgreeOnCells one other frame → AgreeOnCells other one frame
@@ -68,7 +71,7 @@ module _ (one other : Pages) (frame : Frame) (agree : AgreeOnCells one other fra
   -- the same bytes stand at a place
   pub bytes_alike : (at : CellAt) → IsPlace one frame at → cell_at one at ≡ cell_at other at
   bytes_alike at place =
-      let same = agree at.vol place.is.member place.is.read.passed (home_of at) place.is.read.reached in
+      let same = agree at.vol place.is.member place.is.read.passed (home_of at) place.is.read.reached place.is.read.may in
       ap (λ o. option_and_then (λ page. cond (is_cell_page page && nat_lt at.cell 28) (Some (cell_of page at.cell)) None) o) same
 
   pub link_alike : (at : CellAt) (link : Link) → IsLink one frame at link → IsLink other frame at link
@@ -217,8 +220,7 @@ module _ (one other : Pages) (frame : Frame) (agree : AgreeOnCells one other fra
       (λ c. inr (⊎_elim (λ w. inl (leads_wrong_alike at w))
       (λ d. inr (⊎_elim (λ w. inl (unchained_alike at w))
       (λ e. inr (⊎_elim (λ w. inl (page_twice_alike at w))
-      (λ f. inr (⊎_elim (λ w. inl (limits_twice_alike at w))
-      (λ g. inr (⊎_elim (λ w. inl (holes_alike at w)) (λ w. inr (record { cell = w.cell; used = used_alike one other frame agree at w.cell w.used; wrong = w.wrong })) g)) f)) e)) d)) c)) b)) a))
+      (λ f. inr (⊎_elim (λ w. inl (limits_twice_alike at w)) (λ w. inr (holes_alike at w)) f)) e)) d)) c)) b)) a))
       fault
 
   pub cells_fault_alike : (home : Home) → IsCellsFault one frame table home → IsCellsFault other frame table home

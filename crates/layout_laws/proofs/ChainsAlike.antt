@@ -8,8 +8,8 @@ use Rattle.page_store.specs.Pages.{Pages}
 use Rattle.record_table.specs.Fields.{number_at}
 use Rattle.bmt_mcells.specs.Cell.{Cell}
 use Rattle.bmt_mcells.specs.CellPage.{cell_of as bytes_of, home_of, is_cell_page}
-use Rattle.bmt_mcells.specs.Chain.{AreLinked, Follow, PlacedCell, StandsAt}
-use Rattle.bmt_mcells.specs.declared.head.CellKind.TheVariants.{Quota}
+use Rattle.bmt_mcells.specs.Chain.{AreLinked, Follow, LinksFrom, PlacedCell, StandsAt}
+use Rattle.bmt_mcells.specs.declared.head.CellKind.TheVariants.{Primary, Quota}
 use Rattle.bmt_mcells.proofs.Walk.{one_kind}
 use Rattle.tag_dirs.specs.declared.dir.TagPlace.{TagPlace}
 use Rattle.tag_dirs.specs.Directory.{IsDirectoryAt, IsPageOf, cell_for, cell_of, home_behind, home_with}
@@ -28,11 +28,13 @@ use Rattle.domain_layout.specs.Faults.{HasNoTablesFault}
 use Rattle.domain_layout.specs.Layout.{IsLayout, Layout}
 use Rattle.domain_layout.specs.Owners.{frame_of}
 use Rattle.domain_layout.specs.Shape.{AreLimits, AreQuotas, HasChains}
-use Rattle.domain_layout.specs.TagRules.{HasTags, IsQuotaOf, quota_of}
+use Rattle.domain_layout.specs.Reached.{tags_way}
+use Rattle.domain_layout.specs.TagRules.{HasTags, IsFirstOf, IsQuotaOf}
 use Rattle.layout_laws.specs.Alike.{AgreeOnCells, AgreeOnTags}
 use Rattle.layout_laws.proofs.Named.{InChain, begins_file, first_there, goes_along, holds_quotas, place_in}
 use Rattle.layout_laws.proofs.OnePage.{some_same}
-use Rattle.layout_laws.proofs.OwnedOnce.{no_tags, same_number, table_at, tags_come}
+use Rattle.layout_laws.proofs.OwnedOnce.{no_tags, table_at, tags_come, tags_read}
+use Rattle.layout_laws.proofs.Reached.{read_after, same_number}
 
 -- ---- pages that cannot differ are the same
 
@@ -56,17 +58,11 @@ same_page None (Some y) not = absurd (not (λ (same : None ≡ Some y). absurd (
 same_page (Some x) None not = absurd (not (λ (same : Some x ≡ None). absurd (cc)))
 same_page (Some x) (Some y) not = ⊎_elim (λ same. ap Some same) (λ other. absurd (not (λ same. other (some_same x y same)))) (same_bytes x y)
 
-quota_is : (item : SlotItem) (entry : FilesetEntry) → fileset_of item ≡ Some entry → quota_of item ≡ entry.quota
-quota_is slots.Free entry is = absurd (let e : None ≡ Some entry = is in absurd (cc))
-quota_is (slots.Original found) entry is = ap (λ (e : FilesetEntry). e.quota) (some_same found entry is)
-quota_is (slots.Clone of number found) entry is = ap (λ (e : FilesetEntry). e.quota) (some_same found entry is)
-quota_is (slots.Removed first_tag quota) entry is = absurd (let e : None ≡ Some entry = is in absurd (cc))
-
 module _ (one other : Pages) (layout : Layout) (laid : IsLayout one layout) (none : HasNoTablesFault one (frame_of layout)) (cells : AgreeOnCells one other (frame_of layout)) where
   -- ---- cells
 
   page_alike : (at : CellAt) → ¬ ¬ IsPlace one (frame_of layout) at → one (home_of at) ≡ other (home_of at)
-  page_alike at there = same_page (one (home_of at)) (other (home_of at)) (λ differ. there (λ place. differ (cells at.vol place.is.member place.is.read.passed (home_of at) place.is.read.reached)))
+  page_alike at there = same_page (one (home_of at)) (other (home_of at)) (λ differ. there (λ place. differ (cells at.vol place.is.member place.is.read.passed (home_of at) place.is.read.reached place.is.read.may)))
 
   stands_alike : (at : CellAt) (cell : Cell) → ¬ ¬ IsPlace one (frame_of layout) at → StandsAt one at cell → StandsAt other at cell
   stands_alike at cell there stands =
@@ -107,6 +103,21 @@ module _ (one other : Pages) (layout : Layout) (laid : IsLayout one layout) (non
         },
       )
 
+  -- the cells that are linked from a first cell on
+  pub linked_alike : (number : ℕ) (tag : Tag) (at : CellAt) → ¬ ¬ IsFirstOf one (frame_of layout) number tag at → (cells : List PlacedCell) → LinksFrom one at cells → LinksFrom other at cells
+  linked_alike number tag at named [] links = absurd links
+  linked_alike number tag at named (first ∷ rest) (same, links) = (same, links_alike first rest in_chain links)
+    where
+      kind : (is : IsFirstOf one (frame_of layout) number tag first.at) → first.cell.head.kind ≡ Primary
+      kind is =
+          let bytes : is.bytes ≡ links.stands.bytes = some_same is.bytes links.stands.bytes (sym is.there ∙ links.stands.there) in
+          one_kind first.cell.head.kind Primary (sym links.stands.is.head.kind ∙ ap (number_at 1 15) (sym bytes) ∙ is.kind)
+
+      in_chain : ¬ ¬ InChain one layout first.at first.cell
+      in_chain alone = named (λ at_is.
+          let is : IsFirstOf one (frame_of layout) number tag first.at = subst (IsFirstOf one (frame_of layout) number tag) (sym same) at_is in
+          alone (begins_file one layout laid none first.at first.cell is.place links.stands (kind is)))
+
   -- ---- limits
 
   quotas_alike : (number : ℕ) (at : CellAt) → ¬ ¬ IsQuotaOf one (frame_of layout) number at → (first : PlacedCell) (rest : List PlacedCell) → first.at ≡ at → AreLinked one first rest → AreLinked other first rest
@@ -128,9 +139,8 @@ module _ (one other : Pages) (layout : Layout) (laid : IsLayout one layout) (non
       right : (at : CellAt) → entry.quota ≡ Some at → ¬ ¬ IsQuotaOf one (frame_of layout) number at
       right at quota wrong =
           let home = table_at one layout laid none in
-          let named : quota_of item ≡ Some at = quota_is item entry is ∙ quota in
           no_tags one layout laid none home.0
-          (inr (inr (inr (inr (inr (inr (home.1, record { number = number; item = item; there = slot; wrong = inr (record { at = at; named = named; wrong = inl wrong }) })))))))
+          (inr (inr (inr (inr (inr (inr (home.1, record { number = number; item = item; there = slot; wrong = inr (record { entry = entry; is = is; at = at; named = quota; wrong = inl wrong }) })))))))
 
       by_cells : (at : CellAt) → entry.quota ≡ Some at → AreQuotas one (Some at) are.records → AreQuotas other (Some at) are.records
       by_cells at quota ([], links, same) = absurd links
@@ -146,7 +156,8 @@ module _ (one other : Pages) (layout : Layout) (laid : IsLayout one layout) (non
     tag_page_alike : (k : ℕ) (p : TagPlace) → slice_get dir k ≡ Some p → one p.home ≡ other p.home
     tag_page_alike k p there =
         let come = tags_come one layout laid none number first has dir stands k p there in
-        tags number first has come.passed p.home come.reached
+        let read = read_after one (frame_of layout) (tags_way first) (tags_read one layout laid none number first has) come.passed p.home come.reached in
+        tags number first has come.passed p.home come.reached read.may
 
     pub directory_alike : IsDirectoryAt other first dir
     directory_alike = record {

@@ -2,7 +2,6 @@
 use Rattle.std.proofs.Common.{◌≡◌, ◌∙◌, ℕ, zero, suc, ◌+◌, ◌*◌, ◌<◌, ◌≤◌, List, Some, slice_index, refl, sym, ap, subst, arith, ⊎_elim}
 use Rattle.std.proofs.lemmas.Bool.{eqb-true}
 use Rattle.std.specs.List.{AllByRecursion}
-use Rattle.extent_records.specs.Rows.{IsPlaced, runs_of}
 use Rattle.domain_base.specs.declared.place.CellAt.{CellAt}
 use Rattle.domain_base.specs.declared.place.Home.{Home}
 use Rattle.domain_base.specs.declared.version.Version.{Version}
@@ -94,9 +93,6 @@ module _ (pages : Pages) (frame : Frame) (anchor : IsNewAnchor frame) (page : Li
   used_volume : (at : CellAt) (cell : Cell) → IsUsed pages frame at cell → cell.head.kind ≡ Volume
   used_volume at cell used = ap (λ (c : Cell). c.head.kind) (used_is at cell used) ∙ is.says.kind
 
-  no_runs : (at : CellAt) (cell : Cell) → IsUsed pages frame at cell → AllByRecursion IsPlaced (runs_of cell.records)
-  no_runs at cell used = subst (λ rs. AllByRecursion IsPlaced (runs_of rs)) (sym (ap (λ (c : Cell). c.records) (used_is at cell used) ∙ is.says.says)) tt
-
   no_head : (at : CellAt) (link : Link) → ¬ IsChainHead pages frame at link
   no_head at link head =
       let volume = (link_is at link head.0).volume in
@@ -129,8 +125,7 @@ module _ (pages : Pages) (frame : Frame) (anchor : IsNewAnchor frame) (page : Li
       (λ d. ⊎_elim (λ w. let volume = (link_is at w.link w.is).volume in ⊎_elim (no_chain w.link.kind volume) (no_quota w.link.kind volume) w.kind)
       (λ e. ⊎_elim (λ w. no_head w.chain.start w.first w.chain.is_head)
       (λ f. ⊎_elim (λ w. no_head w.chain.start w.first w.chain.is_head)
-      (λ g. ⊎_elim (λ w. no_primary w.first.head.kind (used_volume w.start w.first w.first_is) w.kind)
-      (λ w. w.wrong (no_runs at w.cell w.used)) g) f) e) d) c) b) a)
+      (λ w. no_primary w.first.head.kind (used_volume w.start w.first w.first_is) w.kind) f) e) d) c) b) a)
       fault
 
   pub no_cells_fault : (table : Table) (home : Home) → ¬ IsCellsFault pages frame table home

@@ -7,7 +7,8 @@ use Rattle.domain_base.specs.declared.place.Tag.{Tag}
 use Rattle.page_store.specs.Pages.{Pages}
 use Rattle.bmt_mcells.specs.declared.head.CellKind.TheVariants.{Primary, Quota, Volume}
 use Rattle.bmt_mcells.specs.Chain.{PlacedCell}
-use Rattle.fileset_table.specs.Table.{IsNewTable, Table}
+use Rattle.fileset_table.specs.Table.{IsNewTable, Table, entry_of}
+use Rattle.fileset_table.specs.declared.slot.FilesetEntry.{FilesetEntry}
 use Rattle.fileset_table.specs.declared.slot.SlotItem.{SlotItem}
 use Rattle.fileset_table.specs.declared.slot.SlotItem.TheVariants.{Free}
 use Rattle.domain_layout.specs.CellRules.{of_original}
@@ -15,7 +16,7 @@ use Rattle.domain_layout.specs.DirectoryRules.{Has, IsInItem, IsDirectoryFault}
 use Rattle.domain_layout.specs.Layout.{first_tag_of}
 use Rattle.domain_layout.specs.Reached.{Frame}
 use Rattle.domain_layout.specs.Seen.{SeenFile}
-use Rattle.domain_layout.specs.TagRules.{HasTags, HasWrongNumber, IsNamingFault, IsTagsFault, IsWrongSlot, quota_of}
+use Rattle.domain_layout.specs.TagRules.{HasTags, HasWrongNumber, IsNamingFault, IsTagsFault, IsWrongSlot}
 use Rattle.layout_laws.specs.NewDomain.{IsNewAnchor, IsNewCells, firsts, on_first}
 use Rattle.layout_laws.proofs.NewCells.{kind_is, link_is, used_is}
 use Rattle.layout_laws.proofs.OnePage.{some_same}
@@ -40,20 +41,20 @@ module _ (table : Table) (fresh : IsNewTable table) where
       let e : false ≡ true = sym (ap (λ i. of_original (Some i)) (all_free number item there)) ∙ original in
       absurd (cc)
 
-  no_entry : (number : ℕ) (item : SlotItem) (at : CellAt) → slice_get table.slots number ≡ Some item
-      → ¬ quota_of item ≡ Some at
-  no_entry number item at there named =
-      let none : None ≡ Some at = sym (ap quota_of (all_free number item there)) ∙ named in
+  no_entry : (number : ℕ) (item : SlotItem) (entry : FilesetEntry) → slice_get table.slots number ≡ Some item
+      → ¬ entry_of item ≡ Some entry
+  no_entry number item entry there is =
+      let none : None ≡ Some entry = sym (ap entry_of (all_free number item there)) ∙ is in
       absurd (cc)
 
   no_wrong_slot : (pages : Pages) (frame : Frame) → ¬ IsWrongSlot pages frame table
   no_wrong_slot pages frame wrong =
       ⊎_elim (λ number. subst (HasWrongNumber table) (all_free wrong.number wrong.item wrong.there) number)
-      (λ quota. no_entry wrong.number wrong.item quota.at wrong.there quota.named) wrong.wrong
+      (λ quota. no_entry wrong.number wrong.item quota.entry wrong.there quota.is) wrong.wrong
 
   pub has_none : (pages : Pages) (number : ℕ) (tag : Tag) (cells : List PlacedCell) (seen : SeenFile) → ¬ Has pages table number tag cells seen
   has_none pages number tag cells seen has =
-      subst (λ i. IsInItem pages table number i tag cells seen) (all_free number has.item has.there) has.is
+      subst (λ i. IsInItem pages table i tag cells seen) (all_free number has.item has.there) has.is
 
   module _ (pages : Pages) (frame : Frame) (anchor : IsNewAnchor frame) (page : List ℕ) (there : pages (on_first (firsts frame).cells) ≡ Some page) (is : IsNewCells frame page) where
     no_naming_fault : (at : CellAt) → ¬ IsNamingFault pages frame table at

@@ -29,7 +29,7 @@ use Rattle.domain_layout.specs.Reached.{IsRead, IsReserved, IsUnread, Reaches, b
 use Rattle.domain_layout.specs.TagRules.{HasTags, IsTagsFault, IsTagsPage}
 use Rattle.layout_laws.proofs.OnePage.{HasOne, one_of, some_same}
 use Rattle.layout_laws.proofs.OneTable.{within_page}
-use Rattle.layout_laws.proofs.Reached.{is_read, read_after, reached_once}
+use Rattle.layout_laws.proofs.Reached.{is_read, read_after, reached_once, same_number}
 use Rattle.log_ring.specs.Homes.{IsMember}
 
 -- ---- lists
@@ -55,9 +55,6 @@ before_in (q ∷ ps) zero p is = (q, refl)
 before_in (q ∷ ps) (suc k) p is = before_in ps k p is
 
 -- ---- owners that are the same or not
-
-pub same_number : (m n : ℕ) → (m ≡ n) ⊎ ¬ m ≡ n
-same_number m n = ⊎_elim (λ same. inl same) (λ apart. inr (λ same. ⊎_elim (λ less. omega (arith, less, same)) (λ more. omega (arith, more, same)) apart)) (cases_order m n)
 
 pub same_cell : (a b : CellAt) → (a ≡ b) ⊎ ¬ a ≡ b
 same_cell a b =
@@ -146,12 +143,12 @@ module _ (pages : Pages) (layout : Layout) (laid : IsLayout pages layout) (none 
         behind = length-append earlier.passed ((record { vol = vol; page = slice_index table k }) ∷ []) ∙ omega (arith, earlier.behind);
       }
 
-  record IsCellPlace (home : Home) : Type 0 where
-    place : ℕ
-    page : List ℕ
-    is : IsCellsPage pages (frame_of layout) place home page
+  pub record IsCellPlace (home : Home) : Type 0 where
+    pub place : ℕ
+    pub page : List ℕ
+    pub is : IsCellsPage pages (frame_of layout) place home page
 
-  cell_place : (home : Home) → IsMember layout.anchor home.vol → Contains (layout.cells home.vol) home.page → IsCellPlace home
+  pub cell_place : (home : Home) → IsMember layout.anchor home.vol → Contains (layout.cells home.vol) home.page → IsCellPlace home
   cell_place home member (k, within, is) =
       let at : slice_index (layout.cells home.vol) k ≡ home.page = sym (any_default (layout.cells home.vol) k home.page within) ∙ is in
       let come = comes_to home.vol k member within in
@@ -160,7 +157,7 @@ module _ (pages : Pages) (layout : Layout) (laid : IsLayout pages layout) (none 
       let read = is_read pages (frame_of layout) (cells_way (frame_of layout) home.vol) (cells_read home.vol member) come.passed home reached in
       record { place = length come.passed; page = read.0; is = record { member = member; read = read.1 } }
 
-  used_on : (at : CellAt) (cell : Cell) → IsOnTable pages layout at cell → IsUsed pages (frame_of layout) at cell
+  pub used_on : (at : CellAt) (cell : Cell) → IsOnTable pages layout at cell → IsUsed pages (frame_of layout) at cell
   used_on at cell on =
       let place = cell_place (home_of at) on.member on.table in
       record {
@@ -199,12 +196,12 @@ module _ (pages : Pages) (layout : Layout) (laid : IsLayout pages layout) (none 
           behind = length-append earlier.passed (q.home ∷ []) ∙ omega (arith, earlier.behind);
         }
 
-  record IsTagPlace (number : ℕ) (home : Home) : Type 0 where
-    place : ℕ
-    page : List ℕ
-    is : IsTagsPage pages (frame_of layout) layout.table number place home page
+  pub record IsTagPlace (number : ℕ) (home : Home) : Type 0 where
+    pub place : ℕ
+    pub page : List ℕ
+    pub is : IsTagsPage pages (frame_of layout) layout.table number place home page
 
-  tag_place : (number : ℕ) (home : Home) → HasTagPage layout number home → IsTagPlace number home
+  pub tag_place : (number : ℕ) (home : Home) → HasTagPage layout number home → IsTagPlace number home
   tag_place number home has = by_first (first_tag_of has.item) refl (laid.tags number has.item has.there)
     where
       by_first : (o : Option Home) → first_tag_of has.item ≡ o → AreTagPlaces pages o (layout.tags number) → IsTagPlace number home

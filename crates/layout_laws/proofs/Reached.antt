@@ -1,11 +1,13 @@
 -- Pages that are come to, where each of them is read.
-use Rattle.std.proofs.Common.{◌≡◌, ◌∙◌, ◌⊎◌, inl, inr, ℕ, zero, suc, ◌<◌, Bool, true, false, List, [], ◌∷◌, ◌++◌, length, Option, Some, None, Contains, IsSomeAnd, refl, sym, ap, subst, arith, ⊎_elim, length-append}
+use Rattle.std.proofs.Common.{◌≡◌, ◌∙◌, ◌⊎◌, inl, inr, ℕ, zero, suc, ◌+◌, ◌<◌, Bool, true, false, List, [], ◌∷◌, ◌++◌, length, Option, Some, None, Contains, IsSomeAnd, refl, sym, ap, subst, arith, ⊎_elim, length-append}
 use Rattle.std.proofs.lemmas.Bool.{cases_lt, cases_order}
+use Rattle.domain_base.specs.Limits.{log_pages}
 use Rattle.domain_base.specs.declared.place.Home.{Home}
-use Rattle.log_ring.specs.Homes.{member_of}
+use Rattle.disk_label.specs.declared.anchor.Anchor.{Anchor}
+use Rattle.log_ring.specs.Homes.{IsLogPage, IsMember, member_of}
 use Rattle.page_store.specs.Pages.{Pages}
 use Rattle.layout_laws.proofs.OnePage.{some_same}
-use Rattle.domain_layout.specs.Reached.{Frame, IsRead, IsUnread, IsWithin, MayBe, Reaches, Way, begins, goes_on}
+use Rattle.domain_layout.specs.Reached.{Frame, IsRead, IsReserved, IsUnread, IsWithin, MayBe, Reaches, Way, begins, first_cells, goes_on}
 
 -- ---- what cannot be wrong is right
 
@@ -23,12 +25,12 @@ within_by frame home not_wrong = (
 pub may_be_by : (frame : Frame) (home : Home) → ¬ (¬ MayBe frame home) → MayBe frame home
 may_be_by frame home not_wrong = (within_by frame home not_wrong, (λ reserved. not_wrong (λ may. may.1 reserved)))
 
-record BeginsAt (pages : Pages) (way : Way) (home : Home) : Type 0 where
-  page : List ℕ
-  there : pages home ≡ Some page
-  so : way.begins_so page ≡ true
+pub record BeginsAt (pages : Pages) (way : Way) (home : Home) : Type 0 where
+  pub page : List ℕ
+  pub there : pages home ≡ Some page
+  pub so : way.begins_so page ≡ true
 
-begins_by : (pages : Pages) (way : Way) (home : Home) → ¬ (¬ IsSomeAnd (pages home) (λ page. way.begins_so page ≡ true)) → BeginsAt pages way home
+pub begins_by : (pages : Pages) (way : Way) (home : Home) → ¬ (¬ IsSomeAnd (pages home) (λ page. way.begins_so page ≡ true)) → BeginsAt pages way home
 begins_by pages way home not_wrong = by_page (pages home) refl not_wrong
   where
     by_test : (page : List ℕ) (b : Bool) → way.begins_so page ≡ b → pages home ≡ Some page → ¬ (¬ way.begins_so page ≡ true) → BeginsAt pages way home
@@ -38,6 +40,41 @@ begins_by pages way home not_wrong = by_page (pages home) refl not_wrong
     by_page : (o : Option (List ℕ)) → pages home ≡ o → ¬ (¬ IsSomeAnd o (λ page. way.begins_so page ≡ true)) → BeginsAt pages way home
     by_page None none not_wrong = absurd (not_wrong (λ is. is))
     by_page (Some page) there not_wrong = by_test page (way.begins_so page) refl there not_wrong
+
+-- ---- what is so or not
+
+pub same_number : (m n : ℕ) → (m ≡ n) ⊎ ¬ m ≡ n
+same_number m n = ⊎_elim (λ same. inl same) (λ apart. inr (λ same. ⊎_elim (λ less. omega (arith, less, same)) (λ more. omega (arith, more, same)) apart)) (cases_order m n)
+
+pub member_or_none : (anchor : Anchor) (vol : ℕ) → IsMember anchor vol ⊎ ¬ IsMember anchor vol
+member_or_none anchor vol =
+    ⊎_elim (λ low. inr (λ is. omega (arith, low, is.first)))
+    (λ first. ⊎_elim (λ last. ⊎_elim (λ none. inr (λ is. omega (arith, none, is.there)))
+    (λ there. ⊎_elim (λ whole. inl (record { first = first; last = omega (arith, last); there = there; whole = omega (arith, whole) }))
+    (λ more. inr (λ is. omega (arith, more, is.whole))) (cases_lt (member_of anchor vol).state 3)) (cases_lt (member_of anchor vol).state 1))
+    (λ far. inr (λ is. omega (arith, far, is.last))) (cases_lt vol 9)) (cases_lt vol 1)
+
+log_or_not : (anchor : Anchor) (home : Home) → IsLogPage anchor home ⊎ ¬ IsLogPage anchor home
+log_or_not anchor home =
+    ⊎_elim (λ vol.
+    ⊎_elim (λ low. inr (λ is. omega (arith, low, is.1)))
+    (λ first. ⊎_elim (λ last. inl (vol, first, last)) (λ far. inr (λ is. omega (arith, far, is.2))) (cases_lt home.page (anchor.log_page + log_pages))) (cases_lt home.page anchor.log_page))
+    (λ other. inr (λ is. other is.0)) (same_number home.vol anchor.log_vol)
+
+-- a page is one that tables and files may have, or none
+pub reserved_or_not : (frame : Frame) (home : Home) → IsReserved frame home ⊎ ¬ IsReserved frame home
+reserved_or_not frame home =
+    ⊎_elim (λ low. inl (inl low))
+    (λ behind. ⊎_elim (λ log. inl (inr log)) (λ off. inr (λ reserved. ⊎_elim (λ low. omega (arith, low, behind)) off reserved)) (log_or_not frame.anchor home)) (cases_lt home.page (first_cells frame home.vol))
+
+pub within_or_not : (frame : Frame) (home : Home) → IsWithin frame home ⊎ ¬ IsWithin frame home
+within_or_not frame home =
+    ⊎_elim (λ member. ⊎_elim (λ within. inl (member, within)) (λ far. inr (λ is. omega (arith, far, is.1))) (cases_lt home.page (member_of frame.anchor home.vol).pages))
+    (λ none. inr (λ is. none is.0)) (member_or_none frame.anchor home.vol)
+
+pub may_or_not : (frame : Frame) (home : Home) → MayBe frame home ⊎ ¬ MayBe frame home
+may_or_not frame home =
+    ⊎_elim (λ within. ⊎_elim (λ reserved. inr (λ may. may.1 reserved)) (λ free. inl (within, free)) (reserved_or_not frame home)) (λ out. inr (λ may. out may.0)) (within_or_not frame home)
 
 -- ---- lists
 

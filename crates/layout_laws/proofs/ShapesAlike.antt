@@ -13,7 +13,7 @@ use Rattle.record_table.specs.declared.record.Record.{Record}
 use Rattle.record_table.specs.declared.record.Record.TheVariants as written
 use Rattle.bmt_mcells.specs.Cell.{record_of}
 use Rattle.bmt_mcells.specs.CellPage.{home_of}
-use Rattle.bmt_mcells.specs.Chain.{PlacedCell}
+use Rattle.bmt_mcells.specs.Chain.{LinksFrom, PlacedCell}
 use Rattle.bmt_mcells.specs.declared.head.CellKind.TheVariants as CellKind
 use Rattle.tag_dirs.specs.Directory.{cell_of}
 use Rattle.tag_dirs.specs.TagPage.{next_of}
@@ -36,6 +36,7 @@ use Rattle.domain_layout.specs.CellRules.{IsPlace, IsUsed}
 use Rattle.domain_layout.specs.DirectoryRules.{HasIndexAt, IsGoodIndexPage, IsWrongFile}
 use Rattle.domain_layout.specs.Faults.{HasNoFault, HasNoTablesFault}
 use Rattle.domain_layout.proofs.NoTables.{none_of_tables}
+use Rattle.domain_layout.proofs.There.{is_there}
 use Rattle.domain_layout.specs.Layout.{IsLayout, Layout, first_tag_of}
 use Rattle.domain_layout.specs.Owners.{frame_of}
 use Rattle.domain_layout.specs.Reached.{Reaches, begins, goes_on, index_way}
@@ -43,7 +44,7 @@ use Rattle.domain_layout.specs.Seen.{IsOfClone, IsOwnUnless, IsSource, SeenFile,
 use Rattle.domain_layout.specs.Shape.{AreShapesOf, FilesetShape, HasChains, HaveShapes, IsClone, IsOriginal, IsShapeOf, Shapes, ShowsSeenAt, shown_at}
 use Rattle.domain_layout.specs.TagRules.{HasTags, IsFirstOf, original_slot}
 use Rattle.layout_laws.specs.Metadata.{AgreeOnDirectories, AgreeOnMetadata}
-use Rattle.layout_laws.proofs.ChainsAlike.{chains_alike, file_alike, limits_alike, same_page}
+use Rattle.layout_laws.proofs.ChainsAlike.{chains_alike, limits_alike, linked_alike, same_page}
 use Rattle.layout_laws.proofs.Named.{first_there}
 use Rattle.layout_laws.proofs.OnePage.{HasOne, one_of, some_same}
 use Rattle.layout_laws.proofs.OwnedOnce.{index_read, no_files, no_index, no_tags, on_a_volume}
@@ -125,7 +126,10 @@ module _ (one other : Pages) (layout : Layout) (laid : IsLayout one layout) (non
     reached : Reaches one (frame_of layout) (index_way first) passed home
 
   index_page_alike : (home : Home) → ¬ ¬ Comes home → one home ≡ other home
-  index_page_alike home comes = same_page (one home) (other home) (λ differ. comes (λ (c : Comes home). differ (agree.indexes c.at c.first c.has c.passed home c.reached)))
+  index_page_alike home comes =
+      same_page (one home) (other home) (λ differ. comes (λ (c : Comes home).
+      let read = read_after one (frame_of layout) (index_way c.first) (index_read one layout laid none c.at c.first c.has) c.passed home c.reached in
+      differ (agree.indexes c.at c.first c.has c.passed home c.reached read.may)))
 
   comes_next : (home onto : Home) (page : List ℕ) → one home ≡ Some page → next_of page ≡ Some onto → Comes home → ¬ ¬ Comes onto
   comes_next home onto page there next c away =
@@ -204,7 +208,7 @@ module _ (one other : Pages) (layout : Layout) (laid : IsLayout one layout) (non
               has = record {
                 item = slots.Original entry;
                 there = slot;
-                is = record { there = record { chains = is.chains; has = is.has; there = there }; is = kept.there };
+                is = record { there = is_there one number entry is.chains is.has tag (first ∷ rest) there; is = kept.there };
               };
               at = refl;
               wrong = misses kept gone;
@@ -307,9 +311,14 @@ module _ (one other : Pages) (layout : Layout) (laid : IsLayout one layout) (non
             first_there one layout laid tables number entry.first_tag clone_tags is.has.places is.has.directory tag at leads
             (λ (f : IsFirstOf one (frame_of layout) number tag at). unused (record { place = subst (IsPlace one (frame_of layout)) (sym file.0) f.place; stands = file.1.links.stands }))
 
-    source_there : (tag : Tag) (cells : List PlacedCell) → is.chains tag ≡ Some cells → is_removed cells ≡ false → (source : CellAt) → source_of cells ≡ Some source → ¬ ¬ IsPlace one (frame_of layout) source
+    -- the cell through which a clone's file is read is the first one of the original's file
+    abbrev NamesSource : List PlacedCell → CellAt → Type 0
+    NamesSource [] source = ⊥
+    NamesSource (first ∷ rest) source = ¬ ¬ IsFirstOf one (frame_of layout) of (record { slot = first.cell.head.slot; seq = first.cell.head.seq }) source
+
+    source_there : (tag : Tag) (cells : List PlacedCell) → is.chains tag ≡ Some cells → is_removed cells ≡ false → (source : CellAt) → source_of cells ≡ Some source → NamesSource cells source
     source_there tag [] there live source through = absurd (own_there tag [] there).is_of
-    source_there tag (first ∷ rest) there live source through = λ away.
+    source_there tag (first ∷ rest) there live source through = λ wrong.
         own_first tag first rest there (λ used.
         no_tags one layout laid tables (home_of first.at)
         (inr (inr (inr (inr (inr (inl (
@@ -324,7 +333,7 @@ module _ (one other : Pages) (layout : Layout) (laid : IsLayout one layout) (non
             clone = ap original_slot (ap (λ o. option_and_then (slice_get layout.table.slots) o) (own_there tag (first ∷ rest) there).is_of.2 ∙ slot);
             source = source;
             through = through;
-            wrong = λ (f : IsFirstOf one (frame_of layout) of (record { slot = first.cell.head.slot; seq = first.cell.head.seq }) source). away f.place;
+            wrong = wrong;
           })),
         ))))))))
       where
@@ -335,10 +344,16 @@ module _ (one other : Pages) (layout : Layout) (laid : IsLayout one layout) (non
             by_cell None file = absurd file
             by_cell (Some at) file = file.1.primary
 
+    source_links : (tag : Tag) (cells : List PlacedCell) → is.chains tag ≡ Some cells → is_removed cells ≡ false → (source : CellAt) → source_of cells ≡ Some source
+        → (links : List PlacedCell) → LinksFrom one source links → LinksFrom other source links
+    source_links tag [] there live source through links from = absurd (own_there tag [] there).is_of
+    source_links tag (first ∷ rest) there live source through links from =
+        linked_alike one other layout laid tables agree.cells of (record { slot = first.cell.head.slot; seq = first.cell.head.seq }) source (source_there tag (first ∷ rest) there live source through) links from
+
     source_alike : (tag : Tag) (cells : List PlacedCell) → is.chains tag ≡ Some cells → is_removed cells ≡ false → (o : Option CellAt) → source_of cells ≡ o → (places : Places) → IsSource one o places → IsSource other o places
     source_alike tag cells there live None through places is_source = is_source
     source_alike tag cells there live (Some at) through places is_source =
-        (is_source.0, file_alike one other layout laid tables agree.cells at is_source.0 (source_there tag cells there live at through) is_source.1, is_source.2)
+        (is_source.0, source_links tag cells there live at through is_source.0 is_source.1, is_source.2)
 
     own_alike : (tag : Tag) (cells : List PlacedCell) → is.chains tag ≡ Some cells → (b : Bool) → is_removed cells ≡ b → (seen : Option SeenFile) → IsOwnUnless b one cells seen → IsOwnUnless b other cells seen
     own_alike tag cells there true gone seen own = own

@@ -144,6 +144,7 @@ module _ (one other : Pages) (frame : Frame) (table : Table) (cells : AgreeOnCel
     home = w.home;
     named = entry_alike one other frame table cells tags w.number w.tag at w.home w.named;
     original = w.original;
+    first = first_alike one other frame table cells tags w.number w.tag at w.first;
     cell = w.cell;
     is = used_alike one other frame cells at w.cell w.is;
     value = w.value;
@@ -169,6 +170,8 @@ module _ (one other : Pages) (frame : Frame) (table : Table) (cells : AgreeOnCel
 
   quota_back : (number : ℕ) (item : SlotItem) → HasWrongQuota one frame number item → HasWrongQuota other frame number item
   quota_back number item w = record {
+    entry = w.entry;
+    is = w.is;
     at = w.at;
     named = w.named;
     wrong = ⊎_elim (λ none. inl (λ is. none (quota_alike other one frame table cells_back tags_back number w.at is)))

@@ -1,16 +1,16 @@
--- Pages that agree on each page of cells, and of tags, that is come to.
+-- Pages that agree on each page of cells, and of tags, that is come to and may be there.
 use Rattle.std.specs.Prelude.{◌≡◌, ℕ, List}
 use Rattle.domain_base.specs.declared.place.Home.{Home}
 use Rattle.page_store.specs.Pages.{Pages}
 use Rattle.fileset_table.specs.Table.{Table}
-use Rattle.domain_layout.specs.Reached.{Frame, Reaches, Way, cells_way, tags_way}
+use Rattle.domain_layout.specs.Reached.{Frame, MayBe, Reaches, Way, cells_way, tags_way}
 use Rattle.domain_layout.specs.TagRules.{HasTags}
 use Rattle.log_ring.specs.Homes.{IsMember}
 
--- the same stands at each page of a kind that is come to
+-- the same stands at each page of a kind that is come to, where pages of tables may be
 abbrev pub AgreeOnWay : Pages → Pages → Frame → Way → Type 0
 AgreeOnWay one other frame way =
-    (passed : List Home) (home : Home) → Reaches one frame way passed home
+    (passed : List Home) (home : Home) → Reaches one frame way passed home → MayBe frame home
     → one home ≡ other home
 
 -- and at each page of cells of the members

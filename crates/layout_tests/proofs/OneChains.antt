@@ -12,13 +12,11 @@ use Rattle.bmt_mcells.specs.Chain.{PlacedCell, StandsAt}
 use Rattle.tag_dirs.specs.Directory.{IsDirectory, IsDirectoryAt, IsPageOf, home_behind, cell_for, cell_of}
 use Rattle.tag_dirs.specs.TagPage.{entry_of}
 use Rattle.tag_dirs.specs.declared.dir.TagPlace.{TagPlace}
-use Rattle.tag_dirs.proofs.Reading.{same_directory}
 use Rattle.extent_maps.specs.Runs.{home_at}
 use Rattle.extent_maps.specs.declared.run.PagePlace.TheVariants.{Absent}
 use Rattle.extent_records.specs.Writing.{IsMapRecord, no_extent, places_before}
 use Rattle.bitfile_cells.specs.Files.{IsFile, places_of}
 use Rattle.bitfile_core.specs.Files.{AreApart, AreFiles, Chains, LeadsToFile}
-use Rattle.bitfile_core.proofs.Created.{one_chains}
 use Rattle.name_space.specs.Names.{root_tag}
 use Rattle.domain_layout.specs.Seen.{SeenFile, seen_in}
 use Rattle.domain_layout.specs.Shape.{HasChains}
@@ -178,9 +176,3 @@ module _ (pages : Pages) (cells_there : pages (on_first 3) ≡ Some cells_page) 
 
   pub has_chains : HasChains pages 0 entry_a chains_a
   has_chains = record { places = place_a ∷ []; directory = directory_at; files = files_a }
-
-  -- the chains of the fileset are these
-  pub chains_are : (chains : Chains) → HasChains pages 0 entry_a chains → (tag : Tag) → chains tag ≡ chains_a tag
-  chains_are chains has =
-      let places = same_directory pages (record { vol = 1; page = 133 }) has.places (place_a ∷ []) has.directory directory_at in
-      one_chains pages 0 (place_a ∷ []) chains chains_a (subst (λ p. AreFiles 0 p pages chains) places has.files) files_a

@@ -26,6 +26,7 @@ use Rattle.dir_pages.specs.declared.row.Row.{Row}
 use Rattle.fileset_table.specs.declared.slot.SlotItem.TheVariants.{Original}
 use Rattle.name_space.specs.Names.{root_tag}
 use Rattle.domain_layout.specs.CellRules.{IsUsed}
+use Rattle.domain_layout.proofs.There.{chain_is}
 use Rattle.domain_layout.specs.DirectoryRules.{Has, HasWrongParent, HasWrongSize, IsDirectoryFault, IsDirectoryPage, IsFileFault, IsInItem, IsInOriginal, IsIndexFault, IsRow, IsWrongFile, RowPlace}
 use Rattle.domain_layout.specs.Layout.{AreTagPlaces, IsLayout, Layout, first_tag_of}
 use Rattle.domain_layout.specs.Owners.{BelongsTo, HasExtent, HasTagPage, IsOnTable, IsOwned, Owner}
@@ -40,7 +41,7 @@ use Rattle.layout_tests.specs.Written.{anchor_of, frame_of}
 use Rattle.layout_tests.proofs.Bitmap.{bits_are, six_bits}
 use Rattle.layout_tests.proofs.EmptyCells.{volume_cell}
 use Rattle.layout_tests.proofs.OneCells.{first_index, good_page, no_next, root_cell}
-use Rattle.layout_tests.proofs.OneChains.{chains_a, chains_are, directory_at, is_root, no_home, place_a, root_cells, root_is_seen, root_seen}
+use Rattle.layout_tests.proofs.OneChains.{chains_a, directory_at, has_chains, is_root, no_home, place_a, root_cells, root_is_seen, root_seen}
 use Rattle.layout_tests.proofs.OneRules.{new_anchor, used_is}
 use Rattle.layout_tests.proofs.OneTags.{entry_a, item_is, one_table}
 
@@ -63,11 +64,11 @@ module _ (pages : Pages) (cells_there : pages (on_first 3) ≡ Some cells_page) 
     cells_are : cells ≡ root_cells
     seen_is : seen ≡ root_seen
 
-  in_original : (tag : Tag) (cells : List PlacedCell) (seen : SeenFile) → IsInOriginal pages 0 entry_a tag cells seen → IsTheRoot 0 tag cells seen
+  in_original : (tag : Tag) (cells : List PlacedCell) (seen : SeenFile) → IsInOriginal pages entry_a tag cells seen → IsTheRoot 0 tag cells seen
   in_original tag cells seen is = by_test (same_tag tag root_tag) refl
     where
       has : chains_a tag ≡ Some cells
-      has = sym (chains_are pages cells_there tags_there is.there.chains is.there.has tag) ∙ is.there.there
+      has = chain_is pages 0 entry_a chains_a (has_chains pages cells_there tags_there) tag cells is.there
 
       by_test : (b : Bool) → same_tag tag root_tag ≡ b → IsTheRoot 0 tag cells seen
       by_test true same =
@@ -82,11 +83,11 @@ module _ (pages : Pages) (cells_there : pages (on_first 3) ≡ Some cells_page) 
 
   the_root : (number : ℕ) (tag : Tag) (cells : List PlacedCell) (seen : SeenFile) → Has pages one_table number tag cells seen → IsTheRoot number tag cells seen
   the_root number tag cells seen has =
-      ⊎_elim (λ a. by_number number a.0 (subst (λ i. IsInItem pages one_table number i tag cells seen) a.1 has.is))
-      (λ free. absurd (subst (λ i. IsInItem pages one_table number i tag cells seen) free has.is))
+      ⊎_elim (λ a. by_number number a.0 (subst (λ i. IsInItem pages one_table i tag cells seen) a.1 has.is))
+      (λ free. absurd (subst (λ i. IsInItem pages one_table i tag cells seen) free has.is))
       (item_is number has.item has.there)
     where
-      by_number : (n : ℕ) → n ≡ 0 → IsInOriginal pages n entry_a tag cells seen → IsTheRoot n tag cells seen
+      by_number : (n : ℕ) → n ≡ 0 → IsInOriginal pages entry_a tag cells seen → IsTheRoot n tag cells seen
       by_number zero same is = in_original tag cells seen is
       by_number (suc n) same is = absurd (omega (arith, same))
 

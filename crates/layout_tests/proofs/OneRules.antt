@@ -1,6 +1,4 @@
 -- The domain with one fileset breaks no rule of cells and tags.
-use Rattle.std.specs.List.{AllByRecursion}
-use Rattle.extent_records.specs.Rows.{IsPlaced, runs_of}
 use Rattle.std.proofs.Common.{◌≡◌, ◌∙◌, ◌⊎◌, inl, inr, ℕ, zero, suc, ◌<◌, true, false, nat_eq, List, [], length, Some, None, Contains, IsSomeAnd, slice_get, refl, sym, ap, subst, arith, ⊎_elim}
 use Rattle.std.proofs.lemmas.Bool.{eq-eqb, eqb-true}
 use Rattle.domain_base.specs.declared.place.CellAt.{CellAt}
@@ -21,6 +19,8 @@ use Rattle.bmt_mcells.proofs.Unique.{one_cell}
 use Rattle.bmt_mcells.proofs.Walk.{one_kind}
 use Rattle.tag_dirs.specs.TagPage.{IsTagPage, entry_of, index_of, next_of, slot_of}
 use Rattle.tag_dirs.specs.declared.page.TagEntry.{TagEntry}
+use Rattle.fileset_table.specs.Table.{entry_of as fileset_of}
+use Rattle.fileset_table.specs.declared.slot.FilesetEntry.{FilesetEntry}
 use Rattle.fileset_table.specs.declared.slot.SlotItem.{SlotItem}
 use Rattle.fileset_table.specs.declared.slot.SlotItem.TheVariants.{Original}
 use Rattle.name_space.specs.Names.{root_tag}
@@ -28,7 +28,7 @@ use Rattle.domain_layout.specs.CellRules.{Follows, HasWrongCell, IsCellFault, Is
 use Rattle.domain_layout.specs.Layout.{first_tag_of}
 use Rattle.domain_layout.specs.Reached.{first_cells, on_volume, IsRead, IsUnread, MayBe, Reaches, tags_way}
 use Rattle.domain_layout.specs.Reached as reaching
-use Rattle.domain_layout.specs.TagRules.{HasEntry, HasTags, HasWrongNumber, IsFirstOf, IsLate, IsNamingFault, IsTagsFault, IsTagsPage, IsWrongSlot, original_slot, quota_of}
+use Rattle.domain_layout.specs.TagRules.{HasEntry, HasTags, HasWrongNumber, IsFirstOf, IsLate, IsNamingFault, IsTagsFault, IsTagsPage, IsWrongSlot, original_slot}
 use Rattle.layout_laws.specs.NewDomain.{IsNewAnchor, on_first}
 use Rattle.layout_laws.proofs.NewCells.{kind_some}
 use Rattle.layout_laws.proofs.OnePage.{IsFirst, at_first, bytes_are, cell_said, first_read, in_none, no_cells_page, no_wrong_header, some_same, that_page}
@@ -189,11 +189,6 @@ module _ (pages : Pages) (cells_there : pages (on_first 3) ≡ Some cells_page) 
       ⊎_elim (λ v. let e : false ≡ true = sym (ap (λ (c : Cell). has_kind 5 c.records) v.1) ∙ holes in absurd (cc))
       (λ p. let e : false ≡ true = sym (ap (λ (c : Cell). has_kind 5 c.records) p.1) ∙ holes in absurd (cc)) (used_is at cell used)
 
-  no_runs : (at : CellAt) (cell : Cell) → IsUsed pages (frame_of Three) at cell → AllByRecursion IsPlaced (runs_of cell.records)
-  no_runs at cell used =
-      ⊎_elim (λ v. subst (λ (c : Cell). AllByRecursion IsPlaced (runs_of c.records)) (sym v.1) tt)
-      (λ p. subst (λ (c : Cell). AllByRecursion IsPlaced (runs_of c.records)) (sym p.1) tt) (used_is at cell used)
-
   no_cell_fault : (at : CellAt) → ¬ IsCellFault pages (frame_of Three) one_table at
   no_cell_fault at fault =
       ⊎_elim (no_wrong_volume at)
@@ -209,7 +204,7 @@ module _ (pages : Pages) (cells_there : pages (on_first 3) ≡ Some cells_page) 
       (λ d. ⊎_elim (λ w. ⊎_elim (not_chain at.cell w.link.kind (link_is at w.link w.is)) (not_quota at.cell w.link.kind (link_is at w.link w.is)) w.kind)
       (λ e. ⊎_elim (λ w. none_before w.chain.start w.chain.before w.chain.passed at w.chain.link w.chain.follows w.chain.among)
       (λ f. ⊎_elim (λ w. none_before w.chain.start w.chain.before w.chain.passed at w.chain.link w.chain.follows w.chain.among)
-      (λ g. ⊎_elim (λ w. no_holes at w.cell w.is w.holes) (λ w. w.wrong (no_runs at w.cell w.used)) g) f) e) d) c) b) a)
+      (λ w. no_holes at w.cell w.is w.holes) f) e) d) c) b) a)
       fault
 
   pub no_cells_fault : (home : Home) → ¬ IsCellsFault pages (frame_of Three) one_table home
@@ -390,12 +385,15 @@ module _ (pages : Pages) (cells_there : pages (on_first 3) ≡ Some cells_page) 
     no_wrong_slot : ¬ IsWrongSlot pages (frame_of Three) one_table
     no_wrong_slot wrong =
         ⊎_elim (λ number. ⊎_elim (λ a. subst (HasWrongNumber one_table) a.1 number) (λ free. subst (HasWrongNumber one_table) free number) (item_is wrong.number wrong.item wrong.there))
-        (λ quota. ⊎_elim (λ a. none_named quota.at (subst (λ i. quota_of i ≡ Some quota.at) a.1 quota.named))
-        (λ free. none_named quota.at (subst (λ i. quota_of i ≡ Some quota.at) free quota.named)) (item_is wrong.number wrong.item wrong.there))
+        (λ quota. ⊎_elim (λ a. no_quota quota.entry quota.at (some_same entry_a quota.entry (subst (λ i. fileset_of i ≡ Some quota.entry) a.1 quota.is)) quota.named)
+        (λ free. no_fileset quota.entry (subst (λ i. fileset_of i ≡ Some quota.entry) free quota.is)) (item_is wrong.number wrong.item wrong.there))
         wrong.wrong
       where
-        none_named : (at : CellAt) → None ≡ Some at → ⊥
-        none_named at e = absurd (cc)
+        no_quota : (entry : FilesetEntry) (at : CellAt) → entry_a ≡ entry → entry.quota ≡ Some at → ⊥
+        no_quota entry at same named = let e : None ≡ Some at = ap (λ (x : FilesetEntry). x.quota) same ∙ named in absurd (cc)
+
+        no_fileset : (entry : FilesetEntry) → None ≡ Some entry → ⊥
+        no_fileset entry e = cc
 
     pub no_tags_fault : (home : Home) → ¬ IsTagsFault pages (frame_of Three) one_table home
     no_tags_fault home fault =

@@ -120,13 +120,13 @@ module _ (pages : Pages) (clone original : FilesetFiles) (number : ℕ) (are : A
   pub named_source : (tag : Tag) (at source : CellAt) (first : PlacedCell) (rest : List PlacedCell) → cell_of pages clone.tags tag ≡ Some at → IsFile pages at (first ∷ rest) → is_removed (first ∷ rest) ≡ false
       → source_of (first ∷ rest) ≡ Some source → ¬ ¬ IsFirstOf pages (frame_of are.may.layout) original.files.fileset tag source
   named_source tag at source first rest leads is stays through wrong =
-      first_there pages are.may.layout are.may.laid are.may.no_fault clone.files.fileset are.may.first are.may.has clone.tags are.may.directory tag at leads no_source
+      first_there pages are.may.layout are.may.laid are.may.no_fault.tables clone.files.fileset are.may.first are.may.has clone.tags are.may.directory tag at leads no_source
     where
       no_source : IsFirstOf pages (frame_of are.may.layout) clone.files.fileset tag at → ⊥
       no_source named =
-          let there = file_there pages are.may.layout are.may.laid are.may.no_fault clone.files.fileset tag first rest
+          let there = file_there pages are.may.layout are.may.laid are.may.no_fault are.may.small clone.files.fileset tag first rest
           (λ away. away (subst (λ a. IsFirstOf pages (frame_of are.may.layout) clone.files.fileset tag a) (sym is.0) named)) is.1.links in
-          no_tags pages are.may.layout are.may.laid are.may.no_fault (home_of first.at)
+          no_tags pages are.may.layout are.may.laid are.may.no_fault.tables (home_of first.at)
           (inr (inr (inr (inr (inr (inl (
             first.at,
             refl,
@@ -152,14 +152,14 @@ module _ (pages : Pages) (clone original : FilesetFiles) (number : ℕ) (are : A
       by_source (Some source) through =
           let named = named_source tag at source first rest leads is stays through in
           record {
-            whole = unbroken pages are.may.layout are.may.laid are.may.no_fault original.files.fileset tag source named;
+            whole = unbroken pages are.may.layout are.may.laid are.may.no_fault.tables original.files.fileset tag source named;
             file = λ links. of_links source named links.0 links.1;
           }
         where
           of_links : (source : CellAt) → ¬ ¬ IsFirstOf pages (frame_of are.may.layout) original.files.fileset tag source → (cells : List PlacedCell) → LinksFrom pages source cells → HasFile pages source
           of_links source named [] links = absurd links
           of_links source named (one ∷ more) links =
-              let there = file_there pages are.may.layout are.may.laid are.may.no_fault original.files.fileset tag one more (subst (λ a. ¬ ¬ IsFirstOf pages (frame_of are.may.layout) original.files.fileset tag a) (sym links.0) named) links.1 in
+              let there = file_there pages are.may.layout are.may.laid are.may.no_fault are.may.small original.files.fileset tag one more (subst (λ a. ¬ ¬ IsFirstOf pages (frame_of are.may.layout) original.files.fileset tag a) (sym links.0) named) links.1 in
               (one ∷ more, (links.0, there.is))
 
 -- ---- the original's file that a clone has too

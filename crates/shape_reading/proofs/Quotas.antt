@@ -1,5 +1,5 @@
 -- The chain of quota cells that a slot names.
-use Rattle.std.proofs.Common.{◌≡◌, ◌∙◌, inl, inr, List, Option, Some, None, IsSomeAnd, refl, sym, ap, subst}
+use Rattle.std.proofs.Common.{◌≡◌, inl, inr, List, Option, Some, None, IsSomeAnd, refl, sym, subst}
 use Rattle.domain_base.specs.declared.place.CellAt.{CellAt}
 use Rattle.domain_base.specs.declared.place.Home.{Home}
 use Rattle.page_store.specs.Pages.{Pages}
@@ -9,25 +9,15 @@ use Rattle.bmt_mcells.specs.Reading.{ReadsChain}
 use Rattle.bmt_mcells.specs.declared.head.CellKind.TheVariants.{Quota}
 use Rattle.bmt_mcells.proofs.Linked.{linked}
 use Rattle.fileset_table.specs.Page.{IsTablePage}
-use Rattle.fileset_table.specs.Table.{entry_of}
 use Rattle.fileset_table.specs.declared.slot.FilesetEntry.{FilesetEntry}
-use Rattle.fileset_table.specs.declared.slot.SlotItem.{SlotItem}
 use Rattle.fileset_table.specs.declared.slot.SlotItem.TheVariants as slot
 use Rattle.domain_layout.specs.CellRules.{IsChainHead, Link, next_in}
 use Rattle.domain_layout.specs.Owners.{frame_of}
 use Rattle.domain_layout.specs.Shape.{AreQuotas}
-use Rattle.domain_layout.specs.TagRules.{IsWrongSlot, quota_of}
-use Rattle.layout_laws.proofs.OnePage.{some_same}
+use Rattle.domain_layout.specs.TagRules.{IsWrongSlot}
 use Rattle.layout_laws.proofs.OwnedOnce.{no_tags}
 use Rattle.filesets_reading.proofs.Unbroken.{head_unbroken}
 use Rattle.shape_reading.specs.Limits.{IsInSlot}
-
--- the quota cell of a fileset is that of its slot
-quota_in : (item : SlotItem) (entry : FilesetEntry) → entry_of item ≡ Some entry → quota_of item ≡ entry.quota
-quota_in slot.Free entry is = absurd (let e : None ≡ Some entry = is in absurd (cc))
-quota_in (slot.Original one) entry is = ap (λ (e : FilesetEntry). e.quota) (some_same one entry is)
-quota_in (slot.Clone of number one) entry is = ap (λ (e : FilesetEntry). e.quota) (some_same one entry is)
-quota_in (slot.Removed first_tag quota) entry is = absurd (let e : None ≡ Some entry = is in absurd (cc))
 
 module _ (pages : Pages) (entry : FilesetEntry) (is : IsInSlot pages entry) where
   no_wrong_slot : ¬ IsWrongSlot pages (frame_of is.layout) is.layout.table
@@ -39,14 +29,15 @@ module _ (pages : Pages) (entry : FilesetEntry) (is : IsInSlot pages entry) wher
 
   begins : (at : CellAt) → entry.quota ≡ Some at → ¬ ¬ ((link : Link) × IsChainHead pages (frame_of is.layout) at link)
   begins at quota away =
-      let named = quota_in is.item entry is.is ∙ quota in
       no_wrong_slot (record {
         number = is.number;
         item = is.item;
         there = is.there;
         wrong = inr (record {
+          entry = entry;
+          is = is.is;
           at = at;
-          named = named;
+          named = quota;
           wrong = inl (λ first. away (
             record { kind = Quota; next = next_in first.bytes },
             (
@@ -57,7 +48,7 @@ module _ (pages : Pages) (entry : FilesetEntry) (is : IsInSlot pages entry) wher
                   number = is.number;
                   item = is.item;
                   there = is.there;
-                  wrong = inr (record { at = at; named = named; wrong = inr (other, leads) });
+                  wrong = inr (record { entry = entry; is = is.is; at = at; named = quota; wrong = inr (other, leads) });
                 }),
               ),
             ),

@@ -24,6 +24,7 @@ use Rattle.extent_maps.specs.declared.run.Run.{Run}
 use Rattle.extent_records.specs.Rows.{runs_of}
 use Rattle.bmt_mcells.specs.Chain.{records_of}
 use Rattle.domain_layout.specs.Seen.{IsSource}
+use Rattle.domain_layout.proofs.There.{links_of}
 use Rattle.filesets_reading.specs.Chains.{HasLinks}
 use Rattle.shape_reading.specs.Clones.{HasVolume, MayBeSource}
 use Rattle.shape_reading.proofs.Answered.{if_ok}
@@ -77,4 +78,4 @@ source_read pages source at r is may links read =
     let source_is = subst (λ o. IfSome o (MayBeSource pages)) is may in
     let file = source_is.file links in
     subst (λ o. IfOk r (λ map. IsSource pages o (place_of map))) (sym is)
-    (if_ok r (SamePlaces (runs_of (records_of file.0))) (λ map. IsSource pages (Some at) (place_of map)) (λ map same. (file.0, file.1, same)) (read file.0 file.1))
+    (if_ok r (SamePlaces (runs_of (records_of file.0))) (λ map. IsSource pages (Some at) (place_of map)) (λ map same. (file.0, links_of pages at file.0 file.1, same)) (read file.0 file.1))

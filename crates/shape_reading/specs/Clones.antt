@@ -31,7 +31,7 @@ pub record AreFilesOf (pages : Pages) (files : FilesetFiles) : Type 0 where
   pub has : HasFiles files.files.fileset files.tags pages
 
 -- the files of the clone with this number, and those of its original, by a table of filesets whose
--- pages break no rule of tables
+-- pages break no rule of tables and extents
 pub record AreOfClone (pages : Pages) (clone original : FilesetFiles) (number : ℕ) : Type 0 where
   pub own : AreFilesOf pages clone
   pub behind : AreFilesOf pages original

@@ -1,12 +1,12 @@
 use Rattle.dir_rows.proofs.Parts.{if_ok_weaker}
-use Rattle.domain_layout.proofs.NoTables.{none_of_tables}
+use Rattle.domain_layout.proofs.NoTables.{none_of_extents}
 use Rattle.filesets_reading.specs.Good.{frame_at}
 use Rattle.fileset_shapes.specs.Shapes.{IsDomain}
 use Rattle.filesets_filled.proofs.FilledSlots.{reads_from}
 use Rattle.filesets_filled.proofs.domain.read_filesets.Goals as goal
 
 pub read_domain-requires-clause-no_fault : goal.read_domain-requires-clause-no_fault
-read_domain-requires-clause-no_fault g c = none_of_tables (g.M.MetaPages.pages c.args.pages.now) (frame_at c.args.anchor.now c.args.version) c.requires.no_fault
+read_domain-requires-clause-no_fault g c = none_of_extents (g.M.MetaPages.pages c.args.pages.now) (frame_at c.args.anchor.now c.args.version) c.requires.no_fault
 
 pub returns : goal.returns
 returns g c = λ home named.

@@ -16,3 +16,6 @@ loop-n-preserved g c = λ k below.
 pub returns-clause-files : goal.returns-clause-files
 returns-clause-files g c = λ number item first places there has at.
     c.loop-n.invariant number (omega (arith, c.loop-n-test.false, few_of (g.M.MetaPages.pages c.args.pages.now) (frame_at c.args.anchor.now c.args.version) c.in_ok-tables.tables c.in_ok-tables.ensures number item there)) item first places there has at
+
+pub read_tables-requires-clause-no_fault : goal.read_tables-requires-clause-no_fault
+read_tables-requires-clause-no_fault g c = c.requires.no_fault.tables
