@@ -1,7 +1,6 @@
 pub mod FirstOfKind
 pub mod Joined
 pub mod NoCell
-pub mod Placed
 pub mod Pushed
 pub mod WrongCell
 pub mod WrongPages

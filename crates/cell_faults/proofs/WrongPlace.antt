@@ -1,7 +1,6 @@
 -- Whether the cell at a place, by itself, may stand there.
 use Rattle.std.proofs.Common.{◌≡◌, ◌∙◌, ◌↔◌, inl, inr, ◌+◌, ◌<◌, ◌≤◌, ℕ, Bool, false, IsTrue, List, Some, refl, sym, ap, subst, arith, ⊎_elim}
 use Rattle.std.proofs.lemmas.Bool.{cases_lt}
-use Rattle.std.specs.List.{AllByRecursion}
 use mathlib.Core.Bool.{false≢true}
 use Rattle.domain_base.specs.declared.place.CellAt.{CellAt}
 use Rattle.domain_base.specs.declared.place.Home.{Home}
@@ -13,7 +12,6 @@ use Rattle.bmt_mcells.specs.Chain.{StandsAt}
 use Rattle.bmt_mcells.specs.declared.head.CellKind.{CellKind}
 use Rattle.bmt_mcells.specs.declared.head.CellKind.TheVariants.{Chain, Primary, Quota, Volume}
 use Rattle.bmt_mcells.proofs.Unique.{one_stands}
-use Rattle.extent_records.specs.Rows.{IsPlaced, runs_of}
 use Rattle.fileset_table.specs.Table.{Table}
 use Rattle.domain_layout.specs.CellRules.{IsCellsPage, IsFirstPlace, IsLink, IsPlace, IsUsed, Link, SaysVolume, next_in}
 use Rattle.domain_layout.specs.Reached.{Frame}
@@ -53,8 +51,7 @@ module _ (pages : Pages) (frame : Frame) (table : Table) (at : CellAt) (place : 
       from (inl (inl (there, at_first, none))) = firsts.1 at_first
       from (inl (inr (link, leads, kind, other))) = absurd (not_stray (is_stray link leads kind other))
       from (inr (inl wrong)) = absurd (none wrong.cell wrong.used.stands)
-      from (inr (inr (inl wrong))) = absurd (none wrong.cell wrong.used.stands)
-      from (inr (inr (inr wrong))) = absurd (none wrong.cell wrong.used.stands)
+      from (inr (inr wrong)) = absurd (none wrong.cell wrong.used.stands)
 
   module _ (cell : Cell) (stands : StandsAt pages at cell) where
     used : IsUsed pages frame at cell
@@ -62,15 +59,14 @@ module _ (pages : Pages) (frame : Frame) (table : Table) (at : CellAt) (place : 
 
     by_kind : (kind : CellKind) → cell.head.kind ≡ kind → records_fit table kind cell ≡ false → IsWrongAt pages frame table at
     by_kind Primary kind misfit = inr (inl (record { cell = cell; used = used; kind = kind; wrong = misfit }))
-    by_kind Chain kind misfit = inr (inr (inl (record { cell = cell; used = used; wrong = inl (kind, misfit) })))
-    by_kind Quota kind misfit = inr (inr (inl (record { cell = cell; used = used; wrong = inr (kind, misfit) })))
+    by_kind Chain kind misfit = inr (inr (record { cell = cell; used = used; wrong = inl (kind, misfit) }))
+    by_kind Quota kind misfit = inr (inr (record { cell = cell; used = used; wrong = inr (kind, misfit) }))
     by_kind Volume kind misfit = absurd (false≢true (sym misfit))
 
     pub wrong_used : IsWrongUsed frame table at cell → IsWrongAt pages frame table at
     wrong_used (inl (first, other)) =
         inl (inl (is_place, first, λ one there says. other (subst (SaysVolume frame at.vol) (one_stands pages at one cell there stands) says)))
-    wrong_used (inr (inl misfit)) = by_kind cell.head.kind refl misfit
-    wrong_used (inr (inr homeless)) = inr (inr (inr (record { cell = cell; used = used; wrong = homeless })))
+    wrong_used (inr misfit) = by_kind cell.head.kind refl misfit
 
     fits_not : (one : Cell) (kind : CellKind) → IsUsed pages frame at one → one.head.kind ≡ kind → records_fit table kind one ≡ false → records_fit table cell.head.kind cell ≡ false
     fits_not one kind there is_kind misfit =
@@ -80,11 +76,9 @@ module _ (pages : Pages) (frame : Frame) (table : Table) (at : CellAt) (place : 
     pub is_wrong_used : ¬ IsStrayVolume frame page at → IsWrongAt pages frame table at → IsWrongUsed frame table at cell
     is_wrong_used not_stray (inl (inl (there, first, none))) = inl (first, none cell stands)
     is_wrong_used not_stray (inl (inr (link, leads, kind, other))) = absurd (not_stray (is_stray link leads kind other))
-    is_wrong_used not_stray (inr (inl wrong)) = inr (inl (fits_not wrong.cell Primary wrong.used wrong.kind wrong.wrong))
-    is_wrong_used not_stray (inr (inr (inl wrong))) =
-        inr (inl (⊎_elim (λ chain. fits_not wrong.cell Chain wrong.used chain.0 chain.1) (λ quota. fits_not wrong.cell Quota wrong.used quota.0 quota.1) wrong.wrong))
-    is_wrong_used not_stray (inr (inr (inr wrong))) =
-        inr (inr (subst (λ (c : Cell). ¬ AllByRecursion IsPlaced (runs_of c.records)) (one_stands pages at wrong.cell cell wrong.used.stands stands) wrong.wrong))
+    is_wrong_used not_stray (inr (inl wrong)) = inr (fits_not wrong.cell Primary wrong.used wrong.kind wrong.wrong)
+    is_wrong_used not_stray (inr (inr wrong)) =
+        inr (⊎_elim (λ chain. fits_not wrong.cell Chain wrong.used chain.0 chain.1) (λ quota. fits_not wrong.cell Quota wrong.used quota.0 quota.1) wrong.wrong)
 
     pub some_there : ¬ IsStrayVolume frame page at → (wrong : Bool) → IsTrue wrong ↔ IsWrongUsed frame table at cell → IsTrue wrong ↔ IsWrongAt pages frame table at
     some_there not_stray wrong decides = (λ told. wrong_used (decides.0 told), λ is. decides.1 (is_wrong_used not_stray is))
@@ -104,8 +98,7 @@ pub placed : (pages : Pages) (frame : Frame) (table : Table) (at : CellAt) → I
 placed pages frame table at (inl (inl (there, first, none))) = there
 placed pages frame table at (inl (inr (link, leads, kind, other))) = leads.place
 placed pages frame table at (inr (inl wrong)) = wrong.used.place
-placed pages frame table at (inr (inr (inl wrong))) = wrong.used.place
-placed pages frame table at (inr (inr (inr wrong))) = wrong.used.place
+placed pages frame table at (inr (inr wrong)) = wrong.used.place
 
 pub none_wrong : (pages : Pages) (frame : Frame) (table : Table) (home : Home) (number : ℕ) → 28 ≤ number → AreGoodPlaces pages frame table home number → ¬ HasWrongPlace pages frame table home
 none_wrong pages frame table home number all are (at, same, wrong) =

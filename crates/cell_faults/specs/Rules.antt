@@ -1,6 +1,5 @@
 -- Which records a cell in use may have, by its kind.
 use Rattle.std.specs.Prelude.{◌≡◌, ◌⊎◌, ◌&&◌, ◌||◌, ℕ, Bool, true, false, not, List, Contains, Option}
-use Rattle.std.specs.List.{AllByRecursion}
 use Rattle.std.specs.Option.{option_map_or}
 use Rattle.record_table.specs.Fields.{number_at}
 use Rattle.record_table.specs.declared.record.Record.{Record}
@@ -11,14 +10,13 @@ use Rattle.bmt_mcells.specs.Cell.{Cell, record_of}
 use Rattle.bmt_mcells.specs.declared.head.CellKind.{CellKind}
 use Rattle.bmt_mcells.specs.declared.head.CellKind.TheVariants.{Chain, Primary, Quota, Volume}
 use Rattle.bmt_mcells.specs.declared.used.UsedCell.{UsedCell}
-use Rattle.extent_records.specs.Rows.{IsPlaced, runs_of}
 use Rattle.fileset_table.specs.Table.{Table}
 use Rattle.fileset_table.specs.declared.slot.SlotItem.{SlotItem}
 use Rattle.bmt_mcells.specs.CellPage.{cell_of, home_of}
 use Rattle.domain_layout.specs.Reached.{Frame}
 use Rattle.cell_faults.specs.Pages.{IsWrongHeader}
 use Rattle.cell_faults.specs.declared.tables.CellsPage.{CellsPage}
-use Rattle.domain_layout.specs.CellRules.{HasWrongCell, HasWrongHeader, IsCellsPage, IsFirstPlace, IsNoCellsPage, IsWrongFirst, IsWrongLater, IsWrongVolumeCell, NamesNoHome, SaysVolume, are_limits, has_its_kinds, has_kind, is_chain_records, is_good_first, keeps_well, of_clone, of_original}
+use Rattle.domain_layout.specs.CellRules.{HasWrongCell, HasWrongHeader, IsCellsPage, IsFirstPlace, IsNoCellsPage, IsWrongFirst, IsWrongLater, IsWrongVolumeCell, SaysVolume, are_limits, has_its_kinds, has_kind, is_chain_records, is_good_first, keeps_well, of_clone, of_original}
 
 -- the cell that was read
 abbrev pub cell_in : UsedCell → Cell
@@ -44,17 +42,15 @@ abbrev pub IsStrayVolume : Frame → List ℕ → CellAt → Type 0
 IsStrayVolume frame page at =
     (number_at 1 15 (cell_of page at.cell) ≡ 4) × ¬ IsFirstPlace frame at
 
--- it is a volume's first cell and does not say the volume, has other records than it may have, or
--- one that names no home
+-- it is a volume's first cell and does not say the volume, or has other records than it may have
 abbrev pub IsWrongUsed : Frame → Table → CellAt → Cell → Type 0
 IsWrongUsed frame table at cell = (IsFirstPlace frame at × ¬ SaysVolume frame at.vol cell)
     ⊎ (records_fit table cell.head.kind cell ≡ false)
-    ⊎ ¬ AllByRecursion IsPlaced (runs_of cell.records)
 
 -- the cell at a place, by itself, is none that may stand there
 abbrev pub IsWrongAt : Pages → Frame → Table → CellAt → Type 0
 IsWrongAt pages frame table at = IsWrongVolumeCell pages frame at
-    ⊎ IsWrongFirst pages frame table at ⊎ IsWrongLater pages frame at ⊎ NamesNoHome pages frame at
+    ⊎ IsWrongFirst pages frame table at ⊎ IsWrongLater pages frame at
 
 -- and so some cell of a page
 abbrev pub HasWrongPlace : Pages → Frame → Table → Home → Type 0

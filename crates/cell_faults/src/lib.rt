@@ -3,7 +3,6 @@
 
 mod cells;
 mod headers;
-mod homes;
 mod local;
 mod places;
 mod records;

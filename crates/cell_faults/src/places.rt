@@ -7,7 +7,6 @@ ghost use Rattle.cell_faults.specs.Rules.{HasWrongPlace, IsStrayVolume, IsWrongA
 ghost use Rattle.cell_faults.specs.Tables.{IsCellsHome};
 
 use crate::cells::kind_number;
-use crate::homes::have_homes;
 use crate::rules::{is_first_place, records_fit, says_volume};
 use bmt_mcells::{UsedCell, read_used};
 use domain_base::{CellAt, Home, OutOfMemory, Page};
@@ -24,19 +23,17 @@ fn is_stray_volume(frame: &DomainFrame, page: &Page, at: &CellAt) -> bool
     kind_number(page, at.cell) == 4 && !is_first_place(frame, at)
 }
 
-/// Whether a cell in use is a volume's first one and does not say the volume, has not the records
-/// that it may have, or has one that names no home.
+/// Whether a cell in use is a volume's first one and does not say the volume, or has not the
+/// records that it may have.
 fn is_wrong_used(frame: &DomainFrame, table: &FilesetTable, at: &CellAt, used: &UsedCell) -> bool
     ensures { IsTrue result ↔ IsWrongUsed (frame_in frame.now) table.now at.now (cell_in used.now) }
 {
-    (is_first_place(frame, at) && !says_volume(frame, at.vol, used))
-        || !records_fit(table, used)
-        || !have_homes(used.records.as_slice())
+    (is_first_place(frame, at) && !says_volume(frame, at.vol, used)) || !records_fit(table, used)
 }
 
 /// Whether the cell at a place of a page of cells is none that may stand there: a volume's first
-/// cell that does not say the volume, another one of that kind, one without the records that it may
-/// have, or one with a record that names no home.
+/// cell that does not say the volume, another one of that kind, or one without the records that
+/// it may have.
 fn is_wrong_at<M: MetaPages>(
     alloc: Global,
     pages: &M,

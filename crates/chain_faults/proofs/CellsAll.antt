@@ -14,13 +14,12 @@ module _ (pages : Pages) (frame : Frame) (table : Table) (home : Home) where
   by_cell : (at : CellAt) → home_of at ≡ home → IsCellFault pages frame table at → IsLocalFault pages frame table home ⊎ IsChainFault pages frame table home
   by_cell at same (inl volume) = inl (inr (inr (inr (at, same, inl volume))))
   by_cell at same (inr (inl first)) = inl (inr (inr (inr (at, same, inr (inl first)))))
-  by_cell at same (inr (inr (inl later))) = inl (inr (inr (inr (at, same, inr (inr (inl later))))))
+  by_cell at same (inr (inr (inl later))) = inl (inr (inr (inr (at, same, inr (inr later)))))
   by_cell at same (inr (inr (inr (inl leads)))) = inr (inl (at, same, leads))
   by_cell at same (inr (inr (inr (inr (inl loose))))) = inr (inr (inl (at, same, loose)))
   by_cell at same (inr (inr (inr (inr (inr (inl again)))))) = inr (inr (inr (inl (at, same, again))))
   by_cell at same (inr (inr (inr (inr (inr (inr (inl limits))))))) = inr (inr (inr (inr (inl (at, same, limits)))))
-  by_cell at same (inr (inr (inr (inr (inr (inr (inr (inl holes)))))))) = inr (inr (inr (inr (inr (at, same, holes)))))
-  by_cell at same (inr (inr (inr (inr (inr (inr (inr (inr nowhere)))))))) = inl (inr (inr (inr (at, same, inr (inr (inr nowhere))))))
+  by_cell at same (inr (inr (inr (inr (inr (inr (inr holes))))))) = inr (inr (inr (inr (inr (at, same, holes)))))
 
   by_page : IsCellsFault pages frame table home → IsLocalFault pages frame table home ⊎ IsChainFault pages frame table home
   by_page (inl none) = inl (inl none)
@@ -34,15 +33,14 @@ module _ (pages : Pages) (frame : Frame) (table : Table) (home : Home) where
   local (inr (inr (inl cell))) = inr (inr (inl cell))
   local (inr (inr (inr (at, same, inl volume)))) = inr (inr (inr (at, same, inl volume)))
   local (inr (inr (inr (at, same, inr (inl first))))) = inr (inr (inr (at, same, inr (inl first))))
-  local (inr (inr (inr (at, same, inr (inr (inl later)))))) = inr (inr (inr (at, same, inr (inr (inl later)))))
-  local (inr (inr (inr (at, same, inr (inr (inr nowhere)))))) = inr (inr (inr (at, same, inr (inr (inr (inr (inr (inr (inr (inr nowhere))))))))))
+  local (inr (inr (inr (at, same, inr (inr later))))) = inr (inr (inr (at, same, inr (inr (inl later)))))
 
   chain : IsChainFault pages frame table home → IsCellsFault pages frame table home
   chain (inl (at, same, leads)) = inr (inr (inr (at, same, inr (inr (inr (inl leads))))))
   chain (inr (inl (at, same, loose))) = inr (inr (inr (at, same, inr (inr (inr (inr (inl loose)))))))
   chain (inr (inr (inl (at, same, again)))) = inr (inr (inr (at, same, inr (inr (inr (inr (inr (inl again))))))))
   chain (inr (inr (inr (inl (at, same, limits))))) = inr (inr (inr (at, same, inr (inr (inr (inr (inr (inr (inl limits)))))))))
-  chain (inr (inr (inr (inr (at, same, holes))))) = inr (inr (inr (at, same, inr (inr (inr (inr (inr (inr (inr (inl holes))))))))))
+  chain (inr (inr (inr (inr (at, same, holes))))) = inr (inr (inr (at, same, inr (inr (inr (inr (inr (inr (inr holes)))))))))
 
   pub cells_all : (IsLocalFault pages frame table home ⊎ IsChainFault pages frame table home) ↔ IsCellsFault pages frame table home
   cells_all = ((λ which. ⊎_elim (λ here. local here) (λ fault. chain fault) which), (λ fault. by_page fault))

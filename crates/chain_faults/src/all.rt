@@ -46,7 +46,8 @@ fn chain_faults<M: MetaPages>(
 }
 
 /// The pages at which a rule of pages of cells, of cells or of their chains is broken, each once and
-/// in order: those with the code 5 in a list of faults.
+/// in order: those with the code 5 in a list of faults, where the page of the fileset table breaks no
+/// rule and says this table.
 pub fn cells_faults<M: MetaPages>(
     alloc: Global,
     pages: &M,

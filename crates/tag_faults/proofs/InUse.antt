@@ -1,5 +1,6 @@
 -- Cells in use that are named, by what was read of them.
-use Rattle.std.proofs.Common.{◌≡◌, ◌∙◌, ◌↔◌, inl, inr, ℕ, Bool, IsTrue, List, Some, refl, sym, ap, subst}
+use Rattle.std.proofs.Common.{◌≡◌, ◌∙◌, ◌↔◌, inl, inr, ℕ, Bool, IsTrue, List, Option, Some, None, refl, sym, ap, subst}
+use Rattle.std.specs.Option.{option_and_then}
 use Rattle.domain_base.specs.declared.place.CellAt.{CellAt}
 use Rattle.domain_base.specs.declared.place.Home.{Home}
 use Rattle.page_store.specs.Pages.{Pages}
@@ -7,12 +8,13 @@ use Rattle.record_table.specs.Fields.{number_at}
 use Rattle.bmt_mcells.specs.Cell.{IsFileset, kind_number}
 use Rattle.bmt_mcells.specs.CellPage.{cell_at, home_of}
 use Rattle.bmt_mcells.specs.declared.head.CellKind.TheVariants.{Quota}
-use Rattle.fileset_table.specs.Table.{Table}
+use Rattle.fileset_table.specs.Table.{Table, entry_of}
+use Rattle.fileset_table.specs.declared.slot.FilesetEntry.{FilesetEntry}
 use Rattle.fileset_table.specs.declared.slot.SlotItem.{SlotItem}
 use Rattle.domain_layout.specs.CellRules as rules
 use Rattle.domain_layout.specs.CellRules.{IsLink, next_in}
 use Rattle.domain_layout.specs.Reached.{Frame}
-use Rattle.domain_layout.specs.TagRules.{HasWrongQuota, IsQuotaOf, quota_of}
+use Rattle.domain_layout.specs.TagRules.{HasWrongQuota, IsQuotaOf}
 use Rattle.cell_links.specs.Links.{HasLink}
 use Rattle.cell_links.specs.Members.{IsIn}
 use Rattle.cell_links.specs.declared.links.CellLink.{CellLink}
@@ -22,10 +24,25 @@ use Rattle.cell_links.proofs.Whole.{one_link}
 use Rattle.chain_leads.specs.Heads.{IsLedTo}
 use Rattle.chain_faults.specs.Links.{AreLinks}
 use Rattle.chain_faults.proofs.Walks.{in_use, is_link, link_of}
-use Rattle.tag_faults.specs.Quotas.{HasUnnamedQuota, IsQuotaAlone, IsQuotaNamed}
+use Rattle.tag_faults.specs.Quotas.{HasUnnamedQuota, IsQuotaAlone, IsQuotaNamed, own_quota}
 
 some_same : {X : Type 0} (a b : X) → Some a ≡ Some b → a ≡ b
 some_same a b e = cc
+
+none_some : {X : Type 0} (x : X) → None ≡ Some x → ⊥
+none_some x e = cc
+
+-- an original or a clone that names a quota cell
+entry_with : (item : SlotItem) (at : CellAt) → own_quota item ≡ Some at → (entry : FilesetEntry) × (entry_of item ≡ Some entry) × (entry.quota ≡ Some at)
+entry_with item at named = by_entry (entry_of item) refl named
+  where
+    by_entry : (o : Option FilesetEntry) → entry_of item ≡ o → option_and_then (λ (entry : FilesetEntry). entry.quota) o ≡ Some at → (entry : FilesetEntry) × (entry_of item ≡ Some entry) × (entry.quota ≡ Some at)
+    by_entry None is named = absurd (none_some at named)
+    by_entry (Some entry) is named = (entry, is, named)
+
+module _ (pages : Pages) (frame : Frame) (number : ℕ) (item : SlotItem) where
+  named_own : (wrong : HasWrongQuota pages frame number item) → own_quota item ≡ Some wrong.at
+  named_own wrong = ap (option_and_then (λ (entry : FilesetEntry). entry.quota)) wrong.is ∙ wrong.named
 
 module _ (pages : Pages) (frame : Frame) (links : CellLinks) (are : AreLinks pages frame links) where
   -- ---- quota cells
@@ -61,11 +78,11 @@ module _ (pages : Pages) (frame : Frame) (links : CellLinks) (are : AreLinks pag
 
     -- ---- quota cells that slots name
 
-    pub wrong_quota : (number : ℕ) (item : SlotItem) (at : CellAt) → quota_of item ≡ Some at → IsQuotaOf pages frame number at → (has : Bool) → IsTrue has ↔ IsIn led at
+    pub wrong_quota : (number : ℕ) (item : SlotItem) (at : CellAt) → own_quota item ≡ Some at → IsQuotaOf pages frame number at → (has : Bool) → IsTrue has ↔ IsIn led at
         → IsTrue has ↔ HasWrongQuota pages frame number item
     wrong_quota number item at named is has among = (
-      λ yes. record { at = at; named = named; wrong = inr (leads_to at (among.0 yes)) },
-      λ wrong. by_wrong wrong (some_same wrong.at at (sym wrong.named ∙ named)),
+      λ yes. let (entry, there, says) = entry_with item at named in record { entry = entry; is = there; at = at; named = says; wrong = inr (leads_to at (among.0 yes)) },
+      λ wrong. by_wrong wrong (some_same wrong.at at (sym (named_own pages frame number item wrong) ∙ named)),
     )
       where
         by_wrong : (wrong : HasWrongQuota pages frame number item) → wrong.at ≡ at → IsTrue has

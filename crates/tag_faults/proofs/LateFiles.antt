@@ -12,7 +12,7 @@ use Rattle.tag_faults.specs.declared.named.NamedCell.{NamedCell}
 pub late_all : (pages : Pages) (frame : Frame) (table : Table) (entries : List NamedCell) → AreEntries pages frame table entries → (home : Home)
     → ((one : NamedCell) × Contains entries one × LeadsToLate pages frame table home one) ↔ HasLate pages frame table home
 late_all pages frame table entries are home = (
-  λ (one, among, (same, original, (cell, is, (value, there, late)))). (
+  λ (one, among, (same, original, first, (cell, is, (value, there, late)))). (
     address_of one,
     same,
     record {
@@ -21,6 +21,7 @@ late_all pages frame table entries are home = (
       home = one.home;
       named = (are one).0 among;
       original = original;
+      first = first;
       cell = cell;
       is = is;
       value = value;
@@ -30,5 +31,5 @@ late_all pages frame table entries are home = (
   ),
   λ (at, same, late).
       let one : NamedCell = record { number = late.number; slot = late.tag.slot; seq = late.tag.seq; vol = at.vol; cell = at.cell; page = at.page; home = late.home } in
-      (one, (are one).1 late.named, (same, late.original, (late.cell, late.is, (late.value, late.attributes, late.late)))),
+      (one, (are one).1 late.named, (same, late.original, late.first, (late.cell, late.is, (late.value, late.attributes, late.late)))),
 )

@@ -9,8 +9,8 @@ use Rattle.bmt_mcells.specs.CellPage.{home_of}
 use Rattle.fileset_table.specs.Table.{Table}
 use Rattle.domain_layout.specs.CellRules.{IsUsed, of_original}
 use Rattle.domain_layout.specs.Reached.{Frame}
-use Rattle.domain_layout.specs.TagRules.{IsLate, IsLateFile}
-use Rattle.tag_faults.specs.Entries.{address_of}
+use Rattle.domain_layout.specs.TagRules.{IsFirstOf, IsLate, IsLateFile}
+use Rattle.tag_faults.specs.Entries.{address_of, tag_of}
 use Rattle.tag_faults.specs.declared.named.NamedCell.{NamedCell}
 
 -- a cell in use at a place has a number of a clone that was not made
@@ -18,10 +18,12 @@ abbrev pub HasLateNumber : Pages → Frame → Table → CellAt → Type 0
 HasLateNumber pages frame table at = (cell : Cell) × IsUsed pages frame at cell
     × ((value : Record) × (record_of 1 cell.records ≡ Some value) × IsLate table.made value)
 
--- an entry of an original leads to such a cell, which is on the page that stands at a home
+-- an entry of an original leads to such a cell, which is a first one of its fileset and tag, and on the
+-- page that stands at a home
 abbrev pub LeadsToLate : Pages → Frame → Table → Home → NamedCell → Type 0
 LeadsToLate pages frame table home entry = (home_of (address_of entry) ≡ home)
     × (of_original (slice_get table.slots entry.number) ≡ true)
+    × IsFirstOf pages frame entry.number (tag_of entry) (address_of entry)
     × HasLateNumber pages frame table (address_of entry)
 
 -- some cell of a page breaks the rule

@@ -1,11 +1,13 @@
 -- Quota cells that slots name.
-use Rattle.std.specs.Prelude.{◌≡◌, ◌⊎◌, ℕ, Some, slice_get}
+use Rattle.std.specs.Prelude.{◌≡◌, ◌⊎◌, ℕ, Option, Some, slice_get}
+use Rattle.std.specs.Option.{option_and_then}
 use Rattle.domain_base.specs.declared.place.CellAt.{CellAt}
 use Rattle.domain_base.specs.declared.place.Home.{Home}
 use Rattle.page_store.specs.Pages.{Pages}
 use Rattle.bmt_mcells.specs.CellPage.{home_of}
 use Rattle.bmt_mcells.specs.declared.head.CellKind.TheVariants.{Quota}
-use Rattle.fileset_table.specs.Table.{Table}
+use Rattle.fileset_table.specs.Table.{Table, entry_of}
+use Rattle.fileset_table.specs.declared.slot.FilesetEntry.{FilesetEntry}
 use Rattle.fileset_table.specs.declared.slot.SlotItem.{SlotItem}
 use Rattle.domain_layout.specs.Reached.{Frame}
 use Rattle.domain_layout.specs.TagRules.{HasWrongNumber, HasWrongQuota, IsUnnamedQuota, quota_of}
@@ -30,6 +32,10 @@ IsQuotaAlone led named at link = (link.kind ≡ Quota) × (¬ IsIn led at) × ¬
 abbrev pub HasUnnamedQuota : Pages → Frame → Table → Home → Type 0
 HasUnnamedQuota pages frame table home =
     (at : CellAt) × (home_of at ≡ home) × IsUnnamedQuota pages frame table at
+
+-- the first quota cell of an original or a clone, if it names one
+abbrev pub own_quota : SlotItem → Option CellAt
+own_quota item = option_and_then (λ (entry : FilesetEntry). entry.quota) (entry_of item)
 
 -- what is in a slot has a wrong number or a wrong quota cell
 abbrev pub IsWrongIn : Pages → Frame → Table → ℕ → Type 0

@@ -89,7 +89,8 @@ fn insert_slot_fault<M: MetaPages>(
 }
 
 /// The pages at which a rule of tags, of what they name, or of the slots of the fileset table is
-/// broken, each once and in order: those with the code 6 in a list of faults.
+/// broken, each once and in order: those with the code 6 in a list of faults, where the page of
+/// that table breaks no rule and says this table.
 pub fn tags_faults<M: MetaPages>(
     alloc: Global,
     pages: &M,

@@ -12,7 +12,7 @@ ghost use Rattle.chain_faults.specs.Links.{AreLinks};
 ghost use Rattle.tag_faults.specs.Late.{HasLate, HasLateNumber, LeadsToLate};
 
 use crate::cells::home_of;
-use crate::firsts::cell_of;
+use crate::firsts::{cell_of, leads_to_first};
 use crate::named::{NamedCell, read_entries};
 use bmt_mcells::{find_record, read_used};
 use cell_links::CellLinks;
@@ -79,8 +79,8 @@ fn has_late_number<M: MetaPages>(
     Ok(is_late_at(pages, table, at))
 }
 
-/// Puts the page of the cell of an entry into a set, if an original has the entry, and the cell
-/// such a number.
+/// Puts the page of the cell of an entry into a set, if an original has the entry, and the cell is
+/// a first one of its fileset and tag with such a number.
 fn insert_late<M: MetaPages>(
     alloc: Global,
     pages: &M,
@@ -100,14 +100,17 @@ fn insert_late<M: MetaPages>(
     if !has_original(table, entry.number) {
         return Ok(());
     }
+    if !leads_to_first(pages, frame, links, entry) {
+        return Ok(());
+    }
     if has_late_number(alloc, pages, frame, table, links, &at)? {
         found.insert(&home_of(&at))?;
     }
     Ok(())
 }
 
-/// The pages with a cell that an entry of an original names, and that has the number of a clone
-/// which was not made, by what was read of all cells in use.
+/// The pages with a first cell that an original's entry of its tag names, and that has the number
+/// of a clone which was not made, by what was read of all cells in use.
 pub fn late_file_faults<M: MetaPages>(
     alloc: Global,
     pages: &M,

@@ -22,7 +22,7 @@ use home_sets::HomeSet;
 use std::alloc::Global;
 
 /// The first quota cell of what is in a slot, if it names one.
-pub(crate) fn quota_of(item: &SlotItem) -> Option<CellAt>
+fn quota_of(item: &SlotItem) -> Option<CellAt>
     ensures { result ≡ quota_there item.now }
 {
     match item {

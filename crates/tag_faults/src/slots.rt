@@ -1,19 +1,18 @@
 //! Slots of the fileset table that name wrong.
 ghost use Rattle.std.specs.Prelude.{◌≡◌, ◌⊎◌, ◌↔◌, ◌<◌, IfOk, IsTrue};
-ghost use Rattle.domain_base.specs.declared.place.CellAt.{CellAt};
+ghost use Rattle.domain_base.specs.declared.place.CellAt.{CellAt as CellOf};
 ghost use Rattle.domain_layout.specs.Reached.{Frame};
 ghost use Rattle.domain_layout.specs.TagRules.{HasWrongNumber, HasWrongQuota, IsWrongSlot};
 ghost use Rattle.cell_links.specs.Members.{IsIn};
 ghost use Rattle.chain_leads.specs.Heads.{IsLedTo};
 ghost use Rattle.chain_faults.specs.Links.{AreLinks};
-ghost use Rattle.tag_faults.specs.Quotas.{IsWrongIn};
+ghost use Rattle.tag_faults.specs.Quotas.{IsWrongIn, own_quota as own_quota_there};
 
 use crate::cells::is_quota_of;
-use crate::quotas::quota_of;
 use crate::table::{count_slots, slot_number};
 use cell_links::{CellLinks, CellSet};
 use chain_leads::led_cells;
-use domain_base::{FilesetNo, OutOfMemory};
+use domain_base::{CellAt, FilesetNo, OutOfMemory};
 use fileset_table::{FilesetTable, SlotItem};
 use page_store::MetaPages;
 use std::alloc::Global;
@@ -28,8 +27,19 @@ fn has_wrong_number(table: &FilesetTable, item: &SlotItem) -> bool
     }
 }
 
-/// Whether what is in a slot names a first quota cell that is none of its fileset, or to which
-/// another one leads.
+/// The first quota cell of an original or a clone, if it names one.
+fn own_quota(item: &SlotItem) -> Option<CellAt>
+    ensures { result ≡ own_quota_there item.now }
+{
+    match item {
+        SlotItem::Original { entry } => entry.quota,
+        SlotItem::Clone { entry, .. } => entry.quota,
+        _ => None,
+    }
+}
+
+/// Whether an original or a clone in a slot names a first quota cell that is none of its fileset, or
+/// to which another one leads.
 fn has_wrong_quota<M: MetaPages>(
     pages: &M,
     links: &CellLinks,
@@ -37,11 +47,11 @@ fn has_wrong_quota<M: MetaPages>(
     number: FilesetNo,
     item: &SlotItem,
 ) -> bool
-    requires { (at : CellAt) → IsIn led.now at ↔ IsLedTo links.now at }
+    requires { (at : CellOf) → IsIn led.now at ↔ IsLedTo links.now at }
     ensures { (frame : Frame) → AreLinks (M.pages pages.now) frame links.now → IsTrue result
         ↔ HasWrongQuota (M.pages pages.now) frame number item.now }
 {
-    let Some(at) = quota_of(item) else {
+    let Some(at) = own_quota(item) else {
         return false;
     };
     !is_quota_of(pages, links, number, &at) || led.has(&at)
@@ -55,7 +65,7 @@ fn is_wrong_in<M: MetaPages>(
     table: &FilesetTable,
     number: FilesetNo,
 ) -> bool
-    requires { (at : CellAt) → IsIn led.now at ↔ IsLedTo links.now at }
+    requires { (at : CellOf) → IsIn led.now at ↔ IsLedTo links.now at }
     ensures { (frame : Frame) → AreLinks (M.pages pages.now) frame links.now → IsTrue result
         ↔ IsWrongIn (M.pages pages.now) frame table.now number }
 {
@@ -63,8 +73,9 @@ fn is_wrong_in<M: MetaPages>(
     has_wrong_number(table, item) || has_wrong_quota(pages, links, led, number, item)
 }
 
-/// Whether a slot has a clone with the number of no clone that was made, or names a first quota cell
-/// that is none of its fileset or to which another one leads, by what was read of all cells in use.
+/// Whether a slot has a clone with the number of no clone that was made, or an original or a clone
+/// that names a first quota cell which is none of its fileset or to which another one leads, by what
+/// was read of all cells in use.
 pub fn has_wrong_slot<M: MetaPages>(
     alloc: Global,
     pages: &M,
