@@ -28,8 +28,8 @@ fn wrong(alloc: Global, byte: u8, ones: usize, pages: u32, second: bool) -> Resu
     Ok(is_wrong_page(&page, &owned(alloc)?, pages, first))
 }
 
-/// Exactly pages 0 to 3 are set, and those from 512 on; page 4, too; not page 3; not page 512; and
-/// page 511, too.
+/// Exactly pages 0 to 3 are set, and those from 512 on; page 4, too; not page 3; not those from 512 to
+/// 519; and those from 504 on, too.
 #[test]
 fn bits_say_which_pages_are_owned(rt: HostRuntime) -> Result<(), Fail> {
     let alloc = rt.alloc();

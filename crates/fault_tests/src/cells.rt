@@ -20,6 +20,7 @@ fn spelling(name: &str) -> &'static str {
         "fewer" => "0c001000 01000000 ff010000 01000000",
         "bitmaps" => "0c001000 01000000 00020000 02000000",
         "file" => "01003400 01000000 z16 z4 00000100 01000000 z16",
+        "late" => "01003400 01000000 z16 z4 00000100 01000000 0200000000000000 z8",
         "dir" => "01003400 02000000 z16 z4 00000100 01000000 z16",
         "kept" => "01003400 01000000 z16 z4 05000000 01000000 z16",
         "over" => "01003400 01000000 z16 z4 01000100 01000000 z16",
@@ -162,12 +163,15 @@ fn first_unlike(
 }
 
 /// Cells that break no rule: in an original, in its clone, and in no fileset, first cells, those of
-/// a chain, and quotas. One that is to be removed may have what its fileset has not, and an extent
-/// may end with page 2^32 - 1.
+/// a chain, and quotas. One that is to be removed may have what its fileset has not. Where pages of
+/// files stand is not asked here: an extent may be on volume 0, or end behind page 2^32 - 1.
 const GOOD: &str = "\
 1 1 file short
 1 1 file dense
 1 1 file short_last
+1 1 file short_behind
+1 1 file short_nowhere
+1 1 file dense_nowhere
 1 1 dir short parent
 1 1 kept short trim
 1 1 over short remove
@@ -181,6 +185,7 @@ const GOOD: &str = "\
 1 0 dir short
 1 3 kept short
 2 0 extents
+2 0 extents_nowhere
 2 0 many
 2 0 holes
 3 1
@@ -190,8 +195,7 @@ const GOOD: &str = "\
 /// without attributes, without extents, with both kinds of them, or with what no first cell has; in
 /// an original a directory without a parent, a file with one, one that keeps fewer pages or more
 /// than all, and one that is read through another; in a clone one that is not; chain cells with no
-/// record, two, or another; quota cells with another; extents on volume 0, and two pages from page
-/// 2^32 - 1 on, also of what is to be removed.
+/// record, two, or another; quota cells with another.
 const WRONG: &str = "\
 4 0 volume
 1 1 short
@@ -209,12 +213,7 @@ const WRONG: &str = "\
 2 0
 2 0 holes trim
 2 0 user
-3 1 trim user
-1 1 file short_behind
-1 1 file short_nowhere
-1 1 file short_nowhere remove
-1 1 file dense_nowhere
-2 0 extents_nowhere";
+3 1 trim user";
 
 /// Cells that are not well formed, and so break no other rule: no kind, records in another order,
 /// one of them twice, and one of no kind.

@@ -177,7 +177,8 @@ fn files_of_clones_are_read_through_those_of_the_original(rt: HostRuntime) -> Re
 }
 
 /// The original's file was made when 1 clone, or 2, had been; it is out of sync with clone 1, or 2;
-/// and the clone's file was made when 2 had been. Births stand at bytes 656 and 948.
+/// and the clone's file was made when 2 had been, also where an entry of the original leads to it,
+/// which names it not. Births stand at bytes 656 and 948.
 #[test]
 fn files_have_numbers_of_clones_that_were_made(rt: HostRuntime) -> Result<(), Fail> {
     let alloc = rt.alloc();
@@ -190,5 +191,9 @@ fn files_have_numbers_of_clones_that_were_made(rt: HostRuntime) -> Result<(), Fa
     ];
     let late = [3, 0, 0];
     assert_eq!(rt; seen, [[0; 3], late, [0; 3], late, [0; 3]]);
+    let [root, file, _, _] = CELLS;
+    let rows = [root, file, "1 2 late clone short", ""];
+    let also = (140, 40, [1, 0, 1, 3, 3, 0, 0, 0]);
+    assert_eq!(rt; wrong(alloc, rows, 1, &also)?, [140, 0, 0]);
     Ok(())
 }

@@ -101,7 +101,8 @@ fn pages_of_files_are_their_own(rt: HostRuntime) -> Result<(), Fail> {
 }
 
 /// A page of the bitmap, of the log, of the table, of both pages of cells, of tags, and of the
-/// index; one of volume 2, which is no member; and pages behind those of tables.
+/// index; pages behind those of tables; one of volume 2, which is no member, one of volume 0, which
+/// is none, and two from the last page number on.
 #[test]
 fn pages_of_files_are_no_others(rt: HostRuntime) -> Result<(), Fail> {
     let alloc = rt.alloc();
@@ -116,6 +117,8 @@ fn pages_of_files_are_no_others(rt: HostRuntime) -> Result<(), Fail> {
     want[9] = [0, 0];
     assert_eq!(rt; seen, want);
     assert_eq!(rt; wrong(alloc, [[0, 1, 2, 300], NONE])?, [133, 0]);
+    assert_eq!(rt; wrong(alloc, [[0, 1, 0, 300], NONE])?, [133, 0]);
+    assert_eq!(rt; wrong(alloc, [[0, 2, 1, 0xffff_ffff], NONE])?, [133, 0]);
     Ok(())
 }
 

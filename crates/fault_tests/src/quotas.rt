@@ -25,6 +25,21 @@ fn table(alloc: Global, cell: u8) -> Result<FilesetTable, Fail> {
     Ok(table)
 }
 
+/// The table with a fileset that is being removed, and names a cell of page 3.
+fn removed(alloc: Global, cell: u8) -> Result<FilesetTable, Fail> {
+    let mut table = FilesetTable::new(alloc)?;
+    let removed = SlotItem::Removed {
+        first_tag: None,
+        quota: Some(CellAt {
+            vol: home(3).vol,
+            page: 3,
+            cell,
+        }),
+    };
+    set_slot(&mut table, 0, removed)?;
+    Ok(table)
+}
+
 /// Page 3 with the cells.
 fn pages_with(alloc: Global, rows: [&str; 2], leads: bool) -> Result<MemoryPages, Fail> {
     let mut page = cells_page(alloc, 0, 0)?;
@@ -85,6 +100,20 @@ fn slots_name_first_quota_cells(rt: HostRuntime) -> Result<(), Fail> {
         (1, true),
     ];
     assert_eq!(rt; seen, want);
+    Ok(())
+}
+
+/// A fileset that is being removed names its quota cell, or a cell that is not in use: its slot is
+/// not wrong, but nothing names the quota cell then.
+#[test]
+fn removed_slots_may_name_what_they_will(rt: HostRuntime) -> Result<(), Fail> {
+    let alloc = rt.alloc();
+    let rows = ["3 1 user", "3 2 group"];
+    let seen = [
+        seen(alloc, rows, true, &removed(alloc, 1)?)?,
+        seen(alloc, rows, true, &removed(alloc, 5)?)?,
+    ];
+    assert_eq!(rt; seen, [(0, false), (1, false)]);
     Ok(())
 }
 

@@ -1,15 +1,13 @@
 -- Cells that are found to say wrong pages, and pages of bitmaps with wrong bits, are those of the
 -- rules.
-use Rattle.std.proofs.Common.{◌≡◌, ◌∙◌, ◌⊎◌, ◌↔◌, inl, inr, ℕ, List, Contains, refl, sym, ap, subst, arith, ⊎_elim}
-use Rattle.std.proofs.lemmas.Bool.{cases_lt}
+use Rattle.std.proofs.Common.{◌≡◌, ◌∙◌, ◌⊎◌, ◌↔◌, inl, inr, ℕ, List, Contains, refl, sym, ap, subst, ⊎_elim}
 use Rattle.domain_base.specs.declared.place.CellAt.{CellAt}
 use Rattle.domain_base.specs.declared.place.Home.{Home}
 use Rattle.page_store.specs.Pages.{Pages}
-use Rattle.disk_label.specs.declared.anchor.Anchor.{Anchor}
-use Rattle.log_ring.specs.Homes.{IsMember, member_of}
 use Rattle.bmt_mcells.specs.CellPage.{home_of}
 use Rattle.fileset_table.specs.Table.{Table}
 use Rattle.domain_layout.specs.Reached.{Frame, IsWithin}
+use Rattle.layout_laws.proofs.Reached.{member_or_none}
 use Rattle.cell_links.specs.declared.links.CellLinks.{CellLinks}
 use Rattle.chain_faults.specs.Links.{AreLinks}
 use Rattle.file_runs.specs.Reading.{AreSaid}
@@ -27,14 +25,6 @@ file_pages pages frame links are runs said at page home = (
   λ have. let (used, (cell, stands, says)) = (said at page home).0 have in (cell, used_by pages frame links are at cell used stands, says),
   λ (cell, is, says). (said at page home).1 (used_link pages frame links are at cell is, (cell, is.stands, says)),
 )
-
-member_or_none : (anchor : Anchor) (vol : ℕ) → IsMember anchor vol ⊎ ¬ IsMember anchor vol
-member_or_none anchor vol =
-    ⊎_elim (λ low. inr (λ is. omega (arith, low, is.first)))
-    (λ first. ⊎_elim (λ last. ⊎_elim (λ none. inr (λ is. omega (arith, none, is.there)))
-    (λ there. ⊎_elim (λ whole. inl (record { first = first; last = omega (arith, last); there = there; whole = omega (arith, whole) }))
-    (λ more. inr (λ is. omega (arith, more, is.whole))) (cases_lt (member_of anchor vol).state 3)) (cases_lt (member_of anchor vol).state 1))
-    (λ far. inr (λ is. omega (arith, far, is.last))) (cases_lt vol 9)) (cases_lt vol 1)
 
 module _ (pages : Pages) (frame : Frame) (table : Table) (homes : List Home) (runs : List FileRun) (are : AreOfTables pages frame table homes) (files : AreFilePages pages frame runs) where
   taken_to : (home : Home) → IsTaken frame homes home → IsNoFiles pages frame table home

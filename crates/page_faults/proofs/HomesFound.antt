@@ -1,6 +1,5 @@
 -- Pages of tables, tag directories and indexes that are found are those of the rules.
-use Rattle.std.proofs.Common.{◌≡◌, ◌∙◌, ◌⊎◌, ◌↔◌, inl, inr, ℕ, ◌≤◌, ◌==◌, Bool, true, false, cond, List, [], ◌∷◌, length, Option, Some, None, Contains, IsSomeAnd, refl, sym, ap, subst, arith, ⊎_elim}
-use Rattle.std.proofs.lemmas.Bool.{cases_order}
+use Rattle.std.proofs.Common.{◌≡◌, ◌∙◌, ◌⊎◌, ◌↔◌, inl, inr, ℕ, ◌≤◌, ◌==◌, Bool, true, false, cond, List, [], ◌∷◌, length, Option, Some, None, Contains, refl, sym, ap, subst, ⊎_elim}
 use Rattle.std.proofs.lemmas.Option.{get_or_from_slice_get, slice_get_read, slice_get_within}
 use Rattle.std.specs.List.{AllByRecursion}
 use Rattle.std.specs.Option.{option_and_then}
@@ -15,8 +14,9 @@ use Rattle.bmt_mcells.specs.Chain.{StandsAt}
 use Rattle.bmt_mcells.proofs.Unique.{one_stands}
 use Rattle.bitfile_core.specs.Shown.{index_in}
 use Rattle.domain_layout.specs.CellRules.{IsPlace}
+use Rattle.domain_layout.specs.DirectoryRules.{HasIndexAt}
 use Rattle.domain_layout.specs.Reached.{Frame, IsRead, IsUnread, Reaches, Way, index_way}
-use Rattle.layout_laws.proofs.Reached.{may_be_by}
+use Rattle.layout_laws.proofs.Reached.{begins_by, may_be_by, same_number}
 use Rattle.page_ways.specs.Walk.{AreRead}
 use Rattle.cell_faults.specs.Tables.{AreTables, IsCellsHome, IsThere}
 use Rattle.cell_faults.specs.declared.tables.CellsPage.{CellsPage}
@@ -29,25 +29,6 @@ none_some : {X : Type 0} (x : X) → None ≡ Some x → ⊥
 none_some x e = cc
 
 -- ---- pages that are come to
-
-record BeginsAt (pages : Pages) (way : Way) (home : Home) : Type 0 where
-  page : List ℕ
-  there : pages home ≡ Some page
-  so : way.begins_so page ≡ true
-
-begins_by : (pages : Pages) (way : Way) (home : Home) → ¬ (¬ IsSomeAnd (pages home) (λ page. way.begins_so page ≡ true)) → BeginsAt pages way home
-begins_by pages way home not_wrong = by_page (pages home) refl not_wrong
-  where
-    by_test : (page : List ℕ) (b : Bool) → way.begins_so page ≡ b → pages home ≡ Some page → ¬ (¬ way.begins_so page ≡ true) → BeginsAt pages way home
-    by_test page true so there not_wrong = record { page = page; there = there; so = so }
-    by_test page false other there not_wrong = absurd (not_wrong (λ so. let e : false ≡ true = sym other ∙ so in absurd (cc)))
-
-    by_page : (o : Option (List ℕ)) → pages home ≡ o → ¬ (¬ IsSomeAnd o (λ page. way.begins_so page ≡ true)) → BeginsAt pages way home
-    by_page None none not_wrong = absurd (not_wrong (λ is. is))
-    by_page (Some page) there not_wrong = by_test page (way.begins_so page) refl there not_wrong
-
-same_number : (m n : ℕ) → (m ≡ n) ⊎ ¬ m ≡ n
-same_number m n = ⊎_elim (λ same. inl same) (λ apart. inr (λ same. ⊎_elim (λ less. omega (arith, less, same)) (λ more. omega (arith, more, same)) apart)) (cases_order m n)
 
 same_home : (a b : Home) → (a ≡ b) ⊎ ¬ a ≡ b
 same_home a b =
@@ -108,24 +89,30 @@ index_some : (o : Option Record) (first : Home) → option_and_then index_in o �
 index_some None first is = absurd (none_some first is)
 index_some (Some value) first is = (value, refl, is)
 
-module _ (pages : Pages) (frame : Frame) (at : CellAt) (place : IsPlace pages frame at) (cell : Cell) (stands : StandsAt pages at cell) where
-  first_is : (home : Home) (is : IsIndexOf pages frame at home) → option_and_then index_in (record_of 9 cell.records) ≡ Some is.0
-  first_is home (first, has, reached) =
-      let same = one_stands pages at has.cell cell has.is.stands stands in
-      ap (λ (c : Cell). option_and_then index_in (record_of 9 c.records)) (sym same) ∙ ap (option_and_then index_in) has.there ∙ has.begins
-
-  pub no_index : None ≡ option_and_then index_in (record_of 9 cell.records) → (home : Home) → ¬ IsIndexOf pages frame at home
-  no_index none home is = none_some is.0 (none ∙ first_is home is)
-
-  pub index_from : (first : Home) → Some first ≡ option_and_then index_in (record_of 9 cell.records) → (home : Home) → IsReached pages frame (index_way first) home ↔ IsIndexOf pages frame at home
-  index_from first is home = (
-    λ reached. let found = index_some (record_of 9 cell.records) first (sym is) in
-        (first, record { cell = cell; is = record { place = place; stands = stands }; value = found.0; there = found.1; begins = found.2 }, reached),
-    λ of. subst (λ f. IsReached pages frame (index_way f) home) (some_same of.0 first (sym (first_is home of) ∙ sym is)) of.2,
+-- the index that the cell at a place names
+module _ (pages : Pages) (frame : Frame) (at : CellAt) where
+  pub named_by : IsPlace pages frame at → (cell : Cell) → StandsAt pages at cell → (first : Home) → (option_and_then index_in (record_of 9 cell.records) ≡ Some first) ↔ HasIndexAt pages frame at first
+  named_by place cell stands first = (
+    λ is. let found = index_some (record_of 9 cell.records) first is in
+        record { cell = cell; is = record { place = place; stands = stands }; value = found.0; there = found.1; begins = found.2 },
+    λ has.
+        let same = one_stands pages at has.cell cell has.is.stands stands in
+        ap (λ (c : Cell). option_and_then index_in (record_of 9 c.records)) (sym same) ∙ ap (option_and_then index_in) has.there ∙ has.begins,
   )
 
-pub none_stands : (pages : Pages) (frame : Frame) (at : CellAt) → ((cell : Cell) → ¬ StandsAt pages at cell) → (home : Home) → ¬ IsIndexOf pages frame at home
-none_stands pages frame at none home (first, has, reached) = none has.cell has.is.stands
+  pub none_named : ((cell : Cell) → ¬ StandsAt pages at cell) → (first : Home) → ¬ HasIndexAt pages frame at first
+  none_named none first has = none has.cell has.is.stands
+
+  -- its pages are those that are come to from the first one
+  pub pages_of : (found : Option Home) → ((first : Home) → (found ≡ Some first) ↔ HasIndexAt pages frame at first) → (first : Home) → found ≡ Some first → (home : Home)
+      → IsReached pages frame (index_way first) home ↔ IsIndexOf pages frame at home
+  pages_of found named first is home = (
+    λ reached. (first, (named first).0 is, reached),
+    λ (other, has, reached). subst (λ f. IsReached pages frame (index_way f) home) (some_same other first (sym ((named other).1 has) ∙ is)) reached,
+  )
+
+  pub no_pages : (found : Option Home) → found ≡ None → ((first : Home) → (found ≡ Some first) ↔ HasIndexAt pages frame at first) → (home : Home) → ¬ IsIndexOf pages frame at home
+  no_pages found none named home (first, has, reached) = none_some first (sym none ∙ (named first).1 has)
 
 -- ---- pages of cells
 

@@ -1,4 +1,5 @@
 pub mod BitmapsFound
+pub mod ByLayout
 pub mod FilesFound
 pub mod HomesFound
 pub mod OneMaps

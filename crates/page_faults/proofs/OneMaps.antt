@@ -1,6 +1,6 @@
 -- Where no rule of cells is broken, each cell in use has each page of its file in one row at most.
-use Rattle.std.proofs.Common.{◌≡◌, ◌∙◌, ◌⊎◌, ◌&&◌, ◌||◌, ◌==◌, inl, inr, ℕ, zero, suc, Bool, true, false, not, List, [], ◌∷◌, ◌++◌, Contains, refl, sym, ap, subst, arith, ⊎_elim}
-use Rattle.std.proofs.lemmas.Bool.{and_parts, cases_Bool, cases_lt, cases_order}
+use Rattle.std.proofs.Common.{◌≡◌, ◌∙◌, ◌⊎◌, ◌&&◌, ◌||◌, ◌==◌, inl, inr, zero, suc, Bool, true, false, not, List, [], ◌∷◌, ◌++◌, Contains, refl, sym, ap, subst, arith, ⊎_elim}
+use Rattle.std.proofs.lemmas.Bool.{and_parts, cases_Bool, cases_lt}
 use Rattle.std.proofs.lemmas.List.{append-nil}
 use Rattle.std.specs.List.{AllByRecursion, list_all}
 use Rattle.std.specs.Option.{option_map_or}
@@ -20,6 +20,7 @@ use Rattle.extent_records.specs.Rows.{NoPageTwice, runs_in, runs_of, times}
 use Rattle.bitfile_cells.proofs.MapRecords.{runs_by_map}
 use Rattle.bitfile_core.specs.Files.{is_first_kind}
 use Rattle.fileset_table.specs.Table.{Table}
+use Rattle.layout_laws.proofs.Reached.{same_number}
 use Rattle.domain_layout.specs.CellRules.{IsCellFault, IsCellsFault, IsFirstPlace, IsUsed, agree, are_limits, has_first_records, has_its_kinds, has_kind, is_chain_records, is_good_first, item_of, keeps_well, next_in, of_clone, of_original, say_removed}
 use Rattle.domain_layout.specs.Reached.{Frame, first_cells}
 use Rattle.filesets_reading.proofs.FirstCells.{all_first, chain_record, one_record}
@@ -57,9 +58,6 @@ limits_runs [] is = refl
 limits_runs (r ∷ rs) is =
     let both = and_parts ((kind_of r == 7) || (kind_of r == 8)) (list_all (λ r. (kind_of r == 7) || (kind_of r == 8)) rs) is in
     ap (λ (l : List Run). l ++ runs_of rs) (no_runs r both.0) ∙ limits_runs rs both.1
-
-same_number : (m n : ℕ) → (m ≡ n) ⊎ ¬ m ≡ n
-same_number m n = ⊎_elim (λ same. inl same) (λ apart. inr (λ same. ⊎_elim (λ less. omega (arith, less, same)) (λ more. omega (arith, more, same)) apart)) (cases_order m n)
 
 module _ (pages : Pages) (frame : Frame) (table : Table) (none : (home : Home) → ¬ IsCellsFault pages frame table home) (at : CellAt) (cell : Cell) (used : IsUsed pages frame at cell) where
   no_fault : ¬ IsCellFault pages frame table at

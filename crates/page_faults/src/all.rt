@@ -17,7 +17,8 @@ use std::alloc::Global;
 
 /// The pages with a cell that says that a page of its file stands where none of a member's is, where
 /// label, anchors, bitmap, log or a table has its page, or where another page of a file is said to
-/// stand, each once and in order, where no rule of cells is broken.
+/// stand, each once and in order. Where a rule of cells is broken nothing is said of them: look for
+/// those first. A page on volume 0 is none of a member's.
 pub fn extent_faults<M: MetaPages>(
     alloc: Global,
     pages: &M,
@@ -34,7 +35,8 @@ pub fn extent_faults<M: MetaPages>(
 }
 
 /// The pages of members' bitmaps with a bit that is 1 where the page belongs to nothing, or 0 where
-/// it does or is none of the member's, each once and in order, where no rule of cells is broken.
+/// it does or is none of the member's, each once and in order. Where a rule of cells is broken
+/// nothing is said of them: look for those first.
 pub fn bitmap_faults<M: MetaPages>(
     alloc: Global,
     pages: &M,

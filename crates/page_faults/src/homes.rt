@@ -6,7 +6,8 @@ ghost use Rattle.bmt_mcells.specs.Cell.{Cell, record_of};
 ghost use Rattle.bmt_mcells.specs.Chain.{StandsAt};
 ghost use Rattle.bitfile_core.specs.Shown.{index_in};
 ghost use Rattle.domain_layout.specs.CellRules.{IsPlace};
-ghost use Rattle.domain_layout.specs.Reached.{index_way};
+ghost use Rattle.domain_layout.specs.DirectoryRules.{HasIndexAt};
+ghost use Rattle.domain_layout.specs.Reached.{Frame, index_way};
 ghost use Rattle.page_ways.specs.Frame.{frame_in};
 ghost use Rattle.cell_faults.specs.Tables.{AreTables};
 ghost use Rattle.chain_faults.specs.Links.{AreLinks};
@@ -88,6 +89,23 @@ fn first_of_index<M: MetaPages>(pages: &M, at: &CellAt) -> Option<Home>
     }
 }
 
+/// The first page of the index that the cell in use at a place names. None where no cell in use that
+/// is well formed stands there, or it names none.
+pub fn index_at<M: MetaPages>(
+    alloc: Global,
+    pages: &M,
+    at: &CellAt,
+) -> Result<Option<Home>, OutOfMemory>
+    ensures { IfOk result (λ found. (frame : Frame) → IsPlace (M.pages pages.now) frame at.now
+        → (first : Home) → (found ≡ Some first)
+        ↔ HasIndexAt (M.pages pages.now) frame at.now first) }
+{
+    let Some(_used) = read_used(alloc, pages, *at)? else {
+        return Ok(None);
+    };
+    Ok(first_of_index(pages, at))
+}
+
 /// Puts the pages of the index that a cell in use names behind other homes.
 fn push_index<M: MetaPages>(
     alloc: Global,
@@ -101,10 +119,7 @@ fn push_index<M: MetaPages>(
         ↔ (Contains homes.old.items home
         ⊎ IsIndexOf (M.pages pages.now) (frame_in frame.now) at.now home)) }
 {
-    let Some(_used) = read_used(alloc, pages, *at)? else {
-        return Ok(());
-    };
-    let Some(first) = first_of_index(pages, at) else {
+    let Some(first) = index_at(alloc, pages, at)? else {
         return Ok(());
     };
     push_reached(alloc, pages, frame, &first, homes)?;

@@ -4,8 +4,11 @@
 mod all;
 mod bitmaps;
 mod homes;
+mod laws;
 mod owners;
 mod spans;
 mod wrong;
 
 pub use all::{bitmap_faults, extent_faults};
+pub use homes::index_at;
+pub use laws::{wrong_bits_by_layout, wrong_pages_by_layout};
