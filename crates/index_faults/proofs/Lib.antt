@@ -1,0 +1,2 @@
+pub mod IndexesRead
+pub mod PagesShared
