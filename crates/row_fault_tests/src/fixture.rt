@@ -65,6 +65,27 @@ fn put_page(alloc: Global, pages: &mut MemoryPages, row: &str) -> Result<(), Fai
     Ok(())
 }
 
+/// Puts a page of rows at a page of volume 1: so many rows of files to slot 9, each with the name
+/// a.
+pub fn put_rows(
+    alloc: Global,
+    pages: &mut MemoryPages,
+    number: u32,
+    count: u16,
+) -> Result<(), Fail> {
+    let mut page = Page::zeros(alloc)?;
+    let count = count.min(908);
+    page.set(0, b"DIRP");
+    page.set(4, &(9 * count).to_le_bytes());
+    page.set(6, &count.to_le_bytes());
+    for row in 0..usize::from(count) {
+        page.set(16 + 9 * row, &[9, 0, 0, 0, 1, 0, 1, 1, b'a']);
+    }
+    pages.reserve(alloc, 1)?;
+    pages.put(home(number), page);
+    Ok(())
+}
+
 /// The pages of a table.
 pub fn pages_of(alloc: Global, rows: &'static str) -> Result<MemoryPages, Fail> {
     let mut pages = MemoryPages::new(alloc);
@@ -74,14 +95,33 @@ pub fn pages_of(alloc: Global, rows: &'static str) -> Result<MemoryPages, Fail> 
     Ok(pages)
 }
 
+/// A kind by its word, how many links that says, and whether a wrong size.
+fn kind_of(word: &str) -> (Kind, u32, bool) {
+    match word {
+        "dir" => (Kind::Directory, 1, false),
+        "dir2" => (Kind::Directory, 2, false),
+        "gap" => (Kind::Directory, 1, true),
+        "file2" => (Kind::File, 2, false),
+        "filegap" => (Kind::File, 1, true),
+        _ => (Kind::File, 1, false),
+    }
+}
+
 /// A file or directory with its slot, whether it is a directory, and the pages of volume 1 at which
-/// its pages stand, where 0 is none.
+/// its pages stand, where 0 is none. Its first cell stands on the page of its slot and 300 more; it
+/// has one link, or two where its kind is said with a 2, and a wrong size where it is said with a
+/// gap. Behind an @ stands the slot of the directory that it says to stand in.
 fn file_of(alloc: Global, row: &str) -> Result<FileThere, Fail> {
     let mut words = row.split(' ');
     let slot: u32 = words.next().ok_or("a slot")?.parse()?;
-    let kind = match words.next() {
-        Some("dir") => Kind::Directory,
-        _ => Kind::File,
+    let mut parts = words.next().ok_or("a kind")?.split('@');
+    let (kind, links, has_wrong_size) = kind_of(parts.next().ok_or("a kind")?);
+    let parent = match parts.next() {
+        Some(slot) => Some(Tag {
+            slot: slot.parse()?,
+            seq: 1,
+        }),
+        None => None,
     };
     let mut homes = Vec::new(alloc);
     for word in words {
@@ -94,17 +134,19 @@ fn file_of(alloc: Global, row: &str) -> Result<FileThere, Fail> {
         gid: 0,
         is_logged: false,
         size: 0,
-        links: 1,
+        links,
     };
     let at = CellAt {
         vol: VolIx::new(1).ok_or("a volume")?,
-        page: 3,
+        page: 300 + slot % 100,
         cell: 1,
     };
     Ok(FileThere {
         tag: Tag { slot, seq: 1 },
         at,
         seen: SeenPages { is, homes },
+        parent,
+        has_wrong_size,
     })
 }
 

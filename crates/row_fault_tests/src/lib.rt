@@ -4,6 +4,14 @@
 #[cfg(test)]
 mod fixture;
 #[cfg(test)]
+mod links;
+#[cfg(test)]
+mod lost;
+#[cfg(test)]
 mod pages;
+#[cfg(test)]
+mod parents;
+#[cfg(test)]
+mod sizes;
 #[cfg(test)]
 mod wrong;

@@ -42,7 +42,8 @@ kind_itself : (a : Kind) → (kind_ord.ghosts).cmp a a ≡ Equal
 kind_itself File = refl
 kind_itself Directory = refl
 
-same_at : (key : Tag × Kind) (tag : Tag) (of : Kind) → (is_at (kind_order key) (tag, of) ≡ true) ↔ ((key.0 ≡ tag) × (key.1 ≡ of))
+-- two tags with kinds compare as the same exactly where they are
+pub same_at : (key : Tag × Kind) (tag : Tag) (of : Kind) → (is_at (kind_order key) (tag, of) ≡ true) ↔ ((key.0 ≡ tag) × (key.1 ≡ of))
 same_at key tag of = (to_same, from_same)
   where
     to_same : is_at (kind_order key) (tag, of) ≡ true → (key.0 ≡ tag) × (key.1 ≡ of)
@@ -113,32 +114,37 @@ all_kinds kinds files number whole are tag of = (
 abbrev pub IsWrongAt : BTreeSet (Tag × Kind) → Bool → RowThere → Home → Type 0
 IsWrongAt kinds is_clone r home = LeadsWrong kinds is_clone r × (home ≡ r.at.home)
 
-not_other : (of : Kind) → ¬ other_of of ≡ of
+pub not_other : (of : Kind) → ¬ other_of of ≡ of
 not_other File e = absurd (cc)
 not_other Directory e = absurd (cc)
 
-other_is : (of kind : Kind) → ¬ of ≡ kind → of ≡ other_of kind
+pub other_is : (of kind : Kind) → ¬ of ≡ kind → of ≡ other_of kind
 other_is File File apart = absurd (apart refl)
 other_is File Directory apart = refl
 other_is Directory File apart = refl
 other_is Directory Directory apart = absurd (apart refl)
 
-module _ (pages : Pages) (frame : Frame) (table : Table) (number : ℕ) (files : List FileThere) (rows : List RowThere) (kinds : BTreeSet (Tag × Kind)) (is_clone : Bool)
-    (are_files : AreFilesIn pages table number files) (are : AreRowsIn pages frame table number rows) (clone : of_clone (slice_get table.slots number) ≡ is_clone)
+module _ (pages : Pages) (frame : Frame) (table : Table) (number : ℕ) (files : List FileThere) (kinds : BTreeSet (Tag × Kind)) (are_files : AreFilesIn pages frame table number files)
     (has : (tag : Tag) (of : Kind) → HasKind kinds tag of ↔ IsAmong files tag of) where
-  of_kind : (tag : Tag) (of : Kind) → HasKind kinds tag of ↔ HasOfKind pages table number tag of
+  pub of_kind : (tag : Tag) (of : Kind) → HasKind kinds tag of ↔ HasOfKind pages table number tag of
   of_kind tag of = (to_file, from_file)
     where
       to_file : HasKind kinds tag of → HasOfKind pages table number tag of
       to_file is =
           let (file, among, (same, kind)) = (has tag of).0 is in
           let read = are_files.each file among in
-          (read.cells, read.seen, subst (λ (t : Tag). Has pages table number t read.cells read.seen) same read.has, sym (ap (λ (a : Attributes). a.kind) read.read.same.is) ∙ kind)
+          (read.cells, read.seen, subst (λ (t : Tag). Has pages table number t read.cells read.seen) same read.has, sym (ap (λ (a : Attributes). a.kind) read.read.is) ∙ kind)
 
       from_file : HasOfKind pages table number tag of → HasKind kinds tag of
       from_file (cells, seen, is, kind) =
           let was = are_files.all tag cells seen is in
-          (has tag of).1 (was.file, was.among, (was.tag_is, ap (λ (a : Attributes). a.kind) was.read.same.is ∙ kind))
+          (has tag of).1 (was.file, was.among, (was.tag_is, ap (λ (a : Attributes). a.kind) was.read.is ∙ kind))
+
+module _ (pages : Pages) (frame : Frame) (table : Table) (number : ℕ) (files : List FileThere) (rows : List RowThere) (kinds : BTreeSet (Tag × Kind)) (is_clone : Bool)
+    (are_files : AreFilesIn pages frame table number files) (are : AreRowsIn pages frame table number rows) (clone : of_clone (slice_get table.slots number) ≡ is_clone)
+    (has : (tag : Tag) (of : Kind) → HasKind kinds tag of ↔ IsAmong files tag of) where
+  kind_there : (tag : Tag) (of : Kind) → HasKind kinds tag of ↔ HasOfKind pages table number tag of
+  kind_there = of_kind pages frame table number files kinds are_files has
 
   -- what the rule says of a row's tag and kind
   abbrev IsWrong : Tag → Kind → Type 0
@@ -147,13 +153,13 @@ module _ (pages : Pages) (frame : Frame) (table : Table) (number : ℕ) (files :
 
   to_wrong : (r : RowThere) → LeadsWrong kinds is_clone r → IsWrong r.row.tag r.row.kind
   to_wrong r (inl root) = inl root
-  to_wrong r (inr (inl (whole, none))) = inr (inl (clone ∙ whole, λ is. none ((of_kind r.row.tag r.row.kind).1 is)))
-  to_wrong r (inr (inr other)) = inr (inr (other_of r.row.kind, (of_kind r.row.tag (other_of r.row.kind)).0 other, not_other r.row.kind))
+  to_wrong r (inr (inl (whole, none))) = inr (inl (clone ∙ whole, λ is. none ((kind_there r.row.tag r.row.kind).1 is)))
+  to_wrong r (inr (inr other)) = inr (inr (other_of r.row.kind, (kind_there r.row.tag (other_of r.row.kind)).0 other, not_other r.row.kind))
 
   from_wrong : (r : RowThere) → IsWrong r.row.tag r.row.kind → LeadsWrong kinds is_clone r
   from_wrong r (inl root) = inl root
-  from_wrong r (inr (inl (whole, none))) = inr (inl (sym clone ∙ whole, λ is. none ((of_kind r.row.tag r.row.kind).0 is)))
-  from_wrong r (inr (inr (of, is, apart))) = inr (inr (subst (HasKind kinds r.row.tag) (other_is of r.row.kind apart) ((of_kind r.row.tag of).1 is)))
+  from_wrong r (inr (inl (whole, none))) = inr (inl (sym clone ∙ whole, λ is. none ((kind_there r.row.tag r.row.kind).0 is)))
+  from_wrong r (inr (inr (of, is, apart))) = inr (inr (subst (HasKind kinds r.row.tag) (other_is of r.row.kind apart) ((kind_there r.row.tag of).1 is)))
 
   by_rows : (home : Home) (old : Type 0) → (old ⊎ ((r : RowThere) × Contains rows r × IsWrongAt kinds is_clone r home)) ↔ (old ⊎ HasWrongRow pages frame table number home)
   by_rows home old = (

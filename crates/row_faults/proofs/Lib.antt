@@ -1,7 +1,14 @@
+pub mod Counted
 pub mod InOrder
 pub mod Inserted
 pub mod LedWrong
+pub mod LinksWrong
+pub mod LostTwice
 pub mod NamesTwice
 pub mod Noted
+pub mod ParentsWrong
 pub mod RowPages
+pub mod RowPlaces
 pub mod RowsRead
+pub mod SizesWrong
+pub mod TagSets

@@ -37,7 +37,7 @@ pub bad_pages : (pages : Pages) (frame : Frame) (homes : List (Option Home)) (ol
 bad_pages pages frame homes old new number whole are home =
     iff_trans (all_in homes (IsBadHome pages frame) old new number whole are home) (bad_one pages frame homes (old home) home)
 
-module _ (pages : Pages) (frame : Frame) (table : Table) (number : ℕ) (files : List FileThere) (are : AreFilesIn pages table number files) (home : Home) where
+module _ (pages : Pages) (frame : Frame) (table : Table) (number : ℕ) (files : List FileThere) (are : AreFilesIn pages frame table number files) (home : Home) where
   to_rule : (file : FileThere) → Contains files file → IsBadOf pages frame file home → HasWrongRowPage pages frame table number home
   to_rule file among (kind, (listed_there, bad)) =
       let read = are.each file among in
@@ -49,8 +49,8 @@ module _ (pages : Pages) (frame : Frame) (table : Table) (number : ℕ) (files :
           cells = read.cells;
           seen = read.seen;
           has = read.has;
-          kind = sym (ap (λ (a : Attributes). a.kind) read.read.same.is) ∙ kind;
-          at = sym (read.read.same.homes at.0) ∙ ap (option_and_then (λ (h : Option Home). h)) at.1;
+          kind = sym (ap (λ (a : Attributes). a.kind) read.read.is) ∙ kind;
+          at = ((read.read.homes (sym (ap (λ (a : Attributes). a.kind) read.read.is) ∙ kind) at.0 home).0 (ap (option_and_then (λ (h : Option Home). h)) at.1)).0;
           within = bad.within;
           there = bad.there;
         },
@@ -61,11 +61,11 @@ module _ (pages : Pages) (frame : Frame) (table : Table) (number : ℕ) (files :
   from_rule (dir, page, bytes, is, bad) =
       let was = are.all dir is.cells is.seen is.has in
       let homes = was.file.seen.homes.items in
-      let at = listed homes page home (was.read.same.homes page ∙ is.at) in (
+      let at = listed homes page home ((was.read.homes is.kind page home).1 (is.at, is.within)) in (
         was.file,
         was.among,
         (
-          ap (λ (a : Attributes). a.kind) was.read.same.is ∙ is.kind,
+          ap (λ (a : Attributes). a.kind) was.read.is ∙ is.kind,
           (at_among homes page (Some home) at, record { within = is.within; bytes = bytes; there = is.there; bad = bad }),
         ),
       )
@@ -76,7 +76,7 @@ module _ (pages : Pages) (frame : Frame) (table : Table) (number : ℕ) (files :
     λ which. ⊎_elim (λ first. inl first) (λ wrong. inr (from_rule wrong)) which,
   )
 
-pub all_row_pages : (pages : Pages) (frame : Frame) (table : Table) (slot : ℕ) (files : List FileThere) → AreFilesIn pages table slot files → (old new : Home → Type 0) (number : ℕ) → length files ≤ number
+pub all_row_pages : (pages : Pages) (frame : Frame) (table : Table) (slot : ℕ) (files : List FileThere) → AreFilesIn pages frame table slot files → (old new : Home → Type 0) (number : ℕ) → length files ≤ number
     → AreIn files (IsBadOf pages frame) old new number → (home : Home) → new home ↔ (old home ⊎ HasWrongRowPage pages frame table slot home)
 all_row_pages pages frame table slot files are old new number whole said home =
     iff_trans (all_in files (IsBadOf pages frame) old new number whole said home) (row_pages pages frame table slot files are home (old home))

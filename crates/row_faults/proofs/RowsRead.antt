@@ -171,7 +171,7 @@ module _ (pages : Pages) (frame : Frame) where
           let same : f.0 ≡ number = own f.0 number f.1 file f.3 at (sym f.4.1.dir ∙ dir ∙ other.1.dir) in
           absurd (omega (arith, same, f.2))))
 
-  module _ (table : Table) (number : ℕ) (files : List FileThere) (are : AreFilesIn pages table number files) where
+  module _ (table : Table) (number : ℕ) (files : List FileThere) (are : AreFilesIn pages frame table number files) where
     to_rule : (r : RowThere) (k : ℕ) (file : FileThere) → slice_get files k ≡ Some file → IsRowOf pages frame file r → IsRowIn pages frame table number r
     to_rule r k file there (kind, is) =
         let read = are.each file (at_among files k file there) in
@@ -181,8 +181,8 @@ module _ (pages : Pages) (frame : Frame) where
             cells = read.cells;
             seen = read.seen;
             has = subst (λ (t : Tag). Has pages table number t read.cells read.seen) (sym is.dir) read.has;
-            kind = sym (ap (λ (a : Attributes). a.kind) read.read.same.is) ∙ kind;
-            at = sym (read.read.same.homes r.at.page) ∙ ap (option_and_then (λ (h : Option Home). h)) is.listed;
+            kind = sym (ap (λ (a : Attributes). a.kind) read.read.is) ∙ kind;
+            at = ((read.read.homes (sym (ap (λ (a : Attributes). a.kind) read.read.is) ∙ kind) r.at.page r.at.home).0 (ap (option_and_then (λ (h : Option Home). h)) is.listed)).0;
             within = is.is.within;
             there = is.is.there;
           };
@@ -200,11 +200,11 @@ module _ (pages : Pages) (frame : Frame) where
           omega (arith, within, whole),
           k.1,
           (
-            ap (λ (a : Attributes). a.kind) was.read.same.is ∙ is.is.kind,
+            ap (λ (a : Attributes). a.kind) was.read.is ∙ is.is.kind,
             record {
               page_is = refl;
               dir = sym was.tag_is;
-              listed = listed was.file.seen.homes.items r.at.page r.at.home (was.read.same.homes r.at.page ∙ is.is.at);
+              listed = listed was.file.seen.homes.items r.at.page r.at.home ((was.read.homes is.is.kind r.at.page r.at.home).1 (is.is.at, is.is.within));
               is = record { at_is = refl; within = is.is.within; bytes = is.bytes; there = is.is.there; good = is.good; is = is.there };
             },
           ),

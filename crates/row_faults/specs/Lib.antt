@@ -1,5 +1,10 @@
+pub mod Counts
+pub mod Links
+pub mod Lost
 pub mod Names
 pub mod Pages
+pub mod Parents
 pub mod Rows
+pub mod Sizes
 pub mod There
 pub mod Wrong

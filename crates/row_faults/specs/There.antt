@@ -1,13 +1,17 @@
 -- Files and directories that were read of a fileset.
-use Rattle.std.specs.Prelude.{◌≡◌, ℕ, List, [], ◌∷◌, Some, Contains, slice_get}
+use Rattle.std.specs.Prelude.{◌≡◌, ◌↔◌, ℕ, List, [], ◌∷◌, Some, IsTrue, Contains, slice_get}
 use Rattle.domain_base.specs.declared.place.CellAt.{CellAt}
+use Rattle.domain_base.specs.declared.place.Home.{Home}
+use Rattle.domain_base.specs.declared.place.Kind.TheVariants.{Directory}
 use Rattle.domain_base.specs.declared.place.Tag.{Tag}
 use Rattle.page_store.specs.Pages.{Pages}
 use Rattle.bmt_mcells.specs.Chain.{PlacedCell}
+use Rattle.bitfile_core.specs.State.{parent_of}
 use Rattle.fileset_table.specs.Table.{Table}
-use Rattle.domain_layout.specs.DirectoryRules.{Has}
+use Rattle.domain_layout.specs.DirectoryRules.{Has, HasWrongSize}
+use Rattle.domain_layout.specs.Reached.{Frame, IsWithin}
 use Rattle.domain_layout.specs.Seen.{SeenFile}
-use Rattle.filesets_reading.specs.Seen.{IsSeenAs}
+use Rattle.filesets_reading.specs.Seen.{home_in}
 use Rattle.row_faults.specs.declared.there.FileThere.{FileThere}
 
 -- the first of the cells stands there
@@ -15,31 +19,38 @@ abbrev pub BeginAt : List PlacedCell → CellAt → Type 0
 BeginAt [] at = ⊥
 BeginAt (first ∷ rest) at = first.at ≡ at
 
--- a file of these cells is what was read
-pub record IsReadAs (cells : List PlacedCell) (seen : SeenFile) (file : FileThere) : Type 0 where
+-- a file of these cells is what was read; of a directory's pages the list has those of members
+pub record IsReadAs (frame : Frame) (cells : List PlacedCell) (seen : SeenFile) (file : FileThere)
+    : Type 0 where
   pub begins : BeginAt cells file.at
-  pub same : IsSeenAs seen file.seen
+  pub is : file.seen.is ≡ seen.is
+  pub homes : seen.is.kind ≡ Directory → (page : ℕ) (home : Home)
+      → (home_in file.seen.homes.items page ≡ Some home)
+      ↔ ((seen.homes page ≡ Some home) × IsWithin frame home)
+  pub parent : file.parent ≡ parent_of cells
+  pub size : seen.is.kind ≡ Directory → IsTrue file.has_wrong_size ↔ HasWrongSize cells seen
 
 -- a fileset has what was read at its tag
-pub record IsReadFile (pages : Pages) (table : Table) (number : ℕ) (file : FileThere) : Type 0 where
+pub record IsReadFile (pages : Pages) (frame : Frame) (table : Table) (number : ℕ)
+    (file : FileThere) : Type 0 where
   pub cells : List PlacedCell
   pub seen : SeenFile
   pub has : Has pages table number file.tag cells seen
-  pub read : IsReadAs cells seen file
+  pub read : IsReadAs frame cells seen file
 
 -- what a fileset has at a tag was read
-pub record WasRead (files : List FileThere) (tag : Tag) (cells : List PlacedCell) (seen : SeenFile)
-    : Type 0 where
+pub record WasRead (frame : Frame) (files : List FileThere) (tag : Tag) (cells : List PlacedCell)
+    (seen : SeenFile) : Type 0 where
   pub file : FileThere
   pub among : Contains files file
   pub tag_is : file.tag ≡ tag
-  pub read : IsReadAs cells seen file
+  pub read : IsReadAs frame cells seen file
 
 -- a list has each file and directory of the fileset in a slot, each once
-pub record AreFilesIn (pages : Pages) (table : Table) (number : ℕ) (files : List FileThere)
-    : Type 0 where
-  pub each : (file : FileThere) → Contains files file → IsReadFile pages table number file
+pub record AreFilesIn (pages : Pages) (frame : Frame) (table : Table) (number : ℕ)
+    (files : List FileThere) : Type 0 where
+  pub each : (file : FileThere) → Contains files file → IsReadFile pages frame table number file
   pub all : (tag : Tag) (cells : List PlacedCell) (seen : SeenFile)
-      → Has pages table number tag cells seen → WasRead files tag cells seen
+      → Has pages table number tag cells seen → WasRead frame files tag cells seen
   pub once : (i j : ℕ) (one other : FileThere) → slice_get files i ≡ Some one
       → slice_get files j ≡ Some other → one.tag ≡ other.tag → i ≡ j

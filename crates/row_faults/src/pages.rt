@@ -89,7 +89,7 @@ pub fn insert_row_pages<M: MetaPages>(
     found: &mut HomeSet,
 ) -> Result<(), OutOfMemory>
     ensures { OnOk result ((table : Table) (number : ℕ)
-        → AreFilesIn (M.pages pages.now) table number files.now
+        → AreFilesIn (M.pages pages.now) (frame_in frame.now) table number files.now
         → (home : Home) → IsIn found.new home ↔ (IsIn found.old home
         ⊎ HasWrongRowPage (M.pages pages.now) (frame_in frame.now) table number home)) }
 {

@@ -151,7 +151,7 @@ pub fn read_rows<M: MetaPages>(
     files: &[FileThere],
 ) -> Result<Vec<RowThere>, OutOfMemory>
     ensures { IfOk result (λ rows. (table : Table) (number : ℕ)
-        → AreFilesIn (M.pages pages.now) table number files.now
+        → AreFilesIn (M.pages pages.now) (frame_in frame.now) table number files.now
         → AreRowsIn (M.pages pages.now) (frame_in frame.now) table number rows.items) }
 {
     let mut rows = Vec::new(alloc);

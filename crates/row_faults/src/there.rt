@@ -3,10 +3,14 @@ use domain_base::{CellAt, Tag};
 use filesets_reading::SeenPages;
 
 /// A file or directory of a fileset: its tag, where its first cell stands, what it is, and the
-/// homes of its pages.
+/// directory that it says to stand in, if it says one. Of a directory there are the homes of its
+/// pages that are a member's, and whether its pages have a gap, it has another size than they, or
+/// its cells have pages that it does not keep.
 #[derive(Drop)]
 pub struct FileThere {
     pub tag: Tag,
     pub at: CellAt,
     pub seen: SeenPages,
+    pub parent: Option<Tag>,
+    pub has_wrong_size: bool,
 }

@@ -20,10 +20,10 @@ use std::alloc::Global;
 use std::collections::BTreeSet;
 
 /// The tag of the root directory.
-const ROOT: Tag = Tag { slot: 1, seq: 1 };
+pub(crate) const ROOT: Tag = Tag { slot: 1, seq: 1 };
 
 /// The kind that a file or directory is not.
-fn other_kind(kind: Kind) -> Kind
+pub(crate) fn other_kind(kind: Kind) -> Kind
     ensures { result ≡ other_of kind }
 {
     match kind {
@@ -33,7 +33,10 @@ fn other_kind(kind: Kind) -> Kind
 }
 
 /// The tags of files and directories with their kinds.
-fn read_kinds(alloc: Global, files: &[FileThere]) -> Result<BTreeSet<(Tag, Kind)>, OutOfMemory>
+pub(crate) fn read_kinds(
+    alloc: Global,
+    files: &[FileThere],
+) -> Result<BTreeSet<(Tag, Kind)>, OutOfMemory>
     ensures { IfOk result (λ kinds. (tag : TagOf) (of : KindOf)
         → HasKind kinds tag of ↔ IsAmong files.now tag of) }
 {
@@ -45,7 +48,7 @@ fn read_kinds(alloc: Global, files: &[FileThere]) -> Result<BTreeSet<(Tag, Kind)
 }
 
 /// Whether a tag is one of this kind.
-fn has_kind(kinds: &BTreeSet<(Tag, Kind)>, tag: Tag, kind: Kind) -> bool
+pub(crate) fn has_kind(kinds: &BTreeSet<(Tag, Kind)>, tag: Tag, kind: Kind) -> bool
     ensures { IsTrue result ↔ HasKind kinds.now tag kind }
 {
     kinds.contains(&(tag, kind))
@@ -89,7 +92,7 @@ pub fn insert_wrong_rows(
     found: &mut HomeSet,
 ) -> Result<(), OutOfMemory>
     ensures { OnOk result ((pages : Pages) (frame : Frame) (table : Table) (number : ℕ)
-        → AreFilesIn pages table number files.now
+        → AreFilesIn pages frame table number files.now
         → AreRowsIn pages frame table number rows.now
         → of_clone (slice_get table.slots number) ≡ is_clone
         → (home : Home) → IsIn found.new home ↔ (IsIn found.old home
