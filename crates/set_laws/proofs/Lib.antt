@@ -1,3 +1,4 @@
+pub mod Bare
 pub mod Beside
 pub mod EntriesSaid
 pub mod FirstTells
@@ -7,7 +8,9 @@ pub mod Kept
 pub mod Made
 pub mod Owned
 pub mod PageAdded
+pub mod SaidFirst
 pub mod TakenOut
 pub mod Together
 pub mod Told
+pub mod Wholeness
 pub mod Written

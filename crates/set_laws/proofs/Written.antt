@@ -28,7 +28,7 @@ use Rattle.set_laws.proofs.Kept.{index_kept, live_map, page_kept}
 use Rattle.set_laws.proofs.Together.{together_away}
 
 -- an entry of a list in which one is another
-entry_behind : (k : ℕ) (page first : List ℕ) (more : List (List ℕ)) → with_entry (suc k) page (first ∷ more) ≡ first ∷ with_entry k page more
+pub entry_behind : (k : ℕ) (page first : List ℕ) (more : List (List ℕ)) → with_entry (suc k) page (first ∷ more) ≡ first ∷ with_entry k page more
 entry_behind k page first more =
     let next : suc k + 1 ≡ suc (k + 1) = omega arith in
     ap (λ n. (first ∷ take k more) ++ page ∷ drop n (first ∷ more)) next

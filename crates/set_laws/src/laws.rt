@@ -143,6 +143,23 @@ pub fn index_page_is_inserted()
         (with_change tag (insert_index number (shown_index page)) files) }
 {}
 
+/// The same where the directory's first cell tells where the index begins before the page is put in.
+pub fn index_page_is_linked()
+    ensures { (fileset : ℕ) (places : List TagPlace) (space : Spaces) (cells : Cells)
+        (old said new : Pages) (chains : Chains) (indexes : Indexes) (files : Bitfiles) (tag : Tag)
+        (number : ℕ) (page : List ℕ) (home : Home) (index : IndexPlace)
+        → StandsShown fileset places space cells old chains indexes files
+        → IsDirectory files tag → 1 ≤ home.vol → CanTake space home.vol home.page
+        → ChangesFirst (chains tag) old said
+        → AreTogether fileset places (change_volume (space_with home.page) space home.vol) cells
+        said (with_chain tag (with_first (says_index (Some index))) chains)
+        → InsertsIndexPage index.first home number page said new (indexes tag)
+        → StandsShown fileset places (change_volume (space_with home.page) space home.vol) cells new
+        (with_chain tag (with_first (says_index (Some index))) chains)
+        (with_index tag (insert (indexes tag) number home) indexes)
+        (with_change tag (insert_index number (shown_index page)) files) }
+{}
+
 /// A set shows the same where it is said anew how many entries a directory's index has.
 pub fn index_entries_are_said()
     ensures { (fileset : ℕ) (places : List TagPlace) (space : Spaces) (cells : Cells)

@@ -1,5 +1,5 @@
 //! Changes of the pages of an index.
-ghost use Rattle.std.specs.Prelude.{◌≡◌, ◌+◌, ◌<◌, ◌≤◌, ℕ, IfErr, IfOk, IfSome, List, OnErr, Some, length};
+ghost use Rattle.std.specs.Prelude.{◌≡◌, ◌+◌, ◌<◌, ◌≤◌, ℕ, Contains, IfErr, IfOk, IfSome, List, OnErr, Some, length};
 ghost use Rattle.domain_base.specs.declared.place.Home.{Home as HomeOf};
 ghost use Rattle.free_space.specs.VolumeSpace.{with_page, with_waiting};
 ghost use Rattle.free_space.specs.Spaces.{CanTake, IsHeld, change_volume};
@@ -95,13 +95,37 @@ fn link_in<M: MetaPages>(
 }
 
 /// Where an index begins whose page of a number is a new one.
-fn new_first(first: &Option<Home>, number: u32, onto: &Home) -> Home
+pub fn new_first(first: &Option<Home>, number: u32, onto: &Home) -> Home
     ensures { result ≡ first_with onto.now number first.now }
 {
     match first {
         Some(home) if number > 0 => *home,
         _ => *onto,
     }
+}
+
+/// Puts a page with these bytes at a home that is none of an index, in front of the page of the index
+/// with that number, counted from 0, or behind the last one. It answers where the index begins then.
+/// Where the next page stands is the index's own, whatever the bytes say of it. It takes no memory.
+pub fn link_index_page<M: MetaPages>(
+    pages: &mut M,
+    first: Option<Home>,
+    number: u32,
+    bytes: Page,
+    home: Home,
+) -> Home
+    requires index { (homes : List HomeOf) × AreIndexHomes (M.pages pages.old) first homes
+        × (number ≤ length homes) × ¬ Contains homes home }
+    requires room { 0 < M.room pages.old }
+    ensures inserted { (homes : List HomeOf) → AreIndexHomes (M.pages pages.old) first homes
+        → InsertsIndexPage result home number bytes (M.pages pages.old) (M.pages pages.new) homes }
+    ensures begins { result ≡ first_with home number first }
+    ensures room { M.room pages.old ≤ M.room pages.new + 1 }
+    ensures before { M.before pages.new ≡ M.before pages.old }
+{
+    let before = home_before(pages, &first, number);
+    link_in(pages, &first, &before, bytes, &home);
+    new_first(&first, number, &home)
 }
 
 /// Puts a page with these bytes in front of the page of an index with that number, counted from 0, or
@@ -137,9 +161,8 @@ pub fn insert_index_page<M: MetaPages>(
     let Some(home) = space.allocate(prefer) else {
         return Err(StoreFault::NoPage);
     };
-    let before = home_before(pages, &first, number);
-    link_in(pages, &first, &before, bytes, &home);
-    let begins = new_first(&first, number, &home);
+    let again = home;
+    let begins = link_index_page(pages, first, number, bytes, again);
     Ok(NewIndexPage {
         home,
         first: begins,

@@ -6,6 +6,8 @@ mod laws;
 mod link;
 mod walk;
 
-pub use change::{NewIndexPage, drop_index_page, insert_index_page, put_index_page};
+pub use change::{
+    NewIndexPage, drop_index_page, insert_index_page, link_index_page, new_first, put_index_page,
+};
 pub use laws::{index_is_held, index_is_shown, index_stays};
 pub use walk::{count_index, index_home};
