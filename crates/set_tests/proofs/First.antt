@@ -30,6 +30,8 @@ first_set fileset places space cells pages together = record {
     apart = λ s t k h inside at. none_in h inside;
     once = λ s t h one other. absurd (none_in h one);
   };
+  whole = λ t. tt;
+  bare = λ t. tt;
 }
 
 pub if_ok : {A E : Type 0} {P Q : A → Type 0} → ((a : A) → P a → Q a) → (r : Result A E) → IfOk r P → IfOk r Q

@@ -1,10 +1,10 @@
 -- What set the files of a world of the tests are.
-use Rattle.std.specs.Prelude.{ℕ, List, None, IsSome}
+use Rattle.std.specs.Prelude.{◌≡◌, ℕ, List, None, IsSome}
 use Rattle.domain_base.specs.declared.place.Kind.{Kind}
 use Rattle.domain_base.specs.declared.place.Kind.TheVariants.{Directory}
 use Rattle.domain_base.specs.declared.place.Tag.{Tag}
 use Rattle.memory_store.specs.Homes.{pages_of}
-use Rattle.page_store.specs.Bitfiles.{Bitfiles, new_file, put_page, with_change, with_file}
+use Rattle.page_store.specs.Bitfiles.{Bitfiles, IsDirectory, count_index, new_file, put_page, with_change, with_file}
 use Rattle.stored_set.specs.Sets.{StandsAsSet}
 use Rattle.file_tests.specs.declared.world.World.{World}
 
@@ -26,3 +26,8 @@ IsSomeSet world = (set : Bitfiles) × IsSet world set
 
 abbrev pub HasTag : World → Tag → Type 0
 HasTag world tag = (set : Bitfiles) × IsSet world set × IsSome (set tag)
+
+-- some set that has a directory at a tag, with so many pages of an index
+abbrev pub HasIndex : World → Tag → ℕ → Type 0
+HasIndex world tag count = (set : Bitfiles) × IsSet world set × IsDirectory set tag
+    × (count_index set tag ≡ count)

@@ -2,4 +2,6 @@
 #![tactic(auto)]
 
 #[cfg(test)]
+mod indexes;
+#[cfg(test)]
 mod sets;

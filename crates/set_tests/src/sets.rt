@@ -4,21 +4,22 @@ ghost use Rattle.domain_base.specs.declared.place.Kind.TheVariants.{Directory, F
 ghost use Rattle.set_tests.specs.Worlds.{HasTag, IsSet, IsSomeSet, only_new, with_first_page};
 
 use domain_base::{Kind, Page, Tag, Version};
-use extent_maps::PagePlace;
 use file_tests::world::{World, new_world, volume};
 use std::alloc::Global;
 use std::test::Fail;
-use stored_set::{add_page, kind_of, links_of, make, one_set_is_shown, page_of, remove, set_links};
+use stored_set::{
+    add_page, count_pages_of, kind_of, links_of, make, one_set_is_shown, page_of, remove, set_links,
+};
 
 /// A world without a file.
-fn empty_world(alloc: Global) -> Result<World, Fail>
+pub(crate) fn empty_world(alloc: Global) -> Result<World, Fail>
     ensures { IfOk result (λ world. IsSet world (λ t. None)) }
 {
     new_world(alloc, 64)
 }
 
 /// Makes a file or a directory, the only one.
-fn make_one(alloc: Global, world: &mut World, kind: Kind) -> Result<Tag, Fail>
+pub(crate) fn make_one(alloc: Global, world: &mut World, kind: Kind) -> Result<Tag, Fail>
     requires { IsSet world.old (λ t. None) }
     ensures { IfOk result (λ tag. IsSet world.new (only_new kind tag)) }
 {
@@ -44,14 +45,6 @@ fn add_first(alloc: Global, world: &mut World, tag: Tag, bytes: Page) -> Result<
     ensures { OnOk result (IsSet world.new (with_first_page tag bytes)) }
 {
     one_set_is_shown();
-    let keep = world.files.keep(&world.pages, tag).ok_or("a live tag")?;
-    if keep == 0 {
-        return Err(Fail::from("a page that is kept"));
-    }
-    match world.files.page_home(&world.pages, tag, 0) {
-        PagePlace::Absent => {}
-        _ => return Err(Fail::from("an absent page")),
-    }
     add_page(
         alloc,
         &mut world.pages,
@@ -105,14 +98,31 @@ fn first_byte(page: Option<&Page>) -> Option<u8> {
     }
 }
 
-/// A directory of one page: its first byte, and whether it has another page.
-fn told_pages(alloc: Global) -> Result<(Option<u8>, bool), Fail> {
+/// How many pages the directory has, and how many bytes long it says that it is.
+fn length_told(world: &World, tag: Tag) -> Result<(u32, u64), Fail>
+    requires { IsSomeSet world.now }
+{
+    let count = count_pages_of(&world.pages, &world.space, &world.cells, &world.files, tag);
+    let what = world
+        .files
+        .attributes(&world.pages, tag)
+        .ok_or("a live tag")?;
+    Ok((count, what.size))
+}
+
+/// A directory without a page, and then of one: how long it is, and of the page its first byte, and
+/// whether it has another.
+fn told_pages(alloc: Global) -> Result<[(u32, u64); 2], Fail> {
     let mut world = empty_world(alloc)?;
     let tag = make_one(alloc, &mut world, Kind::Directory)?;
+    let empty = length_told(&world, tag)?;
     let bytes = first_page(alloc)?;
     let again = bytes.copy(alloc)?;
     add_first(alloc, &mut world, tag, bytes)?;
-    Ok(pages_told(&world, tag, &again))
+    if pages_told(&world, tag, &again) != (Some(7), false) {
+        return Err(Fail::from("one page, which begins with 7"));
+    }
+    Ok([empty, length_told(&world, tag)?])
 }
 
 /// Sets three links of the only file.
@@ -181,6 +191,6 @@ fn a_file_is_made_linked_and_taken_away(rt: HostRuntime) -> Result<(), Fail> {
 #[test]
 fn a_directory_gets_a_page(rt: HostRuntime) -> Result<(), Fail> {
     let seen = told_pages(rt.alloc())?;
-    assert_eq!(rt; seen, (Some(7), false));
+    assert_eq!(rt; seen, [(0, 0), (1, 8_192)]);
     Ok(())
 }

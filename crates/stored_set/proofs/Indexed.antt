@@ -36,7 +36,7 @@ shown_length : (pages : Pages) (homes : List Home) → length (shown_at pages ho
 shown_length pages [] = refl
 shown_length pages (h ∷ homes) = let rest = shown_length pages homes in omega (arith, rest)
 
-no_homes : (pages : Pages) (homes : List Home) → AreIndexHomes pages None homes → length homes ≡ 0
+pub no_homes : (pages : Pages) (homes : List Home) → AreIndexHomes pages None homes → length homes ≡ 0
 no_homes pages [] are = refl
 no_homes pages (h ∷ homes) are = absurd are
 

@@ -1,4 +1,10 @@
-pub mod Adding
+pub mod Entries
+pub mod IndexWritten
 pub mod Indexed
+pub mod Lengthened
 pub mod Live
 pub mod Making
+pub mod PutIn
+pub mod Sized
+pub mod Sound
+pub mod States

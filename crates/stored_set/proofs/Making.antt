@@ -14,7 +14,12 @@ use Rattle.bitfile_core.specs.declared.new_cells.NewFile.{NewFile}
 use Rattle.bitfile_core.specs.Creation.{Creates, CreatesNone, LeavesBeside, TakesForFile}
 use Rattle.bitfile_core.proofs.Again.{together_missed}
 use Rattle.set_laws.proofs.Made.{made}
+use Rattle.set_laws.proofs.Bare.{bare_made}
 use Rattle.stored_set.proofs.Live.{missed_still, none_shown}
+use Rattle.bitfile_core.specs.State.{States, states_of}
+use Rattle.bitfile_laws.proofs.Placed.{states_made}
+use Rattle.set_laws.proofs.Wholeness.{whole_made}
+use Rattle.set_laws.specs.Whole.{AreWholeDirectories}
 use Rattle.stored_set.specs.Sets.{StandsAsSet}
 
 module _ (fileset prefer : ℕ) (places places_now : List TagPlace) (space space_now : Spaces) (cells cells_now : Cells) (old new : Pages) (set : SetOf) (was : StandsAsSet fileset places space cells old set) (version : Version) (what : NewFile) where
@@ -26,7 +31,7 @@ module _ (fileset prefer : ℕ) (places places_now : List TagPlace) (space space
       → (fileset_now : ℕ) → fileset_now ≡ fileset → IfOk r (λ tag. StandsAsSet fileset_now places_now space_now cells_now new (with_file tag (shown_new what.kind what.uid what.gid) set))
   made_shown (Ok tag) creates takes beside fileset_now is =
       subst (λ (f : ℕ). StandsAsSet f places_now space_now cells_now new (with_file tag (shown_new what.kind what.uid what.gid) set)) (sym is)
-      (record { chains = _; indexes = was.indexes; stands = made fileset prefer places places_now space space_now cells cells_now old new was.chains was.indexes set was.stands tag version what creates takes beside })
+      (record { chains = _; indexes = was.indexes; stands = made fileset prefer places places_now space space_now cells cells_now old new was.chains was.indexes set was.stands tag version what creates takes beside; whole = subst (λ (s : States). AreWholeDirectories s (with_file tag (shown_new what.kind what.uid what.gid) set)) (sym (states_made version what tag creates.first creates.says creates.no_page was.chains)) (whole_made (states_of was.chains) set was.whole tag what); bare = bare_made set was.bare tag what.kind what.uid what.gid })
   made_shown (Err fault) creates takes beside fileset_now is = tt
 
 module _ (files files_now : Bitfiles) (space space_now : Spaces) (cells cells_now : Cells) (old new : Pages) (set : SetOf) (was : StandsAsSet files.fileset files.tags space cells old set) where
@@ -35,6 +40,8 @@ module _ (files files_now : Bitfiles) (space space_now : Spaces) (cells cells_no
     chains = was.chains;
     indexes = was.indexes;
     stands = missed_still files.fileset files.tags space cells old was.chains was.indexes set was.stands (together_missed old files.fileset files.tags was.chains space cells was.stands.together);
+    whole = was.whole;
+    bare = was.bare;
   })
   by_fault OutOfMemory none = subst (λ (s : Spaces). StandsAsSet files.fileset files.tags s cells old set) (sym none) was
 

@@ -1,36 +1,62 @@
 -- The files of a fileset as a set of files and directories.
-use Rattle.std.specs.Prelude.{◌≡◌, ℕ, List}
+use Rattle.std.specs.Prelude.{◌≡◌, ◌+◌, ◌*◌, ℕ, List, Option, Some, IsSomeAnd}
+use Rattle.std.specs.Option.{option_and_then}
+use Rattle.domain_base.specs.Limits.{page_bytes}
 use Rattle.domain_base.specs.declared.place.Home.{Home}
 use Rattle.domain_base.specs.declared.place.Tag.{Tag}
 use Rattle.domain_base.specs.declared.version.Version.{Version}
 use Rattle.page_store.specs.Bitfiles.{Bitfiles}
 use Rattle.page_store.specs.Pages.{Pages, with_page}
+use Rattle.page_store.specs.declared.fault.StoreFault.{StoreFault}
 use Rattle.bmt_mcells.specs.Chain.{PlacedCell}
 use Rattle.tag_dirs.specs.declared.dir.TagPlace.{TagPlace}
-use Rattle.free_cells.specs.Cells.{Cells}
-use Rattle.free_space.specs.Spaces.{Spaces}
 use Rattle.extent_maps.specs.declared.run.PagePlace.TheVariants.{At}
+use Rattle.free_cells.specs.Cells.{Cells}
+use Rattle.free_space.specs.VolumeSpace.{with_page as space_with}
+use Rattle.free_space.specs.Spaces.{CanTake, Spaces, change_volume}
 use Rattle.bitfile_cells.specs.FileChanges.{LeavesOtherCells}
 use Rattle.bitfile_cells.specs.MapChanges.{LeavesOffTables}
-use Rattle.bitfile_core.specs.Files.{Chains}
-use Rattle.bitfile_core.specs.Pages.{ChangesFile, TakesHome}
+use Rattle.bitfile_core.specs.declared.attributes.Attributes.{Attributes}
+use Rattle.bitfile_core.specs.Changes.{ChangesFirst, says_attributes, with_chain, with_first}
+use Rattle.bitfile_core.specs.Files.{Chains, attributes_of, of_live}
+use Rattle.bitfile_core.specs.Pages.{ChangesFile, GetsNone, TakesHome}
+use Rattle.bitfile_core.specs.declared.indexing.IndexPlace.{IndexPlace}
+use Rattle.bitfile_core.specs.Index.{says_index}
+use Rattle.bitfile_core.specs.Shown.{index_of}
+use Rattle.bitfile_core.specs.State.{states_of}
+use Rattle.bitfile_core.specs.Together.{AreTogether}
+use Rattle.stored_index.specs.Changes.{InsertsIndexPage, PutsIndexPage}
 use Rattle.set_laws.specs.Standing.{Indexes, StandsShown}
+use Rattle.set_laws.specs.Whole.{AreWholeDirectories, HaveNoIndex}
 
--- files that belong together are shown as this set, wherever their indexes stand
+-- files that belong together are shown as this set, wherever their indexes stand, each directory is
+-- whole, and no file has an index
 pub record StandsAsSet (fileset : ℕ) (places : List TagPlace) (space : Spaces) (cells : Cells)
     (pages : Pages) (files : Bitfiles) : Type 0 where
   pub chains : Chains
   pub indexes : Indexes
   pub stands : StandsShown fileset places space cells pages chains indexes files
+  pub whole : AreWholeDirectories (states_of chains) files
+  pub bare : HaveNoIndex files
 
 -- they are shown as some set
 abbrev pub HasSet : ℕ → List TagPlace → Spaces → Cells → Pages → Type 0
 HasSet fileset places space cells pages =
     (files : Bitfiles) × StandsAsSet fileset places space cells pages files
 
--- the file with that chain gets a home for the page, which is taken for it: no cell of another file
--- and no page off the tables changes; then the bytes are put there, and nothing else changes
-pub record AddsPage (fileset : ℕ) (places : List TagPlace) (tag : Tag) (page : ℕ) (bytes : List ℕ)
+-- what a directory is with so many pages
+abbrev pub long : ℕ → Attributes → Attributes
+long count was = record was { size = page_bytes * count }
+
+-- the files in which the tag's, which was this, is so long
+abbrev pub with_length : ℕ → Attributes → Tag → Chains → Chains
+with_length count was tag chains =
+    with_chain tag (with_first (says_attributes (long count was))) chains
+
+-- the directory with that chain, which says so already, gets a home for the page, which is taken for
+-- it: no cell of another file and no page off the tables changes; then the bytes are put there, and
+-- nothing else changes
+pub record GetsPage (fileset : ℕ) (places : List TagPlace) (tag : Tag) (page : ℕ) (bytes : List ℕ)
     (prefer : ℕ) (version : Version) (chains : Chains) (space space_now : Spaces)
     (cells cells_now : Cells) (old new : Pages) (chain : List PlacedCell) : Type 0 where
   pub home : Home
@@ -41,3 +67,58 @@ pub record AddsPage (fileset : ℕ) (places : List TagPlace) (tag : Tag) (page :
   pub others : LeavesOtherCells cells chain old between
   pub elsewhere : LeavesOffTables cells_now old between
   pub put : new ≡ with_page home bytes between
+
+-- the tag's directory says that it is longer by a page, and then gets that
+pub record AddsPage (fileset : ℕ) (places : List TagPlace) (tag : Tag) (page : ℕ) (bytes : List ℕ)
+    (prefer : ℕ) (version : Version) (chains : Chains) (space space_now : Spaces)
+    (cells cells_now : Cells) (old new : Pages) (was : Attributes) : Type 0 where
+  pub said : Pages
+  pub first : ChangesFirst (chains tag) old said
+  pub together : AreTogether fileset places space cells said
+      (with_length (page + 1) was tag chains)
+  pub gets : IsSomeAnd (with_length (page + 1) was tag chains tag)
+      (GetsPage fileset places tag page bytes prefer version (with_length (page + 1) was tag chains)
+      space space_now cells cells_now said new)
+
+-- what the tag's file or directory is, if it is not to be removed
+abbrev pub attributes_at : Chains → Tag → Option Attributes
+attributes_at chains tag = option_and_then (of_live attributes_of) (chains tag)
+
+-- the tag's directory can get no page, which is a miss; or memory was short
+abbrev pub AddsNone : Tag → ℕ → Chains → Spaces → Spaces → Cells → StoreFault → Type 0
+AddsNone tag page chains space space_now cells fault = IsSomeAnd (attributes_at chains tag)
+    (λ was. IsSomeAnd (with_length (page + 1) was tag chains tag)
+    (λ chain. GetsNone page chain space space_now cells fault))
+
+-- the first cell of the tag's directory says where its index begins and how many entries that has, and
+-- nothing else anew: all belongs together again
+pub record SaysIndex (fileset : ℕ) (places : List TagPlace) (space : Spaces) (cells : Cells)
+    (tag : Tag) (chains : Chains) (old said : Pages) : Type 0 where
+  pub index : IndexPlace
+  pub first : ChangesFirst (chains tag) old said
+  pub together : AreTogether fileset places space cells said
+      (with_chain tag (with_first (says_index (Some index))) chains)
+
+-- the first cell of the tag's directory says anew how many entries its index has, and then the page
+-- of a number is another one there
+pub record WritesIndexPage (fileset : ℕ) (places : List TagPlace) (space : Spaces) (cells : Cells)
+    (tag : Tag) (page : ℕ) (bytes : List ℕ) (chains : Chains) (homes : List Home)
+    (old new : Pages) : Type 0 where
+  pub said : Pages
+  pub says : SaysIndex fileset places space cells tag chains old said
+  pub same : option_and_then index_of (chains tag) ≡ Some says.index.first
+  pub puts : PutsIndexPage (Some says.index.first) page bytes said new homes
+
+-- a free page is taken for the index of the tag's directory, of the preferred volume if that has one;
+-- the first cell says where the index begins then and how many entries it has, and then the page is
+-- put in there
+pub record AddsIndexPage (fileset : ℕ) (places : List TagPlace) (cells : Cells) (tag : Tag)
+    (number : ℕ) (bytes : List ℕ) (prefer : ℕ) (chains : Chains) (homes : List Home)
+    (space space_now : Spaces) (old new : Pages) : Type 0 where
+  pub home : Home
+  pub free : CanTake space home.vol home.page
+  pub preferred : (p : ℕ) → CanTake space prefer p → home.vol ≡ prefer
+  pub taken : space_now ≡ change_volume (space_with home.page) space home.vol
+  pub said : Pages
+  pub says : SaysIndex fileset places space_now cells tag chains old said
+  pub inserts : InsertsIndexPage says.index.first home number bytes said new homes

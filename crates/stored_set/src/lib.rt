@@ -2,14 +2,18 @@
 //! directories: calls of which each changes what is shown in one thing.
 #![tactic(auto)]
 
+mod adding;
 mod changes;
 mod indexes;
+mod inserting;
 mod laws;
 mod pages;
 mod reading;
 
+pub use adding::add_page;
 pub use changes::{make, remove, set_links};
-pub use indexes::write_index_page;
-pub use laws::one_set_is_shown;
-pub use pages::{add_page, page_of, write_page};
+pub use indexes::{count_index_of, index_page_of, write_index_page};
+pub use inserting::insert_index_page;
+pub use laws::{one_set_is_shown, sets_are_sound};
+pub use pages::{count_pages_of, page_of, write_page};
 pub use reading::{kind_of, links_of};

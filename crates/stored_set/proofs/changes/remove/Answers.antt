@@ -5,7 +5,12 @@ use Rattle.bitfile_core.specs.Changes.{without_chain}
 use Rattle.bitfile_core.specs.Together.{AreTogether}
 use Rattle.bitfile_core.proofs.SetFirst.{map_ok}
 use Rattle.set_laws.proofs.TakenOut.{taken_out}
+use Rattle.bitfile_core.specs.State.{States, states_of}
+use Rattle.set_laws.proofs.Wholeness.{whole_removed}
+use Rattle.set_laws.specs.Whole.{AreWholeDirectories}
+use Rattle.set_laws.proofs.Bare.{bare_taken}
 use Rattle.stored_set.proofs.Live.{live_any}
+use Rattle.stored_set.proofs.States.{taken_states}
 use Rattle.stored_set.specs.Sets.{StandsAsSet}
 use Rattle.stored_set.proofs.changes.remove.Goals as goal
 
@@ -31,5 +36,7 @@ returns-clause-ok g c = λ set was.
       indexes = _;
       stands = taken_out fileset places space cells old new was.chains was.indexes set was.stands tag live (c.remove.ensures.beside was.chains was.stands.together.files)
           (subst (λ (f : Bitfiles). AreTogether f.fileset f.tags space cells new (without_chain tag was.chains)) c.remove.ensures.same together);
+      whole = subst (λ (s : States). AreWholeDirectories s (without_file tag set)) (sym (taken_states tag was.chains)) (whole_removed (states_of was.chains) set was.whole tag);
+      bare = bare_taken set was.bare tag;
     }))
     c.remove.result (c.remove.ensures.together space cells was.chains was.stands.together)

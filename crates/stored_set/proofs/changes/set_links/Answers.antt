@@ -7,7 +7,15 @@ use Rattle.bitfile_core.specs.Together.{AreTogether}
 use Rattle.bitfile_core.proofs.SetFirst.{map_ok}
 use Rattle.set_laws.proofs.Owned.{set as owner_set}
 use Rattle.set_laws.specs.Standing.{StandsShown, owned}
+use Rattle.bitfile_core.specs.State.{States, states_of}
+use Rattle.bitfile_laws.specs.States.{described}
+use Rattle.bitfile_laws.proofs.FirstCells.{attributes_said}
+use Rattle.set_laws.proofs.Wholeness.{whole_described}
+use Rattle.set_laws.specs.Whole.{AreWholeDirectories}
+use Rattle.set_laws.proofs.Bare.{bare_linked}
 use Rattle.stored_set.proofs.Live.{not_live, owned_again}
+use Rattle.stored_set.proofs.Sized.{size_here, the_file}
+use Rattle.stored_set.proofs.States.{said_states}
 use Rattle.stored_set.proofs.changes.set_links.Goals as goal
 
 pub returns-clause-ok : goal.returns-clause-ok
@@ -34,6 +42,10 @@ returns-clause-ok g c = λ set was.
       indexes = was.indexes;
       stands = subst (λ (s : SetOf). StandsShown fileset places space cells new (with_chain tag (with_first (says_attributes value)) was.chains) was.indexes s) again
           (owner_set fileset places space cells old new was.chains was.indexes set was.stands tag value can (c.set_attributes.ensures.beside was.chains was.stands.together.files) together);
+      whole = subst (λ (s : SetOf). AreWholeDirectories (states_of (with_chain tag (with_first (says_attributes value)) was.chains)) s) again
+          (subst (λ (s : States). AreWholeDirectories s (with_change tag (owned value) set)) (sym (said_states fileset places old was.chains tag (says_attributes value) (described value) was.stands.together.files (λ pages first rest file. attributes_said pages first rest file value)))
+          (whole_described (states_of was.chains) set was.whole tag value (λ directory. ap (λ (v : Attributes). v.size) c.with_links-value.ensures ∙ size_here fileset places space cells old set was tag (the_file set tag directory) c.in-Some.was said)));
+      bare = bare_linked set was.bare tag c.args.links;
     })
     c.set_attributes.result (c.set_attributes.ensures.together space cells was.chains was.stands.together)
 

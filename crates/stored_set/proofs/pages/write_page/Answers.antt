@@ -4,6 +4,9 @@ use Rattle.std.specs.Option.{option_and_then}
 use Rattle.page_store.specs.Bitfiles.{put_page, with_change}
 use Rattle.page_store.specs.Pages.{Pages}
 use Rattle.set_laws.proofs.Written.{written}
+use Rattle.bitfile_core.specs.State.{states_of}
+use Rattle.set_laws.proofs.Wholeness.{whole_written}
+use Rattle.set_laws.proofs.Bare.{bare_written}
 use Rattle.stored_set.proofs.Live.{home_is, page_stands}
 use Rattle.stored_set.specs.Sets.{StandsAsSet}
 use Rattle.stored_set.proofs.pages.write_page.Goals as goal
@@ -29,6 +32,8 @@ returns-in-Some-clause-put g c = λ set was.
       chains = was.chains;
       indexes = was.indexes;
       stands = written fileset places space cells old was.chains was.indexes set was.stands c.args.tag c.args.page c.in-Some.home c.args.bytes at (c.requires.directory set was) (c.requires.there set was);
+      whole = whole_written (states_of was.chains) set was.whole c.args.tag c.args.page c.args.bytes (c.requires.there set was);
+      bare = bare_written set was.bare c.args.tag c.args.page c.args.bytes;
     })
 
 room_same : (o : Option (List ℕ)) (room less : ℕ) → IsSome o → cond (is_some o) room less ≡ room
