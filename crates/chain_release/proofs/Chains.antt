@@ -33,6 +33,13 @@ in_more [] c rest at inside = in_later at c rest inside
 in_more (f ∷ front) c rest at (zero, within, is) = in_first at f (front ++ c ∷ rest) is
 in_more (f ∷ front) c rest at (suc k, within, is) = in_later at f (front ++ c ∷ rest) (in_more front c rest at (k, omega (arith, within), is))
 
+-- and the other way round, but for that cell
+pub in_less : (front : List PlacedCell) (c : PlacedCell) (rest : List PlacedCell) (at : CellAt) → Contains (places (front ++ c ∷ rest)) at → ¬ c.at ≡ at → Contains (places (front ++ rest)) at
+in_less [] c rest at (zero, within, is) other = absurd (other is)
+in_less [] c rest at (suc k, within, is) other = (k, omega (arith, within), is)
+in_less (f ∷ front) c rest at (zero, within, is) other = in_first at f (front ++ rest) is
+in_less (f ∷ front) c rest at (suc k, within, is) other = in_later at f (front ++ rest) (in_less front c rest at (k, omega (arith, within), is) other)
+
 pub in_front : (front : List PlacedCell) (rest : List PlacedCell) (at : CellAt) → Contains (places front) at → Contains (places (front ++ rest)) at
 in_front [] rest at inside = absurd (omega (arith, inside.1))
 in_front (f ∷ front) rest at (zero, within, is) = in_first at f (front ++ rest) is

@@ -30,11 +30,12 @@ use Rattle.chain_release.specs.declared.releasing.Plan.{Plan}
 use Rattle.chain_release.specs.Reading.{HasPageFrom, IsGone}
 use Rattle.chain_release.specs.Releases.{GivesBack, LeavesBoth, Progresses, Releases, use_of}
 use Rattle.chain_release.specs.Sharing.{frozen_of}
-use Rattle.chain_release.specs.Steps.{AllStand, GivesTail, HandsOver, IsFreed, IsPlanned, PassesOn, WritesEdit, edited, is_freed, went}
+use Rattle.chain_release.specs.Steps.{AllStand, GivesTail, HandsOver, IsFreed, IsPlanned, KeepsCells, PassesOn, WritesEdit, edited, is_freed, went}
 use Rattle.chain_release.proofs.Cuts.{Cuts}
 use Rattle.chain_release.proofs.Found.{front_of}
 use Rattle.chain_release.proofs.Freed.{allocated_over}
 use Rattle.chain_release.proofs.Given.{absent_home}
+use Rattle.bitfile_core.proofs.Given.{one_file}
 use Rattle.bitfile_core.proofs.Grown.{on_grown, tables_grow}
 use Rattle.bitfile_core.proofs.OneChain.{file_by, stand_still}
 use Rattle.chain_release.proofs.Outcome.{Passed, on_all, on_at, passed_none, passed_some, reader_by, reader_stands}
@@ -232,3 +233,9 @@ module _ (from : ℕ) (start : CellAt) (reader : Option Reader) (plan : Plan) (s
           same_cells = progress.same_cells;
         }
         weaker after released.Cell progress = progress
+
+    -- each cell of the chain but the freed one is still one of the file
+    pub keeps : KeepsCells plan.edit.freed start chain new
+    keeps after file at inside other =
+        let s = stepped in
+        subst (λ (cs : List PlacedCell). Contains (places cs) at) (one_file new start s.after after s.stays.is_file file) (s.keeps at inside other)

@@ -1,5 +1,5 @@
 -- A walk along the cells of a file to one that has something to let go of.
-use Rattle.std.proofs.Common.{◌≡◌, ◌∙◌, cond, nat_eq, ℕ, zero, suc, ◌+◌, ◌-◌, ◌<◌, ◌≤◌, Bool, true, List, [], ◌∷◌, ◌++◌, length, Option, Some, None, is_some, refl, sym, ap, subst, arith, append_assoc, length-append, ⊎_elim, ◌⊎◌, inl, inr}
+use Rattle.std.proofs.Common.{◌≡◌, ◌∙◌, cond, nat_eq, ℕ, zero, suc, ◌+◌, ◌-◌, ◌<◌, ◌≤◌, Bool, true, List, [], ◌∷◌, ◌++◌, length, Option, Some, None, Contains, is_some, refl, sym, ap, subst, arith, append_assoc, length-append, ⊎_elim, ◌⊎◌, inl, inr}
 use Rattle.std.proofs.lemmas.Bool.{eq-eqb, true≢false}
 use Rattle.std.proofs.lemmas.List.{append-nil}
 use Rattle.std.specs.List.{AllByRecursion}
@@ -7,7 +7,6 @@ use Rattle.domain_base.specs.declared.place.CellAt.{CellAt}
 use Rattle.domain_base.specs.declared.place.Home.{Home}
 use Rattle.page_store.specs.Pages.{Pages}
 use Rattle.record_table.specs.declared.record.Record.{Record}
-use Rattle.bmt_mcells.specs.Chain.{PlacedCell}
 use Rattle.extent_maps.specs.declared.run.PagePlace.{PagePlace}
 use Rattle.extent_maps.specs.declared.run.PagePlace.TheVariants.{Absent, At, Hole}
 use Rattle.extent_maps.specs.declared.run.Run.{Run}
@@ -18,7 +17,7 @@ use Rattle.extent_records.specs.Writing.{places_in}
 use Rattle.extent_records.proofs.ChainLemmas.{over_absent}
 use Rattle.bitfile_cells.specs.Files.{HasMap, IsFile, IsNumbered, places_of}
 use Rattle.bitfile_cells.proofs.Walks.{Mapped, RestAt, There, all_push, cell_places, distinct_file, first_places, map_cells, rest_of, there_at, walk_short}
-use Rattle.bmt_mcells.specs.Chain.{AreDistinct}
+use Rattle.bmt_mcells.specs.Chain.{AreDistinct, Follow, PlacedCell, StandsAt, places}
 use Rattle.chain_release.specs.declared.stale.Stale.{Stale}
 use Rattle.chain_release.specs.Reading.{HasPageFrom}
 use Rattle.chain_release.specs.Sharing.{HasPages, IsReleased, LaterHavePages}
@@ -113,63 +112,133 @@ places_append (x ∷ xs) ys p =
     over_assoc (At home) b c = refl
     over_assoc Hole b c = refl
 
--- of the cells so far none has anything to let go of
-pub record IsOnWay (pages : Pages) (from i : ℕ) (before next : Option CellAt) (chain : List PlacedCell) : Type 0 where
+-- behind the cells that are skipped none so far has anything to let go of
+pub record IsOnWay (pages : Pages) (from i : ℕ) (cursor before next : Option CellAt) (chain : List PlacedCell) : Type 0 where
+  pub skipped : List PlacedCell
   pub passed : List PlacedCell
   pub rest : List PlacedCell
-  pub all : chain ≡ passed ++ rest
+  pub all : chain ≡ skipped ++ (passed ++ rest)
+  pub none : cursor ≡ None → skipped ≡ []
   pub count : length passed ≡ i
   pub numbered : AllByRecursion (λ (c : PlacedCell). IsNumbered c.at) passed
   pub here : RestAt pages next rest
   pub maps : AllByRecursion Mapped rest
-  pub last : before ≡ last_place passed
-  pub released : IsReleased from passed
+  pub last : before ≡ last_place (skipped ++ passed)
+  pub released : skipped ≡ [] → IsReleased from passed
 
-pub way_begins : (pages : Pages) (from : ℕ) (start : CellAt) (chain : List PlacedCell) → IsFile pages start chain → IsOnWay pages from 0 None (Some start) chain
+pub way_begins : (pages : Pages) (from : ℕ) (start : CellAt) (chain : List PlacedCell) → IsFile pages start chain → IsOnWay pages from 0 None None (Some start) chain
 way_begins pages from start [] is = absurd is
 way_begins pages from start (first ∷ rest) is = record {
+  skipped = [];
   passed = [];
   rest = first ∷ rest;
   all = refl;
+  none = λ _. refl;
   count = refl;
   numbered = tt;
   here = (is.0, is.1.links.stands, is.1.links.follow);
   maps = (record { value = is.1.value; map = is.1.map }, map_cells rest is.1.others);
   last = refl;
-  released = record { absent = λ page less. refl; later = tt };
+  released = λ _. record { absent = λ page less. refl; later = tt };
 }
 
-module _ (pages : Pages) (from i : ℕ) (before : Option CellAt) (at : CellAt) (chain : List PlacedCell) (way : IsOnWay pages from i before (Some at) chain) where
+-- the cells behind one of a chain
+pub record IsSplit (pages : Pages) (at : CellAt) (cells : List PlacedCell) : Type 0 where
+  pub front : List PlacedCell
+  pub c : PlacedCell
+  pub rest : List PlacedCell
+  pub all : cells ≡ front ++ c ∷ rest
+  pub is_at : c.at ≡ at
+  pub stands : StandsAt pages at c.cell
+  pub follow : Follow pages c.cell.head rest
+  pub maps : AllByRecursion Mapped rest
+
+split_at : (pages : Pages) (at : CellAt) (c : PlacedCell) (cs : List PlacedCell) → StandsAt pages c.at c.cell → Follow pages c.cell.head cs → AllByRecursion Mapped cs → Contains (places (c ∷ cs)) at → IsSplit pages at (c ∷ cs)
+split_at pages at c cs stands follow maps (zero, within, is) = record {
+  front = [];
+  c = c;
+  rest = cs;
+  all = refl;
+  is_at = is;
+  stands = subst (λ (a : CellAt). StandsAt pages a c.cell) is stands;
+  follow = follow;
+  maps = maps;
+}
+split_at pages at c [] stands follow maps (suc k, within, is) = absurd (omega (arith, within))
+split_at pages at c (d ∷ ds) stands follow maps (suc k, within, is) =
+    let s = split_at pages at d ds follow.2 follow.3 maps.1 (k, omega (arith, within), is) in
+    record {
+      front = c ∷ s.front;
+      c = s.c;
+      rest = s.rest;
+      all = ap (λ (cs : List PlacedCell). c ∷ cs) s.all;
+      is_at = s.is_at;
+      stands = s.stands;
+      follow = s.follow;
+      maps = s.maps;
+    }
+
+pub split_file : (pages : Pages) (start at : CellAt) (chain : List PlacedCell) → IsFile pages start chain → Contains (places chain) at → IsSplit pages at chain
+split_file pages start at [] is inside = absurd is
+split_file pages start at (first ∷ rest) is inside = split_at pages at first rest is.1.links.stands is.1.links.follow (map_cells rest is.1.others) inside
+
+some_none : (at : CellAt) → Some at ≡ None → ⊥
+some_none at is = cc
+
+-- the walk begins behind a cell
+pub way_goes_on : (pages : Pages) (from : ℕ) (start at : CellAt) (chain : List PlacedCell) → IsFile pages start chain → (s : IsSplit pages at chain) → IsOnWay pages from 0 (Some at) (Some at) s.c.cell.head.next chain
+way_goes_on pages from start at chain is s = record {
+  skipped = s.front ++ s.c ∷ [];
+  passed = [];
+  rest = s.rest;
+  all = s.all ∙ sym (append_assoc s.front (s.c ∷ []) s.rest);
+  none = λ none. absurd (some_none at none);
+  count = refl;
+  numbered = tt;
+  here = rest_of pages s.c.cell.head s.rest s.follow;
+  maps = s.maps;
+  last = ap Some (sym s.is_at) ∙ sym (last_push s.front s.c) ∙ ap last_place (sym (append-nil (s.front ++ s.c ∷ [])));
+  released = λ none. absurd (push_some s.front s.c none);
+}
+  where
+    push_some : (xs : List PlacedCell) (c : PlacedCell) → xs ++ c ∷ [] ≡ [] → ⊥
+    push_some [] c none = cc
+    push_some (x ∷ xs) c none = cc
+
+module _ (pages : Pages) (from i : ℕ) (cursor before : Option CellAt) (at : CellAt) (chain : List PlacedCell) (way : IsOnWay pages from i cursor before (Some at) chain) where
   pub there : There pages at way.rest
   there = there_at pages at way.rest way.here way.maps
 
-  pub split : chain ≡ way.passed ++ there.c ∷ there.cs
-  split = way.all ∙ ap (λ (cs : List PlacedCell). way.passed ++ cs) there.all
+  split : chain ≡ way.skipped ++ (way.passed ++ there.c ∷ there.cs)
+  split = way.all ∙ ap (λ (cs : List PlacedCell). way.skipped ++ (way.passed ++ cs)) there.all
 
   pub way_found : (stale : Stale) → stale.before ≡ before → stale.at ≡ at → IsStale from (is_some before) (places_in there.mapped.value) → IsStaleCell from chain stale
   way_found stale before_is at_is is_stale = record {
-    front = way.passed;
+    front = way.skipped ++ way.passed;
     c = there.c;
     rest = there.cs;
     value = there.mapped.value;
-    all = split;
+    all = split ∙ sym (append_assoc way.skipped way.passed (there.c ∷ there.cs));
     is_at = there.is_at ∙ sym at_is;
     before = before_is ∙ way.last;
     map = there.mapped.map;
     is_stale = subst (λ (o : Option CellAt). IsStale from (is_some o) (places_in there.mapped.value)) (sym before_is) is_stale;
   }
 
-  pub way_on : IsNumbered at → (IsStale from (is_some before) (places_in there.mapped.value) → ⊥) → IsOnWay pages from (i + 1) (Some at) there.c.cell.head.next chain
+  pub way_on : IsNumbered at → (IsStale from (is_some before) (places_in there.mapped.value) → ⊥) → IsOnWay pages from (i + 1) cursor (Some at) there.c.cell.head.next chain
   way_on numbered fresh = record {
+    skipped = way.skipped;
+    none = way.none;
     passed = way.passed ++ there.c ∷ [];
     rest = there.cs;
-    all = split ∙ sym (append_assoc way.passed (there.c ∷ []) there.cs);
+    all = split ∙ ap (λ (cs : List PlacedCell). way.skipped ++ cs) (sym (append_assoc way.passed (there.c ∷ []) there.cs));
     count = omega (arith, length-append way.passed (there.c ∷ []), way.count);
     numbered = all_push way.passed there.c way.numbered (subst IsNumbered (sym there.is_at) numbered);
     here = rest_of pages there.c.cell.head there.cs there.follow;
     maps = there.maps;
-    last = ap Some (sym there.is_at) ∙ sym (last_push way.passed there.c);
-    released = released_on way.passed there.c there.mapped.value there.mapped.map way.released (λ stale. fresh (subst (λ (o : Option CellAt). IsStale from (is_some o) (places_in there.mapped.value)) (sym way.last) stale));
+    last = ap Some (sym there.is_at) ∙ sym (last_push (way.skipped ++ way.passed) there.c) ∙ ap last_place (append_assoc way.skipped way.passed (there.c ∷ []));
+    released = λ none. released_on way.passed there.c there.mapped.value there.mapped.map (way.released none)
+        (λ stale. fresh (subst (λ (o : Option CellAt). IsStale from (is_some o) (places_in there.mapped.value)) (sym (way.last ∙ ap (λ (cs : List PlacedCell). last_place (cs ++ way.passed)) none)) stale));
   }
     where
       released_on : (passed : List PlacedCell) (c : PlacedCell) (value : Record) → HasMap c.cell value → IsReleased from passed → (IsStale from (is_some (last_place passed)) (places_in value) → ⊥) → IsReleased from (passed ++ c ∷ [])
@@ -186,13 +255,17 @@ module _ (pages : Pages) (from i : ℕ) (before : Option CellAt) (at : CellAt) (
               (λ none. absurd (some (none_behind x xs, none)))
               (some_or_none (runs_in value) has.is_map.placed))
 
-pub way_ends : (pages : Pages) (from i : ℕ) (before : Option CellAt) (chain : List PlacedCell) → IsOnWay pages from i before None chain → IsReleased from chain
-way_ends pages from i before chain way =
-    subst (IsReleased from) (sym (way.all ∙ ap (λ (cs : List PlacedCell). way.passed ++ cs) way.here ∙ append-nil way.passed)) way.released
+pub way_ends : (pages : Pages) (from i : ℕ) (cursor before : Option CellAt) (chain : List PlacedCell) → IsOnWay pages from i cursor before None chain → cursor ≡ None → IsReleased from chain
+way_ends pages from i cursor before chain way none =
+    subst (IsReleased from) (sym (way.all ∙ ap (λ (cs : List PlacedCell). cs ++ (way.passed ++ way.rest)) (way.none none) ∙ ap (λ (cs : List PlacedCell). way.passed ++ cs) way.here ∙ append-nil way.passed)) (way.released (way.none none))
 
-pub way_short : (pages : Pages) (from i : ℕ) (before next : Option CellAt) (start : CellAt) (chain : List PlacedCell) → IsFile pages start chain → IsOnWay pages from i before next chain → i ≤ 9895604649984
-way_short pages from i before next start chain is way =
-    omega (arith, way.count, walk_short way.passed way.rest (subst AreDistinct way.all (distinct_file pages start chain is)) way.numbered)
+distinct_behind : (xs ys : List PlacedCell) → AreDistinct (xs ++ ys) → AreDistinct ys
+distinct_behind [] ys distinct = distinct
+distinct_behind (x ∷ xs) ys distinct = distinct_behind xs ys distinct.1
+
+pub way_short : (pages : Pages) (from i : ℕ) (cursor before next : Option CellAt) (start : CellAt) (chain : List PlacedCell) → IsFile pages start chain → IsOnWay pages from i cursor before next chain → i ≤ 9895604649984
+way_short pages from i cursor before next start chain is way =
+    omega (arith, way.count, walk_short way.passed way.rest (distinct_behind way.skipped (way.passed ++ way.rest) (subst AreDistinct way.all (distinct_file pages start chain is))) way.numbered)
 
 later_back : (xs : List PlacedCell) (c : PlacedCell) (cs : List PlacedCell) → ¬ xs ≡ [] → LaterHavePages (xs ++ c ∷ cs) → HasPages c
 later_back [] c cs some later = absurd (some refl)

@@ -1,4 +1,5 @@
 pub mod Chains
+pub mod Cursors
 pub mod Cuts
 pub mod Done
 pub mod Edited

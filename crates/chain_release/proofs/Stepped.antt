@@ -26,7 +26,7 @@ use Rattle.chain_release.specs.declared.edits.ChainEdit.{ChainEdit}
 use Rattle.chain_release.specs.Reading.{HasPageFrom}
 use Rattle.chain_release.specs.Releases.{ChangesOne, FreesOne, LosesPage, Progresses}
 use Rattle.chain_release.specs.Steps.{AllStand, EditsCell, IsCut, IsFreed, Rewrites, Unlinks, WritesEdit, edited, is_freed, went}
-use Rattle.chain_release.proofs.Chains.{Stays, all_back, all_front, fresh_front, fresh_rest, in_front, in_middle, in_more, places_same, rewritten, unlinked}
+use Rattle.chain_release.proofs.Chains.{Stays, all_back, all_front, fresh_front, fresh_rest, in_front, in_less, in_middle, in_more, places_same, rewritten, unlinked}
 use Rattle.chain_release.proofs.Cuts.{Cuts, cuts_rewritten, cuts_unlinked}
 use Rattle.chain_release.proofs.Once.{file_map}
 
@@ -140,6 +140,7 @@ module _ (from : ℕ) (pages : Pages) (start : CellAt) (chain front rest : List 
       pub after : List PlacedCell
       pub stays : Stays start new chain after
       pub within : (at : CellAt) → Contains (places after) at → Contains (places chain) at
+      pub keeps : (at : CellAt) → Contains (places chain) at → ¬ edit.freed ≡ Some at → Contains (places after) at
       pub cuts : Cuts from value chain after
       pub one : ChangesOne chain after
       pub progress : HasSomething → Progresses (went edit.freed) from chain after cells cells_now
@@ -200,6 +201,7 @@ module _ (from : ℕ) (pages : Pages) (start : CellAt) (chain front rest : List 
         after = front ++ c_now ∷ rest;
         stays = subst (λ (cs : List PlacedCell). Stays start new cs (front ++ c_now ∷ rest)) (sym all) stays_now;
         within = λ at inside. subst (λ (ps : List CellAt). Contains ps at) same_now inside;
+        keeps = λ at inside other. subst (λ (ps : List CellAt). Contains ps at) (sym same_now) inside;
         cuts = subst (λ (cs : List PlacedCell). Cuts from value cs (front ++ c_now ∷ rest)) (sym all) cut_now;
         one = subst (λ (cs : List PlacedCell). ChangesOne cs (front ++ c_now ∷ rest)) (sym all)
             (one_changed front c_now rest (front ++ c ∷ rest) (λ x inside. Contains-append_left front (c ∷ rest) x inside) (λ x inside. Contains-append_right front (c ∷ rest) x (behind c rest x inside)));
@@ -261,6 +263,9 @@ module _ (from : ℕ) (pages : Pages) (start : CellAt) (chain front rest : List 
         after = u.earlier ++ b_now ∷ rest;
         stays = subst (λ (cs : List PlacedCell). Stays start new cs (u.earlier ++ b_now ∷ rest)) (sym (all ∙ in_row)) stays_out;
         within = λ at inside. subst (λ (cs : List PlacedCell). Contains (places cs) at) (sym all) (in_more front c rest at (subst (λ (ps : List CellAt). Contains ps at) places_out inside));
+        keeps = λ at inside other.
+            subst (λ (ps : List CellAt). Contains ps at) (sym places_out)
+            (in_less front c rest at (subst (λ (cs : List PlacedCell). Contains (places cs) at) all inside) (λ same. other (u.freed ∙ ap Some same)));
         cuts = subst (λ (cs : List PlacedCell). Cuts from value cs (u.earlier ++ b_now ∷ rest)) (sym (all ∙ in_row)) cut_out;
         one = subst (λ (cs : List PlacedCell). ChangesOne cs (u.earlier ++ b_now ∷ rest)) (sym (all ∙ in_row))
             (one_changed u.earlier b_now rest (u.earlier ++ u.before ∷ c ∷ rest) (λ x inside. Contains-append_left u.earlier (u.before ∷ c ∷ rest) x inside)

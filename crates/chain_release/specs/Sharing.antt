@@ -1,10 +1,10 @@
 -- A file, and the clone's file that reads through it if there is one.
-use Rattle.std.specs.Prelude.{◌≡◌, ◌≤◌, ℕ, List, [], ◌∷◌, Option, Some, None}
+use Rattle.std.specs.Prelude.{◌≡◌, ◌≤◌, ℕ, List, [], ◌∷◌, Option, Some, None, Contains, IfSome}
 use Rattle.std.specs.List.{AllByRecursion}
 use Rattle.domain_base.specs.declared.place.CellAt.{CellAt}
 use Rattle.domain_base.specs.declared.place.Home.{Home}
 use Rattle.page_store.specs.Pages.{Pages}
-use Rattle.bmt_mcells.specs.Chain.{PlacedCell}
+use Rattle.bmt_mcells.specs.Chain.{PlacedCell, places}
 use Rattle.extent_maps.specs.declared.run.PagePlace.TheVariants.{Absent, At}
 use Rattle.free_cells.specs.Cells.{Cells}
 use Rattle.free_space.specs.Spaces.{Spaces}
@@ -60,3 +60,8 @@ LaterHavePages (first ∷ rest) = AllByRecursion HasPages rest
 pub record IsReleased (from : ℕ) (chain : List PlacedCell) : Type 0 where
   pub absent : (page : ℕ) → from ≤ page → places_of chain page ≡ Absent
   pub later : LaterHavePages chain
+
+-- no place is given, or that of a cell of the file that begins there
+abbrev pub IsWithin : Pages → CellAt → Option CellAt → Type 0
+IsWithin pages start place = (chain : List PlacedCell) → IsFile pages start chain
+    → IfSome place (Contains (places chain))

@@ -1,6 +1,6 @@
 -- What the functions within the crate ask and answer.
 use Rattle.std.specs.List.{AllByRecursion}
-use Rattle.std.specs.Prelude.{◌≡◌, ◌⊎◌, ◌<◌, ◌≤◌, ◌||◌, ℕ, Bool, true, false, List, [], ◌∷◌, ◌++◌, Option, Some, None, IfNone, IfSome, IsSome, is_some}
+use Rattle.std.specs.Prelude.{◌≡◌, ◌⊎◌, ◌<◌, ◌≤◌, ◌||◌, ℕ, Bool, true, false, List, [], ◌∷◌, ◌++◌, Option, Some, None, IfNone, IfSome, IsSome, Contains, is_some}
 use Rattle.domain_base.specs.declared.place.CellAt.{CellAt}
 use Rattle.domain_base.specs.declared.place.Home.{Home}
 use Rattle.domain_base.specs.declared.version.Version.{Version}
@@ -9,7 +9,7 @@ use Rattle.record_table.specs.declared.record.Record.{Record}
 use Rattle.record_table.specs.Records.{kind_of}
 use Rattle.bmt_mcells.specs.Cell.{Cell}
 use Rattle.bmt_mcells.specs.CellPage.{KeepsHeaders, KeepsWellFormed, home_of}
-use Rattle.bmt_mcells.specs.Chain.{LeavesOthers, PlacedCell, StandsAt, is_at}
+use Rattle.bmt_mcells.specs.Chain.{LeavesOthers, PlacedCell, StandsAt, is_at, places}
 use Rattle.extent_maps.specs.declared.run.PagePlace.{PagePlace}
 use Rattle.extent_maps.specs.declared.run.PagePlace.TheVariants.{Absent, At, Hole}
 use Rattle.extent_maps.specs.Runs.{Places, SamePlaces, home_at}
@@ -62,6 +62,12 @@ pub record IsStaleCell (from : ℕ) (chain : List PlacedCell) (stale : Stale) : 
   pub before : stale.before ≡ last_place front
   pub map : HasMap c.cell value
   pub is_stale : IsStale from (is_some stale.before) (places_in value)
+
+-- each cell of a chain but one that is freed is a cell of the file that begins there
+abbrev pub KeepsCells : Option CellAt → CellAt → List PlacedCell → Pages → Type 0
+KeepsCells freed start chain new = (after : List PlacedCell) → IsFile new start after
+    → (at : CellAt) → Contains (places chain) at → ¬ freed ≡ Some at
+    → Contains (places after) at
 
 -- ** The tail of its pages
 

@@ -13,14 +13,14 @@ ghost use Rattle.bitfile_cells.specs.Files.{IsFile, places_of};
 ghost use Rattle.bitfile_cells.specs.MapChanges.{ChangesAtMost, LeavesOffTables, NoneTakes};
 ghost use Rattle.chain_release.specs.declared.released.Released.TheVariants as released;
 ghost use Rattle.chain_release.specs.Releases.{LacksPlace, LeavesBoth, Releases};
-ghost use Rattle.chain_release.specs.Sharing.{AreSharing, HasSharing, IsReader, IsReleased, frozen_of};
-ghost use Rattle.chain_release.specs.Steps.{HandsOver, IsPlan, IsPlanned, IsStaleCell, IsTail, MayHandOver, MayPlan, PassesOn, went};
+ghost use Rattle.chain_release.specs.Sharing.{AreSharing, HasSharing, IsReader, IsReleased, IsWithin, frozen_of};
+ghost use Rattle.chain_release.specs.Steps.{HandsOver, IsPlan, IsPlanned, IsStaleCell, IsTail, KeepsCells, MayHandOver, MayPlan, PassesOn, went};
 
 use crate::edits::{ChainEdit, edit_for, write_edit};
 use crate::giving_back::{give_back_from, use_of};
 use crate::reader::{Reader, frozen_pages, reader_map};
 use crate::released::Released;
-use crate::stale::{Stale, cell_map, find_stale};
+use crate::stale::{Stale, cell_map, find_from};
 use crate::tail::{Tail, tail_of};
 use bitfile_cells::put_page;
 use domain_base::limits::FILE_PAGES;
@@ -217,6 +217,9 @@ fn carry_out<M: MetaPages>(
     ensures others { (from : ℕ) (chain own : List PlacedCell)
         → IsPlanned from start.now reader.now plan.now space.old cells.old (M.pages pages.old) chain
         own → LeavesBoth cells.old chain own (M.pages pages.old) (M.pages pages.new) }
+    ensures stay { (from : ℕ) (chain own : List PlacedCell)
+        → IsPlanned from start.now reader.now plan.now space.old cells.old (M.pages pages.old) chain
+        own → OnOk result (KeepsCells plan.now.edit.freed start.now chain (M.pages pages.new)) }
     ensures elsewhere { LeavesOffTables cells.new (M.pages pages.old) (M.pages pages.new) }
     ensures allocated { AreAllocated space.new cells.new (M.pages pages.new) }
     ensures room { M.room pages.old ≤ M.room pages.new + 1 }
@@ -234,7 +237,8 @@ fn carry_out<M: MetaPages>(
     }
 }
 
-/// Lets go of something that a cell of the chain has.
+/// Lets go of something that a cell of the chain has. The next one is looked for behind the cell in
+/// front of it.
 fn release_at<M: MetaPages>(
     alloc: Global,
     pages: &mut M,
@@ -242,6 +246,7 @@ fn release_at<M: MetaPages>(
     cells: &mut FreeCells,
     start: &CellAt,
     stale: &Stale,
+    cursor: &mut Option<CellAt>,
     from: u32,
     reader: &Option<Reader>,
     group: u64,
@@ -251,6 +256,8 @@ fn release_at<M: MetaPages>(
     requires sharing { (chain : List PlacedCell) × (own : List PlacedCell)
         × AreSharing start.now reader.now space.old cells.old (M.pages pages.old) chain own
         × IsStaleCell from chain stale.now }
+    requires within { IsWithin (M.pages pages.old) start.now cursor.old }
+    ensures within { IsWithin (M.pages pages.new) start.now cursor.new }
     ensures ok { (chain own : List PlacedCell)
         → AreSharing start.now reader.now space.old cells.old (M.pages pages.old) chain own
         → IsStaleCell from chain stale.now
@@ -274,13 +281,18 @@ fn release_at<M: MetaPages>(
     ensures before { M.before pages.new ≡ M.before pages.old }
 {
     let plan = plan_step(alloc, pages, stale, from, reader)?;
+    *cursor = stale.before;
     carry_out(
         alloc, pages, space, cells, start, &plan, reader, group, version,
     )
 }
 
-/// Lets go of something that the file has whose chain begins at that cell: of its first cell that
-/// has a page from `from` on, or behind the first one no page at all. Of that cell's pages from
+/// Lets go of something that the file has whose chain begins at that cell: of its first cell behind
+/// the cursor, a cell of the chain, that has a page from `from` on, or behind the first one no page
+/// at all; and where the cursor is none, or nothing of that kind is behind it, of the first such cell
+/// of all. The cursor is then the cell in front of that, so that the next step goes on there and does
+/// not pass once more what was passed: a hint that no answer but the cell depends on. Of that cell's
+/// pages from
 /// `from` on as many go as the reader does not read through the file, up to the last one; or the
 /// last one alone, where the reader reads it: it is put in the reader's chain. All others are given
 /// back, and wait for the group: as metadata, where the file is a directory or its data is logged,
@@ -297,6 +309,7 @@ pub fn release_tail<M: MetaPages>(
     space: &mut FreeSpace,
     cells: &mut FreeCells,
     start: CellAt,
+    cursor: &mut Option<CellAt>,
     from: u32,
     reader: &Option<Reader>,
     group: u64,
@@ -304,6 +317,8 @@ pub fn release_tail<M: MetaPages>(
 ) -> Result<Released, StoreFault>
     requires allocated { AreAllocated space.old cells.old (M.pages pages.old) }
     requires sharing { HasSharing start reader.now space.old cells.old (M.pages pages.old) }
+    requires within { IsWithin (M.pages pages.old) start cursor.old }
+    ensures within { IsWithin (M.pages pages.new) start cursor.new }
     ensures ok { (chain own : List PlacedCell)
         → AreSharing start reader.now space.old cells.old (M.pages pages.old) chain own
         → IfOk result (λ what. ¬ what ≡ released.Nothing → Releases from start reader.now group
@@ -329,9 +344,9 @@ pub fn release_tail<M: MetaPages>(
     ensures room { M.room pages.old ≤ M.room pages.new + 1 }
     ensures before { M.before pages.new ≡ M.before pages.old }
 {
-    match find_stale(alloc, pages, &start, from)? {
+    match find_from(alloc, pages, &start, cursor, from)? {
         Some(stale) => release_at(
-            alloc, pages, space, cells, &start, &stale, from, reader, group, version,
+            alloc, pages, space, cells, &start, &stale, cursor, from, reader, group, version,
         ),
         None => Ok(Released::Nothing),
     }

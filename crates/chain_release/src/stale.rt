@@ -1,5 +1,6 @@
 //! The cell of a chain that has something to let go of.
-ghost use Rattle.std.specs.Prelude.{◌≡◌, ◌-◌, ◌<◌, ◌≤◌, ◌↔◌, ℕ, IfNone, IfOk, IfSome, IsTrue, List};
+ghost use Rattle.std.specs.Prelude.{◌≡◌, ◌-◌, ◌<◌, ◌≤◌, ◌↔◌, ℕ, IfNone, IfOk, IfSome, IsTrue, List, None, Some};
+ghost use Rattle.domain_base.specs.declared.place.CellAt.{CellAt as CellAtOf};
 ghost use Rattle.record_table.specs.declared.record.Record.{Record as RecordOf};
 ghost use Rattle.bmt_mcells.specs.Cell.{Cell};
 ghost use Rattle.bmt_mcells.specs.Chain.{PlacedCell, StandsAt};
@@ -8,7 +9,7 @@ ghost use Rattle.extent_maps.specs.Runs.{SamePlaces, place_of};
 ghost use Rattle.extent_records.specs.Rows.{runs_in};
 ghost use Rattle.extent_records.specs.Writing.{IsMapRecord, places_in};
 ghost use Rattle.bitfile_cells.specs.Files.{HasFile, HasMap, HasMapAt, IsFile};
-ghost use Rattle.chain_release.specs.Sharing.{IsReleased};
+ghost use Rattle.chain_release.specs.Sharing.{IsReleased, IsWithin};
 ghost use Rattle.chain_release.specs.Steps.{IsStale, IsStaleCell};
 
 use bitfile_cells::{CELLS, map_record, next_cell};
@@ -87,21 +88,37 @@ fn is_stale<M: MetaPages>(
     Ok(from < end || is_behind && end == 0)
 }
 
-/// The first cell of a file's chain that has something to let go of.
+/// The cell behind one that stands at a place, or the first one where none is given.
+fn cell_behind<M: MetaPages>(pages: &M, start: &CellAt, place: &Option<CellAt>) -> Option<CellAt>
+    ensures first { place.now ≡ None → result ≡ Some start.now }
+    ensures next { (at : CellAtOf) (cell : Cell) → place.now ≡ Some at
+        → StandsAt (M.pages pages.now) at cell → result ≡ cell.head.next }
+{
+    match place {
+        Some(at) => next_cell(pages, at),
+        None => Some(*start),
+    }
+}
+
+/// The first cell that has something to let go of, of those behind a cell of a file's chain or,
+/// where none is given, of all.
 pub(crate) fn find_stale<M: MetaPages>(
     alloc: Global,
     pages: &M,
     start: &CellAt,
+    cursor: &Option<CellAt>,
     from: u32,
 ) -> Result<Option<Stale>, OutOfMemory>
-    requires { HasFile (M.pages pages.now) start.now }
+    requires file { HasFile (M.pages pages.now) start.now }
+    requires within { IsWithin (M.pages pages.now) start.now cursor.now }
     ensures some { (chain : List PlacedCell) → IsFile (M.pages pages.now) start.now chain
         → IfOk result (λ found. IfSome found (IsStaleCell from chain)) }
-    ensures none { (chain : List PlacedCell) → IsFile (M.pages pages.now) start.now chain
+    ensures none { cursor.now ≡ None → (chain : List PlacedCell)
+        → IsFile (M.pages pages.now) start.now chain
         → IfOk result (λ found. IfNone found (IsReleased from chain)) }
 {
-    let mut before = None;
-    let mut next = Some(*start);
+    let mut before = *cursor;
+    let mut next = cell_behind(pages, start, cursor);
     for _ in 0..CELLS {
         let Some(at) = next else {
             return Ok(None);
@@ -113,4 +130,26 @@ pub(crate) fn find_stale<M: MetaPages>(
         next = next_cell(pages, &at);
     }
     Ok(None)
+}
+
+/// A cell of a file's chain that has something to let go of: one behind a cell where there is one,
+/// and else the first of all.
+pub(crate) fn find_from<M: MetaPages>(
+    alloc: Global,
+    pages: &M,
+    start: &CellAt,
+    cursor: &Option<CellAt>,
+    from: u32,
+) -> Result<Option<Stale>, OutOfMemory>
+    requires file { HasFile (M.pages pages.now) start.now }
+    requires within { IsWithin (M.pages pages.now) start.now cursor.now }
+    ensures some { (chain : List PlacedCell) → IsFile (M.pages pages.now) start.now chain
+        → IfOk result (λ found. IfSome found (IsStaleCell from chain)) }
+    ensures none { (chain : List PlacedCell) → IsFile (M.pages pages.now) start.now chain
+        → IfOk result (λ found. IfNone found (IsReleased from chain)) }
+{
+    match find_stale(alloc, pages, start, cursor, from)? {
+        Some(stale) => Ok(Some(stale)),
+        None => find_stale(alloc, pages, start, &None, from),
+    }
 }

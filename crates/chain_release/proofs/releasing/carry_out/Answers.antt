@@ -1,7 +1,7 @@
 use Rattle.std.proofs.Common.{subst, sym}
 use Rattle.chain_release.specs.declared.released.Released.{Released}
 use Rattle.chain_release.specs.Releases.{Releases}
-use Rattle.chain_release.proofs.Done.{allocated_new, elsewhere, may_free, not_free, others, place, releases, writes_well}
+use Rattle.chain_release.proofs.Done.{allocated_new, elsewhere, keeps, may_free, not_free, others, place, releases, writes_well}
 use Rattle.chain_release.proofs.releasing.carry_out.Goals as goal
 
 pub returns-in-Err-clause-full : goal.returns-in-Err-clause-full
@@ -38,3 +38,6 @@ returns-in-Ok-clause-elsewhere g c = let p = c.requires.planned in elsewhere p.0
 
 pub returns-in-Ok-clause-allocated : goal.returns-in-Ok-clause-allocated
 returns-in-Ok-clause-allocated g c = let p = c.requires.planned in allocated_new p.0 c.args.start.now c.args.reader.now c.args.plan.now c.args.space.now c.args.cells.now (g.M.MetaPages.pages c.args.pages.now) p.1 p.2 p.3 c.use_of-kind.result c.args.group c.args.version c.pass_on.new.space c.pass_on.new.cells (g.M.MetaPages.pages c.pass_on.new.pages) (c.in-Ok.ensures.ok p.0 c.args.start.now p.1 p.2 p.3) c.in-Ok.ensures.allocated c.write_edit.new.cells (g.M.MetaPages.pages c.write_edit.new.pages) c.write_edit.ensures.writes c.write_edit.ensures.belong
+
+pub returns-in-Ok-clause-stay : goal.returns-in-Ok-clause-stay
+returns-in-Ok-clause-stay g c = λ from chain own is. keeps from c.args.start.now c.args.reader.now c.args.plan.now c.args.space.now c.args.cells.now (g.M.MetaPages.pages c.args.pages.now) chain own is c.use_of-kind.result c.args.group c.args.version c.pass_on.new.space c.pass_on.new.cells (g.M.MetaPages.pages c.pass_on.new.pages) (c.in-Ok.ensures.ok from c.args.start.now chain own is) c.in-Ok.ensures.allocated c.write_edit.new.cells (g.M.MetaPages.pages c.write_edit.new.pages) c.write_edit.ensures.writes c.write_edit.ensures.belong
