@@ -1,3 +1,4 @@
+pub mod Cursors
 pub mod Listed
 pub mod Listing
 pub mod Standing

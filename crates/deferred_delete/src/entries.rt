@@ -5,10 +5,12 @@ ghost use Rattle.page_store.specs.declared.fault.StoreFault.TheVariants.{NoPage}
 ghost use Rattle.free_space.specs.Spaces.{Spaces};
 ghost use Rattle.bitfile_cells.specs.Allocated.{FindsNone};
 ghost use Rattle.deferred_delete.specs.declared.list.Entry.{Entry as EntryOf};
+ghost use Rattle.deferred_delete.specs.Cursors.{IsAhead};
 ghost use Rattle.deferred_delete.specs.Listing.{Listing};
 ghost use Rattle.deferred_delete.specs.Standing.{Files};
 ghost use Rattle.deferred_delete.specs.Steps.{HasEntry, HasFileEntry, IsEnding, IsEndingWhole, LacksRoom, Leaves, list_after, now_of};
 
+use crate::cursor::{Cursor, cursor_at, place_in};
 use crate::ending::{end_reading, end_trim};
 use crate::list::Entry;
 use crate::looking::{is_of_quotas, left_at, reader_at, stale_at};
@@ -94,11 +96,14 @@ fn release_file<M: MetaPages>(
     space: &mut FreeSpace,
     cells: &mut FreeCells,
     entry: &Entry,
+    cursor: &mut Option<Cursor>,
     group: u64,
     version: Version,
 ) -> Result<Went, StoreFault>
     requires well { (list : Listing) × (front : List EntryOf) × (files : Files)
         × HasFileEntry front entry.now (now_of list files space.old cells.old (M.pages pages.old)) }
+    requires ahead { IsAhead (M.pages pages.old) cursor.old }
+    ensures ahead { IsAhead (M.pages pages.new) cursor.new }
     ensures ok { (list : Listing) (front : List EntryOf) (files : Files)
         → HasFileEntry front entry.now (now_of list files space.old cells.old (M.pages pages.old))
         → IfOk result (λ went. Leaves group version (now_of list files space.old cells.old
@@ -116,12 +121,22 @@ fn release_file<M: MetaPages>(
     let left = left_at(pages, &entry.at);
     let from = stale_at(pages, &entry.at, &left);
     let reader = reader_at(pages, &entry.clone);
+    let mut place = place_in(cursor, &entry.at);
     match release_tail(
-        alloc, pages, space, cells, entry.at, from, &reader, group, version,
+        alloc, pages, space, cells, entry.at, &mut place, from, &reader, group, version,
     ) {
-        Ok(Released::Nothing) => Ok(end_entry(alloc, pages, cells, entry, &left)?),
-        Ok(Released::Pages) => Ok(Went::Part),
-        Ok(Released::Cell) => Ok(Went::Part),
+        Ok(Released::Nothing) => {
+            *cursor = None;
+            Ok(end_entry(alloc, pages, cells, entry, &left)?)
+        }
+        Ok(Released::Pages) => {
+            *cursor = cursor_at(&entry.at, &place);
+            Ok(Went::Part)
+        }
+        Ok(Released::Cell) => {
+            *cursor = cursor_at(&entry.at, &place);
+            Ok(Went::Part)
+        }
         Err(fault) => Err(fault),
     }
 }
@@ -134,11 +149,14 @@ pub(crate) fn release_entry<M: MetaPages>(
     space: &mut FreeSpace,
     cells: &mut FreeCells,
     entry: &Entry,
+    cursor: &mut Option<Cursor>,
     group: u64,
     version: Version,
 ) -> Result<Went, StoreFault>
     requires well { (list : Listing) × (front : List EntryOf) × (files : Files)
         × HasEntry front entry.now (now_of list files space.old cells.old (M.pages pages.old)) }
+    requires ahead { IsAhead (M.pages pages.old) cursor.old }
+    ensures ahead { IsAhead (M.pages pages.new) cursor.new }
     ensures ok { (list : Listing) (front : List EntryOf) (files : Files)
         → HasEntry front entry.now (now_of list files space.old cells.old (M.pages pages.old))
         → IfOk result (λ went. Leaves group version (now_of list files space.old cells.old
@@ -154,7 +172,8 @@ pub(crate) fn release_entry<M: MetaPages>(
     ensures before { M.before pages.new ≡ M.before pages.old }
 {
     if is_of_quotas(pages, &entry.at) {
+        *cursor = None;
         return Ok(release_quotas(alloc, pages, cells, entry)?);
     }
-    release_file(alloc, pages, space, cells, entry, group, version)
+    release_file(alloc, pages, space, cells, entry, cursor, group, version)
 }

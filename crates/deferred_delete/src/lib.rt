@@ -1,6 +1,7 @@
 //! Files, pages of files and tag directories that are let go of little by little.
 #![tactic(auto)]
 
+mod cursor;
 mod ending;
 mod entries;
 mod list;

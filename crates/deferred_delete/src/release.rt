@@ -3,6 +3,7 @@ ghost use Rattle.std.specs.Prelude.{◌≡◌, ◌≤◌, ◌+◌, ◌↔◌, []
 ghost use Rattle.domain_base.specs.declared.place.Home.{Home as HomeOf};
 ghost use Rattle.free_space.specs.Spaces.{IsHeld};
 ghost use Rattle.deferred_delete.specs.declared.list.Entry.{Entry as EntryOf};
+ghost use Rattle.deferred_delete.specs.Cursors.{IsAhead};
 ghost use Rattle.deferred_delete.specs.Listing.{IsEmpty};
 ghost use Rattle.page_store.specs.declared.fault.StoreFault.TheVariants.{NoPage};
 ghost use Rattle.bitfile_cells.specs.Allocated.{FindsNone};
@@ -10,6 +11,7 @@ ghost use Rattle.bitfile_cells.specs.MapChanges.{ChangesAtMost};
 ghost use Rattle.deferred_delete.specs.Standing.{Files};
 ghost use Rattle.deferred_delete.specs.Steps.{IsLast, IsWell, LacksRoom, Leaves, LetsGo, TakesTagPage, list_after, now_of, step_pages as pages_of_step};
 
+use crate::cursor::Cursor;
 use crate::entries::release_entry;
 use crate::list::{Deferred, Entry, forget};
 use crate::went::Went;
@@ -97,11 +99,14 @@ impl Deferred {
         pages: &mut M,
         space: &mut FreeSpace,
         cells: &mut FreeCells,
+        cursor: &mut Option<Cursor>,
         group: u64,
         version: Version,
     ) -> Result<bool, StoreFault>
         requires well { (files : Files) × IsWell (now_of self.old files space.old cells.old
             (M.pages pages.old)) }
+        requires ahead { IsAhead (M.pages pages.old) cursor.old }
+        ensures ahead { IsAhead (M.pages pages.new) cursor.new }
         ensures ok { (files : Files) → IsWell (now_of self.old files space.old cells.old
             (M.pages pages.old)) → IfOk result (λ some. some ≡ true → Leaves group version
             (now_of self.old files space.old cells.old (M.pages pages.old)) self.new space.new
@@ -123,10 +128,11 @@ impl Deferred {
     {
         let count = self.entries.len();
         if count == 0 {
+            *cursor = None;
             return Ok(self.give_tag_page(pages, space, group));
         }
         let entry = self.entries[count - 1];
-        match release_entry(alloc, pages, space, cells, &entry, group, version) {
+        match release_entry(alloc, pages, space, cells, &entry, cursor, group, version) {
             Ok(went) => {
                 self.leave(went);
                 Ok(true)
@@ -185,12 +191,13 @@ impl Deferred {
     {
         let mut count = 0;
         let mut changed = 0;
+        let mut cursor = None;
         for _ in 0..STEPS {
             changed += self.step_pages();
             if PAGES < changed {
                 return Ok(count);
             }
-            match self.release_one(alloc, pages, space, cells, group, version) {
+            match self.release_one(alloc, pages, space, cells, &mut cursor, group, version) {
                 Ok(true) => count += 1,
                 Ok(false) => return Ok(count),
                 Err(fault) if count == 0 => return Err(fault),

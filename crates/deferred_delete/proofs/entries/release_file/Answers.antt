@@ -60,6 +60,7 @@ returns-in-Ok-Pages g c = record {
   full = λ list front files has. tt;
   cells = tt;
   pages = tt;
+  ahead = c.cursor_at.ensures (g.M.MetaPages.pages c.release_tail.new.pages) c.in-Ok-Pages.ensures.within;
   room = c.in-Ok-Pages.ensures.room;
   before = c.in-Ok-Pages.ensures.before;
 }
@@ -76,6 +77,7 @@ returns-in-Ok-Cell g c = record {
   full = λ list front files has. tt;
   cells = tt;
   pages = tt;
+  ahead = c.cursor_at-in-Ok-Cell.ensures (g.M.MetaPages.pages c.release_tail.new.pages) c.in-Ok-Cell.ensures.within;
   room = c.in-Ok-Cell.ensures.room;
   before = c.in-Ok-Cell.ensures.before;
 }

@@ -21,13 +21,14 @@ loop-init g c = (
   none_changes 0 (g.M.MetaPages.pages c.args.pages.now) (g.M.MetaPages.pages c.args.pages.now) refl,
   omega arith,
   omega arith,
+  tt,
 )
 
 pub release_one-requires : goal.release_one-requires
 release_one-requires g c =
     let w = c.requires.well in
     let leads = c.loop.invariant.0 w.0 w.1 in
-    record { well = (leads.files, leads.well) }
+    record { well = (leads.files, leads.well); ahead = c.loop.invariant.10 }
 
 pub returns-in-Err-2-clause-ok : goal.returns-in-Err-2-clause-ok
 returns-in-Err-2-clause-ok g c = λ files well.
@@ -61,6 +62,7 @@ loop-preserved g c =
           c.loop.changed (e.ok leads.files leads.well c.in-Ok-true.field-0-test) c.loop.invariant.7),
       omega (arith, c.if-changed-gt-PAGES.false),
       (let five = at_most_five c.loop.self in omega (arith, c.loop.invariant.9, c.step_pages-changed.ensures, five)),
+      e.ahead,
     )
 
 pub returns-in-Ok-false-clause-few : goal.returns-in-Ok-false-clause-few

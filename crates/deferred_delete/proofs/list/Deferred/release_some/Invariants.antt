@@ -1,5 +1,6 @@
 use Rattle.std.proofs.Common.{◌≡◌, ◌+◌, ◌*◌, ◌≤◌}
 use Rattle.bitfile_cells.specs.MapChanges.{ChangesAtMost}
+use Rattle.deferred_delete.specs.Cursors.{IsAhead}
 use Rattle.deferred_delete.specs.Listing.{IsEmpty}
 use Rattle.deferred_delete.specs.Standing.{Files}
 use Rattle.deferred_delete.specs.Steps.{IsWell, LeadsTo, now_of}
@@ -13,4 +14,4 @@ invariant-loop g l =
     × (g.M.MetaPages.room l.fn.pages ≤ g.M.MetaPages.room l.pages + l.counter)
     × (g.M.MetaPages.before l.pages ≡ g.M.MetaPages.before l.fn.pages)
     × ChangesAtMost l.changed (g.M.MetaPages.pages l.fn.pages) (g.M.MetaPages.pages l.pages)
-    × (l.changed ≤ 30) × (l.changed ≤ 5 * l.counter)
+    × (l.changed ≤ 30) × (l.changed ≤ 5 * l.counter) × IsAhead (g.M.MetaPages.pages l.pages) l.cursor
