@@ -7,7 +7,7 @@ use domain_base::CellAt;
 
 /// A cell of a file's chain behind which the next step looks first for something that goes.
 #[derive(Clone, Copy)]
-pub(crate) struct Cursor {
+pub struct Cursor {
     pub file: CellAt,
     pub at: CellAt,
 }

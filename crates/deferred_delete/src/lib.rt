@@ -2,6 +2,7 @@
 #![tactic(auto)]
 
 mod cursor;
+mod deferred;
 mod ending;
 mod entries;
 mod list;
@@ -10,4 +11,5 @@ mod quotas;
 mod release;
 mod went;
 
-pub use list::{Deferred, Entry};
+pub use deferred::Deferred;
+pub use list::Entry;

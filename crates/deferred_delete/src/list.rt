@@ -20,12 +20,12 @@ pub struct Entry {
 /// Files of which pages behind those that they keep, or all, are to be let go of, and pages of tag
 /// directories that were removed.
 #[derive(Drop)]
-pub struct Deferred {
+pub(crate) struct Queue {
     pub(crate) entries: Vec<Entry>,
     pub(crate) tag_pages: Vec<Home>,
 }
 
-impl Model for Deferred {
+impl Model for Queue {
     ghost use Rattle.deferred_delete.specs.Listing.{Listing};
 
     ghost Value = { Listing };
@@ -88,13 +88,13 @@ fn put_behind(entries: &mut Vec<Entry>, place: usize, clone: &Option<CellAt>)
     }
 }
 
-impl Deferred {
+impl Queue {
     /// Nothing is to be let go of.
-    pub fn new(alloc: Global) -> Deferred
+    pub(crate) fn new(alloc: Global) -> Queue
         ensures entries { result.entries ≡ [] }
         ensures tag_pages { result.tag_pages ≡ [] }
     {
-        Deferred {
+        Queue {
             entries: Vec::new(alloc),
             tag_pages: Vec::new(alloc),
         }
@@ -131,7 +131,7 @@ impl Deferred {
     ///
     /// What goes of a file is what its first cell says then: so a file that is to be trimmed and is
     /// taken out of use goes as a whole, listed again or not. The steps want one that says something.
-    pub fn add(&mut self, at: CellAt, clone: Option<CellAt>) -> Result<(), OutOfMemory>
+    pub(crate) fn add(&mut self, at: CellAt, clone: Option<CellAt>) -> Result<(), OutOfMemory>
         ensures ok { OnOk result (Adds at clone self.old.entries self.new.entries) }
         ensures tag_pages { self.new.tag_pages ≡ self.old.tag_pages }
         ensures err { OnErr result (self.new ≡ self.old) }
@@ -146,7 +146,7 @@ impl Deferred {
     /// Adds the page of a tag directory that was removed, of which no tag is in use any more. The
     /// pages of a directory are added in their chain's order, so that the last one is given back
     /// first, and then the one in front of it leads to none. After an error nothing has changed.
-    pub fn add_tag_page(&mut self, home: Home) -> Result<(), OutOfMemory>
+    pub(crate) fn add_tag_page(&mut self, home: Home) -> Result<(), OutOfMemory>
         ensures ok { OnOk result (self.new.tag_pages ≡ self.old.tag_pages ++ home ∷ []) }
         ensures entries { self.new.entries ≡ self.old.entries }
         ensures err { OnErr result (self.new ≡ self.old) }
@@ -157,7 +157,7 @@ impl Deferred {
 
     /// The entry of whose file something is let go of next: the last one. None where no file is on
     /// the list.
-    pub fn last(&self) -> Option<Entry>
+    pub(crate) fn last(&self) -> Option<Entry>
         ensures { result ≡ slice_get self.now.entries (length self.now.entries - 1) }
     {
         self.entries.last().copied()
@@ -165,14 +165,14 @@ impl Deferred {
 
     /// The page of a tag directory that is given back next, once no file is on the list: the last
     /// one. None where no such page is.
-    pub fn last_tag_page(&self) -> Option<Home>
+    pub(crate) fn last_tag_page(&self) -> Option<Home>
         ensures { result ≡ slice_get self.now.tag_pages (length self.now.tag_pages - 1) }
     {
         self.tag_pages.last().copied()
     }
 
     /// Whether nothing is to be let go of.
-    pub fn is_empty(&self) -> bool
+    pub(crate) fn is_empty(&self) -> bool
         ensures none { result ≡ true → (self.now.entries ≡ []) × (self.now.tag_pages ≡ []) }
         ensures some { result ≡ false → (self.now.entries ≡ []) → ¬ self.now.tag_pages ≡ [] }
     {

@@ -13,7 +13,7 @@ ghost use Rattle.deferred_delete.specs.Steps.{IsLast, IsWell, LacksRoom, Leaves,
 
 use crate::cursor::Cursor;
 use crate::entries::release_entry;
-use crate::list::{Deferred, Entry, forget};
+use crate::list::{Entry, Queue, forget};
 use crate::went::Went;
 use domain_base::Version;
 use free_cells::FreeCells;
@@ -28,7 +28,7 @@ const STEPS: u32 = 16;
 /// How many pages of metadata they change at most, beside those of bitmaps.
 const PAGES: u32 = 30;
 
-impl Deferred {
+impl Queue {
     /// Takes off the last entry what went of it, and off the others a clone of which nothing is
     /// left.
     fn leave(&mut self, went: Went)
@@ -141,36 +141,22 @@ impl Deferred {
         }
     }
 
-    /// Lets go of things of the list, one after the other, at most sixteen: in each step a cell
-    /// with the last pages that it names, or a tail of the pages of one cell, or one page that is
-    /// handed over to the clone's file that reads it; the second of some quota cells; a trim's
-    /// Pending record, with which all pages are kept again; a clone's reading through a file that
-    /// goes; the last cell of a removed file or of quotas; or a page of a tag directory, to which the
-    /// page in front of it leads no more. It answers how many steps were done, 0 exactly where the
-    /// list is empty. What no file has any more waits for the group. At most 30 pages of metadata
-    /// change, beside those of bitmaps, which the caller keeps: it stops in front of a step with which
-    /// there might be more, which has two pages, or five where the entry gives a clone.
-    ///
-    /// Where a step cannot be done, those in front of it are answered, if there is one, and the
-    /// next call says why. So at an Err nothing but room and the count of misses has changed.
-    /// NoPage comes only where the last entry's clone reads a page through its file for which there
-    /// is no room; that is a miss.
-    ///
-    /// Each step looks for a cell that has something to let go of from the chain's first one on. A
-    /// file that goes is let go of from its second cell on, so that a step looks at two cells; a
-    /// trim passes the cells that it keeps in each step, so that with k cells kept and m let go of
-    /// it looks at k * m cells in all.
-    pub fn release_some<M: MetaPages>(
+    /// Lets go of things of the list, one after the other, at most sixteen, and begins behind the
+    /// cursor's cell; the cursor is then where the next step goes on.
+    pub(crate) fn release_some<M: MetaPages>(
         &mut self,
         alloc: Global,
         pages: &mut M,
         space: &mut FreeSpace,
         cells: &mut FreeCells,
+        cursor: &mut Option<Cursor>,
         group: u64,
         version: Version,
     ) -> Result<u32, StoreFault>
         requires well { (files : Files) × IsWell (now_of self.old files space.old cells.old
             (M.pages pages.old)) }
+        requires ahead { IsAhead (M.pages pages.old) cursor.old }
+        ensures ahead { IsAhead (M.pages pages.new) cursor.new }
         ensures ok { (files : Files) → IsWell (now_of self.old files space.old cells.old
             (M.pages pages.old)) → IfOk result (λ count. LetsGo group version
             (now_of self.old files space.old cells.old (M.pages pages.old)) count self.new space.new
@@ -191,13 +177,12 @@ impl Deferred {
     {
         let mut count = 0;
         let mut changed = 0;
-        let mut cursor = None;
         for _ in 0..STEPS {
             changed += self.step_pages();
             if PAGES < changed {
                 return Ok(count);
             }
-            match self.release_one(alloc, pages, space, cells, &mut cursor, group, version) {
+            match self.release_one(alloc, pages, space, cells, cursor, group, version) {
                 Ok(true) => count += 1,
                 Ok(false) => return Ok(count),
                 Err(fault) if count == 0 => return Err(fault),

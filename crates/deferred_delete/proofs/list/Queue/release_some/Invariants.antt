@@ -4,7 +4,7 @@ use Rattle.deferred_delete.specs.Cursors.{IsAhead}
 use Rattle.deferred_delete.specs.Listing.{IsEmpty}
 use Rattle.deferred_delete.specs.Standing.{Files}
 use Rattle.deferred_delete.specs.Steps.{IsWell, LeadsTo, now_of}
-use Rattle.deferred_delete.proofs.list.Deferred.release_some.Given as goal
+use Rattle.deferred_delete.proofs.list.Queue.release_some.Given as goal
 
 abbrev pub invariant-loop : goal.invariant-loop
 invariant-loop g l =

@@ -2,7 +2,7 @@ use Rattle.std.proofs.Common.{◌≡◌, ◌∙◌, [], length, ap, arith, sym}
 use Rattle.deferred_delete.specs.Listing.{Listing}
 use Rattle.deferred_delete.proofs.Lists.{nil_of}
 use Rattle.deferred_delete.proofs.Stepping.{tag_page_went}
-use Rattle.deferred_delete.proofs.list.Deferred.release_one.Goals as goal
+use Rattle.deferred_delete.proofs.list.Queue.release_one.Goals as goal
 
 pub returns-then-count-eq0-clause-ok : goal.returns-then-count-eq0-clause-ok
 returns-then-count-eq0-clause-ok g c = λ files well some.

@@ -1,7 +1,7 @@
 use Rattle.std.proofs.Common.{◌∙◌, ◌∷◌, ◌++◌, [], List, Contains, length, ap, arith, inr, subst, sym}
 use Rattle.deferred_delete.specs.declared.list.Entry.{Entry}
 use Rattle.deferred_delete.specs.Listing.{Listing}
-use Rattle.deferred_delete.proofs.list.Deferred.put.Goals as goal
+use Rattle.deferred_delete.proofs.list.Queue.put.Goals as goal
 
 pub returns-in_err-push-in-None-clause-there : goal.returns-in_err-push-in-None-clause-there
 returns-in_err-push-in-None-clause-there c = λ entry inside is.

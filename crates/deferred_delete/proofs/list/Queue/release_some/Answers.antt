@@ -7,7 +7,7 @@ use Rattle.bitfile_cells.specs.MapChanges.{ChangesAtMost}
 use Rattle.bitfile_cells.proofs.FewPages.{at_most, none_changes}
 use Rattle.deferred_delete.proofs.FewSteps.{at_most_five, call_changes}
 use Rattle.deferred_delete.proofs.Loops.{leads_more, leads_none, stops}
-use Rattle.deferred_delete.proofs.list.Deferred.release_some.Goals as goal
+use Rattle.deferred_delete.proofs.list.Queue.release_some.Goals as goal
 
 pub loop-init : goal.loop-init
 loop-init g c = (
@@ -21,7 +21,7 @@ loop-init g c = (
   none_changes 0 (g.M.MetaPages.pages c.args.pages.now) (g.M.MetaPages.pages c.args.pages.now) refl,
   omega arith,
   omega arith,
-  tt,
+  c.requires.ahead,
 )
 
 pub release_one-requires : goal.release_one-requires

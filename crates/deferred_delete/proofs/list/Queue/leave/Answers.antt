@@ -3,7 +3,7 @@ use Rattle.deferred_delete.specs.declared.list.Entry.{Entry}
 use Rattle.deferred_delete.specs.Listing.{Listing}
 use Rattle.deferred_delete.specs.Steps.{list_after}
 use Rattle.deferred_delete.proofs.Lists.{get_last, longer, set_last}
-use Rattle.deferred_delete.proofs.list.Deferred.leave.Goals as goal
+use Rattle.deferred_delete.proofs.list.Queue.leave.Goals as goal
 
 abbrev alone : Entry → Entry
 alone entry = record entry { clone = None }

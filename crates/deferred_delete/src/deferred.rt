@@ -1,0 +1,175 @@
+//! The list of what is to be let go of, and where it is gone on with.
+ghost use Rattle.std.specs.Prelude.{◌≡◌, ◌≤◌, ◌+◌, ◌-◌, ◌∷◌, ◌++◌, ◌↔◌, [], Contains, IfErr, IfOk, IsOk, None, Ok, OnErr, OnOk, false, length, slice_get, true};
+ghost use Rattle.page_store.specs.declared.fault.StoreFault.TheVariants.{NoPage};
+ghost use Rattle.bitfile_cells.specs.Allocated.{FindsNone};
+ghost use Rattle.bitfile_cells.specs.MapChanges.{ChangesAtMost};
+ghost use Rattle.deferred_delete.specs.declared.list.Entry.{Entry as EntryOf};
+ghost use Rattle.deferred_delete.specs.Cursors.{Deferral, IsAhead};
+ghost use Rattle.deferred_delete.specs.Listing.{Adds, IsEmpty};
+ghost use Rattle.deferred_delete.specs.Standing.{Files};
+ghost use Rattle.deferred_delete.specs.Steps.{IsWell, LacksRoom, LetsGo, now_of};
+
+use crate::cursor::Cursor;
+use crate::list::{Entry, Queue};
+use domain_base::{CellAt, Home, OutOfMemory, Version};
+use free_cells::FreeCells;
+use free_space::FreeSpace;
+use page_store::{MetaPages, StoreFault};
+use std::alloc::Global;
+use std::marker::Model;
+
+/// Files of which pages behind those that they keep, or all, are to be let go of, and pages of tag
+/// directories that were removed; and where the next step goes on.
+#[derive(Drop)]
+pub struct Deferred {
+    queue: Queue,
+    cursor: Option<Cursor>,
+}
+
+impl Model for Deferred {
+    ghost use Rattle.deferred_delete.specs.Cursors.{Deferral};
+
+    ghost Value = { Deferral };
+
+    ghost view = { λ d. record { list = d.queue; cursor = d.cursor } };
+}
+
+impl Deferred {
+    /// Nothing is to be let go of.
+    pub fn new(alloc: Global) -> Deferred
+        ensures entries { result.list.entries ≡ [] }
+        ensures tag_pages { result.list.tag_pages ≡ [] }
+        ensures cursor { result.cursor ≡ None }
+    {
+        Deferred {
+            queue: Queue::new(alloc),
+            cursor: None,
+        }
+    }
+
+    /// Forgets where the next step would go on: it looks from a file's first cell on then. So it is
+    /// where something else may have taken a cell out of the file's chain.
+    pub fn start_over(&mut self)
+        ensures list { self.new.list ≡ self.old.list }
+        ensures cursor { self.new.cursor ≡ None }
+    {
+        self.cursor = None;
+    }
+
+    /// Adds the file that begins at a cell, with the clone's file that reads through it, or the first
+    /// quota cell of a fileset that was removed. Where it is there already, its clone is set anew, and
+    /// that takes no memory. Where the clone's file stands on the list in front of it, the two change
+    /// places, so that the clone's goes first. After an error nothing has changed.
+    ///
+    /// What goes of a file is what its first cell says then: so a file that is to be trimmed and is
+    /// taken out of use goes as a whole, listed again or not. The steps want one that says something.
+    pub fn add(&mut self, at: CellAt, clone: Option<CellAt>) -> Result<(), OutOfMemory>
+        ensures ok { OnOk result (Adds at clone self.old.list.entries self.new.list.entries) }
+        ensures tag_pages { self.new.list.tag_pages ≡ self.old.list.tag_pages }
+        ensures err { OnErr result (self.new ≡ self.old) }
+        ensures there { (entry : EntryOf) → Contains self.old.list.entries entry → entry.at ≡ at
+            → IsOk result }
+        ensures cursor { self.new.cursor ≡ self.old.cursor }
+    {
+        self.queue.add(at, clone)
+    }
+
+    /// Adds the page of a tag directory that was removed, of which no tag is in use any more. The
+    /// pages of a directory are added in their chain's order, so that the last one is given back
+    /// first, and then the one in front of it leads to none. After an error nothing has changed.
+    pub fn add_tag_page(&mut self, home: Home) -> Result<(), OutOfMemory>
+        ensures ok { OnOk result (self.new.list.tag_pages ≡ self.old.list.tag_pages ++ home ∷ []) }
+        ensures entries { self.new.list.entries ≡ self.old.list.entries }
+        ensures err { OnErr result (self.new ≡ self.old) }
+        ensures cursor { self.new.cursor ≡ self.old.cursor }
+    {
+        self.queue.add_tag_page(home)
+    }
+
+    /// The entry of whose file something is let go of next: the last one. None where no file is on
+    /// the list.
+    pub fn last(&self) -> Option<Entry>
+        ensures { result ≡ slice_get self.now.list.entries (length self.now.list.entries - 1) }
+    {
+        self.queue.last()
+    }
+
+    /// The page of a tag directory that is given back next, once no file is on the list: the last
+    /// one. None where no such page is.
+    pub fn last_tag_page(&self) -> Option<Home>
+        ensures { result ≡ slice_get self.now.list.tag_pages (length self.now.list.tag_pages - 1) }
+    {
+        self.queue.last_tag_page()
+    }
+
+    /// Whether nothing is to be let go of.
+    pub fn is_empty(&self) -> bool
+        ensures none { result ≡ true → (self.now.list.entries ≡ [])
+            × (self.now.list.tag_pages ≡ []) }
+        ensures some { result ≡ false → (self.now.list.entries ≡ [])
+            → ¬ self.now.list.tag_pages ≡ [] }
+    {
+        self.queue.is_empty()
+    }
+
+    /// Lets go of things of the list, one after the other, at most sixteen: in each step a cell
+    /// with the last pages that it names, or a tail of the pages of one cell, or one page that is
+    /// handed over to the clone's file that reads it; the second of some quota cells; a trim's
+    /// Pending record, with which all pages are kept again; a clone's reading through a file that
+    /// goes; the last cell of a removed file or of quotas; or a page of a tag directory, to which the
+    /// page in front of it leads no more. It answers how many steps were done, 0 exactly where the
+    /// list is empty. What no file has any more waits for the group. At most 30 pages of metadata
+    /// change, beside those of bitmaps, which the caller keeps: it stops in front of a step with which
+    /// there might be more, which has two pages, or five where the entry gives a clone.
+    ///
+    /// Where a step cannot be done, those in front of it are answered, if there is one, and the
+    /// next call says why. So at an Err nothing but room and the count of misses has changed.
+    /// NoPage comes only where the last entry's clone reads a page through its file for which there
+    /// is no room; that is a miss.
+    ///
+    /// A step goes on behind the cell in front of that of which the step before it let something go,
+    /// in the same call or in an earlier one: so what was passed is not passed once more. Only where
+    /// nothing that goes is behind it a step looks at the cells from the first one on, and says with
+    /// that that all is gone. So with k cells kept and m let go of the steps of a trim look at about
+    /// 2 * k + m cells in all.
+    pub fn release_some<M: MetaPages>(
+        &mut self,
+        alloc: Global,
+        pages: &mut M,
+        space: &mut FreeSpace,
+        cells: &mut FreeCells,
+        group: u64,
+        version: Version,
+    ) -> Result<u32, StoreFault>
+        requires well { (files : Files) × IsWell (now_of self.old.list files space.old cells.old
+            (M.pages pages.old)) }
+        requires ahead { IsAhead (M.pages pages.old) self.old.cursor }
+        ensures ahead { IsAhead (M.pages pages.new) self.new.cursor }
+        ensures ok { (files : Files) → IsWell (now_of self.old.list files space.old cells.old
+            (M.pages pages.old)) → IfOk result (λ count. LetsGo group version
+            (now_of self.old.list files space.old cells.old (M.pages pages.old)) count self.new.list space.new
+            cells.new (M.pages pages.new)) }
+        ensures some { IfOk result (λ count. (count ≡ 0) ↔ IsEmpty self.old.list) }
+        ensures empty { IsEmpty self.old.list → result ≡ Ok 0 }
+        ensures most { IfOk result (λ count. count ≤ 16) }
+        ensures few { OnOk result (ChangesAtMost 30 (M.pages pages.old) (M.pages pages.new)) }
+        ensures err { IfErr result (FindsNone space.old space.new cells.old) }
+        ensures full { (files : Files) → IsWell (now_of self.old.list files space.old cells.old
+            (M.pages pages.old)) → IfErr result (λ fault. fault ≡ NoPage
+            → LacksRoom self.old.list files) }
+        ensures list { OnErr result (self.new ≡ self.old) }
+        ensures cells { OnErr result (cells.new ≡ cells.old) }
+        ensures pages { OnErr result (M.pages pages.new ≡ M.pages pages.old) }
+        ensures room { M.room pages.old ≤ M.room pages.new + 16 }
+        ensures before { M.before pages.new ≡ M.before pages.old }
+    {
+        let mut cursor = self.cursor;
+        let done = self
+            .queue
+            .release_some(alloc, pages, space, cells, &mut cursor, group, version);
+        if done.is_ok() {
+            self.cursor = cursor;
+        }
+        done
+    }
+}
