@@ -43,17 +43,18 @@ fn let_go(
     version: Version,
 ) -> Result<u32, Fail>
     requires { (first : FilesetNow)
-        × IsCut world.old.files.fileset version tag at.now first (parts_of world.old list.old) }
+        × IsCut world.old.files.fileset version tag at.now first (parts_of world.old list.old.list) }
     ensures fileset { world.new.files.fileset ≡ world.old.files.fileset }
     ensures went { (first : FilesetNow)
-        → IsCut world.old.files.fileset version tag at.now first (parts_of world.old list.old)
+        → IsCut world.old.files.fileset version tag at.now first (parts_of world.old list.old.list)
         → IfOk result (λ _. HasLetGo world.new.files.fileset version tag first
-        (parts_of world.new list.new)) }
+        (parts_of world.new list.new.list)) }
 {
     if !is_trimmed(world, at) {
         return Err(Fail::from("a file that was cut"));
     }
     list.add(*at, None)?;
+    list.start_over();
     Ok(list.release_some(
         alloc,
         &mut world.pages,
@@ -78,12 +79,12 @@ pub fn write_again(
 ) -> Result<(Tag, CellAt, u32), Fail>
     requires { (files : Files) × (chains : Chains) × HasNoClone files
         × StandsWell world.old.files.fileset
-        (fileset_in (parts_of world.old list.old) files chains) }
+        (fileset_in (parts_of world.old list.old.list) files chains) }
     ensures { (files : Files) (chains : Chains) → HasNoClone files
         → StandsWell world.old.files.fileset
-        (fileset_in (parts_of world.old list.old) files chains)
+        (fileset_in (parts_of world.old list.old.list) files chains)
         → IfOk result (λ done. IsWrittenAgain world.new.files.fileset version done.0
-        (fileset_in (parts_of world.old list.old) files chains) (parts_of world.new list.new)) }
+        (fileset_in (parts_of world.old list.old.list) files chains) (parts_of world.new list.new.list)) }
 {
     let tag = make(alloc, world, Kind::File, version)?;
     give_pages(alloc, world, tag, &[0, 1, 2, 3, 4, 5], version)?;

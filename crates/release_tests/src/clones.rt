@@ -100,7 +100,7 @@ fn unlisted_pair(
     frozen: u32,
 ) -> Result<Deferred, Fail>
     requires { HasTwo world.old pair.now }
-    ensures { IfOk result (HasPair world.new pair.now) }
+    ensures { IfOk result (λ list. HasPair world.new pair.now list.list) }
 {
     if !may_go(world, &pair.clone) || !may_go(world, &pair.at) {
         return Err(Fail::from("two files that go and are of no clone"));
@@ -121,8 +121,8 @@ enum Listed {
 
 /// Puts a clone's file on a list, if it is to be there.
 fn list_second(world: &World, list: &mut Deferred, pair: &Pair, is_listed: bool) -> Result<(), Fail>
-    requires { HasPair world.now pair.now list.old }
-    ensures { IfOk result (λ _. HasPair world.now pair.now list.new) }
+    requires { HasPair world.now pair.now list.old.list }
+    ensures { IfOk result (λ _. HasPair world.now pair.now list.new.list) }
 {
     if is_listed {
         list.add(pair.clone, None)?;
@@ -132,8 +132,8 @@ fn list_second(world: &World, list: &mut Deferred, pair: &Pair, is_listed: bool)
 
 /// Puts the file on a list through which the clone's reads.
 fn list_first(world: &World, list: &mut Deferred, pair: &Pair) -> Result<(), Fail>
-    requires { HasPair world.now pair.now list.old }
-    ensures { IfOk result (λ _. HasPair world.now pair.now list.new) }
+    requires { HasPair world.now pair.now list.old.list }
+    ensures { IfOk result (λ _. HasPair world.now pair.now list.new.list) }
 {
     list.add(pair.at, Some(pair.clone))?;
     Ok(())
@@ -149,7 +149,7 @@ fn listed_pair(
     listed: Listed,
 ) -> Result<Deferred, Fail>
     requires { HasTwo world.old pair.now }
-    ensures { IfOk result (HasWell world.new) }
+    ensures { IfOk result (λ list. HasWell world.new list.list) }
 {
     let mut list = unlisted_pair(alloc, world, pair, frozen)?;
     list_second(world, &mut list, pair, listed == Listed::SecondThenFirst)?;
@@ -162,7 +162,7 @@ fn listed_pair(
 /// which is taken for it.
 fn listed_unrelated(alloc: Global, world: &mut World, pair: &Pair) -> Result<Deferred, Fail>
     requires { HasTwo world.old pair.now }
-    ensures { IfOk result (HasWell world.new) }
+    ensures { IfOk result (λ list. HasWell world.new list.list) }
 {
     if !may_go(world, &pair.at) || !may_go(world, &pair.clone) {
         return Err(Fail::from("two files that go and are of no clone"));
@@ -331,7 +331,7 @@ pub fn listed_beside(
 ) -> Result<(World, Deferred), Fail>
     requires extents { extents ≤ 1000 }
     requires own { own ≤ 1000 }
-    ensures { IfOk result (λ made. HasWell made.0 made.1) }
+    ensures { IfOk result (λ made. HasWell made.0 made.1.list) }
 {
     let mut world = new_world(alloc, 4_096)?;
     let file = make(alloc, &mut world, Kind::File, Version::Four)?;

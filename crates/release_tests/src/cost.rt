@@ -6,7 +6,7 @@ ghost use Rattle.release_tests.specs.Going.{HasWell, HasWellBy};
 use crate::clones::listed_beside;
 use crate::going::{listed, release_by};
 use crate::looks::Counted;
-use crate::making::{cut, give_pages, make, remove, second_pages, second_pages_down};
+use crate::making::{cut, give_pages, make, mixed_pages, remove, second_pages, second_pages_down};
 use deferred_delete::Deferred;
 use domain_base::{Kind, Tag, Version};
 use file_tests::world::{World, new_world};
@@ -16,7 +16,7 @@ use page_store::{MetaPages, StoreFault};
 use std::alloc::Global;
 use std::test::Fail;
 
-/// Lets go of all on a list in at most forty calls: how many steps were done.
+/// Lets go of all on a list in at most sixty calls: how many steps were done.
 fn release_counted(
     alloc: Global,
     pages: &mut Counted,
@@ -24,10 +24,11 @@ fn release_counted(
     cells: &mut FreeCells,
     list: &mut Deferred,
 ) -> Result<u32, StoreFault>
-    requires { HasWellBy (⟦<Counted as MetaPages>⟧.pages pages.old) space.old cells.old list.old }
+    requires { HasWellBy (⟦<Counted as MetaPages>⟧.pages pages.old) space.old cells.old list.old.list }
 {
+    list.start_over();
     let mut steps = 0;
-    for _ in 0..40_u32 {
+    for _ in 0..60_u32 {
         match release_by(alloc, pages, space, cells, list, Version::Four) {
             Ok(count) => steps += count,
             Err(fault) => return Err(fault),
@@ -72,7 +73,7 @@ impl Cost {
 
 /// What letting go of a listed file takes.
 fn cost_of(alloc: Global, world: World, mut list: Deferred) -> Result<Cost, Fail>
-    requires { HasWell world list }
+    requires { HasWell world list.list }
 {
     let World {
         pages,
@@ -137,6 +138,15 @@ pub fn trimmed_down(alloc: Global, extents: u32, left: u32) -> Result<Cost, Fail
 {
     let pages = second_pages_down(alloc, extents)?;
     trimmed(alloc, pages.as_slice(), left)
+}
+
+/// The same of so many extents in front of page 20,000 and as many behind it, of which the one and
+/// the other were given by turns; those behind it go.
+pub fn trimmed_mixed(alloc: Global, extents: u32) -> Result<Cost, Fail>
+    requires { extents ≤ 1000 }
+{
+    let pages = mixed_pages(alloc, extents)?;
+    trimmed(alloc, pages.as_slice(), 20_000)
 }
 
 /// What it takes to let go of a removed file of so many extents beside a clone's file with so many

@@ -4,6 +4,7 @@ ghost use Rattle.memory_store.specs.Homes.{pages_of};
 ghost use Rattle.bmt_mcells.specs.Chain.{PlacedCell};
 ghost use Rattle.bitfile_cells.specs.Files.{IsFile};
 ghost use Rattle.bitfile_core.specs.Files.{first_record};
+ghost use Rattle.deferred_delete.specs.Cursors.{IsAhead};
 ghost use Rattle.deferred_delete.specs.Standing.{source_of};
 ghost use Rattle.file_tests.specs.Worlds.{IsWorld};
 ghost use Rattle.release_tests.specs.Going.{HasGoing, HasWell, HasWellBy};
@@ -56,7 +57,7 @@ pub fn may_go(world: &World, at: &CellAt) -> bool
 /// A list of this file alone.
 pub fn listed(alloc: Global, world: &World, at: &CellAt) -> Result<Deferred, Fail>
     requires { HasGoing world.now at.now }
-    ensures { IfOk result (HasWell world.now) }
+    ensures { IfOk result (λ list. HasWell world.now list.list) }
 {
     if !may_go(world, at) {
         return Err(Fail::from("a file that goes, of no clone"));
@@ -69,7 +70,7 @@ pub fn listed(alloc: Global, world: &World, at: &CellAt) -> Result<Deferred, Fai
 /// A list of a page of a tag directory, which is taken for it.
 pub fn listed_page(alloc: Global, world: &mut World) -> Result<Deferred, Fail>
     requires { IsWorld world.old }
-    ensures { IfOk result (HasWell world.new) }
+    ensures { IfOk result (λ list. HasWell world.new list.list) }
 {
     let Some(home) = world.space.allocate(volume()) else {
         return Err(Fail::from("a free page"));
@@ -88,24 +89,27 @@ pub fn release_by<M: MetaPages>(
     list: &mut Deferred,
     version: Version,
 ) -> Result<u32, StoreFault>
-    requires { HasWellBy (M.pages pages.old) space.old cells.old list.old }
+    requires well { HasWellBy (M.pages pages.old) space.old cells.old list.old.list }
+    requires ahead { IsAhead (M.pages pages.old) list.old.cursor }
+    ensures ahead { IsAhead (M.pages pages.new) list.new.cursor }
     ensures most { IfOk result (λ count. count ≤ 16) }
-    ensures well { HasWellBy (M.pages pages.new) space.new cells.new list.new }
+    ensures well { HasWellBy (M.pages pages.new) space.new cells.new list.new.list }
 {
     list.release_some(alloc, pages, space, cells, 5, version)
 }
 
-/// The same of a world.
+/// The same of a world, in which the first step looks from a file's first cell on.
 pub fn release(
     alloc: Global,
     world: &mut World,
     list: &mut Deferred,
     version: Version,
 ) -> Result<u32, StoreFault>
-    requires { HasWell world.old list.old }
+    requires { HasWell world.old list.old.list }
     ensures most { IfOk result (λ count. count ≤ 16) }
-    ensures well { HasWell world.new list.new }
+    ensures well { HasWell world.new list.new.list }
 {
+    list.start_over();
     release_by(
         alloc,
         &mut world.pages,
@@ -123,8 +127,8 @@ pub fn release_all(
     list: &mut Deferred,
     version: Version,
 ) -> Result<u32, StoreFault>
-    requires { HasWell world.old list.old }
-    ensures { HasWell world.new list.new }
+    requires { HasWell world.old list.old.list }
+    ensures { HasWell world.new list.new.list }
 {
     let mut steps = 0;
     for _ in 0..20_u32 {

@@ -136,6 +136,18 @@ pub fn second_pages_down(alloc: Global, count: u32) -> Result<Vec<u32>, Fail>
     Ok(pages)
 }
 
+/// Every second page, so many, and as many from page 40,000 on, by turns.
+pub fn mixed_pages(alloc: Global, count: u32) -> Result<Vec<u32>, Fail>
+    requires { count ≤ 1000 }
+{
+    let mut pages = Vec::new(alloc);
+    for page in 0..count {
+        pages.push(2 * page)?;
+        pages.push(40_000 + 2 * page)?;
+    }
+    Ok(pages)
+}
+
 /// Sets the size of a file: its first cell, where something is left to be done then.
 pub fn cut(alloc: Global, world: &mut World, tag: Tag, size: u64) -> Result<Option<CellAt>, Fail>
     requires { IsWorld world.old }

@@ -18,7 +18,7 @@ use std::test::Fail;
 fn new_scene(alloc: Global, count: u32) -> Result<(World, Deferred), Fail>
     requires low { 3 ≤ count }
     requires high { count ≤ 1000 }
-    ensures { IfOk result (λ scene. HasStood scene.0 scene.1) }
+    ensures { IfOk result (λ scene. HasStood scene.0 scene.1.list) }
 {
     let world = new_world(alloc, count)?;
     Ok((world, Deferred::new(alloc)))
@@ -32,8 +32,8 @@ fn make_with(
     kind: Kind,
     pages: &[u32],
 ) -> Result<Tag, Fail>
-    requires { HasStood world.old list.now }
-    ensures { IfOk result (λ _. HasStood world.new list.now) }
+    requires { HasStood world.old list.now.list }
+    ensures { IfOk result (λ _. HasStood world.new list.now.list) }
 {
     let tag = make(alloc, world, kind, Version::Four)?;
     give_pages(alloc, world, tag, pages, Version::Four)?;
@@ -48,8 +48,8 @@ fn cut_listed(
     tag: Tag,
     size: u64,
 ) -> Result<(), Fail>
-    requires { HasStood world.old list.old }
-    ensures { IfOk result (λ _. HasStood world.new list.new) }
+    requires { HasStood world.old list.old.list }
+    ensures { IfOk result (λ _. HasStood world.new list.new.list) }
 {
     let at = cut(alloc, world, tag, size)?.ok_or("a trim")?;
     if !is_trimmed(world, &at) {
@@ -61,8 +61,8 @@ fn cut_listed(
 
 /// Takes a tag out of use, and lists what it named: whether one was in use.
 fn take_out(alloc: Global, world: &mut World, list: &mut Deferred) -> Result<bool, Fail>
-    requires { HasStood world.old list.old }
-    ensures { IfOk result (λ _. HasStood world.new list.new) }
+    requires { HasStood world.old list.old.list }
+    ensures { IfOk result (λ _. HasStood world.new list.new.list) }
 {
     let Some(tag) = world.files.tag_on(&world.pages, 0) else {
         return Ok(false);
@@ -77,9 +77,10 @@ fn take_out(alloc: Global, world: &mut World, list: &mut Deferred) -> Result<boo
 
 /// Lets go of things of a list with group 5, in one call: how many steps were done.
 fn release_some(alloc: Global, world: &mut World, list: &mut Deferred) -> Result<u32, Fail>
-    requires { HasStood world.old list.old }
-    ensures { IfOk result (λ _. HasStood world.new list.new) }
+    requires { HasStood world.old list.old.list }
+    ensures { IfOk result (λ _. HasStood world.new list.new.list) }
 {
+    list.start_over();
     Ok(list.release_some(
         alloc,
         &mut world.pages,
@@ -92,8 +93,8 @@ fn release_some(alloc: Global, world: &mut World, list: &mut Deferred) -> Result
 
 /// Lists the one page of the tag directory.
 fn list_tag_page(world: &World, list: &mut Deferred) -> Result<(), Fail>
-    requires { HasStood world.now list.old }
-    ensures { IfOk result (λ _. HasWell world.now list.new) }
+    requires { HasStood world.now list.old.list }
+    ensures { IfOk result (λ _. HasWell world.now list.new.list) }
 {
     let places = world.files.tag_places();
     if places.len() != 1 {
@@ -113,7 +114,7 @@ pub enum Leads {
 
 /// Where the tag of a slot leads.
 fn lead_of(world: &World, list: &Deferred, slot: u32) -> Leads
-    requires { HasStood world.now list.now }
+    requires { HasStood world.now list.now.list }
 {
     match world.files.live_cell(&world.pages, Tag { slot, seq: 1 }) {
         Some(at) => match find_record(&world.pages, at, 1) {
@@ -133,7 +134,7 @@ pub struct Seen {
 
 /// What is seen.
 fn look(world: &World, list: &Deferred) -> Seen
-    requires { HasStood world.now list.now }
+    requires { HasStood world.now list.now.list }
 {
     Seen {
         leads: [
@@ -149,7 +150,7 @@ fn look(world: &World, list: &Deferred) -> Seen
 /// A fileset of a file of six pages, one of six that is cut to two, of which the others are on the
 /// list, and a directory of three pages.
 fn three_files(alloc: Global) -> Result<(World, Deferred), Fail>
-    ensures { IfOk result (λ scene. HasStood scene.0 scene.1) }
+    ensures { IfOk result (λ scene. HasStood scene.0 scene.1.list) }
 {
     let (mut world, mut list) = new_scene(alloc, 64)?;
     make_with(alloc, &mut world, &list, Kind::File, &[0, 1, 2, 3, 4, 5])?;
@@ -162,8 +163,8 @@ fn three_files(alloc: Global) -> Result<(World, Deferred), Fail>
 /// Takes up to so many tags out of use, and then lets go of things in one call: how many tags and
 /// steps that were.
 fn go_on(alloc: Global, world: &mut World, list: &mut Deferred, most: u32) -> Result<[u32; 2], Fail>
-    requires { HasStood world.old list.old }
-    ensures { IfOk result (λ _. HasStood world.new list.new) }
+    requires { HasStood world.old list.old.list }
+    ensures { IfOk result (λ _. HasStood world.new list.new.list) }
 {
     let mut tags = 0;
     for _ in 0..most {
@@ -178,7 +179,7 @@ fn go_on(alloc: Global, world: &mut World, list: &mut Deferred, most: u32) -> Re
 /// Lists the page of the tag directory, and lets go of all: the free and waiting pages once the
 /// group is durable, and once the log has passed it.
 fn end(alloc: Global, world: &mut World, list: &mut Deferred) -> Result<[[u32; 2]; 3], Fail>
-    requires { HasStood world.old list.old }
+    requires { HasStood world.old list.old.list }
 {
     list_tag_page(world, list)?;
     release_all(alloc, world, list, Version::Four)?;

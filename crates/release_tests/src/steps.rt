@@ -5,7 +5,7 @@ use crate::clones::{
     all_gone, all_kept, all_trimmed, both_gone, handed_frozen, handed_full, handed_in_a_trim,
     handed_many, stopped, unrelated,
 };
-use crate::cost::{removed as removed_in, removed_beside, trimmed_down, trimmed_up};
+use crate::cost::{removed as removed_in, removed_beside, trimmed_down, trimmed_mixed, trimmed_up};
 use crate::removing::{Leads, Seen, removed_fileset};
 use crate::seen::{TrimSeen, many_extents, many_removed, removed, tag_page, trim};
 use domain_base::{Kind, Version};
@@ -111,6 +111,48 @@ fn a_trim_from_behind_costs_twice_where_twice_goes(rt: HostRuntime) -> Result<()
         trimmed_down(alloc, 132, 88)?,
         trimmed_down(alloc, 220, 88)?,
         trimmed_down(alloc, 396, 88)?,
+    ];
+    let bounded = [
+        seen[1].is_at_most_twice(&seen[0]),
+        seen[2].is_at_most_twice(&seen[1]),
+        seen[3].is_at_most_twice(&seen[2]),
+    ];
+    assert_eq!(rt; bounded, [true; 3]);
+    Ok(())
+}
+
+#[test]
+fn a_trim_from_behind_costs_twice_where_twice_is_kept_and_goes(
+    rt: HostRuntime,
+) -> Result<(), Fail> {
+    let alloc = rt.alloc();
+    // the first half of 88, 176, 352 and 704 extents stays, in cells in front of those that go
+    let seen = [
+        trimmed_down(alloc, 88, 88)?,
+        trimmed_down(alloc, 176, 176)?,
+        trimmed_down(alloc, 352, 352)?,
+        trimmed_down(alloc, 704, 704)?,
+    ];
+    let bounded = [
+        seen[1].is_at_most_twice(&seen[0]),
+        seen[2].is_at_most_twice(&seen[1]),
+        seen[3].is_at_most_twice(&seen[2]),
+    ];
+    assert_eq!(rt; bounded, [true; 3]);
+    Ok(())
+}
+
+#[test]
+fn a_trim_of_cells_that_keep_a_part_costs_twice_where_twice_goes(
+    rt: HostRuntime,
+) -> Result<(), Fail> {
+    let alloc = rt.alloc();
+    // of 88, 176, 352 and 704 extents each second one goes: half of what each cell names
+    let seen = [
+        trimmed_mixed(alloc, 44)?,
+        trimmed_mixed(alloc, 88)?,
+        trimmed_mixed(alloc, 176)?,
+        trimmed_mixed(alloc, 352)?,
     ];
     let bounded = [
         seen[1].is_at_most_twice(&seen[0]),
