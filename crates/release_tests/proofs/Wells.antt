@@ -16,6 +16,7 @@ use Rattle.bitfile_core.specs.Together.{IsHeldApart}
 use Rattle.chain_release.proofs.Once.{absent_not}
 use Rattle.deferred_delete.specs.declared.list.Entry.{Entry}
 use Rattle.bitfile_core.specs.Files.{first_record}
+use Rattle.deferred_delete.specs.Cursors.{Deferral}
 use Rattle.deferred_delete.specs.Listed.{IsEntry, IsListed}
 use Rattle.deferred_delete.specs.Listing.{Adds, AreInOrder, Listing}
 use Rattle.deferred_delete.specs.Standing.{Files, IsStanding, ReadsThrough, Source, StandTogether, place_in, source_at, source_of, with_file}
@@ -213,6 +214,10 @@ module _ (space : Spaces) (cells : Cells) (pages : Pages) (home : Home) (allocat
       )
 
 -- ---- after a call, whatever it answered
+
+pub list_same : (r : Result ℕ StoreFault) (d d_now : Deferral) → OnErr r (d_now ≡ d) → OnErr r (d_now.list ≡ d.list)
+list_same (Ok count) d d_now same = tt
+list_same (Err fault) d d_now same = ap (λ (d : Deferral). d.list) same
 
 pub still_well : (group : ℕ) (version : Version) (files : Files) (list list_now : Listing) (space space_now : Spaces) (cells cells_now : Cells) (pages pages_now : Pages) (r : Result ℕ StoreFault) → IsWell (now_of list files space cells pages)
     → IfOk r (λ count. LetsGo group version (now_of list files space cells pages) count list_now space_now cells_now pages_now) → IfErr r (FindsNone space space_now cells) → OnErr r (list_now ≡ list) → OnErr r (cells_now ≡ cells) → OnErr r (pages_now ≡ pages)

@@ -8,5 +8,5 @@ returns c =
     let world = c.args.world.now in
     let pair = c.args.pair.now in (
       c.requires.0,
-      pair_listed world.space world.cells (pages_of world.pages.entries.items) pair.at pair.clone pair.at (Some pair.clone) c.args.list.now c.add.new.self c.requires.0 c.requires.1 c.requires.1.first c.in_ok-add.ensures.ok c.in_ok-add.ensures.tag_pages,
+      pair_listed world.space world.cells (pages_of world.pages.entries.items) pair.at pair.clone pair.at (Some pair.clone) c.args.list.now.list c.add.new.self.list c.requires.0 c.requires.1 c.requires.1.first c.in_ok-add.ensures.ok c.in_ok-add.ensures.tag_pages,
     )

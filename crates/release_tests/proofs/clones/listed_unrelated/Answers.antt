@@ -16,5 +16,5 @@ returns c =
     let low : 1 ≤ c.in-Some.home.vol = search rules in
     all_listed world.space world.cells (pages_of world.pages.entries.items) pair.at pair.clone r.0 r.1 two (first.alone r.0 two.file.file yes) (second.alone r.1 two.reader.file yes_too) (first.says r.0 two.file.file yes) (second.says r.1 two.reader.file yes_too)
     c.in-Some.home low c.in-Some.ensures.some
-    c.new-list.result c.add.new.self c.add-2.new.self c.add_tag_page.new.self c.new-list.ensures.entries c.new-list.ensures.tag_pages c.in_ok-add.ensures.ok c.in_ok-add.ensures.tag_pages c.in_ok-add-2.ensures.ok c.in_ok-add-2.ensures.tag_pages
+    c.new-list.result.list c.add.new.self.list c.add-2.new.self.list c.add_tag_page.new.self.list c.new-list.ensures.entries c.new-list.ensures.tag_pages c.in_ok-add.ensures.ok c.in_ok-add.ensures.tag_pages c.in_ok-add-2.ensures.ok c.in_ok-add-2.ensures.tag_pages
     c.in_ok-add_tag_page.ensures.ok c.in_ok-add_tag_page.ensures.entries c.allocate.new.self c.in-Some.ensures.taken

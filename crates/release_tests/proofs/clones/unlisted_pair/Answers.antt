@@ -23,4 +23,4 @@ returns c =
     let yes_too = c.if-not-may_go-2.false in
     pair_well world.space world.cells (pages_of world.pages.entries.items) (pages_of c.set_record.new.pages.entries.items) c.args.pair.now.at c.args.pair.now.clone r.0 r.1 two c.args.frozen c.in_ok-record.record
     (subst (λ o. IfSome o (IsCloneOf c.args.pair.now.at c.args.frozen)) c.in_ok-record.ensures.ok_part c.clone_record.ensures)
-    sets.ok sets.others sets.well_formed sets.headers (file.alone r.0 two.file.file yes_too) (file.says r.0 two.file.file yes_too) (reader.says r.1 two.reader.file yes) c.new.result c.new.ensures.entries c.new.ensures.tag_pages
+    sets.ok sets.others sets.well_formed sets.headers (file.alone r.0 two.file.file yes_too) (file.says r.0 two.file.file yes_too) (reader.says r.1 two.reader.file yes) c.new.result.list c.new.ensures.entries c.new.ensures.tag_pages

@@ -17,4 +17,4 @@ returns c =
     page_well _ world.cells pages home
     (together pages world.files.fileset world.files.tags c.requires.0 world.space world.cells home low c.requires.1 c.in-Some.ensures.some _ taken).allocated low
     (subst (λ (s : Spaces). IsHeldApart s world.cells home) (sym taken) (apart_now world.space world.cells pages home low c.requires.1.allocated c.in-Some.ensures.some))
-    c.new-list.result c.add_tag_page.new.self c.new-list.ensures.entries c.new-list.ensures.tag_pages c.in_ok-add_tag_page.ensures.ok c.in_ok-add_tag_page.ensures.entries
+    c.new-list.result.list c.add_tag_page.new.self.list c.new-list.ensures.entries c.new-list.ensures.tag_pages c.in_ok-add_tag_page.ensures.ok c.in_ok-add_tag_page.ensures.entries
