@@ -1,5 +1,5 @@
 -- That an index is that of the rows of its directory.
-use Rattle.std.proofs.Common.{◌≡◌, ◌∙◌, ◌⊎◌, inl, inr, ⊎_elim, ℕ, zero, suc, ◌+◌, ◌<◌, ◌≤◌, ◌==◌, ◌&&◌, Bool, true, false, cond, List, [], ◌∷◌, ◌++◌, length, map, count_by, Option, Some, None, IsSome, is_some, slice_get, refl, sym, ap, subst, arith, true≢false, eqb-true}
+use Rattle.std.proofs.Common.{◌≡◌, ◌∙◌, ◌⊎◌, inl, inr, ⊎_elim, ℕ, zero, suc, ◌+◌, ◌<◌, ◌≤◌, ◌==◌, ◌&&◌, Bool, true, false, cond, List, [], ◌∷◌, ◌++◌, length, map, count_by, Option, Some, None, IsSome, is_some, slice_get, refl, sym, ap, subst, arith, eqb-true}
 use Rattle.std.proofs.lemmas.Bool.{and_parts, cases_Bool, cases_lt}
 use Rattle.std.proofs.lemmas.List.{length-map}
 use Rattle.std.proofs.lemmas.Option.{slice_get_within}
@@ -166,22 +166,33 @@ module _ (pages : Pages) (frame : Frame) (table : Table) (number : ℕ) (files :
 
   -- ---- two pages at least
 
-  two_pages : 2 ≤ length rows
-  two_pages = by_home (index.seen.homes 1) refl
+  is_page : (page : ℕ) → IsSome (index.seen.homes page) → page < length rows
+  is_page page some = by_home (index.seen.homes page) refl some
     where
-      by_home : (o : Option Home) → index.seen.homes 1 ≡ o → 2 ≤ length rows
-      by_home None gone = absurd (no_wrong first (inr (refl, inr (inl (λ (some : is_some (index.seen.homes 1) ≡ true). true≢false (sym some ∙ ap is_some gone))))))
-      by_home (Some home) at =
+      by_home : (o : Option Home) → index.seen.homes page ≡ o → is_some o ≡ true → page < length rows
+      by_home None gone none = absurd cc
+      by_home (Some home) at there =
           let also = from_some_and _ (files dir) (shows.only dir index.cells index.seen index.has) in
-          let within = shows.within dir also.0 1 home also.1 (also.2.homes 1 ∙ at) in
+          let within = shows.within dir also.0 page home also.1 (also.2.homes page ∙ at) in
           by_page within (pages home) refl (each home within)
         where
-          by_page : IsWithin frame home → (o : Option (List ℕ)) → pages home ≡ o → is_some o ≡ true → 2 ≤ length rows
+          by_page : IsWithin frame home → (o : Option (List ℕ)) → pages home ≡ o → is_some o ≡ true → page < length rows
           by_page within None none some = absurd cc
           by_page within (Some bytes) there some =
-              let page = facts.page_there pages frame table number files shown good shows dir 1 home bytes
+              let found = facts.page_there pages frame table number files shown good shows dir page home bytes
               (record { cells = index.cells; seen = index.seen; has = index.has; kind = index.kind; at = at; within = within; there = there }) in
-              slice_get_within rows 1 bytes page
+              slice_get_within rows page bytes found
+
+  two_pages : 2 ≤ length rows
+  two_pages = ⊎_elim
+      (λ fewer. absurd (no_wrong first (inr (
+        refl,
+        inr (inl (λ two.
+            let one = is_page two.0 two.3 in
+            let other = is_page two.1 two.4 in
+            two.2 (omega (arith, fewer, one, other)))),
+      ))))
+      (λ least. least) (cases_lt (length rows) 2)
 
   some_page : 1 ≤ length (index_pages shown dir)
   some_page = by_length (length stored) refl

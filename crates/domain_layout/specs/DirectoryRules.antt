@@ -364,9 +364,10 @@ pub record IsWrongTotal (pages : Pages) (frame : Frame) (table : Table) (number 
       × CountsRows pages frame table number dir hash page count
       × (count_entries hash page (flat_map entries_in index) < count))
 
--- a directory has a second page
+-- a directory has more pages than one, with or without a gap
 abbrev pub HasSecondPage : SeenFile → Type 0
-HasSecondPage seen = IsSome (seen.homes 1)
+HasSecondPage seen = (first : ℕ) × (second : ℕ) × (¬ first ≡ second)
+    × IsSome (seen.homes first) × IsSome (seen.homes second)
 
 -- what is wrong with the index of a file that is there, at one of its pages
 abbrev pub IsWrongIndex : Pages → Frame → Table → ℕ → Tag → SeenFile → Home → ℕ → Home → Type 0
