@@ -400,6 +400,9 @@ fn a_page_that_is_unlinked_leads_to_none(rt: HostRuntime) -> Result<(), Fail> {
     ];
     let linked = "0:5441475000000000 1:0100000065000000";
     assert_eq!(rt; gone.as_str(), "0:5441475000000000");
-    assert_eq!(rt; others.iter().filter(|text| text.as_str() == linked).count(), 4);
+    assert_eq!(rt;
+        others.iter().filter(|text| text.as_str() == linked).count(),
+        4
+    );
     Ok(())
 }

@@ -38,8 +38,8 @@ returns-clause-went c = λ first cut.
     let new = pages_of now.pages.entries.items in
     let count = c.in_ok-release_some.field-0 in
     let went =
-        subst (λ (l : Listing). (files : Files) → IsWell (now_of l files world.space world.cells pages) → LetsGo 5 c.args.version (now_of l files world.space world.cells pages) count now.self.list now.space now.cells new) c.start_over.ensures.list
-        c.in_ok-release_some.ensures.ok in
+    subst (λ (l : Listing). (files : Files) → IsWell (now_of l files world.space world.cells pages) → LetsGo 5 c.args.version (now_of l files world.space world.cells pages) count now.self.list now.space now.cells new) c.start_over.ensures.list
+    c.in_ok-release_some.ensures.ok in
     let_go world.files.fileset c.args.version c.args.tag c.args.at.now first parts cut c.add.new.self.list adds same trim
     count now.self.list now.space now.cells new
     (went _ (well world.files.fileset c.args.version c.args.tag c.args.at.now first parts cut c.add.new.self.list adds same trim))

@@ -27,7 +27,7 @@ returns c =
     let new = pages_of now.pages.entries.items in
     let count = c.in_ok-release_some.field-0 in
     let went =
-        subst (λ (l : Listing). (files : Files) → IsWell (now_of l files world.space world.cells pages) → LetsGo 5 Four (now_of l files world.space world.cells pages) count now.self.list now.space now.cells new) c.start_over.ensures.list
-        c.in_ok-release_some.ensures.ok in
+    subst (λ (l : Listing). (files : Files) → IsWell (now_of l files world.space world.cells pages) → LetsGo 5 Four (now_of l files world.space world.cells pages) count now.self.list now.space now.cells new) c.start_over.ensures.list
+    c.in_ok-release_some.ensures.ok in
     released_stood world.files.fileset 5 Four world.files.tags (now_of c.args.list.now.list r.0 world.space world.cells pages) r.1 r.2 r.3
     count now.self.list now.space now.cells new (went r.0 r.3.well)
