@@ -14,4 +14,5 @@ mod tags;
 pub use found::{FilesetSeen, TaggedFile};
 pub use laws::slots_have_shapes;
 pub use shapes::{read_slot, read_slots};
+pub use sources::tags_of_both;
 pub use tags::used_tags;

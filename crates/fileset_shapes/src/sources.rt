@@ -30,7 +30,7 @@ pub(crate) enum FilesetSource {
 }
 
 /// The tags that two tag directories have in use, each once.
-fn tags_of_both<M: MetaPages>(
+pub fn tags_of_both<M: MetaPages>(
     alloc: Global,
     pages: &M,
     own: &TagDir,
