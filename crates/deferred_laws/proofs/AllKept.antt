@@ -23,7 +23,7 @@ use Rattle.deferred_delete.proofs.Lists.{IsIn, earlier, in_start, last_in, not_l
 use Rattle.deferred_delete.proofs.Records.{kept_kind, sourceless_other}
 use Rattle.deferred_delete.proofs.Spread.{Which, other, reading, some_same, source, which}
 use Rattle.deferred_delete.proofs.Standings.{same_or_not}
-use Rattle.deferred_laws.specs.Kept.{KeepsAll}
+use Rattle.deferred_laws.specs.Kept.{HasNoEntry, KeepsAll}
 use Rattle.deferred_laws.proofs.Emptied.{place_in_list, sole}
 use Rattle.deferred_laws.proofs.Ended.{ended_other, file_now, file_once, reading_other, reading_there, same_file, trim_front, trim_once, trim_other, trim_there}
 use Rattle.deferred_laws.proofs.Fits.{Fits, alone, trim_maps, well_fits}
@@ -71,8 +71,16 @@ module _ (cell : Cell) where
   pub none_trimmed : record_of 6 (says_trimmed cell).records ≡ None
   none_trimmed = find_put 6 None (with_kind 1 (option_map kept_all (record_of 1 cell.records)) cell.records) tt
 
+pub trimmed_keep : (cells : List PlacedCell) → ((first : PlacedCell) (rest : List PlacedCell) → cells ≡ first ∷ rest → IsSome (record_of 1 first.cell.records)) → ¬ cells ≡ [] → keep_of (with_first says_trimmed cells) ≡ Some 65536
+trimmed_keep [] some not_nil = absurd (not_nil refl)
+trimmed_keep (first ∷ rest) some not_nil = keep_trimmed first.cell (some first rest refl)
+
+pub trimmed_left : (cells : List PlacedCell) → left_of (with_first says_trimmed cells) ≡ None
+trimmed_left [] = refl
+trimmed_left (first ∷ rest) = ap (option_and_then leftover_in) (none_trimmed first.cell)
+
 -- what is said beside the file through which a clone's file reads stays
-sourceless_first : (k : ℕ) → ¬ k ≡ 2 → (cells : List PlacedCell) → first_record k (with_first says_no_source cells) ≡ first_record k cells
+pub sourceless_first : (k : ℕ) → ¬ k ≡ 2 → (cells : List PlacedCell) → first_record k (with_first says_no_source cells) ≡ first_record k cells
 sourceless_first k two [] = refl
 sourceless_first k two (first ∷ rest) = sourceless_other first.cell k two
 
@@ -123,14 +131,6 @@ module _ (group : ℕ) (version : Version) (old new : Now) (fits : Fits old) (a 
     trim_done : EndsTrim old new → IsToTrim new a ⊎ IsDone new a
     trim_done s = by_place (place_in_list old.list s.front s.entry k.entry s.last k.inside)
       where
-        trimmed_keep : (cells : List PlacedCell) → ((first : PlacedCell) (rest : List PlacedCell) → cells ≡ first ∷ rest → IsSome (record_of 1 first.cell.records)) → ¬ cells ≡ [] → keep_of (with_first says_trimmed cells) ≡ Some 65536
-        trimmed_keep [] some not_nil = absurd (not_nil refl)
-        trimmed_keep (first ∷ rest) some not_nil = keep_trimmed first.cell (some first rest refl)
-
-        trimmed_left : (cells : List PlacedCell) → left_of (with_first says_trimmed cells) ≡ None
-        trimmed_left [] = refl
-        trimmed_left (first ∷ rest) = ap (option_and_then leftover_in) (none_trimmed first.cell)
-
         not_nil : ¬ s.chain ≡ []
         not_nil empty = let e : Some Trim ≡ None = sym s.trim ∙ ap left_of empty in absurd (cc)
 
@@ -243,13 +243,10 @@ trims_still group version first count last well steps a k =
       }
     ]
 
-pub trimmed_keep_all : (group : ℕ) (version : Version) (first : Now) (count : ℕ) (last : Now) → IsWell first → Steps group version first count last → last.list.entries ≡ []
-    → (entry : Entry) → Contains first.list.entries entry → (chain : List PlacedCell) → first.files entry.at ≡ Some chain → left_of chain ≡ Some Trim → KeepsAll (last.files entry.at)
-trimmed_keep_all group version first count last well steps empty entry inside chain is left =
+pub trimmed_keep_all : (group : ℕ) (version : Version) (first : Now) (count : ℕ) (last : Now) → IsWell first → Steps group version first count last
+    → (entry : Entry) → Contains first.list.entries entry → HasNoEntry last.list entry.at → (chain : List PlacedCell) → first.files entry.at ≡ Some chain → left_of chain ≡ Some Trim → KeepsAll (last.files entry.at)
+trimmed_keep_all group version first count last well steps entry inside nobody chain is left =
     ⊎_elim
-    (λ k. absurd (nothing k.entry (subst (λ (es : List Entry). Contains es k.entry) empty k.inside)))
+    (λ k. absurd (nobody k.entry k.inside k.at))
     (λ d. subst KeepsAll (sym d.is) (d.keep, d.left))
     (trims_still group version first count last well steps entry.at (record { entry = entry; inside = inside; at = refl; chain = chain; is = is; left = left })).state
-  where
-    nothing : (e : Entry) → Contains [] e → ⊥
-    nothing e within = omega (arith, within.1)

@@ -1,5 +1,5 @@
 -- Files that were to be removed are gone once nothing is on the list.
-use Rattle.std.proofs.Common.{◌≡◌, ◌∙◌, ◌⊎◌, inl, inr, ℕ, List, [], ◌∷◌, ◌++◌, Some, None, Contains, refl, sym, ap, subst, arith, ⊎_elim}
+use Rattle.std.proofs.Common.{◌≡◌, ◌∙◌, ◌⊎◌, inl, inr, ℕ, List, [], ◌∷◌, ◌++◌, Some, None, Contains, refl, sym, ap, subst, ⊎_elim}
 use Rattle.domain_base.specs.declared.place.CellAt.{CellAt}
 use Rattle.domain_base.specs.declared.version.Version.{Version}
 use Rattle.bmt_mcells.specs.Chain.{PlacedCell}
@@ -9,7 +9,7 @@ use Rattle.deferred_delete.specs.Listing.{Listing, without}
 use Rattle.deferred_delete.specs.Steps.{EndsFile, EndsReading, EndsTrim, IsWell, LetsPages, LosesQuotaCell, Now, Step, Steps, file_ends, more, none, pages_go, quota_goes, reading_ends, tag_page_goes, trim_ends}
 use Rattle.deferred_delete.proofs.Lists.{IsIn, earlier, in_start, is_in, last_in, not_last, this}
 use Rattle.deferred_delete.proofs.Spread.{Which, other, reading, some_same, source, which}
-use Rattle.deferred_laws.specs.Kept.{IsBeside}
+use Rattle.deferred_laws.specs.Kept.{HasNoEntry, IsBeside}
 use Rattle.deferred_laws.proofs.Ended.{ended_other, file_forgotten, file_gone, file_now, file_once, file_was, reading_other, same_file, trim_once, trim_other}
 use Rattle.deferred_laws.proofs.Fits.{Fits, alone, well_fits}
 use Rattle.deferred_laws.proofs.Laws.{fits_step}
@@ -139,13 +139,10 @@ leaves_still group version first count last well steps a leaving =
       }
     ]
 
-pub removed_are_gone : (group : ℕ) (version : Version) (first : Now) (count : ℕ) (last : Now) → IsWell first → Steps group version first count last → last.list.entries ≡ []
-    → (entry : Entry) → Contains first.list.entries entry → (chain : List PlacedCell) → first.files entry.at ≡ Some chain → GoesWhole chain → last.files entry.at ≡ None
-removed_are_gone group version first count last well steps empty entry inside chain is left =
+pub removed_are_gone : (group : ℕ) (version : Version) (first : Now) (count : ℕ) (last : Now) → IsWell first → Steps group version first count last
+    → (entry : Entry) → Contains first.list.entries entry → HasNoEntry last.list entry.at → (chain : List PlacedCell) → first.files entry.at ≡ Some chain → GoesWhole chain → last.files entry.at ≡ None
+removed_are_gone group version first count last well steps entry inside nobody chain is left =
     ⊎_elim
-    (λ k. absurd (nothing k.entry (subst (λ (es : List Entry). Contains es k.entry) empty k.inside)))
+    (λ k. absurd (nobody k.entry k.inside k.at))
     (λ g. g.gone)
     (leaves_still group version first count last well steps entry.at (record { entry = entry; inside = inside; at = refl; chain = chain; is = is; left = left })).state
-  where
-    nothing : (e : Entry) → Contains [] e → ⊥
-    nothing e within = omega (arith, within.1)

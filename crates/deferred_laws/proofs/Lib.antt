@@ -44,3 +44,4 @@ pub mod OtherFilesets
 pub mod ReadBack
 pub mod Linked
 pub mod Left
+pub mod LeftStill

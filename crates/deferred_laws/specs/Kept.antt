@@ -1,7 +1,8 @@
 -- What letting go of the things of a list leaves as it was.
-use Rattle.std.specs.Prelude.{◌≡◌, ◌<◌, ℕ, List, Option, Some, None, Contains, IsSomeAnd}
+use Rattle.std.specs.Prelude.{◌≡◌, ◌⊎◌, ◌<◌, ℕ, List, Option, Some, None, Contains, IsSomeAnd}
 use Rattle.std.specs.Option.{option_map}
 use Rattle.domain_base.specs.declared.place.CellAt.{CellAt}
+use Rattle.record_table.specs.declared.record.Leftover.TheVariants.{Trim}
 use Rattle.bmt_mcells.specs.Chain.{PlacedCell}
 use Rattle.extent_records.specs.Writing.{most_rows}
 use Rattle.bitfile_cells.specs.Files.{places_of}
@@ -17,6 +18,10 @@ abbrev pub IsBeside : Listing → CellAt → Type 0
 IsBeside list at = (entry : Entry) → Contains list.entries entry
     → (¬ entry.at ≡ at) × (¬ entry.clone ≡ Some at)
 
+-- no entry is the file's
+abbrev pub HasNoEntry : Listing → CellAt → Type 0
+HasNoEntry list at = (entry : Entry) → Contains list.entries entry → ¬ entry.at ≡ at
+
 -- a page of a file is none of those that go: where an entry is the file's, it stands in front of
 -- them
 abbrev pub Stays : Now → CellAt → ℕ → Type 0
@@ -31,6 +36,20 @@ KeepsFront chain now = IsSomeAnd now (λ after. (page : ℕ) → page < stale_fr
 -- a file is there that keeps all of 65,536 pages, and of which nothing is left to be let go of
 abbrev pub KeepsAll : Option (List PlacedCell) → Type 0
 KeepsAll now = IsSomeAnd now (λ after. (keep_of after ≡ Some 65536) × (left_of after ≡ None))
+
+-- a file was to be trimmed by an entry of a list, and keeps all now
+pub record IsTrimmed (list : Listing) (at : CellAt) (chain after : List PlacedCell) : Type 0 where
+  pub entry : Entry
+  pub inside : Contains list.entries entry
+  pub is : entry.at ≡ at
+  pub was : left_of chain ≡ Some Trim
+  pub keeps : KeepsAll (Some after)
+
+-- a file keeps as many pages as it did, and the same is left to be done with it; or it was trimmed
+abbrev pub KeepsOrIsTrimmed : Listing → CellAt → List PlacedCell → List PlacedCell → Type 0
+KeepsOrIsTrimmed list at chain after =
+    ((keep_of after ≡ keep_of chain) × (left_of after ≡ left_of chain))
+    ⊎ IsTrimmed list at chain after
 
 -- the first cell of a file says the same, but for how many pages the file keeps, through which file
 -- it reads, what is left to be done with it, and where its pages stand

@@ -29,7 +29,7 @@ pub use steps::{
     listed_directories_stay_ones, listed_pages_lead_on, nothing_more_is_read_through, others_stay,
     pages_are_held_exactly_over_steps, pages_are_read_as_before, removed_files_are_gone,
     trimmed_files_keep_all, trimmed_files_keep_their_front, what_files_say_stays,
-    what_is_shown_stays,
+    what_is_left_to_do_stays, what_is_shown_stays,
 };
 pub use together::{
     all_stays_well, files_of_tags_begin_apart, tags_beside_the_list_stay, tags_stay_together,

@@ -18,7 +18,7 @@ ghost use Rattle.deferred_delete.specs.declared.list.Entry.{Entry};
 ghost use Rattle.deferred_delete.specs.Listed.{GoesWhole, left_of};
 ghost use Rattle.deferred_delete.specs.Standing.{ReadsThrough, read_at};
 ghost use Rattle.deferred_delete.specs.Steps.{IsWell, Now, Steps};
-ghost use Rattle.deferred_laws.specs.Kept.{IsBeside, KeepsAll, KeepsFront, SaysTheSame, Stays};
+ghost use Rattle.deferred_laws.specs.Kept.{HasNoEntry, IsBeside, KeepsAll, KeepsFront, KeepsOrIsTrimmed, SaysTheSame, Stays};
 ghost use Rattle.deferred_laws.specs.Links.{IsLeft, LeadOn, homes_of};
 ghost use Rattle.deferred_laws.specs.Shown.{StaysShown};
 ghost use Rattle.deferred_laws.specs.Tags.{AreAmong, chains_in};
@@ -62,21 +62,22 @@ pub fn pages_are_read_as_before()
         → read_at last.files at page ≡ read_at first.files at page }
 {}
 
-/// A file of which all goes is not there any more once no file is on the list.
+/// A file of which all goes is not there any more once no entry is of it: so once no file is on the
+/// list.
 pub fn removed_files_are_gone()
     ensures { (group : ℕ) (version : Version) (first : Now) (count : ℕ) (last : Now)
-        → IsWell first → Steps group version first count last → last.list.entries ≡ []
-        → (entry : Entry) → Contains first.list.entries entry
+        → IsWell first → Steps group version first count last
+        → (entry : Entry) → Contains first.list.entries entry → HasNoEntry last.list entry.at
         → (chain : List PlacedCell) → first.files entry.at ≡ Some chain
         → GoesWhole chain → last.files entry.at ≡ None }
 {}
 
-/// A file that was to be trimmed keeps all of 65,536 pages once no file is on the list, and nothing
-/// of it is left to be let go of.
+/// A file that was to be trimmed keeps all of 65,536 pages once no entry is of it, and nothing of it
+/// is left to be let go of: so once no file is on the list.
 pub fn trimmed_files_keep_all()
     ensures { (group : ℕ) (version : Version) (first : Now) (count : ℕ) (last : Now)
-        → IsWell first → Steps group version first count last → last.list.entries ≡ []
-        → (entry : Entry) → Contains first.list.entries entry
+        → IsWell first → Steps group version first count last
+        → (entry : Entry) → Contains first.list.entries entry → HasNoEntry last.list entry.at
         → (chain : List PlacedCell) → first.files entry.at ≡ Some chain
         → left_of chain ≡ Some Trim → KeepsAll (last.files entry.at) }
 {}
@@ -116,6 +117,17 @@ pub fn what_files_say_stays()
         → IsWell first → Steps group version first count last
         → (at : CellAt) (after : List PlacedCell) → last.files at ≡ Some after
         → (chain : List PlacedCell) × (first.files at ≡ Some chain) × SaysTheSame chain after }
+{}
+
+/// A file that is there after the steps keeps as many pages as it did before them, and the same is
+/// left to be done with it; or it was to be trimmed by an entry, keeps all of 65,536 pages, and
+/// nothing is left to be done with it.
+pub fn what_is_left_to_do_stays()
+    ensures { (group : ℕ) (version : Version) (first : Now) (count : ℕ) (last : Now)
+        → IsWell first → Steps group version first count last
+        → (at : CellAt) (after : List PlacedCell) → last.files at ≡ Some after
+        → (chain : List PlacedCell) × (first.files at ≡ Some chain)
+        × KeepsOrIsTrimmed first.list at chain after }
 {}
 
 /// What reads through a file after the steps did so before them.
