@@ -26,6 +26,7 @@ pub mod FirstWell
 pub mod Listing
 pub mod MakeWell
 pub mod CallsWell
+pub mod GoneOn
 pub mod HeldPages
 pub mod StillWaits
 pub mod BesideCalls

@@ -1,5 +1,5 @@
 //! What calls on one tag of a fileset leave as it was.
-ghost use Rattle.std.specs.Prelude.{◌≡◌, ◌≤◌, ◌⊎◌, ◌↔◌, ℕ, List, Some, Contains, false, true};
+ghost use Rattle.std.specs.Prelude.{◌≡◌, ◌≤◌, ◌⊎◌, ◌↔◌, ℕ, List, Option, Some, Contains, false, true};
 ghost use Rattle.std.specs.Option.{option_and_then};
 ghost use Rattle.domain_base.specs.declared.place.CellAt.{CellAt};
 ghost use Rattle.bmt_mcells.specs.Chain.{PlacedCell};
@@ -13,8 +13,10 @@ ghost use Rattle.free_cells.specs.Cells.{table_of};
 ghost use Rattle.free_space.specs.declared.waiting.Waiting.{Waiting};
 ghost use Rattle.bitfile_core.specs.Files.{Chains};
 ghost use Rattle.bitfile_core.specs.Together.{AreTogether};
+ghost use Rattle.deferred_delete.specs.declared.cursor.Cursor.{Cursor};
 ghost use Rattle.deferred_delete.specs.Standing.{source_at};
 ghost use Rattle.deferred_delete.specs.Steps.{IsWell};
+ghost use Rattle.deferred_laws.specs.Ahead.{GoesOnIn};
 ghost use Rattle.deferred_laws.specs.Beside.{AreApartOf, StandsBeside};
 ghost use Rattle.deferred_laws.specs.Calls.{Calls, FilesetNow, StandsWell};
 ghost use Rattle.deferred_laws.specs.Tags.{AreAmong, start_of};
@@ -132,6 +134,15 @@ pub fn what_is_read_through_stays()
     ensures { (fileset : ℕ) (version : Version) (tag : Tag) (first last : FilesetNow)
         → Calls fileset version tag first last → StandsWell fileset first → (at : CellAt)
         → source_at last.domain.files at ≡ source_at first.domain.files at }
+{}
+
+/// Where the next step goes on is a cell of its file's chain still, if that file was one of the
+/// domain's before the calls, and it is one of them still. So steps that come next may go on where
+/// those in front of the calls were, and need not start over.
+pub fn where_steps_go_on_stays()
+    ensures { (fileset : ℕ) (version : Version) (tag : Tag) (first last : FilesetNow)
+        → Calls fileset version tag first last → StandsWell fileset first
+        → (cursor : Option Cursor) → GoesOnIn first.domain cursor → GoesOnIn last.domain cursor }
 {}
 
 /// No call changes the list.
