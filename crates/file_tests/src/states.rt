@@ -183,6 +183,42 @@ pub fn give_one(alloc: Global, world: &mut World, tag: Tag, page: u32) -> Result
     Ok(home)
 }
 
+/// Moves a page of a live tag's file that has a home to a free one, which it answers.
+pub fn move_one(alloc: Global, world: &mut World, tag: Tag, page: u32) -> Result<Home, Fail>
+    requires { IsWorld world.old }
+    ensures { (states : States) → AreStates world.old states
+        → IfOk result (λ home. AreStates world.new
+        (with_changed tag (placed page (At home)) states)) }
+{
+    if world.files.attributes(&world.pages, tag).is_none() {
+        return Err(Fail::from("a live tag"));
+    }
+    if world
+        .files
+        .page_home(&world.pages, tag, page)
+        .home()
+        .is_none()
+    {
+        return Err(Fail::from("a page with a home"));
+    }
+    let Some(home) = world.space.allocate(volume()) else {
+        return Err(Fail::from("a free page"));
+    };
+    let target = home;
+    world.files.switch_page(
+        alloc,
+        &mut world.pages,
+        &mut world.space,
+        &mut world.cells,
+        tag,
+        page,
+        home,
+        Version::Four,
+    )?;
+    one_page_is_placed();
+    Ok(target)
+}
+
 /// A world of one directory whose index begins there.
 pub fn world_with_index(alloc: Global, index: Option<IndexPlace>) -> Result<(World, Tag), Fail>
     ensures { IfOk result (λ (made : World × Tag). HasIndexAlone made.0 made.1 index) }
