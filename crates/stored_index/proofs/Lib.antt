@@ -3,3 +3,4 @@ pub mod Homes
 pub mod Walked
 pub mod Changed
 pub mod Held
+pub mod Dropped

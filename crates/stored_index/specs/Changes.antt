@@ -1,11 +1,13 @@
 -- Changes of the pages of an index.
-use Rattle.std.specs.Prelude.{◌≡◌, ℕ, zero, suc, false, List, ◌∷◌, Option, Some, None, Contains, insert, slice_get, unwrap_or}
+use Rattle.std.specs.Prelude.{◌≡◌, ℕ, zero, suc, false, List, [], ◌∷◌, Option, Some, None, Contains, insert, slice_get, unwrap_or}
 use Rattle.domain_base.specs.declared.place.Home.{Home}
 use Rattle.page_store.specs.Bitfiles.{shown_index, with_entry}
 use Rattle.page_store.specs.Pages.{Pages, same_home}
 use Rattle.page_store.specs.declared.fault.StoreFault.{StoreFault}
 use Rattle.page_store.specs.declared.fault.StoreFault.TheVariants.{NoPage, OutOfMemory}
-use Rattle.free_space.specs.Spaces.{CanTake, IsHeld, Spaces, missed}
+use Rattle.free_space.specs.VolumeSpace.{with_waiting}
+use Rattle.free_space.specs.declared.waiting.PageUse.TheVariants.{Metadata}
+use Rattle.free_space.specs.Spaces.{CanTake, IsHeld, Spaces, change_volume, missed}
 use Rattle.stored_index.specs.Homes.{AreIndexHomes, shown_at}
 
 -- the pages at homes are used, and do not wait
@@ -36,6 +38,22 @@ pub record DropsIndexPage (first : Home) (next : Option Home) (old new : Pages) 
   pub are : AreIndexHomes new next more
   pub shown : shown_at new more ≡ shown_at old more
   pub others : (home : Home) → same_home home first ≡ false → new home ≡ old home
+
+-- the pages at homes wait as metadata until the log has passed the group, one after another
+abbrev pub with_waiting_at : List Home → ℕ → Spaces → Spaces
+with_waiting_at [] group space = space
+with_waiting_at (home ∷ more) group space = with_waiting_at more group
+    (change_volume (with_waiting (record {
+      page = home.page;
+      kind = Metadata;
+      group = group;
+    })) space home.vol)
+
+-- an index without any page: each waits, and no page of others changes
+pub record DropsIndex (group : ℕ) (space space_now : Spaces) (old new : Pages) (homes : List Home)
+    : Type 0 where
+  pub waits : space_now ≡ with_waiting_at homes group space
+  pub others : (home : Home) → ¬ Contains homes home → new home ≡ old home
 
 -- no page is put, for want of a free page, which is a miss; or memory was short
 abbrev pub FindsNoPage : Spaces → Spaces → StoreFault → Type 0

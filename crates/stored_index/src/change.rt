@@ -1,15 +1,15 @@
 //! Changes of the pages of an index.
-ghost use Rattle.std.specs.Prelude.{◌≡◌, ◌+◌, ◌<◌, ◌≤◌, ℕ, Contains, IfErr, IfOk, IfSome, List, OnErr, Some, length};
+ghost use Rattle.std.specs.Prelude.{◌≡◌, ◌+◌, ◌^◌, ◌<◌, ◌≤◌, ℕ, Contains, IfErr, IfOk, IfSome, List, OnErr, Some, length};
 ghost use Rattle.domain_base.specs.declared.place.Home.{Home as HomeOf};
 ghost use Rattle.free_space.specs.VolumeSpace.{with_page, with_waiting};
 ghost use Rattle.free_space.specs.Spaces.{CanTake, IsHeld, change_volume};
 ghost use Rattle.free_space.specs.declared.waiting.PageUse.TheVariants.{Metadata};
-ghost use Rattle.stored_index.specs.Changes.{AreHeld, DropsIndexPage, FindsNoPage, InsertsIndexPage, PutsIndexPage, first_with, home_in_front};
+ghost use Rattle.stored_index.specs.Changes.{AreHeld, DropsIndex, DropsIndexPage, FindsNoPage, InsertsIndexPage, PutsIndexPage, first_with, home_in_front};
 ghost use Rattle.stored_index.specs.Homes.{AreIndexHomes, HasIndexHomes, HasIndexPageAt};
 ghost use Rattle.stored_index.specs.Links.{LeadsOn, LinksIn, next_behind};
 
 use crate::link::{link_page, next_bytes};
-use crate::walk::{index_home, next_home};
+use crate::walk::{count_index, index_home, next_home};
 use domain_base::{Home, Page, VolIx};
 use free_space::{FreeSpace, PageUse};
 use page_store::{MetaPages, StoreFault};
@@ -193,4 +193,25 @@ pub fn drop_index_page<M: MetaPages>(
     space.give_back(first, PageUse::Metadata, group);
     pages.forget(first);
     next
+}
+
+/// Takes all pages off an index of fewer than 2^32: each waits until the log has passed this group.
+/// It takes no memory.
+pub fn drop_index<M: MetaPages>(pages: &mut M, space: &mut FreeSpace, first: Home, group: u64)
+    requires index { (homes : List HomeOf) × AreIndexHomes (M.pages pages.old) (Some first) homes
+        × (length homes < 2 ^ 32) × AreHeld space.old homes }
+    ensures dropped { (homes : List HomeOf) → AreIndexHomes (M.pages pages.old) (Some first) homes
+        → DropsIndex group space.old space.new (M.pages pages.old) (M.pages pages.new) homes }
+    ensures room { M.room pages.old ≤ M.room pages.new }
+    ensures before { M.before pages.new ≡ M.before pages.old }
+{
+    let again = first;
+    let count = count_index(pages, Some(again));
+    let mut home = Some(first);
+    for _ in 0..count {
+        let Some(here) = home else {
+            return;
+        };
+        home = drop_index_page(pages, space, here, group);
+    }
 }
