@@ -1,7 +1,9 @@
+pub mod AnotherSet
 pub mod Bare
 pub mod Beside
 pub mod EntriesSaid
 pub mod FirstTells
+pub mod GivenBack
 pub mod IndexInserted
 pub mod IndexPut
 pub mod Kept
@@ -9,6 +11,10 @@ pub mod Made
 pub mod Owned
 pub mod PageAdded
 pub mod SaidFirst
+pub mod Stable
+pub mod StableCells
+pub mod StableFiles
+pub mod StableSets
 pub mod TakenOut
 pub mod Together
 pub mod Told

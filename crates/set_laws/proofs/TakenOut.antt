@@ -25,7 +25,7 @@ use Rattle.stored_index.specs.Homes.{AreIndexHomes}
 use Rattle.set_laws.proofs.Beside.{stands_beside}
 use Rattle.set_laws.specs.Standing.{Indexes, StandsShown, with_index}
 
-none_in : (h : Home) → ¬ Contains [] h
+pub none_in : (h : Home) → ¬ Contains [] h
 none_in h inside = omega (arith, inside.1)
 
 not_absent : (h : Home) → Absent ≡ At h → ⊥
@@ -40,7 +40,7 @@ module _ (fileset : ℕ) (places : List TagPlace) (space : Spaces) (cells : Cell
   indexes_now = with_index tag [] indexes
 
   -- no page of a file or an index changes
-  same : (h : Home) → IsFilePage space cells places h → new h ≡ old h
+  pub same : (h : Home) → IsFilePage space cells places h → new h ≡ old h
   same h page = by_chain (chains tag) live beside.pages (was.together.on_tables tag)
     where
       by_chain : (o : Option (List PlacedCell)) → IsSome (option_and_then (of_live attributes_of) o)
@@ -56,14 +56,14 @@ module _ (fileset : ℕ) (places : List TagPlace) (space : Spaces) (cells : Cell
   at_tag : {X : Type 0} (x y : X) → cond (same_tag tag tag) x y ≡ x
   at_tag x y = ap (λ (b : Bool). cond b x y) (same_tag_itself tag)
 
-  in_index : (t : Tag) (h : Home) → Contains (indexes_now t) h → Contains (indexes t) h
+  pub in_index : (t : Tag) (h : Home) → Contains (indexes_now t) h → Contains (indexes t) h
   in_index t h inside = by_tag (same_tag t tag) inside
     where
       by_tag : (b : Bool) → Contains (cond b [] (indexes t)) h → Contains (indexes t) h
       by_tag true inside = absurd (none_in h inside)
       by_tag false inside = inside
 
-  place_before : (t : Tag) (k : ℕ) (h : Home) → place_at now t k ≡ At h → place_at chains t k ≡ At h
+  pub place_before : (t : Tag) (k : ℕ) (h : Home) → place_at now t k ≡ At h → place_at chains t k ≡ At h
   place_before t k h at = by_tag (same_tag t tag) at
     where
       by_tag : (b : Bool) → option_map_or (λ cs. places_of cs k) (cond b None (chains t)) Absent ≡ At h → place_at chains t k ≡ At h

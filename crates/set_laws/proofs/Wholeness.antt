@@ -27,7 +27,7 @@ replaced k page [] within = absurd (omega (arith, within))
 replaced zero page (first ∷ more) within = refl
 replaced (suc k) page (first ∷ more) within = ap (λ l. length l) (entry_behind k page first more) ∙ ap suc (replaced k page more (omega (arith, within)))
 
-joined : (k : ℕ) (page : List ℕ) (pages : List (List ℕ)) → k ≡ length pages → length (with_entry k page pages) ≡ suc (length pages)
+pub joined : (k : ℕ) (page : List ℕ) (pages : List (List ℕ)) → k ≡ length pages → length (with_entry k page pages) ≡ suc (length pages)
 joined zero page [] last = refl
 joined (suc k) page [] last = absurd (omega (arith, last))
 joined zero page (first ∷ more) last = absurd (omega (arith, last))

@@ -1,10 +1,11 @@
 -- What a set of files shows, and where the indexes of its directories stand.
-use Rattle.std.specs.Prelude.{◌≡◌, ℕ, List, Contains, if◌then◌else◌}
+use Rattle.std.specs.Prelude.{◌≡◌, ◌≤◌, ℕ, true, List, Contains, if◌then◌else◌}
 use Rattle.std.specs.Option.{option_and_then}
 use Rattle.domain_base.specs.declared.place.Home.{Home}
 use Rattle.domain_base.specs.declared.place.Tag.{Tag}
 use Rattle.page_store.specs.Bitfiles.{Bitfile, Bitfiles, same_tag}
 use Rattle.page_store.specs.Pages.{Pages}
+use Rattle.tag_dirs.specs.Directory.{has_home}
 use Rattle.tag_dirs.specs.declared.dir.TagPlace.{TagPlace}
 use Rattle.extent_maps.specs.declared.run.PagePlace.TheVariants.{At}
 use Rattle.free_cells.specs.Cells.{Cells}
@@ -33,6 +34,10 @@ pub record StandsShown (fileset : ℕ) (places : List TagPlace) (space : Spaces)
       → ¬ place_at chains t page ≡ At home
   pub once : (s t : Tag) (home : Home) → Contains (indexes s) home → Contains (indexes t) home
       → s ≡ t
+
+-- each page of the tag directory stands on a volume that there may be
+abbrev pub AreTagsOnVolumes : List TagPlace → Type 0
+AreTagsOnVolumes places = (home : Home) → has_home places home ≡ true → 1 ≤ home.vol
 
 -- the same with a tag's index at these homes
 abbrev pub with_index : Tag → List Home → Indexes → Indexes

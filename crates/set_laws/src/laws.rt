@@ -24,8 +24,9 @@ ghost use Rattle.bitfile_core.specs.Pages.{ChangesFile, TakesHome};
 ghost use Rattle.bitfile_core.specs.Shown.{index_of, page_there};
 ghost use Rattle.stored_index.specs.Homes.{shown_at};
 ghost use Rattle.bitfile_core.specs.Together.{AreTogether};
-ghost use Rattle.stored_index.specs.Changes.{InsertsIndexPage, PutsIndexPage};
-ghost use Rattle.set_laws.specs.Standing.{Indexes, StandsShown, owned, with_index};
+ghost use Rattle.stored_index.specs.Changes.{DropsIndex, InsertsIndexPage, PutsIndexPage};
+ghost use Rattle.set_laws.specs.Elsewhere.{AllStay};
+ghost use Rattle.set_laws.specs.Standing.{AreTagsOnVolumes, Indexes, StandsShown, owned, with_index};
 
 /// A set shows a directory's page changed where other bytes stand at the page's home, and nothing
 /// else.
@@ -62,6 +63,20 @@ pub fn tag_is_taken_out()
         → ChangesBeside places (chains tag) old new
         → AreTogether fileset places space cells new (without_chain tag chains)
         → StandsShown fileset places space cells new (without_chain tag chains)
+        (with_index tag [] indexes) (without_file tag files) }
+{}
+
+/// So it is where the pages of its index, which its tag then leads to no more, are given back.
+pub fn tag_is_taken_out_with_index()
+    ensures { (fileset group : ℕ) (places : List TagPlace) (space space_now : Spaces)
+        (cells : Cells) (old between new : Pages) (chains : Chains) (indexes : Indexes)
+        (files : Bitfiles) (tag : Tag)
+        → StandsShown fileset places space cells old chains indexes files
+        → AreTagsOnVolumes places → IsLive tag chains
+        → ChangesBeside places (chains tag) old between
+        → AreTogether fileset places space cells between (without_chain tag chains)
+        → DropsIndex group space space_now between new (indexes tag)
+        → StandsShown fileset places space_now cells new (without_chain tag chains)
         (with_index tag [] indexes) (without_file tag files) }
 {}
 
@@ -197,4 +212,15 @@ pub fn set_is_told()
         → IsDirectory files tag
         → option_map_or (λ (file : Bitfile). file.index) (files tag) []
         ≡ shown_at pages (indexes tag) }
+{}
+
+/// A set is shown as before where nothing of its own changes: no page of its tags, its files and
+/// its indexes, and no cell of its files; and they are used and stand on tables as before. So it is
+/// with the set of a fileset where a call changes another one.
+pub fn another_set_stays()
+    ensures { (fileset : ℕ) (places : List TagPlace) (space space_now : Spaces)
+        (cells cells_now : Cells) (old new : Pages) (chains : Chains) (indexes : Indexes)
+        (files : Bitfiles) → StandsShown fileset places space cells old chains indexes files
+        → AllStay places space_now cells_now old new chains indexes
+        → StandsShown fileset places space_now cells_now new chains indexes files }
 {}
