@@ -13,13 +13,14 @@ use Rattle.free_space.specs.Spaces.{Spaces}
 use Rattle.bitfile_core.specs.Together.{AreTogether}
 use Rattle.bitfile_core.proofs.OneChain.{same_tag_itself}
 use Rattle.set_tests.specs.Worlds.{only_new, with_first_page}
+use Rattle.set_laws.specs.Standing.{AreTagsOnVolumes}
 use Rattle.stored_set.specs.Sets.{StandsAsSet}
 
 none_in : (h : Home) → ¬ Contains [] h
 none_in h inside = omega (arith, inside.1)
 
-pub first_set : (fileset : ℕ) (places : List TagPlace) (space : Spaces) (cells : Cells) (pages : Pages) → AreTogether fileset places space cells pages (λ tag. None) → StandsAsSet fileset places space cells pages (λ t. None)
-first_set fileset places space cells pages together = record {
+pub first_set : (fileset : ℕ) (places : List TagPlace) (space : Spaces) (cells : Cells) (pages : Pages) → AreTogether fileset places space cells pages (λ tag. None) → AreTagsOnVolumes places → StandsAsSet fileset places space cells pages (λ t. None)
+first_set fileset places space cells pages together low = record {
   chains = λ t. None;
   indexes = λ t. [];
   stands = record {
@@ -32,6 +33,7 @@ first_set fileset places space cells pages together = record {
   };
   whole = λ t. tt;
   bare = λ t. tt;
+  low = low;
 }
 
 pub if_ok : {A E : Type 0} {P Q : A → Type 0} → ((a : A) → P a → Q a) → (r : Result A E) → IfOk r P → IfOk r Q

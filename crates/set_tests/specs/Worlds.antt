@@ -4,7 +4,7 @@ use Rattle.domain_base.specs.declared.place.Kind.{Kind}
 use Rattle.domain_base.specs.declared.place.Kind.TheVariants.{Directory}
 use Rattle.domain_base.specs.declared.place.Tag.{Tag}
 use Rattle.memory_store.specs.Homes.{pages_of}
-use Rattle.page_store.specs.Bitfiles.{Bitfiles, IsDirectory, count_index, new_file, put_page, with_change, with_file}
+use Rattle.page_store.specs.Bitfiles.{Bitfiles, IsDirectory, count_index, count_pages, new_file, put_page, with_change, with_file}
 use Rattle.stored_set.specs.Sets.{StandsAsSet}
 use Rattle.file_tests.specs.declared.world.World.{World}
 
@@ -31,3 +31,8 @@ HasTag world tag = (set : Bitfiles) × IsSet world set × IsSome (set tag)
 abbrev pub HasIndex : World → Tag → ℕ → Type 0
 HasIndex world tag count = (set : Bitfiles) × IsSet world set × IsDirectory set tag
     × (count_index set tag ≡ count)
+
+-- some set that has a directory at a tag, with so many pages
+abbrev pub HasPages : World → Tag → ℕ → Type 0
+HasPages world tag count = (set : Bitfiles) × IsSet world set × IsDirectory set tag
+    × (count_pages set tag ≡ count)

@@ -1,6 +1,6 @@
 //! The index of a directory: pages put in, written anew, told and counted.
 ghost use Rattle.std.specs.Prelude.{◌+◌, ◌<◌, ◌≤◌, IfOk, OnOk};
-ghost use Rattle.set_tests.specs.Worlds.{HasIndex};
+ghost use Rattle.set_tests.specs.Worlds.{HasIndex, IsSomeSet};
 
 use crate::sets::{empty_world, make_one};
 use domain_base::{Kind, Page, Tag};
@@ -8,11 +8,11 @@ use file_tests::world::{World, volume};
 use std::alloc::Global;
 use std::test::Fail;
 use stored_set::{
-    count_index_of, index_page_of, insert_index_page, one_set_is_shown, write_index_page,
+    count_index_of, index_page_of, insert_index_page, one_set_is_shown, remove, write_index_page,
 };
 
 /// A page that says that it has so many entries, and whose first entry's hash is that number too.
-fn index_page(alloc: Global, entries: u8) -> Result<Page, Fail> {
+pub(crate) fn index_page(alloc: Global, entries: u8) -> Result<Page, Fail> {
     let mut page = Page::zeros(alloc)?;
     page.set(4, &[entries]);
     page.set(16, &[entries]);
@@ -103,9 +103,9 @@ fn first_of(world: &World, tag: Tag, count: u32, number: u32) -> u8
     }
 }
 
-/// What is told of an index: how many pages it has, how many entries its first cell says that it has, and
-/// the first entries of its first four pages.
-fn tell(world: &World, tag: Tag, count: u32) -> Result<(u32, u32, [u8; 4]), Fail>
+/// What is told of an index: how many pages it has, how many entries its first cell says that it has,
+/// and the first entries of its first five pages, 0 where it has fewer.
+fn tell(world: &World, tag: Tag, count: u32) -> Result<(u32, u32, [u8; 5]), Fail>
     requires { HasIndex world.now tag count }
 {
     one_set_is_shown();
@@ -116,13 +116,14 @@ fn tell(world: &World, tag: Tag, count: u32) -> Result<(u32, u32, [u8; 4]), Fail
         first_of(world, tag, count, 1),
         first_of(world, tag, count, 2),
         first_of(world, tag, count, 3),
+        first_of(world, tag, count, 4),
     ];
     Ok((pages, index.entries, first))
 }
 
 /// An index that gets its first page, one behind it, one in front of both and one between, and of which
 /// the last page is then written anew: what is told of it before that and after.
-fn told(alloc: Global) -> Result<[(u32, u32, [u8; 4]); 2], Fail> {
+fn told(alloc: Global) -> Result<[(u32, u32, [u8; 5]); 2], Fail> {
     let (mut world, tag) = start(alloc)?;
     put_in(alloc, &mut world, tag, 0, 0, 10)?;
     put_in(alloc, &mut world, tag, 1, 1, 20)?;
@@ -133,12 +134,59 @@ fn told(alloc: Global) -> Result<[(u32, u32, [u8; 4]); 2], Fail> {
     Ok([before, tell(&world, tag, 4)?])
 }
 
+/// Takes the directory away, with its index, whose pages wait for group 9.
+fn take_away(alloc: Global, world: &mut World, tag: Tag, count: u32) -> Result<(), Fail>
+    requires { HasIndex world.old tag count }
+    ensures { OnOk result (IsSomeSet world.new) }
+{
+    one_set_is_shown();
+    remove(
+        alloc,
+        &mut world.pages,
+        &mut world.space,
+        &world.cells,
+        &mut world.files,
+        tag,
+        9,
+    )?;
+    Ok(())
+}
+
+/// How many pages are free, and how many wait.
+fn space_told(world: &World) -> (u32, u32) {
+    (world.space.free_now(), world.space.waiting())
+}
+
+/// A directory with an index of three pages that is taken away: what is told of free space before
+/// that, then, once the log has passed the group before that of the pages, and once it has passed
+/// that.
+fn told_away(alloc: Global) -> Result<[(u32, u32); 4], Fail> {
+    let (mut world, tag) = start(alloc)?;
+    put_in(alloc, &mut world, tag, 0, 0, 10)?;
+    put_in(alloc, &mut world, tag, 1, 1, 20)?;
+    put_in(alloc, &mut world, tag, 2, 0, 30)?;
+    let before = space_told(&world);
+    take_away(alloc, &mut world, tag, 3)?;
+    let then = space_told(&world);
+    world.space.log_passed(8);
+    let early = space_told(&world);
+    world.space.log_passed(9);
+    Ok([before, then, early, space_told(&world)])
+}
+
+#[test]
+fn pages_of_an_index_wait_once_its_directory_goes(rt: HostRuntime) -> Result<(), Fail> {
+    let seen = told_away(rt.alloc())?;
+    assert_eq!(rt; seen, [(58, 0), (58, 3), (58, 3), (61, 0)]);
+    Ok(())
+}
+
 #[test]
 fn pages_of_an_index_are_put_in_and_written(rt: HostRuntime) -> Result<(), Fail> {
     let seen = told(rt.alloc())?;
     assert_eq!(rt;
         seen,
-        [(4, 100, [30, 40, 10, 20]), (4, 85, [30, 40, 10, 5])]
+        [(4, 100, [30, 40, 10, 20, 0]), (4, 85, [30, 40, 10, 5, 0])]
     );
     Ok(())
 }

@@ -4,4 +4,8 @@
 #[cfg(test)]
 mod indexes;
 #[cfg(test)]
+mod pages;
+#[cfg(test)]
+mod refused;
+#[cfg(test)]
 mod sets;

@@ -1,5 +1,5 @@
 //! A directory made and given a page, and a file made, linked and taken away.
-ghost use Rattle.std.specs.Prelude.{◌≡◌, IfOk, None, OnOk};
+ghost use Rattle.std.specs.Prelude.{◌^◌, ◌≤◌, IfOk, None, OnOk};
 ghost use Rattle.domain_base.specs.declared.place.Kind.TheVariants.{Directory, File};
 ghost use Rattle.set_tests.specs.Worlds.{HasTag, IsSet, IsSomeSet, only_new, with_first_page};
 
@@ -11,11 +11,20 @@ use stored_set::{
     add_page, count_pages_of, kind_of, links_of, make, one_set_is_shown, page_of, remove, set_links,
 };
 
-/// A world without a file.
+/// A world without a file, of so many pages, of which the first three are used.
+pub(crate) fn world_of(alloc: Global, count: u32) -> Result<World, Fail>
+    requires low { 3 ≤ count }
+    requires high { count ≤ 2 ^ 20 }
+    ensures { IfOk result (λ world. IsSet world (λ t. None)) }
+{
+    new_world(alloc, count)
+}
+
+/// The same of 64 pages.
 pub(crate) fn empty_world(alloc: Global) -> Result<World, Fail>
     ensures { IfOk result (λ world. IsSet world (λ t. None)) }
 {
-    new_world(alloc, 64)
+    world_of(alloc, 64)
 }
 
 /// Makes a file or a directory, the only one.
@@ -99,7 +108,7 @@ fn first_byte(page: Option<&Page>) -> Option<u8> {
 }
 
 /// How many pages the directory has, and how many bytes long it says that it is.
-fn length_told(world: &World, tag: Tag) -> Result<(u32, u64), Fail>
+pub(crate) fn length_told(world: &World, tag: Tag) -> Result<(u32, u64), Fail>
     requires { IsSomeSet world.now }
 {
     let count = count_pages_of(&world.pages, &world.space, &world.cells, &world.files, tag);
@@ -152,10 +161,11 @@ fn take_away(alloc: Global, world: &mut World, tag: Tag) -> Result<(), Fail>
     remove(
         alloc,
         &mut world.pages,
-        &world.space,
+        &mut world.space,
         &world.cells,
         &mut world.files,
         tag,
+        1,
     )?;
     Ok(())
 }

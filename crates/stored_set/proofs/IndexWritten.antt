@@ -96,4 +96,5 @@ module _ (fileset : ℕ) (places : List TagPlace) (space : Spaces) (cells : Cell
             (sym (said_states fileset places old was.chains tag (says_index (Some now)) (indexed (Some now)) was.stands.together.files (λ pages first rest file. index_said pages first rest file (Some now))))
             (whole_put (states_of was.chains) set was.whole tag now number (shown_index bytes) within total_now);
         bare = bare_put set was.bare tag directory number (shown_index bytes);
+        low = was.low;
       }

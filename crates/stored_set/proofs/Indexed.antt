@@ -24,7 +24,7 @@ use Rattle.stored_set.specs.Sets.{StandsAsSet}
 abbrev pub first_of : Option IndexPlace → Option Home
 first_of o = option_map (λ (index : IndexPlace). index.first) o
 
-begins_so : (cells : List PlacedCell) → index_of cells ≡ first_of (index_place_of cells)
+pub begins_so : (cells : List PlacedCell) → index_of cells ≡ first_of (index_place_of cells)
 begins_so cells = by_record (first_record 9 cells)
   where
     by_record : (o : Option Record) → option_and_then index_in o ≡ first_of (option_and_then index_place_in o)

@@ -199,6 +199,7 @@ module _ (fileset : ℕ) (places : List TagPlace) (space : Spaces) (cells : Cell
           stands = added fileset prefer places space space_now cells cells_now mid given now was.indexes set shown_said tag page home bytes version chain at gives takes elsewhere directory last;
           whole = subst (λ (s : States). AreWholeDirectories s (with_change tag (put_page page bytes) set)) (sym states_now) (whole_added (states_of was.chains) set was.whole tag value page home bytes last small refl);
           bare = bare_written set was.bare tag page bytes;
+          low = was.low;
         }
           where
             states_now : states_of (with_chain tag (λ _. gives.change.changes.after) now) ≡ with_changed tag (placed page (At home)) (with_changed tag (described value) (states_of was.chains))
@@ -259,6 +260,7 @@ module _ (fileset : ℕ) (places : List TagPlace) (space space_now : Spaces) (ce
         stands = missed_still fileset places space cells old was.chains was.indexes set was.stands (together_missed old fileset places was.chains space cells was.stands.together);
         whole = was.whole;
         bare = was.bare;
+        low = was.low;
       })
       by_chain OutOfMemory (Some chain) none = subst (λ (s : Spaces). StandsAsSet fileset places s cells old set) (sym none) was
 

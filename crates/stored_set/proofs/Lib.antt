@@ -7,4 +7,6 @@ pub mod Making
 pub mod PutIn
 pub mod Sized
 pub mod Sound
+pub mod StableSet
 pub mod States
+pub mod TakenAway

@@ -1,12 +1,16 @@
 -- What a set is where a file is made, or none is.
-use Rattle.std.proofs.Common.{◌≡◌, ℕ, List, None, Result, Ok, Err, IfOk, IfErr, OnOk, OnErr, sym, subst}
+use Rattle.std.proofs.Common.{◌≡◌, ◌≤◌, ℕ, List, [], ◌∷◌, ◌++◌, None, false, Result, Ok, Err, IfOk, IfErr, OnOk, OnErr, ⊎_elim, sym, subst}
+use Rattle.std.proofs.lemmas.Bool.{or_cases, or_left, or_right, true≢false}
+use Rattle.domain_base.specs.declared.place.Home.{Home}
 use Rattle.domain_base.specs.declared.place.Tag.{Tag}
 use Rattle.domain_base.specs.declared.version.Version.{Version}
 use Rattle.page_store.specs.Bitfiles.{Bitfiles as SetOf, new_file as shown_new, with_file}
-use Rattle.page_store.specs.Pages.{Pages}
+use Rattle.page_store.specs.Pages.{Pages, same_home}
 use Rattle.page_store.specs.declared.fault.StoreFault.{StoreFault}
 use Rattle.page_store.specs.declared.fault.StoreFault.TheVariants.{NoPage, OutOfMemory}
+use Rattle.bmt_mcells.proofs.Changed.{homes_same, same_itself}
 use Rattle.tag_dirs.specs.declared.dir.TagPlace.{TagPlace}
+use Rattle.tag_dirs.specs.Directory.{has_home}
 use Rattle.free_cells.specs.Cells.{Cells}
 use Rattle.free_space.specs.Spaces.{Spaces}
 use Rattle.bitfile_core.specs.declared.bitfiles.Bitfiles.{Bitfiles}
@@ -19,8 +23,23 @@ use Rattle.stored_set.proofs.Live.{missed_still, none_shown}
 use Rattle.bitfile_core.specs.State.{States, states_of}
 use Rattle.bitfile_laws.proofs.Placed.{states_made}
 use Rattle.set_laws.proofs.Wholeness.{whole_made}
+use Rattle.set_laws.specs.Standing.{AreTagsOnVolumes}
 use Rattle.set_laws.specs.Whole.{AreWholeDirectories}
 use Rattle.stored_set.specs.Sets.{StandsAsSet}
+
+-- the pages of tags with one more, on a volume that there may be
+low_more : (places : List TagPlace) (p : TagPlace) → 1 ≤ p.home.vol → AreTagsOnVolumes places → AreTagsOnVolumes (places ++ p ∷ [])
+low_more [] p low all h has = ⊎_elim (λ this. subst (λ (x : Home). 1 ≤ x.vol) (sym (homes_same h p.home this)) low) (λ none. absurd (true≢false (sym none))) (or_cases (same_home h p.home) false has)
+low_more (q ∷ qs) p low all h has = ⊎_elim
+    (λ this. subst (λ (x : Home). 1 ≤ x.vol) (sym (homes_same h q.home this)) (all q.home (or_left (same_home q.home q.home) (has_home qs q.home) (same_itself q.home))))
+    (λ later. low_more qs p low (λ x there. all x (or_right (same_home x q.home) (has_home qs x) there)) h later)
+    (or_cases (same_home h q.home) (has_home (qs ++ p ∷ []) h) has)
+
+low_made : (prefer : ℕ) (places places_now : List TagPlace) (space space_now : Spaces) (cells cells_now : Cells) (old : Pages) → AreTagsOnVolumes places → TakesForFile prefer places places_now space space_now cells cells_now old → AreTagsOnVolumes places_now
+low_made prefer places places_now space space_now cells cells_now old low takes = ⊎_elim
+    (λ one. subst AreTagsOnVolumes (sym one.same) low)
+    (λ more. subst AreTagsOnVolumes (sym more.joins) (low_more places (record { index = more.index; home = more.home }) more.low low))
+    takes
 
 module _ (fileset prefer : ℕ) (places places_now : List TagPlace) (space space_now : Spaces) (cells cells_now : Cells) (old new : Pages) (set : SetOf) (was : StandsAsSet fileset places space cells old set) (version : Version) (what : NewFile) where
   pub made_fresh : (r : Result Tag StoreFault) → IfOk r (λ tag. Creates fileset places_now tag version what was.chains space_now cells cells_now old new) → IfOk r (λ tag. set tag ≡ None)
@@ -31,7 +50,7 @@ module _ (fileset prefer : ℕ) (places places_now : List TagPlace) (space space
       → (fileset_now : ℕ) → fileset_now ≡ fileset → IfOk r (λ tag. StandsAsSet fileset_now places_now space_now cells_now new (with_file tag (shown_new what.kind what.uid what.gid) set))
   made_shown (Ok tag) creates takes beside fileset_now is =
       subst (λ (f : ℕ). StandsAsSet f places_now space_now cells_now new (with_file tag (shown_new what.kind what.uid what.gid) set)) (sym is)
-      (record { chains = _; indexes = was.indexes; stands = made fileset prefer places places_now space space_now cells cells_now old new was.chains was.indexes set was.stands tag version what creates takes beside; whole = subst (λ (s : States). AreWholeDirectories s (with_file tag (shown_new what.kind what.uid what.gid) set)) (sym (states_made version what tag creates.first creates.says creates.no_page was.chains)) (whole_made (states_of was.chains) set was.whole tag what); bare = bare_made set was.bare tag what.kind what.uid what.gid })
+      (record { chains = _; indexes = was.indexes; stands = made fileset prefer places places_now space space_now cells cells_now old new was.chains was.indexes set was.stands tag version what creates takes beside; whole = subst (λ (s : States). AreWholeDirectories s (with_file tag (shown_new what.kind what.uid what.gid) set)) (sym (states_made version what tag creates.first creates.says creates.no_page was.chains)) (whole_made (states_of was.chains) set was.whole tag what); bare = bare_made set was.bare tag what.kind what.uid what.gid; low = low_made prefer places places_now space space_now cells cells_now old was.low takes })
   made_shown (Err fault) creates takes beside fileset_now is = tt
 
 module _ (files files_now : Bitfiles) (space space_now : Spaces) (cells cells_now : Cells) (old new : Pages) (set : SetOf) (was : StandsAsSet files.fileset files.tags space cells old set) where
@@ -42,6 +61,7 @@ module _ (files files_now : Bitfiles) (space space_now : Spaces) (cells cells_no
     stands = missed_still files.fileset files.tags space cells old was.chains was.indexes set was.stands (together_missed old files.fileset files.tags was.chains space cells was.stands.together);
     whole = was.whole;
     bare = was.bare;
+    low = was.low;
   })
   by_fault OutOfMemory none = subst (λ (s : Spaces). StandsAsSet files.fileset files.tags s cells old set) (sym none) was
 

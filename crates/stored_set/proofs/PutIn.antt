@@ -83,4 +83,5 @@ module _ (fileset : ℕ) (places : List TagPlace) (space : Spaces) (cells : Cell
             (sym (said_states fileset places old was.chains tag (says_index (Some now)) (indexed (Some now)) was.stands.together.files (λ pages first rest file. index_said pages first rest file (Some now))))
             (whole_inserted (states_of was.chains) set was.whole tag now number (shown_index bytes) (subst (λ n. n + 1 < 2 ^ 32) (sym (counted fileset places space cells old set was tag directory)) fits) total_now);
         bare = bare_inserted set was.bare tag directory number (shown_index bytes);
+        low = was.low;
       }

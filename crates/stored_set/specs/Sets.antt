@@ -1,5 +1,5 @@
 -- The files of a fileset as a set of files and directories.
-use Rattle.std.specs.Prelude.{◌≡◌, ◌+◌, ◌*◌, ℕ, List, Option, Some, IsSomeAnd}
+use Rattle.std.specs.Prelude.{◌≡◌, ◌+◌, ◌*◌, ℕ, List, Option, Some, None, IsSomeAnd}
 use Rattle.std.specs.Option.{option_and_then}
 use Rattle.domain_base.specs.Limits.{page_bytes}
 use Rattle.domain_base.specs.declared.place.Home.{Home}
@@ -17,7 +17,7 @@ use Rattle.free_space.specs.Spaces.{CanTake, Spaces, change_volume}
 use Rattle.bitfile_cells.specs.FileChanges.{LeavesOtherCells}
 use Rattle.bitfile_cells.specs.MapChanges.{LeavesOffTables}
 use Rattle.bitfile_core.specs.declared.attributes.Attributes.{Attributes}
-use Rattle.bitfile_core.specs.Changes.{ChangesFirst, says_attributes, with_chain, with_first}
+use Rattle.bitfile_core.specs.Changes.{ChangesBeside, ChangesFirst, says_attributes, with_chain, with_first}
 use Rattle.bitfile_core.specs.Files.{Chains, attributes_of, of_live}
 use Rattle.bitfile_core.specs.Pages.{ChangesFile, GetsNone, TakesHome}
 use Rattle.bitfile_core.specs.declared.indexing.IndexPlace.{IndexPlace}
@@ -25,12 +25,12 @@ use Rattle.bitfile_core.specs.Index.{says_index}
 use Rattle.bitfile_core.specs.Shown.{index_of}
 use Rattle.bitfile_core.specs.State.{states_of}
 use Rattle.bitfile_core.specs.Together.{AreTogether}
-use Rattle.stored_index.specs.Changes.{InsertsIndexPage, PutsIndexPage}
-use Rattle.set_laws.specs.Standing.{Indexes, StandsShown}
+use Rattle.stored_index.specs.Changes.{DropsIndex, InsertsIndexPage, PutsIndexPage}
+use Rattle.set_laws.specs.Standing.{AreTagsOnVolumes, Indexes, StandsShown}
 use Rattle.set_laws.specs.Whole.{AreWholeDirectories, HaveNoIndex}
 
 -- files that belong together are shown as this set, wherever their indexes stand, each directory is
--- whole, and no file has an index
+-- whole, no file has an index, and the pages of tags stand on volumes that there may be
 pub record StandsAsSet (fileset : ℕ) (places : List TagPlace) (space : Spaces) (cells : Cells)
     (pages : Pages) (files : Bitfiles) : Type 0 where
   pub chains : Chains
@@ -38,6 +38,7 @@ pub record StandsAsSet (fileset : ℕ) (places : List TagPlace) (space : Spaces)
   pub stands : StandsShown fileset places space cells pages chains indexes files
   pub whole : AreWholeDirectories (states_of chains) files
   pub bare : HaveNoIndex files
+  pub low : AreTagsOnVolumes places
 
 -- they are shown as some set
 abbrev pub HasSet : ℕ → List TagPlace → Spaces → Cells → Pages → Type 0
@@ -122,3 +123,21 @@ pub record AddsIndexPage (fileset : ℕ) (places : List TagPlace) (cells : Cells
   pub said : Pages
   pub says : SaysIndex fileset places space_now cells tag chains old said
   pub inserts : InsertsIndexPage says.index.first home number bytes said new homes
+
+-- the files in which the tag's first cell names no index, where it named one that begins there
+abbrev pub without_index_from : Option Home → Tag → Chains → Chains
+without_index_from None tag chains = chains
+without_index_from (Some first) tag chains = with_chain tag (with_first (says_index None)) chains
+
+-- the same, wherever that index begins
+abbrev pub without_index : Tag → Chains → Chains
+without_index tag chains =
+    without_index_from (option_and_then index_of (chains tag)) tag chains
+
+-- the first cell of a chain and the page of its tag change, and then the pages of its index are
+-- given back, which wait until the log has passed the group
+pub record GivesIndexBack (group : ℕ) (places : List TagPlace) (chain : Option (List PlacedCell))
+    (homes : List Home) (space space_now : Spaces) (old new : Pages) : Type 0 where
+  pub said : Pages
+  pub beside : ChangesBeside places chain old said
+  pub drops : DropsIndex group space space_now said new homes

@@ -30,7 +30,7 @@ fn with_length(was: &Attributes, count: u32) -> Attributes
 }
 
 /// The page on which a cell stands.
-fn home_of(at: &CellAt) -> Home
+pub(crate) fn home_of(at: &CellAt) -> Home
     ensures { result ≡ home_there at.now }
 {
     Home {
@@ -40,7 +40,11 @@ fn home_of(at: &CellAt) -> Home
 }
 
 /// A copy of the page at a home.
-fn copy_at<M: MetaPages>(alloc: Global, pages: &M, home: &Home) -> Result<Page, OutOfMemory>
+pub(crate) fn copy_at<M: MetaPages>(
+    alloc: Global,
+    pages: &M,
+    home: &Home,
+) -> Result<Page, OutOfMemory>
     requires { IsSome (M.pages pages.now home.now) }
     ensures { IfOk result (λ page. M.pages pages.now home.now ≡ Some page) }
 {

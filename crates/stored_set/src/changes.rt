@@ -1,20 +1,18 @@
-//! Files and directories that are made, linked and taken away.
+//! Files and directories that are made and linked.
 ghost use Rattle.std.specs.Prelude.{◌≡◌, ◌+◌, ◌≤◌, [], IfErr, IfOk, IsSome, IsSomeAnd, None, OnErr, OnOk};
 ghost use Rattle.std.specs.Option.{option_and_then};
 ghost use Rattle.domain_base.specs.Limits.{max_links};
-ghost use Rattle.page_store.specs.Bitfiles.{Bitfiles as SetOf, linked, new_file as shown_new, with_change, with_file, without_file};
+ghost use Rattle.page_store.specs.Bitfiles.{Bitfiles as SetOf, linked, new_file as shown_new, with_change, with_file};
 ghost use Rattle.bmt_mcells.specs.CellPage.{KeepsHeaders, KeepsWellFormed};
-ghost use Rattle.free_cells.specs.Cells.{Cells};
-ghost use Rattle.free_space.specs.Spaces.{Spaces};
 ghost use Rattle.bitfile_cells.specs.FileChanges.{LeavesOtherCells};
-ghost use Rattle.bitfile_core.specs.Changes.{ChangesBeside, ChangesFirst, KeepsSequences, Removes, says_attributes, with_chain, with_first};
+ghost use Rattle.bitfile_core.specs.Changes.{ChangesFirst, says_attributes, with_chain, with_first};
 ghost use Rattle.bitfile_core.specs.Creation.{Creates, CreatesNone, LeavesBeside, TakesForFile, TakesNext, new_file};
 ghost use Rattle.bitfile_core.specs.Files.{AreFiles, Chains, attributes_of, of_live};
 ghost use Rattle.bitfile_core.specs.Together.{AreTogether};
 ghost use Rattle.stored_set.specs.Sets.{HasSet, StandsAsSet};
 
 use bitfile_core::{Attributes, Bitfiles};
-use domain_base::{CellAt, Kind, OutOfMemory, Tag, Version, VolIx};
+use domain_base::{Kind, OutOfMemory, Tag, Version, VolIx};
 use free_cells::FreeCells;
 use free_space::FreeSpace;
 use page_store::{MetaPages, StoreFault};
@@ -70,40 +68,6 @@ pub fn make<M: MetaPages>(
     files.create(
         alloc, pages, space, cells, kind, uid, gid, birth, version, prefer,
     )
-}
-
-/// Takes a tag's file or directory away: its tag names nothing any more. It answers the first cell,
-/// which says that all of it is to be let go of. At an Err the set is as it was.
-pub fn remove<M: MetaPages>(
-    alloc: Global,
-    pages: &mut M,
-    space: &FreeSpace,
-    cells: &FreeCells,
-    files: &mut Bitfiles,
-    tag: Tag,
-) -> Result<CellAt, OutOfMemory>
-    requires set { HasSet files.old.fileset files.old.tags space.now cells.now
-        (M.pages pages.old) }
-    requires live { (set : SetOf) → StandsAsSet files.old.fileset files.old.tags space.now cells.now
-        (M.pages pages.old) set → IsSome (set tag) }
-    ensures ok { (set : SetOf) → StandsAsSet files.old.fileset files.old.tags space.now cells.now
-        (M.pages pages.old) set → OnOk result (StandsAsSet files.new.fileset files.new.tags
-        space.now cells.now (M.pages pages.new) (without_file tag set)) }
-    ensures removes { (chains : Chains)
-        → AreFiles files.old.fileset files.old.tags (M.pages pages.old) chains
-        → IfOk result (λ at. Removes files.old.fileset files.old.tags tag at chains
-        (M.pages pages.new)) }
-    ensures err { OnErr result (M.pages pages.new ≡ M.pages pages.old) }
-    ensures beside { (chains : Chains)
-        → AreFiles files.old.fileset files.old.tags (M.pages pages.old) chains
-        → ChangesBeside files.old.tags (chains tag) (M.pages pages.old) (M.pages pages.new) }
-    ensures sequences { OnOk result (KeepsSequences files.old.tags (M.pages pages.old)
-        (M.pages pages.new)) }
-    ensures same { files.new ≡ files.old }
-    ensures room { M.room pages.new ≡ M.room pages.old }
-    ensures before { M.before pages.new ≡ M.before pages.old }
-{
-    files.remove(alloc, pages, tag)
 }
 
 /// The same attributes with another number of links.

@@ -6,7 +6,8 @@ ghost use Rattle.page_store.specs.Pages.{AreWhole, Pages};
 ghost use Rattle.tag_dirs.specs.declared.dir.TagPlace.{TagPlace};
 ghost use Rattle.free_cells.specs.Cells.{Cells};
 ghost use Rattle.free_space.specs.Spaces.{Spaces};
-ghost use Rattle.stored_set.specs.Sets.{StandsAsSet};
+ghost use Rattle.set_laws.specs.Elsewhere.{AllStay};
+ghost use Rattle.stored_set.specs.Sets.{HasSet, StandsAsSet};
 
 /// The pages of a fileset are shown as one set at most.
 pub fn one_set_is_shown()
@@ -22,4 +23,21 @@ pub fn sets_are_sound()
     ensures { (fileset : ℕ) (places : List TagPlace) (space : Spaces) (cells : Cells)
         (pages : Pages) (files : Bitfiles) → AreWhole pages
         → StandsAsSet fileset places space cells pages files → AreBitfiles files }
+{}
+
+/// Where it is known that the files of a fileset are shown as some set, that set is at hand: so a
+/// value may keep the fact as one that has one proof at most.
+pub fn shown_set_is_at_hand()
+    ensures { (fileset : ℕ) (places : List TagPlace) (space : Spaces) (cells : Cells)
+        (pages : Pages) → ∥ HasSet fileset places space cells pages ∥₁
+        → HasSet fileset places space cells pages }
+{}
+
+/// The files of a fileset are shown as the same set where nothing of their own changes.
+pub fn another_set_is_shown_still()
+    ensures { (fileset : ℕ) (places : List TagPlace) (space space_now : Spaces)
+        (cells cells_now : Cells) (old new : Pages) (files : Bitfiles)
+        → (was : StandsAsSet fileset places space cells old files)
+        → AllStay places space_now cells_now old new was.chains was.indexes
+        → StandsAsSet fileset places space_now cells_now new files }
 {}

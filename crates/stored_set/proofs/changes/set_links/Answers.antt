@@ -46,6 +46,7 @@ returns-clause-ok g c = λ set was.
           (subst (λ (s : States). AreWholeDirectories s (with_change tag (owned value) set)) (sym (said_states fileset places old was.chains tag (says_attributes value) (described value) was.stands.together.files (λ pages first rest file. attributes_said pages first rest file value)))
           (whole_described (states_of was.chains) set was.whole tag value (λ directory. ap (λ (v : Attributes). v.size) c.with_links-value.ensures ∙ size_here fileset places space cells old set was tag (the_file set tag directory) c.in-Some.was said)));
       bare = bare_linked set was.bare tag c.args.links;
+      low = was.low;
     })
     c.set_attributes.result (c.set_attributes.ensures.together space cells was.chains was.stands.together)
 

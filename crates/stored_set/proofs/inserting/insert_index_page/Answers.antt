@@ -48,6 +48,7 @@ returns-in_default-allocate-clause-err g c = λ set was.
       stands = missed_still fileset places space cells old was.chains was.indexes set was.stands (together_missed old fileset places was.chains space cells was.stands.together);
       whole = was.whole;
       bare = was.bare;
+      low = was.low;
     }))
 
 pub set_index-requires-clause-live : goal.set_index-requires-clause-live

@@ -34,6 +34,7 @@ returns-in-Some-clause-put g c = λ set was.
       stands = written fileset places space cells old was.chains was.indexes set was.stands c.args.tag c.args.page c.in-Some.home c.args.bytes at (c.requires.directory set was) (c.requires.there set was);
       whole = whole_written (states_of was.chains) set was.whole c.args.tag c.args.page c.args.bytes (c.requires.there set was);
       bare = bare_written set was.bare c.args.tag c.args.page c.args.bytes;
+      low = was.low;
     })
 
 room_same : (o : Option (List ℕ)) (room less : ℕ) → IsSome o → cond (is_some o) room less ≡ room

@@ -1,0 +1,15 @@
+use Rattle.domain_base.specs.declared.place.Kind.TheVariants.{Directory}
+use Rattle.memory_store.specs.Homes.{pages_of}
+use Rattle.set_tests.proofs.First.{has_none, is_directory}
+use Rattle.set_tests.specs.Worlds.{only_new}
+use Rattle.set_tests.proofs.refused.try_add.Goals as goal
+
+pub add_page-requires-clause-directory : goal.add_page-requires-clause-directory
+add_page-requires-clause-directory c = λ set was.
+    let world = c.args.world.now in
+    is_directory set c.args.tag (c.one_set_is_shown.ensures world.files.fileset world.files.tags world.space world.space world.cells world.cells (pages_of world.pages.entries.items) (only_new Directory c.args.tag) set c.args.tag c.requires was)
+
+pub add_page-requires-clause-last : goal.add_page-requires-clause-last
+add_page-requires-clause-last c = λ set was.
+    let world = c.args.world.now in
+    has_none set c.args.tag (c.one_set_is_shown.ensures world.files.fileset world.files.tags world.space world.space world.cells world.cells (pages_of world.pages.entries.items) (only_new Directory c.args.tag) set c.args.tag c.requires was)

@@ -1,0 +1,97 @@
+//! A volume of which no page is free: a directory gets no page, and no index.
+ghost use Rattle.std.specs.Prelude.{OnErr};
+ghost use Rattle.domain_base.specs.declared.place.Kind.TheVariants.{Directory};
+ghost use Rattle.set_tests.specs.Worlds.{IsSet, only_new};
+
+use crate::sets::{length_told, make_one, world_of};
+use domain_base::{Kind, Page, Tag, Version};
+use file_tests::world::{World, volume};
+use page_store::StoreFault;
+use std::alloc::Global;
+use std::test::Fail;
+use stored_set::{add_page, insert_index_page, one_set_is_shown};
+
+/// Tries to give the only directory its first page.
+fn try_add(alloc: Global, world: &mut World, tag: Tag) -> Result<(), StoreFault>
+    requires { IsSet world.old (only_new Directory tag) }
+    ensures { OnErr result (IsSet world.new (only_new Directory tag)) }
+{
+    one_set_is_shown();
+    let page = Page::zeros(alloc)?;
+    add_page(
+        alloc,
+        &mut world.pages,
+        &mut world.space,
+        &mut world.cells,
+        &world.files,
+        tag,
+        0,
+        page,
+        volume(),
+        Version::Four,
+    )
+}
+
+/// Tries to put the first page into the directory's index.
+fn try_index(alloc: Global, world: &mut World, tag: Tag) -> Result<(), StoreFault>
+    requires { IsSet world.old (only_new Directory tag) }
+    ensures { OnErr result (IsSet world.new (only_new Directory tag)) }
+{
+    one_set_is_shown();
+    let page = Page::zeros(alloc)?;
+    insert_index_page(
+        alloc,
+        &mut world.pages,
+        &mut world.space,
+        &world.cells,
+        &world.files,
+        tag,
+        0,
+        page,
+        volume(),
+    )
+}
+
+/// The two faults, the length of the directory then, whether it has an index, and how often no page
+/// was found.
+#[derive(Clone, Copy, Debug, PartialEq, Eq)]
+struct Refusals {
+    page: StoreFault,
+    index: StoreFault,
+    length: (u32, u64),
+    has_index: bool,
+    misses: u64,
+}
+
+/// What is told where both are tried on a volume of which each page is used.
+fn told(alloc: Global) -> Result<Refusals, Fail> {
+    let mut world = world_of(alloc, 3)?;
+    let tag = make_one(alloc, &mut world, Kind::Directory)?;
+    let Err(page) = try_add(alloc, &mut world, tag) else {
+        return Err(Fail::from("a page was found"));
+    };
+    let Err(index) = try_index(alloc, &mut world, tag) else {
+        return Err(Fail::from("a page of an index was found"));
+    };
+    Ok(Refusals {
+        page,
+        index,
+        length: length_told(&world, tag)?,
+        has_index: world.files.index(&world.pages, tag).is_some(),
+        misses: world.space.misses(),
+    })
+}
+
+#[test]
+fn a_directory_is_as_it_was_where_no_page_is_free(rt: HostRuntime) -> Result<(), Fail> {
+    let seen = told(rt.alloc())?;
+    let refusals = Refusals {
+        page: StoreFault::NoPage,
+        index: StoreFault::NoPage,
+        length: (0, 0),
+        has_index: false,
+        misses: 2,
+    };
+    assert_eq!(rt; seen, refusals);
+    Ok(())
+}
