@@ -10,7 +10,7 @@ use std::alloc::Global;
 use std::collections::BTreeMap;
 
 /// How many rows lead to a tag as to one of a kind.
-pub(crate) fn count_of(counts: &BTreeMap<(Tag, Kind), u64>, tag: Tag, kind: Kind) -> u64
+pub fn count_of(counts: &BTreeMap<(Tag, Kind), u64>, tag: Tag, kind: Kind) -> u64
     ensures { result ≡ count_in counts.now tag kind }
 {
     counts.get(&(tag, kind)).copied().unwrap_or(0)
@@ -30,7 +30,7 @@ fn count_row(counts: &mut BTreeMap<(Tag, Kind), u64>, row: &RowThere) -> Result<
 }
 
 /// How many rows lead to each tag as to one of each kind.
-pub(crate) fn count_rows(
+pub fn count_rows(
     alloc: Global,
     rows: &[RowThere],
 ) -> Result<BTreeMap<(Tag, Kind), u64>, OutOfMemory>

@@ -12,7 +12,8 @@ mod sizes;
 mod there;
 mod wrong;
 
-pub use links::insert_wrong_links;
+pub use counts::{count_of, count_rows};
+pub use links::{home_of, insert_wrong_links};
 pub use lost::insert_lost_twice;
 pub use names::insert_names_twice;
 pub use pages::insert_row_pages;
@@ -20,4 +21,4 @@ pub use parents::insert_wrong_parents;
 pub use rows::{PageAt, RowThere, read_rows};
 pub use sizes::insert_wrong_sizes;
 pub use there::FileThere;
-pub use wrong::insert_wrong_rows;
+pub use wrong::{ROOT, insert_wrong_rows};

@@ -34,7 +34,7 @@ fn has_wrong_links(counts: &BTreeMap<(Tag, Kind), u64>, file: &FileThere) -> boo
 }
 
 /// The home of the page of the first cell of a file or directory.
-pub(crate) fn home_of(file: &FileThere) -> Home
+pub fn home_of(file: &FileThere) -> Home
     ensures { result ≡ home_there file.now.at }
 {
     Home {

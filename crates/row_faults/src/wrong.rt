@@ -20,7 +20,7 @@ use std::alloc::Global;
 use std::collections::BTreeSet;
 
 /// The tag of the root directory.
-pub(crate) const ROOT: Tag = Tag { slot: 1, seq: 1 };
+pub const ROOT: Tag = Tag { slot: 1, seq: 1 };
 
 /// The kind that a file or directory is not.
 pub(crate) fn other_kind(kind: Kind) -> Kind
