@@ -14,4 +14,6 @@ mod parents;
 #[cfg(test)]
 mod sizes;
 #[cfg(test)]
+mod tree;
+#[cfg(test)]
 mod wrong;
