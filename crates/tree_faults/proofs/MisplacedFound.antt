@@ -43,8 +43,8 @@ module _ (pages : Pages) (frame : Frame) (table : Table) (number : ℕ) (files :
 
   ruled : (tag : Tag) → IsWrong tag ↔ IsRuled tag
   ruled tag = (
-    λ which. ⊎_elim (λ below. inl (down tag tag below)) (λ (yes, none). inr (read.0 yes, λ lead. none ((is_tree.reached tag).1 (up root_tag tag lead)))) which,
-    λ which. ⊎_elim (λ lead. inl (up tag tag lead)) (λ (yes, none). inr (read.1 yes, λ is. none (down root_tag tag ((is_tree.reached tag).0 is)))) which,
+    λ which. ⊎_elim (λ below. inl (down tag tag below)) (λ (all, none). inr (read.0 all, λ lead. none ((is_tree.reached tag).1 (up root_tag tag lead)))) which,
+    λ which. ⊎_elim (λ lead. inl (up tag tag lead)) (λ (all, none). inr (read.1 all, λ is. none (down root_tag tag ((is_tree.reached tag).0 is)))) which,
   )
 
   by_files : (home : Home) (old : Type 0) → (old ⊎ ((file : FileThere) × Contains files file × IsMisplacedAt tree file home)) ↔ (old ⊎ HasMisplaced pages frame table number home)

@@ -1,5 +1,5 @@
 -- What is below a directory by rows that were read is so by the rules.
-use Rattle.std.proofs.Common.{◌≡◌, ◌∙◌, ◌⊎◌, ◌↔◌, inl, inr, ℕ, Bool, false, List, IsTrue, Contains, slice_get, refl, sym, ap, subst, ⊎_elim}
+use Rattle.std.proofs.Common.{◌≡◌, ◌∙◌, ◌⊎◌, ◌↔◌, inl, inr, ℕ, Bool, false, List, IsTrue, slice_get, refl, sym, subst, ⊎_elim}
 use Rattle.std.specs.BTreeSet.{BTreeSet}
 use Rattle.domain_base.specs.declared.place.Home.{Home}
 use Rattle.domain_base.specs.declared.place.Kind.TheVariants.{Directory}

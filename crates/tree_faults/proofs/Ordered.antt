@@ -1,9 +1,11 @@
 -- Where rows lead from earlier directories to later ones none is below itself.
-use Rattle.std.proofs.Common.{◌≡◌, ◌∙◌, ℕ, ◌<◌, List, Some, Vec, IsTrue, sym, ap, arith}
+use Rattle.std.proofs.Common.{◌≡◌, ◌∙◌, ℕ, ◌<◌, true, List, Option, None, Some, Vec, IsTrue, sym, ap, arith}
 use Rattle.std.specs.BTreeMap.{BTreeMap}
+use Rattle.std.specs.Option.{is_some}
+use mathlib.Core.Bool.{false≢true}
 use Rattle.domain_base.specs.declared.place.Tag.{Tag}
 use Rattle.row_faults.specs.declared.rows.RowThere.{RowThere}
-use Rattle.tree_faults.specs.Children.{AreChildren, HasChild}
+use Rattle.tree_faults.specs.Children.{AreChildren}
 use Rattle.tree_faults.specs.Misplaced.{Rises}
 use Rattle.tree_faults.specs.Order.{IsOrderOf, place_in}
 use Rattle.tree_faults.specs.Walk.{IsBelow}
@@ -27,11 +29,15 @@ module _ {Z : Type 0} (children : BTreeMap Tag (Vec Tag Z)) where
         (next.0, next.1, omega (arith, there.2, next.2))
   ]
 
-  pub never_below : (order : Order) → Rises children order → IsTrue order.rises → (tag : Tag) (place : ℕ) → place_in order.places tag ≡ Some place → ¬ IsBelow children tag tag
+  never_below : (order : Order) → Rises children order → IsTrue order.rises → (tag : Tag) (place : ℕ) → place_in order.places tag ≡ Some place → ¬ IsBelow children tag tag
   never_below order rises true_is tag place at way =
       let (later, there, less) = later_below order rises true_is tag tag place at way in
       let same : later ≡ place = some_same later place (sym there ∙ at) in
       omega (arith, same, less)
+
+  pub never_there : (order : Order) → Rises children order → IsTrue order.rises → (tag : Tag) (place : Option ℕ) → place ≡ place_in order.places tag → is_some place ≡ true → ¬ IsBelow children tag tag
+  never_there order rises true_is tag None is some way = false≢true some
+  never_there order rises true_is tag (Some place) is some way = never_below order rises true_is tag place (sym is) way
 
   pub rises_by : (rows : List RowThere) (order : Order) → AreChildren rows children → (IsTrue order.rises → IsOrderOf rows order.places) → Rises children order
   rises_by rows order are up true_is dir tag child place at =

@@ -19,7 +19,7 @@ use Rattle.row_faults.proofs.RowPlaces.{passing, rows_to}
 use Rattle.row_faults.specs.Counts.{leads_so}
 use Rattle.tree_faults.specs.Few.{HasFewRows}
 use Rattle.tree_faults.specs.Misplaced.{HasMisplaced}
-use Rattle.tree_faults.specs.Slot.{HasDirectoryFault, HasFileFault, HasRowFault}
+use Rattle.tree_faults.specs.Slot.{HasDirectoryFault, HasFileFault}
 
 -- one of two after the other
 pub two_put : {old mid new A B : Type 0} → mid ↔ (old ⊎ A) → new ↔ (mid ⊎ B) → new ↔ (old ⊎ (A ⊎ B))
@@ -92,7 +92,7 @@ module _ (pages : Pages) (frame : Frame) (table : Table) (number : ℕ) (rows : 
 
 module _ (pages : Pages) (frame : Frame) (table : Table) (home : Home) where
   to_slot : IsDirectoryFault pages frame table home → (number : ℕ) × HasDirectoryFault pages frame table number home
-  to_slot (inl (number, page)) = (number, inl (inl page))
+  to_slot (inl (number, dir, page, bytes, is, bad)) = (number, inl (inl (dir, page, bytes, is, bad)))
   to_slot (inr (inl f)) = (
     f.number,
     inl (inr (inl (record { early = f.early; late = f.late; one = f.one; other = f.other; first_home = f.first_home; is_early = f.is_early; is_late = f.is_late; same = f.same; order = f.order; names = f.names }))),
@@ -102,7 +102,7 @@ module _ (pages : Pages) (frame : Frame) (table : Table) (home : Home) where
   to_slot (inr (inr (inr (inr f)))) = (f.number, inr (record { tag = f.tag; cells = f.cells; seen = f.seen; has = f.has; at = f.at; wrong = f.wrong }))
 
   of_slot : (number : ℕ) → HasDirectoryFault pages frame table number home → IsDirectoryFault pages frame table home
-  of_slot number (inl (inl page)) = inl (number, page)
+  of_slot number (inl (inl (dir, page, bytes, is, bad))) = inl (number, dir, page, bytes, is, bad)
   of_slot number (inl (inr (inl f))) = inr (inl (record {
     number = number;
     early = f.early;

@@ -8,7 +8,7 @@ use Rattle.domain_base.specs.declared.place.Tag.{Tag}
 use Rattle.row_faults.specs.Parents.{HasTag}
 use Rattle.row_faults.proofs.Inserted.{among_at, at_among}
 use Rattle.tree_faults.specs.Children.{HasChild}
-use Rattle.tree_faults.specs.Walk.{GoesOn, IsAtOrBelow, IsBelow, IsListed, Leads, Notes}
+use Rattle.tree_faults.specs.Walk.{IsAtOrBelow, IsBelow, IsListed, Leads, Notes}
 use Rattle.tree_faults.specs.Walk.Leads.{one as leads_one, more as leads_more}
 use Rattle.tree_faults.specs.declared.walk.Walk.{Walk}
 
@@ -62,13 +62,6 @@ module _ (old new : Walk) (tag : Tag) (has : (q : Tag) → HasTag new.seen q ↔
 
 -- ---- more of them
 
-pub notes_none : (P : Tag → Type 0) (walk : Walk) → ((q : Tag) → ¬ P q) → Notes P walk walk
-notes_none P walk never = record {
-  keeps = λ k one at. at;
-  has = λ q. ((λ is. inl is), (λ which. ⊎_elim (λ is. is) (λ p. absurd (never q p)) which));
-  listed = λ listed. listed;
-}
-
 pub notes_both : (P Q R : Tag → Type 0) (old mid new : Walk) → Notes P old mid → Notes Q mid new → ((q : Tag) → R q ↔ (P q ⊎ Q q)) → Notes R old new
 notes_both P Q R old mid new first second both = record {
   keeps = λ k one at. second.keeps k one (first.keeps k one at);
@@ -120,9 +113,6 @@ module _ {Z : Type 0} (children : BTreeMap Tag (Vec Tag Z)) where
     pub had : (q : Tag) → HasTag first.seen q → HasTag walk.seen q
     pub below : (q : Tag) → HasTag walk.seen q → IsAtOrBelow children first q
     pub done : (k : ℕ) (tag q : Tag) → k < place → slice_get walk.tags.items k ≡ Some tag → HasChild children tag q → HasTag walk.seen q
-
-  pub on_at_first : (walk : Walk) → IsListed walk → IsOnTheWay walk walk 0
-  on_at_first walk listed = record { listed = listed; had = λ q is. is; below = λ q is. inl is; done = λ k tag q below at child. absurd (omega (arith, below)) }
 
   pub on_further : (first old new : Walk) (place : ℕ) (dir : Tag) → slice_get old.tags.items place ≡ Some dir → Notes (HasChild children dir) old new → IsOnTheWay first old place → IsOnTheWay first new (place + 1)
   on_further first old new place dir at notes on = record {

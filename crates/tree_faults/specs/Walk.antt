@@ -1,5 +1,5 @@
 -- The directories to which rows lead, one after the other.
-use Rattle.std.specs.Prelude.{◌≡◌, ◌⊎◌, ◌↔◌, ℕ, List, Some, Vec, Contains, slice_get}
+use Rattle.std.specs.Prelude.{◌≡◌, ◌⊎◌, ◌↔◌, ℕ, Some, Vec, Contains, slice_get}
 use Rattle.std.specs.BTreeMap.{BTreeMap}
 use Rattle.domain_base.specs.declared.place.Tag.{Tag}
 use Rattle.row_faults.specs.Parents.{HasTag}

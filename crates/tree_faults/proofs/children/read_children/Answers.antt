@@ -1,17 +1,10 @@
-use Rattle.std.proofs.Common.{inr, length, refl, arith, ⊎_elim}
+use Rattle.std.proofs.Common.{inr, length, refl, ⊎_elim}
 use Rattle.std.proofs.lemmas.Option.{slice_get_read}
 use Rattle.domain_base.specs.declared.place.Tag.{Tag}
 use Rattle.row_faults.specs.declared.rows.RowThere.{RowThere}
 use Rattle.row_faults.proofs.Inserted.{all_in, one_in}
 use Rattle.tree_faults.specs.Children.{HasChild, LeadsOn}
-use Rattle.tree_faults.proofs.ChildrenRead.{no_child}
 use Rattle.tree_faults.proofs.children.read_children.Goals as goal
-
-pub loop-row-init : goal.loop-row-init
-loop-row-init c q = (
-  λ is. absurd (no_child c.new-children.result c.new-children.ensures.empty q.0 q.1 is),
-  λ which. ⊎_elim (λ none. absurd none) (λ (k, row, below, at, leads). absurd (omega (arith, below))) which,
-)
 
 pub loop-row-preserved : goal.loop-row-preserved
 loop-row-preserved c =

@@ -4,10 +4,14 @@ use Rattle.home_sets.specs.Members.{IsIn}
 use Rattle.row_faults.proofs.Inserted.{none_in, one_in}
 use Rattle.tree_faults.specs.Misplaced.{IsMisplacedAt}
 use Rattle.tree_faults.proofs.MisplacedFound.{all_misplaced}
+use Rattle.tree_faults.proofs.Ordered.{rises_by}
 use Rattle.tree_faults.proofs.misplaced.insert_misplaced.Goals as goal
 
 pub loop-file-init : goal.loop-file-init
 loop-file-init c = none_in c.args.files.now (IsMisplacedAt c.in_ok-tree.tree) (IsIn c.args.found.now)
+
+pub insert_one-requires : goal.insert_one-requires
+insert_one-requires c = rises_by c.in_ok-tree.tree.children c.args.rows.now c.in_ok-order.order c.in_ok-tree.ensures.children c.in_ok-order.ensures
 
 pub loop-file-preserved : goal.loop-file-preserved
 loop-file-preserved c =

@@ -1,13 +1,7 @@
-use Rattle.std.proofs.Common.{◌≡◌, Bool, true, false, not, refl}
 use Rattle.domain_base.specs.contracts.place.TagOrd.TheImpl as tag_ord
-use Rattle.domain_base.specs.declared.place.Tag.{Tag}
 use Rattle.row_faults.proofs.TagSets.{put_key, tag_at}
-use Rattle.tree_faults.proofs.Walked.{notes_known, notes_new}
+use Rattle.tree_faults.proofs.Walked.{notes_new}
 use Rattle.tree_faults.proofs.walk.note_tag.Goals as goal
-
-was_there : (b : Bool) → false ≡ not b → b ≡ true
-was_there true e = refl
-was_there false e = absurd (cc)
 
 pub returns-in_ok-push : goal.returns-in_ok-push
 returns-in_ok-push c =
@@ -15,10 +9,3 @@ returns-in_ok-push c =
     notes_new old (record { tags = c.push.new.self; seen = c.insert.new.self }) c.args.tag
     (put_key ((tag_ord.ghosts).cmp) old.seen c.insert.new.self c.args.tag (tag_at c.args.tag) c.in_ok-is_new.ensures.updates.0)
     c.in_ok-push.ensures.items
-
-pub returns : goal.returns
-returns c =
-    let old = c.args.walk.now in
-    notes_known old (record { tags = old.tags; seen = c.insert.new.self }) c.args.tag
-    (put_key ((tag_ord.ghosts).cmp) old.seen c.insert.new.self c.args.tag (tag_at c.args.tag) c.in_ok-is_new.ensures.updates.0)
-    refl ?

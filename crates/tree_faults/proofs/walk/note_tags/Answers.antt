@@ -1,10 +1,7 @@
-use Rattle.std.proofs.Common.{◌+◌, arith}
+use Rattle.std.proofs.Common.{◌+◌}
 use Rattle.std.proofs.lemmas.Option.{slice_get-get_or}
-use Rattle.tree_faults.proofs.Walked.{InFront, notes_all, notes_both, notes_none, one_more}
+use Rattle.tree_faults.proofs.Walked.{InFront, notes_all, notes_both, one_more}
 use Rattle.tree_faults.proofs.walk.note_tags.Goals as goal
-
-pub loop-tag-init : goal.loop-tag-init
-loop-tag-init c = notes_none (InFront c.args.tags.now 0) c.args.walk.now (λ q (k, below, there). omega (arith, below))
 
 pub loop-tag-preserved : goal.loop-tag-preserved
 loop-tag-preserved c =

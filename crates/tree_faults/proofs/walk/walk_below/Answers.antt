@@ -1,4 +1,4 @@
-use Rattle.std.proofs.Common.{◌≡◌, Contains, List, subst}
+use Rattle.std.proofs.Common.{Contains, List, subst}
 use Rattle.domain_base.specs.declared.place.Tag.{Tag}
 use Rattle.tree_faults.specs.Walk.{Notes}
 use Rattle.tree_faults.proofs.Walked.{below_by_children}
