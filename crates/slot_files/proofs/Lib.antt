@@ -1,0 +1,7 @@
+pub mod AllFiles
+pub mod Listed
+pub mod ReadFiles
+pub mod SaidPlaces
+pub mod SaidSizes
+pub mod SlotFiles
+pub mod TagFiles

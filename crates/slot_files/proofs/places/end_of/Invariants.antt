@@ -1,0 +1,8 @@
+use Rattle.std.proofs.Common.{◌≡◌, ◌≤◌, ℕ, take}
+use Rattle.extent_maps.specs.Runs.{place_of}
+use Rattle.extent_maps.specs.declared.run.PagePlace.TheVariants.{Absent}
+use Rattle.slot_files.specs.Said.{runs_there}
+use Rattle.slot_files.proofs.places.end_of.Given as goal
+
+abbrev pub invariant-loop-run : goal.invariant-loop-run
+invariant-loop-run l = (page : ℕ) → l.end ≤ page → place_of (runs_there (take l.run-index l.runs)) page ≡ Absent

@@ -1,0 +1,24 @@
+use Rattle.std.proofs.Common.{◌∙◌, sym}
+use Rattle.page_ways.specs.Frame.{frame_in}
+use Rattle.shape_reading.proofs.Answered.{if_ok}
+use Rattle.slot_files.proofs.TagFiles.{in_clone, in_own}
+use Rattle.slot_files.proofs.tags.read_in_clone.Goals as goal
+
+pub look_at_chain-requires : goal.look_at_chain-requires
+look_at_chain-requires g c = λ broken. c.requires.whole _ c.in-Some.at broken (sym c.look.ensures ∙ c.in-Some.is)
+
+pub read_own_at-requires-clause-whole : goal.read_own_at-requires-clause-whole
+read_own_at-requires-clause-whole g c = λ broken. c.requires.whole _ c.in-Some.at broken (sym c.look.ensures ∙ c.in-Some.is)
+
+pub read_own_at-requires-clause-source : goal.read_own_at-requires-clause-source
+read_own_at-requires-clause-source g c = c.requires.sources _ c.in-Some.at (sym c.look.ensures ∙ c.in-Some.is)
+
+pub returns-in_ok-look_at_chain-in-Some : goal.returns-in_ok-look_at_chain-in-Some
+returns-in_ok-look_at_chain-in-Some g c =
+    if_ok c.read_own_at.result _ _
+    (λ found reads. in_own (g.M.MetaPages.pages c.args.pages.now) (frame_in c.args.frame.now) c.args.own.now c.args.behind.now c.args.number c.args.tag c.in-Some.at (sym c.look.ensures ∙ c.in-Some.is) found reads) c.read_own_at.ensures
+
+pub returns-in-None : goal.returns-in-None
+returns-in-None g c =
+    if_ok c.read_behind.result _ _
+    (λ found reads. in_clone (g.M.MetaPages.pages c.args.pages.now) (frame_in c.args.frame.now) c.args.own.now c.args.behind.now c.args.number c.args.tag (sym c.look.ensures ∙ c.in-None.is) found reads) c.read_behind.ensures
