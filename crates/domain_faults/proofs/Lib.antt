@@ -1,0 +1,3 @@
+pub mod FaultRows
+pub mod FoundFaults
+pub mod ToldFaults

@@ -1,0 +1,22 @@
+use Rattle.std.proofs.Common.{ap, subst}
+use Rattle.page_ways.specs.Frame.{frame_in}
+use Rattle.shape_reading.proofs.Answered.{if_ok}
+use Rattle.table_faults.specs.Read.{IsTableRead}
+use Rattle.domain_faults.specs.Rows.{rows_there}
+use Rattle.domain_faults.proofs.ToldFaults.{told_table, told_unnamed}
+use Rattle.domain_faults.proofs.all.faults.Goals as goal
+
+pub rows_behind-requires : goal.rows_behind-requires
+rows_behind-requires g c = subst (IsTableRead (g.M.MetaPages.pages c.args.pages.now) (frame_in c.args.frame.now)) c.in-There.is c.in_ok-read_table.ensures
+
+pub returns-in-Unnamed : goal.returns-in-Unnamed
+returns-in-Unnamed g c =
+    let pages = g.M.MetaPages.pages c.args.pages.now in
+    let frame = frame_in c.args.frame.now in
+    told_unnamed pages frame (subst (IsTableRead pages frame) c.in-Unnamed.is c.in_ok-read_table.ensures) (rows_there c.new.result.items) (ap rows_there c.new.ensures.items)
+
+pub returns-in-Wrong : goal.returns-in-Wrong
+returns-in-Wrong g c =
+    let pages = g.M.MetaPages.pages c.args.pages.now in
+    let frame = frame_in c.args.frame.now in
+    if_ok c.table_row.result _ _ (λ rows one. told_table pages frame c.in-Wrong.home (subst (IsTableRead pages frame) c.in-Wrong.is c.in_ok-read_table.ensures) (rows_there rows.items) one) c.table_row.ensures

@@ -1,0 +1,69 @@
+//! Rows of the list of faults.
+ghost use Rattle.std.specs.Prelude.{◌≡◌, ◌++◌, OnOk};
+ghost use Rattle.home_sets.specs.Members.{entries};
+ghost use Rattle.home_sets.specs.Order.{AreNumbered};
+ghost use Rattle.numbered_values.specs.Rising.{IsRising};
+ghost use Rattle.domain_faults.specs.Rows.{code_of, rows_of, rows_there};
+
+use domain_base::{Home, OutOfMemory};
+use home_sets::HomeSet;
+
+/// What is asked of the pages of a domain, in the order of the list of faults.
+#[derive(Clone, Copy, Debug, PartialEq, Eq)]
+pub enum Rule {
+    /// The page of the fileset table says one.
+    Table,
+    /// Cells and their chains are as they should be.
+    Cells,
+    /// Tags are, and what they and the slots of filesets name.
+    Tags,
+    /// Pages of files stand where they may.
+    Extents,
+    /// Bits of bitmaps say which pages belong to something.
+    Bitmaps,
+    /// Directories are as they should be.
+    Directories,
+    /// Indexes are.
+    Indexes,
+}
+
+impl Rule {
+    /// Its code in the list of faults.
+    pub fn code(self) -> u32
+        ensures { result ≡ code_of self }
+    {
+        match self {
+            Rule::Table => 4,
+            Rule::Cells => 5,
+            Rule::Tags => 6,
+            Rule::Extents => 7,
+            Rule::Bitmaps => 8,
+            Rule::Directories => 9,
+            Rule::Indexes => 10,
+        }
+    }
+}
+
+/// A rule, and a page at which it is broken.
+#[derive(Clone, Copy, Debug, PartialEq, Eq)]
+pub struct FaultRow {
+    pub rule: Rule,
+    pub home: Home,
+}
+
+/// Puts a row of a rule for each page of a set behind other rows.
+pub(crate) fn push_rows(
+    rule: Rule,
+    found: &HomeSet,
+    rows: &mut Vec<FaultRow>,
+) -> Result<(), OutOfMemory>
+    ensures rows { OnOk result (rows_there rows.new.items
+        ≡ rows_there rows.old.items ++ rows_of (code_of rule) (entries found.now)) }
+    ensures rising { OnOk result (IsRising (entries found.now)) }
+    ensures numbered { OnOk result (AreNumbered (entries found.now)) }
+{
+    for (_, home) in found.as_slice() {
+        rows.push(FaultRow { rule, home: *home })?;
+    }
+    Ok(())
+}
