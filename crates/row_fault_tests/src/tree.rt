@@ -7,9 +7,9 @@ use std::alloc::Global;
 use std::test::Fail;
 use tree_faults::{insert_directory_faults, insert_few_rows, insert_misplaced};
 
-/// Pages of rows, which lead to slots: 260 to directory 2 and file
-/// 3, 261 to directory 4, 262 to directory 2, 263 to directory 5, 264 to directories 2 and 6, 266 to
-/// directories 5 and 2, and 267 to file 2.
+/// Pages of rows, which lead to slots: 260 to directory 2 and file 3, 261 to directory 4, 262 to
+/// directory 2, 263 to directory 5, 264 to directories 2 and 6, 266 to directories 5 and 2, and 267
+/// to file 2.
 const PAGES: &str = "\
 260 44495250 1200 0200 0000000000000000 020000000100020161 030000000100010162
 261 44495250 0900 0100 0000000000000000 040000000100020161
@@ -95,8 +95,9 @@ fn directories_of_a_clone_may_be_below_lost_ones(rt: HostRuntime) -> Result<(), 
     Ok(())
 }
 
-/// A file with a row for its link, with two links, without a row, and with one of the other kind; in
-/// a clone with two links where all is there, and where a directory is lost; and so in an original.
+/// A file with a row for its link, with two links, without a row, and with one of the other kind;
+/// in a clone with two links where all is there, and where a directory is lost; and so in an
+/// original.
 #[test]
 fn files_have_a_row_for_each_link(rt: HostRuntime) -> Result<(), Fail> {
     let alloc = rt.alloc();
