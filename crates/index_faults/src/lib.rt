@@ -5,4 +5,4 @@ mod indexes;
 mod shared;
 
 pub use indexes::{IndexAt, read_indexes};
-pub use shared::index_page_faults;
+pub use shared::{index_page_faults, is_good_page};

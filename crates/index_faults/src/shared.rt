@@ -19,7 +19,7 @@ use std::alloc::Global;
 
 /// Whether a page is a well-formed one of an index, and leads to none, or to one on a volume that
 /// there may be.
-pub(crate) fn is_good_page(page: &Page) -> bool
+pub fn is_good_page(page: &Page) -> bool
     ensures { IsTrue result ↔ IsGoodIndexPage page.now }
 {
     let bytes = page.bytes();

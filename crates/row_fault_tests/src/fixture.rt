@@ -14,7 +14,7 @@ use std::alloc::Global;
 use std::test::Fail;
 
 /// A page of volume 1.
-fn home(page: u32) -> Home {
+pub fn home(page: u32) -> Home {
     Home {
         vol: VolIx::new(1).unwrap(),
         page,

@@ -4,6 +4,8 @@
 #[cfg(test)]
 mod fixture;
 #[cfg(test)]
+mod indexes;
+#[cfg(test)]
 mod links;
 #[cfg(test)]
 mod lost;

@@ -1,0 +1,13 @@
+pub mod AllWrong
+pub mod Flat
+pub mod FlatCounts
+pub mod IndexSlots
+pub mod Items
+pub mod Keys
+pub mod Lates
+pub mod OneIndex
+pub mod Read
+pub mod RowKeys
+pub mod RowsKeyed
+pub mod Undues
+pub mod WrongFound
