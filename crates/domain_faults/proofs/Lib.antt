@@ -1,3 +1,4 @@
 pub mod FaultRows
 pub mod FoundFaults
+pub mod FoundIndexes
 pub mod ToldFaults

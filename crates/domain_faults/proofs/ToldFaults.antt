@@ -7,8 +7,8 @@ use Rattle.fileset_table.specs.Page.{IsTablePage}
 use Rattle.fileset_table.specs.Table.{Table}
 use Rattle.fileset_table.proofs.Unique.{table_unique}
 use Rattle.domain_layout.specs.CellRules.{IsCellsFault}
-use Rattle.domain_layout.specs.DirectoryRules.{IsDirectoryFault, IsWrongIndexPage}
-use Rattle.domain_layout.specs.Faults.{FaultRow, HasNoTablesFault, IsTableFault, IsTablesFault, SaysTable}
+use Rattle.domain_layout.specs.DirectoryRules.{IsDirectoryFault, IsIndexFault}
+use Rattle.domain_layout.specs.Faults.{AreFaults, FaultRow, HasNoTablesFault, IsFault, IsFilesFault, IsTableFault, IsTablesFault, SaysTable}
 use Rattle.domain_layout.specs.Layout.{IsLayout, Layout}
 use Rattle.domain_layout.specs.Owners.{frame_of}
 use Rattle.domain_layout.specs.PageRules.{IsBitmapFault, IsExtentFault}
@@ -24,7 +24,6 @@ use Rattle.page_faults.specs.Files.{AreGoodCells, HasWrongBit, HasWrongPage}
 use Rattle.page_faults.proofs.ByLayout.{bits_by_layout, pages_by_layout}
 use Rattle.table_faults.specs.Read.{IsWholeTable}
 use Rattle.domain_faults.specs.Rows.{AreRowsOf}
-use Rattle.domain_faults.specs.Told.{IsFoundOfFiles, IsTold}
 use Rattle.domain_faults.proofs.FaultRows.{IsNoRow, IsRowIn, empty_by, in_none, rows_alone, rows_none, rows_same}
 
 -- ---- tables
@@ -111,24 +110,26 @@ module _ (pages : Pages) (frame : Frame) (tables : DomainTables) (are : AreTable
 
   module _ (wrong_pages wrong_bits directories indexes : HomeSet) where
     module _ (of_pages : (home : Home) → IsIn wrong_pages home ↔ HasWrongPage pages frame tables.filesets home) (of_bits : (home : Home) → IsIn wrong_bits home ↔ HasWrongBit pages frame tables.filesets home)
-        (of_directories : (home : Home) → IsIn directories home ↔ IsDirectoryFault pages frame tables.filesets home) (of_indexes : (home : Home) → IsIn indexes home ↔ IsWrongIndexPage pages frame home) where
-      to_told : (row : FaultRow) → IsOfFiles wrong_pages wrong_bits directories indexes row → IsFoundOfFiles pages frame row
+        (of_directories : (home : Home) → IsIn directories home ↔ IsDirectoryFault pages frame tables.filesets home) (of_indexes : (home : Home) → IsIn indexes home ↔ IsIndexFault pages frame tables.filesets home) where
+      to_told : (row : FaultRow) → IsOfFiles wrong_pages wrong_bits directories indexes row → IsFilesFault pages frame row
       to_told row (inl (inl (inl (inl void)))) = absurd void
       to_told row (inl (inl (inl (inr is)))) = (are.layout, are.is, are.laid, inl (is.0, (extents are.layout here row.home).1 ((of_pages row.home).0 is.1)))
       to_told row (inl (inl (inr is))) = (are.layout, are.is, are.laid, inr (inl (is.0, (bitmaps are.layout here row.home).1 ((of_bits row.home).0 is.1))))
       to_told row (inl (inr is)) =
           (are.layout, are.is, are.laid, inr (inr (inl (is.0, subst (λ (t : Table). IsDirectoryFault pages frame t row.home) (sym are.table) ((of_directories row.home).0 is.1)))))
-      to_told row (inr is) = (are.layout, are.is, are.laid, inr (inr (inr (is.0, (of_indexes row.home).0 is.1))))
+      to_told row (inr is) =
+          (are.layout, are.is, are.laid, inr (inr (inr (is.0, subst (λ (t : Table). IsIndexFault pages frame t row.home) (sym are.table) ((of_indexes row.home).0 is.1)))))
 
       from_told : (row : FaultRow) (layout : Layout) → IsThis layout → ((row.code ≡ 7) × IsExtentFault pages layout row.home) ⊎ ((row.code ≡ 8) × IsBitmapFault pages layout row.home)
-          ⊎ ((row.code ≡ 9) × IsDirectoryFault pages frame layout.table row.home) ⊎ ((row.code ≡ 10) × IsWrongIndexPage pages frame row.home) → IsOfFiles wrong_pages wrong_bits directories indexes row
+          ⊎ ((row.code ≡ 9) × IsDirectoryFault pages frame layout.table row.home) ⊎ ((row.code ≡ 10) × IsIndexFault pages frame layout.table row.home) → IsOfFiles wrong_pages wrong_bits directories indexes row
       from_told row layout this (inl is) = inl (inl (inl (inr (is.0, (of_pages row.home).1 ((extents layout this row.home).0 is.1)))))
       from_told row layout this (inr (inl is)) = inl (inl (inr (is.0, (of_bits row.home).1 ((bitmaps layout this row.home).0 is.1))))
       from_told row layout this (inr (inr (inl is))) =
           inl (inr (is.0, (of_directories row.home).1 (subst (λ (t : Table). IsDirectoryFault pages frame t row.home) (table_is layout this) is.1)))
-      from_told row layout this (inr (inr (inr is))) = inr (is.0, (of_indexes row.home).1 is.1)
+      from_told row layout this (inr (inr (inr is))) =
+          inr (is.0, (of_indexes row.home).1 (subst (λ (t : Table). IsIndexFault pages frame t row.home) (table_is layout this) is.1))
 
-      pub files_told : (row : FaultRow) → IsOfFiles wrong_pages wrong_bits directories indexes row ↔ IsFoundOfFiles pages frame row
+      pub files_told : (row : FaultRow) → IsOfFiles wrong_pages wrong_bits directories indexes row ↔ IsFilesFault pages frame row
       files_told row = (to_told row, λ (layout, same, stands, which). from_told row layout (same, stands) which)
 
 -- ---- all
@@ -141,27 +142,27 @@ some_is o x is = subst IsSome (sym is) refl
 
 module _ (pages : Pages) (frame : Frame) where
   -- a layout says its version, and names a table
-  no_version : ¬ frame.anchor.version ≡ version_number frame.version → (row : FaultRow) → ¬ IsFoundOfFiles pages frame row
+  no_version : ¬ frame.anchor.version ≡ version_number frame.version → (row : FaultRow) → ¬ IsFilesFault pages frame row
   no_version other row (layout, same, stands, which) = other (subst (λ (f : Frame). f.anchor.version ≡ version_number f.version) same stands.version)
 
-  no_name : frame.anchor.table ≡ None → (row : FaultRow) → ¬ IsFoundOfFiles pages frame row
+  no_name : frame.anchor.table ≡ None → (row : FaultRow) → ¬ IsFilesFault pages frame row
   no_name none row (layout, same, stands, which) =
       subst (λ o. IsSomeAnd o (λ home. IsSomeAnd (pages home) (λ page. IsTablePage page layout.table))) (ap (λ (f : Frame). f.anchor.table) same ∙ none) stands.table
 
-  nothing : frame.anchor.table ≡ None → (row : FaultRow) → ¬ IsTold pages frame row
+  nothing : frame.anchor.table ≡ None → (row : FaultRow) → ¬ IsFault pages frame row
   nothing none row (inl is) = none_some row.home (sym none ∙ is.1.at)
   nothing none row (inr (inl is)) = let says = is.1.1 in none_some says.home (sym none ∙ says.at)
   nothing none row (inr (inr is)) = no_name none row is.1
 
-  pub told_unnamed : frame.anchor.table ≡ None → (rows : List FaultRow) → rows ≡ [] → AreRowsOf (IsTold pages frame) rows
+  pub told_unnamed : frame.anchor.table ≡ None → (rows : List FaultRow) → rows ≡ [] → AreRowsOf (IsFault pages frame) rows
   told_unnamed none rows empty =
-      subst (AreRowsOf (IsTold pages frame)) (sym empty) (rows_same IsNoRow (IsTold pages frame) [] (λ row. ((λ void. absurd void), (λ is. nothing none row is))) rows_none)
+      subst (AreRowsOf (IsFault pages frame)) (sym empty) (rows_same IsNoRow (IsFault pages frame) [] (λ row. ((λ void. absurd void), (λ is. nothing none row is))) rows_none)
 
   -- a fault of the table stands alone
-  pub told_table : (home : Home) → IsTableFault pages frame home → (rows : List FaultRow) → rows ≡ (record { code = 4; home = home }) ∷ [] → AreRowsOf (IsTold pages frame) rows
+  pub told_table : (home : Home) → IsTableFault pages frame home → (rows : List FaultRow) → rows ≡ (record { code = 4; home = home }) ∷ [] → AreRowsOf (IsFault pages frame) rows
   told_table home fault rows one =
-      subst (AreRowsOf (IsTold pages frame)) (sym one)
-      (rows_same (λ row. row ≡ record { code = 4; home = home }) (IsTold pages frame) ((record { code = 4; home = home }) ∷ [])
+      subst (AreRowsOf (IsFault pages frame)) (sym one)
+      (rows_same (λ row. row ≡ record { code = 4; home = home }) (IsFault pages frame) ((record { code = 4; home = home }) ∷ [])
       (λ row. (
         (λ same. inl (ap (λ (r : FaultRow). r.code) same, subst (λ (r : FaultRow). IsTableFault pages frame r.home) (sym same) fault)),
         (λ is. ⊎_elim (λ first. (λ i. record { code = first.0 i; home = same_home row.home first.1 i }))
@@ -173,9 +174,9 @@ module _ (pages : Pages) (frame : Frame) where
 
   module _ (table : Table) (whole : IsWholeTable pages frame table) where
     -- faults of tables stand without those of files
-    pub told_tables : (rows : List FaultRow) → AreRowsOf (IsTablesFault pages frame) rows → (¬ frame.anchor.version ≡ version_number frame.version) ⊎ ¬ rows ≡ [] → AreRowsOf (IsTold pages frame) rows
+    pub told_tables : (rows : List FaultRow) → AreRowsOf (IsTablesFault pages frame) rows → (¬ frame.anchor.version ≡ version_number frame.version) ⊎ ¬ rows ≡ [] → AreRowsOf (IsFault pages frame) rows
     told_tables rows are why =
-        rows_same (IsTablesFault pages frame) (IsTold pages frame) rows
+        rows_same (IsTablesFault pages frame) (IsFault pages frame) rows
         (λ row. (
           (λ is. inr (inl (whole.1, is))),
           (λ is. ⊎_elim (λ first. absurd (whole.1 row.home first.1)) (λ more. ⊎_elim (λ second. second.1) (λ third. absurd (no_files row third)) more) is),
@@ -184,7 +185,7 @@ module _ (pages : Pages) (frame : Frame) where
         not_all : HasNoTablesFault pages frame → ¬ ¬ rows ≡ []
         not_all none some = some (empty_by rows (λ row among. none.tables row ((are.each row).0 among)))
 
-        no_files : (row : FaultRow) → HasNoTablesFault pages frame × IsFoundOfFiles pages frame row → ⊥
+        no_files : (row : FaultRow) → HasNoTablesFault pages frame × IsFilesFault pages frame row → ⊥
         no_files row is = ⊎_elim (λ other. no_version other row is.1) (λ some. not_all is.0 some) why
 
     pub no_tables_fault : (rows : List FaultRow) → AreRowsOf (IsTablesFault pages frame) rows → rows ≡ [] → HasNoTablesFault pages frame
@@ -196,10 +197,14 @@ module _ (pages : Pages) (frame : Frame) where
     pub named : IsSome frame.anchor.table
     named = some_is frame.anchor.table whole.0.home whole.0.at
 
-    pub told_files : HasNoTablesFault pages frame → (rows : List FaultRow) → AreRowsOf (IsFoundOfFiles pages frame) rows → AreRowsOf (IsTold pages frame) rows
+    pub told_files : HasNoTablesFault pages frame → (rows : List FaultRow) → AreRowsOf (IsFilesFault pages frame) rows → AreRowsOf (IsFault pages frame) rows
     told_files none rows are =
-        rows_same (IsFoundOfFiles pages frame) (IsTold pages frame) rows
+        rows_same (IsFilesFault pages frame) (IsFault pages frame) rows
         (λ row. (
           (λ is. inr (inr (none, is))),
           (λ is. ⊎_elim (λ first. absurd (none.table row.home first.1)) (λ more. ⊎_elim (λ second. absurd (none.tables row second.1)) (λ third. third.1) more) is),
         )) are
+
+  -- the list that is looked for
+  pub all_told : (rows : List FaultRow) → AreRowsOf (IsFault pages frame) rows → AreFaults pages frame rows
+  all_told rows are = record { each = are.each; order = are.order }

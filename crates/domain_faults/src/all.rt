@@ -1,9 +1,9 @@
 //! The whole list.
 ghost use Rattle.std.specs.Prelude.{◌≡◌, ◌↔◌, ◌∷◌, [], IfOk, IsTrue};
+ghost use Rattle.domain_layout.specs.Faults.{AreFaults, IsFault};
 ghost use Rattle.page_ways.specs.Frame.{frame_in};
 ghost use Rattle.table_faults.specs.Read.{IsWholeTable};
 ghost use Rattle.domain_faults.specs.Rows.{AreRowsOf, rows_there};
-ghost use Rattle.domain_faults.specs.Told.{IsTold};
 
 use crate::files::{files_rows, says_version};
 use crate::rows::{FaultRow, Rule};
@@ -45,7 +45,7 @@ fn rows_behind<M: MetaPages>(
     table: &FilesetTable,
 ) -> Result<Vec<FaultRow>, OutOfMemory>
     requires { IsWholeTable (M.pages pages.now) (frame_in frame.now) table.now }
-    ensures { IfOk result (λ rows. AreRowsOf (IsTold (M.pages pages.now) (frame_in frame.now))
+    ensures { IfOk result (λ rows. AreRowsOf (IsFault (M.pages pages.now) (frame_in frame.now))
         (rows_there rows.items)) }
 {
     let rows = tables_rows(alloc, pages, frame, table)?;
@@ -60,13 +60,13 @@ fn rows_behind<M: MetaPages>(
 
 /// The faults of a domain's pages, each once and in the order of their codes, volumes and pages. A
 /// fault of the fileset table stands alone, and those of cells and tags without the ones behind
-/// them. Of the rules of indexes those are looked for that `index_page_faults` tells.
+/// them.
 pub fn faults<M: MetaPages>(
     alloc: Global,
     pages: &M,
     frame: &DomainFrame,
 ) -> Result<Vec<FaultRow>, OutOfMemory>
-    ensures { IfOk result (λ rows. AreRowsOf (IsTold (M.pages pages.now) (frame_in frame.now))
+    ensures { IfOk result (λ rows. AreFaults (M.pages pages.now) (frame_in frame.now)
         (rows_there rows.items)) }
 {
     match read_table(alloc, pages, frame)? {

@@ -1,17 +1,16 @@
 //! Rules of files' pages, bitmaps, directories and indexes.
 ghost use Rattle.std.specs.Prelude.{◌↔◌, ◌≡◌, IfOk, IsTrue};
 ghost use Rattle.domain_base.specs.Version.{number_of};
-ghost use Rattle.domain_layout.specs.Faults.{HasNoTablesFault};
+ghost use Rattle.domain_layout.specs.Faults.{HasNoTablesFault, IsFilesFault};
 ghost use Rattle.filesets_reading.specs.Good.{IsNamed};
 ghost use Rattle.page_ways.specs.Frame.{frame_in};
 ghost use Rattle.domain_faults.specs.Rows.{AreRowsOf, rows_there};
-ghost use Rattle.domain_faults.specs.Told.{IsFoundOfFiles};
 
 use crate::directories::directory_faults;
+use crate::indexes::faults_of_indexes;
 use crate::rows::{FaultRow, Rule, push_rows};
 use domain_base::OutOfMemory;
 use filesets_reading::read_tables;
-use index_faults::index_page_faults;
 use page_faults::{bitmap_faults, extent_faults};
 use page_store::MetaPages;
 use page_ways::DomainFrame;
@@ -24,8 +23,7 @@ pub(crate) fn says_version(frame: &DomainFrame) -> bool
     frame.anchor.version == frame.version.number()
 }
 
-/// The faults of files' pages, bitmaps, directories and indexes, as far as these last are looked
-/// for, where no rule of tables is broken.
+/// The faults of files' pages, bitmaps, directories and indexes, where no rule of tables is broken.
 pub(crate) fn files_rows<M: MetaPages>(
     alloc: Global,
     pages: &M,
@@ -33,14 +31,14 @@ pub(crate) fn files_rows<M: MetaPages>(
 ) -> Result<Vec<FaultRow>, OutOfMemory>
     requires named { IsNamed frame.now.anchor frame.now.version }
     requires no_fault { HasNoTablesFault (M.pages pages.now) (frame_in frame.now) }
-    ensures { IfOk result (λ rows. AreRowsOf (IsFoundOfFiles (M.pages pages.now)
+    ensures { IfOk result (λ rows. AreRowsOf (IsFilesFault (M.pages pages.now)
         (frame_in frame.now)) (rows_there rows.items)) }
 {
     let tables = read_tables(alloc, pages, &frame.anchor, frame.version)?;
     let extents = extent_faults(alloc, pages, frame, &tables.filesets)?;
     let bitmaps = bitmap_faults(alloc, pages, frame, &tables.filesets)?;
     let directories = directory_faults(alloc, pages, frame, &tables)?;
-    let indexes = index_page_faults(alloc, pages, frame)?;
+    let indexes = faults_of_indexes(alloc, pages, frame, &tables)?;
     let mut rows = Vec::new(alloc);
     push_rows(Rule::Extents, &extents, &mut rows)?;
     push_rows(Rule::Bitmaps, &bitmaps, &mut rows)?;

@@ -4,6 +4,7 @@
 mod all;
 mod directories;
 mod files;
+mod indexes;
 mod rows;
 mod tables;
 

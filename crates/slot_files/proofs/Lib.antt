@@ -1,4 +1,5 @@
 pub mod AllFiles
+pub mod Indexed
 pub mod Listed
 pub mod ReadFiles
 pub mod SaidPlaces

@@ -189,10 +189,10 @@ is_table pages frame tables are =
     subst IsTable are.table there.is.good
 
 module _ (pages : Pages) (frame : Frame) (tables : DomainTables) (are : AreTablesOf pages frame tables) (fault : HasNoTablesFault pages frame) where
-  none : HasNoTablesFault pages (frame_of are.layout)
+  pub none : HasNoTablesFault pages (frame_of are.layout)
   none = subst (HasNoTablesFault pages) (sym are.is) fault
 
-  slot_there : (number : ℕ) (item : SlotItem) → slice_get tables.filesets.slots number ≡ Some item → slice_get are.layout.table.slots number ≡ Some item
+  pub slot_there : (number : ℕ) (item : SlotItem) → slice_get tables.filesets.slots number ≡ Some item → slice_get are.layout.table.slots number ≡ Some item
   slot_there number item there = subst (λ (t : Table). slice_get t.slots number ≡ Some item) (sym are.table) there
 
   -- the tag directory of what is in a slot

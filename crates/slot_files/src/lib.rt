@@ -5,6 +5,7 @@
 mod chains;
 mod files;
 mod homes;
+mod indexes;
 mod members;
 mod places;
 mod records;
@@ -14,4 +15,5 @@ mod sizes;
 mod slots;
 mod tags;
 
+pub use indexes::read_slot_indexes;
 pub use slots::read_slot_files;

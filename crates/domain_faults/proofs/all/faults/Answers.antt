@@ -3,7 +3,7 @@ use Rattle.page_ways.specs.Frame.{frame_in}
 use Rattle.shape_reading.proofs.Answered.{if_ok}
 use Rattle.table_faults.specs.Read.{IsTableRead}
 use Rattle.domain_faults.specs.Rows.{rows_there}
-use Rattle.domain_faults.proofs.ToldFaults.{told_table, told_unnamed}
+use Rattle.domain_faults.proofs.ToldFaults.{all_told, told_table, told_unnamed}
 use Rattle.domain_faults.proofs.all.faults.Goals as goal
 
 pub rows_behind-requires : goal.rows_behind-requires
@@ -13,10 +13,16 @@ pub returns-in-Unnamed : goal.returns-in-Unnamed
 returns-in-Unnamed g c =
     let pages = g.M.MetaPages.pages c.args.pages.now in
     let frame = frame_in c.args.frame.now in
-    told_unnamed pages frame (subst (IsTableRead pages frame) c.in-Unnamed.is c.in_ok-read_table.ensures) (rows_there c.new.result.items) (ap rows_there c.new.ensures.items)
+    all_told pages frame (rows_there c.new.result.items) (told_unnamed pages frame (subst (IsTableRead pages frame) c.in-Unnamed.is c.in_ok-read_table.ensures) (rows_there c.new.result.items) (ap rows_there c.new.ensures.items))
 
 pub returns-in-Wrong : goal.returns-in-Wrong
 returns-in-Wrong g c =
     let pages = g.M.MetaPages.pages c.args.pages.now in
     let frame = frame_in c.args.frame.now in
-    if_ok c.table_row.result _ _ (λ rows one. told_table pages frame c.in-Wrong.home (subst (IsTableRead pages frame) c.in-Wrong.is c.in_ok-read_table.ensures) (rows_there rows.items) one) c.table_row.ensures
+    if_ok c.table_row.result _ _ (λ rows one. all_told pages frame (rows_there rows.items) (told_table pages frame c.in-Wrong.home (subst (IsTableRead pages frame) c.in-Wrong.is c.in_ok-read_table.ensures) (rows_there rows.items) one)) c.table_row.ensures
+
+pub returns-in-There : goal.returns-in-There
+returns-in-There g c =
+    let pages = g.M.MetaPages.pages c.args.pages.now in
+    let frame = frame_in c.args.frame.now in
+    if_ok c.rows_behind.result _ _ (λ rows are. all_told pages frame (rows_there rows.items) are) c.rows_behind.ensures

@@ -1,7 +1,7 @@
 use Rattle.std.proofs.Common.{◌⊎◌, arith}
 use Rattle.page_ways.specs.Frame.{frame_in}
 use Rattle.domain_faults.specs.Rows.{rows_there}
-use Rattle.domain_faults.specs.Told.{IsFoundOfFiles}
+use Rattle.domain_layout.specs.Faults.{IsFilesFault}
 use Rattle.domain_faults.proofs.FaultRows.{IsNoRow, IsRowIn, early_none, early_on, rows_begin, rows_put, rows_same}
 use Rattle.domain_faults.proofs.ToldFaults.{IsOfFiles, files_told, good_cells}
 use Rattle.domain_faults.proofs.files.files_rows.Goals as goal
@@ -31,5 +31,5 @@ returns g c =
     let third = rows_put 9 directories c.in_ok-push_rows-3.ensures.rising c.in_ok-push_rows-3.ensures.numbered (λ row. (IsNoRow row ⊎ IsRowIn 7 extents row) ⊎ IsRowIn 8 bitmaps row) eight nine second early9 c.in_ok-push_rows-3.ensures.rows in
     let fourth =
     rows_put 10 indexes c.in_ok-push_rows-4.ensures.rising c.in_ok-push_rows-4.ensures.numbered (λ row. ((IsNoRow row ⊎ IsRowIn 7 extents row) ⊎ IsRowIn 8 bitmaps row) ⊎ IsRowIn 9 directories row) nine ten third early10 c.in_ok-push_rows-4.ensures.rows in
-    rows_same (IsOfFiles extents bitmaps directories indexes) (IsFoundOfFiles pages frame) ten
+    rows_same (IsOfFiles extents bitmaps directories indexes) (IsFilesFault pages frame) ten
     (files_told pages frame tables are c.requires.no_fault extents bitmaps directories indexes (c.in_ok-extents.ensures good) (c.in_ok-bitmaps.ensures good) c.in_ok-directories.ensures c.in_ok-indexes.ensures) fourth

@@ -1,0 +1,5 @@
+use Rattle.slot_files.proofs.Indexed.{IsOneBefore}
+use Rattle.slot_files.proofs.indexes.has_two.Given as goal
+
+abbrev pub invariant-loop-home : goal.invariant-loop-home
+invariant-loop-home l = IsOneBefore l.homes l.home-index l.has_one

@@ -1,0 +1,77 @@
+-- What is read of the indexes of an original's files.
+use Rattle.std.specs.Prelude.{◌≡◌, ℕ, List, Option, Some, None, Contains, IfSome, IsSome, IsSomeAnd}
+use Rattle.std.specs.Option.{option_and_then}
+use Rattle.domain_base.specs.declared.place.Home.{Home}
+use Rattle.page_store.specs.Pages.{Pages}
+use Rattle.record_table.specs.declared.record.Record.{Record}
+use Rattle.record_table.specs.declared.record.Record.TheVariants as written
+use Rattle.bmt_mcells.specs.Chain.{LinksFrom, PlacedCell}
+use Rattle.bitfile_core.specs.Files.{first_record}
+use Rattle.bitfile_core.specs.Shown.{index_in}
+use Rattle.domain_layout.specs.DirectoryRules.{total_in}
+use Rattle.domain_layout.specs.Seen.{SeenFile, seen_in}
+use Rattle.fileset_table.specs.Table.{Table}
+use Rattle.row_faults.specs.declared.there.FileThere.{FileThere}
+use Rattle.index_row_faults.specs.There.{MayBeOf}
+use Rattle.index_row_faults.specs.declared.there.IndexThere.{IndexThere}
+use Rattle.slot_files.specs.Files.{HasOriginalAt, IsWhole}
+use Rattle.slot_files.specs.Said.{said_in}
+use Rattle.slot_files.specs.declared.indexes.SaidIndex.{SaidIndex}
+use Rattle.slot_files.specs.declared.said.SaidHome.{SaidHome}
+
+-- the first of the cells names an index that begins there, of so many entries
+abbrev pub Names : List PlacedCell → Home → ℕ → Type 0
+Names cells first total = (value : Record) × (first_record 9 cells ≡ Some value)
+    × (index_in value ≡ Some first) × (total_in value ≡ total)
+
+-- the index that a record names, and that the first of the cells does
+abbrev pub said_by : Record → Option SaidIndex
+said_by (written.DirIndex vol page entries) =
+    Some (record { first = record { vol = vol; page = page }; total = entries })
+said_by _ = None
+
+abbrev pub said_of : List PlacedCell → Option SaidIndex
+said_of cells = option_and_then said_by (first_record 9 cells)
+
+-- two pages have a home
+abbrev pub HasTwo : List (Option SaidHome) → Type 0
+HasTwo homes = (one : ℕ) × (other : ℕ) × (¬ one ≡ other) × IsSome (said_in homes one)
+    × IsSome (said_in homes other)
+
+-- a file of these cells, as an original has it, is what was read
+abbrev pub IsOf : Pages → FileThere → List PlacedCell → SeenFile → Type 0
+IsOf pages file cells seen =
+    LinksFrom pages file.at cells × (seen_in cells ≡ Some seen) × (file.seen.is ≡ seen.is)
+
+-- an index of the file was read
+pub record IsIndexOf (pages : Pages) (file : FileThere) (index : IndexThere) : Type 0 where
+  pub tag_is : index.tag ≡ file.tag
+  pub names : (cells : List PlacedCell) → LinksFrom pages file.at cells
+      → Names cells index.first index.total
+  pub may_be : (cells : List PlacedCell) (seen : SeenFile) → IsOf pages file cells seen
+      → MayBeOf seen index
+
+-- the index of a file was read, and none where it names none
+pub record ReadsIndex (pages : Pages) (file : FileThere) (found : Option IndexThere) : Type 0 where
+  pub each : IfSome found (IsIndexOf pages file)
+  pub all : (cells : List PlacedCell) (first : Home) (total : ℕ) → LinksFrom pages file.at cells
+      → Names cells first total → IsSomeAnd found (λ index. (index.first ≡ first)
+      × (index.total ≡ total))
+
+-- the chains of files are whole
+abbrev pub AreWhole : Pages → List FileThere → Type 0
+AreWhole pages files = (file : FileThere) → Contains files file → IsWhole pages file.at
+
+-- they are where an original is in a slot
+abbrev pub AreWholeAt : Pages → Table → ℕ → List FileThere → Type 0
+AreWholeAt pages table number files = HasOriginalAt table number → AreWhole pages files
+
+-- a list has the indexes of files, and no others
+pub record AreIndexesOf (pages : Pages) (files : List FileThere) (indexes : List IndexThere)
+    : Type 0 where
+  pub each : (index : IndexThere) → Contains indexes index
+      → (file : FileThere) × Contains files file × IsIndexOf pages file index
+  pub all : (file : FileThere) (cells : List PlacedCell) (first : Home) (total : ℕ)
+      → Contains files file → LinksFrom pages file.at cells → Names cells first total
+      → (index : IndexThere) × Contains indexes index × IsIndexOf pages file index
+      × (index.first ≡ first) × (index.total ≡ total)
