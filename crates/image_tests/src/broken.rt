@@ -249,6 +249,40 @@ static INDEX_PAGES: [Broken; 2] = [
     ),
 ];
 
+/// An index of a directory: entries out of order; one that has no row, while a row has none;
+/// another total; a row without its entry; an index of a directory of one page, and of a file.
+static INDEXES: [Broken; 6] = [
+    (Whole::Indexed, "index 150 151 98@0 97@0", "10 1:150\n"),
+    (
+        Whole::Indexed,
+        "index 151 - 99@1 2112@1 2112@2",
+        "10 1:150\n10 1:151\n",
+    ),
+    (
+        Whole::Indexed,
+        "cell 3.3 1 1 3.1 - dir,24576 short,0+3@201 index,150,6 parent,1.1",
+        "10 1:150\n",
+    ),
+    (
+        Whole::Indexed,
+        "index 151 - 99@1 2112@2
+cell 3.3 1 1 3.1 - dir,24576 short,0+3@201 index,150,4 parent,1.1",
+        "10 1:150\n",
+    ),
+    (
+        Whole::Files,
+        "cell 3.1 1 1 1.1 - dir,8192 short,0+1@200 index,150,2 parent,1.1
+index 150 - 100@0 102@0\nbytes 2 18 40",
+        "10 1:150\n",
+    ),
+    (
+        Whole::Files,
+        "cell 3.4 1 1 4.7 - file,5 short,0+1@205 index,150,0\nindex 150 -
+bytes 2 18 40",
+        "10 1:150\n",
+    ),
+];
+
 /// Tells which of some images of version 3 are told otherwise.
 fn in_three(alloc: Global, images: &[Broken]) -> Result<String, Fail> {
     told_otherwise(alloc, Version::Three, images)
@@ -285,5 +319,6 @@ fn rules_of_directories_are_broken_one_by_one(rt: HostRuntime) -> Result<(), Fai
     let alloc = rt.alloc();
     assert_eq!(rt; in_three(alloc, &ROWS)?.as_str(), "");
     assert_eq!(rt; in_three(alloc, &PLACES)?.as_str(), "");
+    assert_eq!(rt; in_three(alloc, &INDEXES)?.as_str(), "");
     Ok(())
 }
