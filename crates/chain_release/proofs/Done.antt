@@ -29,7 +29,7 @@ use Rattle.chain_release.specs.declared.released.Released.TheVariants as release
 use Rattle.chain_release.specs.declared.releasing.Plan.{Plan}
 use Rattle.chain_release.specs.Reading.{HasPageFrom, IsGone}
 use Rattle.chain_release.specs.Releases.{GivesBack, LeavesBoth, Progresses, Releases, use_of}
-use Rattle.chain_release.specs.Sharing.{frozen_of}
+use Rattle.chain_release.specs.Sharing.{IsReader, frozen_of}
 use Rattle.chain_release.specs.Steps.{AllStand, GivesTail, HandsOver, IsFreed, IsPlanned, KeepsCells, PassesOn, WritesEdit, edited, is_freed, went}
 use Rattle.chain_release.proofs.Cuts.{Cuts}
 use Rattle.chain_release.proofs.Found.{front_of}
@@ -239,3 +239,11 @@ module _ (from : ℕ) (start : CellAt) (reader : Option Reader) (plan : Plan) (s
     keeps after file at inside other =
         let s = stepped in
         subst (λ (cs : List PlacedCell). Contains (places cs) at) (one_file new start s.after after s.stays.is_file file) (s.keeps at inside other)
+
+    -- where nothing is handed over the reader's chain is what it was
+    pub own_stays : plan.tail.home ≡ None → IsReader new reader own
+    own_stays none =
+        let gives = subst (λ o. IfNone o (GivesTail plan.tail.from (place_of plan.map) kind group space space_now cells cells_now old mid)) none passes.1 in
+        let reads = subst (λ (p : Pages). IsReader p reader own) (sym gives.same_pages) is.sharing.reads in
+        reader_by mid new reader own
+        (stand_apart mid new (λ q. is_at plan.edit.at q || is_freed plan.edit.freed q) writes.others own (λ at inside. untouched at (λ in_chain. is.sharing.apart at in_chain inside)) (reader_stands mid reader own reads)) reads

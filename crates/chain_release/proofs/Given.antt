@@ -1,5 +1,5 @@
 -- Pages that are given back, and the free space then.
-use Rattle.std.proofs.Common.{◌≡◌, ◌∙◌, ℕ, zero, suc, ◌+◌, ◌-◌, ◌≤◌, ◌||◌, get_or, Bool, true, false, List, [], ◌∷◌, ◌++◌, nat_eq, Option, Some, None, IsSomeAnd, Contains, refl, sym, ap, subst, arith, ⊎_elim, ◌⊎◌, inl, inr}
+use Rattle.std.proofs.Common.{◌≡◌, ◌∙◌, ℕ, zero, suc, ◌+◌, ◌-◌, ◌≤◌, ◌||◌, get_or, Bool, true, false, List, [], ◌∷◌, ◌++◌, nat_eq, Option, Some, None, IsSomeAnd, Contains, refl, sym, ap, subst, arith, ⊎_elim, ◌⊎◌}
 use Rattle.std.proofs.lemmas.Bool.{both_ways, cases_Bool, cases_lt, eq-eqb, eqb-true, or_left}
 use Rattle.std.specs.Option.{option_map}
 use Rattle.std.proofs.lemmas.List.Elements.{Contains-append_cases, Contains-append_left, Contains-append_right}
@@ -7,7 +7,7 @@ use Rattle.std.specs.FinSet.{contains}
 use Rattle.domain_base.specs.declared.place.Home.{Home}
 use Rattle.page_store.specs.Pages.{Pages}
 use Rattle.extent_maps.specs.declared.run.PagePlace.{PagePlace}
-use Rattle.extent_maps.specs.declared.run.PagePlace.TheVariants.{Absent, At, Hole}
+use Rattle.extent_maps.specs.declared.run.PagePlace.TheVariants.{Absent, At}
 use Rattle.extent_maps.specs.Runs.{Places}
 use Rattle.free_cells.specs.Cells.{Cells, table_of}
 use Rattle.free_space.specs.declared.waiting.PageUse.{PageUse}

@@ -8,6 +8,7 @@ pub mod Found
 pub mod Freed
 pub mod Gapless
 pub mod Given
+pub mod Known
 pub mod Once
 pub mod Others
 pub mod Outcome

@@ -7,9 +7,9 @@ use Rattle.extent_maps.specs.declared.run.PagePlace.{PagePlace}
 use Rattle.extent_maps.specs.declared.run.PagePlace.TheVariants.{Absent, At, Hole}
 use Rattle.extent_maps.specs.declared.run.Run.{Run}
 use Rattle.extent_maps.specs.declared.run.RunPlace.TheVariants as place
-use Rattle.extent_maps.specs.Runs.{AreRuns, IsRun, Places, covers, end_of, home_at, behind, place_of, placed}
+use Rattle.extent_maps.specs.Runs.{AreRuns, Places, covers, end_of, home_at, behind, place_of, placed}
 use Rattle.extent_maps.proofs.RunLemmas.{covers_not_before, covers_not_behind, place_from}
-use Rattle.extent_maps.proofs.EditLemmas.{over, place_append, run_at}
+use Rattle.extent_maps.proofs.EditLemmas.{over, place_append}
 use Rattle.chain_release.specs.declared.tail.ReadPage.{ReadPage}
 use Rattle.chain_release.specs.declared.tail.Tail.{Tail}
 use Rattle.chain_release.specs.Reading.{HasPageFrom}

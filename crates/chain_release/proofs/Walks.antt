@@ -1,5 +1,5 @@
 -- Runs of a map one after the other.
-use Rattle.std.proofs.Common.{◌≡◌, ◌∙◌, ◌⊎◌, inl, inr, ℕ, ◌+◌, ◌-◌, ◌<◌, ◌≤◌, true, false, cond, List, [], ◌∷◌, ◌++◌, length, get_or, take, drop, refl, sym, ap, subst, arith, ⊎_elim}
+use Rattle.std.proofs.Common.{◌≡◌, ◌∙◌, ◌⊎◌, inl, inr, ℕ, ◌+◌, ◌-◌, ◌<◌, ◌≤◌, true, cond, List, [], ◌∷◌, ◌++◌, length, get_or, take, drop, refl, sym, ap, subst, ⊎_elim}
 use Rattle.std.proofs.lemmas.Bool.{cases_Bool}
 use Rattle.std.proofs.lemmas.List.{take_more}
 use Rattle.domain_base.specs.declared.place.Home.{Home}
@@ -7,7 +7,7 @@ use Rattle.extent_maps.specs.declared.run.PagePlace.{PagePlace}
 use Rattle.extent_maps.specs.declared.run.PagePlace.TheVariants.{Absent, At, Hole}
 use Rattle.extent_maps.specs.declared.run.Run.{Run}
 use Rattle.extent_maps.specs.declared.run.RunPlace.TheVariants as place
-use Rattle.extent_maps.specs.Runs.{AreRuns, EndUpTo, Has, IsRun, behind, covers, end_of, place_of, placed}
+use Rattle.extent_maps.specs.Runs.{AreRuns, Has, IsRun, behind, covers, end_of, place_of, placed}
 use Rattle.extent_maps.proofs.RunLemmas.{is_run_at, place_at}
 use Rattle.extent_maps.proofs.EditLemmas.{absent_after, around, covers_is, ends_before, over, place_append}
 use Rattle.chain_release.specs.Steps.{IsHomeFrom}

@@ -30,3 +30,8 @@ module _ (from : ℕ) (start : CellAt) (reader : Option Reader) (group : ℕ) (v
       → IfOk r (λ what. what ≡ released.Nothing → (space_now ≡ space) × (cells_now ≡ cells) × (new ≡ old))
   kept_none (Ok what) steps = λ is. absurd (not_nothing what steps is)
   kept_none (Err e) steps = tt
+
+  -- so what is said of such an answer is true
+  pub idle_none : {E : Type 0} (X : Type 0) (r : Result Released E) → IfOk r (Releases from start reader group version chain own space space_now cells cells_now old new) → IfOk r (λ what. what ≡ released.Nothing → X)
+  idle_none X (Ok what) steps = λ is. absurd (not_nothing what steps is)
+  idle_none X (Err e) steps = tt

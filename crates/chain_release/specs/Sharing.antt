@@ -6,12 +6,14 @@ use Rattle.domain_base.specs.declared.place.Home.{Home}
 use Rattle.page_store.specs.Pages.{Pages}
 use Rattle.bmt_mcells.specs.Chain.{PlacedCell, places}
 use Rattle.extent_maps.specs.declared.run.PagePlace.TheVariants.{Absent, At}
+use Rattle.extent_maps.specs.Runs.{place_of}
 use Rattle.free_cells.specs.Cells.{Cells}
 use Rattle.free_space.specs.Spaces.{Spaces}
 use Rattle.bitfile_cells.specs.FileChanges.{AreOnTables}
 use Rattle.bitfile_cells.specs.Files.{IsFile, places_of}
 use Rattle.bitfile_core.specs.Files.{AreApart}
 use Rattle.bitfile_core.specs.Together.{IsHeldApart}
+use Rattle.chain_release.specs.declared.reader.OwnPages.{OwnPages}
 use Rattle.chain_release.specs.declared.reader.Reader.{Reader}
 
 -- the chain of the file that reads through another, and no cell where there is none
@@ -65,3 +67,8 @@ pub record IsReleased (from : ℕ) (chain : List PlacedCell) : Type 0 where
 abbrev pub IsWithin : Pages → CellAt → Option CellAt → Type 0
 IsWithin pages start place = (chain : List PlacedCell) → IsFile pages start chain
     → IfSome place (Contains (places chain))
+
+-- nothing is known, or where each page of the file stands that begins at a cell
+abbrev pub IsKnown : Pages → Option OwnPages → Type 0
+IsKnown pages known = IfSome known (λ k. (chain : List PlacedCell) → IsFile pages k.at chain
+    → (page : ℕ) → place_of k.map page ≡ places_of chain page)

@@ -12,7 +12,7 @@ use Rattle.bmt_mcells.specs.CellPage.{KeepsHeaders, KeepsWellFormed, home_of}
 use Rattle.bmt_mcells.specs.Chain.{LeavesOthers, PlacedCell, StandsAt, is_at, places}
 use Rattle.extent_maps.specs.declared.run.PagePlace.{PagePlace}
 use Rattle.extent_maps.specs.declared.run.PagePlace.TheVariants.{Absent, At, Hole}
-use Rattle.extent_maps.specs.Runs.{Places, SamePlaces, home_at}
+use Rattle.extent_maps.specs.Runs.{Places, SamePlaces, home_at, place_of}
 use Rattle.extent_records.specs.Rows.{runs_in}
 use Rattle.extent_records.specs.Writing.{IsMapRecord, places_before, places_in}
 use Rattle.free_cells.specs.Cells.{Cells, FreesCell}
@@ -187,6 +187,7 @@ pub record IsPlan (from frozen : ℕ) (chain own : List PlacedCell) (stale : Sta
   pub map : SamePlaces (runs_in spot.value) plan.map
   pub tail : IsTail from frozen (places_of own) (places_in spot.value) plan.tail
   pub edit : EditsCell spot.front spot.c spot.value plan.tail.from plan.edit
+  pub read : IfSome plan.read (λ map. (page : ℕ) → place_of map page ≡ places_of own page)
 
 -- a cell of a file has something to let go of, and a reader may read through the file
 pub record MayPlan (from : ℕ) (reader : Option Reader) (stale : Stale) (pages : Pages)

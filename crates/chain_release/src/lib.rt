@@ -12,6 +12,6 @@ mod stale;
 mod tail;
 
 pub use laws::other_pages_stay_held;
-pub use reader::Reader;
+pub use reader::{OwnPages, Reader};
 pub use released::Released;
 pub use releasing::{release_last, release_tail};

@@ -19,6 +19,13 @@ pub struct Reader {
     pub frozen: u32,
 }
 
+/// Where the file that begins at a cell has pages of its own, as its cells say.
+#[derive(Drop)]
+pub struct OwnPages {
+    pub at: CellAt,
+    pub map: ExtentMap,
+}
+
 /// How many pages were frozen for a reader, 0 where there is none.
 pub(crate) fn frozen_pages(reader: &Option<Reader>) -> u32
     ensures { result ≡ frozen_of reader.now }

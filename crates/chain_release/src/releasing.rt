@@ -1,6 +1,7 @@
 //! The steps in which a file lets go of its pages and cells.
-ghost use Rattle.std.specs.Prelude.{◌≡◌, ◌∷◌, ◌+◌, ◌<◌, ◌≤◌, ◌↔◌, [], ℕ, IfErr, IfOk, IfSome, List, OnErr, OnOk, Contains};
+ghost use Rattle.std.specs.Prelude.{◌≡◌, ◌⊎◌, ◌∷◌, ◌+◌, ◌<◌, ◌≤◌, ◌↔◌, [], ℕ, IfErr, IfOk, IfSome, List, None, OnErr, OnOk, Contains};
 ghost use Rattle.domain_base.specs.declared.place.CellAt.{CellAt as CellAtOf};
+ghost use Rattle.page_store.specs.Pages.{Pages};
 ghost use Rattle.page_store.specs.declared.fault.StoreFault.TheVariants.{NoPage};
 ghost use Rattle.bmt_mcells.specs.Chain.{LeavesOthers, PlacedCell, is_at};
 ghost use Rattle.extent_maps.specs.declared.run.PagePlace.TheVariants.{Absent, At};
@@ -13,12 +14,12 @@ ghost use Rattle.bitfile_cells.specs.Files.{IsFile, places_of};
 ghost use Rattle.bitfile_cells.specs.MapChanges.{ChangesAtMost, LeavesOffTables, NoneTakes};
 ghost use Rattle.chain_release.specs.declared.released.Released.TheVariants as released;
 ghost use Rattle.chain_release.specs.Releases.{LacksPlace, LeavesBoth, Releases};
-ghost use Rattle.chain_release.specs.Sharing.{AreSharing, HasSharing, IsReader, IsReleased, IsWithin, frozen_of};
+ghost use Rattle.chain_release.specs.Sharing.{AreSharing, HasSharing, IsKnown, IsReader, IsReleased, IsWithin, frozen_of};
 ghost use Rattle.chain_release.specs.Steps.{HandsOver, IsPlan, IsPlanned, IsStaleCell, IsTail, KeepsCells, MayHandOver, MayPlan, PassesOn, went};
 
 use crate::edits::{ChainEdit, edit_for, write_edit};
 use crate::giving_back::{give_back_from, use_of};
-use crate::reader::{Reader, frozen_pages, reader_map};
+use crate::reader::{OwnPages, Reader, frozen_pages, reader_map};
 use crate::released::Released;
 use crate::stale::{Stale, cell_map, find_from};
 use crate::tail::{Tail, tail_of};
@@ -32,34 +33,90 @@ use page_store::{MetaPages, StoreFault};
 use std::alloc::Global;
 
 /// What is let go of in a step: the tail of the pages of one cell's record, whose map it is, and
-/// what is written of the chain then.
+/// what is written of the chain then; and the reader's map where it was read for that.
 #[derive(Drop)]
 pub struct Plan {
     pub map: ExtentMap,
     pub tail: Tail,
     pub edit: ChainEdit,
+    pub read: Option<ExtentMap>,
+}
+
+/// Which pages go in one step, and the reader's map where it was read for that.
+#[derive(Drop)]
+pub struct ReadTail {
+    pub tail: Tail,
+    pub read: Option<ExtentMap>,
+}
+
+/// Which pages of a map go in one step, where no page that the reader may read through the file is
+/// one of them: a frozen one that has a home.
+fn tail_alone(alloc: Global, map: &ExtentMap, from: u32, frozen: u32) -> Option<Tail>
+    ensures { (own : List PlacedCell)
+        → IfSome result (IsTail from frozen (places_of own) (place_of map.now)) }
+{
+    let alone = tail_of(map, &ExtentMap::new(alloc), from, frozen);
+    if alone.home.is_none() && alone.from == from {
+        Some(alone)
+    } else {
+        None
+    }
+}
+
+/// The same where the reader's map is known.
+fn tail_known(
+    map: &ExtentMap,
+    from: u32,
+    reader: &Option<Reader>,
+    known: &Option<OwnPages>,
+) -> Option<Tail>
+    ensures { (pages : Pages) (own : List PlacedCell) → IsKnown pages known.now
+        → IsReader pages reader.now own
+        → IfSome result (IsTail from (frozen_of reader.now) (places_of own) (place_of map.now)) }
+{
+    let Some(reader) = reader else {
+        return None;
+    };
+    match known {
+        Some(known) if known.at == reader.at => {
+            Some(tail_of(map, &known.map, from, reader.frozen))
+        }
+        _ => None,
+    }
 }
 
 /// Which pages of a map go in one step. The reader's cells are looked at only where a page that it
-/// may read through the file is one of them: a frozen one that has a home.
+/// may read through the file is one of them, and its map is not known.
 fn tail_for<M: MetaPages>(
     alloc: Global,
     pages: &M,
     map: &ExtentMap,
     from: u32,
     reader: &Option<Reader>,
-) -> Result<Tail, OutOfMemory>
-    requires { (own : List PlacedCell) × IsReader (M.pages pages.now) reader.now own }
-    ensures { (own : List PlacedCell) → IsReader (M.pages pages.now) reader.now own
-        → IfOk result (IsTail from (frozen_of reader.now) (places_of own) (place_of map.now)) }
+    known: &Option<OwnPages>,
+) -> Result<ReadTail, OutOfMemory>
+    requires reads { (own : List PlacedCell) × IsReader (M.pages pages.now) reader.now own }
+    requires known { IsKnown (M.pages pages.now) known.now }
+    ensures tail { (own : List PlacedCell) → IsReader (M.pages pages.now) reader.now own
+        → IfOk result (λ found. IsTail from (frozen_of reader.now) (places_of own)
+        (place_of map.now) found.tail) }
+    ensures read { (own : List PlacedCell) → IsReader (M.pages pages.now) reader.now own
+        → IfOk result (λ found. IfSome found.read
+        (λ map. (page : ℕ) → place_of map page ≡ places_of own page)) }
 {
     let frozen = frozen_pages(reader);
-    let alone = tail_of(map, &ExtentMap::new(alloc), from, frozen);
-    if alone.home.is_none() && alone.from == from {
-        return Ok(alone);
+    if let Some(tail) = tail_alone(alloc, map, from, frozen) {
+        return Ok(ReadTail { tail, read: None });
+    }
+    if let Some(tail) = tail_known(map, from, reader, known) {
+        return Ok(ReadTail { tail, read: None });
     }
     let own = reader_map(alloc, pages, reader)?;
-    Ok(tail_of(map, &own, from, frozen))
+    let tail = tail_of(map, &own, from, frozen);
+    Ok(ReadTail {
+        tail,
+        read: Some(own),
+    })
 }
 
 /// What goes of a cell in one step. It takes all memory that the step wants but for what is handed
@@ -70,17 +127,24 @@ fn plan_step<M: MetaPages>(
     stale: &Stale,
     from: u32,
     reader: &Option<Reader>,
+    known: &Option<OwnPages>,
 ) -> Result<Plan, OutOfMemory>
-    requires { (chain : List PlacedCell) × (own : List PlacedCell)
+    requires may { (chain : List PlacedCell) × (own : List PlacedCell)
         × MayPlan from reader.now stale.now (M.pages pages.now) chain own }
+    requires known { IsKnown (M.pages pages.now) known.now }
     ensures { (chain own : List PlacedCell)
         → MayPlan from reader.now stale.now (M.pages pages.now) chain own
         → IfOk result (IsPlan from (frozen_of reader.now) chain own stale.now) }
 {
     let map = cell_map(alloc, pages, &stale.at)?;
-    let tail = tail_for(alloc, pages, &map, from, reader)?;
-    let edit = edit_for(alloc, pages, stale, tail.from)?;
-    Ok(Plan { map, tail, edit })
+    let found = tail_for(alloc, pages, &map, from, reader, known)?;
+    let edit = edit_for(alloc, pages, stale, found.tail.from)?;
+    Ok(Plan {
+        map,
+        tail: found.tail,
+        edit,
+        read: found.read,
+    })
 }
 
 /// Puts a page in a reader's chain.
@@ -220,6 +284,10 @@ fn carry_out<M: MetaPages>(
     ensures stay { (from : ℕ) (chain own : List PlacedCell)
         → IsPlanned from start.now reader.now plan.now space.old cells.old (M.pages pages.old) chain
         own → OnOk result (KeepsCells plan.now.edit.freed start.now chain (M.pages pages.new)) }
+    ensures reads { (from : ℕ) (chain own : List PlacedCell)
+        → IsPlanned from start.now reader.now plan.now space.old cells.old (M.pages pages.old) chain
+        own → plan.now.tail.home ≡ None
+        → OnOk result (IsReader (M.pages pages.new) reader.now own) }
     ensures elsewhere { LeavesOffTables cells.new (M.pages pages.old) (M.pages pages.new) }
     ensures allocated { AreAllocated space.new cells.new (M.pages pages.new) }
     ensures room { M.room pages.old ≤ M.room pages.new + 1 }
@@ -237,6 +305,56 @@ fn carry_out<M: MetaPages>(
     }
 }
 
+/// What is known, if it is of this reader.
+fn of_reader(known: Option<OwnPages>, reader: &Reader) -> Option<OwnPages>
+    ensures known { (result ≡ None) ⊎ (result ≡ known) }
+    ensures reader { IfSome result (λ k. k.at ≡ reader.now.at) }
+{
+    match known {
+        Some(known) if known.at == reader.at => Some(known),
+        _ => None,
+    }
+}
+
+/// What is known of a reader whose cells stayed: its map where it was read, and else what was known.
+fn known_still(
+    reader: &Reader,
+    read: Option<ExtentMap>,
+    known: Option<OwnPages>,
+) -> Option<OwnPages>
+    ensures { (old new : Pages) (own : List PlacedCell) → IsKnown old known
+        → IsFile old reader.now.at own → IsFile new reader.now.at own
+        → IfSome read (λ map. (page : ℕ) → place_of map page ≡ places_of own page)
+        → IsKnown new result }
+{
+    match read {
+        Some(map) => Some(OwnPages { at: reader.at, map }),
+        None => of_reader(known, reader),
+    }
+}
+
+/// What is known of a reader once a tail was let go of: nothing where a page was handed over.
+fn known_after(
+    tail: &Tail,
+    reader: &Option<Reader>,
+    read: Option<ExtentMap>,
+    known: Option<OwnPages>,
+) -> Option<OwnPages>
+    ensures { (old new : Pages) (own : List PlacedCell) → IsKnown old known
+        → IsReader old reader.now own
+        → (tail.now.home ≡ None → IsReader new reader.now own)
+        → IfSome read (λ map. (page : ℕ) → place_of map page ≡ places_of own page)
+        → IsKnown new result }
+{
+    match tail.home {
+        Some(_) => None,
+        None => match reader {
+            Some(reader) => known_still(reader, read, known),
+            None => None,
+        },
+    }
+}
+
 /// Lets go of something that a cell of the chain has. The next one is looked for behind the cell in
 /// front of it.
 fn release_at<M: MetaPages>(
@@ -247,6 +365,7 @@ fn release_at<M: MetaPages>(
     start: &CellAt,
     stale: &Stale,
     cursor: &mut Option<CellAt>,
+    known: &mut Option<OwnPages>,
     from: u32,
     reader: &Option<Reader>,
     group: u64,
@@ -257,7 +376,10 @@ fn release_at<M: MetaPages>(
         × AreSharing start.now reader.now space.old cells.old (M.pages pages.old) chain own
         × IsStaleCell from chain stale.now }
     requires within { IsWithin (M.pages pages.old) start.now cursor.old }
+    requires known { IsKnown (M.pages pages.old) known.old }
     ensures within { IsWithin (M.pages pages.new) start.now cursor.new }
+    ensures known { IsKnown (M.pages pages.new) known.new }
+    ensures same { OnErr result (known.new ≡ known.old) }
     ensures ok { (chain own : List PlacedCell)
         → AreSharing start.now reader.now space.old cells.old (M.pages pages.old) chain own
         → IsStaleCell from chain stale.now
@@ -280,29 +402,36 @@ fn release_at<M: MetaPages>(
     ensures room { M.room pages.old ≤ M.room pages.new + 1 }
     ensures before { M.before pages.new ≡ M.before pages.old }
 {
-    let plan = plan_step(alloc, pages, stale, from, reader)?;
+    let plan = plan_step(alloc, pages, stale, from, reader, known)?;
     *cursor = stale.before;
-    carry_out(
+    match carry_out(
         alloc, pages, space, cells, start, &plan, reader, group, version,
-    )
+    ) {
+        Ok(what) => {
+            let Plan { tail, read, .. } = plan;
+            *known = known_after(&tail, reader, read, known.take());
+            Ok(what)
+        }
+        Err(fault) => Err(fault),
+    }
 }
 
 /// Lets go of something that the file has whose chain begins at that cell: of its first cell behind
 /// the cursor, a cell of the chain, that has a page from `from` on, or behind the first one no page
 /// at all; and where the cursor is none, or nothing of that kind is behind it, of the first such cell
 /// of all. The cursor is then the cell in front of that, so that the next step goes on there and does
-/// not pass once more what was passed: a hint that no answer but the cell depends on. Of that cell's
-/// pages from
-/// `from` on as many go as the reader does not read through the file, up to the last one; or the
-/// last one alone, where the reader reads it: it is put in the reader's chain. All others are given
-/// back, and wait for the group: as metadata, where the file is a directory or its data is logged,
+/// not pass once more what was passed: a hint that no answer but the cell depends on. What is known
+/// of the reader's pages is used where it is needed, and read where it is not known; it is kept for
+/// the next step but where a page is handed over. Of that cell's pages from `from` on as many go as
+/// the reader does not read through the file, up to the last one; or the last one alone, where the
+/// reader reads it: it is put in the reader's chain. All others are given back, and wait for the group: as metadata, where the file is a directory or its data is logged,
 /// and else as data. A cell behind the first that has no page left is unlinked and freed. `Nothing`
 /// exactly where no such cell is there: nothing has changed then. Two pages of metadata change at
 /// most, and five where a page is handed over.
 ///
 /// NoPage comes only where the reader reads a page through the file that no record of its chain
 /// can have, no cell is free, and no page that would hold more, which is a miss. At an Err nothing
-/// but room and the count of misses has changed.
+/// but room, the count of misses and the cursor has changed.
 pub fn release_tail<M: MetaPages>(
     alloc: Global,
     pages: &mut M,
@@ -310,6 +439,7 @@ pub fn release_tail<M: MetaPages>(
     cells: &mut FreeCells,
     start: CellAt,
     cursor: &mut Option<CellAt>,
+    known: &mut Option<OwnPages>,
     from: u32,
     reader: &Option<Reader>,
     group: u64,
@@ -318,7 +448,10 @@ pub fn release_tail<M: MetaPages>(
     requires allocated { AreAllocated space.old cells.old (M.pages pages.old) }
     requires sharing { HasSharing start reader.now space.old cells.old (M.pages pages.old) }
     requires within { IsWithin (M.pages pages.old) start cursor.old }
+    requires known { IsKnown (M.pages pages.old) known.old }
     ensures within { IsWithin (M.pages pages.new) start cursor.new }
+    ensures known { IsKnown (M.pages pages.new) known.new }
+    ensures same { OnErr result (known.new ≡ known.old) }
     ensures ok { (chain own : List PlacedCell)
         → AreSharing start reader.now space.old cells.old (M.pages pages.old) chain own
         → IfOk result (λ what. ¬ what ≡ released.Nothing → Releases from start reader.now group
@@ -329,6 +462,7 @@ pub fn release_tail<M: MetaPages>(
         → IfOk result (λ what. (what ≡ released.Nothing) ↔ IsReleased from chain) }
     ensures kept { IfOk result (λ what. what ≡ released.Nothing → (space.new ≡ space.old)
         × (cells.new ≡ cells.old) × (M.pages pages.new ≡ M.pages pages.old)) }
+    ensures idle { IfOk result (λ what. what ≡ released.Nothing → known.new ≡ known.old) }
     ensures err { IfErr result (FindsNone space.old space.new cells.old) }
     ensures full { (chain own : List PlacedCell)
         → AreSharing start reader.now space.old cells.old (M.pages pages.old) chain own
@@ -346,7 +480,7 @@ pub fn release_tail<M: MetaPages>(
 {
     match find_from(alloc, pages, &start, cursor, from)? {
         Some(stale) => release_at(
-            alloc, pages, space, cells, &start, &stale, cursor, from, reader, group, version,
+            alloc, pages, space, cells, &start, &stale, cursor, known, from, reader, group, version,
         ),
         None => Ok(Released::Nothing),
     }

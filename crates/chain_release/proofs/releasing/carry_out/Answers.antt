@@ -1,7 +1,7 @@
 use Rattle.std.proofs.Common.{subst, sym}
 use Rattle.chain_release.specs.declared.released.Released.{Released}
 use Rattle.chain_release.specs.Releases.{Releases}
-use Rattle.chain_release.proofs.Done.{allocated_new, elsewhere, keeps, may_free, not_free, others, place, releases, writes_well}
+use Rattle.chain_release.proofs.Done.{allocated_new, elsewhere, keeps, may_free, not_free, others, own_stays, place, releases, writes_well}
 use Rattle.chain_release.proofs.releasing.carry_out.Goals as goal
 
 pub returns-in-Err-clause-full : goal.returns-in-Err-clause-full
@@ -41,3 +41,6 @@ returns-in-Ok-clause-allocated g c = let p = c.requires.planned in allocated_new
 
 pub returns-in-Ok-clause-stay : goal.returns-in-Ok-clause-stay
 returns-in-Ok-clause-stay g c = λ from chain own is. keeps from c.args.start.now c.args.reader.now c.args.plan.now c.args.space.now c.args.cells.now (g.M.MetaPages.pages c.args.pages.now) chain own is c.use_of-kind.result c.args.group c.args.version c.pass_on.new.space c.pass_on.new.cells (g.M.MetaPages.pages c.pass_on.new.pages) (c.in-Ok.ensures.ok from c.args.start.now chain own is) c.in-Ok.ensures.allocated c.write_edit.new.cells (g.M.MetaPages.pages c.write_edit.new.pages) c.write_edit.ensures.writes c.write_edit.ensures.belong
+
+pub returns-in-Ok-clause-reads : goal.returns-in-Ok-clause-reads
+returns-in-Ok-clause-reads g c = λ from chain own is. own_stays from c.args.start.now c.args.reader.now c.args.plan.now c.args.space.now c.args.cells.now (g.M.MetaPages.pages c.args.pages.now) chain own is c.use_of-kind.result c.args.group c.args.version c.pass_on.new.space c.pass_on.new.cells (g.M.MetaPages.pages c.pass_on.new.pages) (c.in-Ok.ensures.ok from c.args.start.now chain own is) c.in-Ok.ensures.allocated c.write_edit.new.cells (g.M.MetaPages.pages c.write_edit.new.pages) c.write_edit.ensures.writes c.write_edit.ensures.belong

@@ -1,5 +1,4 @@
-use Rattle.std.proofs.Common.{◌≡◌, ◌+◌, ◌-◌, ◌<◌, ◌≤◌, length, arith}
-use Rattle.extent_maps.proofs.RunLemmas.{is_run_at}
+use Rattle.std.proofs.Common.{◌+◌, ◌-◌, ◌≤◌, length, arith}
 use Rattle.chain_release.proofs.Gapless.{gap_below, goes_on_down, none_before, run_of}
 use Rattle.chain_release.proofs.tail.begin_of_gapless.Goals as goal
 use Rattle.chain_release.proofs.tail.begin_of_gapless.Goals.{then-begin-from-via-then-begin-from, then-begin-from-via-else-begin-from+then-run-begin}

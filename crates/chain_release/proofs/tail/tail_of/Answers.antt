@@ -1,4 +1,4 @@
-use Rattle.std.proofs.Common.{◌≡◌, ◌∙◌, ◌+◌, ◌-◌, ◌<◌, ◌≤◌, List, drop, length, get_or, ap, subst, sym, arith}
+use Rattle.std.proofs.Common.{◌≡◌, ◌∙◌, ◌+◌, ◌-◌, List, drop, length, get_or, ap, subst, arith}
 use Rattle.extent_maps.specs.declared.run.Run.{Run}
 use Rattle.extent_maps.specs.Runs.{place_of}
 use Rattle.chain_release.specs.Steps.{AreUnread}
