@@ -3,6 +3,7 @@ ghost use Rattle.std.specs.Prelude.{◌≡◌, ◌≤◌, ◌+◌, ◌-◌, ◌�
 ghost use Rattle.page_store.specs.declared.fault.StoreFault.TheVariants.{NoPage};
 ghost use Rattle.bitfile_cells.specs.Allocated.{FindsNone};
 ghost use Rattle.bitfile_cells.specs.MapChanges.{ChangesAtMost};
+ghost use Rattle.chain_release.specs.Sharing.{IsKnown};
 ghost use Rattle.deferred_delete.specs.declared.list.Entry.{Entry as EntryOf};
 ghost use Rattle.deferred_delete.specs.Cursors.{Deferral, IsAhead};
 ghost use Rattle.deferred_delete.specs.Listing.{Adds, IsEmpty};
@@ -11,6 +12,7 @@ ghost use Rattle.deferred_delete.specs.Steps.{IsWell, LacksRoom, LetsGo, now_of}
 
 use crate::cursor::Cursor;
 use crate::list::{Entry, Queue};
+use chain_release::OwnPages;
 use domain_base::{CellAt, Home, OutOfMemory, Version};
 use free_cells::FreeCells;
 use free_space::FreeSpace;
@@ -19,11 +21,13 @@ use std::alloc::Global;
 use std::marker::Model;
 
 /// Files of which pages behind those that they keep, or all, are to be let go of, and pages of tag
-/// directories that were removed; and where the next step goes on.
+/// directories that were removed; where the next step goes on; and what is known of the clone's file
+/// that reads through the one of which it lets something go.
 #[derive(Drop)]
 pub struct Deferred {
     queue: Queue,
     cursor: Option<Cursor>,
+    known: Option<OwnPages>,
 }
 
 impl Model for Deferred {
@@ -31,7 +35,7 @@ impl Model for Deferred {
 
     ghost Value = { Deferral };
 
-    ghost view = { λ d. record { list = d.queue; cursor = d.cursor } };
+    ghost view = { λ d. record { list = d.queue; cursor = d.cursor; known = d.known } };
 }
 
 impl Deferred {
@@ -40,20 +44,25 @@ impl Deferred {
         ensures entries { result.list.entries ≡ [] }
         ensures tag_pages { result.list.tag_pages ≡ [] }
         ensures cursor { result.cursor ≡ None }
+        ensures known { result.known ≡ None }
     {
         Deferred {
             queue: Queue::new(alloc),
             cursor: None,
+            known: None,
         }
     }
 
-    /// Forgets where the next step would go on: it looks from a file's first cell on then. So it is
-    /// where something else may have taken a cell out of the file's chain.
+    /// Forgets where the next step would go on, and what is known of a clone's file: it looks from a
+    /// file's first cell on then, and reads the clone's map if it needs that. So it is where something
+    /// else may have taken a cell out of a file's chain, or may have changed a clone's map.
     pub fn start_over(&mut self)
         ensures list { self.new.list ≡ self.old.list }
         ensures cursor { self.new.cursor ≡ None }
+        ensures known { self.new.known ≡ None }
     {
         self.cursor = None;
+        self.known = None;
     }
 
     /// Adds the file that begins at a cell, with the clone's file that reads through it, or the first
@@ -70,6 +79,7 @@ impl Deferred {
         ensures there { (entry : EntryOf) → Contains self.old.list.entries entry → entry.at ≡ at
             → IsOk result }
         ensures cursor { self.new.cursor ≡ self.old.cursor }
+        ensures known { self.new.known ≡ self.old.known }
     {
         self.queue.add(at, clone)
     }
@@ -82,6 +92,7 @@ impl Deferred {
         ensures entries { self.new.list.entries ≡ self.old.list.entries }
         ensures err { OnErr result (self.new ≡ self.old) }
         ensures cursor { self.new.cursor ≡ self.old.cursor }
+        ensures known { self.new.known ≡ self.old.known }
     {
         self.queue.add_tag_page(home)
     }
@@ -131,7 +142,8 @@ impl Deferred {
     /// in the same call or in an earlier one: so what was passed is not passed once more. Only where
     /// nothing that goes is behind it a step looks at the cells from the first one on, and says with
     /// that that all is gone. So with k cells kept and m let go of the steps of a trim look at about
-    /// 2 * k + m cells in all.
+    /// 2 * k + m cells in all. The cells of a clone's file are read once, in the first step that needs
+    /// its map, and once more behind each page that is handed over to it.
     pub fn release_some<M: MetaPages>(
         &mut self,
         alloc: Global,
@@ -144,7 +156,9 @@ impl Deferred {
         requires well { (files : Files) × IsWell (now_of self.old.list files space.old cells.old
             (M.pages pages.old)) }
         requires ahead { IsAhead (M.pages pages.old) self.old.cursor }
+        requires known { IsKnown (M.pages pages.old) self.old.known }
         ensures ahead { IsAhead (M.pages pages.new) self.new.cursor }
+        ensures known { IsKnown (M.pages pages.new) self.new.known }
         ensures ok { (files : Files) → IsWell (now_of self.old.list files space.old cells.old
             (M.pages pages.old)) → IfOk result (λ count. LetsGo group version
             (now_of self.old.list files space.old cells.old (M.pages pages.old)) count self.new.list space.new
@@ -164,9 +178,16 @@ impl Deferred {
         ensures before { M.before pages.new ≡ M.before pages.old }
     {
         let mut cursor = self.cursor;
-        let done = self
-            .queue
-            .release_some(alloc, pages, space, cells, &mut cursor, group, version);
+        let done = self.queue.release_some(
+            alloc,
+            pages,
+            space,
+            cells,
+            &mut cursor,
+            &mut self.known,
+            group,
+            version,
+        );
         if done.is_ok() {
             self.cursor = cursor;
         }

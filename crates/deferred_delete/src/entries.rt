@@ -4,6 +4,7 @@ ghost use Rattle.domain_base.specs.declared.version.Version.{Version as VersionO
 ghost use Rattle.page_store.specs.declared.fault.StoreFault.TheVariants.{NoPage};
 ghost use Rattle.free_space.specs.Spaces.{Spaces};
 ghost use Rattle.bitfile_cells.specs.Allocated.{FindsNone};
+ghost use Rattle.chain_release.specs.Sharing.{IsKnown};
 ghost use Rattle.deferred_delete.specs.declared.list.Entry.{Entry as EntryOf};
 ghost use Rattle.deferred_delete.specs.Cursors.{IsAhead};
 ghost use Rattle.deferred_delete.specs.Listing.{Listing};
@@ -16,7 +17,7 @@ use crate::list::Entry;
 use crate::looking::{is_of_quotas, left_at, reader_at, stale_at};
 use crate::quotas::release_quotas;
 use crate::went::Went;
-use chain_release::{Released, release_tail};
+use chain_release::{OwnPages, Released, release_tail};
 use domain_base::{OutOfMemory, Version};
 use free_cells::FreeCells;
 use free_space::FreeSpace;
@@ -97,13 +98,17 @@ fn release_file<M: MetaPages>(
     cells: &mut FreeCells,
     entry: &Entry,
     cursor: &mut Option<Cursor>,
+    known: &mut Option<OwnPages>,
     group: u64,
     version: Version,
 ) -> Result<Went, StoreFault>
     requires well { (list : Listing) × (front : List EntryOf) × (files : Files)
         × HasFileEntry front entry.now (now_of list files space.old cells.old (M.pages pages.old)) }
     requires ahead { IsAhead (M.pages pages.old) cursor.old }
+    requires known { IsKnown (M.pages pages.old) known.old }
     ensures ahead { IsAhead (M.pages pages.new) cursor.new }
+    ensures known { IsKnown (M.pages pages.new) known.new }
+    ensures same { OnErr result (known.new ≡ known.old) }
     ensures ok { (list : Listing) (front : List EntryOf) (files : Files)
         → HasFileEntry front entry.now (now_of list files space.old cells.old (M.pages pages.old))
         → IfOk result (λ went. Leaves group version (now_of list files space.old cells.old
@@ -123,11 +128,13 @@ fn release_file<M: MetaPages>(
     let reader = reader_at(pages, &entry.clone);
     let mut place = place_in(cursor, &entry.at);
     match release_tail(
-        alloc, pages, space, cells, entry.at, &mut place, from, &reader, group, version,
+        alloc, pages, space, cells, entry.at, &mut place, known, from, &reader, group, version,
     ) {
         Ok(Released::Nothing) => {
             *cursor = None;
-            Ok(end_entry(alloc, pages, cells, entry, &left)?)
+            let went = end_entry(alloc, pages, cells, entry, &left)?;
+            *known = None;
+            Ok(went)
         }
         Ok(Released::Pages) => {
             *cursor = cursor_at(&entry.at, &place);
@@ -150,13 +157,17 @@ pub(crate) fn release_entry<M: MetaPages>(
     cells: &mut FreeCells,
     entry: &Entry,
     cursor: &mut Option<Cursor>,
+    known: &mut Option<OwnPages>,
     group: u64,
     version: Version,
 ) -> Result<Went, StoreFault>
     requires well { (list : Listing) × (front : List EntryOf) × (files : Files)
         × HasEntry front entry.now (now_of list files space.old cells.old (M.pages pages.old)) }
     requires ahead { IsAhead (M.pages pages.old) cursor.old }
+    requires known { IsKnown (M.pages pages.old) known.old }
     ensures ahead { IsAhead (M.pages pages.new) cursor.new }
+    ensures known { IsKnown (M.pages pages.new) known.new }
+    ensures same { OnErr result (known.new ≡ known.old) }
     ensures ok { (list : Listing) (front : List EntryOf) (files : Files)
         → HasEntry front entry.now (now_of list files space.old cells.old (M.pages pages.old))
         → IfOk result (λ went. Leaves group version (now_of list files space.old cells.old
@@ -173,7 +184,11 @@ pub(crate) fn release_entry<M: MetaPages>(
 {
     if is_of_quotas(pages, &entry.at) {
         *cursor = None;
-        return Ok(release_quotas(alloc, pages, cells, entry)?);
+        let went = release_quotas(alloc, pages, cells, entry)?;
+        *known = None;
+        return Ok(went);
     }
-    release_file(alloc, pages, space, cells, entry, cursor, group, version)
+    release_file(
+        alloc, pages, space, cells, entry, cursor, known, group, version,
+    )
 }

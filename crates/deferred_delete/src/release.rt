@@ -8,6 +8,7 @@ ghost use Rattle.deferred_delete.specs.Listing.{IsEmpty};
 ghost use Rattle.page_store.specs.declared.fault.StoreFault.TheVariants.{NoPage};
 ghost use Rattle.bitfile_cells.specs.Allocated.{FindsNone};
 ghost use Rattle.bitfile_cells.specs.MapChanges.{ChangesAtMost};
+ghost use Rattle.chain_release.specs.Sharing.{IsKnown};
 ghost use Rattle.deferred_delete.specs.Standing.{Files};
 ghost use Rattle.deferred_delete.specs.Steps.{IsLast, IsWell, LacksRoom, Leaves, LetsGo, TakesTagPage, list_after, now_of, step_pages as pages_of_step};
 
@@ -15,6 +16,7 @@ use crate::cursor::Cursor;
 use crate::entries::release_entry;
 use crate::list::{Entry, Queue, forget};
 use crate::went::Went;
+use chain_release::OwnPages;
 use domain_base::Version;
 use free_cells::FreeCells;
 use free_space::{FreeSpace, PageUse};
@@ -100,13 +102,17 @@ impl Queue {
         space: &mut FreeSpace,
         cells: &mut FreeCells,
         cursor: &mut Option<Cursor>,
+        known: &mut Option<OwnPages>,
         group: u64,
         version: Version,
     ) -> Result<bool, StoreFault>
         requires well { (files : Files) × IsWell (now_of self.old files space.old cells.old
             (M.pages pages.old)) }
         requires ahead { IsAhead (M.pages pages.old) cursor.old }
+        requires known { IsKnown (M.pages pages.old) known.old }
         ensures ahead { IsAhead (M.pages pages.new) cursor.new }
+        ensures known { IsKnown (M.pages pages.new) known.new }
+        ensures same { OnErr result (known.new ≡ known.old) }
         ensures ok { (files : Files) → IsWell (now_of self.old files space.old cells.old
             (M.pages pages.old)) → IfOk result (λ some. some ≡ true → Leaves group version
             (now_of self.old files space.old cells.old (M.pages pages.old)) self.new space.new
@@ -129,10 +135,13 @@ impl Queue {
         let count = self.entries.len();
         if count == 0 {
             *cursor = None;
+            *known = None;
             return Ok(self.give_tag_page(pages, space, group));
         }
         let entry = self.entries[count - 1];
-        match release_entry(alloc, pages, space, cells, &entry, cursor, group, version) {
+        match release_entry(
+            alloc, pages, space, cells, &entry, cursor, known, group, version,
+        ) {
             Ok(went) => {
                 self.leave(went);
                 Ok(true)
@@ -142,7 +151,8 @@ impl Queue {
     }
 
     /// Lets go of things of the list, one after the other, at most sixteen, and begins behind the
-    /// cursor's cell; the cursor is then where the next step goes on.
+    /// cursor's cell; the cursor is then where the next step goes on, and what is known of a clone's
+    /// file what that step may use.
     pub(crate) fn release_some<M: MetaPages>(
         &mut self,
         alloc: Global,
@@ -150,13 +160,17 @@ impl Queue {
         space: &mut FreeSpace,
         cells: &mut FreeCells,
         cursor: &mut Option<Cursor>,
+        known: &mut Option<OwnPages>,
         group: u64,
         version: Version,
     ) -> Result<u32, StoreFault>
         requires well { (files : Files) × IsWell (now_of self.old files space.old cells.old
             (M.pages pages.old)) }
         requires ahead { IsAhead (M.pages pages.old) cursor.old }
+        requires known { IsKnown (M.pages pages.old) known.old }
         ensures ahead { IsAhead (M.pages pages.new) cursor.new }
+        ensures known { IsKnown (M.pages pages.new) known.new }
+        ensures same { OnErr result (known.new ≡ known.old) }
         ensures ok { (files : Files) → IsWell (now_of self.old files space.old cells.old
             (M.pages pages.old)) → IfOk result (λ count. LetsGo group version
             (now_of self.old files space.old cells.old (M.pages pages.old)) count self.new space.new
@@ -182,7 +196,7 @@ impl Queue {
             if PAGES < changed {
                 return Ok(count);
             }
-            match self.release_one(alloc, pages, space, cells, cursor, group, version) {
+            match self.release_one(alloc, pages, space, cells, cursor, known, group, version) {
                 Ok(true) => count += 1,
                 Ok(false) => return Ok(count),
                 Err(fault) if count == 0 => return Err(fault),

@@ -12,5 +12,5 @@ release_quotas-requires g c =
 pub returns-then-is_of_quotas-clause-ok : goal.returns-then-is_of_quotas-clause-ok
 returns-then-is_of_quotas-clause-ok g c = λ list front files has.
     let pages = g.M.MetaPages.pages c.args.pages.now in
-    c.in_ok-release_quotas.ensures.ok c.args.group c.args.version list front files c.args.space.now
+    c.in_ok-went.ensures.ok c.args.group c.args.version list front files c.args.space.now
     (of_quotas list front files c.args.entry.now c.args.space.now c.args.cells.now pages has (λ chain stands. c.is_of_quotas.ensures.quotas chain stands c.if-is_of_quotas.true))

@@ -30,15 +30,15 @@ end_entry-requires g c =
       );
     }
 
-pub returns-in_ok-end_entry-in-Ok-Nothing-clause-ok : goal.returns-in_ok-end_entry-in-Ok-Nothing-clause-ok
-returns-in_ok-end_entry-in-Ok-Nothing-clause-ok g c = λ list front files has.
+pub returns-in_ok-went-in-Ok-Nothing-clause-ok : goal.returns-in_ok-went-in-Ok-Nothing-clause-ok
+returns-in_ok-went-in-Ok-Nothing-clause-ok g c = λ list front files has.
     let pages = g.M.MetaPages.pages c.args.pages.now in
     let it = ready list front files c.args.entry.now c.left_at-left.result c.stale_at-from.result c.reader_at-reader.result c.args.space.now c.args.cells.now pages has.has (as_file list front files c.args.entry.now c.args.space.now c.args.cells.now pages has) c.left_at-left.ensures c.stale_at-from.ensures c.reader_at-reader.ensures.none c.reader_at-reader.ensures.some in
     let e = c.in-Ok-Nothing.ensures in
     let kept = e.kept c.in-Ok-Nothing.field-0-is in
     left_as c.args.group c.args.version list files c.args.space.now c.release_tail.new.space c.args.cells.now c.release_tail.new.cells c.end_entry.new.cells pages (g.M.MetaPages.pages c.release_tail.new.pages) (g.M.MetaPages.pages c.end_entry.new.pages)
-    (list_after c.in_ok-end_entry-in-Ok-Nothing.field-0 front c.args.entry.now list) kept.0 kept.1 kept.2
-    (c.in_ok-end_entry-in-Ok-Nothing.ensures.ok c.args.group c.args.version list front files c.args.space.now
+    (list_after c.in_ok-went-in-Ok-Nothing.went front c.args.entry.now list) kept.0 kept.1 kept.2
+    (c.in_ok-went-in-Ok-Nothing.ensures.ok c.args.group c.args.version list front files c.args.space.now
     (ending_now list front files c.args.entry.now c.left_at-left.result c.stale_at-from.result c.reader_at-reader.result c.args.space.now c.args.cells.now c.release_tail.new.cells pages (g.M.MetaPages.pages c.release_tail.new.pages) has.has it kept.1 kept.2
     ((e.nothing it.chain it.own it.shares).0 c.in-Ok-Nothing.field-0-is)))
 
@@ -61,6 +61,8 @@ returns-in-Ok-Pages g c = record {
   cells = tt;
   pages = tt;
   ahead = c.cursor_at.ensures (g.M.MetaPages.pages c.release_tail.new.pages) c.in-Ok-Pages.ensures.within;
+  known = c.in-Ok-Pages.ensures.known;
+  same = tt;
   room = c.in-Ok-Pages.ensures.room;
   before = c.in-Ok-Pages.ensures.before;
 }
@@ -78,6 +80,8 @@ returns-in-Ok-Cell g c = record {
   cells = tt;
   pages = tt;
   ahead = c.cursor_at-in-Ok-Cell.ensures (g.M.MetaPages.pages c.release_tail.new.pages) c.in-Ok-Cell.ensures.within;
+  known = c.in-Ok-Cell.ensures.known;
+  same = tt;
   room = c.in-Ok-Cell.ensures.room;
   before = c.in-Ok-Cell.ensures.before;
 }

@@ -22,13 +22,15 @@ loop-init g c = (
   omega arith,
   omega arith,
   c.requires.ahead,
+  c.requires.known,
+  (λ zero. refl),
 )
 
 pub release_one-requires : goal.release_one-requires
 release_one-requires g c =
     let w = c.requires.well in
     let leads = c.loop.invariant.0 w.0 w.1 in
-    record { well = (leads.files, leads.well); ahead = c.loop.invariant.10 }
+    record { well = (leads.files, leads.well); ahead = c.loop.invariant.10; known = c.loop.invariant.11 }
 
 pub returns-in-Err-2-clause-ok : goal.returns-in-Err-2-clause-ok
 returns-in-Err-2-clause-ok g c = λ files well.
@@ -63,6 +65,8 @@ loop-preserved g c =
       omega (arith, c.if-changed-gt-PAGES.false),
       (let five = at_most_five c.loop.self in omega (arith, c.loop.invariant.9, c.step_pages-changed.ensures, five)),
       e.ahead,
+      e.known,
+      (λ zero. absurd (omega (arith, zero))),
     )
 
 pub returns-in-Ok-false-clause-few : goal.returns-in-Ok-false-clause-few

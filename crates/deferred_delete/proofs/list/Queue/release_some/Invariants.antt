@@ -1,5 +1,6 @@
 use Rattle.std.proofs.Common.{◌≡◌, ◌+◌, ◌*◌, ◌≤◌}
 use Rattle.bitfile_cells.specs.MapChanges.{ChangesAtMost}
+use Rattle.chain_release.specs.Sharing.{IsKnown}
 use Rattle.deferred_delete.specs.Cursors.{IsAhead}
 use Rattle.deferred_delete.specs.Listing.{IsEmpty}
 use Rattle.deferred_delete.specs.Standing.{Files}
@@ -15,3 +16,4 @@ invariant-loop g l =
     × (g.M.MetaPages.before l.pages ≡ g.M.MetaPages.before l.fn.pages)
     × ChangesAtMost l.changed (g.M.MetaPages.pages l.fn.pages) (g.M.MetaPages.pages l.pages)
     × (l.changed ≤ 30) × (l.changed ≤ 5 * l.counter) × IsAhead (g.M.MetaPages.pages l.pages) l.cursor
+    × IsKnown (g.M.MetaPages.pages l.pages) l.known × (l.count ≡ 0 → l.known ≡ l.fn.known)
