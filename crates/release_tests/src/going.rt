@@ -4,6 +4,7 @@ ghost use Rattle.memory_store.specs.Homes.{pages_of};
 ghost use Rattle.bmt_mcells.specs.Chain.{PlacedCell};
 ghost use Rattle.bitfile_cells.specs.Files.{IsFile};
 ghost use Rattle.bitfile_core.specs.Files.{first_record};
+ghost use Rattle.chain_release.specs.Sharing.{IsKnown};
 ghost use Rattle.deferred_delete.specs.Cursors.{IsAhead};
 ghost use Rattle.deferred_delete.specs.Standing.{source_of};
 ghost use Rattle.file_tests.specs.Worlds.{IsWorld};
@@ -91,7 +92,9 @@ pub fn release_by<M: MetaPages>(
 ) -> Result<u32, StoreFault>
     requires well { HasWellBy (M.pages pages.old) space.old cells.old list.old.list }
     requires ahead { IsAhead (M.pages pages.old) list.old.cursor }
+    requires known { IsKnown (M.pages pages.old) list.old.known }
     ensures ahead { IsAhead (M.pages pages.new) list.new.cursor }
+    ensures known { IsKnown (M.pages pages.new) list.new.known }
     ensures most { IfOk result (λ count. count ≤ 16) }
     ensures well { HasWellBy (M.pages pages.new) space.new cells.new list.new.list }
 {

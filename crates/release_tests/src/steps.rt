@@ -176,6 +176,25 @@ fn a_clone_that_reads_nothing_costs_no_more_where_it_is_larger(
 }
 
 #[test]
+fn a_removed_file_beside_a_clone_of_all_its_pages_costs_twice_where_twice_goes(
+    rt: HostRuntime,
+) -> Result<(), Fail> {
+    let alloc = rt.alloc();
+    // 66, 132 and 264 extents go, all of frozen pages of which the clone's file has its own
+    let seen = [
+        removed_beside(alloc, 66, 66, 1_000)?,
+        removed_beside(alloc, 132, 132, 1_000)?,
+        removed_beside(alloc, 264, 264, 1_000)?,
+    ];
+    let bounded = [
+        seen[1].is_at_most_twice(&seen[0]),
+        seen[2].is_at_most_twice(&seen[1]),
+    ];
+    assert_eq!(rt; bounded, [true; 2]);
+    Ok(())
+}
+
+#[test]
 fn two_filesets_have_a_file_of_the_same_tag_each(rt: HostRuntime) -> Result<(), Fail> {
     let seen = made_in_both(rt.alloc())?;
     assert_eq!(rt; seen, [true; 3]);

@@ -1,4 +1,6 @@
 use Rattle.std.proofs.Common.{Option, subst, sym}
+use Rattle.chain_release.specs.declared.reader.OwnPages.{OwnPages}
+use Rattle.chain_release.specs.Sharing.{IsKnown}
 use Rattle.deferred_delete.specs.declared.cursor.Cursor.{Cursor}
 use Rattle.deferred_delete.specs.Cursors.{IsAhead}
 use Rattle.deferred_delete.specs.Listing.{Listing}
@@ -19,6 +21,7 @@ release_some-requires c =
     let pages = pages_of world.pages.entries.items in
     record {
       ahead = subst (λ (o : Option Cursor). IsAhead pages o) (sym c.start_over.ensures.cursor) tt;
+      known = subst (λ (o : Option OwnPages). IsKnown pages o) (sym c.start_over.ensures.known) tt;
       well = subst (λ (l : Listing). (files : Files) × IsWell (now_of l files world.space world.cells pages)) (sym c.start_over.ensures.list) (
         _,
         well world.files.fileset c.args.version c.args.tag c.args.at.now first parts cut c.add.new.self.list c.in_ok-add.ensures.ok c.in_ok-add.ensures.tag_pages (c.is_trimmed.ensures chain.chain chain.file c.if-not-is_trimmed.false),

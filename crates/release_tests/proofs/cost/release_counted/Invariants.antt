@@ -1,8 +1,10 @@
 use Rattle.std.proofs.Common.{◌*◌, ◌≤◌}
 use Rattle.memory_store.specs.Homes.{pages_of}
+use Rattle.chain_release.specs.Sharing.{IsKnown}
 use Rattle.deferred_delete.specs.Cursors.{IsAhead}
 use Rattle.release_tests.specs.Going.{HasWellBy}
 use Rattle.release_tests.proofs.cost.release_counted.Given as goal
 
 abbrev pub invariant-loop : goal.invariant-loop
 invariant-loop l = (l.steps ≤ 16 * l.counter) × HasWellBy (pages_of l.pages.pages.entries.items) l.space l.cells l.list.list × IsAhead (pages_of l.pages.pages.entries.items) l.list.cursor
+    × IsKnown (pages_of l.pages.pages.entries.items) l.list.known

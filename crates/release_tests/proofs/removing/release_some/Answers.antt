@@ -1,6 +1,8 @@
 use Rattle.std.proofs.Common.{Option, subst, sym}
 use Rattle.domain_base.specs.declared.version.Version.TheVariants.{Four}
 use Rattle.memory_store.specs.Homes.{pages_of}
+use Rattle.chain_release.specs.declared.reader.OwnPages.{OwnPages}
+use Rattle.chain_release.specs.Sharing.{IsKnown}
 use Rattle.deferred_delete.specs.declared.cursor.Cursor.{Cursor}
 use Rattle.deferred_delete.specs.Cursors.{IsAhead}
 use Rattle.deferred_delete.specs.Listing.{Listing}
@@ -16,6 +18,7 @@ release_some-requires c =
     record {
       well = subst (λ (l : Listing). (files : Files) × IsWell (now_of l files world.space world.cells pages)) (sym c.start_over.ensures.list) (c.requires.0, c.requires.3.well);
       ahead = subst (λ (o : Option Cursor). IsAhead pages o) (sym c.start_over.ensures.cursor) tt;
+      known = subst (λ (o : Option OwnPages). IsKnown pages o) (sym c.start_over.ensures.known) tt;
     }
 
 pub returns : goal.returns
