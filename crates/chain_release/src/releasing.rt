@@ -316,7 +316,8 @@ fn of_reader(known: Option<OwnPages>, reader: &Reader) -> Option<OwnPages>
     }
 }
 
-/// What is known of a reader whose cells stayed: its map where it was read, and else what was known.
+/// What is known of a reader whose cells stayed: its map where it was read, and else what was
+/// known.
 fn known_still(
     reader: &Reader,
     read: Option<ExtentMap>,
@@ -418,16 +419,17 @@ fn release_at<M: MetaPages>(
 
 /// Lets go of something that the file has whose chain begins at that cell: of its first cell behind
 /// the cursor, a cell of the chain, that has a page from `from` on, or behind the first one no page
-/// at all; and where the cursor is none, or nothing of that kind is behind it, of the first such cell
-/// of all. The cursor is then the cell in front of that, so that the next step goes on there and does
-/// not pass once more what was passed: a hint that no answer but the cell depends on. What is known
-/// of the reader's pages is used where it is needed, and read where it is not known; it is kept for
-/// the next step but where a page is handed over. Of that cell's pages from `from` on as many go as
-/// the reader does not read through the file, up to the last one; or the last one alone, where the
-/// reader reads it: it is put in the reader's chain. All others are given back, and wait for the group: as metadata, where the file is a directory or its data is logged,
-/// and else as data. A cell behind the first that has no page left is unlinked and freed. `Nothing`
-/// exactly where no such cell is there: nothing has changed then. Two pages of metadata change at
-/// most, and five where a page is handed over.
+/// at all; and where the cursor is none, or nothing of that kind is behind it, of the first such
+/// cell of all. The cursor is then the cell in front of that, so that the next step goes on there
+/// and does not pass once more what was passed: a hint that no answer but the cell depends on. What
+/// is known of the reader's pages is used where it is needed, and read where it is not known; it is
+/// kept for the next step but where a page is handed over. Of that cell's pages from `from` on as
+/// many go as the reader does not read through the file, up to the last one; or the last one alone,
+/// where the reader reads it: it is put in the reader's chain. All others are given back, and wait
+/// for the group: as metadata, where the file is a directory or its data is logged, and else as
+/// data. A cell behind the first that has no page left is unlinked and freed. `Nothing` exactly
+/// where no such cell is there: nothing has changed then. Two pages of metadata change at most, and
+/// five where a page is handed over.
 ///
 /// NoPage comes only where the reader reads a page through the file that no record of its chain
 /// can have, no cell is free, and no page that would hold more, which is a miss. At an Err nothing

@@ -56,8 +56,8 @@ pub record IsEntry (files : Files) (entry : Entry) : Type 0 where
   pub all : (clone : CellAt) → ReadsThrough files clone entry.at → entry.clone ≡ Some clone
 
 -- the entries are so, no file has two, and that of a clone's file stands behind that of the file
--- through which it reads; the pages of tag directories stand on volumes, are held and none of cells,
--- each once, and no file's
+-- through which it reads; the pages of tag directories stand on volumes, are held and none of
+-- cells, each once, and no file's
 pub record IsListed (space : Spaces) (cells : Cells) (files : Files) (list : Listing) : Type 0 where
   pub each : (entry : Entry) → Contains list.entries entry → IsEntry files entry
   pub once : (i j : ℕ) (d : Entry) → i < length list.entries → j < length list.entries

@@ -57,7 +57,8 @@ Orders None place old new = new ≡ old
 Orders (Some clone) place old new =
     ChangesPlaces clone place old new ⊎ HasNoneInFront clone place old new
 
--- an entry has the file, with that clone, and that of the clone's file does not stand in front of it
+-- an entry has the file, with that clone, and that of the clone's file does not stand in front of
+-- it
 pub record Adds (at : CellAt) (clone : Option CellAt) (old new : List Entry) : Type 0 where
   pub place : ℕ
   pub between : List Entry

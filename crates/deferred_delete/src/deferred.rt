@@ -21,8 +21,8 @@ use std::alloc::Global;
 use std::marker::Model;
 
 /// Files of which pages behind those that they keep, or all, are to be let go of, and pages of tag
-/// directories that were removed; where the next step goes on; and what is known of the clone's file
-/// that reads through the one of which it lets something go.
+/// directories that were removed; where the next step goes on; and what is known of the clone's
+/// file that reads through the one of which it lets something go.
 #[derive(Drop)]
 pub struct Deferred {
     queue: Queue,
@@ -53,9 +53,10 @@ impl Deferred {
         }
     }
 
-    /// Forgets where the next step would go on, and what is known of a clone's file: it looks from a
-    /// file's first cell on then, and reads the clone's map if it needs that. So it is where something
-    /// else may have taken a cell out of a file's chain, or may have changed a clone's map.
+    /// Forgets where the next step would go on, and what is known of a clone's file: it looks from
+    /// a file's first cell on then, and reads the clone's map if it needs that. So it is where
+    /// something else may have taken a cell out of a file's chain, or may have changed a clone's
+    /// map.
     pub fn start_over(&mut self)
         ensures list { self.new.list ≡ self.old.list }
         ensures cursor { self.new.cursor ≡ None }
@@ -65,13 +66,14 @@ impl Deferred {
         self.known = None;
     }
 
-    /// Adds the file that begins at a cell, with the clone's file that reads through it, or the first
-    /// quota cell of a fileset that was removed. Where it is there already, its clone is set anew, and
-    /// that takes no memory. Where the clone's file stands on the list in front of it, the two change
-    /// places, so that the clone's goes first. After an error nothing has changed.
+    /// Adds the file that begins at a cell, with the clone's file that reads through it, or the
+    /// first quota cell of a fileset that was removed. Where it is there already, its clone is set
+    /// anew, and that takes no memory. Where the clone's file stands on the list in front of it,
+    /// the two change places, so that the clone's goes first. After an error nothing has changed.
     ///
     /// What goes of a file is what its first cell says then: so a file that is to be trimmed and is
-    /// taken out of use goes as a whole, listed again or not. The steps want one that says something.
+    /// taken out of use goes as a whole, listed again or not. The steps want one that says
+    /// something.
     pub fn add(&mut self, at: CellAt, clone: Option<CellAt>) -> Result<(), OutOfMemory>
         ensures ok { OnOk result (Adds at clone self.old.list.entries self.new.list.entries) }
         ensures tag_pages { self.new.list.tag_pages ≡ self.old.list.tag_pages }
@@ -127,23 +129,24 @@ impl Deferred {
     /// with the last pages that it names, or a tail of the pages of one cell, or one page that is
     /// handed over to the clone's file that reads it; the second of some quota cells; a trim's
     /// Pending record, with which all pages are kept again; a clone's reading through a file that
-    /// goes; the last cell of a removed file or of quotas; or a page of a tag directory, to which the
-    /// page in front of it leads no more. It answers how many steps were done, 0 exactly where the
-    /// list is empty. What no file has any more waits for the group. At most 30 pages of metadata
-    /// change, beside those of bitmaps, which the caller keeps: it stops in front of a step with which
-    /// there might be more, which has two pages, or five where the entry gives a clone.
+    /// goes; the last cell of a removed file or of quotas; or a page of a tag directory, to which
+    /// the page in front of it leads no more. It answers how many steps were done, 0 exactly where
+    /// the list is empty. What no file has any more waits for the group. At most 30 pages of
+    /// metadata change, beside those of bitmaps, which the caller keeps: it stops in front of a
+    /// step with which there might be more, which has two pages, or five where the entry gives a
+    /// clone.
     ///
     /// Where a step cannot be done, those in front of it are answered, if there is one, and the
     /// next call says why. So at an Err nothing but room and the count of misses has changed.
     /// NoPage comes only where the last entry's clone reads a page through its file for which there
     /// is no room; that is a miss.
     ///
-    /// A step goes on behind the cell in front of that of which the step before it let something go,
-    /// in the same call or in an earlier one: so what was passed is not passed once more. Only where
-    /// nothing that goes is behind it a step looks at the cells from the first one on, and says with
-    /// that that all is gone. So with k cells kept and m let go of the steps of a trim look at about
-    /// 2 * k + m cells in all. The cells of a clone's file are read once, in the first step that needs
-    /// its map, and once more behind each page that is handed over to it.
+    /// A step goes on behind the cell in front of that of which the step before it let something
+    /// go, in the same call or in an earlier one: so what was passed is not passed once more. Only
+    /// where nothing that goes is behind it a step looks at the cells from the first one on, and
+    /// says with that that all is gone. So with k cells kept and m let go of the steps of a trim
+    /// look at about 2 * k + m cells in all. The cells of a clone's file are read once, in the
+    /// first step that needs its map, and once more behind each page that is handed over to it.
     pub fn release_some<M: MetaPages>(
         &mut self,
         alloc: Global,
@@ -161,8 +164,8 @@ impl Deferred {
         ensures known { IsKnown (M.pages pages.new) self.new.known }
         ensures ok { (files : Files) → IsWell (now_of self.old.list files space.old cells.old
             (M.pages pages.old)) → IfOk result (λ count. LetsGo group version
-            (now_of self.old.list files space.old cells.old (M.pages pages.old)) count self.new.list space.new
-            cells.new (M.pages pages.new)) }
+            (now_of self.old.list files space.old cells.old (M.pages pages.old)) count
+            self.new.list space.new cells.new (M.pages pages.new)) }
         ensures some { IfOk result (λ count. (count ≡ 0) ↔ IsEmpty self.old.list) }
         ensures empty { IsEmpty self.old.list → result ≡ Ok 0 }
         ensures most { IfOk result (λ count. count ≤ 16) }

@@ -124,13 +124,14 @@ impl Queue {
         }
     }
 
-    /// Adds the file that begins at a cell, with the clone's file that reads through it, or the first
-    /// quota cell of a fileset that was removed. Where it is there already, its clone is set anew, and
-    /// that takes no memory. Where the clone's file stands on the list in front of it, the two change
-    /// places, so that the clone's goes first. After an error nothing has changed.
+    /// Adds the file that begins at a cell, with the clone's file that reads through it, or the
+    /// first quota cell of a fileset that was removed. Where it is there already, its clone is set
+    /// anew, and that takes no memory. Where the clone's file stands on the list in front of it,
+    /// the two change places, so that the clone's goes first. After an error nothing has changed.
     ///
     /// What goes of a file is what its first cell says then: so a file that is to be trimmed and is
-    /// taken out of use goes as a whole, listed again or not. The steps want one that says something.
+    /// taken out of use goes as a whole, listed again or not. The steps want one that says
+    /// something.
     pub(crate) fn add(&mut self, at: CellAt, clone: Option<CellAt>) -> Result<(), OutOfMemory>
         ensures ok { OnOk result (Adds at clone self.old.entries self.new.entries) }
         ensures tag_pages { self.new.tag_pages ≡ self.old.tag_pages }

@@ -151,8 +151,8 @@ impl Queue {
     }
 
     /// Lets go of things of the list, one after the other, at most sixteen, and begins behind the
-    /// cursor's cell; the cursor is then where the next step goes on, and what is known of a clone's
-    /// file what that step may use.
+    /// cursor's cell; the cursor is then where the next step goes on, and what is known of a
+    /// clone's file what that step may use.
     pub(crate) fn release_some<M: MetaPages>(
         &mut self,
         alloc: Global,

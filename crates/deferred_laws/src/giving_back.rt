@@ -14,7 +14,8 @@ ghost use Rattle.deferred_laws.specs.Tags.{AreAmong};
 ghost use Rattle.deferred_laws.specs.Waits.{StandsApart, Waits, waiting_at};
 
 /// All files of the domain, free cells, free space and pages belong together where a page is given
-/// back that is held, and none of cells, of a file or of the list; and the list is one of the files.
+/// back that is held, and none of cells, of a file or of the list; and the list is one of the
+/// files.
 pub fn all_stays_well_where_a_page_is_given_back()
     ensures { (first : Now) (home : Home) (kind : PageUse) (group : ℕ) → IsWell first
         → StandsApart first home → IsWell (with_waiting_page home kind group first) }

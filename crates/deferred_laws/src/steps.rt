@@ -72,8 +72,8 @@ pub fn removed_files_are_gone()
         → GoesWhole chain → last.files entry.at ≡ None }
 {}
 
-/// A file that was to be trimmed keeps all of 65,536 pages once no entry is of it, and nothing of it
-/// is left to be let go of: so once no file is on the list.
+/// A file that was to be trimmed keeps all of 65,536 pages once no entry is of it, and nothing of
+/// it is left to be let go of: so once no file is on the list.
 pub fn trimmed_files_keep_all()
     ensures { (group : ℕ) (version : Version) (first : Now) (count : ℕ) (last : Now)
         → IsWell first → Steps group version first count last
@@ -145,8 +145,8 @@ pub fn listed_pages_lead_on()
         → LeadOn first.pages first.list.tag_pages → LeadOn last.pages last.list.tag_pages }
 {}
 
-/// Where the pages of a tag directory are on the list, in their chain's order, those in front are on
-/// it after the steps, and what is left of the directory is one, whose last page leads to none.
+/// Where the pages of a tag directory are on the list, in their chain's order, those in front are
+/// on it after the steps, and what is left of the directory is one, whose last page leads to none.
 pub fn listed_directories_stay_ones()
     ensures { (group : ℕ) (version : Version) (first : Now) (count : ℕ) (last : Now)
         → IsWell first → Steps group version first count last → (places : List TagPlace)

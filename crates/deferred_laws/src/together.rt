@@ -36,7 +36,8 @@ pub fn tags_stay_together()
         × AreAmong last places (chains_in last.files chains) }
 {}
 
-/// A tag's file of which no entry is, and that none gives as its clone's, has the chain that it had.
+/// A tag's file of which no entry is, and that none gives as its clone's, has the chain that it
+/// had.
 pub fn tags_beside_the_list_stay()
     ensures { (group : ℕ) (version : Version) (first : Now) (count : ℕ) (last : Now)
         → Steps group version first count last → (places : List TagPlace) (chains : Chains)

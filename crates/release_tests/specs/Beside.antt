@@ -9,7 +9,8 @@ use Rattle.deferred_laws.specs.Calls.{StandsWell}
 use Rattle.file_tests.specs.declared.world.World.{World}
 use Rattle.release_tests.specs.Called.{fileset_in, parts_of}
 
--- a world's fileset belongs together with the domain's files and the list, and another one beside it
+-- a world's fileset belongs together with the domain's files and the list, and another one beside
+-- it
 pub record AreBeside (world : World) (other : Bitfiles) (list : Listing) (files : Files)
     (chains others : Chains) : Type 0 where
   pub stands : StandsWell world.files.fileset (fileset_in (parts_of world list) files chains)

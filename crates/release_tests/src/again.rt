@@ -42,8 +42,8 @@ fn let_go(
     at: &CellAt,
     version: Version,
 ) -> Result<u32, Fail>
-    requires { (first : FilesetNow)
-        × IsCut world.old.files.fileset version tag at.now first (parts_of world.old list.old.list) }
+    requires { (first : FilesetNow) × IsCut world.old.files.fileset version tag at.now first
+        (parts_of world.old list.old.list) }
     ensures fileset { world.new.files.fileset ≡ world.old.files.fileset }
     ensures went { (first : FilesetNow)
         → IsCut world.old.files.fileset version tag at.now first (parts_of world.old list.old.list)
@@ -84,7 +84,8 @@ pub fn write_again(
         → StandsWell world.old.files.fileset
         (fileset_in (parts_of world.old list.old.list) files chains)
         → IfOk result (λ done. IsWrittenAgain world.new.files.fileset version done.0
-        (fileset_in (parts_of world.old list.old.list) files chains) (parts_of world.new list.new.list)) }
+        (fileset_in (parts_of world.old list.old.list) files chains)
+        (parts_of world.new list.new.list)) }
 {
     let tag = make(alloc, world, Kind::File, version)?;
     give_pages(alloc, world, tag, &[0, 1, 2, 3, 4, 5], version)?;

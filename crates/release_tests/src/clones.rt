@@ -177,9 +177,9 @@ fn listed_unrelated(alloc: Global, world: &mut World, pair: &Pair) -> Result<Def
     Ok(list)
 }
 
-/// What is seen of two removed files of the pages 0 to 5 and 0 to 2 and of a page of a tag directory
-/// that are on one list: the steps, and the free and waiting pages before, after, once the group is
-/// durable, and once the log has passed it.
+/// What is seen of two removed files of the pages 0 to 5 and 0 to 2 and of a page of a tag
+/// directory that are on one list: the steps, and the free and waiting pages before, after, once
+/// the group is durable, and once the log has passed it.
 pub fn unrelated(alloc: Global) -> Result<(u32, [[u32; 2]; 4]), Fail> {
     let scene = Scene {
         pages: 64,

@@ -24,7 +24,8 @@ fn release_counted(
     cells: &mut FreeCells,
     list: &mut Deferred,
 ) -> Result<u32, StoreFault>
-    requires { HasWellBy (⟦<Counted as MetaPages>⟧.pages pages.old) space.old cells.old list.old.list }
+    requires { HasWellBy (⟦<Counted as MetaPages>⟧.pages pages.old) space.old cells.old
+        list.old.list }
 {
     list.start_over();
     let mut steps = 0;

@@ -57,7 +57,8 @@ fn give(
     ensures calls { (first : FilesetNow) (list : Listing)
         → StandsWell world.old.files.fileset first
         → HasCalled world.old.files.fileset version tag first (parts_of world.old list)
-        → IfOk result (λ _. HasCalled world.new.files.fileset version tag first (parts_of world.new list)) }
+        → IfOk result (λ _. HasCalled world.new.files.fileset version tag first
+        (parts_of world.new list)) }
 {
     let keep = world.files.keep(&world.pages, tag).ok_or("a live tag")?;
     if keep <= page || FILE_PAGES <= page {
@@ -95,7 +96,8 @@ pub fn give_pages(
     ensures calls { (first : FilesetNow) (list : Listing)
         → StandsWell world.old.files.fileset first
         → HasCalled world.old.files.fileset version tag first (parts_of world.old list)
-        → IfOk result (λ _. HasCalled world.new.files.fileset version tag first (parts_of world.new list)) }
+        → IfOk result (λ _. HasCalled world.new.files.fileset version tag first
+        (parts_of world.new list)) }
 {
     for page in pages {
         if give(alloc, world, tag, *page, version)?.is_err() {

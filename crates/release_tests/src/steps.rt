@@ -105,7 +105,7 @@ fn a_trim_of_twice_the_extents_costs_twice_as_much(rt: HostRuntime) -> Result<()
 #[test]
 fn a_trim_from_behind_costs_twice_where_twice_goes(rt: HostRuntime) -> Result<(), Fail> {
     let alloc = rt.alloc();
-    // the first 44 extents stay, in two cells that each step passes; the last 44, 88, 176 and 352 go
+    // the first 44 extents stay, in two cells; the last 44, 88, 176 and 352 go
     let seen = [
         trimmed_down(alloc, 88, 88)?,
         trimmed_down(alloc, 132, 88)?,
@@ -222,8 +222,8 @@ fn a_removed_file_lets_go_of_all(rt: HostRuntime) -> Result<(), Fail> {
 #[test]
 fn files_and_pages_of_one_list_all_go(rt: HostRuntime) -> Result<(), Fail> {
     let seen = unrelated(rt.alloc())?;
-    // the pages and the cell of each file, and the page; of 64 pages 3 are used beside these, 9 wait
-    // as data and one as metadata
+    // the pages and the cell of each file, and the page; of 64 pages 3 are used beside these, 9
+    // wait as data and one as metadata
     assert_eq!(rt; seen, (5, [[51, 0], [51, 10], [60, 1], [61, 0]]));
     Ok(())
 }

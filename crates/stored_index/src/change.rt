@@ -22,8 +22,8 @@ pub struct NewIndexPage {
     pub first: Home,
 }
 
-/// Puts these bytes in place of an index's page, counted from 0. Where the next page stands is as it
-/// was, whatever the bytes say of it. It takes no memory.
+/// Puts these bytes in place of an index's page, counted from 0. Where the next page stands is as
+/// it was, whatever the bytes say of it. It takes no memory.
 pub fn put_index_page<M: MetaPages>(pages: &mut M, first: Home, number: u32, bytes: Page)
     requires { (homes : List HomeOf) × AreIndexHomes (M.pages pages.old) (Some first) homes
         × (number < length homes) }
@@ -104,9 +104,10 @@ pub fn new_first(first: &Option<Home>, number: u32, onto: &Home) -> Home
     }
 }
 
-/// Puts a page with these bytes at a home that is none of an index, in front of the page of the index
-/// with that number, counted from 0, or behind the last one. It answers where the index begins then.
-/// Where the next page stands is the index's own, whatever the bytes say of it. It takes no memory.
+/// Puts a page with these bytes at a home that is none of an index, in front of the page of the
+/// index with that number, counted from 0, or behind the last one. It answers where the index
+/// begins then. Where the next page stands is the index's own, whatever the bytes say of it. It
+/// takes no memory.
 pub fn link_index_page<M: MetaPages>(
     pages: &mut M,
     first: Option<Home>,
@@ -128,10 +129,10 @@ pub fn link_index_page<M: MetaPages>(
     new_first(&first, number, &home)
 }
 
-/// Puts a page with these bytes in front of the page of an index with that number, counted from 0, or
-/// behind the last one: on a free page, of the preferred volume if that has one. Where the next page
-/// stands is the index's own, whatever the bytes say of it. NoPage comes only where no page is free,
-/// and is a miss; at an Err the pages are as they were.
+/// Puts a page with these bytes in front of the page of an index with that number, counted from 0,
+/// or behind the last one: on a free page, of the preferred volume if that has one. Where the next
+/// page stands is the index's own, whatever the bytes say of it. NoPage comes only where no page is
+/// free, and is a miss; at an Err the pages are as they were.
 pub fn insert_index_page<M: MetaPages>(
     alloc: Global,
     pages: &mut M,

@@ -17,7 +17,8 @@ pub fn index_is_shown()
 /// An index stays where none of its pages changes.
 pub fn index_stays()
     ensures { (old new : Pages) (first : Option Home) (homes : List Home)
-        → AreIndexHomes old first homes → ((home : Home) → Contains homes home → new home ≡ old home)
+        → AreIndexHomes old first homes
+        → ((home : Home) → Contains homes home → new home ≡ old home)
         → AreIndexHomes new first homes × (shown_at new homes ≡ shown_at old homes) }
 {}
 

@@ -54,9 +54,9 @@ abbrev pub with_length : ℕ → Attributes → Tag → Chains → Chains
 with_length count was tag chains =
     with_chain tag (with_first (says_attributes (long count was))) chains
 
--- the directory with that chain, which says so already, gets a home for the page, which is taken for
--- it: no cell of another file and no page off the tables changes; then the bytes are put there, and
--- nothing else changes
+-- the directory with that chain, which says so already, gets a home for the page, which is taken
+-- for it: no cell of another file and no page off the tables changes; then the bytes are put there,
+-- and nothing else changes
 pub record GetsPage (fileset : ℕ) (places : List TagPlace) (tag : Tag) (page : ℕ) (bytes : List ℕ)
     (prefer : ℕ) (version : Version) (chains : Chains) (space space_now : Spaces)
     (cells cells_now : Cells) (old new : Pages) (chain : List PlacedCell) : Type 0 where
@@ -91,8 +91,8 @@ AddsNone tag page chains space space_now cells fault = IsSomeAnd (attributes_at 
     (λ was. IsSomeAnd (with_length (page + 1) was tag chains tag)
     (λ chain. GetsNone page chain space space_now cells fault))
 
--- the first cell of the tag's directory says where its index begins and how many entries that has, and
--- nothing else anew: all belongs together again
+-- the first cell of the tag's directory says where its index begins and how many entries that has,
+-- and nothing else anew: all belongs together again
 pub record SaysIndex (fileset : ℕ) (places : List TagPlace) (space : Spaces) (cells : Cells)
     (tag : Tag) (chains : Chains) (old said : Pages) : Type 0 where
   pub index : IndexPlace
@@ -110,9 +110,9 @@ pub record WritesIndexPage (fileset : ℕ) (places : List TagPlace) (space : Spa
   pub same : option_and_then index_of (chains tag) ≡ Some says.index.first
   pub puts : PutsIndexPage (Some says.index.first) page bytes said new homes
 
--- a free page is taken for the index of the tag's directory, of the preferred volume if that has one;
--- the first cell says where the index begins then and how many entries it has, and then the page is
--- put in there
+-- a free page is taken for the index of the tag's directory, of the preferred volume if that has
+-- one; the first cell says where the index begins then and how many entries it has, and then the
+-- page is put in there
 pub record AddsIndexPage (fileset : ℕ) (places : List TagPlace) (cells : Cells) (tag : Tag)
     (number : ℕ) (bytes : List ℕ) (prefer : ℕ) (chains : Chains) (homes : List Home)
     (space space_now : Spaces) (old new : Pages) : Type 0 where

@@ -106,8 +106,8 @@ fn lengthen<M: MetaPages>(
 }
 
 /// Puts a page of a directory behind its last one, on a free page, of the preferred volume if that
-/// has one; the directory is longer by a page then. NoPage comes only where no page is free, or none
-/// beside this one and a cell more is needed, of which none is free; that is a miss. At an Err
+/// has one; the directory is longer by a page then. NoPage comes only where no page is free, or
+/// none beside this one and a cell more is needed, of which none is free; that is a miss. At an Err
 /// nothing but room and the count of misses has changed, and the set is as it was.
 pub fn add_page<M: MetaPages>(
     alloc: Global,

@@ -23,8 +23,8 @@ use stored_index::{count_index as count_pages, index_home, put_index_page};
 /// How many entries one index page can have.
 const PAGE_ENTRIES: u32 = 1_022;
 
-/// How many entries an index page says that it has: none where it says more than one can have. Beside
-/// it stands that a page has all its bytes.
+/// How many entries an index page says that it has: none where it says more than one can have.
+/// Beside it stands that a page has all its bytes.
 pub(crate) fn entries_on(page: &Page) -> u32
     ensures value { result ≡ told_on page.now }
     ensures whole { length page.now ≡ page_bytes }
@@ -77,7 +77,8 @@ pub fn index_page_of<'a, M: MetaPages>(
     pages.get(index_home(pages, Some(index.first), page)?)
 }
 
-/// How many entries the page of an index with a number says that it has; 0 where it has no such page.
+/// How many entries the page of an index with a number says that it has; 0 where it has no such
+/// page.
 fn entries_at<M: MetaPages>(pages: &M, first: &Home, number: u32) -> u32
     requires { HasIndexHomes (M.pages pages.now) (Some first.now) }
     ensures { (homes : List HomeOf) → AreIndexHomes (M.pages pages.now) (Some first.now) homes
@@ -92,8 +93,8 @@ fn entries_at<M: MetaPages>(pages: &M, first: &Home, number: u32) -> u32
     }
 }
 
-/// How many entries an index has once a page of it that has so many gives way to one that has others;
-/// None where that is no number of 32 bits.
+/// How many entries an index has once a page of it that has so many gives way to one that has
+/// others; None where that is no number of 32 bits.
 fn changed_total(total: u32, gone: u32, new: u32) -> Option<u32>
     requires { gone ≤ total }
     ensures { IfSome result (λ now. now ≡ total - gone + new) }
@@ -101,10 +102,10 @@ fn changed_total(total: u32, gone: u32, new: u32) -> Option<u32>
     (total - gone).checked_add(new)
 }
 
-/// Puts a page of a directory's index in place of the one at that number, at its home, once the first
-/// cell says how many entries the index has then. Where the next page stands is the index's own,
-/// whatever the bytes say of it. OutOfMemory also where the index would have 2^32 entries; at an Err
-/// nothing has changed.
+/// Puts a page of a directory's index in place of the one at that number, at its home, once the
+/// first cell says how many entries the index has then. Where the next page stands is the index's
+/// own, whatever the bytes say of it. OutOfMemory also where the index would have 2^32 entries; at
+/// an Err nothing has changed.
 pub fn write_index_page<M: MetaPages>(
     alloc: Global,
     pages: &mut M,

@@ -39,8 +39,8 @@ fn total_of(index: &Option<IndexPlace>) -> u32
     }
 }
 
-/// How many entries an index has with a page more; None where that is no number of 32 bits, or where
-/// its pages would be none.
+/// How many entries an index has with a page more; None where that is no number of 32 bits, or
+/// where its pages would be none.
 fn total_with<M: MetaPages>(pages: &M, index: &Option<IndexPlace>, more: u32) -> Option<u32>
     requires { HasIndexHomes (M.pages pages.now) (option_map (λ place. place.first) index.now) }
     ensures total { IfSome result (λ now. now
@@ -56,11 +56,11 @@ fn total_with<M: MetaPages>(pages: &M, index: &Option<IndexPlace>, more: u32) ->
 }
 
 /// Puts a page into a directory's index, in front of the one at that number or behind the last one,
-/// on a free page, of the preferred volume if that has one, once the first cell says where the index
-/// begins and how many entries it has then. Where the next page stands is the index's own, whatever
-/// the bytes say of it. NoPage comes only where no page is free; that is a miss. OutOfMemory also
-/// where the index would have 2^32 pages or entries. At an Err nothing but room and the count of
-/// misses has changed, and the set is as it was.
+/// on a free page, of the preferred volume if that has one, once the first cell says where the
+/// index begins and how many entries it has then. Where the next page stands is the index's own,
+/// whatever the bytes say of it. NoPage comes only where no page is free; that is a miss.
+/// OutOfMemory also where the index would have 2^32 pages or entries. At an Err nothing but room
+/// and the count of misses has changed, and the set is as it was.
 pub fn insert_index_page<M: MetaPages>(
     alloc: Global,
     pages: &mut M,

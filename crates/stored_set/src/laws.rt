@@ -17,8 +17,8 @@ pub fn one_set_is_shown()
         → StandsAsSet fileset places other_space other_cells pages other → one tag ≡ other tag }
 {}
 
-/// Each file or directory that is shown is within its limits, each page of it and of its index has all
-/// its bytes, and only a directory has any.
+/// Each file or directory that is shown is within its limits, each page of it and of its index has
+/// all its bytes, and only a directory has any.
 pub fn sets_are_sound()
     ensures { (fileset : ℕ) (places : List TagPlace) (space : Spaces) (cells : Cells)
         (pages : Pages) (files : Bitfiles) → AreWhole pages

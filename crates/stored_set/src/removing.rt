@@ -22,8 +22,8 @@ use page_store::MetaPages;
 use std::alloc::Global;
 use stored_index::drop_index;
 
-/// Takes a live tag out of use, once its first cell names no index. It answers that cell, which then
-/// says that all of the file or directory is to be let go of. At an Err nothing but room has
+/// Takes a live tag out of use, once its first cell names no index. It answers that cell, which
+/// then says that all of the file or directory is to be let go of. At an Err nothing but room has
 /// changed.
 fn take_out<M: MetaPages>(
     alloc: Global,
