@@ -10,3 +10,4 @@ pub mod Standings
 pub mod Stepping
 pub mod Well
 pub mod FewSteps
+pub mod Onward

@@ -1,4 +1,5 @@
 //! Where a step goes on that lets go of something of the same file as the one before it.
+ghost use Rattle.std.specs.Prelude.{◌≡◌, IfSome};
 ghost use Rattle.page_store.specs.Pages.{Pages};
 ghost use Rattle.chain_release.specs.Sharing.{IsWithin};
 ghost use Rattle.deferred_delete.specs.Cursors.{IsAhead};
@@ -30,7 +31,8 @@ pub(crate) fn place_in(cursor: &Option<Cursor>, file: &CellAt) -> Option<CellAt>
 
 /// A cursor at a cell of a file, if one is given.
 pub(crate) fn cursor_at(file: &CellAt, place: &Option<CellAt>) -> Option<Cursor>
-    ensures { (pages : Pages) → IsWithin pages file.now place.now → IsAhead pages result }
+    ensures within { (pages : Pages) → IsWithin pages file.now place.now → IsAhead pages result }
+    ensures file { IfSome result (λ c. c.file ≡ file.now) }
 {
     match place {
         Some(at) => Some(Cursor {

@@ -5,7 +5,7 @@ ghost use Rattle.bitfile_cells.specs.Allocated.{FindsNone};
 ghost use Rattle.bitfile_cells.specs.MapChanges.{ChangesAtMost};
 ghost use Rattle.chain_release.specs.Sharing.{IsKnown};
 ghost use Rattle.deferred_delete.specs.declared.list.Entry.{Entry as EntryOf};
-ghost use Rattle.deferred_delete.specs.Cursors.{Deferral, IsAhead};
+ghost use Rattle.deferred_delete.specs.Cursors.{Deferral, IsAhead, IsOfEntry};
 ghost use Rattle.deferred_delete.specs.Listing.{Adds, IsEmpty};
 ghost use Rattle.deferred_delete.specs.Standing.{Files};
 ghost use Rattle.deferred_delete.specs.Steps.{IsWell, LacksRoom, LetsGo, now_of};
@@ -63,6 +63,17 @@ impl Deferred {
         ensures known { self.new.known ≡ None }
     {
         self.cursor = None;
+        self.known = None;
+    }
+
+    /// Forgets what is known of a clone's file alone, of which the map is read again where a step
+    /// needs it. So it is where something else may have changed that, and has taken no cell out of
+    /// the chain of a file.
+    pub fn forget_clone(&mut self)
+        ensures list { self.new.list ≡ self.old.list }
+        ensures cursor { self.new.cursor ≡ self.old.cursor }
+        ensures known { self.new.known ≡ None }
+    {
         self.known = None;
     }
 
@@ -162,6 +173,7 @@ impl Deferred {
         requires known { IsKnown (M.pages pages.old) self.old.known }
         ensures ahead { IsAhead (M.pages pages.new) self.new.cursor }
         ensures known { IsKnown (M.pages pages.new) self.new.known }
+        ensures on { OnOk result (IsOfEntry self.new.list.entries self.new.cursor) }
         ensures ok { (files : Files) → IsWell (now_of self.old.list files space.old cells.old
             (M.pages pages.old)) → IfOk result (λ count. LetsGo group version
             (now_of self.old.list files space.old cells.old (M.pages pages.old)) count
@@ -180,20 +192,15 @@ impl Deferred {
         ensures room { M.room pages.old ≤ M.room pages.new + 16 }
         ensures before { M.before pages.new ≡ M.before pages.old }
     {
-        let mut cursor = self.cursor;
-        let done = self.queue.release_some(
+        self.queue.release_some(
             alloc,
             pages,
             space,
             cells,
-            &mut cursor,
+            &mut self.cursor,
             &mut self.known,
             group,
             version,
-        );
-        if done.is_ok() {
-            self.cursor = cursor;
-        }
-        done
+        )
     }
 }

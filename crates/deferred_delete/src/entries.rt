@@ -6,7 +6,7 @@ ghost use Rattle.free_space.specs.Spaces.{Spaces};
 ghost use Rattle.bitfile_cells.specs.Allocated.{FindsNone};
 ghost use Rattle.chain_release.specs.Sharing.{IsKnown};
 ghost use Rattle.deferred_delete.specs.declared.list.Entry.{Entry as EntryOf};
-ghost use Rattle.deferred_delete.specs.Cursors.{IsAhead};
+ghost use Rattle.deferred_delete.specs.Cursors.{IsAhead, IsLeftAt};
 ghost use Rattle.deferred_delete.specs.Listing.{Listing};
 ghost use Rattle.deferred_delete.specs.Standing.{Files};
 ghost use Rattle.deferred_delete.specs.Steps.{HasEntry, HasFileEntry, IsEnding, IsEndingWhole, LacksRoom, Leaves, list_after, now_of};
@@ -108,6 +108,8 @@ fn release_file<M: MetaPages>(
     requires known { IsKnown (M.pages pages.old) known.old }
     ensures ahead { IsAhead (M.pages pages.new) cursor.new }
     ensures known { IsKnown (M.pages pages.new) known.new }
+    ensures on { IfOk result (λ went. IsLeftAt entry.now.at went cursor.new) }
+    ensures place { OnErr result (cursor.new ≡ cursor.old) }
     ensures same { OnErr result (known.new ≡ known.old) }
     ensures ok { (list : Listing) (front : List EntryOf) (files : Files)
         → HasFileEntry front entry.now (now_of list files space.old cells.old (M.pages pages.old))
@@ -131,8 +133,8 @@ fn release_file<M: MetaPages>(
         alloc, pages, space, cells, entry.at, &mut place, known, from, &reader, group, version,
     ) {
         Ok(Released::Nothing) => {
-            *cursor = None;
             let went = end_entry(alloc, pages, cells, entry, &left)?;
+            *cursor = None;
             *known = None;
             Ok(went)
         }
@@ -167,6 +169,8 @@ pub(crate) fn release_entry<M: MetaPages>(
     requires known { IsKnown (M.pages pages.old) known.old }
     ensures ahead { IsAhead (M.pages pages.new) cursor.new }
     ensures known { IsKnown (M.pages pages.new) known.new }
+    ensures on { IfOk result (λ went. IsLeftAt entry.now.at went cursor.new) }
+    ensures place { OnErr result (cursor.new ≡ cursor.old) }
     ensures same { OnErr result (known.new ≡ known.old) }
     ensures ok { (list : Listing) (front : List EntryOf) (files : Files)
         → HasEntry front entry.now (now_of list files space.old cells.old (M.pages pages.old))
@@ -183,8 +187,8 @@ pub(crate) fn release_entry<M: MetaPages>(
     ensures before { M.before pages.new ≡ M.before pages.old }
 {
     if is_of_quotas(pages, &entry.at) {
-        *cursor = None;
         let went = release_quotas(alloc, pages, cells, entry)?;
+        *cursor = None;
         *known = None;
         return Ok(went);
     }

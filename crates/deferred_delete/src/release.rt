@@ -3,7 +3,7 @@ ghost use Rattle.std.specs.Prelude.{◌≡◌, ◌≤◌, ◌+◌, ◌↔◌, []
 ghost use Rattle.domain_base.specs.declared.place.Home.{Home as HomeOf};
 ghost use Rattle.free_space.specs.Spaces.{IsHeld};
 ghost use Rattle.deferred_delete.specs.declared.list.Entry.{Entry as EntryOf};
-ghost use Rattle.deferred_delete.specs.Cursors.{IsAhead};
+ghost use Rattle.deferred_delete.specs.Cursors.{IsAhead, IsOfEntry};
 ghost use Rattle.deferred_delete.specs.Listing.{IsEmpty};
 ghost use Rattle.page_store.specs.declared.fault.StoreFault.TheVariants.{NoPage};
 ghost use Rattle.bitfile_cells.specs.Allocated.{FindsNone};
@@ -112,6 +112,8 @@ impl Queue {
         requires known { IsKnown (M.pages pages.old) known.old }
         ensures ahead { IsAhead (M.pages pages.new) cursor.new }
         ensures known { IsKnown (M.pages pages.new) known.new }
+        ensures on { OnOk result (IsOfEntry self.new.entries cursor.new) }
+        ensures place { OnErr result (cursor.new ≡ cursor.old) }
         ensures same { OnErr result (known.new ≡ known.old) }
         ensures ok { (files : Files) → IsWell (now_of self.old files space.old cells.old
             (M.pages pages.old)) → IfOk result (λ some. some ≡ true → Leaves group version
@@ -170,6 +172,8 @@ impl Queue {
         requires known { IsKnown (M.pages pages.old) known.old }
         ensures ahead { IsAhead (M.pages pages.new) cursor.new }
         ensures known { IsKnown (M.pages pages.new) known.new }
+        ensures on { OnOk result (IsOfEntry self.new.entries cursor.new) }
+        ensures place { OnErr result (cursor.new ≡ cursor.old) }
         ensures same { OnErr result (known.new ≡ known.old) }
         ensures ok { (files : Files) → IsWell (now_of self.old files space.old cells.old
             (M.pages pages.old)) → IfOk result (λ count. LetsGo group version

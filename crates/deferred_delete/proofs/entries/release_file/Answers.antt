@@ -1,6 +1,9 @@
-use Rattle.std.proofs.Common.{◌≡◌, ◌∙◌, sym}
+use Rattle.std.proofs.Common.{◌≡◌, ◌∙◌, subst, sym}
+use Rattle.page_store.specs.Pages.{Pages}
 use Rattle.chain_release.specs.declared.released.Released.TheVariants as released
+use Rattle.deferred_delete.specs.Cursors.{IsAhead}
 use Rattle.deferred_delete.specs.Steps.{list_after}
+use Rattle.deferred_delete.proofs.Onward.{on_part}
 use Rattle.deferred_delete.proofs.Stepping.{ending_now, lacks_room, left_as, part_went}
 use Rattle.deferred_delete.proofs.Well.{as_file, ready}
 use Rattle.deferred_delete.proofs.entries.release_file.Goals as goal
@@ -60,8 +63,10 @@ returns-in-Ok-Pages g c = record {
   full = λ list front files has. tt;
   cells = tt;
   pages = tt;
-  ahead = c.cursor_at.ensures (g.M.MetaPages.pages c.release_tail.new.pages) c.in-Ok-Pages.ensures.within;
+  ahead = c.cursor_at.ensures.within (g.M.MetaPages.pages c.release_tail.new.pages) c.in-Ok-Pages.ensures.within;
   known = c.in-Ok-Pages.ensures.known;
+  on = on_part c.args.entry.now.at c.cursor_at.result c.cursor_at.ensures.file;
+  place = tt;
   same = tt;
   room = c.in-Ok-Pages.ensures.room;
   before = c.in-Ok-Pages.ensures.before;
@@ -79,8 +84,10 @@ returns-in-Ok-Cell g c = record {
   full = λ list front files has. tt;
   cells = tt;
   pages = tt;
-  ahead = c.cursor_at-in-Ok-Cell.ensures (g.M.MetaPages.pages c.release_tail.new.pages) c.in-Ok-Cell.ensures.within;
+  ahead = c.cursor_at-in-Ok-Cell.ensures.within (g.M.MetaPages.pages c.release_tail.new.pages) c.in-Ok-Cell.ensures.within;
   known = c.in-Ok-Cell.ensures.known;
+  on = on_part c.args.entry.now.at c.cursor_at-in-Ok-Cell.result c.cursor_at-in-Ok-Cell.ensures.file;
+  place = tt;
   same = tt;
   room = c.in-Ok-Cell.ensures.room;
   before = c.in-Ok-Cell.ensures.before;
@@ -91,3 +98,8 @@ returns-in-Err-clause-full g c = λ list front files has no_page.
     let pages = g.M.MetaPages.pages c.args.pages.now in
     let it = ready list front files c.args.entry.now c.left_at-left.result c.stale_at-from.result c.reader_at-reader.result c.args.space.now c.args.cells.now pages has.has (as_file list front files c.args.entry.now c.args.space.now c.args.cells.now pages has) c.left_at-left.ensures c.stale_at-from.ensures c.reader_at-reader.ensures.none c.reader_at-reader.ensures.some in
     lacks_room list front files c.args.entry.now c.left_at-left.result c.stale_at-from.result c.reader_at-reader.result c.args.space.now c.args.cells.now pages has.has it (c.in-Err.ensures.full it.chain it.own it.shares no_page)
+
+pub returns-in_err-went-in-Ok-Nothing-clause-ahead : goal.returns-in_err-went-in-Ok-Nothing-clause-ahead
+returns-in_err-went-in-Ok-Nothing-clause-ahead g c =
+    let kept = c.in-Ok-Nothing.ensures.kept c.in-Ok-Nothing.field-0-is in
+    subst (λ (pages : Pages). IsAhead pages c.args.cursor.now) (sym (c.in_err-went-in-Ok-Nothing.ensures.pages ∙ kept.2)) c.requires.ahead

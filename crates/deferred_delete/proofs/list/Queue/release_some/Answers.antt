@@ -1,6 +1,8 @@
-use Rattle.std.proofs.Common.{◌≡◌, ◌∙◌, ◌+◌, ◌≤◌, ℕ, ap, arith, inr, refl, subst, sym, ⊎_elim}
+use Rattle.std.proofs.Common.{◌≡◌, ◌∙◌, ◌+◌, ◌≤◌, ℕ, Option, ap, arith, inr, refl, subst, sym, ⊎_elim}
 use Rattle.std.proofs.lemmas.Bool.{cases_lt}
-use Rattle.deferred_delete.specs.Listing.{IsEmpty}
+use Rattle.deferred_delete.specs.declared.cursor.Cursor.{Cursor}
+use Rattle.deferred_delete.specs.Cursors.{IsOfEntry}
+use Rattle.deferred_delete.specs.Listing.{IsEmpty, Listing}
 use Rattle.deferred_delete.specs.Steps.{now_of}
 use Rattle.page_store.specs.Pages.{Pages}
 use Rattle.bitfile_cells.specs.MapChanges.{ChangesAtMost}
@@ -23,6 +25,8 @@ loop-init g c = (
   omega arith,
   c.requires.ahead,
   c.requires.known,
+  (λ zero. refl),
+  (λ some. absurd (omega (arith, some))),
   (λ zero. refl),
 )
 
@@ -67,6 +71,8 @@ loop-preserved g c =
       e.ahead,
       e.known,
       (λ zero. absurd (omega (arith, zero))),
+      (λ some. e.on),
+      (λ zero. absurd (omega (arith, zero))),
     )
 
 pub returns-in-Ok-false-clause-few : goal.returns-in-Ok-false-clause-few
@@ -86,3 +92,18 @@ returns-clause-few g c =
 pub returns-in-Err-clause-empty : goal.returns-in-Err-clause-empty
 returns-in-Err-clause-empty g c = λ empty.
     absurd (c.in-Err.ensures.listed (subst IsEmpty (sym (c.loop.invariant.2 c.if-count-eq0.true)) empty))
+
+pub returns-in-Err-2-clause-on : goal.returns-in-Err-2-clause-on
+returns-in-Err-2-clause-on g c =
+    let e = c.in-Err.ensures in
+    let some : 1 ≤ c.loop.count = omega (arith, c.if-count-eq0.false) in
+    subst (λ (l : Listing). IsOfEntry l.entries c.release_one.new.cursor) (sym e.list)
+    (subst (λ (o : Option Cursor). IsOfEntry c.loop.self.entries o) (sym e.place) (c.loop.invariant.13 some))
+
+pub returns-then-changed-gt-PAGES-clause-on : goal.returns-then-changed-gt-PAGES-clause-on
+returns-then-changed-gt-PAGES-clause-on g c =
+    let five = at_most_five c.loop.self in
+    c.loop.invariant.13 (omega (arith, c.loop.invariant.1, c.loop.invariant.9, c.step_pages-changed.ensures, five, c.if-changed-gt-PAGES.true))
+
+pub returns-clause-on : goal.returns-clause-on
+returns-clause-on g c = c.loop.invariant.13 (omega (arith, c.loop.invariant.1, c.loop.auto.counter-end, c.loop-test.false))

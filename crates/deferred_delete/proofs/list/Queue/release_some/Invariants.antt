@@ -1,7 +1,7 @@
 use Rattle.std.proofs.Common.{◌≡◌, ◌+◌, ◌*◌, ◌≤◌}
 use Rattle.bitfile_cells.specs.MapChanges.{ChangesAtMost}
 use Rattle.chain_release.specs.Sharing.{IsKnown}
-use Rattle.deferred_delete.specs.Cursors.{IsAhead}
+use Rattle.deferred_delete.specs.Cursors.{IsAhead, IsOfEntry}
 use Rattle.deferred_delete.specs.Listing.{IsEmpty}
 use Rattle.deferred_delete.specs.Standing.{Files}
 use Rattle.deferred_delete.specs.Steps.{IsWell, LeadsTo, now_of}
@@ -17,3 +17,4 @@ invariant-loop g l =
     × ChangesAtMost l.changed (g.M.MetaPages.pages l.fn.pages) (g.M.MetaPages.pages l.pages)
     × (l.changed ≤ 30) × (l.changed ≤ 5 * l.counter) × IsAhead (g.M.MetaPages.pages l.pages) l.cursor
     × IsKnown (g.M.MetaPages.pages l.pages) l.known × (l.count ≡ 0 → l.known ≡ l.fn.known)
+    × (1 ≤ l.count → IsOfEntry l.self.entries l.cursor) × (l.count ≡ 0 → l.cursor ≡ l.fn.cursor)
