@@ -46,3 +46,4 @@ pub mod ReadBack
 pub mod Linked
 pub mod Left
 pub mod LeftStill
+pub mod InFiles

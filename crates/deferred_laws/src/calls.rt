@@ -14,8 +14,9 @@ ghost use Rattle.free_space.specs.declared.waiting.Waiting.{Waiting};
 ghost use Rattle.bitfile_core.specs.Files.{Chains};
 ghost use Rattle.bitfile_core.specs.Together.{AreTogether};
 ghost use Rattle.deferred_delete.specs.declared.cursor.Cursor.{Cursor};
+ghost use Rattle.deferred_delete.specs.Cursors.{IsAhead, IsOfEntry};
 ghost use Rattle.deferred_delete.specs.Standing.{source_at};
-ghost use Rattle.deferred_delete.specs.Steps.{IsWell};
+ghost use Rattle.deferred_delete.specs.Steps.{IsWell, Now};
 ghost use Rattle.deferred_laws.specs.Ahead.{GoesOnIn};
 ghost use Rattle.deferred_laws.specs.Beside.{AreApartOf, StandsBeside};
 ghost use Rattle.deferred_laws.specs.Calls.{Calls, FilesetNow, StandsWell};
@@ -134,6 +135,13 @@ pub fn what_is_read_through_stays()
     ensures { (fileset : ℕ) (version : Version) (tag : Tag) (first last : FilesetNow)
         → Calls fileset version tag first last → StandsWell fileset first → (at : CellAt)
         → source_at last.domain.files at ≡ source_at first.domain.files at }
+{}
+
+/// Where all belongs together, and the next step goes on in the file of an entry, as behind each
+/// call that let something go, that file is one of the domain's.
+pub fn steps_go_on_in_a_file_of_the_domain()
+    ensures { (now : Now) → IsWell now → (cursor : Option Cursor) → IsAhead now.pages cursor
+        → IsOfEntry now.list.entries cursor → GoesOnIn now cursor }
 {}
 
 /// Where the next step goes on is a cell of its file's chain still, if that file was one of the

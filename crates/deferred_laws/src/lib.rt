@@ -18,8 +18,8 @@ pub use adding::{
 pub use calls::{
     all_stays_well_over_calls, files_stay_together, given_pages_were_free, new_pages_are_of_files,
     other_files_stay, other_filesets_stay, other_pages_stay, other_tags_stay,
-    pages_are_held_exactly, the_list_stays, what_is_read_through_stays, what_waits_stays,
-    where_steps_go_on_stays,
+    pages_are_held_exactly, steps_go_on_in_a_file_of_the_domain, the_list_stays,
+    what_is_read_through_stays, what_waits_stays, where_steps_go_on_stays,
 };
 pub use giving_back::{
     a_page_that_is_given_back_waits, all_stays_well_where_a_page_is_given_back,
