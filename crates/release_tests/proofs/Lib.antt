@@ -7,3 +7,4 @@ pub mod Callings
 pub mod Agains
 pub mod Stoods
 pub mod Besides
+pub mod WentOn

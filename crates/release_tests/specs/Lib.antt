@@ -3,3 +3,4 @@ pub mod Called
 pub mod Going
 pub mod Pairs
 pub mod Stood
+pub mod Onward

@@ -8,6 +8,7 @@ pub mod cost;
 pub mod going;
 pub mod looks;
 pub mod making;
+pub mod onward;
 pub mod removing;
 pub mod seen;
 #[cfg(test)]

@@ -15,7 +15,7 @@ use std::alloc::Global;
 use std::test::Fail;
 
 /// A world with no file, and a list on which nothing is.
-fn new_scene(alloc: Global, count: u32) -> Result<(World, Deferred), Fail>
+pub fn new_scene(alloc: Global, count: u32) -> Result<(World, Deferred), Fail>
     requires low { 3 ≤ count }
     requires high { count ≤ 1000 }
     ensures { IfOk result (λ scene. HasStood scene.0 scene.1.list) }
@@ -25,7 +25,7 @@ fn new_scene(alloc: Global, count: u32) -> Result<(World, Deferred), Fail>
 }
 
 /// Makes a file or a directory of these pages.
-fn make_with(
+pub fn make_with(
     alloc: Global,
     world: &mut World,
     list: &Deferred,
@@ -41,7 +41,7 @@ fn make_with(
 }
 
 /// Sets the size of a file, and lists it to be trimmed.
-fn cut_listed(
+pub fn cut_listed(
     alloc: Global,
     world: &mut World,
     list: &mut Deferred,

@@ -6,6 +6,7 @@ use crate::clones::{
     handed_many, stopped, unrelated,
 };
 use crate::cost::{removed as removed_in, removed_beside, trimmed_down, trimmed_mixed, trimmed_up};
+use crate::onward::nine_files;
 use crate::removing::{Leads, Seen, removed_fileset};
 use crate::seen::{TrimSeen, many_extents, many_removed, removed, tag_page, trim};
 use domain_base::{Kind, Version};
@@ -160,7 +161,7 @@ fn a_trim_of_cells_that_keep_a_part_costs_twice_where_twice_goes(
 }
 
 #[test]
-fn a_clone_that_reads_nothing_costs_no_more_where_it_is_larger(
+fn a_clone_of_which_no_page_was_frozen_costs_no_more_where_it_is_larger(
     rt: HostRuntime,
 ) -> Result<(), Fail> {
     let alloc = rt.alloc();
@@ -335,6 +336,17 @@ fn nothing_goes_where_a_clone_finds_no_room(rt: HostRuntime) -> Result<(), Fail>
     let rows = [[0, 3, 6], [0; 3], [0; 3], [0; 3]];
     let own = [[1, 9, 1], [3, 10, 1], [7, 11, 1], [9, 12, 1]];
     assert_eq!(rt; seen, all_kept(rows, own));
+    Ok(())
+}
+
+#[test]
+fn a_call_goes_on_where_the_one_before_it_was_though_a_file_was_made(
+    rt: HostRuntime,
+) -> Result<(), Fail> {
+    let seen = nine_files(rt.alloc())?;
+    // two steps a file, for its two pages and for its record; of 64 pages 3 are used beside 27 of
+    // the files: fifteen steps let go of 16, then one is given, and three steps let go of two
+    assert_eq!(rt; seen, [(15, [34, 16]), (3, [33, 18])]);
     Ok(())
 }
 

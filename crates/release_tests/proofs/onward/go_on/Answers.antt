@@ -1,0 +1,38 @@
+use Rattle.std.proofs.Common.{Option, subst, sym}
+use Rattle.domain_base.specs.declared.version.Version.TheVariants.{Four}
+use Rattle.memory_store.specs.Homes.{pages_of}
+use Rattle.chain_release.specs.declared.reader.OwnPages.{OwnPages}
+use Rattle.chain_release.specs.Sharing.{IsKnown}
+use Rattle.deferred_delete.specs.declared.cursor.Cursor.{Cursor}
+use Rattle.deferred_delete.specs.Cursors.{IsAhead}
+use Rattle.deferred_delete.specs.Listing.{Listing}
+use Rattle.deferred_delete.specs.Standing.{Files}
+use Rattle.deferred_delete.specs.Steps.{IsWell, LetsGo, now_of}
+use Rattle.release_tests.proofs.Stoods.{released_stood}
+use Rattle.release_tests.proofs.WentOn.{onward}
+use Rattle.release_tests.proofs.onward.go_on.Goals as goal
+
+pub release_some-requires : goal.release_some-requires
+release_some-requires c =
+    let world = c.args.world.now in
+    let pages = pages_of world.pages.entries.items in
+    record {
+      well = subst (λ (l : Listing). (files : Files) × IsWell (now_of l files world.space world.cells pages)) (sym c.forget_clone.ensures.list) (c.requires.0, c.requires.3.well);
+      ahead = subst (λ (o : Option Cursor). IsAhead pages o) (sym c.forget_clone.ensures.cursor) c.requires.4.0;
+      known = subst (λ (o : Option OwnPages). IsKnown pages o) (sym c.forget_clone.ensures.known) tt;
+    }
+
+pub returns : goal.returns
+returns c =
+    let r = c.requires in
+    let world = c.args.world.now in
+    let now = c.release_some.new in
+    let pages = pages_of world.pages.entries.items in
+    let new = pages_of now.pages.entries.items in
+    let count = c.in_ok-release_some.field-0 in
+    let went =
+    subst (λ (l : Listing). (files : Files) → IsWell (now_of l files world.space world.cells pages) → LetsGo 5 Four (now_of l files world.space world.cells pages) count now.self.list now.space now.cells new) c.forget_clone.ensures.list
+    c.in_ok-release_some.ensures.ok in
+    onward world.files.fileset (record { places = world.files.tags; list = now.self.list; space = now.space; cells = now.cells; pages = new }) now.self.cursor c.in_ok-release_some.ensures.ahead c.in_ok-release_some.ensures.on
+    (released_stood world.files.fileset 5 Four world.files.tags (now_of c.args.list.now.list r.0 world.space world.cells pages) r.1 r.2 r.3
+    count now.self.list now.space now.cells new (went r.0 r.3.well))
