@@ -53,7 +53,7 @@ fn is_at_most(one: u32, other: u32) -> bool {
 
 /// Whether one number is at most twice another and a few more.
 fn is_at_most_twice(one: u32, other: u32) -> bool {
-    u64::from(one) <= 2 * u64::from(other) + 64
+    u64::from(one) <= 2 * u64::from(other) + 16
 }
 
 impl Cost {
