@@ -235,6 +235,7 @@ drops old new first (h ∷ more) are is = record {
   was = λ i. sym are.0 i ∷ more;
   are = kept_same old new (next_at old first) more (subst (λ (x : Home). AreIndexHomes old (next_at old x) more) (sym are.0) are.2) same;
   shown = shown_same old new more same;
+  gone = ap (λ (ps : Pages). ps first) is ∙ ap (λ (b : Bool). cond b None (old first)) (same_itself first);
   others = away;
 }
   where

@@ -5,7 +5,7 @@ use Rattle.std.specs.Option.{option_and_then}
 use Rattle.domain_base.specs.declared.place.Home.{Home}
 use Rattle.page_store.specs.Pages.{Pages, same_home}
 use Rattle.record_table.specs.Fields.{number_at}
-use Rattle.bmt_mcells.proofs.Changed.{homes_same}
+use Rattle.bmt_mcells.proofs.Changed.{homes_same, same_itself}
 use Rattle.tag_dirs.specs.TagPage.{next_of}
 use Rattle.free_space.specs.VolumeSpace.{with_waiting}
 use Rattle.free_space.specs.declared.waiting.PageUse.TheVariants.{Metadata}
@@ -62,6 +62,7 @@ pub record IsLeft (group : ℕ) (space space_now : Spaces) (old new : Pages) (co
   pub held : AreHeld space_now rest
   pub waits : with_waiting_at rest group space_now ≡ with_waiting_at homes group space
   pub within : (h : Home) → Contains rest h → Contains homes h
+  pub gone : (h : Home) → Contains homes h → ¬ Contains rest h → new h ≡ None
   pub others : (h : Home) → ¬ Contains homes h → new h ≡ old h
   pub long : length rest + count ≡ length homes
 
@@ -76,9 +77,18 @@ none_gone first group space old homes are held = record {
   held = held;
   waits = refl;
   within = λ h inside. inside;
+  gone = λ h inside off. absurd (off inside);
   others = λ h off. refl;
   long = omega arith;
 }
+
+-- what is not the first one of a list is behind it
+in_tail : (here : Home) (more : List Home) (h : Home) → same_home h here ≡ false → Contains (here ∷ more) h → Contains more h
+in_tail here more h off (zero, within, is) = absurd (true_false (sym (same_itself h) ∙ sym (ap (same_home h) is) ∙ off))
+  where
+    true_false : true ≡ false → ⊥
+    true_false e = cc
+in_tail here more h off (suc k, within, is) = (k, omega (arith, within), is)
 
 starts_with : (pages : Pages) (here : Home) (rest : List Home) → AreIndexHomes pages (Some here) rest → Contains rest here
 starts_with pages here [] are = absurd are
@@ -103,6 +113,7 @@ module _ (first : Home) (group : ℕ) (space between after : Spaces) (old mid ne
         (held_beside group between here h (low_home here is_one) (low_home h (left.within h (in_rest h inside))) (λ e. again (subst (Contains gone.more) (sym e) inside)) (left.held h (in_rest h inside)));
     waits = ap (with_waiting_at gone.more group) waits ∙ ap (λ hs. with_waiting_at hs group between) (sym gone.was) ∙ left.waits;
     within = λ h inside. left.within h (in_rest h inside);
+    gone = λ h inside off. gone_now h inside off (same_home h here) refl;
     others = λ h off. gone.others h (other h off) ∙ left.others h off;
     long = omega (arith, left.long, ap (λ (hs : List Home). length hs) gone.was);
   }
@@ -112,6 +123,10 @@ module _ (first : Home) (group : ℕ) (space between after : Spaces) (old mid ne
 
       again : ¬ Contains gone.more here
       again = first_once mid (Some here) here gone.more (subst (AreIndexHomes mid (Some here)) gone.was left.are)
+
+      gone_now : (h : Home) → Contains homes h → ¬ Contains gone.more h → (b : Bool) → same_home h here ≡ b → new h ≡ None
+      gone_now h inside off true is = ap new (homes_same h here is) ∙ gone.gone
+      gone_now h inside off false is = gone.others h is ∙ left.gone h inside (λ there. off (in_tail here gone.more h is (subst (λ (hs : List Home). Contains hs h) gone.was there)))
 
       other : (h : Home) → ¬ Contains homes h → same_home h here ≡ false
       other h off = by_test (same_home h here) refl
@@ -131,7 +146,11 @@ none_left pages [] are = refl
 none_left pages (x ∷ more) are = absurd are
 
 all_gone : (group : ℕ) (space space_now : Spaces) (old new : Pages) (count : ℕ) (home : Option Home) (homes : List Home) → (left : IsLeft group space space_now old new count home homes) → length left.rest ≡ 0 → DropsIndex group space space_now old new homes
-all_gone group space space_now old new count home homes left none = record { waits = by_rest left.rest none left.waits; others = left.others }
+all_gone group space space_now old new count home homes left none = record {
+  waits = by_rest left.rest none left.waits;
+  gone = λ h inside. left.gone h inside (λ there. absurd (omega (arith, there.1, none)));
+  others = left.others;
+}
   where
     by_rest : (rest : List Home) → length rest ≡ 0 → with_waiting_at rest group space_now ≡ with_waiting_at homes group space → space_now ≡ with_waiting_at homes group space
     by_rest [] none waits = waits

@@ -37,6 +37,7 @@ pub record DropsIndexPage (first : Home) (next : Option Home) (old new : Pages) 
   pub was : homes ≡ first ∷ more
   pub are : AreIndexHomes new next more
   pub shown : shown_at new more ≡ shown_at old more
+  pub gone : new first ≡ None
   pub others : (home : Home) → same_home home first ≡ false → new home ≡ old home
 
 -- the pages at homes wait as metadata until the log has passed the group, one after another
@@ -49,10 +50,11 @@ with_waiting_at (home ∷ more) group space = with_waiting_at more group
       group = group;
     })) space home.vol)
 
--- an index without any page: each waits, and no page of others changes
+-- an index without any page: each waits and is there no more, and no page of others changes
 pub record DropsIndex (group : ℕ) (space space_now : Spaces) (old new : Pages) (homes : List Home)
     : Type 0 where
   pub waits : space_now ≡ with_waiting_at homes group space
+  pub gone : (home : Home) → Contains homes home → new home ≡ None
   pub others : (home : Home) → ¬ Contains homes home → new home ≡ old home
 
 -- no page is put, for want of a free page, which is a miss; or memory was short

@@ -149,7 +149,7 @@ pub gives_none : (group : ℕ) (places : List TagPlace) (chain : Option (List Pl
 gives_none group places chain homes space old new none are beside = by_homes homes (subst (λ o. AreIndexHomes old o homes) none are)
   where
     by_homes : (hs : List Home) → AreIndexHomes old None hs → GivesIndexBack group places chain hs space space old new
-    by_homes [] are = record { said = new; beside = beside; drops = record { waits = refl; others = λ h off. refl } }
+    by_homes [] are = record { said = new; beside = beside; drops = record { waits = refl; gone = λ h inside. absurd (omega (arith, inside.1)); others = λ h off. refl } }
     by_homes (h ∷ hs) are = absurd are
 
 -- ---- a directory that has an index
