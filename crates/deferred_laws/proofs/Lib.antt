@@ -47,3 +47,4 @@ pub mod Linked
 pub mod Left
 pub mod LeftStill
 pub mod InFiles
+pub mod GivenAway

@@ -1,9 +1,11 @@
--- Another list, or one page more that waits.
-use Rattle.std.specs.Prelude.{ℕ}
+-- Another list, or pages more that wait.
+use Rattle.std.specs.Prelude.{ℕ, List}
 use Rattle.domain_base.specs.declared.place.Home.{Home}
+use Rattle.page_store.specs.Pages.{Pages}
 use Rattle.free_space.specs.declared.waiting.PageUse.{PageUse}
 use Rattle.free_space.specs.VolumeSpace.{with_waiting}
 use Rattle.free_space.specs.Spaces.{change_volume}
+use Rattle.chain_release.specs.Releases.{with_given}
 use Rattle.deferred_delete.specs.Listing.{Listing}
 use Rattle.deferred_delete.specs.Steps.{Now}
 use Rattle.deferred_laws.specs.Waits.{waiting_at}
@@ -16,4 +18,11 @@ with_list list now = record now { list = list }
 abbrev pub with_waiting_page : Home → PageUse → ℕ → Now → Now
 with_waiting_page home kind group now = record now {
   space = change_volume (with_waiting (waiting_at home kind group)) now.space home.vol;
+}
+
+-- those at these homes do, the pages are these, and all else is the same
+abbrev pub with_waiting_pages : List Home → PageUse → ℕ → Pages → Now → Now
+with_waiting_pages homes kind group pages now = record now {
+  space = with_given kind group homes now.space;
+  pages = pages;
 }

@@ -1,6 +1,7 @@
 //! A page that a caller gives back between calls and steps.
-ghost use Rattle.std.specs.Prelude.{◌≡◌, ◌≤◌, ◌⊎◌, ◌↔◌, ℕ, List, false};
+ghost use Rattle.std.specs.Prelude.{◌≡◌, ◌≤◌, ◌⊎◌, ◌↔◌, ℕ, List, Contains, false};
 ghost use Rattle.domain_base.specs.declared.place.Home.{Home};
+ghost use Rattle.page_store.specs.Pages.{Pages};
 ghost use Rattle.tag_dirs.specs.declared.dir.TagPlace.{TagPlace};
 ghost use Rattle.tag_dirs.specs.Directory.{has_home};
 ghost use Rattle.free_space.specs.declared.waiting.PageUse.{PageUse};
@@ -9,7 +10,7 @@ ghost use Rattle.free_space.specs.Spaces.{IsHeld};
 ghost use Rattle.bitfile_core.specs.Files.{Chains};
 ghost use Rattle.bitfile_core.specs.Together.{AreTogether};
 ghost use Rattle.deferred_delete.specs.Steps.{IsWell, Now};
-ghost use Rattle.deferred_laws.specs.Lists.{with_waiting_page};
+ghost use Rattle.deferred_laws.specs.Lists.{with_waiting_page, with_waiting_pages};
 ghost use Rattle.deferred_laws.specs.Tags.{AreAmong};
 ghost use Rattle.deferred_laws.specs.Waits.{StandsApart, Waits, waiting_at};
 
@@ -21,7 +22,17 @@ pub fn all_stays_well_where_a_page_is_given_back()
         → StandsApart first home → IsWell (with_waiting_page home kind group first) }
 {}
 
-/// So do the files that the tags of a fileset name, where the page is none of its tag directory.
+/// So it is where several such pages are given back, and are there no more or have other bytes: as
+/// the pages of an index that is dropped. No other page changes.
+pub fn all_stays_well_where_pages_are_given_back()
+    ensures { (first : Now) (homes : List Home) (kind : PageUse) (group : ℕ) (pages : Pages)
+        → IsWell first → ((home : Home) → Contains homes home → StandsApart first home)
+        → ((home : Home) → ¬ Contains homes home → pages home ≡ first.pages home)
+        → IsWell (with_waiting_pages homes kind group pages first) }
+{}
+
+/// So do the files that the tags of a fileset name, where one page is given back that is none of
+/// its tag directory.
 pub fn tags_stay_together_where_a_page_is_given_back()
     ensures { (first : Now) (home : Home) (kind : PageUse) (group : ℕ) → IsWell first
         → StandsApart first home → (fileset : ℕ) (places : List TagPlace) (chains : Chains)

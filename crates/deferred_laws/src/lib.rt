@@ -23,7 +23,8 @@ pub use calls::{
 };
 pub use giving_back::{
     a_page_that_is_given_back_waits, all_stays_well_where_a_page_is_given_back,
-    no_other_page_is_given_back, tags_stay_together_where_a_page_is_given_back,
+    all_stays_well_where_pages_are_given_back, no_other_page_is_given_back,
+    tags_stay_together_where_a_page_is_given_back,
 };
 pub use steps::{
     each_step_leaves_less, few_pages_change, files_that_do_not_go_are_there,
