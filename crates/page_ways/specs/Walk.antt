@@ -1,10 +1,11 @@
 -- What is read of the pages of a kind, from the first one on.
-use Rattle.std.specs.Prelude.{◌≡◌, ◌⊎◌, ◌↔◌, ◌*◌, ◌^◌, ◌<◌, ◌++◌, ℕ, List, [], ◌∷◌, length, true, Option, Some, None, IsSome, IsSomeAnd, Contains, slice_get}
+use Rattle.std.specs.Prelude.{◌≡◌, ◌⊎◌, ◌↔◌, ◌*◌, ◌^◌, ◌+◌, ◌-◌, ◌<◌, ◌++◌, ℕ, is_some, if◌then◌else◌, List, [], ◌∷◌, length, true, Option, Some, None, IsSome, IsSomeAnd, Contains, slice_get}
 use Rattle.domain_base.specs.declared.place.Home.{Home}
 use Rattle.page_store.specs.Pages.{Pages}
 use Rattle.numbered_values.specs.Homes.{found_at}
 use Rattle.numbered_values.specs.Rising.{IsRising, value_at}
 use Rattle.domain_layout.specs.Reached.{Frame, IsRead, IsUnread, MayBe, Reaches, Way}
+use Rattle.page_ways.specs.declared.walk.PageWalk.{PageWalk}
 
 -- the pages that are read, in the order in which they are come to, and the one that is come to and
 -- not read, if there is one
@@ -52,3 +53,21 @@ pub record AreNumbers (homes : List Home) (numbers : List (ℕ × Unit {0})) : T
   pub count : length numbers ≡ length homes
   pub each : (home : Home) → IsSome (found_at numbers home) ↔ Contains homes home
   pub below : (key : ℕ) → IsSome (value_at numbers key) → key < 9 * 2 ^ 32
+
+-- ** A walk
+
+abbrev pub next_of : PageWalk → Option Home
+next_of walk = walk.next
+
+abbrev pub unread_of : PageWalk → Option Home
+unread_of walk = walk.unread
+
+-- the pages that a walk has read, and the one that is come to next, or at its end why no more is
+pub record IsWalk (pages : Pages) (frame : Frame) (way : Way) (walk : PageWalk) : Type 0 where
+  pub numbers : AreNumbers walk.passed.homes.items walk.passed.numbers.items
+  pub on : IsOnWay pages frame way walk.passed.homes.items walk.unread walk.next
+
+-- more steps than these are not left
+abbrev pub steps_left : PageWalk → ℕ
+steps_left walk = 2 * (9 * 2 ^ 32 - length walk.passed.homes.items)
+    + (if is_some walk.next then 1 else 0)

@@ -7,5 +7,5 @@ mod walk;
 mod ways;
 
 pub use frame::DomainFrame;
-pub use walk::{ReadPages, read_pages};
+pub use walk::{PageWalk, ReadPages, read_pages};
 pub use ways::{CellsWay, IndexWay, PageWay, TagsWay};

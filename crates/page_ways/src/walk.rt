@@ -1,5 +1,5 @@
 //! Pages read along their way.
-ghost use Rattle.std.specs.Prelude.{◌≡◌, ◌≤◌, ◌+◌, ◌↔◌, ◌++◌, [], ◌∷◌, IfOk, OnErr, OnOk, IsTrue, Some, Contains, is_some, length, if◌then◌else◌};
+ghost use Rattle.std.specs.Prelude.{◌≡◌, ◌<◌, ◌≤◌, ◌+◌, ◌⊎◌, ◌↔◌, ◌++◌, [], ◌∷◌, IfOk, IsSome, OnOk, IsTrue, None, Some, Contains, is_some, length, if◌then◌else◌};
 ghost use Rattle.domain_layout.specs.Reached.{MayBe, Reaches};
 ghost use Rattle.page_ways.specs.Frame.{frame_in};
 ghost use Rattle.page_ways.specs.Walk.{AreNumbers, AreRead, IsOnWay};
@@ -68,6 +68,7 @@ fn read_next<M: MetaPages, W: PageWay>(
     ensures numbers { OnOk result (AreNumbers passed.new.homes.items passed.new.numbers.items) }
     ensures more { IfOk result (λ next. length passed.old.homes.items + (if is_some next then 1
         else 0) ≤ length passed.new.homes.items) }
+    ensures unread { OnOk result ((unread.new ≡ unread.old) ⊎ (unread.new ≡ Some home.now)) }
 {
     let page = match pages.get(*home) {
         Some(page) if frame.may_be(home) && !passed.has(home) && way.begins_so(page) => page,
@@ -81,6 +82,81 @@ fn read_next<M: MetaPages, W: PageWay>(
     Ok(next)
 }
 
+/// A walk along the pages of a kind, from the first one on: those that were read, and the one that
+/// is come to next. So a caller may see to it that a page is there before it is looked at.
+#[derive(Drop)]
+pub struct PageWalk {
+    passed: Passed,
+    unread: Option<Home>,
+    next: Option<Home>,
+}
+
+impl PageWalk {
+    ghost use Rattle.page_store.specs.Pages.{Pages};
+    ghost use Rattle.domain_layout.specs.Reached.{Frame, Way};
+    ghost use Rattle.page_ways.specs.Walk.{IsWalk, next_of, steps_left, unread_of};
+
+    /// Nothing is read yet.
+    pub fn new<W: PageWay>(alloc: Global, way: &W) -> PageWalk
+        ensures walk { (pages : Pages) (frame : Frame) → IsWalk pages frame (W.way way.now) result }
+        ensures unread { unread_of result ≡ None }
+    {
+        let passed = Passed {
+            homes: Vec::new(alloc),
+            numbers: Vec::new(alloc),
+        };
+        PageWalk {
+            passed,
+            unread: None,
+            next: Some(way.first()),
+        }
+    }
+
+    /// The home of the page that is come to next; None where the walk has ended.
+    pub fn next(&self) -> Option<Home>
+        ensures { result ≡ next_of self.now }
+    {
+        self.next
+    }
+
+    /// Looks at the page that is come to next, and goes on to the one to which it leads; where that
+    /// cannot be read, the walk ends.
+    pub fn step<M: MetaPages, W: PageWay>(
+        &mut self,
+        pages: &M,
+        frame: &DomainFrame,
+        way: &W,
+    ) -> Result<(), OutOfMemory>
+        requires { IsWalk (M.pages pages.now) (frame_in frame.now) (W.way way.now) self.old }
+        ensures walk { OnOk result
+            (IsWalk (M.pages pages.now) (frame_in frame.now) (W.way way.now) self.new) }
+        ensures less { IsSome (next_of self.old)
+            → OnOk result (steps_left self.new < steps_left self.old) }
+        ensures unread { OnOk result ((unread_of self.new ≡ unread_of self.old)
+            ⊎ (unread_of self.new ≡ next_of self.old)) }
+    {
+        if let Some(home) = self.next {
+            let next = read_next(pages, frame, way, &mut self.passed, &mut self.unread, &home)?;
+            self.next = next;
+        }
+        Ok(())
+    }
+
+    /// The pages that were read on a walk that has ended.
+    pub fn finish(self) -> ReadPages
+        requires { next_of self ≡ None }
+        ensures read { (pages : Pages) (frame : Frame) (way : Way) → IsWalk pages frame way self
+            → AreRead pages frame way result.homes.items result.unread }
+        ensures unread { result.unread ≡ unread_of self }
+    {
+        let passed = self.passed;
+        ReadPages {
+            homes: passed.homes,
+            unread: self.unread,
+        }
+    }
+}
+
 /// The pages of a kind that are read from the first one on.
 pub fn read_pages<M: MetaPages, W: PageWay>(
     alloc: Global,
@@ -91,17 +167,9 @@ pub fn read_pages<M: MetaPages, W: PageWay>(
     ensures { IfOk result (λ read. AreRead (M.pages pages.now) (frame_in frame.now) (W.way way.now)
         read.homes.items read.unread) }
 {
-    let mut passed = Passed {
-        homes: Vec::new(alloc),
-        numbers: Vec::new(alloc),
-    };
-    let mut unread = None;
-    let mut next = Some(way.first());
-    while let Some(home) = next {
-        next = read_next(pages, frame, way, &mut passed, &mut unread, &home)?;
+    let mut walk = PageWalk::new(alloc, way);
+    while walk.next().is_some() {
+        walk.step(pages, frame, way)?;
     }
-    Ok(ReadPages {
-        homes: passed.homes,
-        unread,
-    })
+    Ok(walk.finish())
 }
