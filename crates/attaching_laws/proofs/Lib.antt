@@ -1,0 +1,11 @@
+pub mod Held
+pub mod Tables
+pub mod FileCells
+pub mod FilePages
+pub mod Belonging
+pub mod Indexes
+pub mod Showing
+pub mod Marked
+pub mod Holes
+pub mod Whole
+pub mod OneSet

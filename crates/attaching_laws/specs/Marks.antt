@@ -1,0 +1,46 @@
+-- The free space of a domain, as its bitmaps say it.
+use Rattle.std.specs.Prelude.{◌≡◌, ◌+◌, ◌*◌, ◌/◌, ◌%◌, ◌<◌, ◌≤◌, ◌==◌, ℕ, Bool, false, [], Option, Some, None, IsSome}
+use Rattle.std.specs.FinSet.{contains}
+use Rattle.std.specs.Option.{option_map_or}
+use Rattle.domain_base.specs.Version.{bitmap_pages}
+use Rattle.domain_base.specs.declared.place.Home.{Home}
+use Rattle.page_store.specs.Pages.{Pages}
+use Rattle.storage_bitmap.specs.Bits.{is_set}
+use Rattle.log_ring.specs.Homes.{IsMember, member_of}
+use Rattle.free_space.specs.Spaces.{Spaces, volume_of}
+use Rattle.free_space.specs.VolumeSpace.{VolumeSpace}
+use Rattle.domain_layout.specs.Reached.{Frame}
+
+-- the page of a volume's bitmap that has the bit of a page
+abbrev pub bitmap_home : ℕ → ℕ → Home
+bitmap_home vol page = record { vol = vol; page = 2 + page / 65536 }
+
+-- that bit is 1
+abbrev pub is_marked : Pages → ℕ → ℕ → Bool
+is_marked pages vol page =
+    option_map_or (λ bytes. is_set bytes (page % 65536)) (pages (bitmap_home vol page)) false
+
+-- the pages of a member's bitmap are there
+abbrev pub HasBitmaps : Pages → Frame → Type 0
+HasBitmaps pages frame = (vol page : ℕ) → IsMember frame.anchor vol
+    → page < (member_of frame.anchor vol).pages → IsSome (pages (bitmap_home vol page))
+
+-- of a volume's pages those are used whose bit is 1, and none waits
+pub record IsMarkedVolume (pages : Pages) (frame : Frame) (vol : ℕ) (space : VolumeSpace) : Type 0
+  where
+    pub count : space.pages ≡ (member_of frame.anchor vol).pages
+    pub opened : space.is_open ≡ ((member_of frame.anchor vol).state == 1)
+    pub used : (page : ℕ) → page < space.pages
+        → contains space.used page ≡ is_marked pages vol page
+    pub settled : space.waiting ≡ []
+
+-- the free space of a volume, which is there where it is a member
+abbrev pub IsMarkedAt : Pages → Frame → ℕ → Option VolumeSpace → Type 0
+IsMarkedAt pages frame vol None = ¬ IsMember frame.anchor vol
+IsMarkedAt pages frame vol (Some space) =
+    IsMember frame.anchor vol × IsMarkedVolume pages frame vol space
+
+-- and of all volumes
+abbrev pub IsMarked : Pages → Frame → Spaces → Type 0
+IsMarked pages frame space =
+    (vol : ℕ) → 1 ≤ vol → IsMarkedAt pages frame vol (volume_of space vol)
