@@ -76,8 +76,8 @@ IsOfFiles pages frame home =
 
 -- ** All of them
 
--- the page of the fileset table; where it says one, the pages of tables; and where no rule of tables
--- is broken, those of bitmaps, indexes and directories
+-- the page of the fileset table; where it says one, those of tables; and where no rule of tables is
+-- broken, those of bitmaps, indexes and directories
 abbrev pub IsLookedAt : Pages → Frame → Home → Type 0
 IsLookedAt pages frame home = (frame.anchor.table ≡ Some home)
     ⊎ (((other : Home) → ¬ IsTableFault pages frame other) × IsOfTables pages frame home)

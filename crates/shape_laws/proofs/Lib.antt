@@ -1,0 +1,3 @@
+pub mod MayStand
+pub mod InShapes
+pub mod SameShapes
