@@ -1,0 +1,2 @@
+pub mod FaultsWithin
+pub mod FilesetsWithin
