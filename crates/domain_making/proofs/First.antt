@@ -1,0 +1,84 @@
+-- The first volume while its slots are closed and its label is written.
+use Rattle.std.proofs.Common.{◌≡◌, ◌∙◌, ◌⊎◌, inl, inr, ℕ, ◌+◌, ◌-◌, ◌*◌, ◌%◌, ◌≤◌, List, None, sym, ap, subst, arith}
+use Rattle.std.proofs.lemmas.Bool.{cases_eq}
+use Rattle.volume_disk.specs.Disk.{Disk, MayLeave, Tells}
+use Rattle.volume_disk.specs.Image.{Image, IsIn, SameOutside}
+use Rattle.volume_disk.specs.Run.{LeavesOnly, MayLeaveTorn, OnlyWrites, Touches}
+use Rattle.volume_disk.proofs.Bytes.{bytes_from-same}
+use Rattle.volume_disk.proofs.Laws.{leaves-now, only_writes-then, only_writes-wider, then_on}
+use Rattle.disk_label.specs.Anchor.{Counts, IsAnchor, gate_of, volume_of}
+use Rattle.disk_label.specs.Body.{anchor_from}
+use Rattle.disk_label.specs.Slot.{HasAnchor, HasNoAnchorOn, IsGateOf, IsOnAnchors}
+use Rattle.disk_label.proofs.Elsewhere.{anchor_since}
+use Rattle.disk_label.proofs.Gates.{keeps_anchor_by_gates}
+use Rattle.disk_label.proofs.Slots.{Counts-same}
+use Rattle.domain_making.specs.Making.{AreSlotsReady, HasNoOtherAnchor}
+use Rattle.domain_making.specs.Written.{IsInFront}
+
+gates_in_front : (v k : ℕ) → IsGateOf 1 v k → IsInFront v k
+gates_in_front v k (inl is_in) = (is_in.0, omega arith, omega (arith, is_in.2))
+gates_in_front v k (inr is_in) = (is_in.0, omega arith, omega (arith, is_in.2))
+
+label_in_front : (v k : ℕ) → IsIn 1 0 8192 v k → IsInFront v k
+label_in_front v k is_in = (is_in.0, omega arith, omega (arith, is_in.2))
+
+label_beside : (v k : ℕ) → IsIn 1 0 8192 v k → ¬ IsOnAnchors v k
+label_beside v k is_in there = omega (arith, is_in.2, there.0)
+
+-- gates of the first volume have no say in what counts on another
+module _ (before image : Image) (torn : SameOutside (IsGateOf 1) before image) (place : ℕ) (other : ¬ volume_of place ≡ 1) where
+  outside : (k : ℕ) → ¬ IsGateOf 1 (volume_of place) k
+  outside k (inl is_in) = other is_in.0
+  outside k (inr is_in) = other is_in.0
+
+  counted_before : (sizes : List ℕ) → Counts sizes image place → Counts sizes before place
+  counted_before sizes counts =
+      Counts-same sizes image before place (sym (torn (volume_of place) (gate_of place) (outside (gate_of place))))
+      (ap (λ (l : List ℕ). anchor_from l (place % 2)) (sym (bytes_from-same (image (volume_of place)) (before (volume_of place)) (gate_of place + 512) 512 (λ k low high. torn (volume_of place) k (outside k)))))
+      counts
+
+-- once both gates are closed, no anchor counts
+module _ (d0 d1 : Disk) (told : Tells d0) (touches : Touches d0 d1 (IsGateOf 1)) (others : HasNoOtherAnchor d0) (none : HasNoAnchorOn d1 1) where
+  none_at : (image : Image) → MayLeave d1.now image → (place : ℕ) → (volume_of place ≡ 1) ⊎ (¬ volume_of place ≡ 1) → ¬ Counts d1.sizes image place
+  none_at image left place (inl first) counts =
+      let low : place ≤ 1 = omega (arith, first) in
+      let is : 2 * (1 - 1) + place ≡ place = omega arith in
+      none image left place low (subst (Counts d1.sizes image) (sym is) counts)
+  none_at image left place (inr other) counts =
+      let was = leaves-now d0 d1 (MayLeaveTorn (IsGateOf 1) d0.now) (touches.tears told) image left in
+      others was.0 was.1 place other (counted_before was.0 image was.2 place other d0.sizes (subst (λ sizes. Counts sizes image place) touches.sizes counts))
+
+  pub no_anchor_now : HasAnchor d1 None
+  no_anchor_now image left place below counts = none_at image left place (cases_eq (volume_of place) 1) counts
+
+-- the gates are closed, and the label is written then
+module _ (d0 d1 : Disk) (first : OnlyWrites d0 d1 (IsGateOf 1)) where
+  pub first_in_front : OnlyWrites d0 d1 IsInFront
+  first_in_front = only_writes-wider d0 d1 (IsGateOf 1) IsInFront gates_in_front first
+
+  pub gates_since : Tells d0 → AreSlotsReady d0 → LeavesOnly d0 d1 (λ image. IsAnchor d0.sizes image None)
+  gates_since told ready = keeps_anchor_by_gates d0 d1 None 1 told ready.0 ready.1 first.touches
+
+module _ (d0 d1 d2 : Disk) (first : OnlyWrites d0 d1 (IsGateOf 1)) (second : OnlyWrites d1 d2 (IsIn 1 0 8192)) where
+  pub both_in_front : OnlyWrites d0 d2 IsInFront
+  both_in_front = only_writes-then d0 d1 d2 IsInFront (first_in_front d0 d1 first) (only_writes-wider d1 d2 (IsIn 1 0 8192) IsInFront label_in_front second)
+
+  module _ (told : Tells d0) where
+    told_1 : Tells d1
+    told_1 = first.touches.told ∙ told
+
+    label_since : HasAnchor d1 None → LeavesOnly d1 d2 (λ image. IsAnchor d1.sizes image None)
+    label_since has = anchor_since d1 d2 (IsIn 1 0 8192) told_1 second.touches label_beside None has
+
+    pub none_then : HasNoOtherAnchor d0 → HasNoAnchorOn d1 1 → HasAnchor d2 None
+    none_then others none image left =
+        let now = no_anchor_now d0 d1 told first.touches others none in
+        subst (λ sizes. IsAnchor sizes image None) (sym second.touches.sizes)
+        (leaves-now d1 d2 (λ image. IsAnchor d1.sizes image None) (label_since now) image left)
+
+    pub both_since : AreSlotsReady d0 → LeavesOnly d0 d2 (λ image. IsAnchor d0.sizes image None)
+    both_since ready =
+        let so_far = gates_since d0 d1 first told ready in
+        let has : HasAnchor d1 None = λ image left. subst (λ sizes. IsAnchor sizes image None) (sym first.touches.sizes) (leaves-now d0 d1 (λ image. IsAnchor d0.sizes image None) so_far image left) in
+        then_on d0 d1 d2 (λ image. IsAnchor d0.sizes image None) so_far
+        (subst (λ sizes. LeavesOnly d1 d2 (λ image. IsAnchor sizes image None)) first.touches.sizes (label_since has))

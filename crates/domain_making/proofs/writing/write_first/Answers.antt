@@ -1,0 +1,45 @@
+use Rattle.std.proofs.Common.{ℕ, subst}
+use Rattle.std.proofs.lemmas.Result.{on_ok_weaker}
+use Rattle.volume_disk.specs.Image.{IsIn}
+use Rattle.volume_disk.specs.Run.{OnlyWrites}
+use Rattle.disk_label.specs.Slot.{HasNoAnchorOn, IsGateOf}
+use Rattle.domain_making.proofs.First.{both_in_front, both_since, first_in_front, gates_since, none_then}
+use Rattle.domain_making.proofs.writing.write_first.Goals as goal
+
+pub returns-in_err-close_gates-clause-writes : goal.returns-in_err-close_gates-clause-writes
+returns-in_err-close_gates-clause-writes g c =
+    let d0 = g.R.Rack.disk c.args.rack.now in
+    let d1 = g.R.Rack.disk c.close_gates.new.rack in
+    first_in_front d0 d1 (subst (λ (v : ℕ). OnlyWrites d0 d1 (IsGateOf v)) c.first_volume.ensures c.close_gates.ensures.writes)
+
+pub returns-in_err-close_gates-clause-any_moment : goal.returns-in_err-close_gates-clause-any_moment
+returns-in_err-close_gates-clause-any_moment g c =
+    let d0 = g.R.Rack.disk c.args.rack.now in
+    let d1 = g.R.Rack.disk c.close_gates.new.rack in
+    gates_since d0 d1 (subst (λ (v : ℕ). OnlyWrites d0 d1 (IsGateOf v)) c.first_volume.ensures c.close_gates.ensures.writes)
+
+pub returns-clause-writes : goal.returns-clause-writes
+returns-clause-writes g c =
+    let d0 = g.R.Rack.disk c.args.rack.now in
+    let d1 = g.R.Rack.disk c.close_gates.new.rack in
+    let d2 = g.R.Rack.disk c.write_label.new.rack in
+    both_in_front d0 d1 d2 (subst (λ (v : ℕ). OnlyWrites d0 d1 (IsGateOf v)) c.first_volume.ensures c.close_gates.ensures.writes)
+    (subst (λ (v : ℕ). OnlyWrites d1 d2 (IsIn v 0 8192)) c.first_volume-2.ensures c.write_label.ensures.writes)
+
+pub returns-clause-none : goal.returns-clause-none
+returns-clause-none g c =
+    let d0 = g.R.Rack.disk c.args.rack.now in
+    let d1 = g.R.Rack.disk c.close_gates.new.rack in
+    let d2 = g.R.Rack.disk c.write_label.new.rack in
+    on_ok_weaker c.write_label.result (λ _ told others.
+    none_then d0 d1 d2 (subst (λ (v : ℕ). OnlyWrites d0 d1 (IsGateOf v)) c.first_volume.ensures c.close_gates.ensures.writes)
+    (subst (λ (v : ℕ). OnlyWrites d1 d2 (IsIn v 0 8192)) c.first_volume-2.ensures c.write_label.ensures.writes) told others
+    (subst (λ (v : ℕ). HasNoAnchorOn d1 v) c.first_volume.ensures (c.in_ok-close_gates.ensures.none told))) c.write_label.ensures.label
+
+pub returns-clause-any_moment : goal.returns-clause-any_moment
+returns-clause-any_moment g c =
+    let d0 = g.R.Rack.disk c.args.rack.now in
+    let d1 = g.R.Rack.disk c.close_gates.new.rack in
+    let d2 = g.R.Rack.disk c.write_label.new.rack in
+    both_since d0 d1 d2 (subst (λ (v : ℕ). OnlyWrites d0 d1 (IsGateOf v)) c.first_volume.ensures c.close_gates.ensures.writes)
+    (subst (λ (v : ℕ). OnlyWrites d1 d2 (IsIn v 0 8192)) c.first_volume-2.ensures c.write_label.ensures.writes)

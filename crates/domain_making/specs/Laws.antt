@@ -1,0 +1,9 @@
+-- What holds of making, whatever calls are made.
+use Rattle.std.specs.Prelude.{◌≢◌, ℕ}
+use Rattle.volume_disk.specs.Disk.{Disk}
+use Rattle.disk_label.specs.Anchor.{Counts, volume_of}
+
+-- what a read gives has no anchor that counts on a volume but the first
+abbrev pub HoldsNoOtherAnchor : Disk → Type 0
+HoldsNoOtherAnchor disk =
+    (place : ℕ) → volume_of place ≢ 1 → ¬ Counts disk.sizes disk.now.contents place

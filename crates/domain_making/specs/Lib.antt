@@ -1,0 +1,5 @@
+pub mod Fault
+pub mod Laws
+pub mod Making
+pub mod Pages
+pub mod Written

@@ -1,0 +1,79 @@
+-- Domains that are made.
+use Rattle.std.specs.Prelude.{◌≡◌, ◌≢◌, ◌⊎◌, ℕ, false, List, [], ◌∷◌, Some, None, min}
+use Rattle.std.specs.FinMap.{empty}
+use Rattle.domain_base.specs.Limits.{log_pages}
+use Rattle.domain_base.specs.Version.{most_pages, number_of}
+use Rattle.domain_base.specs.declared.version.Version.{Version}
+use Rattle.volume_disk.specs.Disk.{Disk, MayLeave, volume_pages}
+use Rattle.volume_disk.specs.Image.{Image, Places}
+use Rattle.disk_label.specs.Anchor.{Counts, IsAnchor, IsNext, volume_of}
+use Rattle.disk_label.specs.Body.{no_member}
+use Rattle.disk_label.specs.FirstPages.{first_pages}
+use Rattle.disk_label.specs.Slot.{IsReady, IsReadyFor}
+use Rattle.disk_label.specs.declared.anchor.Anchor.{Anchor}
+use Rattle.log_ring.specs.Groups.{HasLog}
+use Rattle.log_recovery.specs.Outcome.{HasGoodAnchor}
+use Rattle.domain_layout.specs.Reached.{Frame}
+use Rattle.domain_layout.specs.Read.{Means}
+
+-- the pages of volume 1 that a domain of this version uses
+abbrev pub pages_in_use : Version → List ℕ → ℕ
+pages_in_use version sizes = min (volume_pages sizes 1) (most_pages version)
+
+-- the anchor of a domain that was just made on a volume of which so many pages are used
+abbrev pub new_anchor : Version → ℕ → Anchor
+new_anchor version pages = record {
+  number = 1;
+  version = number_of version;
+  log_vol = 1;
+  log_page = (first_pages version pages).log;
+  log_pages = log_pages;
+  start = 0;
+  group = 1;
+  table = Some (record { vol = 1; page = (first_pages version pages).table });
+  members =
+      record { pages = pages; state = 1 } ∷ no_member ∷ no_member ∷ no_member ∷ no_member
+      ∷ no_member ∷ no_member ∷ no_member ∷ [];
+  slot = 0;
+}
+
+abbrev pub new_frame : Version → ℕ → Frame
+new_frame version pages = record { anchor = new_anchor version pages; version = version }
+
+-- an image is that of an empty domain with this anchor: recovery takes the anchor and no group
+-- behind it, and the image means no fileset
+pub record IsEmptyDomain (sizes : List ℕ) (anchor : Anchor) (image : Image) : Type 0 where
+  pub good : HasGoodAnchor sizes image anchor
+  pub log : HasLog sizes anchor [] image
+  pub means : Means sizes image empty
+
+-- no image that a stop might leave now has an anchor that counts on a volume but the first
+abbrev pub HasNoOtherAnchor : Disk → Type 0
+HasNoOtherAnchor disk =
+    (image : Image) → MayLeave disk.now image
+    → (place : ℕ) → volume_of place ≢ 1 → ¬ Counts disk.sizes image place
+
+-- the bytes of the first volume
+abbrev pub IsOnFirst : Places
+IsOnFirst v k = v ≡ 1
+
+-- a domain was just made on the first volume, with this anchor
+pub record IsMade (disk : Disk) (anchor : Anchor) : Type 0 where
+  -- it is empty, as a read gives it
+  pub contents : IsEmptyDomain disk.sizes anchor disk.now.contents
+  -- and on each image that a stop may leave
+  pub images : (image : Image) → MayLeave disk.now image → IsEmptyDomain disk.sizes anchor image
+  -- nothing is pending there
+  pub synced : (k : ℕ) → disk.now.unsynced 1 k ≡ false
+  -- the next anchor finds its slot ready
+  pub next : (next : Anchor) → IsNext (Some anchor) next → next.log_vol ≡ 1
+      → IsReadyFor disk (Some anchor) next
+
+-- both slots of the first volume are ready for the first anchor of all, as on a volume of zeros
+abbrev pub AreSlotsReady : Disk → Type 0
+AreSlotsReady disk = IsReady disk None 1 0 × IsReady disk None 1 1
+
+-- an image has no anchor that counts, or is the empty domain
+abbrev pub IsNoneOrEmpty : List ℕ → Version → ℕ → Image → Type 0
+IsNoneOrEmpty sizes version pages image =
+    IsAnchor sizes image None ⊎ IsEmptyDomain sizes (new_anchor version pages) image

@@ -1,0 +1,20 @@
+-- The pages of a domain that was just made, but for those of label, anchors and log.
+use Rattle.std.specs.Prelude.{◌≡◌, ℕ, nat_le}
+use Rattle.std.specs.FinSet.{contains}
+use Rattle.domain_base.specs.declared.version.Version.{Version}
+use Rattle.storage_bitmap.specs.VolumePages.{VolumePages}
+use Rattle.disk_label.specs.FirstPages.{first_pages}
+use Rattle.layout_laws.specs.NewDomain.{IsNewCells, IsNewTablePage}
+use Rattle.domain_making.specs.Making.{new_frame}
+use Rattle.domain_making.specs.declared.pages.NewPages.{NewPages}
+
+-- of so many pages those up to the last one are used, and no others
+pub record IsUsedTo (pages last : ℕ) (map : VolumePages) : Type 0 where
+  pub count : map.pages ≡ pages
+  pub used : (page : ℕ) → contains map.used page ≡ nat_le page last
+
+-- they are those of a domain of this version on a volume of which so many pages are used
+pub record AreNew (version : Version) (pages : ℕ) (new : NewPages) : Type 0 where
+  pub bitmap : IsUsedTo pages (first_pages version pages).table new.bitmap
+  pub cells : IsNewCells (new_frame version pages) new.cells
+  pub table : IsNewTablePage new.table

@@ -1,0 +1,51 @@
+//! The anchor of a domain that was just made.
+ghost use Rattle.std.specs.Prelude.{◌≡◌, ◌≤◌};
+ghost use Rattle.domain_base.specs.Version.{most_pages};
+ghost use Rattle.domain_making.specs.Making.{new_anchor as anchor_of};
+
+use disk_label::{Anchor, FirstPages, Member};
+use domain_base::limits::LOG_PAGES;
+use domain_base::{Home, Version, VolIx};
+
+/// A volume that is no member.
+const NO_MEMBER: Member = Member { pages: 0, state: 0 };
+
+/// The state of an open member.
+const OPEN: u32 = 1;
+
+/// The volume on which a domain is made.
+pub(crate) fn first_volume() -> VolIx
+    ensures { result ≡ 1 }
+{
+    let Some(vol) = VolIx::new(1) else {
+        unreachable!()
+    };
+    vol
+}
+
+/// The anchor of a domain that was just made in this version on a volume of which so many pages are
+/// used: number 1 in slot 0, a log that begins at its first place with group 1, and no member but
+/// volume 1.
+pub(crate) fn new_anchor(version: Version, pages: u32) -> Anchor
+    requires { pages ≤ most_pages version }
+    ensures { result ≡ anchor_of version pages }
+{
+    let firsts = FirstPages::of(version, pages);
+    let mut members = [NO_MEMBER; 8];
+    members[0] = Member { pages, state: OPEN };
+    Anchor {
+        number: 1,
+        version: version.number(),
+        log_vol: first_volume().number(),
+        log_page: firsts.log,
+        log_pages: LOG_PAGES,
+        start: 0,
+        group: 1,
+        table: Some(Home {
+            vol: first_volume(),
+            page: firsts.table,
+        }),
+        members,
+        slot: 0,
+    }
+}

@@ -1,0 +1,13 @@
+//! Making a domain: an empty one on the first volume of a rack, whatever that volume held.
+#![tactic(auto)]
+
+mod anchor;
+mod fault;
+mod laws;
+mod making;
+mod pages;
+mod writing;
+
+pub use fault::MakeFault;
+pub use laws::making_laws;
+pub use making::make_domain;

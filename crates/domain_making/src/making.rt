@@ -1,0 +1,80 @@
+//! A domain that is made.
+ghost use Rattle.std.specs.Prelude.{◌≡◌, ◌<◌, Err, IfErr, IfOk};
+ghost use Rattle.domain_base.specs.Limits.{min_first_volume_pages};
+ghost use Rattle.volume_disk.specs.Disk.{HasVolume, Tells, volume_pages};
+ghost use Rattle.volume_disk.specs.Run.{LeavesOnly, Touches};
+ghost use Rattle.disk_label.specs.Fault.{HasPassed};
+ghost use Rattle.domain_making.specs.Fault.{HasCause, IsFaultOf};
+ghost use Rattle.domain_making.specs.Making.{
+  AreSlotsReady,
+  HasNoOtherAnchor,
+  IsMade,
+  IsNoneOrEmpty,
+  IsOnFirst,
+  new_anchor as anchor_of,
+  pages_in_use,
+};
+ghost use Rattle.domain_making.specs.declared.fault.MakeFault.TheVariants.{VolumeSmall};
+
+use crate::MakeFault;
+use crate::anchor::{first_volume, new_anchor};
+use crate::pages::NewPages;
+use crate::writing::write_domain;
+use disk_label::{Anchor, SlotFault, usable_pages};
+use domain_base::Version;
+use domain_base::limits::MIN_FIRST_VOLUME_PAGES;
+use std::alloc::Global;
+use volume_disk::Rack;
+
+/// What the fault of a slot is to a making.
+fn fault_of(fault: SlotFault) -> MakeFault
+    ensures { IsFaultOf fault result }
+{
+    match fault {
+        SlotFault::Read { vol } | SlotFault::Write { vol } => MakeFault::Fault { vol },
+    }
+}
+
+/// Makes an empty domain of this version on volume 1, whatever that volume held, and answers its
+/// anchor: number 1 in slot 0, with the first group at the first place of the log. Of a volume with
+/// more pages than the version allows it uses the first ones.
+///
+/// Both slots of anchors are closed ahead of anything else. The pages are written behind that, and
+/// synced, and the anchor comes last. So where no anchor could count before, each image that a
+/// stop leaves meanwhile has none, or is the empty domain. Where the volume had a domain, that is
+/// gone as soon as the first gate is closed.
+///
+/// No image that a stop may leave at the start may have an anchor that counts on another volume.
+/// `VolumeSmall` comes exactly where volume 1 has fewer than 160 pages, and `Fault` where a call of
+/// volume 1 failed. Nothing is written at `VolumeSmall`, nor at `OutOfMemory`.
+pub fn make_domain<R: Rack>(
+    alloc: Global,
+    rack: &mut R,
+    version: Version,
+) -> Result<Anchor, MakeFault>
+    requires there { HasVolume (R.disk rack.old) 1 }
+    requires others { Tells (R.disk rack.old) → HasNoOtherAnchor (R.disk rack.old) }
+    ensures touches { Touches (R.disk rack.old) (R.disk rack.new) IsOnFirst }
+    ensures anchor { IfOk result (λ anchor. anchor
+        ≡ anchor_of version (pages_in_use version (R.disk rack.old).sizes)) }
+    ensures made { IfOk result (λ anchor. Tells (R.disk rack.old)
+        → IsMade (R.disk rack.new) anchor) }
+    ensures any_moment { let old = R.disk rack.old in
+        let pages = pages_in_use version old.sizes in Tells old → AreSlotsReady old
+        → LeavesOnly old (R.disk rack.new) (IsNoneOrEmpty old.sizes version pages) }
+    ensures small { let pages = volume_pages (R.disk rack.old).sizes 1 in
+        pages < min_first_volume_pages → result ≡ Err (VolumeSmall pages) }
+    ensures passed { IfOk result (λ _. HasPassed (R.disk rack.old) (R.disk rack.new)) }
+    ensures cause { IfErr result (HasCause (R.disk rack.old) (R.disk rack.new)) }
+{
+    let available = rack.pages(first_volume());
+    if available < MIN_FIRST_VOLUME_PAGES {
+        return Err(MakeFault::VolumeSmall { pages: available });
+    }
+    let pages = usable_pages(rack, first_volume(), version);
+    let new = NewPages::new(alloc, version, pages)?;
+    match write_domain(rack, version, pages, &new) {
+        Ok(()) => Ok(new_anchor(version, pages)),
+        Err(fault) => Err(fault_of(fault)),
+    }
+}
