@@ -1,0 +1,4 @@
+pub mod Brought
+pub mod Image
+pub mod PagesRead
+pub mod Walking
