@@ -1,14 +1,16 @@
 -- The rows of the rules are those of the list.
-use Rattle.std.proofs.Common.{◌≡◌, ◌∙◌, ◌⊎◌, ◌↔◌, inl, inr, ℕ, List, [], ◌∷◌, Contains, Option, Some, None, IsSome, IsSomeAnd, refl, sym, ap, subst, ⊎_elim}
+use Rattle.std.proofs.Common.{◌≡◌, ◌∙◌, ◌⊎◌, ◌↔◌, inl, inr, ℕ, List, [], ◌∷◌, Contains, Option, Some, None, IsSome, IsSomeAnd, refl, sym, ap, subst, arith, ⊎_elim}
 use Rattle.domain_base.specs.Version.{number_of as version_number}
 use Rattle.domain_base.specs.declared.place.Home.{Home}
+use Rattle.domain_base.specs.declared.version.Version.{Version}
+use Rattle.domain_base.specs.declared.version.Version.TheVariants.{Four, Three}
 use Rattle.page_store.specs.Pages.{Pages}
 use Rattle.fileset_table.specs.Page.{IsTablePage}
 use Rattle.fileset_table.specs.Table.{Table}
 use Rattle.fileset_table.proofs.Unique.{table_unique}
 use Rattle.domain_layout.specs.CellRules.{IsCellsFault}
 use Rattle.domain_layout.specs.DirectoryRules.{IsDirectoryFault, IsIndexFault}
-use Rattle.domain_layout.specs.Faults.{AreFaults, FaultRow, HasNoTablesFault, IsFault, IsFilesFault, IsTableFault, IsTablesFault, SaysTable}
+use Rattle.domain_layout.specs.Faults.{AreFaults, FaultRow, HasNoFault, HasNoTablesFault, IsFault, IsFilesFault, IsTableFault, IsTablesFault, SaysTable}
 use Rattle.domain_layout.specs.Layout.{IsLayout, Layout}
 use Rattle.domain_layout.specs.Owners.{frame_of}
 use Rattle.domain_layout.specs.PageRules.{IsBitmapFault, IsExtentFault}
@@ -141,10 +143,7 @@ some_is : {X : Type 0} (o : Option X) (x : X) → o ≡ Some x → IsSome o
 some_is o x is = subst IsSome (sym is) refl
 
 module _ (pages : Pages) (frame : Frame) where
-  -- a layout says its version, and names a table
-  no_version : ¬ frame.anchor.version ≡ version_number frame.version → (row : FaultRow) → ¬ IsFilesFault pages frame row
-  no_version other row (layout, same, stands, which) = other (subst (λ (f : Frame). f.anchor.version ≡ version_number f.version) same stands.version)
-
+  -- a layout names a table
   no_name : frame.anchor.table ≡ None → (row : FaultRow) → ¬ IsFilesFault pages frame row
   no_name none row (layout, same, stands, which) =
       subst (λ o. IsSomeAnd o (λ home. IsSomeAnd (pages home) (λ page. IsTablePage page layout.table))) (ap (λ (f : Frame). f.anchor.table) same ∙ none) stands.table
@@ -174,19 +173,16 @@ module _ (pages : Pages) (frame : Frame) where
 
   module _ (table : Table) (whole : IsWholeTable pages frame table) where
     -- faults of tables stand without those of files
-    pub told_tables : (rows : List FaultRow) → AreRowsOf (IsTablesFault pages frame) rows → (¬ frame.anchor.version ≡ version_number frame.version) ⊎ ¬ rows ≡ [] → AreRowsOf (IsFault pages frame) rows
-    told_tables rows are why =
+    pub told_tables : (rows : List FaultRow) → AreRowsOf (IsTablesFault pages frame) rows → ¬ rows ≡ [] → AreRowsOf (IsFault pages frame) rows
+    told_tables rows are some =
         rows_same (IsTablesFault pages frame) (IsFault pages frame) rows
         (λ row. (
           (λ is. inr (inl (whole.1, is))),
-          (λ is. ⊎_elim (λ first. absurd (whole.1 row.home first.1)) (λ more. ⊎_elim (λ second. second.1) (λ third. absurd (no_files row third)) more) is),
+          (λ is. ⊎_elim (λ first. absurd (whole.1 row.home first.1)) (λ more. ⊎_elim (λ second. second.1) (λ third. absurd (not_all third.0)) more) is),
         )) are
       where
-        not_all : HasNoTablesFault pages frame → ¬ ¬ rows ≡ []
-        not_all none some = some (empty_by rows (λ row among. none.tables row ((are.each row).0 among)))
-
-        no_files : (row : FaultRow) → HasNoTablesFault pages frame × IsFilesFault pages frame row → ⊥
-        no_files row is = ⊎_elim (λ other. no_version other row is.1) (λ some. not_all is.0 some) why
+        not_all : HasNoTablesFault pages frame → ⊥
+        not_all none = some (empty_by rows (λ row among. none.tables row ((are.each row).0 among)))
 
     pub no_tables_fault : (rows : List FaultRow) → AreRowsOf (IsTablesFault pages frame) rows → rows ≡ [] → HasNoTablesFault pages frame
     no_tables_fault rows are empty = record {
@@ -208,3 +204,23 @@ module _ (pages : Pages) (frame : Frame) where
   -- the list that is looked for
   pub all_told : (rows : List FaultRow) → AreRowsOf (IsFault pages frame) rows → AreFaults pages frame rows
   all_told rows are = record { each = are.each; order = are.order }
+
+-- none is told
+pub none_told : (pages : Pages) (frame : Frame) → AreFaults pages frame [] → HasNoFault pages frame
+none_told pages frame are row fault = in_none row ((are.each row).1 fault)
+
+-- ---- versions
+
+number_is : (version : Version) → (version_number version ≡ 3) ⊎ (version_number version ≡ 4)
+number_is Three = inl refl
+number_is Four = inr refl
+
+pub one_version : (a b : Version) → version_number a ≡ version_number b → a ≡ b
+one_version Three Three same = refl
+one_version Three Four same = absurd (omega (arith, same))
+one_version Four Three same = absurd (omega (arith, same))
+one_version Four Four same = refl
+
+-- a number that none has
+pub no_number : (n : ℕ) → ¬ ((n ≡ 3) ⊎ (n ≡ 4)) → (version : Version) → ¬ n ≡ version_number version
+no_number n none version same = none (⊎_elim (λ three. inl (same ∙ three)) (λ four. inr (same ∙ four)) (number_is version))

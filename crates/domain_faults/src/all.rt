@@ -1,14 +1,18 @@
 //! The whole list.
 ghost use Rattle.std.specs.Prelude.{◌≡◌, ◌↔◌, ◌∷◌, [], IfOk, IsTrue};
+ghost use Rattle.domain_base.specs.Version.{number_of};
+ghost use Rattle.domain_base.specs.declared.version.Version.{Version};
 ghost use Rattle.domain_layout.specs.Faults.{AreFaults, IsFault};
+ghost use Rattle.filesets_reading.specs.Good.{frame_at};
 ghost use Rattle.page_ways.specs.Frame.{frame_in};
 ghost use Rattle.table_faults.specs.Read.{IsWholeTable};
 ghost use Rattle.domain_faults.specs.Rows.{AreRowsOf, rows_there};
 
-use crate::files::{files_rows, says_version};
+use crate::files::files_rows;
 use crate::rows::{FaultRow, Rule};
 use crate::tables::tables_rows;
-use domain_base::{Home, OutOfMemory};
+use disk_label::Anchor;
+use domain_base::{Home, OutOfMemory, Version};
 use fileset_table::FilesetTable;
 use page_store::MetaPages;
 use page_ways::DomainFrame;
@@ -44,28 +48,25 @@ fn rows_behind<M: MetaPages>(
     frame: &DomainFrame,
     table: &FilesetTable,
 ) -> Result<Vec<FaultRow>, OutOfMemory>
-    requires { IsWholeTable (M.pages pages.now) (frame_in frame.now) table.now }
+    requires version { frame.now.anchor.version ≡ number_of frame.now.version }
+    requires whole { IsWholeTable (M.pages pages.now) (frame_in frame.now) table.now }
     ensures { IfOk result (λ rows. AreRowsOf (IsFault (M.pages pages.now) (frame_in frame.now))
         (rows_there rows.items)) }
 {
     let rows = tables_rows(alloc, pages, frame, table)?;
-    if !says_version(frame) {
-        return Ok(rows);
-    }
     if !is_none(&rows) {
         return Ok(rows);
     }
     files_rows(alloc, pages, frame)
 }
 
-/// The faults of a domain's pages, each once and in the order of their codes, volumes and pages. A
-/// fault of the fileset table stands alone, and those of cells and tags without the ones behind
-/// them.
-pub fn faults<M: MetaPages>(
+/// The faults of a domain's pages, by an anchor that says this version.
+fn faults_in<M: MetaPages>(
     alloc: Global,
     pages: &M,
     frame: &DomainFrame,
 ) -> Result<Vec<FaultRow>, OutOfMemory>
+    requires { frame.now.anchor.version ≡ number_of frame.now.version }
     ensures { IfOk result (λ rows. AreFaults (M.pages pages.now) (frame_in frame.now)
         (rows_there rows.items)) }
 {
@@ -74,4 +75,33 @@ pub fn faults<M: MetaPages>(
         TableRead::Wrong { home } => table_row(alloc, home),
         TableRead::There { table } => rows_behind(alloc, pages, frame, &table),
     }
+}
+
+/// The faults of a domain's pages, each once and in the order of their codes, volumes and pages. A
+/// fault of the fileset table stands alone, and those of cells and tags without the ones behind
+/// them.
+///
+/// The pages are those of the domain once its log is redone, each page of each member: nothing is
+/// told of a page of a bitmap that is not there, and a page of a directory that is not has no rows.
+/// An anchor that says a version other than 3 and 4, or names no fileset table, has no faults here:
+/// `recover` answers none of these.
+pub fn faults<M: MetaPages>(
+    alloc: Global,
+    pages: &M,
+    anchor: &Anchor,
+) -> Result<Vec<FaultRow>, OutOfMemory>
+    ensures faults { (version : Version) → anchor.now.version ≡ number_of version
+        → IfOk result (λ rows. AreFaults (M.pages pages.now) (frame_at anchor.now version)
+        (rows_there rows.items)) }
+    ensures unknown { ((version : Version) → ¬ anchor.now.version ≡ number_of version)
+        → IfOk result (λ rows. rows_there rows.items ≡ []) }
+{
+    let Some(version) = Version::from_number(anchor.version) else {
+        return Ok(Vec::new(alloc));
+    };
+    let frame = DomainFrame {
+        anchor: *anchor,
+        version,
+    };
+    faults_in(alloc, pages, &frame)
 }

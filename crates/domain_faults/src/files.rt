@@ -1,6 +1,5 @@
 //! Rules of files' pages, bitmaps, directories and indexes.
-ghost use Rattle.std.specs.Prelude.{◌↔◌, ◌≡◌, IfOk, IsTrue};
-ghost use Rattle.domain_base.specs.Version.{number_of};
+ghost use Rattle.std.specs.Prelude.{IfOk};
 ghost use Rattle.domain_layout.specs.Faults.{HasNoTablesFault, IsFilesFault};
 ghost use Rattle.filesets_reading.specs.Good.{IsNamed};
 ghost use Rattle.page_ways.specs.Frame.{frame_in};
@@ -15,13 +14,6 @@ use page_faults::{bitmap_faults, extent_faults};
 use page_store::MetaPages;
 use page_ways::DomainFrame;
 use std::alloc::Global;
-
-/// Whether an anchor says the version by which its pages are read.
-pub(crate) fn says_version(frame: &DomainFrame) -> bool
-    ensures { IsTrue result ↔ (frame.now.anchor.version ≡ number_of frame.now.version) }
-{
-    frame.anchor.version == frame.version.number()
-}
 
 /// The faults of files' pages, bitmaps, directories and indexes, where no rule of tables is broken.
 pub(crate) fn files_rows<M: MetaPages>(

@@ -3,21 +3,31 @@
 use crate::image::Image;
 use crate::whole::Whole;
 use domain_base::Version;
-use domain_faults::faults;
+use domain_faults::{FaultRow, faults};
 use std::alloc::Global;
 use std::test::Fail;
 
 /// An image, lines that change it, and its faults.
 pub type Broken = (Whole, &'static str, &'static str);
 
-/// The faults of an image, in their order: a line with the code, the volume and the page of each.
-fn told(alloc: Global, image: &Image) -> Result<String, Fail> {
-    let mut text = String::new(alloc);
-    for row in &faults(alloc, &image.pages, &image.frame())? {
+/// Puts faults behind a text: a line with the code, the volume and the page of each.
+pub fn push_rows(alloc: Global, text: &mut String, rows: &[FaultRow]) -> Result<(), Fail> {
+    for row in rows {
         let (code, home) = (row.rule.code(), row.home);
         let line = format!(in alloc; "{code} {}:{}\n", home.vol.number(), home.page)?;
         text.push_str(line.as_str())?;
     }
+    Ok(())
+}
+
+/// The faults of an image, in their order.
+fn told(alloc: Global, image: &Image) -> Result<String, Fail> {
+    let mut text = String::new(alloc);
+    push_rows(
+        alloc,
+        &mut text,
+        &faults(alloc, &image.pages, &image.anchor)?,
+    )?;
     Ok(text)
 }
 
@@ -186,15 +196,15 @@ static ROWS: [Broken; 6] = [
     (Whole::Files, "letters 204 0 DIRX", "9 1:3\n9 1:204\n"),
     (
         Whole::Files,
-        "rows 204 4.7=1,g 4.7=1,g\ncell 3.4 1 1 4.7 - file,5,links=2 short,0+1@205",
+        "names 204 4.7=1,g 4.7=1,g\ncell 3.4 1 1 4.7 - file,5,links=2 short,0+1@205",
         "9 1:204\n",
     ),
-    (Whole::Files, "rows 204 4.7=1,g 1.1=1,r", "9 1:204\n"),
-    (Whole::Files, "rows 204 4.7=1,g 9.1=1,x", "9 1:204\n"),
-    (Whole::Files, "rows 204 4.7=1,g 2.1=2,x", "9 1:204\n"),
+    (Whole::Files, "names 204 4.7=1,g 1.1=1,r", "9 1:204\n"),
+    (Whole::Files, "names 204 4.7=1,g 9.1=1,x", "9 1:204\n"),
+    (Whole::Files, "names 204 4.7=1,g 2.1=2,x", "9 1:204\n"),
     (
         Whole::Changed,
-        "rows 211 2.1=1,f 5.1=1,h 5.1=2,i 6.1=1,k",
+        "names 211 2.1=1,f 5.1=1,h 5.1=2,i 6.1=1,k",
         "9 1:211\n",
     ),
 ];
@@ -218,12 +228,12 @@ static PLACES: [Broken; 8] = [
         "cell 3.4 1 1 4.7 - file,5,links=2 short,0+1@205",
         "9 1:3\n",
     ),
-    (Whole::Files, "rows 204 4.7=1,g 4.7=1,h", "9 1:3\n"),
-    (Whole::Files, "rows 200 2.1=1,f 3.1=2,d 3.1=2,e", "9 1:3\n"),
-    (Whole::Files, "rows 200 2.1=1,f", "9 1:3\n"),
+    (Whole::Files, "names 204 4.7=1,g 4.7=1,h", "9 1:3\n"),
+    (Whole::Files, "names 200 2.1=1,f 3.1=2,d 3.1=2,e", "9 1:3\n"),
+    (Whole::Files, "names 200 2.1=1,f", "9 1:3\n"),
     (
         Whole::Files,
-        "rows 200 2.1=1,f\nrows 204 4.7=1,g 3.1=2,d
+        "names 200 2.1=1,f\nnames 204 4.7=1,g 3.1=2,d
 cell 3.3 1 1 3.1 - dir,8192 short,0+1@204 parent,3.1",
         "9 1:3\n",
     ),

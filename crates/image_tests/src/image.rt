@@ -7,7 +7,6 @@ use domain_base::{Home, Page, Version, VolIx};
 use hex::decode;
 use memory_store::MemoryPages;
 use page_store::MetaPages;
-use page_ways::DomainFrame;
 use std::alloc::Global;
 use std::str::Split;
 use std::test::Fail;
@@ -116,14 +115,6 @@ fn first_anchor(version: Version) -> Anchor {
 }
 
 impl Image {
-    /// Its anchor, and its version.
-    pub fn frame(&self) -> DomainFrame {
-        DomainFrame {
-            anchor: self.anchor,
-            version: self.version,
-        }
-    }
-
     /// The image that a text tells, in a version of the layout.
     pub fn new(alloc: Global, version: Version, text: &str) -> Result<Image, Fail> {
         let mut image = Image {
@@ -141,7 +132,7 @@ impl Image {
     }
 
     /// Writes bytes on a page, from one of its bytes on.
-    fn set(&mut self, home: &Home, at: usize, bytes: &[u8]) -> Result<(), Fail> {
+    pub fn set(&mut self, home: &Home, at: usize, bytes: &[u8]) -> Result<(), Fail> {
         if self.pages.get(*home).is_none() {
             return Err(Fail::from("a page"));
         }
@@ -168,7 +159,7 @@ impl Image {
             "tags" => self.add_tags(&mut words),
             "cells" => self.add_cells(&mut words),
             "cell" => self.add_cell(&mut words),
-            "rows" => self.add_rows(&mut words),
+            "names" => self.add_rows(&mut words),
             "index" => self.add_index(&mut words),
             "letters" => self.add_letters(&mut words),
             "bytes" => self.add_bytes(&mut words),

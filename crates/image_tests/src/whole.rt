@@ -79,8 +79,8 @@ cell 3.1 1 1 1.1 - dir,8192 short,0+1@200 parent,1.1
 cell 3.2 1 1 2.1 - file,24581,uid=7,gid=8 short,0+2@201,3+1@203
 cell 3.3 1 1 3.1 - dir,8192,uid=7 short,0+1@204 parent,1.1
 cell 3.4 1 1 4.7 - file,5,logged=1 short,0+1@205
-rows 200 2.1=1,f 3.1=2,d
-rows 204 4.7=1,g
+names 200 2.1=1,f 3.1=2,d
+names 204 4.7=1,g
 letters 201 0 first
 letters 202 0 second
 letters 203 0 fourth
@@ -97,7 +97,7 @@ cell 3.0 4 0 0.0 - volume,1,256,1
 cell 3.1 1 1 1.1 - dir,8192 parent,1.1 short_dense,0+1@200
 cell 3.2 1 1 2.1 3.9 file,49152 short_dense,0+1@202,1+1@201,2+1@204,3+1@203
 cell 3.9 2 1 2.1 - dense,4+2@206
-rows 200 2.1=1,f
+names 200 2.1=1,f
 letters 202 0 zero
 letters 201 0 one
 letters 204 0 two
@@ -117,10 +117,10 @@ cell 3.1 1 1 1.1 - dir,8192 short,0+1@200 parent,1.1
 cell 3.3 1 1 3.1 - dir,24576 short,0+3@201 index,150,5 parent,1.1
 cell 3.4 1 1 4.1 - file,0,links=4 short
 cell 3.5 1 1 5.1 - file,0,uid=3 short
-rows 200 3.1=2,d
-rows 201 4.1=1,b 4.1=1,a
-rows 202 4.1=1,c
-rows 203 4.1=1,Aa 5.1=1,BB
+names 200 3.1=2,d
+names 201 4.1=1,b 4.1=1,a
+names 202 4.1=1,c
+names 203 4.1=1,Aa 5.1=1,BB
 index 150 151 97@0 98@0
 index 151 - 99@1 2112@2 2112@2
 ";
@@ -148,7 +148,7 @@ cells 3 0 0 25
 cell 3.0 4 0 0.0 - volume,1,256,1
 cell 3.1 1 1 1.1 - dir,8192 parent,1.1 short_dense,0+1@200
 cell 3.2 1 1 2.1 - file,5 short_dense,0+1@201
-rows 200 2.1=1,f
+names 200 2.1=1,f
 letters 201 0 hello
 ";
 
@@ -170,8 +170,8 @@ cell 3.4 1 2 1.1 - dir,8192 from,3.1,1 short,0+1@211 parent,1.1
 cell 3.5 1 2 2.1 3.6 file,24576 from,3.2,3 short,0+1@210
 cell 3.6 2 2 2.1 - holes,1+1
 cell 3.8 1 2 6.1 - file,5 from,-,1 short,0+1@212
-rows 200 2.1=1,f 4.1=1,g 5.1=1,h
-rows 211 2.1=1,f 5.1=1,h 6.1=1,k
+names 200 2.1=1,f 4.1=1,g 5.1=1,h
+names 211 2.1=1,f 5.1=1,h 6.1=1,k
 letters 201 0 new0
 letters 202 0 new1
 letters 203 0 old2
@@ -190,7 +190,7 @@ cell 3.0 4 0 0.0 - volume,1,256,1
 cell 3.1 1 1 1.1 - dir,8192 short,0+1@200 parent,1.1
 cell 3.2 1 1 2.1 - file,100,keep=1 short,0+3@201 trim
 cell 3.3 1 1 3.1 - file,5 short,0+1@205 removal
-rows 200 2.1=1,f
+names 200 2.1=1,f
 letters 201 0 kept
 letters 202 0 cut
 letters 205 0 gone
@@ -209,7 +209,7 @@ cell 3.0 4 0 0.0 - volume,1,256,1
 cell 3.1 1 1 1.1 - dir,0 short parent,1.1
 cell 3.5 1 2 1.1 - dir,8192 short,0+1@200 parent,1.1
 cell 3.6 1 2 2.1 - file,5 short,0+1@201 removal
-rows 200 2.1=1,f
+names 200 2.1=1,f
 ";
 
 /// A file one page of which stands on the second volume, which is closed.
@@ -224,7 +224,7 @@ cell 3.1 1 1 1.1 - dir,8192 parent,1.1 short_dense,0+1@200
 cells 2:3 0 0 26
 cell 2:3.0 4 0 0.0 - volume,2,128,1
 cell 2:3.4 1 1 2.1 - file,16384 short_dense,0+1@201,1+1@2:20
-rows 200 2.1=1,f
+names 200 2.1=1,f
 letters 201 0 here
 letters 2:20 0 there
 ";

@@ -1,4 +1,4 @@
-use Rattle.std.proofs.Common.{inl, inr, false, true, ◌≡◌, ◌∙◌, ap, sym}
+use Rattle.std.proofs.Common.{false, true, ◌≡◌, ◌∙◌, ap, sym}
 use Rattle.page_ways.specs.Frame.{frame_in}
 use Rattle.shape_reading.proofs.Answered.{if_ok}
 use Rattle.domain_faults.specs.Rows.{rows_there}
@@ -10,25 +10,20 @@ no_bool is = absurd (cc)
 
 pub files_rows-requires-clause-named : goal.files_rows-requires-clause-named
 files_rows-requires-clause-named g c =
-    (c.says_version.ensures.0 c.if-not-says_version.false, named (g.M.MetaPages.pages c.args.pages.now) (frame_in c.args.frame.now) c.args.table.now c.requires)
+    (c.requires.version, named (g.M.MetaPages.pages c.args.pages.now) (frame_in c.args.frame.now) c.args.table.now c.requires.whole)
 
 pub files_rows-requires-clause-no_fault : goal.files_rows-requires-clause-no_fault
 files_rows-requires-clause-no_fault g c =
-    no_tables_fault (g.M.MetaPages.pages c.args.pages.now) (frame_in c.args.frame.now) c.args.table.now c.requires (rows_there c.in_ok-rows.rows.items) c.in_ok-rows.ensures (ap rows_there (sym c.deref.ensures.value) ∙ c.is_none.ensures.0 c.if-not-is_none.false)
-
-pub returns-then-not-says_version : goal.returns-then-not-says_version
-returns-then-not-says_version g c =
-    told_tables (g.M.MetaPages.pages c.args.pages.now) (frame_in c.args.frame.now) c.args.table.now c.requires (rows_there c.in_ok-rows.rows.items) c.in_ok-rows.ensures
-    (inl (λ same. no_bool (sym c.if-not-says_version.true ∙ c.says_version.ensures.1 same)))
+    no_tables_fault (g.M.MetaPages.pages c.args.pages.now) (frame_in c.args.frame.now) c.args.table.now c.requires.whole (rows_there c.in_ok-rows.rows.items) c.in_ok-rows.ensures (ap rows_there (sym c.deref.ensures.value) ∙ c.is_none.ensures.0 c.if-not-is_none.false)
 
 pub returns-then-not-is_none : goal.returns-then-not-is_none
 returns-then-not-is_none g c =
-    told_tables (g.M.MetaPages.pages c.args.pages.now) (frame_in c.args.frame.now) c.args.table.now c.requires (rows_there c.in_ok-rows.rows.items) c.in_ok-rows.ensures
-    (inr (λ none. no_bool (sym c.if-not-is_none.true ∙ c.is_none.ensures.1 (ap rows_there c.deref.ensures.value ∙ none))))
+    told_tables (g.M.MetaPages.pages c.args.pages.now) (frame_in c.args.frame.now) c.args.table.now c.requires.whole (rows_there c.in_ok-rows.rows.items) c.in_ok-rows.ensures
+    (λ none. no_bool (sym c.if-not-is_none.true ∙ c.is_none.ensures.1 (ap rows_there c.deref.ensures.value ∙ none)))
 
 pub returns : goal.returns
 returns g c =
     let pages = g.M.MetaPages.pages c.args.pages.now in
     let frame = frame_in c.args.frame.now in
-    let none = no_tables_fault pages frame c.args.table.now c.requires (rows_there c.in_ok-rows.rows.items) c.in_ok-rows.ensures (ap rows_there (sym c.deref.ensures.value) ∙ c.is_none.ensures.0 c.if-not-is_none.false) in
-    if_ok c.files_rows.result _ _ (λ rows are. told_files pages frame c.args.table.now c.requires none (rows_there rows.items) are) c.files_rows.ensures
+    let none = no_tables_fault pages frame c.args.table.now c.requires.whole (rows_there c.in_ok-rows.rows.items) c.in_ok-rows.ensures (ap rows_there (sym c.deref.ensures.value) ∙ c.is_none.ensures.0 c.if-not-is_none.false) in
+    if_ok c.files_rows.result _ _ (λ rows are. told_files pages frame c.args.table.now c.requires.whole none (rows_there rows.items) are) c.files_rows.ensures

@@ -4,10 +4,10 @@ use Rattle.shape_reading.proofs.Answered.{if_ok}
 use Rattle.table_faults.specs.Read.{IsTableRead}
 use Rattle.domain_faults.specs.Rows.{rows_there}
 use Rattle.domain_faults.proofs.ToldFaults.{all_told, told_table, told_unnamed}
-use Rattle.domain_faults.proofs.all.faults.Goals as goal
+use Rattle.domain_faults.proofs.all.faults_in.Goals as goal
 
-pub rows_behind-requires : goal.rows_behind-requires
-rows_behind-requires g c = subst (IsTableRead (g.M.MetaPages.pages c.args.pages.now) (frame_in c.args.frame.now)) c.in-There.is c.in_ok-read_table.ensures
+pub rows_behind-requires-clause-whole : goal.rows_behind-requires-clause-whole
+rows_behind-requires-clause-whole g c = subst (IsTableRead (g.M.MetaPages.pages c.args.pages.now) (frame_in c.args.frame.now)) c.in-There.is c.in_ok-read_table.ensures
 
 pub returns-in-Unnamed : goal.returns-in-Unnamed
 returns-in-Unnamed g c =
