@@ -51,9 +51,10 @@ fn is_at_most(one: u32, other: u32) -> bool {
     u64::from(one) <= u64::from(other) + 64
 }
 
-/// Whether one number is at most twice another and a few more.
-fn is_at_most_twice(one: u32, other: u32) -> bool {
-    u64::from(one) <= 2 * u64::from(other) + 16
+/// Whether a third number is above the second by at most twice what that is above the first, and
+/// by a few more.
+fn adds_at_most_twice(first: u32, second: u32, third: u32) -> bool {
+    u64::from(third) + 2 * u64::from(first) <= 3 * u64::from(second) + 8
 }
 
 impl Cost {
@@ -64,11 +65,13 @@ impl Cost {
             && is_at_most(self.changes, other.changes)
     }
 
-    /// Whether this is at most twice the cost of another, and a few steps, looks and changes more.
-    pub fn is_at_most_twice(&self, other: &Cost) -> bool {
-        is_at_most_twice(self.steps, other.steps)
-            && is_at_most_twice(self.looks, other.looks)
-            && is_at_most_twice(self.changes, other.changes)
+    /// Whether this adds to a cost at most twice the steps, looks and changes which that adds to
+    /// another one, and a few more. So what a call takes however little it does is not counted; and
+    /// a few are fewer than the looks at one cell that is passed once more.
+    pub fn adds_at_most_twice(&self, second: &Cost, first: &Cost) -> bool {
+        adds_at_most_twice(first.steps, second.steps, self.steps)
+            && adds_at_most_twice(first.looks, second.looks, self.looks)
+            && adds_at_most_twice(first.changes, second.changes, self.changes)
     }
 }
 
