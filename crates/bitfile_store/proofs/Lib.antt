@@ -1,0 +1,6 @@
+pub mod Behind
+pub mod Held
+pub mod Looks
+pub mod Misses
+pub mod ParentSaid
+pub mod Rests

@@ -1,0 +1,77 @@
+use Rattle.std.proofs.Common.{◌∙◌, ◌++◌, ◌∷◌, [], List, IsSome, ap, refl}
+use Rattle.domain_base.specs.declared.place.CellAt.{CellAt}
+use Rattle.bitfile_core.specs.declared.bitfiles.Bitfiles.{Bitfiles as Files}
+use Rattle.stored_set.proofs.StableSet.{has_set}
+use Rattle.bitfile_store.specs.Shown.{shown, shown_is, shown_stands}
+use Rattle.bitfile_store.proofs.Held.{always_err, changed_held, of_each, on_err_both, still}
+use Rattle.bitfile_store.proofs.Misses.{given_less, kept_space}
+use Rattle.bitfile_store.proofs.Rests.{kept_as, kept_with}
+use Rattle.bitfile_store.proofs.stored_bitfiles.StoredBitfiles.take_away.Goals as goal
+
+pub remove-requires-clause-set : goal.remove-requires-clause-set
+remove-requires-clause-set g c =
+    let set = c.args.self.now in
+    let pages = g.M.MetaPages.pages set.parts.pages in
+    has_set set.parts.files.fileset set.parts.files.tags set.parts.space set.parts.cells pages set.held
+
+pub remove-requires-clause-live : goal.remove-requires-clause-live
+remove-requires-clause-live g c =
+    let set = c.args.self.now in
+    let pages = g.M.MetaPages.pages set.parts.pages in
+    of_each set.parts.files.fileset set.parts.files.tags set.parts.space set.parts.cells pages set.held (λ s. IsSome (s c.args.tag)) c.requires
+
+pub invariant_of-self : goal.invariant_of-self
+invariant_of-self g c = record { held = c.args.self.now.held }
+
+pub returns-in_err-reserve-clause-err : goal.returns-in_err-reserve-clause-err
+returns-in_err-reserve-clause-err g c =
+    let set = c.args.self.now in
+    let pages = g.M.MetaPages.pages set.parts.pages in
+    always_err (shown_is set.parts.files.fileset set.parts.files.tags set.parts.space set.parts.cells pages _ _ (shown_stands set.parts.files.fileset set.parts.files.tags set.parts.space set.parts.cells pages set.held)) _
+
+pub invariant_of-self-2 : goal.invariant_of-self-2
+invariant_of-self-2 g c =
+    let set = c.args.self.now in
+    let pages = g.M.MetaPages.pages set.parts.pages in
+    record { held = changed_held c.remove.new.files.fileset c.remove.new.files.tags c.remove.new.space set.parts.cells (g.M.MetaPages.pages c.remove.new.pages) _ (shown set.parts.files.fileset set.parts.files.tags set.parts.space set.parts.cells pages set.held) c.remove.result (c.remove.ensures.ok _ (shown_stands set.parts.files.fileset set.parts.files.tags set.parts.space set.parts.cells pages set.held)) (on_err_both (λ none err. still set.parts.files c.remove.new.files set.parts.space c.remove.new.space set.parts.cells pages (g.M.MetaPages.pages c.remove.new.pages) (shown set.parts.files.fileset set.parts.files.tags set.parts.space set.parts.cells pages set.held) (shown_stands set.parts.files.fileset set.parts.files.tags set.parts.space set.parts.cells pages set.held) c.remove.ensures.same none err) c.remove.result c.remove.ensures.none c.remove.ensures.err) }
+
+pub returns-in_err-reserve-clause-rest : goal.returns-in_err-reserve-clause-rest
+returns-in_err-reserve-clause-rest g c = kept_as _ _ _ _ _ _ _ refl refl c.reserve.ensures.items
+
+pub returns-in_err-at-clause-err : goal.returns-in_err-at-clause-err
+returns-in_err-at-clause-err g c =
+    let set = c.args.self.now in
+    let pages = g.M.MetaPages.pages set.parts.pages in
+    always_err (shown_is c.remove.new.files.fileset c.remove.new.files.tags c.remove.new.space set.parts.cells (g.M.MetaPages.pages c.remove.new.pages) _ _ (still set.parts.files c.remove.new.files set.parts.space c.remove.new.space set.parts.cells pages (g.M.MetaPages.pages c.remove.new.pages) (shown set.parts.files.fileset set.parts.files.tags set.parts.space set.parts.cells pages set.held) (shown_stands set.parts.files.fileset set.parts.files.tags set.parts.space set.parts.cells pages set.held) c.remove.ensures.same c.in_err-at.ensures.none c.in_err-at.ensures.err)) _
+
+pub returns-in_err-at-clause-count : goal.returns-in_err-at-clause-count
+returns-in_err-at-clause-count g c =
+    let set = c.args.self.now in
+    let pages = g.M.MetaPages.pages set.parts.pages in
+    kept_space set.parts.space c.remove.new.space c.in_err-at.ensures.none
+
+pub returns-in_err-at-clause-rest : goal.returns-in_err-at-clause-rest
+returns-in_err-at-clause-rest g c = kept_as _ _ _ _ _ _ _ (ap (λ (f : Files). f.fileset) c.remove.ensures.same) c.remove.ensures.before c.reserve.ensures.items
+
+pub returns-clause-ok : goal.returns-clause-ok
+returns-clause-ok g c =
+    let set = c.args.self.now in
+    let pages = g.M.MetaPages.pages set.parts.pages in
+    shown_is c.remove.new.files.fileset c.remove.new.files.tags c.remove.new.space set.parts.cells (g.M.MetaPages.pages c.remove.new.pages) _ _ (c.in_ok-at.ensures.ok _ (shown_stands set.parts.files.fileset set.parts.files.tags set.parts.space set.parts.cells pages set.held))
+
+pub returns-clause-takes : goal.returns-clause-takes
+returns-clause-takes g c = λ chains are. record {
+  at = c.in_ok-at.at;
+  listed = c.push_reserved.ensures.items ∙ ap (λ (xs : List CellAt). xs ++ c.in_ok-at.at ∷ []) c.reserve.ensures.items;
+  removes = c.in_ok-at.ensures.removes chains are;
+}
+
+pub returns-clause-count : goal.returns-clause-count
+returns-clause-count g c =
+    let set = c.args.self.now in
+    let pages = g.M.MetaPages.pages set.parts.pages in
+    let was = (shown_stands set.parts.files.fileset set.parts.files.tags set.parts.space set.parts.cells pages set.held) in
+    given_less (was.indexes c.args.tag) set.settings.group set.parts.space c.remove.new.space (c.in_ok-at.ensures.gives was.chains (was.indexes c.args.tag) was.stands.together.files (was.stands.indexed c.args.tag)).drops.waits
+
+pub returns-clause-rest : goal.returns-clause-rest
+returns-clause-rest g c = kept_with _ _ _ _ _ _ _ c.in_ok-at.at (ap (λ (f : Files). f.fileset) c.remove.ensures.same) c.remove.ensures.before (c.push_reserved.ensures.items ∙ ap (λ (xs : List CellAt). xs ++ c.in_ok-at.at ∷ []) c.reserve.ensures.items)

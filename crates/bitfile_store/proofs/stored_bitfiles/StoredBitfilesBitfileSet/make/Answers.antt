@@ -1,0 +1,46 @@
+use Rattle.std.proofs.Common.{arith}
+use Rattle.stored_set.proofs.StableSet.{has_set}
+use Rattle.bitfile_store.specs.Shown.{shown_is, shown_stands}
+use Rattle.bitfile_store.proofs.Held.{at_ends, err_map, made_held, ok_map, on_err_map}
+use Rattle.bitfile_store.proofs.Misses.{made_less, none_made, none_made_less}
+use Rattle.bitfile_store.proofs.Rests.{kept}
+use Rattle.bitfile_store.proofs.stored_bitfiles.StoredBitfilesBitfileSet.make.Goals as goal
+
+pub make-requires : goal.make-requires
+make-requires g c =
+    let set = c.args.self.now in
+    let pages = g.M.MetaPages.pages set.parts.pages in
+    has_set set.parts.files.fileset set.parts.files.tags set.parts.space set.parts.cells pages set.held
+
+pub invariant_of-self : goal.invariant_of-self
+invariant_of-self g c =
+    let set = c.args.self.now in
+    let pages = g.M.MetaPages.pages set.parts.pages in
+    record { held = made_held c.make.new.files.fileset c.make.new.files.tags c.make.new.space c.make.new.cells (g.M.MetaPages.pages c.make.new.pages) _ _ c.make.result (c.make.ensures.ok _ (shown_stands set.parts.files.fileset set.parts.files.tags set.parts.space set.parts.cells pages set.held)) (c.make.ensures.err _ (shown_stands set.parts.files.fileset set.parts.files.tags set.parts.space set.parts.cells pages set.held)) }
+
+pub returns-clause-ok : goal.returns-clause-ok
+returns-clause-ok g c =
+    let set = c.args.self.now in
+    let pages = g.M.MetaPages.pages set.parts.pages in
+    ok_map (λ tag was. shown_is c.make.new.files.fileset c.make.new.files.tags c.make.new.space c.make.new.cells (g.M.MetaPages.pages c.make.new.pages) _ _ was) c.make.result (c.make.ensures.ok _ (shown_stands set.parts.files.fileset set.parts.files.tags set.parts.space set.parts.cells pages set.held))
+
+pub returns-clause-err : goal.returns-clause-err
+returns-clause-err g c =
+    let set = c.args.self.now in
+    let pages = g.M.MetaPages.pages set.parts.pages in
+    on_err_map (λ was. shown_is c.make.new.files.fileset c.make.new.files.tags c.make.new.space c.make.new.cells (g.M.MetaPages.pages c.make.new.pages) _ _ was) c.make.result (c.make.ensures.err _ (shown_stands set.parts.files.fileset set.parts.files.tags set.parts.space set.parts.cells pages set.held))
+
+pub returns-clause-no_page : goal.returns-clause-no_page
+returns-clause-no_page g c =
+    let set = c.args.self.now in
+    let pages = g.M.MetaPages.pages set.parts.pages in
+    err_map (λ fault none. none_made set.parts.space c.make.new.space (omega (arith, c.misses.ensures.value)) set.parts.files.tags set.parts.cells pages fault none) c.make.result c.make.ensures.none
+
+pub returns-clause-count : goal.returns-clause-count
+returns-clause-count g c =
+    let set = c.args.self.now in
+    let pages = g.M.MetaPages.pages set.parts.pages in
+    at_ends (λ taken. made_less set.settings.prefer set.parts.files.tags c.make.new.files.tags set.parts.space c.make.new.space set.parts.cells c.make.new.cells pages taken) (λ fault none. none_made_less set.parts.space c.make.new.space (omega (arith, c.misses.ensures.value)) set.parts.files.tags set.parts.cells pages fault none) c.make.result c.make.ensures.taken c.make.ensures.none
+
+pub returns-clause-rest : goal.returns-clause-rest
+returns-clause-rest g c = kept _ _ _ _ _ _ c.make.ensures.fileset c.make.ensures.before

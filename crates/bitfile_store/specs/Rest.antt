@@ -1,0 +1,59 @@
+-- What stays of a set of files that calls change, and what is listed of files that are taken away.
+use Rattle.std.specs.Prelude.{◌≡◌, ◌++◌, ◌∷◌, ℕ, List, []}
+use Rattle.std.proofs.Common.{◌∙◌, append_assoc, refl, sym, ap}
+use Rattle.std.proofs.lemmas.List.{append-nil}
+use Rattle.domain_base.specs.declared.place.CellAt.{CellAt}
+use Rattle.domain_base.specs.declared.place.Tag.{Tag}
+use Rattle.page_store.specs.Pages.{Pages}
+use Rattle.tag_dirs.specs.declared.dir.TagPlace.{TagPlace}
+use Rattle.bitfile_core.specs.Changes.{Removes}
+use Rattle.bitfile_core.specs.Files.{Chains}
+use Rattle.stored_set.specs.Sets.{without_index}
+use Rattle.bitfile_store.specs.declared.parts.CallSettings.{CallSettings}
+
+-- cells are listed behind those that were
+abbrev pub Lists : List CellAt → List CellAt → Type 0
+Lists removed removed_now = (more : List CellAt) × (removed ++ more ≡ removed_now)
+
+-- the fileset's number, what calls are given and the pages that a change is taken back to are as
+-- they were, and so are the cells that were listed, behind which more may be
+pub record LeavesRest (fileset fileset_now : ℕ) (settings settings_now : CallSettings)
+    (before before_now : Pages) (removed removed_now : List CellAt) : Type 0 where
+  pub same_number : fileset_now ≡ fileset
+  pub same_settings : settings_now ≡ settings
+  pub same_before : before_now ≡ before
+  pub lists : Lists removed removed_now
+
+-- where nothing is changed, all is so
+pub rest_is : (fileset : ℕ) (settings : CallSettings) (before : Pages) (removed : List CellAt)
+    → LeavesRest fileset fileset settings settings before before removed removed
+rest_is fileset settings before removed = record {
+  same_number = refl;
+  same_settings = refl;
+  same_before = refl;
+  lists = ([], append-nil removed);
+}
+
+lists_joined : (a b c : List CellAt) → Lists a b → Lists b c → Lists a c
+lists_joined a b c first then = (
+  first.0 ++ then.0,
+  sym (append_assoc a first.0 then.0) ∙ ap (λ xs. xs ++ then.0) first.1 ∙ then.1,
+)
+
+-- and after two changes, if it is after each
+pub rest_joined : (f g h : ℕ) (s t u : CallSettings) (p q r : Pages) (a b c : List CellAt)
+    → LeavesRest f g s t p q a b → LeavesRest g h t u q r b c → LeavesRest f h s u p r a c
+rest_joined f g h s t u p q r a b c first then = record {
+  same_number = then.same_number ∙ first.same_number;
+  same_settings = then.same_settings ∙ first.same_settings;
+  same_before = then.same_before ∙ first.same_before;
+  lists = lists_joined a b c first.lists then.lists;
+}
+
+-- the tag names nothing any more, and the cell at which its chain begins is listed behind the
+-- others: that says that all of the file or directory is to be let go of, and names no index
+pub record TakesAway (fileset : ℕ) (places : List TagPlace) (tag : Tag) (chains : Chains)
+    (removed removed_now : List CellAt) (new : Pages) : Type 0 where
+  pub at : CellAt
+  pub listed : removed_now ≡ removed ++ at ∷ []
+  pub removes : Removes fileset places tag at (without_index tag chains) new
