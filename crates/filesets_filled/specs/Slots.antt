@@ -6,6 +6,9 @@ use Rattle.page_store.specs.Pages.{Pages}
 use Rattle.domain_base.specs.declared.version.Version.{Version}
 use Rattle.domain_layout.specs.Faults.{HasNoFault}
 use Rattle.domain_layout.specs.Filled.{AreFilled, Fills}
+use Rattle.domain_layout.specs.Layout.{IsLayout, Layout}
+use Rattle.domain_layout.specs.Owners.{frame_of}
+use Rattle.domain_layout.specs.Reached.{Frame}
 use Rattle.domain_layout.specs.Read.{contents_of}
 use Rattle.domain_layout.specs.Shape.{FilesetShape, IsShapeOf, Shapes}
 use Rattle.fileset_model.specs.Filesets.{FilesetMap}
@@ -54,6 +57,12 @@ pub record AreFilledUpTo (pages : Pages) (table : Table) (count : ℕ) (all : Fi
         × (slice_get table.slots number ≡ Some item)
         × IsSomeAnd (entry_of item) (λ entry. entry.name ≡ name)
     pub filled : AreFilled (contents_of pages) shapes all
+
+-- pages are laid out as a domain's are
+pub record IsLaidOut (pages : Pages) (frame : Frame) : Type 0 where
+  pub layout : Layout
+  pub is : frame_of layout ≡ frame
+  pub laid : IsLayout pages layout
 
 -- an anchor names a fileset table, and the pages of its domain break no rule and are all there
 pub record IsGoodDomain (pages : Pages) (anchor : Anchor) (version : Version) : Type 0 where

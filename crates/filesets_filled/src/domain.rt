@@ -2,9 +2,10 @@
 ghost use Rattle.std.specs.Prelude.{◌≡◌, IfOk, Some};
 ghost use Rattle.domain_base.specs.declared.place.Home.{Home};
 ghost use Rattle.domain_layout.specs.Read.{ReadsFrom};
+ghost use Rattle.filesets_reading.specs.Good.{frame_at};
 ghost use Rattle.page_ways.specs.Frame.{frame_in};
 ghost use Rattle.fileset_shapes.specs.Shapes.{IsDomain};
-ghost use Rattle.filesets_filled.specs.Slots.{AreFilledUpTo, IsGoodDomain};
+ghost use Rattle.filesets_filled.specs.Slots.{AreFilledUpTo, IsGoodDomain, IsLaidOut};
 
 use crate::slots::{put_found, read_fileset};
 use disk_label::Anchor;
@@ -39,7 +40,7 @@ fn read_tables_filesets<M: MetaPages>(
 }
 
 /// The filesets that the pages of a domain with this anchor have, once its log is redone: its pages
-/// break no rule, and each page of its volumes is there.
+/// break no rule, and each page of its volumes is there. So they are laid out as a domain's are.
 pub fn read_filesets<M: MetaPages>(
     alloc: Global,
     pages: &M,
@@ -47,8 +48,10 @@ pub fn read_filesets<M: MetaPages>(
     version: Version,
 ) -> Result<Filesets, OutOfMemory>
     requires { IsGoodDomain (M.pages pages.now) anchor.now version }
-    ensures { (home : Home) → anchor.now.table ≡ Some home
+    ensures filesets { (home : Home) → anchor.now.table ≡ Some home
         → IfOk result (ReadsFrom (M.pages pages.now) home) }
+    ensures layout { IfOk result (λ _. IsLaidOut (M.pages pages.now)
+        (frame_at anchor.now version)) }
 {
     let tables = read_domain(alloc, pages, anchor, version)?;
     let domain = DomainFrame {
