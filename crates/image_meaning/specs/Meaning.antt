@@ -1,0 +1,79 @@
+-- What an image of volumes means.
+use Rattle.std.specs.Prelude.{◌≡◌, ℕ, List, [], Some, Result, Ok, Err}
+use Rattle.domain_base.specs.Version.{number_of}
+use Rattle.domain_base.specs.declared.place.Home.{Home}
+use Rattle.domain_base.specs.declared.version.Version.{Version}
+use Rattle.page_store.specs.Pages.{Pages}
+use Rattle.volume_disk.specs.Disk.{Disk}
+use Rattle.volume_disk.specs.Image.{Image}
+use Rattle.disk_label.specs.declared.anchor.Anchor.{Anchor}
+use Rattle.log_ring.specs.Groups.{Group, HasLog, redone}
+use Rattle.log_recovery.specs.Outcome.{HasRecovered, IsFirstFault}
+use Rattle.log_recovery.specs.declared.redone.Redone.{Redone}
+use Rattle.fileset_model.specs.Filesets.{FilesetMap}
+use Rattle.fileset_model.specs.LooksLike.{LooksLike}
+use Rattle.domain_layout.specs.Faults.{AreFaults, FaultRow, HasNoFault}
+use Rattle.domain_layout.specs.Read.{Means, ReadsFrom}
+use Rattle.filesets_reading.specs.Good.{frame_at}
+use Rattle.filesets_filled.specs.Slots.{IsLaidOut}
+use Rattle.domain_faults.specs.Rows.{rows_there}
+use Rattle.log_recovery.specs.declared.fault.RecoverFault.{RecoverFault}
+use Rattle.log_recovery.specs.declared.fault.RecoverFault.TheVariants as recovery
+use Rattle.image_meaning.specs.declared.fault.ReadFault.{ReadFault}
+use Rattle.image_meaning.specs.declared.fault.ReadFault.TheVariants as fault
+use Rattle.image_meaning.specs.declared.meaning.Meaning.{Meaning}
+use Rattle.image_meaning.specs.declared.meaning.Meaning.TheVariants.{Faulty, Filesets, NoDomain}
+
+-- an image of a rack with volumes of these sizes has a domain, and the pages of that have these
+-- faults once its log is redone, one at least
+pub record HasFaults (sizes : List ℕ) (image : Image) (rows : List FaultRow) : Type 0 where
+  pub anchor : Anchor
+  pub groups : List Group
+  pub version : Version
+  pub log : HasLog sizes anchor groups image
+  pub is_version : anchor.version ≡ number_of version
+  pub no_first : (vol at : ℕ) → ¬ IsFirstFault sizes image vol at
+  pub faults : AreFaults (redone groups image) (frame_at anchor version) rows
+  pub some : ¬ rows ≡ []
+
+-- an image means this: it has no domain, from this page on; its domain has these faults; or it
+-- has none, and its filesets are these
+abbrev pub IsMeaningOf : List ℕ → Image → Meaning → Type 0
+IsMeaningOf sizes image (NoDomain vol at) = IsFirstFault sizes image vol at
+IsMeaningOf sizes image (Faulty rows) = HasFaults sizes image (rows_there rows.items)
+IsMeaningOf sizes image (Filesets all) = Means sizes image all
+
+-- two meanings are the same, as far as replies tell
+abbrev pub AreSameMeaning : Meaning → Meaning → Type 0
+AreSameMeaning (NoDomain vol at) (NoDomain other page) = (vol ≡ other) × (at ≡ page)
+AreSameMeaning (Faulty rows) (Faulty others) = rows_there rows.items ≡ rows_there others.items
+AreSameMeaning (Filesets all) (Filesets others) = LooksLike all others
+AreSameMeaning _ _ = ⊥
+
+-- ** On the way
+
+-- the log of a rack's contents was recovered
+abbrev pub Recovered : Disk → Redone → Type 0
+Recovered disk found =
+    (groups : List Group) × HasRecovered disk.sizes disk.now.contents groups found
+
+-- pages of a domain without a fault, and their filesets
+pub record HasFilesets (pages : Pages) (anchor : Anchor) (version : Version) (all : FilesetMap)
+    : Type 0 where
+  pub no_fault : HasNoFault pages (frame_at anchor version)
+  pub laid : IsLaidOut pages (frame_at anchor version)
+  pub reads : (home : Home) → anchor.table ≡ Some home → ReadsFrom pages home all
+
+-- what the pages of a domain mean
+abbrev pub HasMeaning : Pages → Anchor → Version → Meaning → Type 0
+HasMeaning pages anchor version (NoDomain vol at) = ⊥
+HasMeaning pages anchor version (Faulty rows) =
+    AreFaults pages (frame_at anchor version) (rows_there rows.items)
+    × (¬ rows_there rows.items ≡ [])
+HasMeaning pages anchor version (Filesets all) = HasFilesets pages anchor version all
+
+-- what is told where no log was recovered
+abbrev pub IsToldBy : RecoverFault → Result Meaning ReadFault → Type 0
+IsToldBy (recovery.NotADomain vol at) told = told ≡ Ok (NoDomain vol at)
+IsToldBy (recovery.Fault vol) told = told ≡ Err (fault.Fault vol)
+IsToldBy recovery.OutOfMemory told = told ≡ Err fault.OutOfMemory
