@@ -1,0 +1,7 @@
+//! Tests of pages that are brought from a rack in memory, on which they were written by hand.
+#![tactic(auto)]
+
+#[cfg(test)]
+mod fixture;
+#[cfg(test)]
+mod tables;
