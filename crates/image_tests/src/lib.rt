@@ -1,5 +1,5 @@
-//! Tests of the list of faults: images are written down as text, without a fault or with one, and
-//! have the faults that they were written for.
+//! Tests of the list of faults and of what images mean: images are written down as text, without a
+//! fault or with one, and have the faults and the filesets that they were written for.
 #![tactic(auto)]
 
 #[cfg(test)]
@@ -7,6 +7,12 @@ mod broken;
 #[cfg(test)]
 mod image;
 #[cfg(test)]
+mod meant;
+#[cfg(test)]
+mod rack;
+#[cfg(test)]
 mod records;
+#[cfg(test)]
+mod told;
 #[cfg(test)]
 mod whole;
