@@ -159,8 +159,12 @@ pub fn files_of(alloc: Global, rows: &'static str) -> Result<Vec<FileThere>, Fai
     Ok(files)
 }
 
-/// The pages of a set, in their order.
+/// The pages of a set, in their order; of a set of more than three the greatest numbers, which no
+/// test awaits.
 pub fn pages_in(found: &HomeSet) -> [u32; 3] {
+    if 3 < found.as_slice().len() {
+        return [u32::MAX; 3];
+    }
     let mut pages = [0; 3];
     for (place, (_, home)) in found.as_slice().iter().take(3).enumerate() {
         pages[place] = home.page;

@@ -45,8 +45,8 @@ fn wrong(alloc: Global, first: u32, total: u32, may_be: bool) -> Result<[u32; 3]
     Ok(pages_in(&found))
 }
 
-/// Right ones on one page and on two; one that says another total, lacks an entry, has one twice, or
-/// one in front of lower ones on its page and on the page before; and one that may not be there.
+/// Right ones on one page and on two; one that says another total, lacks an entry, has one twice,
+/// or one in front of lower ones on its page and on the page before; and one that may not be there.
 #[test]
 fn entries_are_those_of_the_rows(rt: HostRuntime) -> Result<(), Fail> {
     let alloc = rt.alloc();

@@ -5,8 +5,8 @@ use row_faults::{insert_names_twice, insert_row_pages, read_rows};
 use std::alloc::Global;
 use std::test::Fail;
 
-/// Pages of rows: 200 has a and b, 201 has b, 203 has a, and 204 has x twice; 206, 207 and 208 have y
-/// each. Page 202 has a row without a name, and 205 has other first bytes.
+/// Pages of rows: 200 has a and b, 201 has b, 203 has a, and 204 has x twice; 206, 207 and 208 have
+/// y each. Page 202 has a row without a name, and 205 has other first bytes.
 const PAGES: &str = "\
 200 44495250 1200 0200 0000000000000000 020000000100010161 030000000100010162
 201 44495250 0900 0100 0000000000000000 040000000100010162
