@@ -1,5 +1,5 @@
-//! Laws of what a domain keeps in memory beside its pages, each the contract of a function without a
-//! body.
+//! Laws of what a domain keeps in memory beside its pages, each the contract of a function without
+//! a body.
 #![tactic(auto)]
 
 mod sets;

@@ -13,9 +13,9 @@ ghost use Rattle.domain_layout.specs.Owners.{frame_of};
 ghost use Rattle.domain_layout.specs.TagRules.{HasTags};
 ghost use Rattle.attaching_laws.specs.Space.{AreCellsOf, IsSpaceOf};
 
-/// Where no rule is broken and the log stands behind the first pages of its volume, the files of what
-/// is in a slot, also of a fileset that is being removed, belong together with the free space and the
-/// free cells that the pages say.
+/// Where no rule is broken and the log stands behind the first pages of its volume, the files of
+/// what is in a slot, also of a fileset that is being removed, belong together with the free space
+/// and the free cells that the pages say.
 pub fn files_belong_together()
     ensures { (pages : Pages) (layout : Layout) (space : Spaces) (cells : Cells) (number : ℕ)
         (first : Home) (chains : Chains) → IsLayout pages layout

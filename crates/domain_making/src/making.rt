@@ -45,8 +45,8 @@ fn fault_of(fault: SlotFault) -> MakeFault
 /// gone as soon as the first gate is closed.
 ///
 /// No image that a stop may leave at the start may have an anchor that counts on another volume.
-/// `VolumeSmall` comes exactly where volume 1 has fewer than 160 pages, and `Fault` where a call of
-/// volume 1 failed. Nothing is written at `VolumeSmall`, nor at `OutOfMemory`.
+/// `VolumeSmall` comes exactly where volume 1 has fewer than 160 pages, and `Fault` where one call
+/// of the volume that it names failed. Nothing is written at `VolumeSmall`, nor at `OutOfMemory`.
 pub fn make_domain<R: Rack>(
     alloc: Global,
     rack: &mut R,

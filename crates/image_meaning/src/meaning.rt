@@ -103,8 +103,8 @@ fn meaning_of_fault(fault: &RecoverFault) -> Result<Meaning, ReadFault>
 /// Tells what the volumes of a rack mean as they stand there, by what they hold alone. It writes
 /// nothing.
 ///
-/// `Fault` comes where a read of that volume failed: its count of read faults has risen then, and no
-/// other. Nothing is known of the meaning then, nor where no memory could be had.
+/// `Fault` comes where a read of that volume failed: its count of read faults has risen then, and
+/// no other. Nothing is known of the meaning then, nor where no memory could be had.
 pub fn read_image<R: Rack>(alloc: Global, rack: &mut R) -> Result<Meaning, ReadFault>
     ensures reads { OnlyReads (R.disk rack.old) (R.disk rack.new) }
     ensures meaning { let old = R.disk rack.old in IfOk result (λ meaning. Tells old
