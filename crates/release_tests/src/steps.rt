@@ -325,7 +325,7 @@ fn nothing_goes_where_a_clone_finds_no_room(rt: HostRuntime) -> Result<(), Fail>
 }
 
 #[test]
-fn a_call_goes_on_where_the_one_before_it_was_though_a_file_was_made(
+fn a_second_call_goes_on_without_starting_over_though_a_file_was_made(
     rt: HostRuntime,
 ) -> Result<(), Fail> {
     let seen = nine_files(rt.alloc())?;
