@@ -1,6 +1,7 @@
 -- What is known of the set once a call has ended.
-use Rattle.std.proofs.Common.{◌≡◌, ℕ, List, Result, Ok, Err, IfOk, IfErr, OnOk, OnErr, subst, sym}
-use Rattle.page_store.specs.Bitfiles.{Bitfiles}
+use Rattle.std.proofs.Common.{◌≡◌, ℕ, List, Result, Ok, Err, IfOk, IfErr, OnOk, OnErr, subst, sym, Option, Some, None, IsSome, IsSomeAnd, refl}
+use Rattle.domain_base.specs.declared.place.Kind.TheVariants.{Directory}
+use Rattle.page_store.specs.Bitfiles.{Bitfile, Bitfiles}
 use Rattle.page_store.specs.Pages.{Pages}
 use Rattle.tag_dirs.specs.declared.dir.TagPlace.{TagPlace}
 use Rattle.free_cells.specs.Cells.{Cells}
@@ -33,6 +34,10 @@ on_err_both f (Err e) a b = f a b
 pub at_ends : {X E A N : Type 0} {B : E → Type 0} → (A → N) → ((e : E) → B e → N) → (r : Result X E) → OnOk r A → IfErr r B → N
 at_ends ok err (Ok x) a b = ok a
 at_ends ok err (Err e) a b = err e b
+
+pub is_there : (o : Option Bitfile) → IsSomeAnd o (λ file. file.kind ≡ Directory) → IsSome o
+is_there None directory = absurd directory
+is_there (Some file) directory = refl
 
 pub always_err : {X E B : Type 0} → B → (r : Result X E) → OnErr r B
 always_err b (Ok x) = tt

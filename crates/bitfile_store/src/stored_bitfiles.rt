@@ -57,7 +57,7 @@ impl<M: MetaPages> StoredBitfiles<M> {
     /// Says of a directory in which one it stands. What is shown of the files stays. After an error
     /// nothing has changed.
     pub fn set_parent(&mut self, alloc: Global, tag: Tag, parent: Tag) -> Result<(), OutOfMemory>
-        requires { IsSome (⟦<StoredBitfiles<M> as BitfileSet>⟧.files self.old tag) }
+        requires { IsDirectory (⟦<StoredBitfiles<M> as BitfileSet>⟧.files self.old) tag }
         ensures files { ⟦<StoredBitfiles<M> as BitfileSet>⟧.files self.new
             ≡ ⟦<StoredBitfiles<M> as BitfileSet>⟧.files self.old }
         ensures says { (chains : Chains) → AreTogether self.old.parts.files.fileset
@@ -171,6 +171,7 @@ impl<M: MetaPages> BitfileSet for StoredBitfiles<M> {
     }
 
     fn make(&mut self, alloc: Global, kind: Kind, uid: u32, gid: u32) -> Result<Tag, StoreFault> {
+        // so that the count is known to be one of 64 bits
         let _ = self.parts.space.misses();
         make(
             alloc,

@@ -1,7 +1,7 @@
 use Rattle.std.proofs.Common.{refl}
 use Rattle.stored_set.proofs.Live.{live_any}
 use Rattle.bitfile_store.specs.Shown.{shown, shown_is, shown_stands}
-use Rattle.bitfile_store.proofs.Held.{both_ends, still}
+use Rattle.bitfile_store.proofs.Held.{both_ends, is_there, still}
 use Rattle.bitfile_store.proofs.ParentSaid.{put_in_stands}
 use Rattle.bitfile_store.proofs.Rests.{kept}
 use Rattle.bitfile_store.proofs.stored_bitfiles.StoredBitfiles.set_parent.Goals as goal
@@ -18,7 +18,7 @@ set_parent-requires-clause-live g c = λ chains are.
     let set = c.args.self.now in
     let pages = g.M.MetaPages.pages set.parts.pages in
     let was = (shown_stands set.parts.files.fileset set.parts.files.tags set.parts.space set.parts.cells pages set.held) in
-    live_any set.parts.files.fileset set.parts.files.tags set.parts.space set.parts.cells pages _ was c.args.tag c.requires chains are
+    live_any set.parts.files.fileset set.parts.files.tags set.parts.space set.parts.cells pages _ was c.args.tag (is_there _ c.requires) chains are
 
 pub invariant_of-self : goal.invariant_of-self
 invariant_of-self g c =
