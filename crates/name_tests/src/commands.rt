@@ -3,7 +3,7 @@
 use crate::reading::{Row, Verb};
 
 /// Names that are listed in the order of their bytes.
-pub(crate) static ORDERED: [Row; 17] = [
+pub static ORDERED: [Row; 17] = [
     (Verb::Mkdir, "/b", "", "ok"),
     (Verb::Create, "/a", "", "ok"),
     (Verb::Create, "/ab", "", "ok"),
@@ -24,7 +24,7 @@ pub(crate) static ORDERED: [Row; 17] = [
 ];
 
 /// Which refusal comes where a file or a directory is made.
-pub(crate) static MAKING: [Row; 17] = [
+pub static MAKING: [Row; 17] = [
     (Verb::Create, "/f", "", "ok"),
     (Verb::Mkdir, "/d", "", "ok"),
     (Verb::Create, "/x/y", "", "no-path"),
@@ -45,7 +45,7 @@ pub(crate) static MAKING: [Row; 17] = [
 ];
 
 /// Which refusal comes where a name is removed, and that each goes at last.
-pub(crate) static REMOVING: [Row; 19] = [
+pub static REMOVING: [Row; 19] = [
     (Verb::Create, "/f", "", "ok"),
     (Verb::Mkdir, "/d", "", "ok"),
     (Verb::Mkdir, "/d/e", "", "ok"),
@@ -68,7 +68,7 @@ pub(crate) static REMOVING: [Row; 19] = [
 ];
 
 /// Which refusal comes where a name is moved; nothing has moved then.
-pub(crate) static RENAMING: [Row; 27] = [
+pub static RENAMING: [Row; 27] = [
     (Verb::Create, "/f", "", "ok"),
     (Verb::Create, "/g", "", "ok"),
     (Verb::Mkdir, "/d", "", "ok"),
@@ -99,7 +99,7 @@ pub(crate) static RENAMING: [Row; 27] = [
 ];
 
 /// Which refusal comes where a path is added to a file, and where paths are counted.
-pub(crate) static LINKING: [Row; 13] = [
+pub static LINKING: [Row; 13] = [
     (Verb::Mkdir, "/d", "", "ok"),
     (Verb::Create, "/a", "", "ok"),
     (Verb::Link, "/x", "/b", "no-path"),
@@ -116,7 +116,7 @@ pub(crate) static LINKING: [Row; 13] = [
 ];
 
 /// Files that move, onto others and into directories and back.
-pub(crate) static FILE_MOVES: [Row; 13] = [
+pub static FILE_MOVES: [Row; 13] = [
     (Verb::Create, "/a", "", "ok"),
     (Verb::Create, "/b", "", "ok"),
     (Verb::Rename, "/a", "/b", "ok"),
@@ -133,7 +133,7 @@ pub(crate) static FILE_MOVES: [Row; 13] = [
 ];
 
 /// Directories that move onto others which have no row.
-pub(crate) static DIRECTORY_MOVES: [Row; 15] = [
+pub static DIRECTORY_MOVES: [Row; 15] = [
     (Verb::Mkdir, "/d", "", "ok"),
     (Verb::Mkdir, "/d/e", "", "ok"),
     (Verb::Mkdir, "/x", "", "ok"),
@@ -152,7 +152,7 @@ pub(crate) static DIRECTORY_MOVES: [Row; 15] = [
 ];
 
 /// What stands below a directory moves with it.
-pub(crate) static CHILDREN: [Row; 21] = [
+pub static CHILDREN: [Row; 21] = [
     (Verb::Mkdir, "/d", "", "ok"),
     (Verb::Mkdir, "/d/e", "", "ok"),
     (Verb::Create, "/d/e/f", "", "ok"),
@@ -177,7 +177,7 @@ pub(crate) static CHILDREN: [Row; 21] = [
 ];
 
 /// Names that move to where they are.
-pub(crate) static SAME_PATHS: [Row; 7] = [
+pub static SAME_PATHS: [Row; 7] = [
     (Verb::Mkdir, "/d", "", "ok"),
     (Verb::Create, "/d/a", "", "ok"),
     (Verb::Rename, "/d/a", "/d/a", "ok"),
@@ -188,7 +188,7 @@ pub(crate) static SAME_PATHS: [Row; 7] = [
 ];
 
 /// A file of two paths, of which one goes after the other.
-pub(crate) static TWO_PATHS: [Row; 11] = [
+pub static TWO_PATHS: [Row; 11] = [
     (Verb::Create, "/a", "", "ok"),
     (Verb::Link, "/a", "/b", "ok"),
     (Verb::Links, "/b", "", "2"),
@@ -203,7 +203,7 @@ pub(crate) static TWO_PATHS: [Row; 11] = [
 ];
 
 /// Paths of one file in a directory that moves.
-pub(crate) static BELOW: [Row; 18] = [
+pub static BELOW: [Row; 18] = [
     (Verb::Create, "/a", "", "ok"),
     (Verb::Mkdir, "/d", "", "ok"),
     (Verb::Link, "/a", "/d/a", "ok"),

@@ -5,7 +5,7 @@ use domain_base::OutOfMemory;
 use std::alloc::Global;
 
 /// Paths of the numbers below a count.
-pub(crate) fn numbered(alloc: Global, count: u32) -> Result<Vec<String>, OutOfMemory> {
+pub fn numbered(alloc: Global, count: u32) -> Result<Vec<String>, OutOfMemory> {
     let mut paths = Vec::new(alloc);
     for number in 0..count {
         paths.push(format!(in alloc; "/l{number}")?)?;
@@ -14,7 +14,7 @@ pub(crate) fn numbered(alloc: Global, count: u32) -> Result<Vec<String>, OutOfMe
 }
 
 /// The same with names of 255 bytes.
-pub(crate) fn wide(alloc: Global, count: u32) -> Result<Vec<String>, OutOfMemory> {
+pub fn wide(alloc: Global, count: u32) -> Result<Vec<String>, OutOfMemory> {
     let mut paths = Vec::new(alloc);
     for number in 0..count {
         paths.push(format!(in alloc; "/{number:0255}")?)?;
@@ -23,7 +23,7 @@ pub(crate) fn wide(alloc: Global, count: u32) -> Result<Vec<String>, OutOfMemory
 }
 
 /// Paths of one name, of two, and so on, so many, each within the one before.
-pub(crate) fn nested(alloc: Global, count: u32) -> Result<Vec<String>, OutOfMemory> {
+pub fn nested(alloc: Global, count: u32) -> Result<Vec<String>, OutOfMemory> {
     let mut paths = Vec::new(alloc);
     let mut path = String::new(alloc);
     for _ in 0..count {
@@ -34,7 +34,7 @@ pub(crate) fn nested(alloc: Global, count: u32) -> Result<Vec<String>, OutOfMemo
 }
 
 /// A file, further paths of it, and one more, which is refused.
-pub(crate) fn linking<'a>(alloc: Global, paths: &'a [String]) -> Result<Vec<Row<'a>>, OutOfMemory> {
+pub fn linking<'a>(alloc: Global, paths: &'a [String]) -> Result<Vec<Row<'a>>, OutOfMemory> {
     let mut rows: Vec<Row<'a>> = Vec::new(alloc);
     rows.push((Verb::Create, "/a", "", "ok"))?;
     for path in paths {
@@ -45,7 +45,7 @@ pub(crate) fn linking<'a>(alloc: Global, paths: &'a [String]) -> Result<Vec<Row<
 }
 
 /// Files at the paths, and a row behind them.
-pub(crate) fn making<'a>(
+pub fn making<'a>(
     alloc: Global,
     paths: &'a [String],
     last: Row<'a>,
@@ -59,7 +59,7 @@ pub(crate) fn making<'a>(
 }
 
 /// Directories at the paths, and a list of each.
-pub(crate) fn nesting<'a>(alloc: Global, paths: &'a [String]) -> Result<Vec<Row<'a>>, OutOfMemory> {
+pub fn nesting<'a>(alloc: Global, paths: &'a [String]) -> Result<Vec<Row<'a>>, OutOfMemory> {
     let mut rows: Vec<Row<'a>> = Vec::new(alloc);
     for path in paths {
         rows.push((Verb::Mkdir, path.as_str(), "", "ok"))?;

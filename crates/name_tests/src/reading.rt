@@ -6,7 +6,7 @@ use std::alloc::Global;
 
 /// What a command does.
 #[derive(Clone, Copy)]
-pub(crate) enum Verb {
+pub enum Verb {
     Create,
     Mkdir,
     Unlink,
@@ -18,7 +18,7 @@ pub(crate) enum Verb {
 }
 
 /// A command, its path, the second path where it has one, and what is answered.
-pub(crate) type Row<'a> = (Verb, &'a str, &'a str, &'a str);
+pub type Row<'a> = (Verb, &'a str, &'a str, &'a str);
 
 /// The name of the one fileset.
 pub(crate) fn home(alloc: Global) -> Result<FilesetName, OutOfMemory> {
@@ -26,7 +26,7 @@ pub(crate) fn home(alloc: Global) -> Result<FilesetName, OutOfMemory> {
 }
 
 /// The path whose names stand behind a `/` each; `/` alone is the root's.
-pub(crate) fn path(alloc: Global, text: &str) -> Result<Path, OutOfMemory> {
+pub fn path(alloc: Global, text: &str) -> Result<Path, OutOfMemory> {
     let mut names = Vec::new(alloc);
     for name in text.split('/') {
         if !name.is_empty() {

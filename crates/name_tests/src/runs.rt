@@ -106,7 +106,7 @@ fn is_answered<S: BitfileSet>(
 }
 
 /// Whether each row of a table is answered as it says.
-pub(crate) fn answers_all<S: BitfileSet>(
+pub fn answers_all<S: BitfileSet>(
     set: &mut S,
     alloc: Global,
     table: &[Row],
