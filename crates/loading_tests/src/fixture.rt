@@ -1,5 +1,5 @@
-//! A domain of version 4 on one volume of 512 pages: its bitmap is page 2, its cells begin at page 3,
-//! pages 4 to 131 are the log's, and its fileset table stands at page 132.
+//! A domain of version 4 on one volume of 512 pages: its bitmap is page 2, its cells begin at page
+//! 3, pages 4 to 131 are the log's, and its fileset table stands at page 132.
 ghost use Rattle.std.specs.Prelude.{IsTrue};
 ghost use Rattle.loading_tests.specs.Members.{HasMember};
 ghost use Rattle.log_ring.specs.Homes.{HasMembers};
@@ -96,8 +96,8 @@ fn write_page<R: Rack>(rack: &mut R, number: u32, page: &Page) -> bool {
         .is_ok()
 }
 
-/// A rack with these pages: how each begins, where it stands, and to which it leads. All other bytes
-/// are zeros. Calls with these numbers fail; each page that is written here is one call.
+/// A rack with these pages: how each begins, where it stands, and to which it leads. All other
+/// bytes are zeros. Calls with these numbers fail; each page that is written here is one call.
 pub fn rack_with(
     alloc: Global,
     rows: &[([u8; 4], u32, u32)],

@@ -46,8 +46,7 @@ fn read_page<R: Rack>(alloc: Global, rack: &mut R, home: &Home) -> Result<Page, 
     }
 }
 
-/// Reads the page at a home, which is a member's, and puts it there. After an error no page was
-/// brought.
+/// Reads the page at a home, which is a member's, and puts it there.
 fn bring<R: Rack, M: MetaPages>(
     alloc: Global,
     rack: &mut R,
@@ -69,7 +68,7 @@ fn bring<R: Rack, M: MetaPages>(
 }
 
 /// Sees to it that the page at a home of a member is there: where it is not, it is read from its
-/// volume. After an error no page was brought.
+/// volume.
 #[tactic(auto, using(crate::proofs::Brought::brings_none, crate::proofs::Brought::on_rack))]
 pub fn fetch<R: Rack, M: MetaPages>(
     alloc: Global,
