@@ -10,8 +10,9 @@ use Rattle.metadata_loading.specs.Loading.{HasBitmaps, HasCells, HasTagPages}
 use Rattle.table_faults.specs.declared.reading.TableRead.{TableRead}
 use Rattle.table_faults.specs.declared.reading.TableRead.TheVariants.{There}
 
--- the page of the fileset table, where it is one of a member; and where it breaks no rule, each page
--- of cells and of tag directories at which rules look, and of bitmaps as far as they are a member's
+-- the page of the fileset table, where it is one of a member; and where it breaks no rule, each
+-- page of cells and of tag directories at which rules look, and of bitmaps as far as they are a
+-- member's
 pub record HasTables (pages : Pages) (frame : Frame) : Type 0 where
   pub table : (home : Home) → frame.anchor.table ≡ Some home → IsWithin frame home
       → IsSome (pages home)

@@ -83,9 +83,9 @@ fn load_behind<R: Rack, M: MetaPages>(
     load_named(alloc, rack, frame, read, pages)
 }
 
-/// Brings the page of the fileset table, and where it breaks no rule the pages of bitmaps and cells,
-/// and of the tag directories of the table that it says. It answers what was read of that page.
-/// After an error some of the pages may have been brought.
+/// Brings the page of the fileset table, and where it breaks no rule the pages of bitmaps and
+/// cells, and of the tag directories of the table that it says. It answers what was read of that
+/// page. After an error some of the pages may have been brought.
 pub fn load_tables<R: Rack, M: MetaPages>(
     alloc: Global,
     rack: &mut R,
