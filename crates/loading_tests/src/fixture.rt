@@ -85,7 +85,7 @@ pub fn led_page(alloc: Global, magic: &[u8; 4], next: u32) -> Result<Page, OutOf
 }
 
 /// Puts bytes at a page of volume 1, if the rack has it.
-fn write_page<R: Rack>(rack: &mut R, number: u32, page: &Page) -> bool {
+pub fn write_page<R: Rack>(rack: &mut R, number: u32, page: &Page) -> bool {
     let Some(vol) = VolIx::new(1) else {
         return false;
     };

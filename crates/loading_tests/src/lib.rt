@@ -2,6 +2,8 @@
 #![tactic(auto)]
 
 #[cfg(test)]
+mod domain;
+#[cfg(test)]
 mod fixture;
 #[cfg(test)]
 mod tables;

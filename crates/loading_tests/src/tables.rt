@@ -51,7 +51,7 @@ fn tags<R: Rack>(
 }
 
 /// A table with a fileset that is being removed, whose tags begin at a page.
-fn table_with(alloc: Global, first: u32) -> Result<FilesetTable, Fail> {
+pub fn table_with(alloc: Global, first: u32) -> Result<FilesetTable, Fail> {
     let mut of = FilesetTable::new(alloc)?;
     let removed = SlotItem::Removed {
         first_tag: Some(home(first)),
