@@ -1,0 +1,5 @@
+pub mod Bits
+pub mod Spaces
+pub mod OneTable
+pub mod Reading
+pub mod AllTables
