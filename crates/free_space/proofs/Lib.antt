@@ -1,5 +1,8 @@
 pub mod Apart
+pub mod Changing
 pub mod Due
+pub mod Keeping
+pub mod Kept
 pub mod Mapping
 pub mod Places
 pub mod Releasing

@@ -12,7 +12,7 @@ use Rattle.storage_bitmap.proofs.Used.{contains-inserted, contains-removed}
 use Rattle.free_space.specs.declared.waiting.Waiting.{Waiting}
 use Rattle.free_space.specs.declared.waiting.PageUse.{PageUse}
 use Rattle.free_space.specs.declared.waiting.PageUse.TheVariants.{Data}
-use Rattle.free_space.specs.VolumeSpace.{without_due, still_waiting, is_among, is_due, VolumeSpace, IsFreePage, AreFreePages, volume_pages, insert_run}
+use Rattle.free_space.specs.VolumeSpace.{without_due, still_waiting, is_among, is_due, VolumeSpace, IsFreePage, AreFreePages, volume_pages, insert_run, with_run}
 use Rattle.free_space.specs.Sound.{IsSound, IsSoundVolume, same_page}
 use Rattle.free_space.proofs.Apart.{length_le_len, len_le, apart_push, among_push, among_filter, apart_filter}
 use Rattle.free_space.proofs.Due.{contains-without_due, due_at, due_not_still}
@@ -155,6 +155,16 @@ one_page {v} {p} is = record {
   within = omega (arith, is.within);
   free = λ q after before. let same : q ≡ p = omega arith in subst (λ x. IsFreePage v x) (sym same) is;
 }
+
+-- the page behind so many of a free run that were taken is free still
+pub next_of_run : (v : VolumeSpace) (p count i : ℕ) → AreFreePages v p count → i < count → IsFreePage (with_run p i v) (p + i)
+next_of_run v p count i are within =
+    let free = are.free (p + i) (omega arith) (omega arith) in
+    record {
+      within = free.within;
+      unused = contains-run v.pages v.used p i (p + i) (inr (omega arith)) ∙ free.unused;
+      settled = free.settled;
+    }
 
 -- ---- all volumes
 

@@ -1,10 +1,12 @@
 -- The free space of a domain's volumes.
-use Rattle.std.specs.Prelude.{◌≡◌, ℕ, ◌+◌, ◌-◌, ◌^◌, true, false, min, List, length, map, slice_set, slice_index_or, Option, Some, None, IsSomeAnd, if◌then◌else◌, replicate, refl}
+use Rattle.std.specs.Prelude.{◌≡◌, ℕ, ◌+◌, ◌-◌, ◌^◌, true, false, nat_eq, min, List, [], ◌++◌, length, map, slice_set, slice_index_or, Option, Some, None, IsSomeAnd, if◌then◌else◌, replicate, refl}
 use Rattle.std.specs.Coded.{Coded, code_by, coded×, coded_ℕ, coded_list, coded_option}
 use Rattle.std.specs.Option.{option_map}
-use Rattle.std.specs.FinSet.{len, contains}
+use Rattle.std.specs.List.{IsDistinct}
+use Rattle.std.specs.FinSet.{len, contains, from_list, difference}
 use Rattle.storage_bitmap.specs.VolumePages.{IsLongestRun}
-use Rattle.free_space.specs.VolumeSpace.{VolumeSpace, volume_space_code, IsFreePage, AreFreePages, volume_pages, is_waiting}
+use Rattle.free_space.specs.declared.waiting.Waiting.{Waiting}
+use Rattle.free_space.specs.VolumeSpace.{VolumeSpace, volume_space_code, IsFreePage, AreFreePages, volume_pages, is_waiting, as_kept}
 
 -- the volumes that are there, volume k at place k - 1, and how often no page was found
 pub record Spaces : Type 0 where
@@ -34,6 +36,27 @@ change_volume change s vol = with_volume (option_map change (volume_of s vol)) s
 -- each volume is changed
 abbrev pub change_volumes : (VolumeSpace → VolumeSpace) → Spaces → Spaces
 change_volumes change s = record s { volumes = map (option_map change) s.volumes }
+
+-- the volumes as they were kept
+abbrev pub kept_spaces : Spaces → Spaces
+kept_spaces s = change_volumes as_kept s
+
+-- these are the pages of the volume that are used and were not when it was kept, each once
+abbrev pub AreTakenOn : Option VolumeSpace → List ℕ → Type 0
+AreTakenOn None pages = pages ≡ []
+AreTakenOn (Some v) pages =
+    (from_list pages ≡ difference v.used v.kept_used) × IsDistinct nat_eq pages
+
+-- these are those that are free and were used, each once
+abbrev pub AreFreedOn : Option VolumeSpace → List ℕ → Type 0
+AreFreedOn None pages = pages ≡ []
+AreFreedOn (Some v) pages =
+    (from_list pages ≡ difference v.kept_used v.used) × IsDistinct nat_eq pages
+
+-- these have come to wait on the volume since it was kept, behind those that waited then
+abbrev pub AreGivenBackOn : Option VolumeSpace → List Waiting → Type 0
+AreGivenBackOn None waiting = waiting ≡ []
+AreGivenBackOn (Some v) waiting = v.waiting ≡ v.kept_waiting ++ waiting
 
 -- page p of the volume is free
 abbrev pub IsFree : Spaces → ℕ → ℕ → Type 0

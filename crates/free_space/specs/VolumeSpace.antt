@@ -9,12 +9,15 @@ use Rattle.free_space.specs.declared.waiting.Waiting.{Waiting}
 use Rattle.free_space.specs.declared.waiting.PageUse.{PageUse}
 use Rattle.free_space.specs.declared.waiting.PageUse.TheVariants.{Data, Metadata}
 
--- a volume's pages, whether pages are taken from it, its used pages, and those of them that wait
+-- a volume's pages, whether pages are taken from it, its used pages, and those of them that wait;
+-- and which were used and which waited when that was last kept
 pub record VolumeSpace : Type 0 where
   pub pages : ℕ
   pub is_open : Bool
   pub used : FinSet nat_cmp
   pub waiting : List Waiting
+  pub kept_used : FinSet nat_cmp
+  pub kept_waiting : List Waiting
 
 -- whether two uses are one
 abbrev pub same_use : PageUse → PageUse → Bool
@@ -36,21 +39,41 @@ waiting_code = coded_list (code_by (ℕ × (PageUse × ℕ)) (coded× coded_ℕ 
     (λ w. (w.page, (w.kind, w.group)))
     (λ p. record { page = p.0; kind = p.1.0; group = p.1.1 }) (λ _. refl))
 
+abbrev PagesInUse : Type 0
+PagesInUse = FinSet nat_cmp × List Waiting
+
+abbrev in_use_code : Coded PagesInUse
+in_use_code = coded× (code coded_ℕ) waiting_code
+
 abbrev pub volume_space_code : Coded VolumeSpace
 volume_space_code =
-    code_by ((ℕ × Bool) × (FinSet nat_cmp × List Waiting))
-    (coded× (coded× coded_ℕ coded_bool) (coded× (code coded_ℕ) waiting_code))
-    (λ v. ((v.pages, v.is_open), (v.used, v.waiting)))
-    (λ p. record { pages = p.0.0; is_open = p.0.1; used = p.1.0; waiting = p.1.1 })
+    code_by ((ℕ × Bool) × (PagesInUse × PagesInUse))
+    (coded× (coded× coded_ℕ coded_bool) (coded× in_use_code in_use_code))
+    (λ v. ((v.pages, v.is_open), ((v.used, v.waiting), (v.kept_used, v.kept_waiting))))
+    (λ p. record {
+      pages = p.0.0;
+      is_open = p.0.1;
+      used = p.1.0.0;
+      waiting = p.1.0.1;
+      kept_used = p.1.1.0;
+      kept_waiting = p.1.1.1;
+    })
     (λ _. refl)
 
 -- its pages and the used ones, as a bitmap has them
 abbrev pub volume_pages : VolumeSpace → VolumePages
 volume_pages v = record { pages = v.pages; used = v.used }
 
--- a volume that was just added with this map: it is open, and no page of it waits
+-- a volume that was just added with this map: it is open, no page of it waits, and so it is kept
 abbrev pub added : VolumePages → VolumeSpace
-added m = record { pages = m.pages; is_open = true; used = m.used; waiting = [] }
+added m = record {
+  pages = m.pages;
+  is_open = true;
+  used = m.used;
+  waiting = [];
+  kept_used = m.used;
+  kept_waiting = [];
+}
 
 -- whether page p is among those that wait
 abbrev pub is_among : List Waiting → ℕ → Bool
@@ -105,9 +128,17 @@ without_due used waiting kind group = retain used
 abbrev pub still_waiting : PageUse → ℕ → List Waiting → List Waiting
 still_waiting kind group waiting = filter (λ w. not (is_due kind group w)) waiting
 
--- the pages of that use that wait for that group or one before it are free
+-- what is used and what waits is kept as it is now
+abbrev pub keeping : VolumeSpace → VolumeSpace
+keeping v = record v { kept_used = v.used; kept_waiting = v.waiting }
+
+-- the volume as it was kept; whether it is open is not kept
+abbrev pub as_kept : VolumeSpace → VolumeSpace
+as_kept v = record v { used = v.kept_used; waiting = v.kept_waiting }
+
+-- the pages of that use that wait for that group or one before it are free, and that is kept
 abbrev pub with_released : PageUse → ℕ → VolumeSpace → VolumeSpace
-with_released kind group v = record v {
+with_released kind group v = keeping (record v {
   used = without_due v.used v.waiting kind group;
   waiting = still_waiting kind group v.waiting;
-}
+})

@@ -1,12 +1,12 @@
 //! The free space of a domain.
 ghost use Rattle.std.specs.Prelude.{◌≡◌, ℕ, ◌+◌, ◌<◌, ◌≤◌, ◌^◌, ◌↔◌, true, false, None, Some, List, length, sum_by, IfOk, IfErr, IfSome, IfNone, OnOk, OnErr, IsSomeAnd, MatchBool};
 ghost use Rattle.free_space.specs.declared.waiting.PageUse.TheVariants.{Data, Metadata};
-ghost use Rattle.free_space.specs.VolumeSpace.{added, with_page, with_run, without_page, with_open, with_waiting, with_released};
+ghost use Rattle.free_space.specs.VolumeSpace.{added, with_page, with_run, without_page, with_open, with_waiting, keeping, with_released};
 ghost use Rattle.free_space.specs.Sound.{AreSound};
-ghost use Rattle.free_space.specs.Spaces.{no_spaces, volume_of, with_volume, change_volume, change_volumes, IsFree, CanTake, CanTakeRun, IsHeld, missed, free_pages, waiting_pages, held_pages, IsLongestOn};
+ghost use Rattle.free_space.specs.Spaces.{no_spaces, volume_of, with_volume, change_volume, change_volumes, kept_spaces, AreTakenOn, AreFreedOn, AreGivenBackOn, IsFree, CanTake, CanTakeRun, IsHeld, missed, free_pages, waiting_pages, held_pages, IsLongestOn};
 
-use crate::PageUse;
 use crate::volume::Volume;
+use crate::{PageUse, Waiting};
 use domain_base::limits::MAX_VOLUMES;
 use domain_base::{Home, OutOfMemory, VolIx};
 use std::alloc::Global;
@@ -50,9 +50,10 @@ impl FreeSpace {
         Ok(FreeSpace { volumes, misses: 0 })
     }
 
-    /// Adds a volume with this bitmap of at most 1,048,576 pages, open and with no page that waits.
-    /// It takes the room for each of its pages to wait. Where memory is short the bitmap comes
-    /// back, and nothing changes.
+    /// Adds a volume with this bitmap of at most 1,048,576 pages, open and with no page that waits,
+    /// and keeps it so. It takes the room for each of its pages to wait, and to be taken or freed
+    /// before that is kept, 24 bytes for a page, so that no later call takes memory. Where memory is
+    /// short the bitmap comes back, and nothing changes.
     pub fn add_volume(
         &mut self,
         alloc: Global,
@@ -188,7 +189,8 @@ impl FreeSpace {
         self.misses
     }
 
-    /// This group, and so each before it, is durable: the data pages that wait for it are free.
+    /// This group, and so each before it, is durable: the data pages that wait for it are free,
+    /// and that is kept, as all that has changed before.
     pub fn made_durable(&mut self, group: u64)
         ensures { self.new ≡ change_volumes (with_released Data group) self.old }
     {
@@ -196,7 +198,7 @@ impl FreeSpace {
     }
 
     /// The start of the log has passed this group, and so each before it: the metadata pages that
-    /// wait for it are free.
+    /// wait for it are free, and that is kept, as all that has changed before.
     pub fn log_passed(&mut self, group: u64)
         ensures { self.new ≡ change_volumes (with_released Metadata group) self.old }
     {
@@ -210,6 +212,64 @@ impl FreeSpace {
             if let Some(volume) = slot {
                 volume.release(kind, group);
             }
+        }
+    }
+
+    /// Keeps what is used and what waits on each volume as it is now.
+    pub fn keep(&mut self)
+        ensures { self.new ≡ change_volumes keeping self.old }
+    {
+        for slot in self.volumes.iter_mut() {
+            if let Some(volume) = slot {
+                volume.keep();
+            }
+        }
+    }
+
+    /// Brings back what was used and what waited on each volume when that was last kept: since
+    /// then, or since the volume was added, or its waiting pages were freed. It takes no memory,
+    /// and no longer than the changes since then are many. Misses stay counted, and a volume that
+    /// was closed or activated since stays so.
+    pub fn take_back(&mut self)
+        ensures { self.new ≡ kept_spaces self.old }
+    {
+        for slot in self.volumes.iter_mut() {
+            if let Some(volume) = slot {
+                volume.take_back();
+            }
+        }
+    }
+
+    /// The pages of the volume that are used and were not when that was last kept, each once; none
+    /// where the volume is not there.
+    pub fn taken(&self, vol: VolIx) -> &[u32]
+        ensures { AreTakenOn (volume_of self.now vol) result.now }
+    {
+        match &self.volumes[vol.index()] {
+            Some(volume) => volume.taken(),
+            None => &[],
+        }
+    }
+
+    /// The pages of the volume that are free and were used when that was last kept, each once; none
+    /// where the volume is not there. Such a page was freed at once, without waiting.
+    pub fn freed(&self, vol: VolIx) -> &[u32]
+        ensures { AreFreedOn (volume_of self.now vol) result.now }
+    {
+        match &self.volumes[vol.index()] {
+            Some(volume) => volume.freed(),
+            None => &[],
+        }
+    }
+
+    /// The pages that have come to wait on the volume since that was last kept; none where it is
+    /// not there. A page may be taken and given back in one.
+    pub fn given_back(&self, vol: VolIx) -> &[Waiting]
+        ensures { AreGivenBackOn (volume_of self.now vol) result.now }
+    {
+        match &self.volumes[vol.index()] {
+            Some(volume) => volume.given_back(),
+            None => &[],
         }
     }
 

@@ -1,9 +1,11 @@
 //! The free space of one volume.
-ghost use Rattle.std.specs.Prelude.{◌≡◌, ℕ, ◌+◌, ◌-◌, ◌^◌, ◌<◌, ◌≤◌, true, false, length, vec_capacity, IfOk, IfErr, IfSome, IfNone, MatchBool};
-ghost use Rattle.std.specs.FinSet.{contains, len};
+ghost use Rattle.std.specs.Prelude.{◌≡◌, ℕ, ◌+◌, ◌-◌, ◌^◌, ◌<◌, ◌≤◌, true, false, nat_eq, [], ◌∷◌, ◌++◌, if◌then◌else◌, length, vec_capacity, Some, IfOk, IfErr, IfSome, IfNone, MatchBool};
+ghost use Rattle.std.specs.List.{IsDistinct};
+ghost use Rattle.std.specs.FinSet.{contains, len, from_list, union, difference};
 ghost use Rattle.storage_bitmap.specs.VolumePages.{IsLongestRun};
-ghost use Rattle.free_space.specs.VolumeSpace.{added, volume_pages, IsFreePage, AreFreePages, is_waiting, with_page, with_run, without_page, with_open, with_waiting, insert_run, without_due, still_waiting, with_released, is_among};
-ghost use Rattle.free_space.specs.Sound.{IsSoundVolume};
+ghost use Rattle.free_space.specs.VolumeSpace.{added, volume_pages, IsFreePage, AreFreePages, is_waiting, with_page, with_run, without_page, with_open, with_waiting, without_due, still_waiting, keeping, as_kept, with_released, is_among};
+ghost use Rattle.free_space.specs.Sound.{IsSoundVolume, is_one, without};
+ghost use Rattle.free_space.specs.Spaces.{AreTakenOn, AreFreedOn, AreGivenBackOn};
 
 use crate::{PageUse, Waiting};
 use domain_base::OutOfMemory;
@@ -11,20 +13,25 @@ use std::alloc::Global;
 use std::marker::Model;
 use storage_bitmap::Bitmap;
 
-/// One volume's free space. Its bitmap counts pages that wait as used.
+/// One volume's free space. Its bitmap counts pages that wait as used. What was used when it was
+/// last kept is told by the pages that were taken since and are used, and those that were used and
+/// are free now; which pages waited then, by their number, since more come behind them.
 #[derive(Debug, Drop)]
 pub struct Volume {
     map: Bitmap,
     is_open: bool,
     waiting: Vec<Waiting>,
     next: u32,
+    taken: Vec<u32>,
+    freed: Vec<u32>,
+    kept_waiting: usize,
 }
 
 impl Model for Volume {
-    ghost use Rattle.std.specs.Prelude.{◌≡◌};
+    ghost use Rattle.std.specs.Prelude.{◌≡◌, take};
     ghost use Rattle.std.specs.Vec.{vec_capacity};
     ghost use Rattle.free_space.specs.VolumeSpace.{VolumeSpace, volume_space_code};
-    ghost use Rattle.free_space.specs.Sound.{IsKept};
+    ghost use Rattle.free_space.specs.Sound.{used_before, IsKept};
 
     ghost Value = { VolumeSpace };
 
@@ -35,10 +42,13 @@ impl Model for Volume {
       is_open = v.is_open;
       used = v.map.used;
       waiting = v.waiting.items;
+      kept_used = used_before v.map.used v.taken.items v.freed.items;
+      kept_waiting = take v.kept_waiting v.waiting.items;
     } };
 
-    ghost invariant = { λ v. IsKept v.map.pages v.map.used v.waiting.items
-        (vec_capacity v.waiting) };
+    ghost invariant = { λ v. IsKept v.map.pages v.map.used v.waiting.items v.taken.items
+        v.freed.items v.kept_waiting (vec_capacity v.waiting) (vec_capacity v.taken)
+        (vec_capacity v.freed) };
 }
 
 /// Frees the pages of that use that wait for a group up to `group`, and strikes them off the list.
@@ -59,20 +69,77 @@ fn release(map: &mut Bitmap, waiting: &mut Vec<Waiting>, kind: PageUse, group: u
     waiting.retain(|page| !page.is_due(kind, group));
 }
 
-/// Counts `count` pages from page `first` on among the used ones.
-fn set_run(map: &mut Bitmap, first: u32, count: u32)
-    requires within { first + count ≤ map.old.pages }
-    requires small { first + count ≤ 2 ^ 20 }
-    ensures { map.new ≡ record map.old { used = insert_run map.old.used first count } }
+/// Counts each of the pages among the free ones.
+fn clear_each(map: &mut Bitmap, pages: &[u32])
+    requires { (p : ℕ) → is_one pages.now p ≡ true → p < map.old.pages }
+    ensures { map.new ≡ record map.old { used = difference map.old.used (from_list pages.now) } }
 {
-    for offset in 0..count {
-        map.set(first + offset);
+    for page in pages {
+        map.clear(*page);
     }
+}
+
+/// Counts each of the pages among the used ones.
+fn set_each(map: &mut Bitmap, pages: &[u32])
+    requires { (p : ℕ) → is_one pages.now p ≡ true → p < map.old.pages }
+    ensures { map.new ≡ record map.old { used = union map.old.used (from_list pages.now) } }
+{
+    for page in pages {
+        map.set(*page);
+    }
+}
+
+/// Strikes the page off the list, where it is looked for at the end first, and says whether it was
+/// there.
+fn strike(pages: &mut Vec<u32>, page: u32) -> bool
+    requires { IsDistinct nat_eq pages.old.items }
+    ensures found { result ≡ is_one pages.old.items page }
+    ensures struck { pages.new.items ≡ without page pages.old.items }
+    ensures room { vec_capacity pages.new ≡ vec_capacity pages.old }
+{
+    if pages.last().copied() == Some(page) {
+        pages.pop();
+        return true;
+    }
+    let found = pages.contains(&page);
+    if found {
+        pages.retain(|other| *other != page);
+    }
+    found
+}
+
+/// Notes a page that changed: where it is on the list of those that changed the other way it is as
+/// it was, and else it has changed this way.
+fn note(other_way: &mut Vec<u32>, this_way: &mut Vec<u32>, page: u32)
+    requires once { IsDistinct nat_eq other_way.old.items }
+    requires room { length this_way.old.items < vec_capacity this_way.old }
+    ensures struck { other_way.new.items ≡ without page other_way.old.items }
+    ensures listed { this_way.new.items ≡ (if is_one other_way.old.items page
+        then this_way.old.items else this_way.old.items ++ page ∷ []) }
+    ensures rooms { (vec_capacity other_way.new ≡ vec_capacity other_way.old)
+        × (vec_capacity this_way.new ≡ vec_capacity this_way.old) }
+{
+    if !strike(other_way, page) {
+        this_way.push_reserved(page);
+    }
+}
+
+/// The room for each of so many pages to wait, to be taken and to become free.
+fn rooms(alloc: Global, pages: usize) -> Result<(Vec<Waiting>, Vec<u32>, Vec<u32>), OutOfMemory>
+    ensures empty { IfOk result (λ r. (r.0.items ≡ []) × (r.1.items ≡ []) × (r.2.items ≡ [])) }
+    ensures room { IfOk result (λ r. (pages ≤ vec_capacity r.0) × (pages ≤ vec_capacity r.1)
+        × (pages ≤ vec_capacity r.2)) }
+{
+    let waiting = Vec::with_capacity(alloc, pages)?;
+    let taken = Vec::with_capacity(alloc, pages)?;
+    let freed = Vec::with_capacity(alloc, pages)?;
+    Ok((waiting, taken, freed))
 }
 
 impl Volume {
     /// A volume with this bitmap, open and with no page that waits. It has the room for each page
-    /// to wait. Where memory is short the bitmap comes back.
+    /// to wait, and for each to be taken or freed before that is kept: 24 bytes for a page. Where
+    /// memory is short the bitmap comes back.
     pub fn new(alloc: Global, map: Bitmap) -> Result<Self, (Bitmap, OutOfMemory)>
         requires { map.pages ≤ 2 ^ 20 }
         ensures ok { IfOk result (λ v. v ≡ added map) }
@@ -80,8 +147,8 @@ impl Volume {
         ensures err { IfErr result (λ e. e.0 ≡ map) }
     {
         let pages = map.pages() as usize;
-        let waiting = match Vec::with_capacity(alloc, pages) {
-            Ok(room) => room,
+        let (waiting, taken, freed) = match rooms(alloc, pages) {
+            Ok(rooms) => rooms,
             Err(error) => return Err((map, error)),
         };
         Ok(Volume {
@@ -89,6 +156,9 @@ impl Volume {
             is_open: true,
             waiting,
             next: 0,
+            taken,
+            freed,
+            kept_waiting: 0,
         })
     }
 
@@ -99,6 +169,7 @@ impl Volume {
             → ¬ AreFreePages self.now p count) }
         ensures some { IfSome result (λ p. (self.now.is_open ≡ true)
             × AreFreePages self.now p count) }
+        ensures sound { IsSoundVolume self.now }
     {
         if !self.is_open {
             return None;
@@ -112,6 +183,16 @@ impl Volume {
         }
     }
 
+    /// Counts a free page among the used ones.
+    fn take(&mut self, page: u32)
+        requires { IsFreePage self.old page }
+        ensures value { self.new ≡ with_page page self.old }
+        ensures sound { IsSoundVolume self.new }
+    {
+        self.map.set(page);
+        note(&mut self.freed, &mut self.taken, page);
+    }
+
     /// Takes a free page. None where the volume is closed or has none.
     pub fn allocate(&mut self) -> Option<u32>
         ensures none { IfNone result ((p : ℕ) → self.old.is_open ≡ true → ¬ IsFreePage self.old p) }
@@ -121,7 +202,7 @@ impl Volume {
         ensures sound { IsSoundVolume self.new }
     {
         let page = self.find(1)?;
-        self.map.set(page);
+        self.take(page);
         self.next = page + 1;
         Some(page)
     }
@@ -138,7 +219,9 @@ impl Volume {
         ensures sound { IsSoundVolume self.new }
     {
         let first = self.find(count)?;
-        set_run(&mut self.map, first, count);
+        for offset in 0..count {
+            self.take(first + offset);
+        }
         self.next = first + count;
         Some(first)
     }
@@ -152,7 +235,7 @@ impl Volume {
     {
         let free = page < self.map.pages() && !self.map.is_used(page);
         if free {
-            self.map.set(page);
+            self.take(page);
         }
         free
     }
@@ -179,14 +262,61 @@ impl Volume {
         ensures sound { IsSoundVolume self.new }
     {
         self.map.clear(page);
+        note(&mut self.taken, &mut self.freed, page);
     }
 
-    /// Frees the pages of that use that wait for a group up to this one.
+    /// Keeps what is used and what waits as it is now.
+    pub fn keep(&mut self)
+        ensures value { self.new ≡ keeping self.old }
+        ensures sound { IsSoundVolume self.new }
+    {
+        self.taken.clear();
+        self.freed.clear();
+        self.kept_waiting = self.waiting.len();
+    }
+
+    /// Brings back what was used and what waited when that was last kept.
+    pub fn take_back(&mut self)
+        ensures value { self.new ≡ as_kept self.old }
+        ensures sound { IsSoundVolume self.new }
+    {
+        clear_each(&mut self.map, self.taken.as_slice());
+        set_each(&mut self.map, self.freed.as_slice());
+        self.taken.clear();
+        self.freed.clear();
+        self.waiting.truncate(self.kept_waiting);
+    }
+
+    /// The pages that are used and were not when that was last kept, each once.
+    pub fn taken(&self) -> &[u32]
+        ensures { AreTakenOn (Some self.now) result.now }
+    {
+        self.taken.as_slice()
+    }
+
+    /// The pages that are free and were used when that was last kept, each once.
+    pub fn freed(&self) -> &[u32]
+        ensures { AreFreedOn (Some self.now) result.now }
+    {
+        self.freed.as_slice()
+    }
+
+    /// The pages that have come to wait since that was last kept.
+    pub fn given_back(&self) -> &[Waiting]
+        ensures { AreGivenBackOn (Some self.now) result.now }
+    {
+        &self.waiting[self.kept_waiting..]
+    }
+
+    /// Frees the pages of that use that wait for a group up to this one, and keeps that.
     pub fn release(&mut self, kind: PageUse, group: u64)
         ensures value { self.new ≡ with_released kind group self.old }
         ensures sound { IsSoundVolume self.new }
     {
         release(&mut self.map, &mut self.waiting, kind, group);
+        self.taken.clear();
+        self.freed.clear();
+        self.kept_waiting = self.waiting.len();
     }
 
     /// Opens the volume, or closes it.
