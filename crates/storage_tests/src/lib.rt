@@ -4,6 +4,8 @@
 #[cfg(test)]
 mod bitmaps;
 #[cfg(test)]
+mod keeping;
+#[cfg(test)]
 mod pages;
 #[cfg(test)]
 mod records;

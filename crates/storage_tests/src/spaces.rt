@@ -1,5 +1,5 @@
 //! Free space of volumes.
-ghost use Rattle.std.specs.Prelude.{◌≡◌, IfOk};
+ghost use Rattle.std.specs.Prelude.{◌≡◌, ◌≤◌, IfOk};
 
 use domain_base::{Home, OutOfMemory, VolIx};
 use free_space::{FreeSpace, PageUse};
@@ -7,20 +7,22 @@ use std::alloc::Global;
 use std::test::Fail;
 use storage_bitmap::Bitmap;
 
-/// A bitmap of 64 pages whose first pages are used.
-fn used_below(alloc: Global, used: u32) -> Result<Bitmap, OutOfMemory>
-    ensures { IfOk result (λ map. map.pages ≡ 64) }
+/// A bitmap of so many pages, the first of which are used.
+fn used_below(alloc: Global, pages: u32, used: u32) -> Result<Bitmap, OutOfMemory>
+    ensures { IfOk result (λ map. map.pages ≡ pages) }
 {
-    let mut map = Bitmap::new(alloc, 64)?;
-    for page in 0..used.min(64) {
+    let mut map = Bitmap::new(alloc, pages)?;
+    for page in 0..used.min(pages) {
         map.set(page);
     }
     Ok(map)
 }
 
-/// The free space of one volume of 64 pages.
-fn one_volume(alloc: Global, vol: VolIx, used: u32) -> Result<FreeSpace, Fail> {
-    let map = used_below(alloc, used)?;
+/// The free space of one volume of so many pages, the first of which are used.
+pub fn one_volume(alloc: Global, vol: VolIx, pages: u32, used: u32) -> Result<FreeSpace, Fail>
+    requires { pages ≤ 64 }
+{
+    let map = used_below(alloc, pages, used)?;
     let mut space = FreeSpace::new(alloc)?;
     match space.add_volume(alloc, vol, map) {
         Ok(()) => Ok(space),
@@ -29,7 +31,12 @@ fn one_volume(alloc: Global, vol: VolIx, used: u32) -> Result<FreeSpace, Fail> {
 }
 
 /// Takes a page of the volume and lets it wait.
-fn take_and_give_back(space: &mut FreeSpace, vol: VolIx, kind: PageUse, group: u64) -> Option<u32> {
+pub fn take_and_give_back(
+    space: &mut FreeSpace,
+    vol: VolIx,
+    kind: PageUse,
+    group: u64,
+) -> Option<u32> {
     let home = space.allocate_on(vol)?;
     let page = home.page;
     space.give_back(home, kind, group);
@@ -37,7 +44,7 @@ fn take_and_give_back(space: &mut FreeSpace, vol: VolIx, kind: PageUse, group: u
 }
 
 /// Takes a page of the volume and frees it at once.
-fn take_and_leave(space: &mut FreeSpace, vol: VolIx) -> Option<u32> {
+pub fn take_and_leave(space: &mut FreeSpace, vol: VolIx) -> Option<u32> {
     let home = space.allocate_on(vol)?;
     let page = home.page;
     space.unreserve(home);
@@ -58,7 +65,7 @@ fn counts(space: &FreeSpace, vol: VolIx) -> [u32; 4] {
 #[test]
 fn allocation_goes_on_from_where_it_ended(rt: HostRuntime) -> Result<(), Fail> {
     let vol = VolIx::new(3).ok_or("a volume")?;
-    let mut space = one_volume(rt.alloc(), vol, 0)?;
+    let mut space = one_volume(rt.alloc(), vol, 64, 0)?;
     let mut last = None;
     for _ in 0..61 {
         last = take_and_leave(&mut space, vol);
@@ -77,7 +84,7 @@ fn allocation_goes_on_from_where_it_ended(rt: HostRuntime) -> Result<(), Fail> {
 #[test]
 fn a_volume_fills_and_empties(rt: HostRuntime) -> Result<(), Fail> {
     let vol = VolIx::new(2).ok_or("a volume")?;
-    let mut space = one_volume(rt.alloc(), vol, 10)?;
+    let mut space = one_volume(rt.alloc(), vol, 64, 10)?;
     let mut last = None;
     for group in 10..64 {
         last = take_and_give_back(&mut space, vol, PageUse::Data, group);
@@ -99,7 +106,7 @@ fn a_volume_fills_and_empties(rt: HostRuntime) -> Result<(), Fail> {
 #[test]
 fn runs_are_taken_whole(rt: HostRuntime) -> Result<(), Fail> {
     let vol = VolIx::new(2).ok_or("a volume")?;
-    let mut space = one_volume(rt.alloc(), vol, 10)?;
+    let mut space = one_volume(rt.alloc(), vol, 64, 10)?;
     let long = space.allocate_run(vol, 55);
     let whole = space.allocate_run(vol, 54);
     let more = space.allocate_run(vol, 1);
@@ -137,7 +144,7 @@ fn steps(space: &mut FreeSpace) -> [(u32, u32); 6] {
 #[test]
 fn waiting_pages_come_back_in_their_order(rt: HostRuntime) -> Result<(), Fail> {
     let vol = VolIx::new(1).ok_or("a volume")?;
-    let mut space = one_volume(rt.alloc(), vol, 0)?;
+    let mut space = one_volume(rt.alloc(), vol, 64, 0)?;
     let taken = [
         take_and_give_back(&mut space, vol, PageUse::Metadata, 5),
         take_and_give_back(&mut space, vol, PageUse::Data, 5),
@@ -157,7 +164,7 @@ fn waiting_pages_come_back_in_their_order(rt: HostRuntime) -> Result<(), Fail> {
 fn volumes_close_open_and_go(rt: HostRuntime) -> Result<(), Fail> {
     let small = VolIx::new(1).ok_or("a volume")?;
     let other = VolIx::new(8).ok_or("a volume")?;
-    let mut space = one_volume(rt.alloc(), small, 61)?;
+    let mut space = one_volume(rt.alloc(), small, 64, 61)?;
     let first = space.allocate(other);
     space.close_volume(small);
     let closed = space.allocate(small);
