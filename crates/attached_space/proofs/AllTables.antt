@@ -5,7 +5,8 @@ use Rattle.domain_base.specs.declared.place.CellAt.{CellAt}
 use Rattle.page_store.specs.Pages.{Pages}
 use Rattle.log_ring.specs.Homes.{IsMember, member_of}
 use Rattle.free_cells.specs.Belong.{Belong}
-use Rattle.free_cells.specs.Cells.{Cells, Holds, is_closed, is_free, table_of}
+use Rattle.free_cells.specs.Cells.{Cells, Holds, is_closed, is_free, kept_of, table_of}
+use Rattle.free_cells.specs.VolumeTable.{nothing_kept}
 use Rattle.domain_layout.specs.Layout.{IsCellTable, IsLayout, Layout}
 use Rattle.domain_layout.specs.Owners.{frame_of}
 use Rattle.domain_layout.specs.Reached.{Frame, first_cells}
@@ -17,7 +18,7 @@ use Rattle.attached_space.proofs.OneTable.{one_table}
 none_in : (xs : List ℕ) (x : ℕ) → xs ≡ [] → Contains xs x → ⊥
 none_in xs x none (k, within, is) = let e : length xs ≡ 0 = ap (length {A = ℕ}) none in omega (arith, e, within)
 
-pub no_table : (pages : Pages) (frame : Frame) (cells : Cells) → Holds (λ _. []) (λ _. false) (λ _. false) cells → Belong cells pages → AreReadBelow pages frame 1 cells
+pub no_table : (pages : Pages) (frame : Frame) (cells : Cells) → Holds (λ _. []) (λ _. false) (λ _. false) (λ _. nothing_kept) cells → Belong cells pages → AreReadBelow pages frame 1 cells
 no_table pages frame cells holds belong = record {
   read = record {
     belong = belong;
@@ -69,7 +70,7 @@ module _ (pages : Pages) (frame : Frame) (vol : ℕ) (old : Cells) (below : AreR
           }
 
   pub read_closed : (new : Cells) → (member_of frame.anchor vol).state ≡ 2
-      → Holds (table_of mid) (λ v. cond (nat_eq v vol) true (is_closed mid v)) (is_free mid) new → Belong new pages → AreReadBelow pages frame (vol + 1) new
+      → Holds (table_of mid) (λ v. cond (nat_eq v vol) true (is_closed mid v)) (is_free mid) (kept_of mid) new → Belong new pages → AreReadBelow pages frame (vol + 1) new
   read_closed new state holds belong =
       with_marks new holds.tables holds.cells belong
       ((λ _ opened. omega (arith, state, opened)), (λ _. holds.marks vol ∙ ap (λ b. cond b true (is_closed mid vol)) (eq-eqb vol vol refl)))

@@ -1,5 +1,5 @@
 -- Lists of free cells in which no cell stands twice.
-use Rattle.std.proofs.Common.{◌≡◌, ◌∙◌, ◌⊎◌, inl, inr, ⊎_elim, ℕ, suc, ◌+◌, ◌<◌, ◌≤◌, Bool, true, false, not, cond, ◌&&◌, ◌||◌, nat_eq, nat_lt, Option, Some, None, IfSome, List, [], ◌∷◌, ◌++◌, length, filter, refl, sym, ap, subst, arith}
+use Rattle.std.proofs.Common.{◌≡◌, ◌∙◌, ◌⊎◌, inl, inr, ⊎_elim, ℕ, suc, ◌+◌, ◌<◌, ◌≤◌, Bool, true, false, not, cond, ◌&&◌, ◌||◌, nat_eq, nat_lt, Option, Some, None, IfSome, List, [], ◌∷◌, ◌++◌, length, filter, append_assoc, refl, sym, ap, subst, arith}
 use Rattle.std.proofs.lemmas.Bool.{both_ways, and_from, and_parts, or_left, or_right, or_cases, eq-eqb, eqb-true, true≢false, cases_Bool, lt-ltb, ltb-true, ne_eqb}
 use Rattle.std.proofs.lemmas.List.{append-nil}
 use Rattle.std.proofs.lemmas.List.Folds.{list_any-append}
@@ -206,3 +206,52 @@ popped_cells old new (Some f) is apart =
     left : (g : FreeCell) (b : Bool) → same_cell f g ≡ b → is_among new f ≡ false → is_among new g ≡ (not (same_cell f g) && (is_among new g || same_cell g f))
     left g true same gone = ap (is_among new) (sym (cells_same f g same)) ∙ gone ∙ sym (ap (λ b. not b && (is_among new g || same_cell g f)) same)
     left g false other gone = rw other (rw (cells_flip g f ∙ other) (keep (is_among new g)))
+
+-- ---- a list is another one with one cell more at its end
+
+pub less_apart : (old new : List FreeCell) (f : FreeCell) → old ≡ new ++ f ∷ [] → IsDistinct same_cell old → IsDistinct same_cell new
+less_apart old new f is apart = popped_apart old new (Some f) is apart
+
+pub less_cells : (old new : List FreeCell) (f : FreeCell) → old ≡ new ++ f ∷ [] → IsDistinct same_cell old
+    → (is_among old f ≡ true) × ((g : FreeCell) → is_among new g ≡ (not (same_cell f g) && is_among old g))
+less_cells old new f is apart = popped_cells old new (Some f) is apart
+
+-- ---- two lists one behind the other
+
+pub among_both : (xs ys : List FreeCell) (f : FreeCell) → is_among (xs ++ ys) f ≡ (is_among xs f || is_among ys f)
+among_both xs ys f = list_any-append (same_cell f) xs ys
+
+-- no cell of the second list is in the first
+abbrev pub AreApart : List FreeCell → List FreeCell → Type 0
+AreApart xs ys = (f : FreeCell) → is_among ys f ≡ true → is_among xs f ≡ false
+
+pub rest_apart : (xs ys : List FreeCell) → IsDistinct same_cell (xs ++ ys) → IsDistinct same_cell ys × AreApart xs ys
+rest_apart [] ys apart = (apart, λ f there. refl)
+rest_apart (x ∷ xs) ys apart =
+    let rest = rest_apart xs ys (IsDistinct-tail same_cell x (xs ++ ys) apart) in
+    let missing = not_head x (xs ++ ys) (IsDistinct-head same_cell x (xs ++ ys) apart) in (
+      rest.0,
+      (λ f there. or_from_none (same_cell f x) (is_among xs f)
+          (⊎_elim (λ same. absurd (both_ways (is_among (xs ++ ys) x) missing (among_both xs ys x ∙ or_right (is_among xs x) (is_among ys x) (ap (is_among ys) (sym (cells_same f x same)) ∙ there)))) (λ other. other)
+          (cases_Bool (same_cell f x))) (rest.1 f there)),
+    )
+  where
+    or_from_none : (a b : Bool) → a ≡ false → b ≡ false → (a || b) ≡ false
+    or_from_none a b first second = (λ i. first i || second i)
+
+pub front_of_apart : (xs ys : List FreeCell) → IsDistinct same_cell (xs ++ ys) → IsDistinct same_cell xs
+front_of_apart xs [] apart = subst (IsDistinct same_cell) (append-nil xs) apart
+front_of_apart xs (y ∷ ys) apart = less_apart (xs ++ y ∷ []) xs y refl (front_of_apart (xs ++ y ∷ []) ys (subst (IsDistinct same_cell) (sym (append_assoc xs (y ∷ []) ys)) apart))
+
+pub both_apart : (xs ys : List FreeCell) → IsDistinct same_cell xs → IsDistinct same_cell ys → AreApart xs ys → IsDistinct same_cell (xs ++ ys)
+both_apart xs [] first second apart = subst (IsDistinct same_cell) (sym (append-nil xs)) first
+both_apart xs (y ∷ ys) first second apart =
+    let missing = apart y (or_left (same_cell y y) (is_among ys y) (cell_itself y)) in
+    let not_later = not_head y ys (IsDistinct-head same_cell y ys second) in
+    subst (IsDistinct same_cell) (append_assoc xs (y ∷ []) ys)
+    (both_apart (xs ++ y ∷ []) ys (apart_push xs y first missing) (IsDistinct-tail same_cell y ys second)
+    (λ f there. among_push xs y f ∙ none (is_among xs f) (same_cell f y) (apart f (or_right (same_cell f y) (is_among ys f) there))
+    (⊎_elim (λ same. absurd (both_ways (is_among ys y) not_later (ap (is_among ys) (sym (cells_same f y same)) ∙ there))) (λ other. other) (cases_Bool (same_cell f y)))))
+  where
+    none : (a b : Bool) → a ≡ false → b ≡ false → (a || b) ≡ false
+    none a b one other = (λ i. one i || other i)

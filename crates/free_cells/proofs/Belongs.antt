@@ -15,7 +15,7 @@ use Rattle.bmt_mcells.specs.Chain.{LeavesOthers, is_at}
 use Rattle.bmt_mcells.proofs.CellKinds.{free_kind, used_not_zeros, zeros_kind}
 use Rattle.bmt_mcells.proofs.Changed.{homes_same}
 use Rattle.free_cells.specs.VolumeTable.{AreOn}
-use Rattle.free_cells.specs.Cells.{Cells, Holds, TakesCell, is_closed, is_free, is_on, table_of, volume_of, with_page_last}
+use Rattle.free_cells.specs.Cells.{Cells, Holds, TakesCell, is_closed, is_free, is_on, kept_of, table_of, volume_of, with_page_last}
 use Rattle.free_cells.specs.Belong.{Belong, IsNextPage, IsPageOf, LeadsTo, home_at, last_home}
 
 -- the page at a place of a volume's table
@@ -117,7 +117,7 @@ at_is a b same =
 
 pub belong_freed : (old new : Cells) (before after : Pages) (at : CellAt) → Belong old before → IsUsedAt before at → Contains (table_of old at.vol) at.page
     → LeavesOthers (is_at at) before after → KeepsWellFormed before after → KeepsHeaders before after → cell_at after at ≡ Some (zero_bytes 292)
-    → Holds (table_of old) (is_closed old) (λ q. is_at at q || is_free old q) new → Belong new after
+    → Holds (table_of old) (is_closed old) (λ q. is_at at q || is_free old q) (kept_of old) new → Belong new after
 belong_freed old new before after at belong used placed others good headers cleared holds =
     let still = belong_still old before after (is_at at) others good headers apart belong in
     record {
@@ -189,7 +189,7 @@ next_is_new cells pages home belong next there =
 
 module _ (old new : Cells) (pages : Pages) (home : Home) (page : List ℕ) (belong : Belong old pages) (there : pages home ≡ Some page) (next : IsNextPage (length (table_of old home.vol)) page)
     (leads : LeadsTo old home.vol pages home.page)
-    (holds : Holds (with_page_last home old) (is_closed old) (λ at. is_free old at || (is_on home at && is_free_in page at.cell)) new) where
+    (holds : Holds (with_page_last home old) (is_closed old) (λ at. is_free old at || (is_on home at && is_free_in page at.cell)) (kept_of old) new) where
   abbrev table : List ℕ
   table = table_of old home.vol
 
@@ -321,8 +321,9 @@ module _ (cells : Cells) (home : Home) (some : 0 < length (table_of cells home.v
 
 -- all cells of an empty page join
 pub all_join : (old new : Cells) (home : Home) (page : List ℕ) (index : ℕ) → IsEmptyPage index page
-    → Holds (with_page_last home old) (is_closed old) (λ at. is_free old at || (is_on home at && is_free_in page at.cell)) new → Holds (with_page_last home old) (is_closed old) (λ at. is_free old at || is_on home at) new
-all_join old new home page index empty holds = record { tables = holds.tables; marks = holds.marks; cells = λ at. holds.cells at ∙ ap (λ b. is_free old at || b) (all at (is_on home at) refl) }
+    → Holds (with_page_last home old) (is_closed old) (λ at. is_free old at || (is_on home at && is_free_in page at.cell)) (kept_of old) new
+    → Holds (with_page_last home old) (is_closed old) (λ at. is_free old at || is_on home at) (kept_of old) new
+all_join old new home page index empty holds = record { tables = holds.tables; marks = holds.marks; keeps = holds.keeps; cells = λ at. holds.cells at ∙ ap (λ b. is_free old at || b) (all at (is_on home at) refl) }
   where
     all : (at : CellAt) (b : Bool) → is_on home at ≡ b → (is_on home at && is_free_in page at.cell) ≡ is_on home at
     all at true on =

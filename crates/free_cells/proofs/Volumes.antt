@@ -8,7 +8,7 @@ use Rattle.domain_base.specs.declared.place.Home.{Home}
 use Rattle.bmt_mcells.specs.CellPage.{is_free_in}
 use Rattle.free_cells.specs.declared.volume.FreeCell.{FreeCell}
 use Rattle.free_cells.specs.VolumeTable.{AreOn, VolumeIs, VolumeTable, is_among, is_free_there, no_table}
-use Rattle.free_cells.specs.Cells.{Cells, Holds, is_closed, is_free, is_on, table_of, volume_of, with_page_last}
+use Rattle.free_cells.specs.Cells.{Cells, Holds, is_closed, is_free, is_on, kept_of, table_of, volume_of, with_page_last}
 
 pub map_ok : {A E : Type 0} {P Q : Type 0} → (P → Q) → (r : Result A E) → OnOk r P → OnOk r Q
 map_ok f (Ok x) p = f p
@@ -40,7 +40,7 @@ module _ (cells : Cells) (i vol : ℕ) (v : VolumeTable) (within : i < length ce
   elsewhere (suc j) other = get_or-set_other cells i j v no_table (λ same. both_ways (nat_eq (suc j) vol) other (eq-eqb (suc j) vol (omega (arith, same, next))))
 
 module _ (cells : Cells) (i : ℕ) (home : Home) (page : List ℕ) (v : VolumeTable) (within : i < length cells) (next : i + 1 ≡ home.vol)
-    (is : VolumeIs (table_of cells home.vol ++ home.page ∷ []) (is_closed cells home.vol) (λ g. is_among (volume_of cells home.vol).free g || is_free_there home.page page g) v) where
+    (is : VolumeIs (table_of cells home.vol ++ home.page ∷ []) (is_closed cells home.vol) (λ g. is_among (volume_of cells home.vol).free g || is_free_there home.page page g) (kept_of cells home.vol) v) where
   tables : (w : ℕ) → table_of (set cells i v) w ≡ with_page_last home cells w
   tables w = by_test (nat_eq w home.vol) refl
     where
@@ -60,6 +60,15 @@ module _ (cells : Cells) (i : ℕ) (home : Home) (page : List ℕ) (v : VolumeTa
           let e = eqb-true w home.vol same in
           ap (is_closed (set cells i v)) e ∙ ap (λ (t : VolumeTable). t.is_closed) (there cells i home.vol v within next) ∙ is.mark ∙ ap (is_closed cells) (sym e)
       by_test false other = ap (λ (t : VolumeTable). t.is_closed) (elsewhere cells i home.vol v within next w other)
+
+  keeps : (w : ℕ) → kept_of (set cells i v) w ≡ kept_of cells w
+  keeps w = by_test (nat_eq w home.vol) refl
+    where
+      by_test : (b : Bool) → nat_eq w home.vol ≡ b → kept_of (set cells i v) w ≡ kept_of cells w
+      by_test true same =
+          let e = eqb-true w home.vol same in
+          ap (kept_of (set cells i v)) e ∙ ap (λ (t : VolumeTable). t.kept) (there cells i home.vol v within next) ∙ is.keeps ∙ ap (kept_of cells) (sym e)
+      by_test false other = ap (λ (t : VolumeTable). t.kept) (elsewhere cells i home.vol v within next w other)
 
   abbrev joined : CellAt → Bool
   joined at = is_free cells at || (is_on home at && is_free_in page at.cell)
@@ -91,5 +100,5 @@ module _ (cells : Cells) (i : ℕ) (home : Home) (page : List ℕ) (v : VolumeTa
           ∙ alone (is_free cells at) (nat_eq at.page home.page) (nat_lt at.cell 28) (is_free_in page at.cell)
           ∙ ap (λ b. is_free cells at || (((b && nat_eq at.page home.page) && nat_lt at.cell 28) && is_free_in page at.cell)) (sym other)
 
-  pub page_joined : Holds (with_page_last home cells) (is_closed cells) joined (set cells i v)
-  page_joined = record { tables = tables; marks = marks; cells = free }
+  pub page_joined : Holds (with_page_last home cells) (is_closed cells) joined (kept_of cells) (set cells i v)
+  page_joined = record { tables = tables; marks = marks; cells = free; keeps = keeps }

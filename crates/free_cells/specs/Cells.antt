@@ -1,11 +1,11 @@
 -- The free cells of a domain's volumes.
-use Rattle.std.specs.Prelude.{◌≡◌, ℕ, Bool, not, ◌&&◌, ◌||◌, ◌==◌, nat_lt, List, [], ◌∷◌, ◌++◌, slice_index_or, if◌then◌else◌}
+use Rattle.std.specs.Prelude.{◌≡◌, ℕ, Bool, not, ◌&&◌, ◌||◌, ◌==◌, nat_lt, List, [], ◌∷◌, ◌++◌, slice_index_or, if◌then◌else◌, map}
 use Rattle.domain_base.specs.declared.place.CellAt.{CellAt}
 use Rattle.domain_base.specs.declared.place.Home.{Home}
 use Rattle.page_store.specs.Pages.{same_home}
 use Rattle.bmt_mcells.specs.CellPage.{home_of, is_free_in}
 use Rattle.bmt_mcells.specs.Chain.{is_at}
-use Rattle.free_cells.specs.VolumeTable.{VolumeTable, no_table, is_among}
+use Rattle.free_cells.specs.VolumeTable.{KeptTable, VolumeTable, as_kept, no_table, is_among, with_kept}
 
 -- each volume's table, that of volume k at place k - 1
 abbrev pub Cells : Type 0
@@ -31,12 +31,26 @@ is_free cells at =
 abbrev pub can_take : Cells → CellAt → Bool
 can_take cells at = is_free cells at && not (is_closed cells at.vol)
 
--- the volumes have these tables, these marks, and these free cells
-pub record Holds (table : ℕ → List ℕ) (closed : ℕ → Bool) (free : CellAt → Bool) (now : Cells)
-    : Type 0 where
+-- the volume's table and free cells as they were kept last
+abbrev pub kept_of : Cells → ℕ → KeptTable
+kept_of cells vol = (volume_of cells vol).kept
+
+-- the volumes have these tables, these marks, these free cells, and these tables and free cells
+-- that were kept
+pub record Holds (table : ℕ → List ℕ) (closed : ℕ → Bool) (free : CellAt → Bool)
+    (kept : ℕ → KeptTable) (now : Cells) : Type 0 where
   pub tables : (vol : ℕ) → table_of now vol ≡ table vol
   pub marks : (vol : ℕ) → is_closed now vol ≡ closed vol
   pub cells : (at : CellAt) → is_free now at ≡ free at
+  pub keeps : (vol : ℕ) → kept_of now vol ≡ kept vol
+
+-- what each volume holds now is kept
+abbrev pub all_kept : Cells → Cells
+all_kept = map with_kept
+
+-- each volume's table and free cells are the kept ones
+abbrev pub taken_back : Cells → Cells
+taken_back = map as_kept
 
 -- the tables with this page behind the others of its volume
 abbrev pub with_page_last : Home → Cells → ℕ → List ℕ
@@ -50,20 +64,22 @@ is_on home at = same_home (home_of at) home && nat_lt at.cell 28
 -- a cell is free no more, and all else is as it was
 abbrev pub TakesCell : CellAt → Cells → Cells → Type 0
 TakesCell at old new =
-    Holds (table_of old) (is_closed old) (λ q. not (is_at at q) && is_free old q) new
+    Holds (table_of old) (is_closed old) (λ q. not (is_at at q) && is_free old q) (kept_of old) new
 
 -- a cell is free, and all else is as it was
 abbrev pub FreesCell : CellAt → Cells → Cells → Type 0
-FreesCell at old new = Holds (table_of old) (is_closed old) (λ q. is_at at q || is_free old q) new
+FreesCell at old new =
+    Holds (table_of old) (is_closed old) (λ q. is_at at q || is_free old q) (kept_of old) new
 
 -- the page stands behind the others of its volume's table, and its cells of the kind of a free one
 -- are free
 abbrev pub JoinsPage : Home → List ℕ → Cells → Cells → Type 0
 JoinsPage home page old new =
     Holds (with_page_last home old) (is_closed old)
-    (λ at. is_free old at || (is_on home at && is_free_in page at.cell)) new
+    (λ at. is_free old at || (is_on home at && is_free_in page at.cell)) (kept_of old) new
 
 -- the same of a page of which every cell is free
 abbrev pub JoinsEmptyPage : Home → Cells → Cells → Type 0
 JoinsEmptyPage home old new =
-    Holds (with_page_last home old) (is_closed old) (λ at. is_free old at || is_on home at) new
+    Holds (with_page_last home old) (is_closed old) (λ at. is_free old at || is_on home at)
+    (kept_of old) new

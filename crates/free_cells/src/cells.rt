@@ -6,8 +6,8 @@ ghost use Rattle.page_store.specs.Pages.{Pages, same_home};
 ghost use Rattle.bmt_mcells.specs.CellPage.{HasPlace, IsEmptyPage, IsUsedAt, KeepsHeaders, KeepsWellFormed, cell_at, home_of};
 ghost use Rattle.bmt_mcells.specs.Chain.{LeavesOthers, is_at};
 ghost use Rattle.domain_base.specs.Page.{zero_bytes};
-ghost use Rattle.free_cells.specs.VolumeTable.{AreOn};
-ghost use Rattle.free_cells.specs.Cells.{FreesCell, Holds, JoinsEmptyPage, JoinsPage, TakesCell, can_take, is_closed, is_free, is_on, table_of, volume_of};
+ghost use Rattle.free_cells.specs.VolumeTable.{AreOn, nothing_kept};
+ghost use Rattle.free_cells.specs.Cells.{FreesCell, Holds, JoinsEmptyPage, JoinsPage, TakesCell, all_kept, can_take, is_closed, is_free, is_on, kept_of, table_of, taken_back, volume_of};
 ghost use Rattle.free_cells.specs.Belong.{Belong, IsNextPage, LeadsTo, last_home as last_of};
 
 use crate::linking::link_page;
@@ -21,7 +21,8 @@ use std::marker::Model;
 
 /// The free cells of a domain's volumes, and the pages that they stand on. Of each volume contracts
 /// see the pages of its table in their order, which of their cells are free, and whether the volume
-/// is closed, so that no cell of it is handed out.
+/// is closed, so that no cell of it is handed out; and the pages and free cells as they were kept
+/// last. Room for the cells of a page is taken twice, so that a change and taking it back need none.
 #[derive(Debug, Drop)]
 pub struct FreeCells {
     volumes: Vec<VolumeCells>,
@@ -44,7 +45,8 @@ impl Model for FreeCells {
 impl FreeCells {
     /// No free cell: of each volume no page was read, and none is closed.
     pub fn new(alloc: Global) -> Result<Self, OutOfMemory>
-        ensures value { IfOk result (Holds (λ _. []) (λ _. false) (λ _. false)) }
+        ensures value { IfOk result (Holds (λ _. []) (λ _. false) (λ _. false)
+            (λ _. nothing_kept)) }
         ensures belong { IfOk result (λ cells. (pages : Pages) → Belong cells pages) }
     {
         let mut volumes = Vec::with_capacity(alloc, MAX_VOLUMES as usize)?;
@@ -159,7 +161,8 @@ impl FreeCells {
     /// Closes the volume: no cell of it is handed out until it is activated.
     pub fn close_volume(&mut self, vol: VolIx)
         ensures value { Holds (table_of self.old)
-            (λ v. if v == vol then true else is_closed self.old v) (is_free self.old) self.new }
+            (λ v. if v == vol then true else is_closed self.old v) (is_free self.old)
+            (kept_of self.old) self.new }
         ensures belong { (pages : Pages) → Belong self.old pages → Belong self.new pages }
     {
         self.volumes[vol.index()].set_closed(true);
@@ -168,20 +171,50 @@ impl FreeCells {
     /// Opens the volume again: its free cells are handed out.
     pub fn activate(&mut self, vol: VolIx)
         ensures value { Holds (table_of self.old)
-            (λ v. if v == vol then false else is_closed self.old v) (is_free self.old) self.new }
+            (λ v. if v == vol then false else is_closed self.old v) (is_free self.old)
+            (kept_of self.old) self.new }
         ensures belong { (pages : Pages) → Belong self.old pages → Belong self.new pages }
     {
         self.volumes[vol.index()].set_closed(false);
     }
 
-    /// Forgets the volume: its table and its free cells. It is open then.
+    /// Forgets the volume: its table and its free cells, and what was kept of them. It is open
+    /// then.
     pub fn drop_volume(&mut self, vol: VolIx)
         ensures value { Holds (λ v. if v == vol then [] else table_of self.old v)
             (λ v. if v == vol then false else is_closed self.old v)
-            (λ at. not (at.vol == vol) && is_free self.old at) self.new }
+            (λ at. not (at.vol == vol) && is_free self.old at)
+            (λ v. if v == vol then nothing_kept else kept_of self.old v) self.new }
         ensures belong { (pages : Pages) → Belong self.old pages → Belong self.new pages }
     {
         self.volumes[vol.index()].clear();
+    }
+
+    /// Keeps the tables and the free cells as they are, in the time of what has changed since they
+    /// were kept before. It takes no memory.
+    pub fn keep(&mut self)
+        ensures value { self.new ≡ all_kept self.old }
+        ensures same { Holds (table_of self.old) (is_closed self.old) (is_free self.old)
+            (kept_of self.new) self.new }
+        ensures settled { taken_back self.new ≡ self.new }
+        ensures belong { (pages : Pages) → Belong self.old pages → Belong self.new pages }
+    {
+        for volume in self.volumes.iter_mut() {
+            volume.keep();
+        }
+    }
+
+    /// Lets the tables and the free cells be as they were kept. Closed volumes are closed still. It
+    /// takes no memory, and the time of the pages that were added.
+    pub fn take_back(&mut self)
+        ensures value { self.new ≡ taken_back self.old }
+        ensures settled { taken_back self.new ≡ self.new }
+        ensures belong { (pages : Pages) → Belong (taken_back self.old) pages
+            → Belong self.new pages }
+    {
+        for volume in self.volumes.iter_mut() {
+            volume.take_back();
+        }
     }
 
     /// Takes a free cell of this volume. None exactly where it has none or is closed.

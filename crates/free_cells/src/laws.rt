@@ -4,7 +4,7 @@ ghost use Rattle.domain_base.specs.declared.place.CellAt.{CellAt};
 ghost use Rattle.page_store.specs.Pages.{Pages};
 ghost use Rattle.bmt_mcells.specs.CellPage.{KeepsHeaders, KeepsWellFormed};
 ghost use Rattle.bmt_mcells.specs.Chain.{LeavesOthers, is_at};
-ghost use Rattle.free_cells.specs.Cells.{Cells, TakesCell, is_free, table_of};
+ghost use Rattle.free_cells.specs.Cells.{Cells, Holds, TakesCell, is_closed, is_free, kept_of, table_of, taken_back};
 ghost use Rattle.free_cells.specs.Belong.{Belong, home_at};
 
 /// Free cells and pages that belong together do so still after a change of cells of which none is
@@ -31,4 +31,20 @@ pub fn other_pages_stay()
         → ((vol place : ℕ) → place < length (table_of cells vol)
         → new (home_at cells vol place) ≡ old (home_at cells vol place))
         → Belong cells old → Belong cells new }
+{}
+
+/// Free cells and pages that belong together do so still where only what was kept is another.
+pub fn same_cells_belong()
+    ensures { (old new : Cells) → ((vol : ℕ) → table_of new vol ≡ table_of old vol)
+        → ((at : CellAt) → is_free new at ≡ is_free old at)
+        → (pages : Pages) → Belong old pages → Belong new pages }
+{}
+
+/// What comes of taking back is the same as long as what was kept stays, and no volume is closed or
+/// activated.
+pub fn kept_cells_stay()
+    ensures { (old new : Cells) → ((vol : ℕ) → kept_of new vol ≡ kept_of old vol)
+        → ((vol : ℕ) → is_closed new vol ≡ is_closed old vol)
+        → Holds (table_of (taken_back old)) (is_closed (taken_back old)) (is_free (taken_back old))
+        (kept_of (taken_back old)) (taken_back new) }
 {}

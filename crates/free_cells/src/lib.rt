@@ -7,4 +7,6 @@ mod linking;
 mod volume;
 
 pub use cells::FreeCells;
-pub use laws::{other_cells_stay, other_pages_stay, written_cell_stays};
+pub use laws::{
+    kept_cells_stay, other_cells_stay, other_pages_stay, same_cells_belong, written_cell_stays,
+};

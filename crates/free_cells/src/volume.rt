@@ -2,7 +2,7 @@
 ghost use Rattle.std.specs.Prelude.{◌≡◌, ◌+◌, ◌-◌, ◌<◌, ◌≤◌, true, false, not, ◌&&◌, ◌||◌, [], ◌∷◌, ◌++◌, length, slice_index, vec_capacity, IfSome, IfNone, OnOk, OnErr};
 ghost use Rattle.std.specs.List.{IsDistinct};
 ghost use Rattle.free_cells.specs.declared.volume.FreeCell.{FreeCell};
-ghost use Rattle.free_cells.specs.VolumeTable.{AreOn, IsOn, VolumeIs, no_table, same_cell, is_among, is_free_there};
+ghost use Rattle.free_cells.specs.VolumeTable.{AreOn, IsOn, VolumeIs, as_kept, no_table, same_cell, is_among, is_free_there, with_kept};
 
 use bmt_mcells::is_free_cell;
 use domain_base::limits::PAGE_CELLS;
@@ -17,18 +17,24 @@ pub struct FreeCell {
     pub cell: u8,
 }
 
-/// The pages of a volume's table in their order, and their free cells. Contracts see these, and
-/// whether the volume is closed.
+/// The pages of a volume's table in their order, and their free cells. Contracts see these, whether
+/// the volume is closed, and the pages and the free cells as they were kept last. The first
+/// `kept_pages` pages of the table are those. A free cell is one of the first `live` of the kept
+/// ones, or it came later.
 #[derive(Debug, Drop)]
 pub struct VolumeCells {
     table: Vec<u32>,
-    free: Vec<FreeCell>,
+    kept_pages: usize,
+    kept: Vec<FreeCell>,
+    live: usize,
+    fresh: Vec<FreeCell>,
     is_closed: bool,
 }
 
 impl Model for VolumeCells {
+    ghost use Rattle.std.specs.Prelude.{take};
     ghost use Rattle.std.specs.Vec.{vec_capacity};
-    ghost use Rattle.free_cells.specs.VolumeTable.{VolumeTable, IsKept, volume_code};
+    ghost use Rattle.free_cells.specs.VolumeTable.{VolumeTable, IsSound, free_now, volume_code};
 
     ghost Value = { VolumeTable };
 
@@ -36,11 +42,16 @@ impl Model for VolumeCells {
 
     ghost view = { λ v. record {
       table = v.table.items;
-      free = v.free.items;
+      free = free_now v.kept.items v.live v.fresh.items;
       is_closed = v.is_closed;
+      kept = record {
+        table = take v.kept_pages v.table.items;
+        free = v.kept.items;
+      };
     } };
 
-    ghost invariant = { λ v. IsKept v.table.items v.free.items (vec_capacity v.free) };
+    ghost invariant = { λ v. IsSound v.table.items v.kept_pages v.kept.items v.live v.fresh.items
+        (vec_capacity v.kept) (vec_capacity v.fresh) };
 }
 
 /// Puts the free cells of the page with this number behind the others, of which none is on it.
@@ -51,6 +62,7 @@ fn push_free(number: u32, page: &Page, free: &mut Vec<FreeCell>)
     ensures apart { IsDistinct same_cell free.new.items }
     ensures joined { (f : FreeCell) → is_among free.new.items f
         ≡ is_among free.old.items f || is_free_there number page.now f }
+    ensures few { length free.new.items ≤ length free.old.items + 28 }
     ensures room { vec_capacity free.new ≡ vec_capacity free.old }
 {
     for cell in 0..PAGE_CELLS {
@@ -60,6 +72,20 @@ fn push_free(number: u32, page: &Page, free: &mut Vec<FreeCell>)
     }
 }
 
+/// Moves all cells behind those of the other list, which has room for them.
+fn move_cells(from: &mut Vec<FreeCell>, to: &mut Vec<FreeCell>)
+    requires room { length to.old.items + length from.old.items ≤ vec_capacity to.old }
+    ensures moved { to.new.items ≡ to.old.items ++ from.old.items }
+    ensures none { from.new.items ≡ [] }
+    ensures room { vec_capacity to.new ≡ vec_capacity to.old }
+    ensures from_room { vec_capacity from.new ≡ vec_capacity from.old }
+{
+    for cell in from.iter() {
+        to.push_reserved(*cell);
+    }
+    from.clear();
+}
+
 impl VolumeCells {
     /// A volume whose table has no page so far.
     pub fn new(alloc: Global) -> Self
@@ -67,7 +93,10 @@ impl VolumeCells {
     {
         VolumeCells {
             table: Vec::new(alloc),
-            free: Vec::new(alloc),
+            kept_pages: 0,
+            kept: Vec::new(alloc),
+            live: 0,
+            fresh: Vec::new(alloc),
             is_closed: false,
         }
     }
@@ -80,12 +109,16 @@ impl VolumeCells {
         ensures some { IfSome result (λ f. (self.old.is_closed ≡ false)
             × (is_among self.old.free f ≡ true)) }
         ensures taken { IfSome result (λ f. VolumeIs self.old.table self.old.is_closed
-            (λ g. not (same_cell f g) && is_among self.old.free g) self.new) }
+            (λ g. not (same_cell f g) && is_among self.old.free g) self.old.kept self.new) }
     {
         if self.is_closed {
             return None;
         }
-        self.free.pop()
+        if let Some(cell) = self.fresh.pop() {
+            return Some(cell);
+        }
+        self.live = self.live.checked_sub(1)?;
+        Some(self.kept[self.live])
     }
 
     /// Puts a cell of the table among the free ones. Since each of these is another cell of the
@@ -95,9 +128,9 @@ impl VolumeCells {
         requires place { IsOn self.old.table cell }
         requires others { AreOn self.old }
         ensures { VolumeIs self.old.table self.old.is_closed
-            (λ g. same_cell cell g || is_among self.old.free g) self.new }
+            (λ g. same_cell cell g || is_among self.old.free g) self.old.kept self.new }
     {
-        self.free.push_reserved(cell);
+        self.fresh.push_reserved(cell);
     }
 
     /// Puts a page behind the others of the table, and its free cells among the free ones. It takes
@@ -106,15 +139,37 @@ impl VolumeCells {
         requires fresh { (f : FreeCell) → f.page ≡ number → is_among self.old.free f ≡ false }
         requires others { AreOn self.old }
         ensures ok { OnOk result (VolumeIs (self.old.table ++ number ∷ []) self.old.is_closed
-            (λ g. is_among self.old.free g || is_free_there number page.now g) self.new) }
+            (λ g. is_among self.old.free g || is_free_there number page.now g) self.old.kept
+            self.new) }
         ensures err { OnErr result (self.new ≡ self.old) }
     {
-        let room = usize::from(PAGE_CELLS) * (self.table.len() + 1) - self.free.len();
+        let room = usize::from(PAGE_CELLS) * (self.table.len() + 1);
         self.table.reserve(1)?;
-        self.free.reserve(room)?;
+        self.kept.reserve(room.saturating_sub(self.kept.len()))?;
+        self.fresh.reserve(room.saturating_sub(self.fresh.len()))?;
         self.table.push_reserved(number);
-        push_free(number, page, &mut self.free);
+        push_free(number, page, &mut self.fresh);
         Ok(())
+    }
+
+    /// Keeps the table and its free cells as they are, in the time of what has changed since they
+    /// were kept before.
+    pub fn keep(&mut self)
+        ensures { self.new ≡ with_kept self.old }
+    {
+        self.kept.truncate(self.live);
+        move_cells(&mut self.fresh, &mut self.kept);
+        self.live = self.kept.len();
+        self.kept_pages = self.table.len();
+    }
+
+    /// Lets the table and its free cells be as they were kept.
+    pub fn take_back(&mut self)
+        ensures { self.new ≡ as_kept self.old }
+    {
+        self.table.truncate(self.kept_pages);
+        self.fresh.clear();
+        self.live = self.kept.len();
     }
 
     /// Closes the volume, or opens it.
@@ -124,12 +179,15 @@ impl VolumeCells {
         self.is_closed = is_closed;
     }
 
-    /// Forgets the table and its free cells, and opens the volume.
+    /// Forgets the table and its free cells, and what was kept of them, and opens the volume.
     pub fn clear(&mut self)
         ensures { self.new ≡ no_table }
     {
         self.table.clear();
-        self.free.clear();
+        self.kept_pages = 0;
+        self.kept.clear();
+        self.live = 0;
+        self.fresh.clear();
         self.is_closed = false;
     }
 

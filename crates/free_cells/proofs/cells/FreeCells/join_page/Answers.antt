@@ -2,7 +2,7 @@ use Rattle.std.proofs.Common.{◌<◌, ◌∙◌, ◌&&◌, ◌||◌, ◌++◌, 
 use Rattle.std.specs.List.{Contains}
 use Rattle.bmt_mcells.specs.CellPage.{is_free_in}
 use Rattle.free_cells.specs.VolumeTable.{AreOn, VolumeIs, VolumeTable, is_among, is_free_there}
-use Rattle.free_cells.specs.Cells.{Cells, Holds, is_closed, is_free, is_on, volume_of, with_page_last}
+use Rattle.free_cells.specs.Cells.{Cells, Holds, is_closed, is_free, is_on, kept_of, volume_of, with_page_last}
 use Rattle.free_cells.proofs.Volumes.{map_ok, none_fresh, page_joined, volume_read}
 use Rattle.free_cells.proofs.cells.FreeCells.join_page.Goals as goal
 
@@ -26,6 +26,6 @@ returns-clause-ok c =
     let v = c.add_page.new.self in
     let within : c.index.result < length items = omega (arith, c.self.invariant) in
     let read = volume_read items c.index.result home.vol c.index_mut.result.now within c.index.ensures.value c.index_mut.ensures.value in
-    subst (λ (cells : Cells). OnOk c.add_page.result (Holds (with_page_last home cells) (is_closed cells) (λ at. is_free cells at || (is_on home at && is_free_in page at.cell)) (set items c.index.result v))) c.self.view_is
+    subst (λ (cells : Cells). OnOk c.add_page.result (Holds (with_page_last home cells) (is_closed cells) (λ at. is_free cells at || (is_on home at && is_free_in page at.cell)) (kept_of cells) (set items c.index.result v))) c.self.view_is
     (map_ok (λ is. page_joined items c.index.result home page v within c.index.ensures.value is) c.add_page.result
-    (subst (λ (was : VolumeTable). OnOk c.add_page.result (VolumeIs (was.table ++ home.page ∷ []) was.is_closed (λ g. is_among was.free g || is_free_there home.page page g) v)) read c.add_page.ensures.ok))
+    (subst (λ (was : VolumeTable). OnOk c.add_page.result (VolumeIs (was.table ++ home.page ∷ []) was.is_closed (λ g. is_among was.free g || is_free_there home.page page g) was.kept v)) read c.add_page.ensures.ok))
