@@ -68,3 +68,11 @@ pub fn a_fileset_changes()
         → slice_get table.slots number ≡ Some old → IsSameFileset old item → IsAllowed item
         → IsTable (with_slot number item table) }
 {}
+
+/// The law that what a slot had gives the table that was, where it is put back behind one other
+/// change of the slot.
+pub fn a_slot_comes_back()
+    ensures { (table : Table) (number : ℕ) (had item : SlotItemOf)
+        → slice_get table.slots number ≡ Some had
+        → with_slot number had (with_slot number item table) ≡ table }
+{}

@@ -10,8 +10,8 @@ mod table;
 mod writing;
 
 pub use laws::{
-    a_clone_joins, a_fileset_changes, a_fileset_leaves, a_page_is_one_table, an_original_joins,
-    written_and_read,
+    a_clone_joins, a_fileset_changes, a_fileset_leaves, a_page_is_one_table, a_slot_comes_back,
+    an_original_joins, written_and_read,
 };
 pub use slot::{FilesetEntry, SlotItem, TableFault};
 pub use table::FilesetTable;

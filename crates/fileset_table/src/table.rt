@@ -79,6 +79,15 @@ impl FilesetTable {
         self.slots[number.number() as usize] = item;
     }
 
+    /// Puts this into a slot, and answers what it had.
+    pub fn replace_slot(&mut self, number: FilesetNo, item: SlotItem) -> SlotItem
+        requires { IsTable (with_slot number item self.old) }
+        ensures value { self.new ≡ with_slot number item self.old }
+        ensures had { slice_get self.old.slots number ≡ Some result }
+    {
+        exchange(&mut self.slots, number.number() as usize, item)
+    }
+
     /// Puts this into a slot where that leaves a table; else it hands it back, and nothing changes.
     pub fn try_set_slot(&mut self, number: FilesetNo, item: SlotItem) -> Result<(), SlotItem>
         ensures ok { OnOk result (IsTable (with_slot number item self.old)
