@@ -53,7 +53,8 @@ fn shown_home(alloc: Global, home: &Option<Home>) -> Result<String, OutOfMemory>
     }
 }
 
-fn shown_cell(alloc: Global, at: &Option<CellAt>) -> Result<String, OutOfMemory> {
+/// The cell as a text, or `-`.
+pub fn shown_cell(alloc: Global, at: &Option<CellAt>) -> Result<String, OutOfMemory> {
     match at {
         Some(at) => format!(in alloc; "{}.{}.{}", at.vol.number(), at.page, at.cell),
         None => String::from_str(alloc, "-"),

@@ -1,8 +1,8 @@
 //! The fileset table, read from pages that were written by hand.
 ghost use Rattle.std.specs.Prelude.{◌<◌};
 
-use crate::lines::{page_of, put_line, reading, shown_table};
-use domain_base::{FilesetNo, Page};
+use crate::lines::{page_of, put_line, reading, shown_cell, shown_table};
+use domain_base::{CellAt, FilesetNo, Page};
 use fileset_table::{FilesetTable, SlotItem, a_fileset_changes, written_and_read};
 use std::alloc::Global;
 use std::test::Fail;
@@ -282,6 +282,38 @@ made 3
 fn a_slot_is_set(rt: HostRuntime) -> Result<(), Fail> {
     let after = table_after(rt.alloc())?;
     assert_eq!(rt; after.as_str(), FORGOTTEN);
+    Ok(())
+}
+
+/// Replaces what is to be released of a fileset that is being removed by nothing.
+fn replaced(table: &mut FilesetTable, number: FilesetNo) -> Option<SlotItem> {
+    if let SlotItem::Removed { .. } = table.slot(number) {
+        a_fileset_changes();
+        let nothing = SlotItem::Removed {
+            first_tag: None,
+            quota: None,
+        };
+        return Some(table.replace_slot(number, nothing));
+    }
+    None
+}
+
+/// The table of the page after that, and the quota cell that the slot had.
+fn table_replaced(alloc: Global) -> Result<(String, Option<CellAt>), Fail> {
+    let mut table = table_there(alloc)?;
+    let had = replaced(&mut table, FilesetNo::new(31).ok_or("a slot")?);
+    let quota = match had {
+        Some(SlotItem::Removed { quota, .. }) => quota,
+        _ => None,
+    };
+    Ok((shown_table(alloc, &table)?, quota))
+}
+
+#[test]
+fn a_slot_is_replaced(rt: HostRuntime) -> Result<(), Fail> {
+    let (after, had) = table_replaced(rt.alloc())?;
+    let quota = shown_cell(rt.alloc(), &had)?;
+    assert_eq!(rt; (after.as_str(), quota.as_str()), (FORGOTTEN, "1.2.27"));
     Ok(())
 }
 
