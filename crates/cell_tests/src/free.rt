@@ -254,3 +254,61 @@ fn volumes_close_open_and_go(rt: HostRuntime) -> Result<(), Fail> {
     assert_eq!(rt; seen, ([1, 2, 1, 2, 0], (26, true)));
     Ok(())
 }
+
+/// The steps of some lines, behind how many cells are left then of a page of 28: one is taken, all
+/// are kept, they are taken back, or the volume is dropped.
+static STEPS: &str = "
+28
+27 take
+0 take back
+28 keep take take back
+28 keep take take back back
+27 take keep back
+26 keep take keep take
+27 keep take keep take back
+26 keep take back take take
+0 keep drop
+0 keep drop back
+";
+
+/// Does what one word says.
+fn step(cells: &mut FreeCells, word: &str) {
+    match word {
+        "take" => {
+            let _ = cells.new_cell(first_home().vol);
+        }
+        "keep" => cells.keep(),
+        "back" => cells.take_back(),
+        "drop" => cells.drop_volume(first_home().vol),
+        _ => {}
+    }
+}
+
+/// Whether as many cells are left after a line's steps as it says, and all differ.
+fn is_left(alloc: Global, line: &str) -> Result<bool, Fail> {
+    let pages = two_pages(alloc)?;
+    let mut cells = one_read(alloc, &pages)?;
+    let mut words = line.split(' ');
+    let left: usize = words.next().ok_or("a count")?.parse()?;
+    for word in words {
+        step(&mut cells, word);
+    }
+    Ok(all_taken(alloc, &mut cells)? == (left, true))
+}
+
+/// The first line that is not so.
+fn first_not_left(alloc: Global) -> Result<Option<&'static str>, Fail> {
+    for line in STEPS.lines() {
+        if !line.is_empty() && !is_left(alloc, line)? {
+            return Ok(Some(line));
+        }
+    }
+    Ok(None)
+}
+
+#[test]
+fn taken_cells_come_back(rt: HostRuntime) -> Result<(), Fail> {
+    let wrong = first_not_left(rt.alloc())?;
+    assert_eq!(rt; wrong, None);
+    Ok(())
+}
