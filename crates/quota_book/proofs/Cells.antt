@@ -37,7 +37,7 @@ find-append q (x ∷ xs) ys = by_test (same_owner q x.0) (find-append q xs ys)
     by_test true rest = refl
     by_test false rest = rest
 
-same_is : (a b : Owner) → same_owner a b ≡ true → a ≡ b
+pub same_is : (a b : Owner) → same_owner a b ≡ true → a ≡ b
 same_is a b is = owner_cmp-IsAntisymmetric a b (equal (owner_cmp a b) is)
   where
     equal : (r : Ordering) → is_eq r ≡ true → r ≡ Equal
@@ -167,7 +167,7 @@ one_added cells who other limits is =
 
 -- ---- limits that records say, taken one after the other
 
-unlimited_is : (limits : Limits) → is_unlimited limits ≡ true → limits ≡ no_limits
+pub unlimited_is : (limits : Limits) → is_unlimited limits ≡ true → limits ≡ no_limits
 unlimited_is limits is =
     let parts = and_parts (limits.files == 0) (limits.blocks == 0) is in
     λ i. record { files = eqb-true limits.files 0 parts.0 i; blocks = eqb-true limits.blocks 0 parts.1 i }

@@ -1,7 +1,9 @@
 pub mod Cells
-pub mod Changes
 pub mod ModelChanges
 pub mod Once
 pub mod OneNode
+pub mod Settled
+pub mod Shares
+pub mod Shown
 pub mod Sums
 pub mod Unchanged

@@ -1,5 +1,5 @@
 -- What the owners of a fileset use, and their limits.
-use Rattle.std.specs.Prelude.{◌≡◌, ◌+◌, ◌-◌, ◌^◌, ◌<◌, ◌≤◌, ◌==◌, ◌&&◌, ℕ, Bool, false, List, [], ◌∷◌, Option, Some, unwrap_or, refl, if◌then◌else◌}
+use Rattle.std.specs.Prelude.{◌≡◌, ◌+◌, ◌-◌, ◌^◌, ◌<◌, ◌≤◌, ◌==◌, ◌&&◌, ℕ, Bool, false, [], ◌∷◌, Option, Some, unwrap_or, refl, if◌then◌else◌}
 use Rattle.std.specs.Coded.{Coded, code_by, coded×}
 use Rattle.std.specs.FinMap as map
 use Rattle.fileset_model.specs.Orders.{owner_cmp}
@@ -14,7 +14,7 @@ use Rattle.fileset_model.specs.declared.reply.Refusal.TheVariants.{QuotaFiles, Q
 use Rattle.fileset_model.specs.contracts.command.Owner as owner
 use Rattle.fileset_model.specs.contracts.fileset.Limits as limits
 use Rattle.fileset_model.specs.contracts.fileset.Usage as usage
-use Rattle.quota_book.specs.Owners.{nothing, same_owner, used_in}
+use Rattle.quota_book.specs.Owners.{nothing}
 
 -- from owners to what they use, and to their limits
 pub record Book : Type 0 where
@@ -32,6 +32,18 @@ book_code =
 
 abbrev pub empty_book : Book
 empty_book = record { totals = map.empty; limits = map.empty }
+
+-- a book, and what it was when it was kept
+pub record KeptBook : Type 0 where
+  pub book : Book
+  pub kept : Book
+
+abbrev pub kept_book_code : Coded KeptBook
+kept_book_code =
+    code_by (Book × Book) (coded× book_code book_code)
+    (λ b. (b.book, b.kept))
+    (λ p. record { book = p.0; kept = p.1 })
+    (λ _. refl)
 
 -- what an owner uses, and their limits
 abbrev pub used : Book → Owner → Usage
@@ -104,12 +116,3 @@ pub record Charges (uid gid files blocks : ℕ) (old new : Book) : Type 0 where
 pub record Refunds (uid gid files blocks : ℕ) (old new : Book) : Type 0 where
   pub totals : RefundsAll uid gid files blocks (used old) (used new)
   pub limits : new.limits ≡ old.limits
-
--- totals of which one owner's is so much more, or less
-abbrev pub AddsTo : Owner → ℕ → ℕ → List (Owner × Usage) → List (Owner × Usage) → Type 0
-AddsTo who files blocks old new = (other : Owner) → used_in new other
-    ≡ (if same_owner other who then raised files blocks (used_in old who) else used_in old other)
-
-abbrev pub TakesFrom : Owner → ℕ → ℕ → List (Owner × Usage) → List (Owner × Usage) → Type 0
-TakesFrom who files blocks old new = (other : Owner) → used_in new other
-    ≡ (if same_owner other who then lowered files blocks (used_in old who) else used_in old other)

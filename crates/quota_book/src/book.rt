@@ -1,78 +1,69 @@
 //! The quota book of a fileset.
 ghost use Rattle.std.specs.Prelude.{◌≡◌, OnErr, OnOk};
-ghost use Rattle.fileset_model.specs.Usage.{is_unlimited as binds_nothing, passes as passes_limit, with_limits};
+ghost use Rattle.fileset_model.specs.Usage.{passes as passes_limit, with_limits};
 ghost use Rattle.quota_book.specs.Book.{Charges, FitsAll, HasAll, HasNoTrace, Refunds, empty_book, limits_in, refusal_in, used};
 
-use crate::totals::{charge_all, refund_all, total_of};
+use crate::account::{Account, Share, Side};
+use crate::accounts::{account_of, put_share, reserve, settle_all};
+use crate::totals::{charge_all, refund_all};
 use domain_base::OutOfMemory;
 use fileset_model::{Limits, Owner, Refusal, Usage};
-use sorted_entries::{find, put, take_away};
 use std::alloc::Global;
 use std::marker::Model;
 
-/// What the users and groups of a fileset use, and all of it, with their limits. An owner who uses
-/// nothing, or whose limits bind nothing, takes no room. Each call looks an owner up by halving.
+/// What the users and groups of a fileset use, and all of it, with their limits, now and as they
+/// were kept. An owner who uses nothing, and whose limits bind nothing, takes no room once that is
+/// kept. Each call looks an owner up by halving.
 #[derive(Drop)]
 pub struct QuotaBook {
-    totals: Vec<(Owner, Usage)>,
-    limits: Vec<(Owner, Limits)>,
+    accounts: Vec<(Owner, Account)>,
+    changed: Vec<Owner>,
 }
 
 impl Model for QuotaBook {
-    ghost use Rattle.std.specs.Prelude.{◌≡◌, IsTrue};
-    ghost use Rattle.std.specs.FinMap as map;
-    ghost use Rattle.fileset_model.specs.Orders.{owner_cmp};
-    ghost use Rattle.quota_book.specs.Owners.{AreTotals};
-    ghost use Rattle.quota_book.specs.Book.{Book, book_code};
+    ghost use Rattle.std.specs.Prelude.{◌≤◌, vec_capacity, vec_len};
+    ghost use Rattle.quota_book.specs.Accounts.{AreAccounts, books_of};
+    ghost use Rattle.quota_book.specs.Book.{KeptBook, kept_book_code};
 
-    ghost Value = { Book };
+    ghost Value = { KeptBook };
 
-    ghost coded = { book_code };
+    ghost coded = { kept_book_code };
 
-    ghost view = { λ b. record {
-      totals = map.from_sorted b.totals.items;
-      limits = map.from_sorted b.limits.items;
-    } };
+    ghost view = { λ b. books_of b.accounts.items };
 
-    ghost invariant = { λ b. AreTotals b.totals.items
-        × IsTrue (map.is_sorted owner_cmp b.limits.items) };
+    ghost invariant = { λ b. AreAccounts b.accounts.items b.changed.items
+        × (vec_len b.accounts ≤ vec_capacity b.changed) };
 }
 
 impl QuotaBook {
-    /// No one uses anything, and there are no limits. It takes no memory.
+    /// No one uses anything, and there are no limits; that is kept. It takes no memory.
     pub fn new(alloc: Global) -> QuotaBook
-        ensures { result ≡ empty_book }
+        ensures { result ≡ record { book = empty_book; kept = empty_book } }
     {
         QuotaBook {
-            totals: Vec::new(alloc),
-            limits: Vec::new(alloc),
+            accounts: Vec::new(alloc),
+            changed: Vec::new(alloc),
         }
     }
 
     /// What an owner uses.
     pub fn usage(&self, who: Owner) -> Usage
-        ensures { result ≡ used self.now who }
+        ensures { result ≡ used self.now.book who }
     {
-        total_of(&self.totals, who)
+        account_of(&self.accounts, who).share(Side::Now).usage
     }
 
     /// An owner's limits, of which 0 is none.
     pub fn limits(&self, who: Owner) -> Limits
-        ensures { result ≡ limits_in self.now who }
+        ensures { result ≡ limits_in self.now.book who }
     {
-        match find(&self.limits, &who) {
-            Some(limits) => *limits,
-            None => Limits {
-                files: 0,
-                blocks: 0,
-            },
-        }
+        account_of(&self.accounts, who).share(Side::Now).limits
     }
 
     /// What the owner's limits refuse where so many more files and blocks are asked for: files come
     /// first. None exactly where they refuse neither.
     pub fn ask(&self, who: Owner, files: u64, blocks: u64) -> Option<Refusal>
-        ensures { result ≡ refusal_in self.now who files blocks }
+        ensures { result ≡ refusal_in self.now.book who files blocks }
     {
         let limits = self.limits(who);
         let usage = self.usage(who);
@@ -94,46 +85,81 @@ impl QuotaBook {
 
     /// Sets an owner's limits. After an error the book is as before.
     pub fn set_limits(&mut self, who: Owner, limits: Limits) -> Result<(), OutOfMemory>
-        ensures ok { OnOk result (self.new
-            ≡ record self.old { limits = with_limits self.old.limits who limits }) }
+        ensures ok { OnOk result (self.new.book ≡ record self.old.book {
+          limits = with_limits self.old.book.limits who limits;
+        }) }
+        ensures kept { self.new.kept ≡ self.old.kept }
         ensures err { OnErr result (self.new ≡ self.old) }
     {
-        if is_unlimited(&limits) {
-            take_away(&mut self.limits, &who);
-            return Ok(());
-        }
-        put(&mut self.limits, who, limits)?;
+        reserve(&mut self.accounts, &mut self.changed, 1)?;
+        let usage = account_of(&self.accounts, who).share(Side::Now).usage;
+        put_share(
+            &mut self.accounts,
+            &mut self.changed,
+            who,
+            Share { usage, limits },
+        );
         Ok(())
     }
 
     /// Adds so many files and blocks to what the user, the group and the fileset use. The sums are
     /// below 2^64. After an error the book is as before.
     pub fn charge(&mut self, uid: u32, gid: u32, files: u64, blocks: u64) -> Result<(), OutOfMemory>
-        requires { FitsAll uid gid files blocks (used self.old) }
-        ensures ok { OnOk result (Charges uid gid files blocks self.old self.new) }
+        requires { FitsAll uid gid files blocks (used self.old.book) }
+        ensures ok { OnOk result (Charges uid gid files blocks self.old.book self.new.book) }
+        ensures kept { self.new.kept ≡ self.old.kept }
         ensures err { OnErr result (self.new ≡ self.old) }
-        ensures trace { HasNoTrace self.new }
+        ensures trace { HasNoTrace self.new.book }
+        ensures kept_trace { HasNoTrace self.new.kept }
     {
-        charge_all(&mut self.totals, uid, gid, files, blocks)?;
+        reserve(&mut self.accounts, &mut self.changed, 3)?;
+        charge_all(
+            &mut self.accounts,
+            &mut self.changed,
+            uid,
+            gid,
+            files,
+            blocks,
+        );
         Ok(())
     }
 
     /// Takes so many files and blocks from what the user, the group and the fileset use, each of
-    /// whom uses so much. It takes no memory, and an owner who uses nothing then has no entry.
+    /// whom uses so much. It takes no memory.
     pub fn refund(&mut self, uid: u32, gid: u32, files: u64, blocks: u64)
-        requires { HasAll uid gid files blocks (used self.old) }
-        ensures refunds { Refunds uid gid files blocks self.old self.new }
-        ensures trace { HasNoTrace self.new }
+        requires { HasAll uid gid files blocks (used self.old.book) }
+        ensures refunds { Refunds uid gid files blocks self.old.book self.new.book }
+        ensures kept { self.new.kept ≡ self.old.kept }
+        ensures trace { HasNoTrace self.new.book }
+        ensures kept_trace { HasNoTrace self.new.kept }
     {
-        refund_all(&mut self.totals, uid, gid, files, blocks);
+        refund_all(
+            &mut self.accounts,
+            &mut self.changed,
+            uid,
+            gid,
+            files,
+            blocks,
+        );
     }
-}
 
-/// Whether limits bind nothing.
-fn is_unlimited(limits: &Limits) -> bool
-    ensures { result ≡ binds_nothing limits.now }
-{
-    limits.files == 0 && limits.blocks == 0
+    /// Keeps the book as it is now. It takes no memory, and the time of what has changed.
+    pub fn keep(&mut self)
+        ensures book { self.new.book ≡ self.old.book }
+        ensures kept { self.new.kept ≡ self.old.book }
+        ensures trace { HasNoTrace self.new.book }
+    {
+        settle_all(&mut self.accounts, &mut self.changed, Side::Now);
+    }
+
+    /// Lets the book be as it was kept. It takes no memory, and the time of what has changed.
+    pub fn take_back(&mut self)
+        ensures book { self.new.book ≡ self.old.kept }
+        ensures kept { self.new.kept ≡ self.old.kept }
+        ensures trace { HasNoTrace self.new.book }
+    {
+        settle_all(&mut self.accounts, &mut self.changed, Side::Kept);
+    }
 }
 
 /// Whether so many more would pass a limit, of which 0 is none.

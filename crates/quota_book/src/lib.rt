@@ -1,6 +1,8 @@
 //! What the owners of a fileset use of it, and how much they may.
 #![tactic(auto)]
 
+mod account;
+mod accounts;
 mod book;
 mod laws;
 mod quota_cells;

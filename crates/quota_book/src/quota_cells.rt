@@ -13,7 +13,8 @@ use std::alloc::Global;
 
 /// Sets the limits that a record says, if it says any. After an error the book is as before.
 fn take_limits(book: &mut QuotaBook, said: &Record) -> Result<(), OutOfMemory>
-    ensures ok { OnOk result (TakesLimits (limits_said said.now) book.old book.new) }
+    ensures ok { OnOk result (TakesLimits (limits_said said.now) book.old.book
+        book.new.book) }
     ensures err { OnErr result (book.new ≡ book.old) }
 {
     match said {
@@ -30,7 +31,7 @@ fn take_limits(book: &mut QuotaBook, said: &Record) -> Result<(), OutOfMemory>
 /// Sets an owner's limits. After an error the book is as before.
 fn set_limits(book: &mut QuotaBook, who: Owner, files: u64, blocks: u64) -> Result<(), OutOfMemory>
     ensures ok { OnOk result (TakesLimits
-        (Some (who, record { files = files; blocks = blocks })) book.old book.new) }
+        (Some (who, record { files = files; blocks = blocks })) book.old.book book.new.book) }
     ensures err { OnErr result (book.new ≡ book.old) }
 {
     book.set_limits(who, Limits { files, blocks })
@@ -88,14 +89,16 @@ pub fn are_once(alloc: Global, records: &[Record]) -> Result<bool, OutOfMemory>
 }
 
 /// The book of a fileset that has nothing yet, with the limits of users and groups that the records
-/// of its quota cells say, of no owner twice.
+/// of its quota cells say, of no owner twice. That is kept.
 pub fn read_limits(alloc: Global, records: &[Record]) -> Result<QuotaBook, OutOfMemory>
     requires { AreOnce (said_by records.now) }
-    ensures { IfOk result (HasLimits (said_by records.now)) }
+    ensures limits { IfOk result (λ books. HasLimits (said_by records.now) books.book) }
+    ensures kept { IfOk result (λ books. books.kept ≡ books.book) }
 {
     let mut book = QuotaBook::new(alloc);
     for said in records {
         take_limits(&mut book, said)?;
     }
+    book.keep();
     Ok(book)
 }

@@ -1,142 +1,112 @@
-//! Totals by owner, as a list in the order of owners. An owner who uses nothing has no entry.
-ghost use Rattle.std.specs.Prelude.{◌≡◌, ◌+◌, ◌≤◌, IsOk, IsTrue, OnErr, OnOk, vec_capacity, vec_len};
-ghost use Rattle.quota_book.specs.Owners.{AreTotals, SetsTotal, used_in};
-ghost use Rattle.quota_book.specs.Book.{AddsTo, ChargesAll, FitsAll, HasAll, IsBelow, IsWithin, RefundsAll, TakesFrom, is_nothing as uses_nothing};
+//! Changes of what owners use.
+ghost use Rattle.std.specs.Prelude.{◌≡◌, ◌+◌, ◌≤◌, true, vec_capacity, vec_len};
+ghost use Rattle.fileset_model.specs.Usage.{is_owned};
+ghost use Rattle.quota_book.specs.Accounts.{AreAccounts, ChangesUsage, HaveRoom, used_at};
+ghost use Rattle.quota_book.specs.Book.{FitsAll, HasAll, IsBelow, IsWithin, lowered, raised};
+ghost use Rattle.quota_book.specs.Owners.{same_owner};
 
-use domain_base::OutOfMemory;
+use crate::account::{Account, Share, Side};
+use crate::accounts::{account_of, put_share, replace_share};
 use fileset_model::{Owner, Usage};
-use sorted_entries::{find, put, replace, take_away};
+use sorted_entries::find;
 
-/// Whether it is nothing.
-fn is_nothing(usage: &Usage) -> bool
-    ensures { result ≡ uses_nothing usage.now }
-{
-    usage.files == 0 && usage.blocks == 0
-}
-
-/// What an owner uses.
-pub(crate) fn total_of(totals: &[(Owner, Usage)], who: Owner) -> Usage
-    requires { AreTotals totals.now }
-    ensures { result ≡ used_in totals.now who }
-{
-    match find(totals, &who) {
-        Some(usage) => *usage,
-        None => Usage {
-            files: 0,
-            blocks: 0,
-        },
-    }
-}
-
-/// Sets what an owner uses. After an error all is as before; there is none where the list has room
-/// for one more.
-fn set_total(totals: &mut Vec<(Owner, Usage)>, who: Owner, usage: Usage) -> Result<(), OutOfMemory>
-    requires { AreTotals totals.old.items }
-    ensures ok { OnOk result (SetsTotal who usage totals.old.items totals.new.items) }
-    ensures err { OnErr result (totals.new.items ≡ totals.old.items) }
-    ensures kept { AreTotals totals.new.items }
-    ensures room { vec_len totals.old + 1 ≤ vec_capacity totals.old → IsOk result }
-    ensures len { vec_len totals.new ≤ vec_len totals.old + 1 }
-    ensures capacity { vec_capacity totals.old ≤ vec_capacity totals.new }
-{
-    if is_nothing(&usage) {
-        take_away(totals, &who);
-        return Ok(());
-    }
-    put(totals, who, usage)
-}
-
-/// Sets what an owner uses who uses something. It takes no memory.
-fn lower_total(totals: &mut Vec<(Owner, Usage)>, who: Owner, usage: Usage)
-    requires totals { AreTotals totals.old.items }
-    requires less { IsWithin usage (used_in totals.old.items who) }
-    ensures sets { SetsTotal who usage totals.old.items totals.new.items }
-    ensures kept { AreTotals totals.new.items }
-{
-    if is_nothing(&usage) {
-        take_away(totals, &who);
-    } else {
-        replace(totals, &who, usage);
-    }
-}
-
-/// Adds to what an owner uses. After an error all is as before; there is none where the list has
-/// room for one more.
+/// Adds to what an owner uses, for whom there is room.
 fn add(
-    totals: &mut Vec<(Owner, Usage)>,
+    accounts: &mut Vec<(Owner, Account)>,
+    changed: &mut Vec<Owner>,
     who: Owner,
     files: u64,
     blocks: u64,
-) -> Result<(), OutOfMemory>
-    requires totals { AreTotals totals.old.items }
-    requires fits { IsBelow files blocks (used_in totals.old.items who) }
-    ensures ok { OnOk result (AddsTo who files blocks totals.old.items totals.new.items) }
-    ensures err { OnErr result (totals.new.items ≡ totals.old.items) }
-    ensures kept { AreTotals totals.new.items }
-    ensures room { vec_len totals.old + 1 ≤ vec_capacity totals.old → IsOk result }
-    ensures len { vec_len totals.new ≤ vec_len totals.old + 1 }
-    ensures capacity { vec_capacity totals.old ≤ vec_capacity totals.new }
+)
+    requires accounts { AreAccounts accounts.old.items changed.old.items }
+    requires room { HaveRoom (vec_len accounts.old + 1) (vec_capacity accounts.old)
+        (vec_capacity changed.old) }
+    requires fits { IsBelow files blocks (used_at accounts.old.items who) }
+    ensures adds { ChangesUsage (raised files blocks) (λ other. same_owner other who)
+        accounts.old.items accounts.new.items }
+    ensures accounts { AreAccounts accounts.new.items changed.new.items }
+    ensures len { vec_len accounts.new ≤ vec_len accounts.old + 1 }
+    ensures capacity { vec_capacity accounts.old ≤ vec_capacity accounts.new }
+    ensures list_room { vec_capacity changed.new ≡ vec_capacity changed.old }
 {
-    let used = total_of(totals, who);
+    let Share { usage, limits } = account_of(accounts, who).share(Side::Now);
     let usage = Usage {
-        files: used.files + files,
-        blocks: used.blocks + blocks,
+        files: usage.files + files,
+        blocks: usage.blocks + blocks,
     };
-    set_total(totals, who, usage)
+    put_share(accounts, changed, who, Share { usage, limits });
 }
 
 /// Takes from what an owner uses. It takes no memory.
-fn subtract(totals: &mut Vec<(Owner, Usage)>, who: Owner, files: u64, blocks: u64)
-    requires totals { AreTotals totals.old.items }
-    requires enough { IsWithin (record { files = files; blocks = blocks })
-        (used_in totals.old.items who) }
-    ensures takes { TakesFrom who files blocks totals.old.items totals.new.items }
-    ensures kept { AreTotals totals.new.items }
-{
-    let used = total_of(totals, who);
-    let usage = Usage {
-        files: used.files - files,
-        blocks: used.blocks - blocks,
-    };
-    lower_total(totals, who, usage);
-}
-
-/// Adds to what the user, the group and the fileset use. After an error all is as before.
-pub(crate) fn charge_all(
-    totals: &mut Vec<(Owner, Usage)>,
-    uid: u32,
-    gid: u32,
+fn subtract(
+    accounts: &mut Vec<(Owner, Account)>,
+    changed: &mut Vec<Owner>,
+    who: Owner,
     files: u64,
     blocks: u64,
-) -> Result<(), OutOfMemory>
-    requires totals { AreTotals totals.old.items }
-    requires fits { FitsAll uid gid files blocks (used_in totals.old.items) }
-    ensures ok { OnOk result (ChargesAll uid gid files blocks (used_in totals.old.items)
-        (used_in totals.new.items)) }
-    ensures err { OnErr result (totals.new.items ≡ totals.old.items) }
-    ensures kept { AreTotals totals.new.items }
+)
+    requires accounts { AreAccounts accounts.old.items changed.old.items }
+    requires room { vec_len accounts.old ≤ vec_capacity changed.old }
+    requires enough { IsWithin (record { files = files; blocks = blocks })
+        (used_at accounts.old.items who) }
+    ensures takes { ChangesUsage (lowered files blocks) (λ other. same_owner other who)
+        accounts.old.items accounts.new.items }
+    ensures accounts { AreAccounts accounts.new.items changed.new.items }
+    ensures len { vec_len accounts.new ≡ vec_len accounts.old }
+    ensures list_room { vec_capacity changed.new ≡ vec_capacity changed.old }
 {
-    totals.reserve(3)?;
-    add(totals, Owner::User(uid), files, blocks)?;
-    add(totals, Owner::Group(gid), files, blocks)?;
-    add(totals, Owner::Fileset, files, blocks)
+    let Some(account) = find(accounts, &who) else {
+        return;
+    };
+    let Share { usage, limits } = account.share(Side::Now);
+    let usage = Usage {
+        files: usage.files - files,
+        blocks: usage.blocks - blocks,
+    };
+    replace_share(accounts, changed, who, Share { usage, limits });
 }
 
-/// Takes from what the user, the group and the fileset use. It takes no memory.
-pub(crate) fn refund_all(
-    totals: &mut Vec<(Owner, Usage)>,
+/// Adds to what the user, the group and the fileset use, for whom there is room.
+pub(crate) fn charge_all(
+    accounts: &mut Vec<(Owner, Account)>,
+    changed: &mut Vec<Owner>,
     uid: u32,
     gid: u32,
     files: u64,
     blocks: u64,
 )
-    requires totals { AreTotals totals.old.items }
-    requires enough { HasAll uid gid files blocks (used_in totals.old.items) }
-    ensures refunds { RefundsAll uid gid files blocks (used_in totals.old.items)
-        (used_in totals.new.items) }
-    ensures kept { AreTotals totals.new.items }
+    requires accounts { AreAccounts accounts.old.items changed.old.items }
+    requires room { HaveRoom (vec_len accounts.old + 3) (vec_capacity accounts.old)
+        (vec_capacity changed.old) }
+    requires fits { FitsAll uid gid files blocks (used_at accounts.old.items) }
+    ensures adds { ChangesUsage (raised files blocks) (λ who. is_owned who uid gid)
+        accounts.old.items accounts.new.items }
+    ensures accounts { AreAccounts accounts.new.items changed.new.items }
+    ensures fit { vec_len accounts.new ≤ vec_capacity changed.new }
 {
-    subtract(totals, Owner::User(uid), files, blocks);
-    subtract(totals, Owner::Group(gid), files, blocks);
-    subtract(totals, Owner::Fileset, files, blocks);
+    add(accounts, changed, Owner::User(uid), files, blocks);
+    add(accounts, changed, Owner::Group(gid), files, blocks);
+    add(accounts, changed, Owner::Fileset, files, blocks);
+}
+
+/// Takes from what the user, the group and the fileset use. It takes no memory.
+pub(crate) fn refund_all(
+    accounts: &mut Vec<(Owner, Account)>,
+    changed: &mut Vec<Owner>,
+    uid: u32,
+    gid: u32,
+    files: u64,
+    blocks: u64,
+)
+    requires accounts { AreAccounts accounts.old.items changed.old.items }
+    requires room { vec_len accounts.old ≤ vec_capacity changed.old }
+    requires enough { HasAll uid gid files blocks (used_at accounts.old.items) }
+    ensures takes { ChangesUsage (lowered files blocks) (λ who. is_owned who uid gid)
+        accounts.old.items accounts.new.items }
+    ensures accounts { AreAccounts accounts.new.items changed.new.items }
+    ensures fit { vec_len accounts.new ≤ vec_capacity changed.new }
+{
+    subtract(accounts, changed, Owner::User(uid), files, blocks);
+    subtract(accounts, changed, Owner::Group(gid), files, blocks);
+    subtract(accounts, changed, Owner::Fileset, files, blocks);
 }

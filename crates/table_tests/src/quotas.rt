@@ -1,5 +1,6 @@
 //! A quota book that is changed and asked by lines of text. A line has a word for the call, an
 //! owner or two ids, and numbers of files and of blocks; an arrow stands before what is answered.
+//! Where a call has none of them a dash and noughts stand.
 ghost use Rattle.std.specs.Prelude.{IsTrue};
 ghost use Rattle.quota_book.specs.Book.{FitsAll, HasAll, IsBelow, IsWithin, used};
 
@@ -47,7 +48,7 @@ fn not_allowed() -> Fail {
     Fail::from("a call that may be made")
 }
 
-fn charge(book: &mut QuotaBook, uid: u32, gid: u32, more: &Usage) -> Result<(), Fail> {
+pub(crate) fn charge(book: &mut QuotaBook, uid: u32, gid: u32, more: &Usage) -> Result<(), Fail> {
     if !all_fit(book, uid, gid, more) {
         return Err(not_allowed());
     }
@@ -55,7 +56,7 @@ fn charge(book: &mut QuotaBook, uid: u32, gid: u32, more: &Usage) -> Result<(), 
     Ok(())
 }
 
-fn refund(book: &mut QuotaBook, uid: u32, gid: u32, part: &Usage) -> Result<(), Fail> {
+pub(crate) fn refund(book: &mut QuotaBook, uid: u32, gid: u32, part: &Usage) -> Result<(), Fail> {
     if !all_have(book, uid, gid, part) {
         return Err(not_allowed());
     }
@@ -141,6 +142,8 @@ fn done(alloc: Global, book: &mut QuotaBook, line: &str) -> Result<String, Fail>
     match call {
         "charge" => charge(book, first.parse()?, id, &numbers)?,
         "refund" => refund(book, first.parse()?, id, &numbers)?,
+        "keep" => book.keep(),
+        "back" => book.take_back(),
         _ => return answer(alloc, book, call, owner_of(first, id), &numbers),
     }
     Ok(String::from_str(alloc, "done")?)
@@ -207,6 +210,47 @@ show fileset 0 0 0 -> 1 0 16 48
 #[test]
 fn owners_are_told_apart(rt: HostRuntime) -> Result<(), Fail> {
     let wrong = first_wrong(rt.alloc(), OWNERS)?;
+    assert_eq!(rt; wrong, None);
+    Ok(())
+}
+
+/// Those who used something when it was kept, and those who use something now; limits that came, and
+/// limits that went.
+static KEPT: &str = "
+limit user 10 5 0 -> 0 5 0 0
+charge 10 20 2 32 -> done
+keep - 0 0 0 -> done
+charge 10 20 1 16 -> done
+refund 10 20 3 48 -> done
+show user 10 0 0 -> 0 5 0 0
+limit user 10 0 0 -> 0 0 0 0
+limit group 21 7 0 -> 0 7 0 0
+charge 11 21 4 0 -> done
+show fileset 0 0 0 -> 4 0 0 0
+back - 0 0 0 -> done
+show user 10 0 0 -> 2 5 32 0
+show user 11 0 0 -> 0 0 0 0
+show group 20 0 0 -> 2 0 32 0
+show group 21 0 0 -> 0 0 0 0
+show fileset 0 0 0 -> 2 0 32 0
+back - 0 0 0 -> done
+show fileset 0 0 0 -> 2 0 32 0
+charge 11 20 1 0 -> done
+keep - 0 0 0 -> done
+back - 0 0 0 -> done
+show user 11 0 0 -> 1 0 0 0
+show group 20 0 0 -> 3 0 32 0
+refund 10 20 2 32 -> done
+keep - 0 0 0 -> done
+show user 10 0 0 -> 0 5 0 0
+back - 0 0 0 -> done
+show user 10 0 0 -> 0 5 0 0
+show fileset 0 0 0 -> 1 0 0 0
+";
+
+#[test]
+fn a_book_is_kept_and_taken_back(rt: HostRuntime) -> Result<(), Fail> {
+    let wrong = first_wrong(rt.alloc(), KEPT)?;
     assert_eq!(rt; wrong, None);
     Ok(())
 }

@@ -10,13 +10,13 @@ use std::test::Fail;
 
 /// Numbers that are always the same ones.
 #[derive(Drop)]
-struct Random {
-    state: u64,
+pub(crate) struct Random {
+    pub(crate) state: u64,
 }
 
 impl Random {
     /// The next number, below 32,768.
-    fn next(&mut self) -> u32
+    pub(crate) fn next(&mut self) -> u32
         ensures { result < 32_768 }
     {
         let next = (self.state % 2_147_483_648 * 1_103_515_245 + 12_345) % 2_147_483_648;

@@ -3,4 +3,4 @@ use Rattle.quota_book.specs.QuotaCells.{HasLimits, said_by}
 use Rattle.quota_book.proofs.quota_cells.read_limits.Given as goal
 
 abbrev pub invariant-loop-said : goal.invariant-loop-said
-invariant-loop-said l = HasLimits (said_by (take l.said-index l.records)) l.book
+invariant-loop-said l = HasLimits (said_by (take l.said-index l.records)) l.book.book

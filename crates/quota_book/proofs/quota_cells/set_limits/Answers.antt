@@ -2,4 +2,4 @@ use Rattle.quota_book.proofs.Cells.{takes_set}
 use Rattle.quota_book.proofs.quota_cells.set_limits.Goals as goal
 
 pub returns-clause-ok : goal.returns-clause-ok
-returns-clause-ok c = takes_set c.args.book.now c.set_limits.new.self c.args.who (record { files = c.args.files; blocks = c.args.blocks }) c.set_limits.result c.set_limits.ensures.ok
+returns-clause-ok c = takes_set c.args.book.now.book c.set_limits.new.self.book c.args.who (record { files = c.args.files; blocks = c.args.blocks }) c.set_limits.result c.set_limits.ensures.ok

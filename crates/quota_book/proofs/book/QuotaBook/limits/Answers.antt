@@ -1,28 +1,11 @@
-use Rattle.std.proofs.Common.{List, unwrap_or, ap, sym, ◌∙◌}
-use Rattle.std.specs.FinMap.{get}
-use Rattle.std.specs.FinMap.Entries.{find}
-use Rattle.fileset_model.specs.Orders.{owner_cmp}
-use Rattle.fileset_model.specs.declared.command.Owner.{Owner}
-use Rattle.fileset_model.specs.declared.fileset.Limits.{Limits}
-use Rattle.sorted_entries.proofs.EntryLemmas.{get-from_sorted}
-use Rattle.quota_book.specs.Book.{Book}
+use Rattle.std.proofs.Common.{◌∙◌, ap}
+use Rattle.quota_book.specs.declared.account.Account.{Account}
+use Rattle.quota_book.specs.declared.account.Share.{Share}
+use Rattle.quota_book.specs.Accounts.{Accounts, Now, account_at, share_on}
+use Rattle.quota_book.proofs.Shown.{limits_now_are}
 use Rattle.quota_book.proofs.book.QuotaBook.limits.Goals as goal
 
-abbrev none : Limits
-none = record { files = 0; blocks = 0 }
-
-pub returns-in-Some : goal.returns-in-Some
-returns-in-Some c =
-    let who = c.args.who in
-    ap (λ o. unwrap_or o none) (c.in-Some.ensures
-    ∙ ap (λ (es : List (Owner × Limits)). find owner_cmp who es) c.deref.ensures.value
-    ∙ sym (get-from_sorted owner_cmp c.self.inside.limits.items who c.self.invariant.1)
-    ∙ ap (λ (book : Book). get book.limits who) c.self.view_is)
-
-pub returns-in-None : goal.returns-in-None
-returns-in-None c =
-    let who = c.args.who in
-    ap (λ o. unwrap_or o none) (c.in-None.ensures
-    ∙ ap (λ (es : List (Owner × Limits)). find owner_cmp who es) c.deref.ensures.value
-    ∙ sym (get-from_sorted owner_cmp c.self.inside.limits.items who c.self.invariant.1)
-    ∙ ap (λ (book : Book). get book.limits who) c.self.view_is)
+pub returns : goal.returns
+returns c =
+    let account = c.account_of.ensures ∙ ap (λ (l : Accounts). account_at l c.args.who) c.deref.ensures.value in
+    ap (λ (s : Share). s.limits) (c.share.ensures ∙ ap (λ (a : Account). share_on Now a) account) ∙ limits_now_are c.self.inside.accounts.items c.args.self.now c.self.view_is c.self.invariant.0.sorted c.args.who

@@ -1,13 +1,18 @@
-use Rattle.std.proofs.Common.{◌≡◌, ◌∙◌, ap}
+use Rattle.std.proofs.Common.{◌≡◌, ◌∙◌, [], ap}
 use Rattle.std.specs.FinMap.{empty, from_sorted}
 use Rattle.fileset_model.specs.Orders.{owner_cmp}
 use Rattle.fileset_model.specs.declared.fileset.Limits.{Limits}
 use Rattle.fileset_model.specs.declared.fileset.Usage.{Usage}
 use Rattle.sorted_entries.proofs.EntryLemmas.{from_sorted-empty}
+use Rattle.quota_book.specs.Accounts.{books_of}
 use Rattle.quota_book.proofs.book.QuotaBook.new.Goals as goal
 
 pub returns : goal.returns
 returns c =
-    let totals : from_sorted {X = Usage} {R = owner_cmp} c.new.result.items ≡ empty = ap from_sorted c.new.ensures.items ∙ from_sorted-empty owner_cmp in
-    let limits : from_sorted {X = Limits} {R = owner_cmp} c.new-2.result.items ≡ empty = ap from_sorted c.new-2.ensures.items ∙ from_sorted-empty owner_cmp in
-    λ i. record { totals = totals i; limits = limits i }
+    let totals : from_sorted {X = Usage} {R = owner_cmp} [] ≡ empty = from_sorted-empty owner_cmp in
+    let limits : from_sorted {X = Limits} {R = owner_cmp} [] ≡ empty = from_sorted-empty owner_cmp in
+    ap books_of c.new.ensures.items
+    ∙ (λ i. record {
+      book = record { totals = totals i; limits = limits i };
+      kept = record { totals = totals i; limits = limits i };
+    })

@@ -1,46 +1,28 @@
-use Rattle.std.proofs.Common.{◌≡◌, Bool, true, false, List, ap, sym, ◌∙◌, if◌then◌else◌}
-use Rattle.std.specs.FinMap.{FinMap, from_sorted, insert, remove}
-use Rattle.fileset_model.specs.Orders.{owner_cmp, owner_cmp-total}
-use Rattle.fileset_model.specs.Usage.{is_unlimited, with_limits}
-use Rattle.fileset_model.specs.declared.command.Owner.{Owner}
-use Rattle.fileset_model.specs.declared.fileset.Limits.{Limits}
-use Rattle.fileset_model.proofs.OwnerLemmas.{owner_cmp-IsAntisymmetric}
-use Rattle.fileset_model.proofs.ChangeLemmas.{remove-from_sorted}
-use Rattle.sorted_entries.proofs.EntryLemmas.{insert-from_sorted}
-use Rattle.quota_book.specs.Book.{Book}
-use Rattle.quota_book.proofs.Changes.{Totals}
+use Rattle.std.proofs.Common.{◌≡◌, ◌∙◌, ap, subst}
+use Rattle.fileset_model.specs.Usage.{with_limits}
+use Rattle.fileset_model.specs.declared.fileset.Usage.{Usage}
+use Rattle.quota_book.specs.declared.account.Account.{Account}
+use Rattle.quota_book.specs.declared.account.Share.{Share}
+use Rattle.quota_book.specs.Accounts.{Accounts, Now, SetsShare, account_at, share_on, used_at}
+use Rattle.quota_book.specs.Book.{KeptBook}
+use Rattle.quota_book.proofs.Shown.{kept_still, limits_set}
 use Rattle.quota_book.proofs.book.QuotaBook.set_limits.Goals as goal
-
-abbrev book_of : Totals → List (Owner × Limits) → Book
-book_of totals limits = record { totals = from_sorted totals; limits = from_sorted limits }
-
--- what the test decides
-with_limits-is : (all : FinMap owner_cmp Limits) (who : Owner) (limits : Limits) (unlimited : Bool) → is_unlimited limits ≡ unlimited
-    → (if unlimited then remove all who else insert all who limits) ≡ with_limits all who limits
-with_limits-is all who limits unlimited is = ap (λ (b : Bool). if b then remove all who else insert all who limits) (sym is)
-
-pub returns-then-is_unlimited-clause-ok : goal.returns-then-is_unlimited-clause-ok
-returns-then-is_unlimited-clause-ok c =
-    let who = c.args.who in
-    let limits = c.args.limits in
-    let old = c.self.inside in
-    ap (λ (es : List (Owner × Limits)). book_of old.totals.items es) c.take_away.ensures.items
-    ∙ (λ i. record {
-      totals = from_sorted old.totals.items;
-      limits = remove-from_sorted owner_cmp-total owner_cmp-IsAntisymmetric who old.limits.items c.self.invariant.1 i;
-    })
-    ∙ ap (λ (book : Book). record book { limits = remove book.limits who }) c.self.view_is
-    ∙ ap (λ (all : FinMap owner_cmp Limits). record c.args.self.now { limits = all }) (with_limits-is c.args.self.now.limits who limits true (sym c.if-is_unlimited.ensures))
 
 pub returns-clause-ok : goal.returns-clause-ok
 returns-clause-ok c =
     let who = c.args.who in
-    let limits = c.args.limits in
-    let old = c.self.inside in
-    ap (λ (es : List (Owner × Limits)). book_of old.totals.items es) c.in_ok-put.ensures.ok
-    ∙ (λ i. record {
-      totals = from_sorted old.totals.items;
-      limits = insert-from_sorted owner_cmp-total old.limits.items who limits c.self.invariant.1 i;
-    })
-    ∙ ap (λ (book : Book). record book { limits = insert book.limits who limits }) c.self.view_is
-    ∙ ap (λ (all : FinMap owner_cmp Limits). record c.args.self.now { limits = all }) (with_limits-is c.args.self.now.limits who limits false (sym c.if-is_unlimited.ensures))
+    let es = c.self.inside.accounts.items in
+    let fs = c.put_share.new.accounts.items in
+    let usage : c.share.result.usage ≡ used_at es who =
+    ap (λ (s : Share). s.usage) (c.share.ensures ∙ ap (λ (a : Account). share_on Now a) (c.account_of.ensures ∙ ap (λ (l : Accounts). account_at l who) (c.deref.ensures.value ∙ c.in_ok-reserve.ensures.accounts))) in
+    let sets = subst (λ (u : Usage). SetsShare who (record { usage = u; limits = c.args.limits }) es fs) usage
+    (subst (λ (l : Accounts). SetsShare who (record { usage = c.share.result.usage; limits = c.args.limits }) l fs) c.in_ok-reserve.ensures.accounts c.put_share.ensures.sets) in
+    limits_set es fs who c.args.limits c.self.invariant.0.sorted c.put_share.ensures.accounts.sorted sets
+    ∙ ap (λ (b : KeptBook). record b.book { limits = with_limits b.book.limits who c.args.limits }) c.self.view_is
+
+pub returns-clause-kept : goal.returns-clause-kept
+returns-clause-kept c =
+    let es = c.self.inside.accounts.items in
+    let fs = c.put_share.new.accounts.items in
+    let sets = subst (λ (l : Accounts). SetsShare c.args.who (record { usage = c.share.result.usage; limits = c.args.limits }) l fs) c.in_ok-reserve.ensures.accounts c.put_share.ensures.sets in
+    kept_still es c.args.self.now c.self.view_is c.self.invariant.0.sorted fs c.put_share.ensures.accounts.sorted sets.kept

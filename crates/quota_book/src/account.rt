@@ -1,0 +1,72 @@
+//! An owner's share of a fileset, now and as it was kept.
+ghost use Rattle.std.specs.Prelude.{◌≡◌, false};
+ghost use Rattle.quota_book.specs.Accounts.{Kept as KeptSide, Now as NowSide, is_no_share, is_same as stays, share_on};
+
+use fileset_model::{Limits, Usage};
+
+/// What an owner uses, and may use.
+#[derive(Clone, Copy)]
+pub struct Share {
+    pub usage: Usage,
+    pub limits: Limits,
+}
+
+/// One of an owner's two shares.
+#[derive(Clone, Copy)]
+pub enum Side {
+    /// That which the owner has now.
+    Now,
+    /// That which was kept.
+    Kept,
+}
+
+/// An owner's share now, and what it was when it was kept, where it may have changed since.
+#[derive(Clone, Copy)]
+pub enum Account {
+    Same(Share),
+    Changed { now: Share, was: Share },
+}
+
+impl Share {
+    /// Whether the owner uses nothing, and has no limits that bind.
+    pub fn is_nothing(&self) -> bool
+        ensures { result ≡ is_no_share self.now }
+    {
+        self.usage.files == 0
+            && self.usage.blocks == 0
+            && self.limits.files == 0
+            && self.limits.blocks == 0
+    }
+}
+
+impl Account {
+    /// That of the two shares.
+    pub fn share(&self, side: Side) -> Share
+        ensures { result ≡ share_on side self.now }
+    {
+        match (self, side) {
+            (Account::Same(share), _) => *share,
+            (Account::Changed { now, .. }, Side::Now) => *now,
+            (Account::Changed { was, .. }, Side::Kept) => *was,
+        }
+    }
+
+    /// Whether the share is as it was kept.
+    pub fn is_same(&self) -> bool
+        ensures { result ≡ stays self.now }
+    {
+        matches!(self, Account::Same(_))
+    }
+
+    /// An account with this share now, and with the same one kept.
+    pub fn with(&self, now: Share) -> Account
+        ensures now { share_on NowSide result ≡ now }
+        ensures kept { share_on KeptSide result ≡ share_on KeptSide self.now }
+        ensures changed { stays result ≡ false }
+    {
+        Account::Changed {
+            now,
+            was: self.share(Side::Kept),
+        }
+    }
+}
