@@ -13,7 +13,7 @@ use std::test::Fail;
 
 /// Whether so much more than an owner uses is below 2^64.
 fn fits(book: &QuotaBook, who: Owner, more: &Usage) -> bool
-    ensures { IsTrue result → IsBelow more.now.files more.now.blocks (used book.now who) }
+    ensures { IsTrue result → IsBelow more.now.files more.now.blocks (used book.now.book who) }
 {
     let usage = book.usage(who);
     more.files <= u64::MAX - usage.files && more.blocks <= u64::MAX - usage.blocks
@@ -21,14 +21,14 @@ fn fits(book: &QuotaBook, who: Owner, more: &Usage) -> bool
 
 /// Whether an owner uses so much.
 fn has(book: &QuotaBook, who: Owner, part: &Usage) -> bool
-    ensures { IsTrue result → IsWithin part.now (used book.now who) }
+    ensures { IsTrue result → IsWithin part.now (used book.now.book who) }
 {
     let usage = book.usage(who);
     part.files <= usage.files && part.blocks <= usage.blocks
 }
 
 fn all_fit(book: &QuotaBook, uid: u32, gid: u32, more: &Usage) -> bool
-    ensures { IsTrue result → FitsAll uid gid more.now.files more.now.blocks (used book.now) }
+    ensures { IsTrue result → FitsAll uid gid more.now.files more.now.blocks (used book.now.book) }
 {
     fits(book, Owner::User(uid), more)
         && fits(book, Owner::Group(gid), more)
@@ -36,7 +36,7 @@ fn all_fit(book: &QuotaBook, uid: u32, gid: u32, more: &Usage) -> bool
 }
 
 fn all_have(book: &QuotaBook, uid: u32, gid: u32, part: &Usage) -> bool
-    ensures { IsTrue result → HasAll uid gid part.now.files part.now.blocks (used book.now) }
+    ensures { IsTrue result → HasAll uid gid part.now.files part.now.blocks (used book.now.book) }
 {
     has(book, Owner::User(uid), part)
         && has(book, Owner::Group(gid), part)
