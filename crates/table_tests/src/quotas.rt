@@ -214,8 +214,8 @@ fn owners_are_told_apart(rt: HostRuntime) -> Result<(), Fail> {
     Ok(())
 }
 
-/// Those who used something when it was kept, and those who use something now; limits that came, and
-/// limits that went.
+/// Those who used something when it was kept, and those who use something now; limits that came,
+/// and limits that went.
 static KEPT: &str = "
 limit user 10 5 0 -> 0 5 0 0
 charge 10 20 2 32 -> done
