@@ -1,5 +1,5 @@
 -- Where a step goes on.
-use Rattle.std.specs.Prelude.{◌≡◌, List, Option, Some, Contains, IfSome}
+use Rattle.std.specs.Prelude.{◌≡◌, ℕ, List, Option, Some, Contains, IfSome}
 use Rattle.domain_base.specs.declared.place.CellAt.{CellAt}
 use Rattle.page_store.specs.Pages.{Pages}
 use Rattle.chain_release.specs.declared.reader.OwnPages.{OwnPages}
@@ -23,9 +23,11 @@ IsOfEntry entries cursor = IfSome cursor (λ c. (entry : Entry) × Contains entr
 abbrev pub IsLeftAt : CellAt → Went → Option Cursor → Type 0
 IsLeftAt file went cursor = IfSome cursor (λ c. (went ≡ Part) × (c.file ≡ file))
 
--- a list of what is to be let go of, where the next step goes on, and what is known of the clone's
--- file that reads through the one of which that lets something go
+-- a list of what is to be let go of, where the next step goes on, what is known of the clone's file
+-- that reads through the one of which that lets something go, and for how many entries more there
+-- is room
 pub record Deferral : Type 0 where
   pub list : Listing
   pub cursor : Option Cursor
   pub known : Option OwnPages
+  pub room : ℕ

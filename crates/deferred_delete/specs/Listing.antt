@@ -11,6 +11,11 @@ pub record Listing : Type 0 where
   pub entries : List Entry
   pub tag_pages : List Home
 
+-- a list, and for how many entries more it has room
+pub record Roomy : Type 0 where
+  pub list : Listing
+  pub room : ℕ
+
 -- nothing is on it
 abbrev pub IsEmpty : Listing → Type 0
 IsEmpty list = (list.entries ≡ []) × (list.tag_pages ≡ [])

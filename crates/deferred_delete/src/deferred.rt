@@ -22,7 +22,8 @@ use std::marker::Model;
 
 /// Files of which pages behind those that they keep, or all, are to be let go of, and pages of tag
 /// directories that were removed; where the next step goes on; and what is known of the clone's
-/// file that reads through the one of which it lets something go.
+/// file that reads through the one of which it lets something go. There is room for some entries
+/// more, which take no memory then.
 #[derive(Drop)]
 pub struct Deferred {
     queue: Queue,
@@ -35,7 +36,12 @@ impl Model for Deferred {
 
     ghost Value = { Deferral };
 
-    ghost view = { λ d. record { list = d.queue; cursor = d.cursor; known = d.known } };
+    ghost view = { λ d. record {
+      list = d.queue.list;
+      cursor = d.cursor;
+      known = d.known;
+      room = d.queue.room;
+    } };
 }
 
 impl Deferred {
@@ -61,6 +67,7 @@ impl Deferred {
         ensures list { self.new.list ≡ self.old.list }
         ensures cursor { self.new.cursor ≡ None }
         ensures known { self.new.known ≡ None }
+        ensures room { self.new.room ≡ self.old.room }
     {
         self.cursor = None;
         self.known = None;
@@ -73,14 +80,29 @@ impl Deferred {
         ensures list { self.new.list ≡ self.old.list }
         ensures cursor { self.new.cursor ≡ self.old.cursor }
         ensures known { self.new.known ≡ None }
+        ensures room { self.new.room ≡ self.old.room }
     {
         self.known = None;
     }
 
+    /// Makes room for so many entries more: as many calls of `add` take no memory then, and have no
+    /// error. After an error nothing has changed.
+    pub fn reserve(&mut self, more: usize) -> Result<(), OutOfMemory>
+        ensures ok { OnOk result (more ≤ self.new.room) }
+        ensures list { self.new.list ≡ self.old.list }
+        ensures err { OnErr result (self.new ≡ self.old) }
+        ensures cursor { self.new.cursor ≡ self.old.cursor }
+        ensures known { self.new.known ≡ self.old.known }
+        ensures room { self.old.room ≤ self.new.room }
+    {
+        self.queue.reserve(more)
+    }
+
     /// Adds the file that begins at a cell, with the clone's file that reads through it, or the
     /// first quota cell of a fileset that was removed. Where it is there already, its clone is set
-    /// anew, and that takes no memory. Where the clone's file stands on the list in front of it,
-    /// the two change places, so that the clone's goes first. After an error nothing has changed.
+    /// anew, and that takes no memory, nor does it where there is room. Where the clone's file
+    /// stands on the list in front of it, the two change places, so that the clone's goes first.
+    /// After an error nothing has changed.
     ///
     /// What goes of a file is what its first cell says then: so a file that is to be trimmed and is
     /// taken out of use goes as a whole, listed again or not. The steps want one that says
@@ -93,6 +115,8 @@ impl Deferred {
             → IsOk result }
         ensures cursor { self.new.cursor ≡ self.old.cursor }
         ensures known { self.new.known ≡ self.old.known }
+        ensures room { self.old.room ≤ self.new.room + 1 }
+        ensures has_room { 1 ≤ self.old.room → IsOk result }
     {
         self.queue.add(at, clone)
     }
@@ -106,6 +130,7 @@ impl Deferred {
         ensures err { OnErr result (self.new ≡ self.old) }
         ensures cursor { self.new.cursor ≡ self.old.cursor }
         ensures known { self.new.known ≡ self.old.known }
+        ensures room { self.new.room ≡ self.old.room }
     {
         self.queue.add_tag_page(home)
     }
@@ -142,10 +167,10 @@ impl Deferred {
     /// Pending record, with which all pages are kept again; a clone's reading through a file that
     /// goes; the last cell of a removed file or of quotas; or a page of a tag directory, to which
     /// the page in front of it leads no more. It answers how many steps were done, 0 exactly where
-    /// the list is empty. What no file has any more waits for the group. At most 30 pages of
-    /// metadata change, beside those of bitmaps, which the caller keeps: it stops in front of a
-    /// step with which there might be more, which has two pages, or five where the entry gives a
-    /// clone.
+    /// the list is empty. What no file has any more waits for the group. At most so many pages of
+    /// metadata change as the call says, five or more, beside those of bitmaps, which the caller
+    /// keeps: it stops in front of a step with which there might be more, which has two pages, or
+    /// five where the entry gives a clone.
     ///
     /// Where a step cannot be done, those in front of it are answered, if there is one, and the
     /// next call says why. So at an Err nothing but room and the count of misses has changed.
@@ -166,7 +191,9 @@ impl Deferred {
         cells: &mut FreeCells,
         group: u64,
         version: Version,
+        most: u32,
     ) -> Result<u32, StoreFault>
+        requires most { 5 ≤ most }
         requires well { (files : Files) × IsWell (now_of self.old.list files space.old cells.old
             (M.pages pages.old)) }
         requires ahead { IsAhead (M.pages pages.old) self.old.cursor }
@@ -181,7 +208,7 @@ impl Deferred {
         ensures some { IfOk result (λ count. (count ≡ 0) ↔ IsEmpty self.old.list) }
         ensures empty { IsEmpty self.old.list → result ≡ Ok 0 }
         ensures most { IfOk result (λ count. count ≤ 16) }
-        ensures few { OnOk result (ChangesAtMost 30 (M.pages pages.old) (M.pages pages.new)) }
+        ensures few { OnOk result (ChangesAtMost most (M.pages pages.old) (M.pages pages.new)) }
         ensures err { IfErr result (FindsNone space.old space.new cells.old) }
         ensures full { (files : Files) → IsWell (now_of self.old.list files space.old cells.old
             (M.pages pages.old)) → IfErr result (λ fault. fault ≡ NoPage
@@ -190,6 +217,7 @@ impl Deferred {
         ensures cells { OnErr result (cells.new ≡ cells.old) }
         ensures pages { OnErr result (M.pages pages.new ≡ M.pages pages.old) }
         ensures room { M.room pages.old ≤ M.room pages.new + 16 }
+        ensures list_room { self.old.room ≤ self.new.room }
         ensures before { M.before pages.new ≡ M.before pages.old }
     {
         self.queue.release_some(
@@ -201,6 +229,7 @@ impl Deferred {
             &mut self.known,
             group,
             version,
+            most,
         )
     }
 }

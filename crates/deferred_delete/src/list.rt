@@ -1,7 +1,7 @@
 //! The list of what is to be let go of.
-ghost use Rattle.std.specs.Prelude.{◌≡◌, ◌<◌, ◌∷◌, ◌++◌, ◌-◌, [], ℕ, Contains, IfNone, IfOk, IfSome, IsOk, OnErr, OnOk, false, get_or, length, slice_get, true};
+ghost use Rattle.std.specs.Prelude.{◌≡◌, ◌+◌, ◌<◌, ◌≤◌, ◌∷◌, ◌++◌, ◌-◌, [], ℕ, Contains, IfNone, IfOk, IfSome, IsOk, OnErr, OnOk, false, get_or, length, slice_get, true, vec_capacity, vec_len};
 ghost use Rattle.deferred_delete.specs.declared.list.Entry.{Entry as EntryOf};
-ghost use Rattle.deferred_delete.specs.Listing.{Adds, Listing, Orders, Puts, clone_but as but_there, without_clone};
+ghost use Rattle.deferred_delete.specs.Listing.{Adds, Orders, Puts, clone_but as but_there, without_clone};
 
 use domain_base::{CellAt, Home, OutOfMemory};
 use std::alloc::Global;
@@ -18,7 +18,7 @@ pub struct Entry {
 }
 
 /// Files of which pages behind those that they keep, or all, are to be let go of, and pages of tag
-/// directories that were removed.
+/// directories that were removed. There is room for some entries more, which take no memory then.
 #[derive(Drop)]
 pub(crate) struct Queue {
     pub(crate) entries: Vec<Entry>,
@@ -26,11 +26,15 @@ pub(crate) struct Queue {
 }
 
 impl Model for Queue {
-    ghost use Rattle.deferred_delete.specs.Listing.{Listing};
+    ghost use Rattle.std.specs.Prelude.{◌-◌, vec_capacity, vec_len};
+    ghost use Rattle.deferred_delete.specs.Listing.{Roomy};
 
-    ghost Value = { Listing };
+    ghost Value = { Roomy };
 
-    ghost view = { λ d. record { entries = d.entries.items; tag_pages = d.tag_pages.items } };
+    ghost view = { λ d. record {
+      list = record { entries = d.entries.items; tag_pages = d.tag_pages.items };
+      room = vec_capacity d.entries - vec_len d.entries;
+    } };
 }
 
 /// Where an entry has that file, if one does.
@@ -62,7 +66,9 @@ fn clone_but(clone: &Option<CellAt>, at: &CellAt) -> Option<CellAt>
 
 /// Sees to it that no entry gives that file as its clone's.
 pub(crate) fn forget(entries: &mut Vec<Entry>, at: &CellAt)
-    ensures { entries.new.items ≡ without_clone at.now entries.old.items }
+    ensures items { entries.new.items ≡ without_clone at.now entries.old.items }
+    ensures len { vec_len entries.new ≡ vec_len entries.old }
+    ensures capacity { vec_capacity entries.new ≡ vec_capacity entries.old }
 {
     for i in 0..entries.len() {
         entries[i].clone = clone_but(&entries[i].clone, at);
@@ -73,7 +79,9 @@ pub(crate) fn forget(entries: &mut Vec<Entry>, at: &CellAt)
 /// at that place: what reads through a file goes first, so that nothing is handed to what goes.
 fn put_behind(entries: &mut Vec<Entry>, place: usize, clone: &Option<CellAt>)
     requires { place < length entries.old.items }
-    ensures { Orders clone.now place entries.old.items entries.new.items }
+    ensures orders { Orders clone.now place entries.old.items entries.new.items }
+    ensures len { vec_len entries.new ≡ vec_len entries.old }
+    ensures capacity { vec_capacity entries.new ≡ vec_capacity entries.old }
 {
     let Some(clone) = clone else {
         return;
@@ -91,8 +99,8 @@ fn put_behind(entries: &mut Vec<Entry>, place: usize, clone: &Option<CellAt>)
 impl Queue {
     /// Nothing is to be let go of.
     pub(crate) fn new(alloc: Global) -> Queue
-        ensures entries { result.entries ≡ [] }
-        ensures tag_pages { result.tag_pages ≡ [] }
+        ensures entries { result.list.entries ≡ [] }
+        ensures tag_pages { result.list.tag_pages ≡ [] }
     {
         Queue {
             entries: Vec::new(alloc),
@@ -100,15 +108,29 @@ impl Queue {
         }
     }
 
+    /// Makes room for so many entries more, which take no memory then. After an error nothing has
+    /// changed.
+    pub(crate) fn reserve(&mut self, more: usize) -> Result<(), OutOfMemory>
+        ensures ok { OnOk result (more ≤ self.new.room) }
+        ensures list { self.new.list ≡ self.old.list }
+        ensures err { OnErr result (self.new ≡ self.old) }
+        ensures room { self.old.room ≤ self.new.room }
+    {
+        self.entries.reserve(more)?;
+        Ok(())
+    }
+
     /// Gives the file that begins at a cell an entry with that clone: where it has one, and else
     /// behind all others. It answers where that stands.
     fn put(&mut self, at: CellAt, clone: Option<CellAt>) -> Result<usize, OutOfMemory>
-        ensures ok { OnOk result (self.new.tag_pages ≡ self.old.tag_pages) }
-        ensures puts { IfOk result (λ place. Puts at clone place self.old.entries
-            self.new.entries) }
-        ensures within { IfOk result (λ place. place < length self.new.entries) }
+        ensures ok { OnOk result (self.new.list.tag_pages ≡ self.old.list.tag_pages) }
+        ensures puts { IfOk result (λ place. Puts at clone place self.old.list.entries
+            self.new.list.entries) }
+        ensures within { IfOk result (λ place. place < length self.new.list.entries) }
         ensures err { OnErr result (self.new ≡ self.old) }
-        ensures there { (entry : EntryOf) → Contains self.old.entries entry → entry.at ≡ at
+        ensures room { self.old.room ≤ self.new.room + 1 }
+        ensures has_room { 1 ≤ self.old.room → IsOk result }
+        ensures there { (entry : EntryOf) → Contains self.old.list.entries entry → entry.at ≡ at
             → IsOk result }
     {
         match find_entry(self.entries.as_slice(), &at) {
@@ -118,7 +140,8 @@ impl Queue {
             }
             None => {
                 let behind = self.entries.len();
-                self.entries.push(Entry { at, clone })?;
+                self.entries.reserve(1)?;
+                self.entries.push_reserved(Entry { at, clone });
                 Ok(behind)
             }
         }
@@ -133,10 +156,12 @@ impl Queue {
     /// taken out of use goes as a whole, listed again or not. The steps want one that says
     /// something.
     pub(crate) fn add(&mut self, at: CellAt, clone: Option<CellAt>) -> Result<(), OutOfMemory>
-        ensures ok { OnOk result (Adds at clone self.old.entries self.new.entries) }
-        ensures tag_pages { self.new.tag_pages ≡ self.old.tag_pages }
+        ensures ok { OnOk result (Adds at clone self.old.list.entries self.new.list.entries) }
+        ensures tag_pages { self.new.list.tag_pages ≡ self.old.list.tag_pages }
         ensures err { OnErr result (self.new ≡ self.old) }
-        ensures there { (entry : EntryOf) → Contains self.old.entries entry → entry.at ≡ at
+        ensures room { self.old.room ≤ self.new.room + 1 }
+        ensures has_room { 1 ≤ self.old.room → IsOk result }
+        ensures there { (entry : EntryOf) → Contains self.old.list.entries entry → entry.at ≡ at
             → IsOk result }
     {
         let place = self.put(at, clone)?;
@@ -148,9 +173,10 @@ impl Queue {
     /// pages of a directory are added in their chain's order, so that the last one is given back
     /// first, and then the one in front of it leads to none. After an error nothing has changed.
     pub(crate) fn add_tag_page(&mut self, home: Home) -> Result<(), OutOfMemory>
-        ensures ok { OnOk result (self.new.tag_pages ≡ self.old.tag_pages ++ home ∷ []) }
-        ensures entries { self.new.entries ≡ self.old.entries }
+        ensures ok { OnOk result (self.new.list.tag_pages ≡ self.old.list.tag_pages ++ home ∷ []) }
+        ensures entries { self.new.list.entries ≡ self.old.list.entries }
         ensures err { OnErr result (self.new ≡ self.old) }
+        ensures room { self.new.room ≡ self.old.room }
     {
         self.tag_pages.push(home)?;
         Ok(())
@@ -159,7 +185,7 @@ impl Queue {
     /// The entry of whose file something is let go of next: the last one. None where no file is on
     /// the list.
     pub(crate) fn last(&self) -> Option<Entry>
-        ensures { result ≡ slice_get self.now.entries (length self.now.entries - 1) }
+        ensures { result ≡ slice_get self.now.list.entries (length self.now.list.entries - 1) }
     {
         self.entries.last().copied()
     }
@@ -167,15 +193,17 @@ impl Queue {
     /// The page of a tag directory that is given back next, once no file is on the list: the last
     /// one. None where no such page is.
     pub(crate) fn last_tag_page(&self) -> Option<Home>
-        ensures { result ≡ slice_get self.now.tag_pages (length self.now.tag_pages - 1) }
+        ensures { result ≡ slice_get self.now.list.tag_pages (length self.now.list.tag_pages - 1) }
     {
         self.tag_pages.last().copied()
     }
 
     /// Whether nothing is to be let go of.
     pub(crate) fn is_empty(&self) -> bool
-        ensures none { result ≡ true → (self.now.entries ≡ []) × (self.now.tag_pages ≡ []) }
-        ensures some { result ≡ false → (self.now.entries ≡ []) → ¬ self.now.tag_pages ≡ [] }
+        ensures none { result ≡ true → (self.now.list.entries ≡ [])
+            × (self.now.list.tag_pages ≡ []) }
+        ensures some { result ≡ false → (self.now.list.entries ≡ [])
+            → ¬ self.now.list.tag_pages ≡ [] }
     {
         self.entries.is_empty() && self.tag_pages.is_empty()
     }

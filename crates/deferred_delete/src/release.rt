@@ -27,16 +27,14 @@ use tag_dirs::unlink_page;
 /// How many steps a call does at most.
 const STEPS: u32 = 16;
 
-/// How many pages of metadata they change at most, beside those of bitmaps.
-const PAGES: u32 = 30;
-
 impl Queue {
     /// Takes off the last entry what went of it, and off the others a clone of which nothing is
     /// left.
     fn leave(&mut self, went: Went)
-        requires { (front : List EntryOf) × (entry : EntryOf) × IsLast front entry self.old }
-        ensures { (front : List EntryOf) (entry : EntryOf) → IsLast front entry self.old
-            → self.new ≡ list_after went front entry self.old }
+        requires { (front : List EntryOf) × (entry : EntryOf) × IsLast front entry self.old.list }
+        ensures list { (front : List EntryOf) (entry : EntryOf) → IsLast front entry self.old.list
+            → self.new.list ≡ list_after went front entry self.old.list }
+        ensures room { self.old.room ≤ self.new.room }
     {
         match went {
             Went::Part => {}
@@ -63,14 +61,15 @@ impl Queue {
         space: &mut FreeSpace,
         group: u64,
     ) -> bool
-        requires none { self.old.entries ≡ [] }
-        requires held { (home : HomeOf) → Contains self.old.tag_pages home
+        requires none { self.old.list.entries ≡ [] }
+        requires held { (home : HomeOf) → Contains self.old.list.tag_pages home
             → IsHeld space.old home.vol home.page }
-        ensures some { result ≡ true → TakesTagPage group self.old self.new space.old space.new
-            (M.pages pages.old) (M.pages pages.new) }
-        ensures nothing { result ≡ false → (self.old.tag_pages ≡ []) × (self.new ≡ self.old)
+        ensures some { result ≡ true → TakesTagPage group self.old.list self.new.list space.old
+            space.new (M.pages pages.old) (M.pages pages.new) }
+        ensures nothing { result ≡ false → (self.old.list.tag_pages ≡ []) × (self.new ≡ self.old)
             × (space.new ≡ space.old) × (M.pages pages.new ≡ M.pages pages.old) }
         ensures room { M.room pages.new ≡ M.room pages.old }
+        ensures list_room { self.new.room ≡ self.old.room }
         ensures before { M.before pages.new ≡ M.before pages.old }
     {
         match self.tag_pages.pop() {
@@ -85,7 +84,7 @@ impl Queue {
 
     /// How many pages of metadata the next step changes at most.
     fn step_pages(&self) -> u32
-        ensures { result ≡ pages_of_step self.now }
+        ensures { result ≡ pages_of_step self.now.list }
     {
         match self.last() {
             Some(Entry { clone: Some(_), .. }) => 5,
@@ -106,32 +105,33 @@ impl Queue {
         group: u64,
         version: Version,
     ) -> Result<bool, StoreFault>
-        requires well { (files : Files) × IsWell (now_of self.old files space.old cells.old
+        requires well { (files : Files) × IsWell (now_of self.old.list files space.old cells.old
             (M.pages pages.old)) }
         requires ahead { IsAhead (M.pages pages.old) cursor.old }
         requires known { IsKnown (M.pages pages.old) known.old }
         ensures ahead { IsAhead (M.pages pages.new) cursor.new }
         ensures known { IsKnown (M.pages pages.new) known.new }
-        ensures on { OnOk result (IsOfEntry self.new.entries cursor.new) }
+        ensures on { OnOk result (IsOfEntry self.new.list.entries cursor.new) }
         ensures place { OnErr result (cursor.new ≡ cursor.old) }
         ensures same { OnErr result (known.new ≡ known.old) }
-        ensures ok { (files : Files) → IsWell (now_of self.old files space.old cells.old
+        ensures ok { (files : Files) → IsWell (now_of self.old.list files space.old cells.old
             (M.pages pages.old)) → IfOk result (λ some. some ≡ true → Leaves group version
-            (now_of self.old files space.old cells.old (M.pages pages.old)) self.new space.new
-            cells.new (M.pages pages.new)) }
-        ensures nothing { IfOk result (λ some. some ≡ false → IsEmpty self.old
+            (now_of self.old.list files space.old cells.old (M.pages pages.old)) self.new.list
+            space.new cells.new (M.pages pages.new)) }
+        ensures nothing { IfOk result (λ some. some ≡ false → IsEmpty self.old.list
             × (self.new ≡ self.old) × (space.new ≡ space.old) × (cells.new ≡ cells.old)
             × (M.pages pages.new ≡ M.pages pages.old)) }
-        ensures there { IfOk result (λ some. some ≡ true → ¬ IsEmpty self.old) }
-        ensures listed { OnErr result (¬ IsEmpty self.old) }
+        ensures there { IfOk result (λ some. some ≡ true → ¬ IsEmpty self.old.list) }
+        ensures listed { OnErr result (¬ IsEmpty self.old.list) }
         ensures err { IfErr result (FindsNone space.old space.new cells.old) }
-        ensures full { (files : Files) → IsWell (now_of self.old files space.old cells.old
+        ensures full { (files : Files) → IsWell (now_of self.old.list files space.old cells.old
             (M.pages pages.old)) → IfErr result (λ fault. fault ≡ NoPage
-            → LacksRoom self.old files) }
+            → LacksRoom self.old.list files) }
         ensures list { OnErr result (self.new ≡ self.old) }
         ensures cells { OnErr result (cells.new ≡ cells.old) }
         ensures pages { OnErr result (M.pages pages.new ≡ M.pages pages.old) }
         ensures room { M.room pages.old ≤ M.room pages.new + 1 }
+        ensures list_room { self.old.room ≤ self.new.room }
         ensures before { M.before pages.new ≡ M.before pages.old }
     {
         let count = self.entries.len();
@@ -152,9 +152,9 @@ impl Queue {
         }
     }
 
-    /// Lets go of things of the list, one after the other, at most sixteen, and begins behind the
-    /// cursor's cell; the cursor is then where the next step goes on, and what is known of a
-    /// clone's file what that step may use.
+    /// Lets go of things of the list, one after the other, at most sixteen, with which at most so
+    /// many pages of metadata change, and begins behind the cursor's cell; the cursor is then where
+    /// the next step goes on, and what is known of a clone's file what that step may use.
     pub(crate) fn release_some<M: MetaPages>(
         &mut self,
         alloc: Global,
@@ -165,39 +165,42 @@ impl Queue {
         known: &mut Option<OwnPages>,
         group: u64,
         version: Version,
+        most: u32,
     ) -> Result<u32, StoreFault>
-        requires well { (files : Files) × IsWell (now_of self.old files space.old cells.old
+        requires most { 5 ≤ most }
+        requires well { (files : Files) × IsWell (now_of self.old.list files space.old cells.old
             (M.pages pages.old)) }
         requires ahead { IsAhead (M.pages pages.old) cursor.old }
         requires known { IsKnown (M.pages pages.old) known.old }
         ensures ahead { IsAhead (M.pages pages.new) cursor.new }
         ensures known { IsKnown (M.pages pages.new) known.new }
-        ensures on { OnOk result (IsOfEntry self.new.entries cursor.new) }
+        ensures on { OnOk result (IsOfEntry self.new.list.entries cursor.new) }
         ensures place { OnErr result (cursor.new ≡ cursor.old) }
         ensures same { OnErr result (known.new ≡ known.old) }
-        ensures ok { (files : Files) → IsWell (now_of self.old files space.old cells.old
+        ensures ok { (files : Files) → IsWell (now_of self.old.list files space.old cells.old
             (M.pages pages.old)) → IfOk result (λ count. LetsGo group version
-            (now_of self.old files space.old cells.old (M.pages pages.old)) count self.new space.new
-            cells.new (M.pages pages.new)) }
-        ensures some { IfOk result (λ count. (count ≡ 0) ↔ IsEmpty self.old) }
-        ensures empty { IsEmpty self.old → result ≡ Ok 0 }
+            (now_of self.old.list files space.old cells.old (M.pages pages.old)) count self.new.list
+            space.new cells.new (M.pages pages.new)) }
+        ensures some { IfOk result (λ count. (count ≡ 0) ↔ IsEmpty self.old.list) }
+        ensures empty { IsEmpty self.old.list → result ≡ Ok 0 }
         ensures most { IfOk result (λ count. count ≤ 16) }
-        ensures few { OnOk result (ChangesAtMost 30 (M.pages pages.old) (M.pages pages.new)) }
+        ensures few { OnOk result (ChangesAtMost most (M.pages pages.old) (M.pages pages.new)) }
         ensures err { IfErr result (FindsNone space.old space.new cells.old) }
-        ensures full { (files : Files) → IsWell (now_of self.old files space.old cells.old
+        ensures full { (files : Files) → IsWell (now_of self.old.list files space.old cells.old
             (M.pages pages.old)) → IfErr result (λ fault. fault ≡ NoPage
-            → LacksRoom self.old files) }
+            → LacksRoom self.old.list files) }
         ensures list { OnErr result (self.new ≡ self.old) }
         ensures cells { OnErr result (cells.new ≡ cells.old) }
         ensures pages { OnErr result (M.pages pages.new ≡ M.pages pages.old) }
         ensures room { M.room pages.old ≤ M.room pages.new + 16 }
+        ensures list_room { self.old.room ≤ self.new.room }
         ensures before { M.before pages.new ≡ M.before pages.old }
     {
         let mut count = 0;
         let mut changed = 0;
         for _ in 0..STEPS {
             changed += self.step_pages();
-            if PAGES < changed {
+            if most < changed {
                 return Ok(count);
             }
             match self.release_one(alloc, pages, space, cells, cursor, known, group, version) {

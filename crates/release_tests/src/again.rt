@@ -62,6 +62,7 @@ fn let_go(
         &mut world.cells,
         5,
         version,
+        30,
     )?)
 }
 

@@ -98,7 +98,7 @@ pub fn release_by<M: MetaPages>(
     ensures most { IfOk result (λ count. count ≤ 16) }
     ensures well { HasWellBy (M.pages pages.new) space.new cells.new list.new.list }
 {
-    list.release_some(alloc, pages, space, cells, 5, version)
+    list.release_some(alloc, pages, space, cells, 5, version, 30)
 }
 
 /// The same of a world, in which the first step looks from a file's first cell on.

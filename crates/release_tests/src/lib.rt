@@ -10,6 +10,7 @@ pub mod looks;
 pub mod making;
 pub mod onward;
 pub mod removing;
+pub mod room;
 pub mod seen;
 #[cfg(test)]
 mod steps;

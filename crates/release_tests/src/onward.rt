@@ -49,6 +49,7 @@ fn go_on(alloc: Global, world: &mut World, list: &mut Deferred) -> Result<u32, F
         &mut world.cells,
         5,
         Version::Four,
+        30,
     )?)
 }
 

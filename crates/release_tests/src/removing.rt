@@ -88,6 +88,7 @@ fn release_some(alloc: Global, world: &mut World, list: &mut Deferred) -> Result
         &mut world.cells,
         5,
         Version::Four,
+        30,
     )?)
 }
 

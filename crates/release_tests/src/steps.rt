@@ -8,6 +8,7 @@ use crate::clones::{
 use crate::cost::{removed as removed_in, removed_beside, trimmed_down, trimmed_mixed, trimmed_up};
 use crate::onward::nine_files;
 use crate::removing::{Leads, Seen, removed_fileset};
+use crate::room::last_of_three;
 use crate::seen::{TrimSeen, many_extents, many_removed, removed, tag_page, trim};
 use domain_base::{Kind, Version};
 use std::alloc::Global;
@@ -340,5 +341,12 @@ fn a_page_is_given_behind_a_trim_that_is_done(rt: HostRuntime) -> Result<(), Fai
     let seen = rewritten(rt.alloc())?;
     let rows = [[0, 3, 1], [9, 9, 1], [0; 3], [0; 3]];
     assert_eq!(rt; seen, (2, rows, (65_536, false), [54, 5]));
+    Ok(())
+}
+
+#[test]
+fn files_are_added_where_there_is_room(rt: HostRuntime) -> Result<(), Fail> {
+    let last = last_of_three(rt.alloc())?;
+    assert_eq!(rt; last, Some(5));
     Ok(())
 }

@@ -19,9 +19,13 @@ loop-i-preserved c =
     let items = c.loop-i.entries.items in
     let i = c.loop-i.i in
     let within : i < length all = omega (arith, c.loop-i-test.true, c.len-i-end.ensures, c.args.entries.now.ok.0) in
-    let inside : i < length items = omega (arith, within, ap length c.loop-i.invariant, as_long (without at) all i within) in
+    let inside : i < length items = omega (arith, within, ap length c.loop-i.invariant.items, as_long (without at) all i within) in
     let item = c.index_mut.result.now in
     let seen = c.index.result.now in
     let same : seen ≡ item = c.index.ensures ∙ there_is items i seen item inside ∙ sym c.index_mut.ensures.value in
-    ap (λ (o : Option CellAt). slice_set items i (record item { clone = o })) (c.clone_but.ensures ∙ ap (λ (e : Entry). clone_but at e.clone) same)
-    ∙ map_over_more (without at) all items i item within c.loop-i.invariant c.index_mut.ensures.value
+    record {
+      items = ap (λ (o : Option CellAt). slice_set items i (record item { clone = o })) (c.clone_but.ensures ∙ ap (λ (e : Entry). clone_but at e.clone) same)
+          ∙ map_over_more (without at) all items i item within c.loop-i.invariant.items c.index_mut.ensures.value;
+      len = c.loop-i.invariant.len;
+      capacity = c.loop-i.invariant.capacity;
+    }

@@ -4,8 +4,8 @@ use Rattle.deferred_delete.specs.declared.list.Entry.{Entry}
 use Rattle.deferred_delete.specs.Listing.{Orders}
 use Rattle.deferred_delete.proofs.list.put_behind.Goals as goal
 
-pub returns-in-None : goal.returns-in-None
-returns-in-None c =
+pub returns-in-None-clause-orders : goal.returns-in-None-clause-orders
+returns-in-None-clause-orders c =
     let items = c.args.entries.now.items in
     subst (λ o. Orders o c.args.place items items) (sym c.in-Some.is)
     (inr (record {
