@@ -18,3 +18,4 @@ pub mod Created
 pub mod FirstTogether
 pub mod RemovedTogether
 pub mod Moved
+pub mod NewDirectory

@@ -1,5 +1,5 @@
 -- A new file or directory.
-use Rattle.std.specs.Prelude.{◌≡◌, ◌==◌, ◌≤◌, ◌+◌, ◌⊎◌, ◌++◌, ℕ, true, false, List, [], ◌∷◌, Option, Some, None, Contains, if◌then◌else◌, unwrap_or}
+use Rattle.std.specs.Prelude.{◌≡◌, ◌==◌, ◌≤◌, ◌+◌, ◌⊎◌, ◌++◌, ℕ, true, false, List, [], ◌∷◌, Option, Some, None, IsSomeAnd, Contains, if◌then◌else◌, unwrap_or}
 use Rattle.std.specs.List.{AllByRecursion}
 use Rattle.domain_base.specs.declared.place.CellAt.{CellAt}
 use Rattle.domain_base.specs.declared.place.Home.{Home}
@@ -20,6 +20,7 @@ use Rattle.bmt_mcells.specs.declared.head.CellKind.TheVariants.{Primary}
 use Rattle.bmt_mcells.specs.CellPage.{KeepsHeaders, KeepsWellFormed, home_of}
 use Rattle.bmt_mcells.specs.Chain.{LeavesOthers, PlacedCell, StandsAt, is_at}
 use Rattle.tag_dirs.specs.declared.dir.TagPlace.{TagPlace}
+use Rattle.tag_dirs.specs.TagPage.{IsNewPage}
 use Rattle.tag_dirs.specs.Directory.{CanTake as CanTakeTag, IsNextIndex, SetsTag, has_home, sequence_of}
 use Rattle.extent_maps.specs.declared.run.PagePlace.TheVariants.{Absent}
 use Rattle.extent_records.specs.Rows.{runs_in}
@@ -142,6 +143,16 @@ CreatesNone places space space_now cells old OutOfMemory = space_now ≡ space
 abbrev pub LeavesBeside : Cells → List TagPlace → Pages → Pages → Type 0
 LeavesBeside cells places old new = (home : Home) → ¬ Contains (table_of cells home.vol) home.page
     → has_home places home ≡ false → new home ≡ old home
+
+-- the tag of the root directory of each fileset
+abbrev pub root_tag : Tag
+root_tag = record { slot = 1; seq = 1 }
+
+-- the tag directory of a new fileset: one page, no entry of which was ever used
+pub record IsNewDirectory (pages : Pages) (places : List TagPlace) : Type 0 where
+  pub home : Home
+  pub one : places ≡ record { index = 0; home = home } ∷ []
+  pub page : IsSomeAnd (pages home) (IsNewPage 0)
 
 -- ** What the functions within the crate answer
 

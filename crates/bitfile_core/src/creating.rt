@@ -1,6 +1,7 @@
 //! Files and directories made.
 ghost use Rattle.std.specs.Prelude.{◌≡◌, ◌∷◌, ◌++◌, ◌+◌, ◌*◌, ◌<◌, ◌≤◌, ℕ, [], IfErr, IfOk, IfSome, IsSomeAnd, List, OnErr, OnOk, Contains, Some, None, false, if◌then◌else◌, ◌==◌, length};
 ghost use Rattle.domain_base.specs.declared.place.Home.{Home as HomeOf};
+ghost use Rattle.domain_base.specs.declared.place.Kind.TheVariants.{Directory};
 ghost use Rattle.domain_base.specs.Page.{zero_bytes};
 ghost use Rattle.page_store.specs.Pages.{Pages, same_home};
 ghost use Rattle.bmt_mcells.specs.declared.head.CellKind.TheVariants.{Primary};
@@ -14,7 +15,7 @@ ghost use Rattle.free_space.specs.Spaces.{IsHeld, change_volume};
 ghost use Rattle.bitfile_cells.specs.Allocated.{AreAllocated, FindsNone, Takes};
 ghost use Rattle.bitfile_cells.specs.FileChanges.{LeavesOtherCells};
 ghost use Rattle.bitfile_cells.specs.MapChanges.{TakesOne};
-ghost use Rattle.bitfile_core.specs.Creation.{Creates, CreatesNone, Enters, LeavesBeside, TakesForFile, TakesNext, TakesTagPage, new_file};
+ghost use Rattle.bitfile_core.specs.Creation.{Creates, CreatesNone, Enters, IsNewDirectory, LeavesBeside, TakesForFile, TakesNext, TakesTagPage, new_file, root_tag};
 ghost use Rattle.domain_base.specs.declared.place.Tag.{Tag as TagOf};
 ghost use Rattle.extent_maps.specs.declared.run.PagePlace.TheVariants.{At};
 ghost use Rattle.bitfile_core.specs.Files.{Chains, place_at};
@@ -30,6 +31,9 @@ use free_space::FreeSpace;
 use page_store::{MetaPages, StoreFault};
 use std::alloc::Global;
 use tag_dirs::{ReadyPage, TagDir, put_ready};
+
+/// The tag of the root directory.
+const ROOT: Tag = Tag { slot: 1, seq: 1 };
 
 /// Makes a tag that can be taken lead to a cell, and that cell the first one of its file.
 fn enter_file<M: MetaPages>(
@@ -403,5 +407,77 @@ impl Bitfiles {
             version,
             prefer,
         )
+    }
+
+    /// Makes the root directory of a fileset whose tag directory is one page that was never used:
+    /// at tag 1 with sequence 1, with owner 0 and group 0, born at that clone's number, and else as
+    /// `create` makes a directory. Its cell is taken of the preferred volume if that has one. NoPage
+    /// comes only where no page is free and no cell can be taken; that is a miss. At an Err nothing
+    /// but room and the count of misses has changed.
+    pub fn create_root<M: MetaPages>(
+        &mut self,
+        alloc: Global,
+        pages: &mut M,
+        space: &mut FreeSpace,
+        cells: &mut FreeCells,
+        birth: u64,
+        version: Version,
+        prefer: VolIx,
+    ) -> Result<(), StoreFault>
+        requires together { HasTogether self.old.fileset self.old.tags space.old cells.old
+            (M.pages pages.old) }
+        requires fresh { IsNewDirectory (M.pages pages.old) self.old.tags }
+        ensures ok { (chains : Chains) → AreTogether self.old.fileset self.old.tags space.old
+            cells.old (M.pages pages.old) chains → OnOk result (Creates self.old.fileset
+            self.new.tags root_tag version (new_file Directory 0 0 birth) chains space.new cells.old
+            cells.new (M.pages pages.old) (M.pages pages.new)) }
+        ensures next { OnOk result (TakesNext root_tag self.old.tags self.new.tags
+            (M.pages pages.old) (M.pages pages.new)) }
+        ensures taken { OnOk result (TakesOne prefer space.old space.new cells.old cells.new
+            (M.pages pages.old)) }
+        ensures err { IfErr result (FindsNone space.old space.new cells.old) }
+        ensures kept { (chains : Chains) → AreTogether self.old.fileset self.old.tags space.old
+            cells.old (M.pages pages.old) chains → OnErr result (AreTogether self.new.fileset
+            self.new.tags space.new cells.new (M.pages pages.new) chains) }
+        ensures same { self.new ≡ self.old }
+        ensures cells { OnErr result (cells.new ≡ cells.old) }
+        ensures pages { OnErr result (M.pages pages.new ≡ M.pages pages.old) }
+        ensures others { LeavesOtherCells cells.old [] (M.pages pages.old) (M.pages pages.new) }
+        ensures elsewhere { LeavesBeside cells.new self.new.tags (M.pages pages.old)
+            (M.pages pages.new) }
+        ensures room { M.room pages.old ≤ M.room pages.new + 1 }
+        ensures before { M.before pages.new ≡ M.before pages.old }
+    {
+        let what = NewFile {
+            kind: Kind::Directory,
+            uid: 0,
+            gid: 0,
+            birth,
+        };
+        let fileset = self.fileset;
+        create_as(
+            &mut self.tags,
+            fileset,
+            alloc,
+            pages,
+            space,
+            cells,
+            &ROOT,
+            &what,
+            version,
+            prefer,
+        )
+    }
+
+    /// Forgets the last page of the tag directory, which no other has the index of: for where what
+    /// added it is taken back. It takes no memory.
+    pub fn forget_tag_page(&mut self)
+        requires { (places : List TagPlace) (place : TagPlace) → self.old.tags
+            ≡ places ++ place ∷ [] → home_with places place.index ≡ None }
+        ensures fileset { self.new.fileset ≡ self.old.fileset }
+        ensures tags { (places : List TagPlace) (place : TagPlace) → self.old.tags
+            ≡ places ++ place ∷ [] → self.new.tags ≡ places }
+    {
+        self.tags.forget_last();
     }
 }

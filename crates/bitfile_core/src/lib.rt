@@ -14,5 +14,5 @@ mod truncating;
 pub use attributes::Attributes;
 pub use bitfiles::Bitfiles;
 pub use indexing::IndexPlace;
-pub use laws::files_show_once;
+pub use laws::{a_first_page_is_new, a_new_directory_names_none, files_show_once};
 pub use new_cells::NewFile;

@@ -7,6 +7,8 @@ mod files;
 mod making;
 #[cfg(test)]
 mod moves;
+#[cfg(test)]
+mod roots;
 pub mod states;
 #[cfg(test)]
 mod told;

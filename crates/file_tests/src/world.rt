@@ -4,6 +4,7 @@ ghost use Rattle.domain_base.specs.declared.place.Home.{Home};
 ghost use Rattle.page_store.specs.Pages.{same_home};
 ghost use Rattle.memory_store.specs.Homes.{pages_of};
 ghost use Rattle.bmt_mcells.specs.CellPage.{IsEmptyPage};
+ghost use Rattle.bitfile_core.specs.Creation.{IsNewDirectory};
 ghost use Rattle.bitfile_core.specs.Together.{HasTogether};
 ghost use Rattle.file_tests.specs.First.{AreFirst, IsEmpty, first_map as first_map_of, first_space as first_space_of, home_at as home_there};
 
@@ -101,6 +102,8 @@ pub fn new_world(alloc: Global, count: u32) -> Result<World, Fail>
         world.space world.cells (pages_of world.pages.entries.items)) }
     ensures empty { IfOk result (λ world. IsEmpty world.files.fileset world.files.tags world.space
         world.cells (pages_of world.pages.entries.items)) }
+    ensures fresh { IfOk result (λ world. IsNewDirectory (pages_of world.pages.entries.items)
+        world.files.tags) }
 {
     let mut pages = first_pages(alloc)?;
     let cells = first_cells(alloc, &pages)?;

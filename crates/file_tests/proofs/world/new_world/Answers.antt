@@ -4,7 +4,9 @@ use Rattle.memory_store.specs.Homes.{pages_of}
 use Rattle.tag_dirs.specs.declared.dir.TagPlace.{TagPlace}
 use Rattle.tag_dirs.specs.Directory.{AddsPage}
 use Rattle.free_space.specs.Spaces.{Spaces}
+use Rattle.bitfile_core.specs.Creation.{IsNewDirectory}
 use Rattle.bitfile_core.specs.Together.{HasTogether}
+use Rattle.bitfile_core.proofs.NewDirectory.{first_new}
 use Rattle.file_tests.specs.First.{IsEmpty}
 use Rattle.file_tests.proofs.FirstFiles.{first_empty, first_together}
 use Rattle.file_tests.proofs.world.new_world.Goals as goal
@@ -35,3 +37,12 @@ returns-clause-empty c =
     subst (λ (ps : List TagPlace). IsEmpty c.new-files.result.fileset ps c.in_ok-space.space cells new) (sym tags)
     (subst (λ (s : Spaces). IsEmpty c.new-files.result.fileset (place ∷ []) s cells new) (sym c.in_ok-space.ensures)
     (first_empty c.args.count cells old new c.in_ok-cells.ensures place (ap placed c.home_at.ensures) adds c.new-files.result.fileset))
+
+pub returns-clause-fresh : goal.returns-clause-fresh
+returns-clause-fresh c =
+    let old = pages_of c.in_ok-pages.pages.entries.items in
+    let new = pages_of c.add_page.new.pages.entries.items in
+    let place = placed c.home_at.result in
+    let adds = subst (λ (ps : List TagPlace). AddsPage place ps old new) c.new-tags.ensures c.in_ok-add_page.ensures.added in
+    let tags = c.new-files.ensures.tags ∙ c.in_ok-add_page.ensures.ok ∙ ap (λ (ps : List TagPlace). ps ++ place ∷ []) c.new-tags.ensures in
+    subst (IsNewDirectory new) (sym tags) (first_new c.home_at.result old new adds)
