@@ -42,7 +42,7 @@ pub record IsTheCell (number : ℕ) (kind : CellKind) : Type 0 where
 module _ (pages : Pages) (frame : Frame) (anchor : IsNewAnchor frame) (page : List ℕ) (there : pages (on_first (firsts frame).cells) ≡ Some page) (is : IsNewCells frame page) where
   -- ---- one cell
 
-  known : AllByRecursion (λ r. kind_of r ≤ last_kind frame.version) is.cell.records
+  pub known : AllByRecursion (λ r. kind_of r ≤ last_kind frame.version) is.cell.records
   known = subst (AllByRecursion (λ r. kind_of r ≤ last_kind frame.version)) (sym is.says.says) (volume_known frame.version, tt)
 
   some_wrong : (cell : ℕ) → cell < 28 → ¬ IsFreeCell (cell_of page cell) → ((c : Cell) → ¬ IsCellOf frame.version (cell_of page cell) c) → ⊥

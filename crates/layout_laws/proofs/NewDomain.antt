@@ -22,7 +22,7 @@ use Rattle.layout_laws.proofs.NewTags.{all_free, no_directory_fault, no_tags_fau
 use Rattle.layout_laws.proofs.NewPages.{no_bitmap_fault, no_extent_fault, no_index_fault}
 
 module _ (pages : Pages) (frame : Frame) (new : IsNew pages frame) where
-  cells : HasOne (pages (on_first (firsts frame).cells)) (IsNewCells frame)
+  pub cells : HasOne (pages (on_first (firsts frame).cells)) (IsNewCells frame)
   cells = one_of (pages (on_first (firsts frame).cells)) (IsNewCells frame) new.cells
 
   table : HasOne (pages (on_first (firsts frame).table)) IsNewTablePage
@@ -38,7 +38,7 @@ module _ (pages : Pages) (frame : Frame) (new : IsNew pages frame) where
   fresh : (home : Home) (other : Table) → frame.anchor.table ≡ Some home → IsSomeAnd (pages home) (λ page. IsTablePage page other) → IsNewTable other
   fresh home other at said = subst IsNewTable (sym (table_is home other at said)) table.is.fresh
 
-  no_reserved : ¬ IsReserved frame (on_first (firsts frame).table)
+  pub no_reserved : ¬ IsReserved frame (on_first (firsts frame).table)
   no_reserved wrong = ⊎_elim (λ low. omega (arith, low)) (λ log. omega (arith, log.2, new.anchor.log)) wrong
 
   no_table_fault : (home : Home) → ¬ IsTableFault pages frame home
@@ -73,7 +73,7 @@ module _ (pages : Pages) (frame : Frame) (new : IsNew pages frame) where
 
 -- the same of pages that stand as a layout says
 module _ (pages : Pages) (layout : Layout) (new : IsNew pages (frame_of layout)) (laid : IsLayout pages layout) where
-  laid_table : IsNewTable layout.table
+  pub laid_table : IsNewTable layout.table
   laid_table =
       let at = one_of layout.anchor.table (λ home. IsSomeAnd (pages home) (λ page. IsTablePage page layout.table)) laid.table in
       fresh pages (frame_of layout) new at.value layout.table at.there at.is

@@ -39,14 +39,14 @@ module _ (pages : Pages) (layout : Layout) (anchor : IsNewAnchor (frame_of layou
   cell_is : (at : CellAt) (cell : Cell) → IsUsed pages (frame_of layout) at cell → cell ≡ is.cell
   cell_is at cell used = used_is pages (frame_of layout) anchor page there is at cell used
 
-  no_extent : (at : CellAt) (number : ℕ) (home : Home) → ¬ HasExtent pages layout at number home
+  pub no_extent : (at : CellAt) (number : ℕ) (home : Home) → ¬ HasExtent pages layout at number home
   no_extent at number home has =
       let records = ap (λ (c : Cell). c.records) (cell_is at has.cell (used_there pages layout anchor page there is.good is.indexed is.last (laid.cells 1 anchor.member) at has.cell has.on)) ∙ is.says.says in
       let value = one_in _ has.value (subst (λ rs. Contains rs has.value) records has.among) in
       let e : Absent ≡ At home = sym (ap (λ r. places_in r number) value) ∙ has.place in
       absurd (cc)
 
-  no_index : (at : CellAt) (cell : Cell) (value : Record) → IsUsed pages (frame_of layout) at cell → ¬ record_of 9 cell.records ≡ Some value
+  pub no_index : (at : CellAt) (cell : Cell) (value : Record) → IsUsed pages (frame_of layout) at cell → ¬ record_of 9 cell.records ≡ Some value
   no_index at cell value used has =
       let records = ap (λ (c : Cell). c.records) (cell_is at cell used) ∙ is.says.says in
       let e : None ≡ Some value = sym (ap (record_of 9) records) ∙ has in

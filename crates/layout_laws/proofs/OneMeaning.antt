@@ -72,7 +72,7 @@ module _ (contents : Contents) where
   slot_same a b None same is = absurd is
   slot_same a b (Some slot) same is = fills_same a b slot same is
 
-  there_same : (a b : Option FilesetShape) (slot : Option FilesetSlot) → IsSameShapeThere a b → FillsThere contents b slot → FillsThere contents a slot
+  pub there_same : (a b : Option FilesetShape) (slot : Option FilesetSlot) → IsSameShapeThere a b → FillsThere contents b slot → FillsThere contents a slot
   there_same None b slot none is = subst (λ o. FillsThere contents o slot) none is
   there_same (Some a) None slot same is = absurd same
   there_same (Some a) (Some b) slot same is = slot_same a b slot same is

@@ -1,0 +1,4 @@
+pub mod OneMeaning
+pub mod NewTables
+pub mod NewHolders
+pub mod NewDomain

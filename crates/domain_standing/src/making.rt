@@ -1,0 +1,19 @@
+//! A domain that was just made.
+ghost use Rattle.std.specs.Prelude.{◌≡◌, ℕ, []};
+ghost use Rattle.std.specs.FinMap.{empty};
+ghost use Rattle.log_recovery.specs.Range.{IsLogInside};
+ghost use Rattle.layout_laws.specs.NewDomain.{IsNew};
+ghost use Rattle.deferred_delete.specs.Listing.{IsEmpty};
+ghost use Rattle.domain_layout.specs.Layout.{IsLayout};
+ghost use Rattle.attaching_laws.specs.Space.{AreCellsOf, AreFew, IsSpaceOf};
+ghost use Rattle.domain_standing.specs.Domain.{DomainNow, layout_of};
+ghost use Rattle.domain_standing.specs.Standing.{StandsDomain};
+
+/// A domain that was just made stands for no fileset, with the free space and the free cells that
+/// its pages say, no tag directory and nothing to be let go of.
+pub fn a_new_domain_stands()
+    ensures { (d : DomainNow) → IsNew d.pages d.frame → IsLayout d.pages (layout_of d)
+        → IsLogInside d.frame.version d.frame.anchor → AreFew (layout_of d)
+        → IsSpaceOf d.pages (layout_of d) d.space → AreCellsOf d.pages (layout_of d) d.cells
+        → ((number : ℕ) → d.tags number ≡ []) → IsEmpty d.list → StandsDomain d empty }
+{}
