@@ -106,6 +106,16 @@ module _ (version : Version) (pages : ℕ) (room : (first_pages version pages).t
     table = (first_member version pages, room);
   }
 
+  pub new_anchor_is : IsNewAnchor (new_frame version pages)
+  new_anchor_is = record {
+    member = first_member version pages;
+    alone = λ vol member. only_member version pages vol member;
+    log_volume = refl;
+    log = refl;
+    table = refl;
+    room = room;
+  }
+
   -- ---- an image with them
 
   module _ (sizes : List ℕ) (there : pages ≤ volume_pages sizes 1) (new : NewPages) (are : AreNew version pages new) (image : Image) (label : HasNewLabel version pages image) (has : HasNewPages (first_pages version pages) new image) where
@@ -156,16 +166,6 @@ module _ (version : Version) (pages : ℕ) (room : (first_pages version pages).t
             let at : 8192 * (2 + number) + k ≡ 8192 * 2 + (8192 * number + k) = omega arith in
             let size = long_bits number within in
             get_or-bytes_from (image 1) (8192 * (2 + number)) 8192 k 0 less ∙ ap (image 1) at ∙ has.bitmap (8192 * number + k) (omega (arith, less, size))
-
-    new_anchor_is : IsNewAnchor (new_frame version pages)
-    new_anchor_is = record {
-      member = first_member version pages;
-      alone = λ vol member. only_member version pages vol member;
-      log_volume = refl;
-      log = refl;
-      table = refl;
-      room = room;
-    }
 
     is_new : IsNew (pages_in image) (new_frame version pages)
     is_new = record {

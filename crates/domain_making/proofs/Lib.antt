@@ -1,4 +1,5 @@
 pub mod Alone
+pub mod Brought
 pub mod Empty
 pub mod Finished
 pub mod First

@@ -1,7 +1,7 @@
 -- Domains that are made.
-use Rattle.std.specs.Prelude.{◌≡◌, ◌≢◌, ◌⊎◌, ℕ, false, List, [], ◌∷◌, Some, None, min}
+use Rattle.std.specs.Prelude.{◌≡◌, ◌≢◌, ◌⊎◌, ◌≤◌, ℕ, false, List, [], ◌∷◌, Some, None, min}
 use Rattle.std.specs.FinMap.{empty}
-use Rattle.domain_base.specs.Limits.{log_pages}
+use Rattle.domain_base.specs.Limits.{log_pages, min_first_volume_pages}
 use Rattle.domain_base.specs.Version.{most_pages, number_of}
 use Rattle.domain_base.specs.declared.version.Version.{Version}
 use Rattle.volume_disk.specs.Disk.{Disk, MayLeave, volume_pages}
@@ -36,6 +36,10 @@ new_anchor version pages = record {
       ∷ no_member ∷ no_member ∷ no_member ∷ [];
   slot = 0;
 }
+
+-- the first volume is large enough for a domain
+abbrev pub IsLarge : List ℕ → Type 0
+IsLarge sizes = min_first_volume_pages ≤ volume_pages sizes 1
 
 abbrev pub new_frame : Version → ℕ → Frame
 new_frame version pages = record { anchor = new_anchor version pages; version = version }

@@ -1,10 +1,12 @@
 -- The pages of a domain that was just made, but for those of label, anchors and log.
-use Rattle.std.specs.Prelude.{◌≡◌, ℕ, nat_le}
+use Rattle.std.specs.Prelude.{◌≡◌, ◌+◌, ◌<◌, ℕ, nat_le, IsSomeAnd}
 use Rattle.std.specs.FinSet.{contains}
 use Rattle.domain_base.specs.declared.version.Version.{Version}
 use Rattle.storage_bitmap.specs.VolumePages.{VolumePages}
 use Rattle.disk_label.specs.FirstPages.{first_pages}
-use Rattle.layout_laws.specs.NewDomain.{IsNewCells, IsNewTablePage}
+use Rattle.page_store.specs.Pages.{Pages}
+use Rattle.domain_layout.specs.Reached.{Frame}
+use Rattle.layout_laws.specs.NewDomain.{IsNewBitmap, IsNewCells, IsNewTablePage, firsts, on_first}
 use Rattle.domain_making.specs.Making.{new_frame}
 use Rattle.domain_making.specs.declared.pages.NewPages.{NewPages}
 
@@ -18,3 +20,8 @@ pub record AreNew (version : Version) (pages : ℕ) (new : NewPages) : Type 0 wh
   pub bitmap : IsUsedTo pages (first_pages version pages).table new.bitmap
   pub cells : IsNewCells (new_frame version pages) new.cells
   pub table : IsNewTablePage new.table
+
+-- so many pages of the bitmap of a new domain are there
+abbrev pub HasNewBitmaps : Pages → Frame → ℕ → Type 0
+HasNewBitmaps pages frame count = (number : ℕ) → number < count
+    → IsSomeAnd (pages (on_first ((firsts frame).bitmap + number))) (IsNewBitmap frame number)

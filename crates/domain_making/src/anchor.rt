@@ -26,7 +26,7 @@ pub(crate) fn first_volume() -> VolIx
 /// The anchor of a domain that was just made in this version on a volume of which so many pages are
 /// used: number 1 in slot 0, a log that begins at its first place with group 1, and no member but
 /// volume 1.
-pub(crate) fn new_anchor(version: Version, pages: u32) -> Anchor
+pub fn new_anchor(version: Version, pages: u32) -> Anchor
     requires { pages ≤ most_pages version }
     ensures { result ≡ anchor_of version pages }
 {

@@ -2,12 +2,15 @@
 #![tactic(auto)]
 
 mod anchor;
+mod bringing;
 mod fault;
 mod laws;
 mod making;
 mod pages;
 mod writing;
 
+pub use anchor::new_anchor;
 pub use fault::MakeFault;
 pub use laws::making_laws;
-pub use making::make_domain;
+pub use making::{make_domain, pages_to_use};
+pub use pages::NewPages;

@@ -1,5 +1,5 @@
 //! A domain that is made.
-ghost use Rattle.std.specs.Prelude.{◌≡◌, ◌<◌, Err, IfErr, IfOk};
+ghost use Rattle.std.specs.Prelude.{◌≡◌, ◌<◌, Err, IfErr, IfOk, OnOk};
 ghost use Rattle.domain_base.specs.Limits.{min_first_volume_pages};
 ghost use Rattle.volume_disk.specs.Disk.{HasVolume, Tells, volume_pages};
 ghost use Rattle.volume_disk.specs.Run.{LeavesOnly, Touches};
@@ -8,12 +8,14 @@ ghost use Rattle.domain_making.specs.Fault.{HasCause, IsFaultOf};
 ghost use Rattle.domain_making.specs.Making.{
   AreSlotsReady,
   HasNoOtherAnchor,
+  IsLarge,
   IsMade,
   IsNoneOrEmpty,
   IsOnFirst,
   new_anchor as anchor_of,
   pages_in_use,
 };
+ghost use Rattle.domain_making.specs.Pages.{AreNew};
 ghost use Rattle.domain_making.specs.declared.fault.MakeFault.TheVariants.{VolumeSmall};
 
 use crate::MakeFault;
@@ -32,6 +34,65 @@ fn fault_of(fault: SlotFault) -> MakeFault
 {
     match fault {
         SlotFault::Read { vol } | SlotFault::Write { vol } => MakeFault::Fault { vol },
+    }
+}
+
+/// How many pages of volume 1 of a rack a domain of this version uses.
+pub fn pages_to_use<R: Rack>(rack: &R, version: Version) -> u32
+    ensures { result ≡ pages_in_use version (R.disk rack.now).sizes }
+{
+    usable_pages(rack, first_volume(), version)
+}
+
+impl NewPages {
+    /// Those of a domain that is made in this version on volume 1 of a rack: all the memory that a
+    /// making wants. The rack is left alone.
+    ///
+    /// `VolumeSmall` comes exactly where volume 1 has fewer than 160 pages; else there may only be no
+    /// memory.
+    pub fn on_rack<R: Rack>(
+        alloc: Global,
+        rack: &R,
+        version: Version,
+    ) -> Result<NewPages, MakeFault>
+        ensures new { IfOk result (AreNew version (pages_in_use version
+            (R.disk rack.now).sizes)) }
+        ensures large { OnOk result (IsLarge (R.disk rack.now).sizes) }
+        ensures small { let pages = volume_pages (R.disk rack.now).sizes 1 in
+            pages < min_first_volume_pages → result ≡ Err (VolumeSmall pages) }
+        ensures cause { IfErr result (HasCause (R.disk rack.now) (R.disk rack.now)) }
+    {
+        let available = rack.pages(first_volume());
+        if available < MIN_FIRST_VOLUME_PAGES {
+            return Err(MakeFault::VolumeSmall { pages: available });
+        }
+        let pages = pages_to_use(rack, version);
+        Ok(NewPages::new(alloc, version, pages)?)
+    }
+
+    /// Makes an empty domain of these pages on volume 1 of their rack, as `make_domain` does, and
+    /// takes no memory.
+    pub fn write<R: Rack>(&self, rack: &mut R, version: Version) -> Result<Anchor, MakeFault>
+        requires there { HasVolume (R.disk rack.old) 1 }
+        requires large { IsLarge (R.disk rack.old).sizes }
+        requires new { AreNew version (pages_in_use version (R.disk rack.old).sizes) self.now }
+        requires others { Tells (R.disk rack.old) → HasNoOtherAnchor (R.disk rack.old) }
+        ensures touches { Touches (R.disk rack.old) (R.disk rack.new) IsOnFirst }
+        ensures anchor { IfOk result (λ anchor. anchor
+            ≡ anchor_of version (pages_in_use version (R.disk rack.old).sizes)) }
+        ensures made { IfOk result (λ anchor. Tells (R.disk rack.old)
+            → IsMade (R.disk rack.new) anchor) }
+        ensures any_moment { let old = R.disk rack.old in
+            let pages = pages_in_use version old.sizes in Tells old → AreSlotsReady old
+            → LeavesOnly old (R.disk rack.new) (IsNoneOrEmpty old.sizes version pages) }
+        ensures passed { IfOk result (λ _. HasPassed (R.disk rack.old) (R.disk rack.new)) }
+        ensures cause { IfErr result (HasCause (R.disk rack.old) (R.disk rack.new)) }
+    {
+        let pages = pages_to_use(rack, version);
+        match write_domain(rack, version, pages, self) {
+            Ok(()) => Ok(new_anchor(version, pages)),
+            Err(fault) => Err(fault_of(fault)),
+        }
     }
 }
 
@@ -67,14 +128,6 @@ pub fn make_domain<R: Rack>(
     ensures passed { IfOk result (λ _. HasPassed (R.disk rack.old) (R.disk rack.new)) }
     ensures cause { IfErr result (HasCause (R.disk rack.old) (R.disk rack.new)) }
 {
-    let available = rack.pages(first_volume());
-    if available < MIN_FIRST_VOLUME_PAGES {
-        return Err(MakeFault::VolumeSmall { pages: available });
-    }
-    let pages = usable_pages(rack, first_volume(), version);
-    let new = NewPages::new(alloc, version, pages)?;
-    match write_domain(rack, version, pages, &new) {
-        Ok(()) => Ok(new_anchor(version, pages)),
-        Err(fault) => Err(fault_of(fault)),
-    }
+    let new = NewPages::on_rack(alloc, rack, version)?;
+    new.write(rack, version)
 }

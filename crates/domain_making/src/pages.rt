@@ -21,7 +21,7 @@ use storage_bitmap::Bitmap;
 
 /// The pages of a domain that was just made, but for those of label, anchors and log.
 #[derive(Drop)]
-pub(crate) struct NewPages {
+pub struct NewPages {
     /// Which pages of the volume are used.
     pub(crate) bitmap: Bitmap,
     /// The first page of cells.
