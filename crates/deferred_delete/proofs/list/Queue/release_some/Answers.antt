@@ -67,7 +67,7 @@ loop-preserved g c =
           let leads = c.loop.invariant.0 w.0 w.1 in
           call_changes c.args.group c.args.version c.loop.self.list c.release_one.new.self.list leads.files c.loop.space c.release_one.new.space c.loop.cells c.release_one.new.cells (g.M.MetaPages.pages c.args.pages.now) (g.M.MetaPages.pages c.loop.pages) (g.M.MetaPages.pages c.release_one.new.pages)
           c.loop.changed (e.ok leads.files leads.well c.in-Ok-true.field-0-test) c.loop.invariant.7),
-      omega (arith, c.if-changed-gt-most.false),
+      omega (arith, c.if-most-changed.false),
       (let five = at_most_five c.loop.self.list in omega (arith, c.loop.invariant.9, c.step_pages-changed.ensures, five)),
       e.ahead,
       e.known,
@@ -102,10 +102,10 @@ returns-in-Err-2-clause-on g c =
     subst (λ (q : Roomy). IsOfEntry q.list.entries c.release_one.new.cursor) (sym e.list)
     (subst (λ (o : Option Cursor). IsOfEntry c.loop.self.list.entries o) (sym e.place) (c.loop.invariant.13 some))
 
-pub returns-then-changed-gt-most-clause-on : goal.returns-then-changed-gt-most-clause-on
-returns-then-changed-gt-most-clause-on g c =
+pub returns-then-most-changed-clause-on : goal.returns-then-most-changed-clause-on
+returns-then-most-changed-clause-on g c =
     let five = at_most_five c.loop.self.list in
-    c.loop.invariant.13 (omega (arith, c.loop.invariant.1, c.loop.invariant.9, c.step_pages-changed.ensures, five, c.if-changed-gt-most.true))
+    c.loop.invariant.13 (omega (arith, c.loop.invariant.1, c.loop.invariant.9, c.step_pages-changed.ensures, five, c.if-most-changed.true))
 
 pub returns-clause-on : goal.returns-clause-on
 returns-clause-on g c = c.loop.invariant.13 (omega (arith, c.loop.invariant.1, c.loop.auto.counter-end, c.loop-test.false))
