@@ -12,7 +12,7 @@ ghost use Rattle.domain_layout.specs.Seen.{SeenFile};
 ghost use Rattle.node_laws.specs.Commands.{ClearsBehind, WritesFile, page_at, with_each, zeros_behind};
 ghost use Rattle.node_laws.specs.Nodes.{cut_to, seen_of, with_page, with_size};
 
-/// A write puts the pages that it touches into the file, one after the other, and gives it its size.
+/// A write puts the pages that it touches into the file, one after the other, and gives it a size.
 pub fn pages_are_put_in()
     ensures { (uid gid size : ℕ) (logged : Bool) (pages : Pages) (offset : ℕ) (bytes : List ℕ)
         → written_node offset bytes (File uid gid size logged pages)
