@@ -1,9 +1,11 @@
+pub mod GoesOn
 pub mod ImageLemmas
 pub mod MarkedLemmas
 pub mod NewDomainLemmas
 pub mod NoPanic
 pub mod PlaceLemmas
 pub mod PlainLemmas
+pub mod Restamped
 pub mod ShownLemmas
 pub mod SyncedLemmas
 pub mod UntouchedLemmas

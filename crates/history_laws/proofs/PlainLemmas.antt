@@ -43,7 +43,7 @@ role_stays : (Allowed : Name → FilesetSlot → ℕ → Type 0) (slot : Fileset
 role_stays Allowed slot Original = refl
 role_stays Allowed slot (CloneOf original out) = (refl, λ number was. was, λ number is not. absurd (cc))
 
-slot_stays : (Allowed : Name → FilesetSlot → ℕ → Type 0) (found : Option FilesetSlot) → SlotGains Allowed found found
+pub slot_stays : (Allowed : Name → FilesetSlot → ℕ → Type 0) (found : Option FilesetSlot) → SlotGains Allowed found found
 slot_stays Allowed None = refl
 slot_stays Allowed (Some slot) = (refl, role_stays Allowed slot slot.role)
 
@@ -59,7 +59,7 @@ slot_itself slot = record {
   links = λ path number shows. refl;
 }
 
-there_itself : (found : Option FilesetSlot) → LooksLikeThere found found
+pub there_itself : (found : Option FilesetSlot) → LooksLikeThere found found
 there_itself None = refl
 there_itself (Some slot) = slot_itself slot
 

@@ -1,6 +1,8 @@
 //! Laws of legal histories, each the contract of a function without a body.
 #![tactic(auto)]
 
+mod going_on;
+
 ghost use Rattle.std.specs.Prelude.{◌≡◌, ℕ, List, All, Option, None, true};
 ghost use Rattle.domain_base.specs.declared.version.Version.{Version};
 ghost use Rattle.fileset_model.specs.declared.command.Command.{Command};
@@ -22,6 +24,11 @@ ghost use Rattle.history_model.specs.PlainRun.{
 };
 ghost use Rattle.history_model.specs.State.{State, new_domain};
 ghost use Rattle.history_laws.specs.Valid.{IsValid};
+
+pub use going_on::{
+    a_history_begins, a_legal_history_goes_on, states_without_clones_look_like_themselves,
+    the_last_entry_may_be_stamped_anew, what_a_command_means_is_a_step,
+};
 
 /// A history of clients whose commands are answered in turn as they mean for filesets without
 /// volumes, or out-of-memory, is legal, and ends in the filesets to which the answers lead.

@@ -1,0 +1,53 @@
+//! Laws of legal histories that go on by one entry more.
+ghost use Rattle.std.specs.Prelude.{◌≡◌, ◌≤◌, ◌++◌, ◌∷◌, [], ℕ, All, List, None, Option};
+ghost use Rattle.fileset_model.specs.declared.command.Command.{Command};
+ghost use Rattle.fileset_model.specs.declared.entry.Entry.{Entry};
+ghost use Rattle.history_model.specs.Legal.{Legal};
+ghost use Rattle.history_model.specs.Point.{Point};
+ghost use Rattle.history_model.specs.State.{Apply, LooksLikeState, State};
+ghost use Rattle.history_model.specs.Step.{Step};
+ghost use Rattle.history_laws.specs.GoingOn.{
+  HaveNoClone,
+  MayGoOn,
+  MayGoOnFrom,
+  job_left,
+  stamped,
+};
+
+/// No entries are a legal history, which ends where it began, and no command of the mover's runs.
+pub fn a_history_begins()
+    ensures { (start : State) → Legal start [] None start }
+{}
+
+/// A legal history is one with an entry more that may come next, and that leads to a state, at each
+/// point to which the history may have come; the mover's own entry ends its job. Where no fileset
+/// is a clone, the state at that point is the one in which the history ends.
+pub fn a_legal_history_goes_on()
+    ensures looks_alike { (start now new : State) (history : List Entry) (job : Option Command)
+        (e : Entry) → Legal start history job now → MayGoOn start history job now e new
+        → Legal start (history ++ e ∷ []) (job_left e.actor job) new }
+    ensures without_clones { (start now new : State) (history : List Entry) (job : Option Command)
+        (e : Entry) → HaveNoClone now.filesets → Legal start history job now
+        → MayGoOnFrom start history job now e new
+        → Legal start (history ++ e ∷ []) (job_left e.actor job) new }
+{}
+
+/// States that look alike are one where no fileset of the second is a clone.
+pub fn states_without_clones_look_like_themselves()
+    ensures { (s other : State) → LooksLikeState s other → HaveNoClone other.filesets
+        → s ≡ other }
+{}
+
+/// What a command on filesets answers and changes is a step, in which no clone loses a file.
+pub fn what_a_command_means_is_a_step()
+    ensures { (point : Point) (e : Entry) (new : State)
+        → Apply point.state e.command e.reply new → Step point e new }
+{}
+
+/// The last entry of a legal history may have any stamp that is no smaller than any before.
+pub fn the_last_entry_may_be_stamped_anew()
+    ensures { (start now : State) (history : List Entry) (job : Option Command) (e : Entry)
+        (stamp : ℕ) → Legal start (history ++ e ∷ []) job now
+        → All (λ before. before.stamp ≤ stamp) history
+        → Legal start (history ++ stamped stamp e ∷ []) job now }
+{}
