@@ -1,4 +1,4 @@
-use Rattle.std.proofs.Common.{Option, subst, sym}
+use Rattle.std.proofs.Common.{Option, subst, sym, arith}
 use Rattle.chain_release.specs.declared.reader.OwnPages.{OwnPages}
 use Rattle.chain_release.specs.Sharing.{IsKnown}
 use Rattle.deferred_delete.specs.declared.cursor.Cursor.{Cursor}
@@ -20,6 +20,7 @@ release_some-requires c =
     let chain = cut_chain world.files.fileset c.args.version c.args.tag c.args.at.now first parts cut in
     let pages = pages_of world.pages.entries.items in
     record {
+      most = omega arith;
       ahead = subst (λ (o : Option Cursor). IsAhead pages o) (sym c.start_over.ensures.cursor) tt;
       known = subst (λ (o : Option OwnPages). IsKnown pages o) (sym c.start_over.ensures.known) tt;
       well = subst (λ (l : Listing). (files : Files) × IsWell (now_of l files world.space world.cells pages)) (sym c.start_over.ensures.list) (

@@ -1,4 +1,4 @@
-use Rattle.std.proofs.Common.{Option, subst, sym}
+use Rattle.std.proofs.Common.{Option, subst, sym, arith}
 use Rattle.domain_base.specs.declared.version.Version.TheVariants.{Four}
 use Rattle.memory_store.specs.Homes.{pages_of}
 use Rattle.chain_release.specs.declared.reader.OwnPages.{OwnPages}
@@ -17,6 +17,7 @@ release_some-requires c =
     let world = c.args.world.now in
     let pages = pages_of world.pages.entries.items in
     record {
+      most = omega arith;
       well = subst (λ (l : Listing). (files : Files) × IsWell (now_of l files world.space world.cells pages)) (sym c.forget_clone.ensures.list) (c.requires.0, c.requires.3.well);
       ahead = subst (λ (o : Option Cursor). IsAhead pages o) (sym c.forget_clone.ensures.cursor) c.requires.4.0;
       known = subst (λ (o : Option OwnPages). IsKnown pages o) (sym c.forget_clone.ensures.known) tt;

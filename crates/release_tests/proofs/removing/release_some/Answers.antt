@@ -1,4 +1,4 @@
-use Rattle.std.proofs.Common.{Option, subst, sym}
+use Rattle.std.proofs.Common.{Option, subst, sym, arith}
 use Rattle.domain_base.specs.declared.version.Version.TheVariants.{Four}
 use Rattle.memory_store.specs.Homes.{pages_of}
 use Rattle.chain_release.specs.declared.reader.OwnPages.{OwnPages}
@@ -16,6 +16,7 @@ release_some-requires c =
     let world = c.args.world.now in
     let pages = pages_of world.pages.entries.items in
     record {
+      most = omega arith;
       well = subst (λ (l : Listing). (files : Files) × IsWell (now_of l files world.space world.cells pages)) (sym c.start_over.ensures.list) (c.requires.0, c.requires.3.well);
       ahead = subst (λ (o : Option Cursor). IsAhead pages o) (sym c.start_over.ensures.cursor) tt;
       known = subst (λ (o : Option OwnPages). IsKnown pages o) (sym c.start_over.ensures.known) tt;
