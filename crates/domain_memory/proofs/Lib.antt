@@ -1,0 +1,5 @@
+pub mod NewLayout
+pub mod NewMarks
+pub mod KeptCells
+pub mod KeptSpace
+pub mod NewMemory

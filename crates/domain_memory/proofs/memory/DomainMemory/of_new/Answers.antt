@@ -1,0 +1,31 @@
+use Rattle.std.proofs.Common.{◌≡◌, ◌∙◌, refl, sym, subst}
+use Rattle.page_store.specs.Pages.{Pages}
+use Rattle.attaching_laws.specs.Marks.{IsMarked}
+use Rattle.attaching_laws.specs.Space.{AreCellsOf}
+use Rattle.domain_layout.specs.Layout.{IsLayout, Layout}
+use Rattle.domain_layout.specs.Owners.{frame_of}
+use Rattle.domain_layout.specs.Reached.{Frame}
+use Rattle.domain_making.specs.Making.{new_frame}
+use Rattle.filesets_reading.specs.Good.{AreGood}
+use Rattle.layout_laws.specs.NewDomain.{IsNew}
+use Rattle.staged_pages.specs.Store.{pages_of}
+use Rattle.domain_memory.proofs.NewMemory.{new_is_good, stands_for}
+use Rattle.domain_memory.proofs.memory.DomainMemory.of_new.Goals as goal
+
+pub read_cells-requires : goal.read_cells-requires
+read_cells-requires c =
+    let frame : record { anchor = c.new_anchor.result; version = c.args.version } ≡ new_frame c.args.version c.args.pages = λ i. record { anchor = c.new_anchor.ensures i; version = c.args.version } in
+    let new = subst (λ (p : Pages). IsNew p (new_frame c.args.version c.args.pages)) (sym c.keep.ensures.pages) c.in_ok-bring_into.ensures.new in
+    record {
+      good = subst (λ (f : Frame). AreGood (pages_of c.keep.new.self) f) (sym frame) (new_is_good (pages_of c.keep.new.self) (new_frame c.args.version c.args.pages) new refl);
+    }
+
+pub returns-clause-stands : goal.returns-clause-stands
+returns-clause-stands c =
+    let frame : record { anchor = c.new_anchor.result; version = c.args.version } ≡ new_frame c.args.version c.args.pages = λ i. record { anchor = c.new_anchor.ensures i; version = c.args.version } in
+    let same = c.keep.ensures.pages ∙ sym c.keep.ensures.before in
+    let new = subst (λ (p : Pages). IsNew p (new_frame c.args.version c.args.pages)) (sym c.keep.ensures.before) c.in_ok-bring_into.ensures.new in
+    let marked = subst (λ (p : Pages). IsMarked p (new_frame c.args.version c.args.pages) c.in_ok-space.space) same (subst (λ (f : Frame). IsMarked (pages_of c.keep.new.self) f c.in_ok-space.space) frame c.in_ok-space.ensures) in
+    let are = subst (λ (p : Pages). (layout : Layout) → IsLayout p layout → frame_of layout ≡ record { anchor = c.new_anchor.result; version = c.args.version } → AreCellsOf p layout c.in_ok-cells.cells) same c.in_ok-cells.ensures in
+    stands_for _ c.args.version c.args.pages c.requires.room c.requires.most frame new c.in_ok-space.space marked (c.space.view_is ∙ c.keep-2.ensures) c.in_ok-cells.cells are _ c.keep-3.ensures.same c.keep-3.ensures.settled
+    c.in_ok-new.ensures c.new-2.ensures.entries c.new-2.ensures.tag_pages c.new-3.ensures.items

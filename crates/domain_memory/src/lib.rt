@@ -1,0 +1,7 @@
+//! What a domain keeps in memory beside the rack that has its volumes.
+#![tactic(auto)]
+
+mod making;
+mod memory;
+
+pub use memory::{DomainMemory, SlotFiles};
