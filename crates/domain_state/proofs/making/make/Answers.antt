@@ -1,0 +1,12 @@
+use Rattle.std.specs.FinMap.{empty}
+use Rattle.domain_making.specs.Making.{pages_in_use}
+use Rattle.domain_state.proofs.Unmoved.{none_yet}
+use Rattle.domain_state.proofs.making.make.Goals as goal
+
+pub returns-in-Err-new_memory-clause-any_moment_of_fault : goal.returns-in-Err-new_memory-clause-any_moment_of_fault
+returns-in-Err-new_memory-clause-any_moment_of_fault g c = λ told ready.
+    let disk = g.R.Rack.disk c.args.rack in
+    none_yet c.args.version (pages_in_use c.args.version disk.sizes) disk ready
+
+pub invariant_of-result : goal.invariant_of-result
+invariant_of-result g c = record { stands = ∣ (empty, c.in-Ok-new_memory.ensures.stands) ∣₁ }

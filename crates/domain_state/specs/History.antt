@@ -1,0 +1,29 @@
+-- The history of a domain since it was opened.
+use Rattle.std.specs.Prelude.{ℕ, List, Option}
+use Rattle.page_store.specs.Pages.{Pages}
+use Rattle.fileset_model.specs.Filesets.{FilesetMap}
+use Rattle.fileset_model.specs.declared.command.Command.{Command}
+use Rattle.fileset_model.specs.declared.entry.Entry.{Entry}
+use Rattle.history_model.specs.Legal.{Legal}
+use Rattle.history_model.specs.State.{State}
+use Rattle.domain_layout.specs.Reached.{Frame}
+use Rattle.domain_memory.specs.Memory.{StandsFor}
+use Rattle.domain_memory.specs.declared.memory.DomainMemory.{DomainMemory}
+use Rattle.domain_state.specs.Opening.{IsStartOf}
+
+-- from each state that the pages at the opening mean the entries lead to these filesets, with all else
+-- as it was, while this job runs
+abbrev pub LeadsTo : Pages → Frame → List ℕ → List Entry → Option Command → FilesetMap → Type 0
+LeadsTo pages frame sizes entries job all = (start : State) → IsStartOf pages frame sizes start
+    → ∥ Legal start entries job (record start { filesets = all }) ∥₁
+
+-- memory is that of a domain with some filesets
+abbrev pub StandsForSome : DomainMemory → Type 0
+StandsForSome memory = (all : FilesetMap) × StandsFor memory all
+
+-- and the entries lead to them
+pub record GoesOn (pages : Pages) (frame : Frame) (sizes : List ℕ) (memory : DomainMemory)
+    (entries : List Entry) (job : Option Command) : Type 0 where
+  pub all : FilesetMap
+  pub stands : StandsFor memory all
+  pub leads : LeadsTo pages frame sizes entries job all

@@ -1,0 +1,67 @@
+-- The state in which a history begins: what the pages of a domain mean at its opening.
+use Rattle.std.specs.Prelude.{◌≡◌, ◌⊎◌, ◌↔◌, ℕ, true, List, Some, Contains, length, slice_get}
+use Rattle.std.specs.FinMap.{get}
+use Rattle.std.specs.FinSet as set
+use Rattle.domain_base.specs.declared.place.CellAt.{CellAt}
+use Rattle.domain_base.specs.declared.place.Home.{Home}
+use Rattle.domain_base.specs.declared.place.Tag.{Tag}
+use Rattle.page_store.specs.Pages.{Pages}
+use Rattle.bmt_mcells.specs.Chain.{PlacedCell}
+use Rattle.log_ring.specs.Homes.{IsMember, member_of}
+use Rattle.disk_label.specs.declared.anchor.Anchor.{Anchor}
+use Rattle.fileset_table.specs.Table.{Table}
+use Rattle.history_model.specs.State.{Member, State, rack_of}
+use Rattle.attaching_laws.specs.Space.{IsOpen}
+use Rattle.domain_layout.specs.DirectoryRules.{Has}
+use Rattle.domain_layout.specs.Layout.{IsLayout, Layout}
+use Rattle.domain_layout.specs.Owners.{BelongsTo, frame_of}
+use Rattle.domain_layout.specs.Owners.Owner.{of_cells, of_file, of_index, of_tags}
+use Rattle.domain_layout.specs.Read.{ReadsFrom}
+use Rattle.domain_layout.specs.Reached.{Frame}
+use Rattle.domain_layout.specs.Seen.{SeenFile}
+
+-- ** Pages that are no file's of a fileset
+
+-- no fileset has the page at a home as one of a file or directory
+abbrev pub IsNoFilesets : Pages → Table → Home → Type 0
+IsNoFilesets pages table home = (number : ℕ) (tag : Tag) (cells : List PlacedCell) (seen : SeenFile)
+    (page : ℕ) → Has pages table number tag cells seen → ¬ seen.homes page ≡ Some home
+
+-- a page of cells, of a tag directory or of an index, or of a file that is left for removal
+abbrev pub IsOldPage : Pages → Layout → Home → Type 0
+IsOldPage pages layout home = BelongsTo pages layout of_cells home
+    ⊎ ((number : ℕ) × BelongsTo pages layout (of_tags number) home)
+    ⊎ ((at : CellAt) × (place : ℕ) × BelongsTo pages layout (of_index at place) home)
+    ⊎ ((at : CellAt) × (page : ℕ) × BelongsTo pages layout (of_file at page) home
+    × IsNoFilesets pages layout.table home)
+
+-- so many are there
+pub record CountsOld (pages : Pages) (frame : Frame) (count : ℕ) : Type 0 where
+  pub layout : Layout
+  pub same : frame_of layout ≡ frame
+  pub laid : IsLayout pages layout
+  pub homes : List Home
+  pub each : (home : Home) → Contains homes home ↔ IsOldPage pages layout home
+  pub once : (j k : ℕ) (home : Home) → slice_get homes j ≡ Some home
+      → slice_get homes k ≡ Some home → j ≡ k
+  pub counted : length homes ≡ count
+
+-- ** The state
+
+-- a volume that the domain uses, as the anchor has it
+pub record IsMemberAs (anchor : Anchor) (vol : ℕ) (member : Member) : Type 0 where
+  pub there : IsMember anchor vol
+  pub pages : member.pages ≡ (member_of anchor vol).pages
+  pub opened : (member.is_open ≡ true) ↔ IsOpen anchor vol
+
+-- a state that pages with this anchor mean, on a rack with volumes of these sizes
+pub record IsStartOf (pages : Pages) (frame : Frame) (sizes : List ℕ) (start : State) : Type 0 where
+  pub filesets : (home : Home) → frame.anchor.table ≡ Some home
+      → ReadsFrom pages home start.filesets
+  pub rack : start.rack ≡ rack_of sizes
+  pub members : (vol : ℕ) (member : Member) → (get start.members vol ≡ Some member)
+      ↔ IsMemberAs frame.anchor vol member
+  pub log_volume : start.log_volume ≡ frame.anchor.log_vol
+  pub version : start.version ≡ frame.version
+  pub striped : start.striped ≡ set.empty
+  pub old_pages : CountsOld pages frame start.old_pages

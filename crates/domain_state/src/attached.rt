@@ -1,0 +1,24 @@
+//! A domain that was made or attached, before a history of it is begun.
+ghost use Rattle.std.specs.Prelude.{◌≡◌};
+ghost use Rattle.domain_state.specs.History.{StandsForSome};
+
+use domain_memory::DomainMemory;
+use volume_disk::Rack;
+
+/// A domain that was made or attached: its rack, and what is kept in memory of it.
+#[derive(Drop)]
+pub struct Attached<R: Rack> {
+    pub(crate) rack: R,
+    pub(crate) memory: DomainMemory,
+    ghost stands: { ∥ StandsForSome memory ∥₁ },
+}
+
+impl<R: Rack> Attached<R> {
+    /// The rack as it is. Nothing is written.
+    pub fn into_rack(self) -> R
+        ensures { result ≡ self.rack }
+    {
+        let Attached { rack, .. } = self;
+        rack
+    }
+}

@@ -1,0 +1,11 @@
+//! A domain: what its rack has, what it keeps in memory, and the history of its commands since it
+//! was opened, which is legal.
+#![tactic(auto)]
+
+mod attached;
+mod domain;
+mod making;
+
+pub use attached::Attached;
+pub use domain::{Domain, Opening};
+pub use making::make;

@@ -1,0 +1,97 @@
+//! Making a domain.
+ghost use Rattle.std.specs.Prelude.{◌≡◌, ◌<◌, Err, IfErr, IfOk};
+ghost use Rattle.std.specs.FinMap.{empty};
+ghost use Rattle.domain_base.specs.Limits.{min_first_volume_pages};
+ghost use Rattle.volume_disk.specs.Disk.{HasVolume, Tells, volume_pages};
+ghost use Rattle.volume_disk.specs.Run.{LeavesOnly, Touches};
+ghost use Rattle.page_ways.specs.Frame.{frame_in};
+ghost use Rattle.domain_making.specs.Fault.{HasCause};
+ghost use Rattle.domain_making.specs.Making.{
+  AreSlotsReady,
+  HasNoOtherAnchor,
+  IsLarge,
+  IsMade,
+  IsNoneOrEmpty,
+  IsOnFirst,
+  new_anchor,
+  new_frame,
+  pages_in_use,
+};
+ghost use Rattle.domain_making.specs.Pages.{AreNew};
+ghost use Rattle.domain_making.specs.declared.fault.MakeFault.TheVariants.{VolumeSmall};
+ghost use Rattle.domain_memory.specs.Memory.{StandsFor};
+
+use crate::Attached;
+use domain_base::Version;
+use domain_making::{MakeFault, NewPages, pages_to_use};
+use domain_memory::DomainMemory;
+use std::alloc::Global;
+use volume_disk::Rack;
+
+/// The memory of a domain that is to be made of these pages on a rack.
+fn new_memory<R: Rack>(
+    alloc: Global,
+    rack: &R,
+    version: Version,
+    new: &NewPages,
+) -> Result<DomainMemory, MakeFault>
+    requires large { IsLarge (R.disk rack.now).sizes }
+    requires new { AreNew version (pages_in_use version (R.disk rack.now).sizes) new.now }
+    ensures stands { IfOk result (λ memory. StandsFor memory empty) }
+    ensures frame { IfOk result (λ memory. frame_in memory.frame
+        ≡ new_frame version (pages_in_use version (R.disk rack.now).sizes)) }
+    ensures cause { IfErr result (HasCause (R.disk rack.now) (R.disk rack.now)) }
+{
+    let pages = pages_to_use(rack, version);
+    Ok(DomainMemory::of_new(alloc, new, version, pages)?)
+}
+
+/// Makes an empty domain of this version on volume 1 of a rack, whatever that volume held, and keeps
+/// it in memory. All memory is taken ahead of the first write. No other volume may have an anchor
+/// that counts.
+///
+/// `VolumeSmall` comes exactly where volume 1 has fewer than 160 pages, and `Fault` where one call of
+/// the volume that it names failed. The rack comes back with the fault; nothing is written at
+/// `VolumeSmall` and `OutOfMemory`, and where no anchor could count before, each image that a stop
+/// may leave has none or is the empty domain.
+pub fn make<R: Rack>(
+    alloc: Global,
+    rack: R,
+    version: Version,
+) -> Result<Attached<R>, (R, MakeFault)>
+    requires there { HasVolume (R.disk rack) 1 }
+    requires others { Tells (R.disk rack) → HasNoOtherAnchor (R.disk rack) }
+    ensures made { let pages = pages_in_use version (R.disk rack).sizes in
+        IfOk result (λ attached. Tells (R.disk rack)
+        → IsMade (R.disk attached.rack) (new_anchor version pages)) }
+    ensures empty { IfOk result (λ attached. StandsFor attached.memory empty) }
+    ensures frame { let pages = pages_in_use version (R.disk rack).sizes in
+        IfOk result (λ attached. frame_in attached.memory.frame ≡ new_frame version pages) }
+    ensures touches { IfOk result (λ attached. Touches (R.disk rack) (R.disk attached.rack)
+        IsOnFirst) }
+    ensures any_moment { let old = R.disk rack in
+        let pages = pages_in_use version old.sizes in Tells old → AreSlotsReady old
+        → IfOk result (λ attached. LeavesOnly old (R.disk attached.rack)
+        (IsNoneOrEmpty old.sizes version pages)) }
+    ensures any_moment_of_fault { let old = R.disk rack in
+        let pages = pages_in_use version old.sizes in Tells old → AreSlotsReady old
+        → IfErr result (λ back. LeavesOnly old (R.disk back.0)
+        (IsNoneOrEmpty old.sizes version pages)) }
+    ensures small { let pages = volume_pages (R.disk rack).sizes 1 in
+        pages < min_first_volume_pages → result ≡ Err (rack, VolumeSmall pages) }
+    ensures cause { IfErr result (λ back. HasCause (R.disk rack) (R.disk back.0) back.1) }
+{
+    let mut rack = rack;
+    let new = match NewPages::on_rack(alloc, &rack, version) {
+        Ok(new) => new,
+        Err(fault) => return Err((rack, fault)),
+    };
+    let memory = match new_memory(alloc, &rack, version, &new) {
+        Ok(memory) => memory,
+        Err(fault) => return Err((rack, fault)),
+    };
+    match new.write(&mut rack, version) {
+        Ok(_) => Ok(Attached { rack, memory }),
+        Err(fault) => Err((rack, fault)),
+    }
+}

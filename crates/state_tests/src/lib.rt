@@ -1,0 +1,5 @@
+//! Tests of domains that are made and opened on racks in memory.
+#![tactic(auto)]
+
+#[cfg(test)]
+mod opened;

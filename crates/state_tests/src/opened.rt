@@ -1,0 +1,124 @@
+//! Domains that are made, and whose history is begun.
+ghost use Rattle.std.specs.Prelude.{◌≡◌};
+ghost use Rattle.page_ways.specs.Frame.{frame_in};
+ghost use Rattle.staged_pages.specs.Store.{before_of};
+
+use domain_base::{OutOfMemory, Version};
+use domain_making::MakeFault;
+use domain_state::{Attached, Domain, Opening, make};
+use fileset_model::Told;
+use log_recovery::recover;
+use memory_disk::MemoryRack;
+use std::alloc::Global;
+use std::marker::Brand;
+use std::test::Fail;
+use volume_disk::Rack;
+
+/// What is seen of a domain that was opened, and its rack.
+#[derive(Drop)]
+struct Seen<R: Rack> {
+    entries: usize,
+    committed: u64,
+    durable: u64,
+    rack: R,
+}
+
+/// Begins the history of a domain, makes room for some entries, and gives its rack back.
+fn opened<R: Rack + Drop, O: Opening>(
+    alloc: Global,
+    attached: Attached<R>,
+    more: usize,
+) -> Result<Seen<R>, OutOfMemory>
+    requires pages { O.pages ≡ before_of attached.memory.pages }
+    requires frame { O.frame ≡ frame_in attached.memory.frame }
+    requires sizes { O.sizes ≡ (R.disk attached.rack).sizes }
+{
+    let mut domain: Domain<R, O> = Domain::begin(alloc, attached);
+    domain.reserve_history(more)?;
+    Ok(Seen {
+        entries: domain.entries().len(),
+        committed: domain.committed(),
+        durable: domain.durable(),
+        rack: domain.into_rack(),
+    })
+}
+
+/// What comes of a domain that is made on a volume of zeros and opened.
+#[derive(Debug, PartialEq, Eq, Drop)]
+enum Outcome {
+    /// It has so many entries, as many are told, and so many of them last; and recovery finds a
+    /// domain with this table page on its rack.
+    Opened {
+        entries: usize,
+        committed: u64,
+        durable: u64,
+        table: u32,
+    },
+    /// No domain is found on its rack.
+    Lost,
+    Small {
+        pages: u32,
+    },
+    Failed,
+    NoMemory,
+}
+
+/// The page of the table of the domain that recovery finds on a rack.
+fn found_table(alloc: Global, rack: &mut MemoryRack) -> Option<u32> {
+    let redone = recover(alloc, rack).ok()?;
+    Some(redone.anchor.table?.page)
+}
+
+fn outcome_of(alloc: Global, mut seen: Seen<MemoryRack>) -> Outcome {
+    match found_table(alloc, &mut seen.rack) {
+        None => Outcome::Lost,
+        Some(table) => Outcome::Opened {
+            entries: seen.entries,
+            committed: seen.committed,
+            durable: seen.durable,
+            table,
+        },
+    }
+}
+
+/// Makes a domain on a rack of one volume, and opens it.
+fn made_and_opened(alloc: Global, pages: u32, version: Version) -> Result<Outcome, OutOfMemory> {
+    let rack = MemoryRack::new(alloc, &[pages], &[], false)?;
+    if rack.volumes() != 1 {
+        return Ok(Outcome::Failed);
+    }
+    match make(alloc, rack, version) {
+        Ok(attached) => {
+            let seen = opened::<MemoryRack, Brand>(alloc, attached, 3)?;
+            Ok(outcome_of(alloc, seen))
+        }
+        Err((_, MakeFault::VolumeSmall { pages })) => Ok(Outcome::Small { pages }),
+        Err((_, MakeFault::Fault { .. })) => Ok(Outcome::Failed),
+        Err((_, MakeFault::OutOfMemory)) => Ok(Outcome::NoMemory),
+    }
+}
+
+#[test]
+fn a_domain_that_is_made_has_no_entry(rt: HostRuntime) -> Result<(), Fail> {
+    let alloc = rt.alloc();
+    let seen = [
+        made_and_opened(alloc, 160, Version::Three)?,
+        made_and_opened(alloc, 512, Version::Four)?,
+    ];
+    let empty = |table| Outcome::Opened {
+        entries: 0,
+        committed: 0,
+        durable: 0,
+        table,
+    };
+    assert_eq!(rt; seen, [empty(132), empty(132)]);
+    Ok(())
+}
+
+#[test]
+fn a_small_volume_is_refused(rt: HostRuntime) -> Result<(), Fail> {
+    let alloc = rt.alloc();
+    let seen = made_and_opened(alloc, 159, Version::Four)?;
+    assert_eq!(rt; seen, Outcome::Small { pages: 159 });
+    Ok(())
+}
