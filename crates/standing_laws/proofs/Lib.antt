@@ -1,0 +1,3 @@
+pub mod TablesTaken
+pub mod CellsNow
+pub mod TablesStand
