@@ -1,3 +1,6 @@
-pub mod TablesTaken
 pub mod CellsNow
+pub mod HeldHolders
+pub mod HeldSpaces
+pub mod HeldStill
 pub mod TablesStand
+pub mod TablesTaken

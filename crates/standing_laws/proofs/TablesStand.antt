@@ -1,5 +1,5 @@
 -- The tables of a domain stand on after a call on a tag.
-use Rattle.std.proofs.Common.{◌≡◌, ◌∙◌, ◌⊎◌, ◌↔◌, ℕ, zero, suc, ◌+◌, ◌<◌, ◌≤◌, Bool, true, false, nat_eq, List, [], ◌∷◌, ◌++◌, length, Option, Some, None, IsSomeAnd, Contains, slice_get, slice_index, refl, sym, ap, subst, arith, ⊎_elim, true≢false}
+use Rattle.std.proofs.Common.{◌≡◌, ◌∙◌, ◌↔◌, ℕ, zero, suc, ◌+◌, ◌<◌, ◌≤◌, Bool, true, nat_eq, List, [], ◌∷◌, ◌++◌, length, Option, Some, None, IsSomeAnd, Contains, slice_get, slice_index, refl, sym, ap, subst, arith, ⊎_elim, true≢false}
 use Rattle.std.proofs.lemmas.Bool.{cases_Bool, cases_lt, eq-eqb, eqb-true}
 use Rattle.std.proofs.lemmas.List.Elements.{Contains-push_cases}
 use Rattle.std.specs.Prelude.{slice_index_or}
@@ -33,7 +33,7 @@ use Rattle.domain_layout.specs.Reached.{first_cells}
 use Rattle.domain_standing.specs.Chains.{IndexesAt}
 use Rattle.domain_standing.specs.Domain.{DomainNow, layout_of}
 use Rattle.domain_standing.specs.Holders.{Holder}
-use Rattle.domain_standing.specs.Holders.Holder.{of_cells, of_table, of_tags}
+use Rattle.domain_standing.specs.Holders.Holder.{of_table, of_tags}
 use Rattle.domain_standing.specs.Tables.{HasVolumeCell, StandTables, first_place}
 use Rattle.standing_laws.specs.Leads.{LeadsOn, MayCall, StandsBelow, fileset_now}
 use Rattle.standing_laws.proofs.CellsNow.{AreUsed, CellsGoOn, dropped_cells, free_not_used, given_cells, in_use_now, made_cells, refused_cells, set_cells, used_or_free}

@@ -6,6 +6,8 @@ use Rattle.domain_base.specs.declared.place.Kind.TheVariants.{Directory}
 use Rattle.domain_base.specs.declared.place.Tag.{Tag}
 use Rattle.domain_base.specs.declared.version.Version.{Version}
 use Rattle.bmt_mcells.specs.Chain.{PlacedCell}
+use Rattle.extent_maps.specs.declared.run.PagePlace.TheVariants.{Absent}
+use Rattle.bitfile_cells.specs.Files.{places_of}
 use Rattle.bitfile_core.specs.Changes.{CanSay}
 use Rattle.bitfile_core.specs.Files.{Chains, attributes_of, of_live}
 use Rattle.bitfile_core.specs.Truncation.{IsLowered}
@@ -36,13 +38,15 @@ abbrev pub IsLiveOf : Kind → Option (List PlacedCell) → Type 0
 IsLiveOf kind chain =
     IsSomeAnd (option_and_then (of_live attributes_of) chain) (λ is. is.kind ≡ kind)
 
--- a call that a domain may make so: what is said of a file fits it, only a directory says a parent, a
--- file keeps as much as its new size asks, and a new one is of no clone that was not made. Pages are
--- not put elsewhere, and of where an index begins other laws tell
+-- a call that a domain may make so: a page that is given is one that the file did not have, since the
+-- page that stood there would be held for nothing; what is said of a file fits it, only a directory
+-- says a parent, a file keeps as much as its new size asks, and a new one is of no clone that was not
+-- made. Pages are not put elsewhere, and of where an index begins other laws tell
 abbrev pub MayCall : (made_so_far : ℕ) (number : ℕ) (version : Version) (tag : Tag)
     (old new : FilesetNow) → Call number version tag old new → Type 0
 MayCall so_far number version tag old new (refused s) = Unit {0}
-MayCall so_far number version tag old new (given s) = Unit {0}
+MayCall so_far number version tag old new (given s) =
+    places_of s.chain s.puts.page ≡ Absent
 MayCall so_far number version tag old new (moved s) = ⊥
 MayCall so_far number version tag old new (described value s) = CanSay value tag old.chains
 MayCall so_far number version tag old new (put_in parent s) = IsLiveOf Directory (old.chains tag)

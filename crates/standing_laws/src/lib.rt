@@ -2,6 +2,8 @@
 //! body.
 #![tactic(auto)]
 
+mod held;
 mod tables;
 
+pub use held::held_pages_stand_on;
 pub use tables::tables_stand_on;
