@@ -45,7 +45,7 @@ all_in P [] all x inside = absurd (omega (arith, inside.1))
 all_in P (y ∷ ys) all x (zero, within, is) = subst P is all.0
 all_in P (y ∷ ys) all x (suc k, within, is) = all_in P ys all.1 x (k, omega (arith, within), is)
 
-in_or_out : (cs : List PlacedCell) (at : CellAt) → Contains (places cs) at ⊎ ¬ Contains (places cs) at
+pub in_or_out : (cs : List PlacedCell) (at : CellAt) → Contains (places cs) at ⊎ ¬ Contains (places cs) at
 in_or_out [] at = inr (λ inside. omega (arith, inside.1))
 in_or_out (c ∷ cs) at = ⊎_elim
     (λ same. inl (in_first at c cs same))

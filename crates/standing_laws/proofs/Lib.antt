@@ -2,5 +2,8 @@ pub mod CellsNow
 pub mod HeldHolders
 pub mod HeldSpaces
 pub mod HeldStill
+pub mod RestFirst
+pub mod RestRecords
+pub mod RestStands
 pub mod TablesStand
 pub mod TablesTaken

@@ -3,7 +3,9 @@
 #![tactic(auto)]
 
 mod held;
+mod rest;
 mod tables;
 
 pub use held::held_pages_stand_on;
+pub use rest::rest_stands_on;
 pub use tables::tables_stand_on;

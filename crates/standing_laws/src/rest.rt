@@ -1,0 +1,20 @@
+//! What is asked of single cells.
+ghost use Rattle.std.specs.Prelude.{ℕ};
+ghost use Rattle.domain_base.specs.declared.place.Tag.{Tag};
+ghost use Rattle.bitfile_core.specs.Files.{Chains};
+ghost use Rattle.deferred_delete.specs.Standing.{Files};
+ghost use Rattle.domain_standing.specs.Chains.{IndexesAt};
+ghost use Rattle.domain_standing.specs.Domain.{DomainNow};
+ghost use Rattle.domain_standing.specs.Rest.{SaysTheRest};
+ghost use Rattle.standing_laws.specs.Kinds.{KeepsKinds};
+ghost use Rattle.standing_laws.specs.Leads.{LeadsOn, StandsBelow, fileset_now};
+
+/// Where a domain stands, its cells say what is asked of them also after a call on a file, if one
+/// that gives it a page leaves each cell of its chain the kind of record that it had.
+pub fn rest_stands_on()
+    ensures { (number : ℕ) (tag : Tag) (d now : DomainNow) (chains chains_now : Chains)
+        (files files_now : Files) (indexes : IndexesAt) → StandsBelow d files indexes
+        → (leads : LeadsOn number tag d now chains chains_now files files_now)
+        → KeepsKinds number d.frame.version tag (fileset_now d number chains files)
+        (fileset_now now number chains_now files_now) leads.call → SaysTheRest now files_now }
+{}
