@@ -38,10 +38,10 @@ abbrev pub IsLiveOf : Kind → Option (List PlacedCell) → Type 0
 IsLiveOf kind chain =
     IsSomeAnd (option_and_then (of_live attributes_of) chain) (λ is. is.kind ≡ kind)
 
--- a call that a domain may make so: a page that is given is one that the file did not have, since the
+-- a call that a domain may make so: a page that is given is one that the file did not have, as the
 -- page that stood there would be held for nothing; what is said of a file fits it, only a directory
--- says a parent, a file keeps as much as its new size asks, and a new one is of no clone that was not
--- made. Pages are not put elsewhere, and of where an index begins other laws tell
+-- says a parent, a file keeps as much as its new size asks, and a new one is of no clone that was
+-- not made. Pages are not put elsewhere, and of where an index begins other laws tell
 abbrev pub MayCall : (made_so_far : ℕ) (number : ℕ) (version : Version) (tag : Tag)
     (old new : FilesetNow) → Call number version tag old new → Type 0
 MayCall so_far number version tag old new (refused s) = Unit {0}
