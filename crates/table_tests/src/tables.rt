@@ -301,9 +301,10 @@ fn replaced(table: &mut FilesetTable, number: FilesetNo) -> Option<SlotItem> {
 /// The table of the page after that, and the quota cell that the slot had.
 fn table_replaced(alloc: Global) -> Result<(String, Option<CellAt>), Fail> {
     let mut table = table_there(alloc)?;
-    let had = replaced(&mut table, FilesetNo::new(31).ok_or("a slot")?);
-    let quota = match had {
-        Some(SlotItem::Removed { quota, .. }) => quota,
+    let number = FilesetNo::new(31).ok_or("a slot")?;
+    let had = replaced(&mut table, number);
+    let quota = match &had {
+        Some(SlotItem::Removed { quota, .. }) => *quota,
         _ => None,
     };
     Ok((shown_table(alloc, &table)?, quota))
