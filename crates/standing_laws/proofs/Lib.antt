@@ -1,4 +1,6 @@
 pub mod CellsNow
+pub mod ChainsGoOn
+pub mod ChainsStand
 pub mod HeldHolders
 pub mod HeldSpaces
 pub mod HeldStill

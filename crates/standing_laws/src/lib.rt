@@ -2,10 +2,12 @@
 //! body.
 #![tactic(auto)]
 
+mod chains;
 mod held;
 mod rest;
 mod tables;
 
+pub use chains::cells_in_use_stay_in_chains;
 pub use held::held_pages_stand_on;
 pub use rest::rest_stands_on;
 pub use tables::tables_stand_on;
