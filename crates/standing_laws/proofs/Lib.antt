@@ -1,5 +1,6 @@
 pub mod CellsNow
 pub mod ChainsGoOn
+pub mod ChainsNamed
 pub mod ChainsStand
 pub mod HeldHolders
 pub mod HeldSpaces

@@ -1,13 +1,18 @@
 //! The chains of cells of a domain.
-ghost use Rattle.std.specs.Prelude.{◌⊎◌, ℕ};
+ghost use Rattle.std.specs.Prelude.{◌≡◌, ◌⊎◌, ℕ, List, Some, Contains};
+ghost use Rattle.std.specs.Option.{option_and_then};
 ghost use Rattle.domain_base.specs.declared.place.CellAt.{CellAt};
+ghost use Rattle.domain_base.specs.declared.place.Home.{Home};
 ghost use Rattle.domain_base.specs.declared.place.Tag.{Tag};
 ghost use Rattle.bmt_mcells.specs.Cell.{Cell};
+ghost use Rattle.bmt_mcells.specs.Chain.{PlacedCell};
 ghost use Rattle.bitfile_core.specs.Files.{Chains};
+ghost use Rattle.bitfile_core.specs.Shown.{index_of};
+ghost use Rattle.stored_index.specs.Homes.{AreIndexHomes};
 ghost use Rattle.deferred_delete.specs.Standing.{Files};
 ghost use Rattle.domain_layout.specs.CellRules.{IsFirstPlace};
 ghost use Rattle.domain_layout.specs.Owners.{IsOnTable};
-ghost use Rattle.domain_standing.specs.Chains.{IndexesAt, IsInChain};
+ghost use Rattle.domain_standing.specs.Chains.{HasEmptyTags, IndexesAt, IsInChain, IsOnList, IsQuotaToGo, IsSomebodys, IsToDo};
 ghost use Rattle.domain_standing.specs.Domain.{DomainNow, layout_of};
 ghost use Rattle.standing_laws.specs.Leads.{LeadsOn, StandsBelow};
 
@@ -19,4 +24,39 @@ pub fn cells_in_use_stay_in_chains()
         → LeadsOn number tag d now chains chains_now files files_now
         → (at : CellAt) (cell : Cell) → IsOnTable now.pages (layout_of now) at cell
         → IsFirstPlace now.frame at ⊎ IsInChain files_now at }
+{}
+
+/// Each chain is of a file that a tag names, of one that is to be removed, or of quota cells.
+pub fn chains_stay_somebodys()
+    ensures { (number : ℕ) (tag : Tag) (d now : DomainNow) (chains chains_now : Chains)
+        (files files_now : Files) (indexes : IndexesAt) → StandsBelow d files indexes
+        → LeadsOn number tag d now chains chains_now files files_now
+        → (at : CellAt) (chain : List PlacedCell) → files_now at ≡ Some chain
+        → IsSomebodys now at chain }
+{}
+
+/// What an entry of the list has is still to be done, or is the quota cells of what is being
+/// removed.
+pub fn entries_stay_to_be_done()
+    ensures { (number : ℕ) (tag : Tag) (d now : DomainNow) (chains chains_now : Chains)
+        (files files_now : Files) (indexes : IndexesAt) → StandsBelow d files indexes
+        → LeadsOn number tag d now chains chains_now files files_now
+        → (at : CellAt) → IsOnList now at → IsToDo files_now at ⊎ IsQuotaToGo now at }
+{}
+
+/// The pages of tag directories on the list are still those of what is being removed.
+pub fn listed_tag_pages_stay()
+    ensures { (number : ℕ) (tag : Tag) (d now : DomainNow) (chains chains_now : Chains)
+        (files files_now : Files) (indexes : IndexesAt) → StandsBelow d files indexes
+        → LeadsOn number tag d now chains chains_now files files_now
+        → (home : Home) → Contains now.list.tag_pages home → (n : ℕ) × HasEmptyTags now n }
+{}
+
+/// The index that a file names has the same pages, and a new file names none.
+pub fn indexes_stay()
+    ensures { (number : ℕ) (tag : Tag) (d now : DomainNow) (chains chains_now : Chains)
+        (files files_now : Files) (indexes : IndexesAt) → StandsBelow d files indexes
+        → LeadsOn number tag d now chains chains_now files files_now
+        → (at : CellAt)
+        → AreIndexHomes now.pages (option_and_then index_of (files_now at)) (indexes at) }
 {}

@@ -7,7 +7,10 @@ mod held;
 mod rest;
 mod tables;
 
-pub use chains::cells_in_use_stay_in_chains;
+pub use chains::{
+    cells_in_use_stay_in_chains, chains_stay_somebodys, entries_stay_to_be_done, indexes_stay,
+    listed_tag_pages_stay,
+};
 pub use held::held_pages_stand_on;
 pub use rest::rest_stands_on;
 pub use tables::tables_stand_on;
