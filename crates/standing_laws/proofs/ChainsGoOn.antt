@@ -36,17 +36,17 @@ use Rattle.standing_laws.proofs.CellsNow.{AreUsed, CellsGoOn, dropped_cells, giv
 
 -- ---- records of a first cell
 
-changed_kind : (kind : ℕ) (change : Record → Record) → ((r : Record) → kind_of (change r) ≡ kind_of r) → (rs : List Record) → IfSome (option_map change (record_of kind rs)) (λ r. kind_of r ≡ kind)
+pub changed_kind : (kind : ℕ) (change : Record → Record) → ((r : Record) → kind_of (change r) ≡ kind_of r) → (rs : List Record) → IfSome (option_map change (record_of kind rs)) (λ r. kind_of r ≡ kind)
 changed_kind kind change same rs = by_found (record_of kind rs) refl
   where
     by_found : (o : Option Record) → record_of kind rs ≡ o → IfSome (option_map change o) (λ r. kind_of r ≡ kind)
     by_found None is = tt
     by_found (Some r) is = same r ∙ kind_found kind rs r is
 
-size_other : (size : ℕ) (lowered : Option ℕ) (cell : Cell) (k : ℕ) → ¬ k ≡ 1 → record_of k (says_size size lowered cell).records ≡ record_of k cell.records
+pub size_other : (size : ℕ) (lowered : Option ℕ) (cell : Cell) (k : ℕ) → ¬ k ≡ 1 → record_of k (says_size size lowered cell).records ≡ record_of k cell.records
 size_other size lowered cell k one = find_other 1 k (option_map (resized size lowered) (record_of 1 cell.records)) cell.records one (changed_kind 1 (resized size lowered) (resized_kind size lowered) cell.records)
 
-not_six : (version : Version) → ¬ 6 ≡ short_kind version
+pub not_six : (version : Version) → ¬ 6 ≡ short_kind version
 not_six Three is = omega (arith, is)
 not_six Four is = omega (arith, is)
 

@@ -5,8 +5,10 @@ pub mod ChainsStand
 pub mod HeldHolders
 pub mod HeldSpaces
 pub mod HeldStill
+pub mod NothingLeft
 pub mod RestFirst
 pub mod RestRecords
 pub mod RestStands
+pub mod SlotsStand
 pub mod TablesStand
 pub mod TablesTaken

@@ -1,2 +1,3 @@
-pub mod Leads
 pub mod Kinds
+pub mod Leads
+pub mod Left

@@ -1,5 +1,5 @@
 //! The chains of cells of a domain.
-ghost use Rattle.std.specs.Prelude.{◌≡◌, ◌⊎◌, ℕ, List, Some, Contains};
+ghost use Rattle.std.specs.Prelude.{◌≡◌, ◌⊎◌, ℕ, List, Some, IsSomeAnd, Contains};
 ghost use Rattle.std.specs.Option.{option_and_then};
 ghost use Rattle.domain_base.specs.declared.place.CellAt.{CellAt};
 ghost use Rattle.domain_base.specs.declared.place.Home.{Home};
@@ -11,10 +11,12 @@ ghost use Rattle.bitfile_core.specs.Shown.{index_of};
 ghost use Rattle.stored_index.specs.Homes.{AreIndexHomes};
 ghost use Rattle.deferred_delete.specs.Standing.{Files};
 ghost use Rattle.domain_layout.specs.CellRules.{IsFirstPlace};
+ghost use Rattle.domain_layout.specs.Layout.{first_tag_of};
 ghost use Rattle.domain_layout.specs.Owners.{IsOnTable};
-ghost use Rattle.domain_standing.specs.Chains.{HasEmptyTags, IndexesAt, IsInChain, IsOnList, IsQuotaToGo, IsSomebodys, IsToDo};
-ghost use Rattle.domain_standing.specs.Domain.{DomainNow, layout_of};
-ghost use Rattle.standing_laws.specs.Leads.{LeadsOn, StandsBelow};
+ghost use Rattle.domain_standing.specs.Chains.{AreQuotasOf, HasEmptyTags, IndexesAt, IsInChain, IsOnList, IsQuotaOf, IsQuotaToGo, IsSomebodys, IsToDo, StandChains, StandsInSlot};
+ghost use Rattle.domain_standing.specs.Domain.{DomainNow, layout_of, named_by};
+ghost use Rattle.standing_laws.specs.Leads.{LeadsOn, StandsBelow, fileset_now};
+ghost use Rattle.standing_laws.specs.Left.{LeavesNothing};
 
 /// Where a domain stands, each cell in use is the first of its volume or one of a chain after a
 /// call on a file.
@@ -59,4 +61,33 @@ pub fn indexes_stay()
         → LeadsOn number tag d now chains chains_now files files_now
         → (at : CellAt)
         → AreIndexHomes now.pages (option_and_then index_of (files_now at)) (indexes at) }
+{}
+
+/// The tag directory of each slot stands on: the files that its tags name are among the domain's, or
+/// none of its tags leads to a cell and its pages are on the list.
+pub fn slots_stand_on()
+    ensures { (number : ℕ) (tag : Tag) (d now : DomainNow) (chains chains_now : Chains)
+        (files files_now : Files) (indexes : IndexesAt) → StandsBelow d files indexes
+        → LeadsOn number tag d now chains chains_now files files_now
+        → (n : ℕ) → StandsInSlot now files_now n (named_by first_tag_of now n) }
+{}
+
+/// The quota cells that a slot names are a chain of its fileset, which says nothing of an owner
+/// twice.
+pub fn quota_cells_stand_on()
+    ensures { (number : ℕ) (tag : Tag) (d now : DomainNow) (chains chains_now : Chains)
+        (files files_now : Files) (indexes : IndexesAt) → StandsBelow d files indexes
+        → LeadsOn number tag d now chains chains_now files files_now
+        → (n : ℕ) (at : CellAt) → IsQuotaOf now n at
+        → IsSomeAnd (files_now at) (AreQuotasOf now n at) }
+{}
+
+/// Where a call leaves nothing of a file to be let go of, all chains of the domain stand on.
+pub fn chains_stand_on()
+    ensures { (number : ℕ) (tag : Tag) (d now : DomainNow) (chains chains_now : Chains)
+        (files files_now : Files) (indexes : IndexesAt) → StandsBelow d files indexes
+        → (leads : LeadsOn number tag d now chains chains_now files files_now)
+        → LeavesNothing number d.frame.version tag (fileset_now d number chains files)
+        (fileset_now now number chains_now files_now) leads.call
+        → StandChains now files_now indexes }
 {}
