@@ -1,5 +1,5 @@
 -- Whose the chains of a domain are after a call on a tag, and what of them is on the list.
-use Rattle.std.proofs.Common.{◌≡◌, ◌∙◌, ◌⊎◌, ◌==◌, ℕ, zero, suc, Bool, true, false, List, [], ◌∷◌, Option, Some, None, IfSome, IsSome, IsSomeAnd, Contains, inl, inr, is_some, slice_get, refl, sym, ap, subst, eqb-true, ⊎_elim}
+use Rattle.std.proofs.Common.{◌≡◌, ◌∙◌, ◌⊎◌, ◌==◌, ℕ, suc, true, false, List, [], ◌∷◌, Option, Some, None, IfSome, IsSomeAnd, Contains, inl, inr, is_some, slice_get, refl, sym, ap, subst, eqb-true, ⊎_elim}
 use Rattle.std.proofs.lemmas.Bool.{both_ways, cases_Bool, eq-eqb, true≢false}
 use Rattle.std.specs.Option.{option_and_then}
 use Rattle.domain_base.specs.declared.place.CellAt.{CellAt}
@@ -9,7 +9,7 @@ use Rattle.page_store.specs.Bitfiles.{same_tag}
 use Rattle.page_store.specs.Pages.{Pages}
 use Rattle.bmt_mcells.specs.Chain.{PlacedCell}
 use Rattle.tag_dirs.specs.declared.dir.TagPlace.{TagPlace}
-use Rattle.tag_dirs.specs.Directory.{cell_of, has_home}
+use Rattle.tag_dirs.specs.Directory.{cell_of}
 use Rattle.bitfile_cells.specs.Files.{IsFile}
 use Rattle.bitfile_core.specs.Files.{AreFiles, Chains, LeadsToFile}
 use Rattle.bitfile_core.specs.Shown.{index_in, index_of}
@@ -19,7 +19,6 @@ use Rattle.stored_index.specs.Homes.{AreIndexHomes, IsIndexPage, next_at}
 use Rattle.tag_dirs.specs.TagPage.{next_of}
 use Rattle.fileset_table.specs.Table.{Table}
 use Rattle.fileset_table.specs.declared.slot.SlotItem.{SlotItem}
-use Rattle.fileset_table.specs.declared.slot.SlotItem.TheVariants as slot
 use Rattle.deferred_delete.specs.Listed.{left_of}
 use Rattle.deferred_delete.specs.Listing.{Listing}
 use Rattle.deferred_delete.specs.Standing.{Files}

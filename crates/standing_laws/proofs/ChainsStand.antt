@@ -1,5 +1,5 @@
 -- The chains of a domain after a call on a tag.
-use Rattle.std.proofs.Common.{◌≡◌, ◌∙◌, ◌⊎◌, ℕ, List, Option, Some, None, IsSomeAnd, Contains, inl, inr, refl, sym, ap, subst, ⊎_elim}
+use Rattle.std.proofs.Common.{◌≡◌, ◌∙◌, ◌⊎◌, ℕ, List, Some, IsSomeAnd, Contains, inl, inr, sym, ap, subst, ⊎_elim}
 use Rattle.domain_base.specs.declared.place.CellAt.{CellAt}
 use Rattle.domain_base.specs.declared.place.Tag.{Tag}
 use Rattle.bmt_mcells.specs.Cell.{Cell}
@@ -10,7 +10,6 @@ use Rattle.bitfile_cells.specs.MapChanges.{IsHandedOut}
 use Rattle.bitfile_cells.proofs.Added.{used_of}
 use Rattle.bitfile_core.specs.Files.{Chains}
 use Rattle.deferred_delete.specs.Standing.{Files}
-use Rattle.deferred_delete.proofs.Spread.{none_not, some_same}
 use Rattle.deferred_delete.proofs.Standings.{file_other, file_there, same_or_not}
 use Rattle.deferred_laws.specs.Calls.{FilesetNow, Refuses}
 use Rattle.deferred_laws.proofs.StillAmong.{file_of_tag}
