@@ -2,6 +2,7 @@ pub mod CellsNow
 pub mod ChainsGoOn
 pub mod ChainsNamed
 pub mod ChainsStand
+pub mod EntryListed
 pub mod HeldHolders
 pub mod HeldSpaces
 pub mod HeldStill

@@ -1,5 +1,5 @@
 //! The chains of cells of a domain.
-ghost use Rattle.std.specs.Prelude.{◌≡◌, ◌⊎◌, ℕ, List, Some, IsSomeAnd, Contains};
+ghost use Rattle.std.specs.Prelude.{◌≡◌, ◌⊎◌, ℕ, List, Option, Some, IsSomeAnd, Contains};
 ghost use Rattle.std.specs.Option.{option_and_then};
 ghost use Rattle.domain_base.specs.declared.place.CellAt.{CellAt};
 ghost use Rattle.domain_base.specs.declared.place.Home.{Home};
@@ -9,7 +9,10 @@ ghost use Rattle.bmt_mcells.specs.Chain.{PlacedCell};
 ghost use Rattle.bitfile_core.specs.Files.{Chains};
 ghost use Rattle.bitfile_core.specs.Shown.{index_of};
 ghost use Rattle.stored_index.specs.Homes.{AreIndexHomes};
+ghost use Rattle.deferred_delete.specs.Listed.{IsEntry};
+ghost use Rattle.deferred_delete.specs.Listing.{Adds, Listing};
 ghost use Rattle.deferred_delete.specs.Standing.{Files};
+ghost use Rattle.deferred_laws.specs.Tags.{start_of};
 ghost use Rattle.domain_layout.specs.CellRules.{IsFirstPlace};
 ghost use Rattle.domain_layout.specs.Layout.{first_tag_of};
 ghost use Rattle.domain_layout.specs.Owners.{IsOnTable};
@@ -90,4 +93,18 @@ pub fn chains_stand_on()
         → LeavesNothing number d.frame.version tag (fileset_now d number chains files)
         (fileset_now now number chains_now files_now) leads.call
         → StandChains now files_now indexes }
+{}
+
+/// Where the tag's file has something left to be let go of, the chains stand on once an entry of it
+/// is put on the list: so behind a call that drops the file or makes pages of it stale.
+pub fn chains_stand_on_where_a_file_is_listed()
+    ensures { (number : ℕ) (tag : Tag) (d now : DomainNow) (chains chains_now : Chains)
+        (files files_now : Files) (indexes : IndexesAt) → StandsBelow d files indexes
+        → LeadsOn number tag d now chains chains_now files files_now
+        → (start : CellAt) (clone : Option CellAt) (listed : Listing)
+        → option_and_then start_of (chains tag) ≡ Some start → IsToDo files_now start
+        → IsEntry files_now (record { at = start; clone = clone })
+        → Adds start clone now.list.entries listed.entries
+        → listed.tag_pages ≡ now.list.tag_pages
+        → StandChains (record now { list = listed }) files_now indexes }
 {}

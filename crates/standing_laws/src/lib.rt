@@ -8,8 +8,9 @@ mod rest;
 mod tables;
 
 pub use chains::{
-    cells_in_use_stay_in_chains, chains_stand_on, chains_stay_somebodys, entries_stay_to_be_done,
-    indexes_stay, listed_tag_pages_stay, quota_cells_stand_on, slots_stand_on,
+    cells_in_use_stay_in_chains, chains_stand_on, chains_stand_on_where_a_file_is_listed,
+    chains_stay_somebodys, entries_stay_to_be_done, indexes_stay, listed_tag_pages_stay,
+    quota_cells_stand_on, slots_stand_on,
 };
 pub use held::held_pages_stand_on;
 pub use rest::rest_stands_on;
