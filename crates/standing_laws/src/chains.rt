@@ -66,8 +66,8 @@ pub fn indexes_stay()
         → AreIndexHomes now.pages (option_and_then index_of (files_now at)) (indexes at) }
 {}
 
-/// The tag directory of each slot stands on: the files that its tags name are among the domain's, or
-/// none of its tags leads to a cell and its pages are on the list.
+/// The tag directory of each slot stands on: the files that its tags name are among the domain's,
+/// or none of its tags leads to a cell and its pages are on the list.
 pub fn slots_stand_on()
     ensures { (number : ℕ) (tag : Tag) (d now : DomainNow) (chains chains_now : Chains)
         (files files_now : Files) (indexes : IndexesAt) → StandsBelow d files indexes
