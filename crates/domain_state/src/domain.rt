@@ -79,6 +79,7 @@ impl<R: Rack, O: Opening> Domain<R, O> {
         ensures history { ⟦<Domain<R, O> as Told>⟧.history result ≡ [] }
         ensures begun { ⟦<Domain<R, O> as Told>⟧.begun result ≡ None }
         ensures rack { result.rack ≡ attached.rack }
+        ensures memory { result.memory ≡ attached.memory }
     {
         let Attached { rack, memory, .. } = attached;
         Domain {
