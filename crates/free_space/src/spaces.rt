@@ -52,8 +52,8 @@ impl FreeSpace {
 
     /// Adds a volume with this bitmap of at most 1,048,576 pages, open and with no page that waits,
     /// and keeps it so. It takes the room for each of its pages to wait, and to be taken or freed
-    /// before that is kept, 24 bytes for a page, so that no later call takes memory. Where memory is
-    /// short the bitmap comes back, and nothing changes.
+    /// before that is kept, 24 bytes for a page, so that no later call takes memory. Where memory
+    /// is short the bitmap comes back, and nothing changes.
     pub fn add_volume(
         &mut self,
         alloc: Global,
