@@ -37,7 +37,7 @@ use Rattle.bitfile_cells.specs.FileChanges.{AreOnTables, LeavesOtherCells, map_k
 use Rattle.bitfile_cells.specs.MapChanges.{ChangesOnTables, IsHandedOut, Joins, LeavesOffTables}
 use Rattle.bitfile_cells.specs.Files.{HasMap, IsFile, map_records, places_of}
 use Rattle.bitfile_cells.proofs.Allocated.{not_in_table, there_is}
-use Rattle.bitfile_cells.proofs.ChainChanges.{at_apart, at_same, in_first, in_later, inside_places, one_front}
+use Rattle.bitfile_cells.proofs.ChainChanges.{at_apart, at_same, in_first, in_later, inside_places, kinds_more, kinds_on, kinds_same, one_front}
 use Rattle.bitfile_cells.proofs.Chosen.{all_at}
 use Rattle.bitfile_cells.proofs.Gathers.{one_map_file}
 use Rattle.bitfile_cells.proofs.MapRecords.{one_map_back, one_map_record, rows_true, runs_by_map, value_has_rows}
@@ -307,6 +307,9 @@ module _ (prefer : ℕ) (at : CellAt) (space space_now : Spaces) (cells cells_no
           on_tables = (table_kept start.vol start.page on_start, (at_on, tables_kept rest on.1));
           joined = joined is.0;
           kept = kept is.0;
+          same_kinds = kinds_on c0 front rest (back ∷ rest) (sym is.0) (ap (λ (c : Cell). map_kinds c.records) (sym same)) file.links.distinct.0
+              (subst (λ (a : CellAt). ¬ Contains (places (back ∷ rest)) a) (sym is.0) (fresh_start on_start outside))
+              (kinds_more back rest rest (λ inside. all_at (λ (q : CellAt). ¬ at ≡ q) rest at (apart_all cell.head rest follow on.1) inside refl) (kinds_same rest file.links.distinct.1));
           handed = λ q now. ⊎_elim (λ was. inl was) (λ same. inr (1, omega arith, same)) (handed_now q now);
         }
       where

@@ -20,13 +20,13 @@ use Rattle.extent_records.specs.Chains.{CanTake, ChangesChain}
 use Rattle.extent_records.specs.Writing.{places_in}
 use Rattle.extent_records.proofs.ChainLemmas.{one_page_follows}
 use Rattle.bitfile_cells.specs.Changes.{with_record}
-use Rattle.bitfile_cells.specs.FileChanges.{ChangesPage, SameFirst, map_kinds, other_records}
+use Rattle.bitfile_cells.specs.FileChanges.{ChangesPage, KeepKinds, SameFirst, map_kinds, other_records}
 use Rattle.bitfile_cells.specs.Files.{HasMap, IsFile, IsMapCell, map_records, places_of}
 use Rattle.bitfile_cells.specs.MapChanges.{ChangesInPlace, ChangesMap, LeavesApart}
 use Rattle.bitfile_cells.proofs.Gathers.{map_append, mapped_all, one_map_file, values, values_are}
 use Rattle.bitfile_cells.proofs.MapRecords.{one_map_back, rows_kind, runs_by_map, value_has_rows}
 use Rattle.bitfile_cells.proofs.OneRecord.{has_after, map_cell_after, only_after, others_same, still_found}
-use Rattle.bitfile_cells.proofs.Walks.{Mapped, cell_places, first_places}
+use Rattle.bitfile_cells.proofs.Walks.{Mapped, cell_places, distinct_file, first_places}
 
 -- ---- addresses
 
@@ -56,6 +56,29 @@ pub inside_places : (cs : List PlacedCell) (c : PlacedCell) → Contains cs c �
 inside_places [] c (k, within, is) = absurd (omega (arith, within))
 inside_places (x ∷ xs) c (zero, within, is) = in_first c.at x xs (ap (λ (c : PlacedCell). c.at) is)
 inside_places (x ∷ xs) c (suc k, within, is) = in_later c.at x xs (inside_places xs c (k, omega (arith, within), is))
+
+-- ---- chains whose cells say where pages stand in records of the kinds that they had
+
+-- chains that keep kinds, each behind a cell that does
+pub kinds_on : (c d : PlacedCell) (cs ds : List PlacedCell) → d.at ≡ c.at → map_kinds d.cell.records ≡ map_kinds c.cell.records → ¬ Contains (places cs) c.at → ¬ Contains (places ds) c.at → KeepKinds cs ds → KeepKinds (c ∷ cs) (d ∷ ds)
+kinds_on c d cs ds same kinds apart apart_now keep was now (zero, within, is) (zero, within_now, is_now) at =
+    ap (λ (p : PlacedCell). map_kinds p.cell.records) (sym is_now) ∙ kinds ∙ ap (λ (p : PlacedCell). map_kinds p.cell.records) is
+kinds_on c d cs ds same kinds apart apart_now keep was now (zero, within, is) (suc k, within_now, is_now) at =
+    absurd (apart_now (subst (Contains (places ds)) (at ∙ ap (λ (p : PlacedCell). p.at) (sym is)) (inside_places ds now (k, omega (arith, within_now), is_now))))
+kinds_on c d cs ds same kinds apart apart_now keep was now (suc k, within, is) (zero, within_now, is_now) at =
+    absurd (apart (subst (Contains (places cs)) (sym at ∙ ap (λ (p : PlacedCell). p.at) (sym is_now) ∙ same) (inside_places cs was (k, omega (arith, within), is))))
+kinds_on c d cs ds same kinds apart apart_now keep was now (suc k, within, is) (suc j, within_now, is_now) at =
+    keep was now (k, omega (arith, within), is) (j, omega (arith, within_now), is_now) at
+
+-- with a cell more that was none of the chain
+pub kinds_more : (d : PlacedCell) (cs ds : List PlacedCell) → ¬ Contains (places cs) d.at → KeepKinds cs ds → KeepKinds cs (d ∷ ds)
+kinds_more d cs ds apart keep was now there (zero, within, is) at =
+    absurd (apart (subst (Contains (places cs)) (sym at ∙ ap (λ (p : PlacedCell). p.at) (sym is)) (inside_places cs was there)))
+kinds_more d cs ds apart keep was now there (suc k, within, is) at = keep was now there (k, omega (arith, within), is) at
+
+pub kinds_same : (cs : List PlacedCell) → AreDistinct cs → KeepKinds cs cs
+kinds_same [] distinct = λ was now there. absurd (omega (arith, there.1))
+kinds_same (c ∷ cs) distinct = kinds_on c c cs cs refl refl distinct.0 distinct.0 (kinds_same cs distinct.1)
 
 -- ---- the cell at a place of a chain
 
@@ -181,6 +204,18 @@ module _ (old new : Pages) (at : CellAt) (value : Record) (page : ℕ) (place : 
       (map_cell_after value changes.after changes.is_map changes.same_kind cell map (subst IsMapCell (ap (λ (c : PlacedCell). c.cell) (there.1 c)) all.0), all.1)
   map_cells_set (suc i) cell (c ∷ cs) there map all = (all.0, map_cells_set i cell cs (omega (arith, there.0), there.1) map all.1)
 
+  -- its record is of the kind that it was
+  kinds_after : (cell : Cell) → HasMap cell value → map_kinds (cell_after cell).records ≡ map_kinds cell.records
+  kinds_after cell has =
+      ap (map kind_of) (only_after value changes.after changes.is_map changes.same_kind cell.records has.only) ∙ ap (λ (k : ℕ). k ∷ []) changes.same_kind ∙ sym (ap (map kind_of) has.only)
+
+  kinds_set : (i : ℕ) (cell : Cell) (cs : List PlacedCell) → AreDistinct cs → IsThere i cs at cell → HasMap cell value → KeepKinds cs (set_cell i (cell_after cell) cs)
+  kinds_set i cell [] distinct there has = absurd (omega (arith, there.0))
+  kinds_set zero cell (c ∷ cs) distinct there has =
+      kinds_on c (record { at = c.at; cell = cell_after cell }) cs cs refl (kinds_after cell has ∙ ap (λ (c : PlacedCell). map_kinds c.cell.records) (sym (there.1 c))) distinct.0 distinct.0 (kinds_same cs distinct.1)
+  kinds_set (suc i) cell (c ∷ cs) distinct there has =
+      kinds_on c c cs (set_cell i (cell_after cell) cs) refl refl distinct.0 (distinct_set (suc i) (cell_after cell) (c ∷ cs) distinct).0 (kinds_set i cell cs distinct.1 (omega (arith, there.0), there.1) has)
+
   -- the file's map is changed at this page
   module _ (start : CellAt) (chain : List PlacedCell) (is : IsFile old start chain) (i : ℕ) (p : Picks old i at value chain) (there : places_of chain page ≡ places_in value page) where
     abbrev now : List PlacedCell
@@ -238,8 +273,7 @@ module _ (old new : Pages) (at : CellAt) (value : Record) (page : ℕ) (place : 
           refl,
           subst (λ (c : Cell). c.head ≡ record first.cell.head { next = c.head.next }) of refl,
           others_same value changes.after changes.is_map changes.same_kind p.cell.records p.stands.is.well_formed ∙ ap (λ (c : Cell). other_records c.records) (sym of),
-          ap (map kind_of) (only_after value changes.after changes.is_map changes.same_kind p.cell.records p.map.only) ∙ ap (λ (k : ℕ). k ∷ []) changes.same_kind ∙ sym (ap (map kind_of) p.map.only)
-              ∙ ap (λ (c : Cell). map_kinds c.records) (sym of),
+          kinds_after p.cell p.map ∙ ap (λ (c : Cell). map_kinds c.records) (sym of),
         );
       }
   stays start (first ∷ rest) is (suc i) p one =
@@ -277,7 +311,11 @@ module _ (old new : Pages) (at : CellAt) (value : Record) (page : ℕ) (place : 
 
   pub in_place : (start : CellAt) (chain : List PlacedCell) (is : IsFile old start chain) (i : ℕ) (p : Picks old i at value chain) → places_of chain page ≡ places_in value page → ChangesInPlace start page place chain new
   unfolding page_changes
-  in_place start chain is i p there = record { changes = page_changes start chain is i p there; same_cells = places_set i (cell_after p.cell) chain }
+  in_place start chain is i p there = record {
+    changes = page_changes start chain is i p there;
+    same_cells = places_set i (cell_after p.cell) chain;
+    same_kinds = kinds_set i p.cell chain (distinct_file old start chain is) p.is_there p.map;
+  }
 
   -- where the cell is one of the chain, all but the chain stays
   pub apart_stays : (chain : List PlacedCell) → Contains (places chain) at → LeavesApart chain old new

@@ -22,17 +22,17 @@ use Rattle.extent_records.proofs.ChainLemmas.{parts_change}
 use Rattle.free_cells.specs.Cells.{Cells, table_of}
 use Rattle.free_space.specs.Spaces.{Spaces}
 use Rattle.bitfile_cells.specs.Allocated.{AreAllocated}
-use Rattle.bitfile_cells.specs.FileChanges.{AreOnTables, LeavesOtherCells, SameFirst, map_kinds, other_records}
+use Rattle.bitfile_cells.specs.FileChanges.{AreOnTables, KeepKinds, LeavesOtherCells, SameFirst, map_kinds, other_records}
 use Rattle.bitfile_cells.specs.Files.{HasMap, IsFile, IsMapCell, map_records, places_of}
 use Rattle.bitfile_cells.specs.MapChanges.{ChangesOnTables, Joins}
 use Rattle.bitfile_cells.specs.Moving.{PartsCell, front_cell, tail_cell}
 use Rattle.bitfile_cells.proofs.Added.{at_on, follows_chain, handed_now, not_zeros, stands_taken, table_kept, tables_kept}
-use Rattle.bitfile_cells.proofs.ChainChanges.{IsThere, Picks, at_apart, in_first, in_later, inside_places, is_inside, one_front, stand_file}
+use Rattle.bitfile_cells.proofs.ChainChanges.{IsThere, Picks, at_apart, in_first, in_later, inside_places, is_inside, kinds_more, kinds_on, kinds_same, one_front, stand_file}
 use Rattle.bitfile_cells.proofs.Chosen.{all_at}
 use Rattle.bitfile_cells.proofs.Gathers.{mapped_all, one_map_file, values, values_are}
 use Rattle.bitfile_cells.proofs.MapRecords.{one_map_back, one_map_record, rows_kind, runs_by_map, value_has_rows}
 use Rattle.bitfile_cells.proofs.OneRecord.{map_cell_after, only_after, others_same, still_found}
-use Rattle.bitfile_cells.proofs.Walks.{Mapped}
+use Rattle.bitfile_cells.proofs.Walks.{Mapped, distinct_file}
 
 -- ---- the cells of which one is another, and one comes behind it
 
@@ -195,6 +195,19 @@ module _ (at : CellAt) (value : Record) (page : ℕ) (place : PagePlace) (versio
     back_map : HasMap back.cell parts.tail
     back_map = record { only = one_map_record parts.tail parts.parts.tail_map; is_map = parts.parts.tail_map }
 
+    -- the first part is of the kind that the record was
+    kinds_front : map_kinds front.records ≡ map_kinds cell.records
+    kinds_front = ap (map kind_of) front_map.only ∙ ap (λ (k : ℕ). k ∷ []) parts.parts.of_front ∙ sym (ap (map kind_of) map_is.only)
+
+    kinds_part : (i : ℕ) (cs : List PlacedCell) → ¬ Contains (places cs) back.at → AreDistinct cs → IsThere i cs at cell → KeepKinds cs (part_at i front back cs)
+    kinds_part i [] apart distinct there = absurd (omega (arith, there.0))
+    kinds_part zero (c ∷ cs) apart distinct there =
+        kinds_on c (record { at = c.at; cell = front }) cs (back ∷ cs) refl (kinds_front ∙ ap (λ (c : PlacedCell). map_kinds c.cell.records) (sym (there.1 c))) distinct.0
+        (distinct_part front back zero (c ∷ cs) apart distinct).0 (kinds_more back cs cs (λ inside. apart (in_later back.at c cs inside)) (kinds_same cs distinct.1))
+    kinds_part (suc i) (c ∷ cs) apart distinct there =
+        kinds_on c c cs (part_at i front back cs) refl refl distinct.0 (distinct_part front back (suc i) (c ∷ cs) apart distinct).0
+        (kinds_part i cs (λ inside. apart (in_later back.at c cs inside)) distinct.1 (omega (arith, there.0), there.1))
+
     maps_part : (i : ℕ) (cs : List PlacedCell) → IsThere i cs at cell → AllByRecursion (λ (c : PlacedCell). IsMapCell c.cell) cs → AllByRecursion (λ (c : PlacedCell). IsMapCell c.cell) (part_at i front back cs)
     maps_part i [] there all = tt
     maps_part zero (c ∷ cs) there all =
@@ -284,8 +297,7 @@ module _ (at : CellAt) (value : Record) (page : ℕ) (place : PagePlace) (versio
             refl,
             ap (λ (c : Cell). record c.head { next = Some parts.behind }) (sym of),
             others_same value parts.front parts.parts.front_map parts.parts.of_front cell.records stands.is.well_formed ∙ ap (λ (c : Cell). other_records c.records) (sym of),
-            ap (map kind_of) (only_after value parts.front parts.parts.front_map parts.parts.of_front cell.records map_is.only) ∙ ap (λ (k : ℕ). k ∷ []) parts.parts.of_front ∙ sym (ap (map kind_of) map_is.only)
-                ∙ ap (λ (c : Cell). map_kinds c.records) (sym of),
+            kinds_front ∙ ap (λ (c : Cell). map_kinds c.records) (sym of),
           );
         }
     stays start (suc i) (first ∷ rest) is there on one =
@@ -334,6 +346,7 @@ module _ (at : CellAt) (value : Record) (page : ℕ) (place : PagePlace) (versio
             }))
             (part_in (front cell stands has) (back cell stands has) i chain c inside);
         kept = λ q inside. place_kept (front cell stands has) (back cell stands has) i chain q inside;
+        same_kinds = kinds_part cell stands has i chain (fresh chain (stand_file old start chain is) on) (distinct_file old start chain is) (there cell stands has start chain is i p same shown);
         handed = λ q now. ⊎_elim (λ was. inl was)
             (λ behind. inr (subst (Contains (places (part_at i (front cell stands has) (back cell stands has) chain))) behind (back_inside (front cell stands has) (back cell stands has) i chain p.is_there.0)))
             (handed_now prefer parts.behind space space_now cells cells_now old parts.between parts.volume allocated parts.takes q now);

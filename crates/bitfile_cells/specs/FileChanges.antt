@@ -20,6 +20,12 @@ other_records records = filter (λ r. not (has_rows r)) records
 abbrev pub map_kinds : List Record → List ℕ
 map_kinds records = map kind_of (map_records records)
 
+-- each cell of a chain, and the one of a chain after it that stands there, say where pages stand in
+-- records of the same kinds
+abbrev pub KeepKinds : List PlacedCell → List PlacedCell → Type 0
+KeepKinds chain after = (was now : PlacedCell) → Contains chain was → Contains after now
+    → now.at ≡ was.at → map_kinds now.cell.records ≡ map_kinds was.cell.records
+
 -- the first cell of a chain has what it had, but for the cell that it leads to and for where pages
 -- stand, which a record of the same kind says
 abbrev pub SameFirst : List PlacedCell → List PlacedCell → Type 0

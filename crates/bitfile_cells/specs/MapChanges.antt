@@ -19,7 +19,7 @@ use Rattle.free_cells.specs.Cells.{Cells, is_free, table_of}
 use Rattle.free_space.specs.Spaces.{Spaces}
 use Rattle.bitfile_cells.specs.Allocated.{Takes}
 use Rattle.bitfile_cells.specs.Changes.{with_record}
-use Rattle.bitfile_cells.specs.FileChanges.{AreOnTables, ChangesPage, map_kinds}
+use Rattle.bitfile_cells.specs.FileChanges.{AreOnTables, ChangesPage, KeepKinds, map_kinds}
 use Rattle.bitfile_cells.specs.Files.{HasMap, map_records}
 
 -- a cell in use stands there whose record that says where pages stand is this one
@@ -53,11 +53,13 @@ LeavesPages chain old new =
     (home : Home) → AllByRecursion (λ (c : PlacedCell). same_home home (home_of c.at) ≡ false) chain
     → new home ≡ old home
 
--- the file has one page at another place, and all else as it was, in the same cells
+-- the file has one page at another place, and all else as it was, in the same cells, which say
+-- where pages stand in records of the kinds that they had
 pub record ChangesInPlace (start : CellAt) (page : ℕ) (place : PagePlace) (chain : List PlacedCell)
     (new : Pages) : Type 0 where
   pub changes : ChangesPage start page place chain new
   pub same_cells : places changes.after ≡ places chain
+  pub same_kinds : KeepKinds chain changes.after
 
 -- none in use of the tables stood at that cell, and what it says of pages is a record of that
 -- version's chains
@@ -73,8 +75,8 @@ pub record IsHandedOut (cells : Cells) (at : CellAt) : Type 0 where
   pub taken : is_free cells at ≡ false
 
 -- the file has one page at another place, and all else as it was; each of its cells stands on a
--- page of its volume's table, and joined it if it was none of it; it keeps all that it had, and
--- has each that is handed out
+-- page of its volume's table, and joined it if it was none of it; it keeps all that it had, which
+-- say where pages stand in records of the kinds that they had, and has each that is handed out
 pub record ChangesOnTables (start : CellAt) (page : ℕ) (place : PagePlace)
     (chain : List PlacedCell) (version : Version) (cells cells_now : Cells) (old new : Pages)
     : Type 0 where
@@ -83,6 +85,7 @@ pub record ChangesOnTables (start : CellAt) (page : ℕ) (place : PagePlace)
   pub joined : (c : PlacedCell) → Contains changes.after c → ¬ Contains (places chain) c.at
       → Joins cells old version c
   pub kept : (at : CellAt) → Contains (places chain) at → Contains (places changes.after) at
+  pub same_kinds : KeepKinds chain changes.after
   pub handed : (at : CellAt) → IsHandedOut cells_now at
       → IsHandedOut cells at ⊎ Contains (places changes.after) at
 

@@ -18,6 +18,7 @@ returns-then-branch-clause-ok g c = λ chain is.
       on_tables = on_by_places c.args.cells.now put.changes.after chain put.same_cells (c.requires.tables chain is);
       joined = λ d inside apart. absurd (apart (subst (λ (ps : List CellAt). Contains ps d.at) put.same_cells (inside_places put.changes.after d inside)));
       kept = λ q inside. subst (λ (ps : List CellAt). Contains ps q) (sym put.same_cells) inside;
+      same_kinds = put.same_kinds;
       handed = λ q now. inl now;
     }
 
