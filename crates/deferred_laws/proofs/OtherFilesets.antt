@@ -131,7 +131,7 @@ one_fileset one two s t [] is also = absurd is
 one_fileset one two s t (first ∷ rest) is also = some_same one two (sym is.2 ∙ also.2)
 
 module _ (fileset : ℕ) (version : Version) (tag : Tag) (old new : FilesetNow) (stood : StandsWell fileset old) (other : ℕ) (differ : ¬ other ≡ fileset) (places : List TagPlace) (chains : Chains) (was : StandsBeside other places chains old) where
-  abbrev Held : Type 0
+  abbrev pub Held : Type 0
   Held = (h : Home) → IsHeldApart old.domain.space old.domain.cells h → IsHeldApart new.domain.space new.domain.cells h
 
   same_held : new.domain.space ≡ old.domain.space → new.domain.cells ≡ old.domain.cells → Held
@@ -143,7 +143,7 @@ module _ (fileset : ℕ) (version : Version) (tag : Tag) (old new : FilesetNow) 
       (λ miss. subst (λ (x : Spaces). IsHeldApart x new.domain.cells h) (sym miss) (subst (λ (c : Cells). IsHeldApart (missed old.domain.space) c h) (sym s.cells) (record { held = is.held; off_table = is.off_table })))
       s.space
 
-  call_held : Call fileset version tag old new → Held
+  pub call_held : Call fileset version tag old new → Held
   call_held (refused s) = refused_held s
   call_held (given s) = given_held fileset version tag old new stood s
   call_held (moved s) = moved_held fileset version tag old new stood s
@@ -196,7 +196,7 @@ module _ (fileset : ℕ) (version : Version) (tag : Tag) (old new : FilesetNow) 
   -- ---- the files
 
   -- the tag's file begins elsewhere
-  not_of_tag : (t : Tag) (cs : List PlacedCell) (a : CellAt) → chains t ≡ Some cs → old.domain.files a ≡ Some cs → ¬ option_and_then start_of (old.chains tag) ≡ Some a
+  pub not_of_tag : (t : Tag) (cs : List PlacedCell) (a : CellAt) → chains t ≡ Some cs → old.domain.files a ≡ Some cs → ¬ option_and_then start_of (old.chains tag) ≡ Some a
   not_of_tag t cs a is there = by_chain (old.chains tag) refl
     where
       by_chain : (o : Option (List PlacedCell)) → old.chains tag ≡ o → ¬ option_and_then start_of o ≡ Some a

@@ -26,7 +26,7 @@ module _ (one other : Contents) where
   filled_there seen None agree is = absurd is
   filled_there seen (Some node) agree is = filled seen node agree is
 
-  fills : (shape : FilesetShape) (slot : FilesetSlot) → AgreeOnShape one other shape → Fills one shape slot → Fills other shape slot
+  pub fills : (shape : FilesetShape) (slot : FilesetSlot) → AgreeOnShape one other shape → Fills one shape slot → Fills other shape slot
   fills shape slot agree is = record {
     role = is.role;
     valid = is.valid;
