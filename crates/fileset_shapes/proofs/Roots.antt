@@ -109,7 +109,7 @@ module _ (pages : Pages) (frame : Frame) (first : Home) (places : List TagPlace)
   ]
 
   -- where an entry that is read leads, its tag leads
-  entry_leads : (tag : Tag) (at : CellAt) (home : Home) (page : List ℕ) (passed : List Home) → Reaches pages frame (tags_way first) passed home → pages home ≡ Some page → (entry : ℕ) → entry < 1022
+  pub entry_leads : (tag : Tag) (at : CellAt) (home : Home) (page : List ℕ) (passed : List Home) → Reaches pages frame (tags_way first) passed home → pages home ≡ Some page → (entry : ℕ) → entry < 1022
       → slot_of page entry ≡ tag.slot → entry_in page entry ≡ record { seq = tag.seq; at = Some at } → cell_of pages places tag ≡ Some at
   entry_leads tag at home page passed reached there entry within slot used =
       let p = place_of passed home reached in

@@ -41,7 +41,7 @@ before_by_cell a b vol page less =
     or_right (nat_lt a.vol b.vol) _ (λ i. eq-eqb a.vol b.vol vol i && outer i)
 
 -- of two cells one is in front of the other
-one_before : (a b : CellAt) → ¬ a ≡ b → (is_before a b ≡ true) ⊎ (is_before b a ≡ true)
+pub one_before : (a b : CellAt) → ¬ a ≡ b → (is_before a b ≡ true) ⊎ (is_before b a ≡ true)
 one_before a b other =
     ⊎_elim (λ vol. ⊎_elim (λ page. ⊎_elim (λ cell. absurd (other (λ i. record { vol = vol i; page = page i; cell = cell i })))
     (λ apart. ⊎_elim (λ less. inl (before_by_cell a b vol page less)) (λ more. inr (before_by_cell b a (sym vol) (sym page) more)) apart) (cases_order a.cell b.cell))
@@ -50,7 +50,7 @@ one_before a b other =
 
 -- ---- a chain by its places
 
-index_of : (xs : List CellAt) (at : CellAt) → Contains xs at → (k : ℕ) × (slice_get xs k ≡ Some at)
+pub index_of : (xs : List CellAt) (at : CellAt) → Contains xs at → (k : ℕ) × (slice_get xs k ≡ Some at)
 index_of [] at (k, within, is) = absurd (omega (arith, within))
 index_of (x ∷ xs) at (zero, within, is) = (zero, ap Some is)
 index_of (x ∷ xs) at (suc k, within, is) = let more = index_of xs at (k, omega (arith, within), is) in (suc more.0, more.1)

@@ -227,6 +227,11 @@ module _ (pages : Pages) (layout : Layout) (laid : IsLayout pages layout) (fault
 
   -- ---- a file
 
+  -- the cells of a file or directory
+  pub record FirstFile (first : PlacedCell) (rest : List PlacedCell) : Type 0 where
+    pub is : AreFile pages first rest
+    pub kinds : HasFirstKinds (first ∷ rest)
+
   -- the cells of a file of a tag
   pub record FileThere (number : ℕ) (tag : Tag) (first : PlacedCell) (rest : List PlacedCell) : Type 0 where
     pub is : AreFile pages first rest
@@ -252,31 +257,10 @@ module _ (pages : Pages) (layout : Layout) (laid : IsLayout pages layout) (fault
       && option_map_or (λ r. keeps_well r (has_kind 6 cell.records)) (record_of 1 cell.records) false))
       && (not (of_clone (item_of table cell.head)) || has_its_kinds true cell.records))) good).0
 
-  pub file_there : (number : ℕ) (tag : Tag) (first : PlacedCell) (rest : List PlacedCell) → ¬ ¬ IsFirstOf pages (frame_of layout) number tag first.at → AreLinked pages first rest → FileThere number tag first rest
-  file_there number tag first rest named links = record { is = is; of = (slot, seq, fileset); kinds = firsts }
+  -- the cells from a first cell on, whether a tag names it or not
+  pub first_file : (first : PlacedCell) (rest : List PlacedCell) → ¬ ¬ IsUsed pages (frame_of layout) first.at first.cell → first.cell.head.kind ≡ kinds.Primary → AreLinked pages first rest → FirstFile first rest
+  first_file first rest used primary links = record { is = is; kinds = firsts }
     where
-      same : (f : IsFirstOf pages (frame_of layout) number tag first.at) → f.bytes ≡ links.stands.bytes
-      same f = some_same f.bytes links.stands.bytes (sym f.there ∙ links.stands.there)
-
-      primary : first.cell.head.kind ≡ kinds.Primary
-      primary = one_kind first.cell.head.kind kinds.Primary (sym links.stands.is.head.kind
-          ∙ equal_by (number_at 1 15 links.stands.bytes) 1 (λ other. named (λ f. other (ap (number_at 1 15) (sym (same f)) ∙ f.kind))))
-
-      slot : first.cell.head.slot ≡ tag.slot
-      slot = equal_by first.cell.head.slot tag.slot (λ other. named (λ f. other (links.stands.is.head.slot ∙ ap (number_at 4 8) (sym (same f)) ∙ f.slot)))
-
-      seq : first.cell.head.seq ≡ tag.seq
-      seq = equal_by first.cell.head.seq tag.seq (λ other. named (λ f. other (links.stands.is.head.seq ∙ ap (number_at 2 12) (sym (same f)) ∙ f.seq)))
-
-      fileset : first.cell.head.fileset ≡ Some number
-      fileset = fileset_is (number_at 1 14 links.stands.bytes) number first.cell.head.fileset links.stands.is.head.fileset (
-        equal_by (number_at 1 14 links.stands.bytes) (number + 1) (λ other. named (λ f. other ((subst (λ b. IsFileset (number_at 1 14 b) (Some number)) (same f) f.fileset).0))),
-        most_by (number_at 1 14 links.stands.bytes) 32 (λ other. named (λ f. other ((subst (λ b. IsFileset (number_at 1 14 b) (Some number)) (same f) f.fileset).1))),
-      )
-
-      used : ¬ ¬ IsUsed pages (frame_of layout) first.at first.cell
-      used unused = named (λ f. unused (record { place = f.place; stands = links.stands }))
-
       good : is_good_first layout.table first.cell ≡ true
       good = true_by (is_good_first layout.table first.cell) (λ wrong. used (λ u. no_cell pages layout laid none first.at (inr (inl (record { cell = first.cell; used = u; kind = primary; wrong = wrong })))))
 
@@ -323,3 +307,31 @@ module _ (pages : Pages) (layout : Layout) (laid : IsLayout pages layout) (fault
           once = all_once (first ∷ rest) maps (all_apart first.at (link_to first.cell) head [] first on links.stands rest links.follow);
         };
       }
+
+  pub file_there : (number : ℕ) (tag : Tag) (first : PlacedCell) (rest : List PlacedCell) → ¬ ¬ IsFirstOf pages (frame_of layout) number tag first.at → AreLinked pages first rest → FileThere number tag first rest
+  file_there number tag first rest named links = record { is = there.is; of = (slot, seq, fileset); kinds = there.kinds }
+    where
+      same : (f : IsFirstOf pages (frame_of layout) number tag first.at) → f.bytes ≡ links.stands.bytes
+      same f = some_same f.bytes links.stands.bytes (sym f.there ∙ links.stands.there)
+
+      primary : first.cell.head.kind ≡ kinds.Primary
+      primary = one_kind first.cell.head.kind kinds.Primary (sym links.stands.is.head.kind
+          ∙ equal_by (number_at 1 15 links.stands.bytes) 1 (λ other. named (λ f. other (ap (number_at 1 15) (sym (same f)) ∙ f.kind))))
+
+      slot : first.cell.head.slot ≡ tag.slot
+      slot = equal_by first.cell.head.slot tag.slot (λ other. named (λ f. other (links.stands.is.head.slot ∙ ap (number_at 4 8) (sym (same f)) ∙ f.slot)))
+
+      seq : first.cell.head.seq ≡ tag.seq
+      seq = equal_by first.cell.head.seq tag.seq (λ other. named (λ f. other (links.stands.is.head.seq ∙ ap (number_at 2 12) (sym (same f)) ∙ f.seq)))
+
+      fileset : first.cell.head.fileset ≡ Some number
+      fileset = fileset_is (number_at 1 14 links.stands.bytes) number first.cell.head.fileset links.stands.is.head.fileset (
+        equal_by (number_at 1 14 links.stands.bytes) (number + 1) (λ other. named (λ f. other ((subst (λ b. IsFileset (number_at 1 14 b) (Some number)) (same f) f.fileset).0))),
+        most_by (number_at 1 14 links.stands.bytes) 32 (λ other. named (λ f. other ((subst (λ b. IsFileset (number_at 1 14 b) (Some number)) (same f) f.fileset).1))),
+      )
+
+      used : ¬ ¬ IsUsed pages (frame_of layout) first.at first.cell
+      used unused = named (λ f. unused (record { place = f.place; stands = links.stands }))
+
+      there : FirstFile first rest
+      there = first_file first rest used primary links
