@@ -1,7 +1,6 @@
 -- The chains of cells of a domain: each is of a file that a tag names, of one that is to be let go
 -- of, or of the quota cells of a slot; and each cell in use is one of theirs.
 use Rattle.std.specs.Prelude.{◌≡◌, ◌⊎◌, ℕ, List, [], Option, Some, None, IsSome, IsSomeAnd, Contains}
-use Rattle.std.specs.List.{AllByRecursion}
 use Rattle.std.specs.Option.{option_and_then}
 use Rattle.domain_base.specs.declared.place.CellAt.{CellAt}
 use Rattle.domain_base.specs.declared.place.Home.{Home}
@@ -71,15 +70,17 @@ StandsInSlot d files number (Some first) =
 abbrev pub IsQuotaOf : DomainNow → ℕ → CellAt → Type 0
 IsQuotaOf d number at = named_by quota_of d number ≡ Some at
 
--- a cell says this fileset
-abbrev pub IsOfFileset : ℕ → PlacedCell → Type 0
-IsOfFileset number c = c.cell.head.fileset ≡ Some number
+-- the first cell of a chain says this fileset
+abbrev pub IsOfFileset : ℕ → List PlacedCell → Type 0
+IsOfFileset number [] = ⊥
+IsOfFileset number (first ∷ rest) = first.cell.head.fileset ≡ Some number
 
--- a chain of quota cells of the fileset in a slot, in which nothing is said of an owner twice
+-- a chain of quota cells, the first of them of the fileset in a slot, in which nothing is said of an
+-- owner twice
 pub record AreQuotasOf (d : DomainNow) (number : ℕ) (at : CellAt) (chain : List PlacedCell) : Type 0
   where
     pub quotas : IsQuotas d.pages at chain
-    pub of : AllByRecursion (IsOfFileset number) chain
+    pub of : IsOfFileset number chain
     pub once : AreOnce (said_by (records_of chain))
 
 -- ** All chains
