@@ -48,6 +48,7 @@ use Rattle.layout_laws.proofs.OwnedOnce.{no_index}
 use Rattle.layout_laws.proofs.Reached.{same_number}
 use Rattle.filesets_reading.proofs.Ways.{within_of}
 use Rattle.fileset_shapes.specs.Files.{IsWhole}
+use Rattle.fileset_shapes.proofs.Held.{page_held}
 use Rattle.fileset_shapes.proofs.OriginalFiles.{FileOf, Kept, file_of, kept, none_some, right_size}
 use Rattle.fileset_shapes.proofs.ShapeFacts.{IndexOf, IsThereAs, index_there, original_absent, original_there}
 use Rattle.attaching_laws.specs.Keeping.{KeepDirectories}
@@ -221,7 +222,7 @@ module _ (pages : Pages) (layout : Layout) (whole : IsWhole pages layout) (small
 
       -- the pages that it has are those in front of its length
       below_by : (page : ℕ) (home : Home) → seen.homes page ≡ Some home → page < length file.pages
-      below_by page home at = by_page (pages home) refl (whole.all home (here.f.may page home at).0)
+      below_by page home at = by_page (pages home) refl (page_held pages layout whole.laid whole.all number tag cells seen here.f.has page home at (here.f.may page home at))
         where
           by_page : (o : Option (List ℕ)) → pages home ≡ o → IsSome o → page < length file.pages
           by_page None none some = no_truth some

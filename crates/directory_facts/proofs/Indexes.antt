@@ -39,7 +39,7 @@ good_decided page = ⊎_elim
     (λ other. inr (λ good. other good.0.whole)) (same_number (length page) 8192)
 
 module _ (pages : Pages) (frame : Frame) (table : Table) (number : ℕ) (files : Tag → Option SeenFile) (shown : Bitfiles) (dir : Tag)
-    (good : (home : Home) → ¬ IsDirectoryFault pages frame table home) (none : (home : Home) → ¬ IsIndexFault pages frame table home) (each : HasEachPage pages frame)
+    (good : (home : Home) → ¬ IsDirectoryFault pages frame table home) (none : (home : Home) → ¬ IsIndexFault pages frame table home) (each : HasEachPage pages frame table)
     (shows : ShowsFileset pages frame table number files shown) (index : ShowsIndex pages frame table number dir (index_pages shown dir)) where
   abbrev first : Home
   first = index.first
@@ -174,7 +174,7 @@ module _ (pages : Pages) (frame : Frame) (table : Table) (number : ℕ) (files :
       by_home (Some home) at there =
           let also = from_some_and _ (files dir) (shows.only dir index.cells index.seen index.has) in
           let within = shows.within dir also.0 page home also.1 (also.2.homes page ∙ at) in
-          by_page within (pages home) refl (each home within)
+          by_page within (pages home) refl (each number dir index.cells index.seen index.has page home at within)
         where
           by_page : IsWithin frame home → (o : Option (List ℕ)) → pages home ≡ o → is_some o ≡ true → page < length rows
           by_page within None none some = absurd cc

@@ -50,9 +50,11 @@ pub record ListsDirectories (files : Bitfiles) (dirs : List Tag) : Type 0 where
   pub once : (j k : ℕ) (dir : Tag) → slice_get dirs j ≡ Some dir → slice_get dirs k ≡ Some dir
       → j ≡ k
 
--- a page stands at each home of a domain's members
-abbrev pub HasEachPage : Pages → Frame → Type 0
-HasEachPage pages frame = (home : Home) → IsWithin frame home → IsSome (pages home)
+-- a page stands at each home of a domain's members where a fileset has a page of a file
+abbrev pub HasEachPage : Pages → Frame → Table → Type 0
+HasEachPage pages frame table = (number : ℕ) (tag : Tag) (cells : List PlacedCell)
+    (seen : SeenFile) → Has pages table number tag cells seen → (page : ℕ) (home : Home)
+    → seen.homes page ≡ Some home → IsWithin frame home → IsSome (pages home)
 
 -- the index of a directory of an original, as a set shows it: the pages that are read from where a
 -- cell in use says

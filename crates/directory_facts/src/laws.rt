@@ -30,8 +30,8 @@ pub fn index_is_of_rows()
     ensures { (pages : Pages) (frame : Frame) (table : Table) (number : ℕ)
         (files : Tag → Option SeenFile) (shown : Bitfiles) (dir : Tag)
         → ((home : Home) → ¬ IsDirectoryFault pages frame table home)
-        → ((home : Home) → ¬ IsIndexFault pages frame table home) → HasEachPage pages frame
-        → ShowsFileset pages frame table number files shown
+        → ((home : Home) → ¬ IsIndexFault pages frame table home)
+        → HasEachPage pages frame table → ShowsFileset pages frame table number files shown
         → ShowsIndex pages frame table number dir (index_pages shown dir)
         → IndexesRows (row_pages shown dir) (index_pages shown dir) }
 {}

@@ -1,6 +1,7 @@
 pub mod UsedTags
 pub mod TaggedFiles
 pub mod IndexPages
+pub mod Held
 pub mod Stored
 pub mod Shown
 pub mod OriginalFiles

@@ -41,6 +41,7 @@ use Rattle.filesets_reading.proofs.TagPlaces.{most_by}
 use Rattle.fileset_shapes.specs.Found.{HasAllPages, index_shown, shown_by, shown_pages}
 use Rattle.fileset_shapes.specs.Indexes.{IsReadIndex}
 use Rattle.fileset_shapes.specs.declared.found.TaggedFile.{TaggedFile}
+use Rattle.fileset_shapes.proofs.Held.{page_held}
 use Rattle.fileset_shapes.proofs.Shown.{HasNoGap, pages_in_order}
 use Rattle.fileset_shapes.proofs.Stored.{page_may}
 
@@ -248,7 +249,7 @@ module _ (pages : Pages) (layout : Layout) (laid : IsLayout pages layout) (no_fa
 
     module _ (all : HasAllPages pages (frame_of layout)) (has : Has pages layout.table number tag (first ∷ rest) seen) (file : TaggedFile) (same : IsSeenAs seen file.seen) where
       pub original_stored : AreStored pages file.seen.homes.items
-      original_stored = stored_by pages seen file.seen same (λ page home at. all home (original_may page home at).0)
+      original_stored = stored_by pages seen file.seen same (λ page home at. page_held pages layout laid all number tag (first ∷ rest) seen has page home at (original_may page home at))
 
       page_shown : (kind : Kind) → file.seen.is.kind ≡ kind → (page : ℕ) → slice_get (shown_pages pages file.seen.homes.items kind) page ≡ shown_page pages (first ∷ rest) kind page
       page_shown File is_kind page = refl

@@ -41,6 +41,7 @@ use Rattle.fileset_shapes.specs.Files.{AreClones, ReadsClone, ReadsCloneAt}
 use Rattle.fileset_shapes.specs.Found.{index_shown, shown_by, shown_pages}
 use Rattle.fileset_shapes.specs.declared.found.TaggedFile.{TaggedFile}
 use Rattle.fileset_shapes.proofs.OriginalFiles.{FileOf, Kept, file_of, home_kept, kept, no_gap, none_some, stored_by}
+use Rattle.fileset_shapes.proofs.Held.{page_held}
 use Rattle.fileset_shapes.proofs.Shown.{pages_in_order}
 use Rattle.fileset_shapes.proofs.Stored.{page_may}
 
@@ -216,7 +217,7 @@ module _ (pages : Pages) (own behind : FilesetFiles) (number : ℕ) (are : AreCl
 
     module _ (file : TaggedFile) (plain : file.index.items ≡ []) where
       file_stored : (seen : SeenFile) → CloneFile seen → IsSeenAs seen file.seen → AreStored pages file.seen.homes.items
-      file_stored seen of same = stored_by pages seen file.seen same (λ page home at. are.whole.all home (of.may page home at).0)
+      file_stored seen of same = stored_by pages seen file.seen same (λ page home at. page_held pages are.layout are.whole.laid are.whole.all own.files.fileset tag (of.first ∷ of.rest) seen of.has page home at (of.may page home at))
 
       page_shown : (seen : SeenFile) → CloneFile seen → IsSeenAs seen file.seen → (kind : Kind) → file.seen.is.kind ≡ kind → (page : ℕ) → slice_get (shown_pages pages file.seen.homes.items kind) page ≡ shown_at pages seen kind page
       page_shown seen of same File is_kind page = refl

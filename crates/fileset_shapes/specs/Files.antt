@@ -26,8 +26,8 @@ use Rattle.fileset_shapes.specs.declared.found.TaggedFile.{TaggedFile}
 
 -- ** What stands on a domain's pages
 
--- pages are laid out as a domain's, break no rule, and are all there; no member has more of them
--- than a number of four bytes says
+-- pages are laid out as a domain's, break no rule, and all that a file has are there; no member has
+-- more of them than a number of four bytes says
 pub record IsWhole (pages : Pages) (layout : Layout) : Type 0 where
   pub laid : IsLayout pages layout
   pub no_fault : HasNoFault pages (frame_of layout)

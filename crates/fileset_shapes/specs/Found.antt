@@ -8,21 +8,28 @@ use Rattle.domain_base.specs.declared.place.Kind.TheVariants.{Directory, File}
 use Rattle.domain_base.specs.declared.place.Tag.{Tag}
 use Rattle.page_store.specs.Bitfiles.{Bitfile, same_tag, shown_index}
 use Rattle.page_store.specs.Pages.{Pages}
+use Rattle.bmt_mcells.specs.Chain.{PlacedCell}
 use Rattle.fileset_model.specs.declared.command.Owner.{Owner}
 use Rattle.fileset_table.specs.Table.{Table}
 use Rattle.fileset_table.specs.declared.slot.FilesetEntry.{FilesetEntry}
 use Rattle.fileset_table.specs.declared.slot.SlotItem.{SlotItem}
 use Rattle.fileset_table.specs.declared.slot.SlotItem.TheVariants as slot
 use Rattle.page_filling.specs.Stored.{AreStored, bytes_at}
+use Rattle.domain_layout.specs.DirectoryRules.{Has}
+use Rattle.domain_layout.specs.Faults.{SaysTable}
 use Rattle.domain_layout.specs.Reached.{Frame, IsWithin}
+use Rattle.domain_layout.specs.Seen.{SeenFile}
 use Rattle.domain_layout.specs.Shape.{FilesetShape, IsShapeOf, limits_in}
 use Rattle.filesets_reading.specs.Seen.{HasFewHomes, IsSeenThere}
 use Rattle.fileset_shapes.specs.declared.found.FilesetSeen.{FilesetSeen}
 use Rattle.fileset_shapes.specs.declared.found.TaggedFile.{TaggedFile}
 
--- a page stands at each home of a domain's members
+-- a page stands at each home of a domain's members where a fileset has a page of a file
 abbrev pub HasAllPages : Pages → Frame → Type 0
-HasAllPages pages frame = (home : Home) → IsWithin frame home → IsSome (pages home)
+HasAllPages pages frame = (table : Table) → SaysTable pages frame table
+    → (number : ℕ) (tag : Tag) (cells : List PlacedCell) (seen : SeenFile)
+    → Has pages table number tag cells seen → (page : ℕ) (home : Home)
+    → seen.homes page ≡ Some home → IsWithin frame home → IsSome (pages home)
 
 -- ** Files
 

@@ -15,7 +15,7 @@ use Rattle.fileset_shapes.specs.Files.{AreFilesBy}
 use Rattle.fileset_shapes.specs.Found.{HasAllPages, SeesShape, SeesSlot}
 use Rattle.fileset_shapes.specs.declared.found.FilesetSeen.{FilesetSeen}
 
--- the tables of a domain in which no rule is broken, and of which each page is there
+-- the tables of a domain in which no rule is broken, and of whose files each page is there
 pub record IsDomain (pages : Pages) (frame : Frame) (tables : DomainTables) : Type 0 where
   pub tables_are : AreTablesOf pages frame tables
   pub no_fault : HasNoFault pages frame

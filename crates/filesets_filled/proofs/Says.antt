@@ -35,6 +35,7 @@ use Rattle.directory_facts.proofs.Entries.{distinct_map, distinct_once, in_map, 
 use Rattle.directory_facts.proofs.Indexes.{indexes}
 use Rattle.directory_facts.proofs.RowRules.{all_led, are_rows}
 use Rattle.fileset_shapes.specs.Files.{IsWhole}
+use Rattle.fileset_shapes.proofs.Held.{says_table}
 use Rattle.fileset_shapes.specs.Found.{HasAllPages, HaveOwnTags, SeesFileset, SeesItem, SeesShape, SeesSlot, file_at, shown_by}
 use Rattle.fileset_shapes.specs.Shapes.{IsDomain}
 use Rattle.fileset_shapes.specs.declared.found.FilesetSeen.{FilesetSeen}
@@ -112,7 +113,7 @@ module _ (pages : Pages) (frame : Frame) (tables : DomainTables) (domain : IsDom
     their_indexes (slot.Removed first_tag quota) at has = none_is_some shape (sym has)
     their_indexes (slot.Original e) at has = λ dir directory. ⊎_elim
         (λ none. inl none)
-        (λ index. inr (indexes pages (frame_of layout) layout.table number shape.files shape.shown dir no_directory (no_index pages layout whole.laid whole.no_fault) whole.all shows index))
+        (λ index. inr (indexes pages (frame_of layout) layout.table number shape.files shape.shown dir no_directory (no_index pages layout whole.laid whole.no_fault) (whole.all layout.table (says_table pages layout whole.laid)) shows index))
         (shows_indexes pages layout number e shape dir whole at has directory)
     their_indexes (slot.Clone of clone e) at has =
         let original = from_some_and (λ o. IsClone pages number of e o clone shape) (option_and_then entry_of (slice_get layout.table.slots of)) has in

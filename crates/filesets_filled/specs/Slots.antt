@@ -64,7 +64,8 @@ pub record IsLaidOut (pages : Pages) (frame : Frame) : Type 0 where
   pub is : frame_of layout ≡ frame
   pub laid : IsLayout pages layout
 
--- an anchor names a fileset table, and the pages of its domain break no rule and are all there
+-- an anchor names a fileset table, and the pages of its domain break no rule; those of its files are
+-- all there
 pub record IsGoodDomain (pages : Pages) (anchor : Anchor) (version : Version) : Type 0 where
   pub named : IsNamed anchor version
   pub no_fault : HasNoFault pages (frame_at anchor version)

@@ -68,7 +68,7 @@ abbrev pub AreRead : Disk → Redone → Pages → Type 0
 AreRead disk found pages = (home : Home) → IsMember found.anchor home.vol → home.page < (member_of found.anchor home.vol).pages → IsReadAt disk found.images pages home
 
 pub all_there : (disk : Disk) (found : Redone) (version : Version) (pages : Pages) → AreRead disk found pages → HasAllPages pages (frame_at found.anchor version)
-all_there disk found version pages read home within = (read home within.0 within.1).there
+all_there disk found version pages read table says number tag cells seen has page home at within = (read home within.0 within.1).there
 
 module _ (disk : Disk) (found : Redone) (version : Version) (pages : Pages) (read : AreRead disk found pages) (told : Tells disk) (groups : List Group) (has : HasRecovered disk.sizes disk.now.contents groups found) (is_version : found.anchor.version ≡ number_of version) where
   abbrev image : Image

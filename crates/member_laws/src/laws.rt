@@ -17,8 +17,8 @@ pub fn faults_within()
         → AgreeWithin one other frame → (IsFault one frame row ↔ IsFault other frame row) }
 {}
 
-/// Where no rule is broken and each page of the members is there, the filesets that pages have
-/// depend on these alone.
+/// Where no rule is broken and each page of a file is there, the filesets that pages have depend on
+/// those of the members alone.
 pub fn filesets_within()
     ensures { (one other : Pages) (layout : Layout) (home : Home) (all : FilesetMap)
         → IsInside (frame_of layout) → AgreeWithin one other (frame_of layout)
