@@ -22,6 +22,10 @@ pub record IsSound (pages : ℕ) (used : FinSet nat_cmp) (waiting : List Waiting
 abbrev pub IsSoundVolume : VolumeSpace → Type 0
 IsSoundVolume v = IsSound v.pages v.used v.waiting
 
+-- and it was so when it was last kept
+abbrev pub WasSoundVolume : VolumeSpace → Type 0
+WasSoundVolume v = IsSound v.pages v.kept_used v.kept_waiting
+
 -- the same of each volume that is there
 abbrev pub AreSoundVolumes : List (Option VolumeSpace) → Type 0
 AreSoundVolumes volumes = AllByRecursion (λ o. IfSome o IsSoundVolume) volumes

@@ -2,7 +2,7 @@
 ghost use Rattle.std.specs.Prelude.{◌≡◌, ℕ, ◌+◌, ◌<◌, ◌≤◌, ◌^◌, ◌↔◌, true, false, None, Some, List, length, sum_by, IfOk, IfErr, IfSome, IfNone, OnOk, OnErr, IsSomeAnd, MatchBool};
 ghost use Rattle.free_space.specs.declared.waiting.PageUse.TheVariants.{Data, Metadata};
 ghost use Rattle.free_space.specs.VolumeSpace.{added, with_page, with_run, without_page, with_open, with_waiting, keeping, with_released};
-ghost use Rattle.free_space.specs.Sound.{AreSound};
+ghost use Rattle.free_space.specs.Sound.{AreSound, WasSoundVolume};
 ghost use Rattle.free_space.specs.Spaces.{no_spaces, volume_of, with_volume, change_volume, change_volumes, kept_spaces, AreTakenOn, AreFreedOn, AreGivenBackOn, IsFree, CanTake, CanTakeRun, IsHeld, missed, free_pages, waiting_pages, held_pages, IsLongestOn};
 
 use crate::volume::Volume;
@@ -263,9 +263,11 @@ impl FreeSpace {
     }
 
     /// The pages that have come to wait on the volume since that was last kept; none where it is
-    /// not there. A page may be taken and given back in one.
+    /// not there. A page may be taken and given back in one. Beside it stands what was so of the
+    /// volume then, for callers who need it.
     pub fn given_back(&self, vol: VolIx) -> &[Waiting]
-        ensures { AreGivenBackOn (volume_of self.now vol) result.now }
+        ensures since { AreGivenBackOn (volume_of self.now vol) result.now }
+        ensures sound { IfSome (volume_of self.now vol) WasSoundVolume }
     {
         match &self.volumes[vol.index()] {
             Some(volume) => volume.given_back(),

@@ -4,7 +4,7 @@ ghost use Rattle.std.specs.List.{IsDistinct};
 ghost use Rattle.std.specs.FinSet.{contains, len, from_list, union, difference};
 ghost use Rattle.storage_bitmap.specs.VolumePages.{IsLongestRun};
 ghost use Rattle.free_space.specs.VolumeSpace.{added, volume_pages, IsFreePage, AreFreePages, is_waiting, with_page, with_run, without_page, with_open, with_waiting, without_due, still_waiting, keeping, as_kept, with_released, is_among};
-ghost use Rattle.free_space.specs.Sound.{IsSoundVolume, is_one, without};
+ghost use Rattle.free_space.specs.Sound.{IsSoundVolume, WasSoundVolume, is_one, without};
 ghost use Rattle.free_space.specs.Spaces.{AreTakenOn, AreFreedOn, AreGivenBackOn};
 
 use crate::{PageUse, Waiting};
@@ -301,9 +301,11 @@ impl Volume {
         self.freed.as_slice()
     }
 
-    /// The pages that have come to wait since that was last kept.
+    /// The pages that have come to wait since that was last kept. Beside it stands what was so of the
+    /// volume then, for callers who need it.
     pub fn given_back(&self) -> &[Waiting]
-        ensures { AreGivenBackOn (Some self.now) result.now }
+        ensures since { AreGivenBackOn (Some self.now) result.now }
+        ensures sound { WasSoundVolume self.now }
     {
         &self.waiting[self.kept_waiting..]
     }
