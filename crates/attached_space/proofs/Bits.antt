@@ -6,7 +6,7 @@ use Rattle.std.specs.Ordering.{nat_cmp}
 use Rattle.page_store.specs.Pages.{Pages}
 use Rattle.storage_bitmap.specs.VolumePages.{VolumePages}
 use Rattle.storage_bitmap.proofs.Used.{contains-inserted}
-use Rattle.attaching_laws.specs.Marks.{is_marked}
+use Rattle.bitmap_marks.specs.Marks.{is_marked}
 use Rattle.attached_space.specs.Maps.{IsReadTo}
 
 -- a page that is taken is used, and no other than it is anew

@@ -5,7 +5,8 @@ use Rattle.page_store.specs.Pages.{Pages}
 use Rattle.storage_bitmap.specs.VolumePages.{VolumePages}
 use Rattle.free_space.specs.Spaces.{Spaces, volume_of}
 use Rattle.domain_layout.specs.Reached.{Frame}
-use Rattle.attaching_laws.specs.Marks.{IsMarkedAt, is_marked}
+use Rattle.attaching_laws.specs.Marks.{IsMarkedAt}
+use Rattle.bitmap_marks.specs.Marks.{is_marked}
 
 -- the map of so many pages of a volume, of which those are used whose bits are 1
 pub record IsMapOf (pages : Pages) (vol count : ℕ) (map : VolumePages) : Type 0 where

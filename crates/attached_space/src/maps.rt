@@ -2,7 +2,7 @@
 ghost use Rattle.std.specs.Prelude.{◌≡◌, ◌*◌, ◌<◌, length, IfOk};
 ghost use Rattle.storage_bitmap.specs.Bits.{is_set as bit_is_set};
 ghost use Rattle.log_ring.specs.Homes.{member_of as member_there};
-ghost use Rattle.attaching_laws.specs.Marks.{bitmap_home as bitmap_there, is_marked as is_marked_there};
+ghost use Rattle.bitmap_marks.specs.Marks.{bitmap_home as bitmap_there, is_marked as is_marked_there};
 ghost use Rattle.attached_space.specs.Maps.{IsMapOf};
 
 use domain_base::{Home, OutOfMemory, VolIx};

@@ -16,7 +16,8 @@ use Rattle.domain_layout.specs.Faults.{HasNoFault}
 use Rattle.domain_layout.specs.Layout.{IsLayout, Layout}
 use Rattle.domain_layout.specs.Owners.{IsOwned, frame_of}
 use Rattle.layout_laws.proofs.OwnedOnce.{no_files}
-use Rattle.attaching_laws.specs.Marks.{HasBitmaps, IsMarked, IsMarkedAt, IsMarkedVolume, bitmap_home, is_marked}
+use Rattle.attaching_laws.specs.Marks.{HasBitmaps, IsMarked, IsMarkedAt, IsMarkedVolume}
+use Rattle.bitmap_marks.specs.Marks.{bitmap_home, is_marked}
 use Rattle.attaching_laws.specs.Space.{AreFew, IsSpaceAt, IsSpaceOf, IsVolumeSpace}
 
 true_false : {P : Type 0} → true ≡ false → P

@@ -10,15 +10,7 @@ use Rattle.log_ring.specs.Homes.{IsMember, member_of}
 use Rattle.free_space.specs.Spaces.{Spaces, volume_of}
 use Rattle.free_space.specs.VolumeSpace.{VolumeSpace}
 use Rattle.domain_layout.specs.Reached.{Frame}
-
--- the page of a volume's bitmap that has the bit of a page
-abbrev pub bitmap_home : ℕ → ℕ → Home
-bitmap_home vol page = record { vol = vol; page = 2 + page / 65536 }
-
--- that bit is 1
-abbrev pub is_marked : Pages → ℕ → ℕ → Bool
-is_marked pages vol page =
-    option_map_or (λ bytes. is_set bytes (page % 65536)) (pages (bitmap_home vol page)) false
+use Rattle.bitmap_marks.specs.Marks.{bitmap_home, is_marked}
 
 -- the pages of a member's bitmap are there
 abbrev pub HasBitmaps : Pages → Frame → Type 0

@@ -13,7 +13,8 @@ use Rattle.fileset_table.specs.declared.slot.SlotItem.TheVariants as slot
 use Rattle.quota_book.specs.Book.{Book}
 use Rattle.quota_book.specs.Sums.{IsBookOf}
 use Rattle.deferred_delete.specs.Standing.{Files}
-use Rattle.attaching_laws.specs.Marks.{HasBitmaps, is_marked}
+use Rattle.attaching_laws.specs.Marks.{HasBitmaps}
+use Rattle.bitmap_marks.specs.Marks.{is_marked}
 use Rattle.domain_layout.specs.DirectoryRules.{Has, HasWrongParent}
 use Rattle.domain_layout.specs.Seen.{SeenFile}
 use Rattle.domain_standing.specs.Chains.{IndexesAt, StandChains}

@@ -1,0 +1,4 @@
+pub mod OneBit
+pub mod Many
+pub mod Volume
+pub mod Volumes
