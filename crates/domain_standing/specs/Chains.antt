@@ -1,6 +1,6 @@
 -- The chains of cells of a domain: each is of a file that a tag names, of one that is to be let go
 -- of, or of the quota cells of a slot; and each cell in use is one of theirs.
-use Rattle.std.specs.Prelude.{◌≡◌, ◌⊎◌, ℕ, List, [], Option, Some, None, IsSome, IsSomeAnd, Contains}
+use Rattle.std.specs.Prelude.{◌≡◌, ◌⊎◌, ◌∷◌, ℕ, List, [], Option, Some, None, IsSome, IsSomeAnd, Contains}
 use Rattle.std.specs.Option.{option_and_then}
 use Rattle.domain_base.specs.declared.place.CellAt.{CellAt}
 use Rattle.domain_base.specs.declared.place.Home.{Home}
