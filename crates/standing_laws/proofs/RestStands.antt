@@ -64,7 +64,6 @@ use Rattle.domain_layout.specs.TagRules.{IsLate}
 use Rattle.domain_standing.specs.Chains.{HasFilesAmong, IndexesAt, StandsInSlot}
 use Rattle.domain_standing.specs.Domain.{DomainNow, item_in, layout_of, named_by}
 use Rattle.domain_standing.specs.Rest.{HasNoHoles, IsOfOriginal, SaysTheRest, StaysInOriginal}
-use Rattle.standing_laws.specs.Kinds.{KeepKinds, KeepsKinds}
 use Rattle.standing_laws.specs.Leads.{IsLiveOf, LeadsOn, MayCall, StandsBelow, fileset_now}
 use Rattle.standing_laws.proofs.CellsNow.{CellsGoOn, all_in, cell_was, dropped_cells, given_cells, in_or_out, later_chain, made_cells, placed, refused_cells, set_cells}
 use Rattle.standing_laws.proofs.RestFirst.{AreFirsts, AreKnown, SaysWell, cut_well, described_well, low_kind, one_firsts, put_in_well, removed_well, sized_well}
@@ -291,11 +290,11 @@ module _ (number : ℕ) (tag : Tag) (d now : DomainNow) (chains chains_now : Cha
 
   -- ---- a page more
 
-  module _ (t : Gives number d.frame.version tag old new) (keep : KeepKinds t.chain t.puts.change.change.changes.after) where
+  module _ (t : Gives number d.frame.version tag old new) where
     -- in records of which kinds pages stand then
     maps_now : (P : ℕ → Type 0) → P (chain_kind d.frame.version) → ((c : PlacedCell) → Contains t.chain c → AllByRecursion P (map_kinds c.cell.records)) → (c : PlacedCell) → Contains t.puts.change.change.changes.after c → AllByRecursion P (map_kinds c.cell.records)
     maps_now P joined was c inside = ⊎_elim
-        (λ stays. let a = placed t.chain c.at stays in subst (AllByRecursion P) (sym (keep a.0 c a.1 inside (sym a.2))) (was a.0 a.1))
+        (λ stays. let a = placed t.chain c.at stays in subst (AllByRecursion P) (sym (t.puts.change.change.same_kinds a.0 c a.1 inside (sym a.2))) (was a.0 a.1))
         (λ more. subst (AllByRecursion P) (sym (t.puts.change.change.joined c inside more).kind) (joined, tt))
         (in_or_out t.chain c.at)
 
@@ -439,16 +438,16 @@ module _ (number : ℕ) (tag : Tag) (d now : DomainNow) (chains chains_now : Cha
       firsts_now : AreFirsts (says_parent parent t.first.cell).records
       firsts_now = kinds_put (λ k. is_first_kind k ≡ true) 10 (Some (written.Parent parent.slot parent.seq)) t.first.cell.records firsts refl
 
-  all_go_on : (call : Call number d.frame.version tag old new) → MayCall d.table.made number d.frame.version tag old new call → KeepsKinds number d.frame.version tag old new call → AllGoesOn d.frame.version d.table tag old new
-  all_go_on (refused t) may keep = record { after = []; cells = refused_cells old new t; rest = refused_rest t }
-  all_go_on (given t) may keep = record { after = t.puts.change.change.changes.after; cells = given_cells number d.frame.version tag old new s.well t; rest = given_goes t keep }
-  all_go_on (moved t) may keep = absurd may
-  all_go_on (described value t) may keep = record { after = _; cells = set_cells number d.frame.version tag old new s.well _ t; rest = described_rest value t may }
-  all_go_on (put_in parent t) may keep = record { after = _; cells = set_cells number d.frame.version tag old new s.well _ t; rest = put_in_rest parent t may }
-  all_go_on (indexed index t) may keep = absurd may
-  all_go_on (cut size lowered t) may keep = record { after = _; cells = set_cells number d.frame.version tag old new s.well _ t; rest = cut_rest size lowered t may }
-  all_go_on (dropped t) may keep = record { after = _; cells = dropped_cells number d.frame.version tag old new s.well t; rest = dropped_rest t }
-  all_go_on (made t) may keep = record { after = t.creates.first ∷ []; cells = made_cells number d.frame.version tag old new s.well (used number tag d now chains chains_now files files_now indexes below s) t; rest = made_rest t may }
+  all_go_on : (call : Call number d.frame.version tag old new) → MayCall d.table.made number d.frame.version tag old new call → AllGoesOn d.frame.version d.table tag old new
+  all_go_on (refused t) may = record { after = []; cells = refused_cells old new t; rest = refused_rest t }
+  all_go_on (given t) may = record { after = t.puts.change.change.changes.after; cells = given_cells number d.frame.version tag old new s.well t; rest = given_goes t }
+  all_go_on (moved t) may = absurd may
+  all_go_on (described value t) may = record { after = _; cells = set_cells number d.frame.version tag old new s.well _ t; rest = described_rest value t may }
+  all_go_on (put_in parent t) may = record { after = _; cells = set_cells number d.frame.version tag old new s.well _ t; rest = put_in_rest parent t may }
+  all_go_on (indexed index t) may = absurd may
+  all_go_on (cut size lowered t) may = record { after = _; cells = set_cells number d.frame.version tag old new s.well _ t; rest = cut_rest size lowered t may }
+  all_go_on (dropped t) may = record { after = _; cells = dropped_cells number d.frame.version tag old new s.well t; rest = dropped_rest t }
+  all_go_on (made t) may = record { after = t.creates.first ∷ []; cells = made_cells number d.frame.version tag old new s.well (used number tag d now chains chains_now files files_now indexes below s) t; rest = made_rest t may }
 
   -- ---- files of other slots
 
@@ -530,61 +529,60 @@ module _ (number : ℕ) (tag : Tag) (d now : DomainNow) (chains chains_now : Cha
 
   -- ---- all of it
 
-  module _ (keep : KeepsKinds number d.frame.version tag old new s.call) where
-    goes : AllGoesOn d.frame.version d.table tag old new
-    goes = all_go_on s.call s.may keep
+  goes : AllGoesOn d.frame.version d.table tag old new
+  goes = all_go_on s.call s.may
 
-    was_or_chain : (at : CellAt) (cell : Cell) → IsOnTable now.pages (layout_of (led number tag d now chains chains_now files files_now indexes below s)) at cell
-        → IsOnTable d.pages (layout_of d) at cell ⊎ Contains goes.after (record { at = at; cell = cell })
-    was_or_chain at cell on = ⊎_elim
-        (λ was. inl (record { member = on.member; table = was.1; stands = was.0 }))
-        (λ inside. inr inside)
-        (cell_was old new goes.after (used number tag d now chains chains_now files files_now indexes below s) goes.cells (together_now number tag d now chains chains_now files files_now indexes below s).allocated.belong at cell on.stands on.table)
+  was_or_chain : (at : CellAt) (cell : Cell) → IsOnTable now.pages (layout_of (led number tag d now chains chains_now files files_now indexes below s)) at cell
+      → IsOnTable d.pages (layout_of d) at cell ⊎ Contains goes.after (record { at = at; cell = cell })
+  was_or_chain at cell on = ⊎_elim
+      (λ was. inl (record { member = on.member; table = was.1; stands = was.0 }))
+      (λ inside. inr inside)
+      (cell_was old new goes.after (used number tag d now chains chains_now files files_now indexes below s) goes.cells (together_now number tag d now chains chains_now files files_now indexes below s).allocated.belong at cell on.stands on.table)
 
-    own_births : (t : Tag) (cs : List PlacedCell) → chains_now t ≡ Some cs → (value : Record) → first_record 1 cs ≡ Some value → ¬ IsLate d.table.made value
-    own_births t cs is = ⊎_elim
-        (λ same. goes.rest.births cs (ap chains_now (sym (tags_same t tag same)) ∙ is))
-        (λ other. births_was t cs (sym (same_call number d.frame.version tag old new t other s.call) ∙ is))
-        (cases_Bool (same_tag t tag))
+  own_births : (t : Tag) (cs : List PlacedCell) → chains_now t ≡ Some cs → (value : Record) → first_record 1 cs ≡ Some value → ¬ IsLate d.table.made value
+  own_births t cs is = ⊎_elim
+      (λ same. goes.rest.births cs (ap chains_now (sym (tags_same t tag same)) ∙ is))
+      (λ other. births_was t cs (sym (same_call number d.frame.version tag old new t other s.call) ∙ is))
+      (cases_Bool (same_tag t tag))
 
-    own_late : (t : Tag) (at : CellAt) (cell : Cell) (value : Record) → cell_of now.pages (now.tags number) t ≡ Some at → StandsAt now.pages at cell → record_of 1 cell.records ≡ Some value → ¬ IsLate d.table.made value
-    own_late t at cell value leads stands has = by_chain (chains_now t) refl
-      where
-        now_files : AreFiles number (now.tags number) now.pages chains_now
-        now_files = (together_now number tag d now chains chains_now files files_now indexes below s).files
+  own_late : (t : Tag) (at : CellAt) (cell : Cell) (value : Record) → cell_of now.pages (now.tags number) t ≡ Some at → StandsAt now.pages at cell → record_of 1 cell.records ≡ Some value → ¬ IsLate d.table.made value
+  own_late t at cell value leads stands has = by_chain (chains_now t) refl
+    where
+      now_files : AreFiles number (now.tags number) now.pages chains_now
+      now_files = (together_now number tag d now chains chains_now files files_now indexes below s).files
 
-        by_list : (cs : List PlacedCell) → chains_now t ≡ Some cs → IsFile now.pages at cs → ¬ IsLate d.table.made value
-        by_list [] is file = absurd file
-        by_list (first ∷ rest) is file = own_births t (first ∷ rest) is value
-            (ap (λ (c : Cell). record_of 1 c.records) (one_stands now.pages at first.cell cell (subst (λ (a : CellAt). StandsAt now.pages a first.cell) file.0 file.1.links.stands) stands) ∙ has)
+      by_list : (cs : List PlacedCell) → chains_now t ≡ Some cs → IsFile now.pages at cs → ¬ IsLate d.table.made value
+      by_list [] is file = absurd file
+      by_list (first ∷ rest) is file = own_births t (first ∷ rest) is value
+          (ap (λ (c : Cell). record_of 1 c.records) (one_stands now.pages at first.cell cell (subst (λ (a : CellAt). StandsAt now.pages a first.cell) file.0 file.1.links.stands) stands) ∙ has)
 
-        by_chain : (o : Option (List PlacedCell)) → chains_now t ≡ o → ¬ IsLate d.table.made value
-        by_chain None is = absurd (none_not at (sym (now_files.none t is) ∙ leads))
-        by_chain (Some cs) is = by_list cs is (subst (λ o. IsSomeAnd o (λ a. IsFile now.pages a cs)) leads (subst (λ o. IfSome o (LeadsToFile number (now.tags number) now.pages t)) is (now_files.some t)).leads)
+      by_chain : (o : Option (List PlacedCell)) → chains_now t ≡ o → ¬ IsLate d.table.made value
+      by_chain None is = absurd (none_not at (sym (now_files.none t is) ∙ leads))
+      by_chain (Some cs) is = by_list cs is (subst (λ o. IsSomeAnd o (λ a. IsFile now.pages a cs)) leads (subst (λ o. IfSome o (LeadsToFile number (now.tags number) now.pages t)) is (now_files.some t)).leads)
 
-    births_now : (at : CellAt) (cell : Cell) (value : Record) → IsOfOriginal (led number tag d now chains chains_now files files_now indexes below s) at → StandsAt now.pages at cell → record_of 1 cell.records ≡ Some value → ¬ IsLate d.table.made value
-    births_now at cell value o stands has = ⊎_elim
-        (λ same. own_late o.tag at cell value (ap (λ (k : ℕ). cell_of now.pages (now.tags k) o.tag) (sym (eqb-true o.number number same)) ∙ o.leads) stands has)
-        (λ not_same. other_late (λ e. true≢false (sym (eq-eqb o.number number e) ∙ not_same)))
-        (cases_Bool (nat_eq o.number number))
-      where
-        other_late : ¬ o.number ≡ number → ¬ IsLate d.table.made value
-        other_late differ =
-            let leads : cell_of d.pages (d.tags o.number) o.tag ≡ Some at = sym (cell_stays o.number differ o.tag) ∙ ap (λ (ps : List TagPlace). cell_of now.pages ps o.tag) (sym (s.tags o.number differ)) ∙ o.leads in
-            below.rest.births at cell value (record { number = o.number; original = o.original; tag = o.tag; leads = leads })
-            (by_first o.number differ o.tag at leads cell stands (named_by first_tag_of d o.number) (below.chains.slots o.number)) has
+  births_now : (at : CellAt) (cell : Cell) (value : Record) → IsOfOriginal (led number tag d now chains chains_now files files_now indexes below s) at → StandsAt now.pages at cell → record_of 1 cell.records ≡ Some value → ¬ IsLate d.table.made value
+  births_now at cell value o stands has = ⊎_elim
+      (λ same. own_late o.tag at cell value (ap (λ (k : ℕ). cell_of now.pages (now.tags k) o.tag) (sym (eqb-true o.number number same)) ∙ o.leads) stands has)
+      (λ not_same. other_late (λ e. true≢false (sym (eq-eqb o.number number e) ∙ not_same)))
+      (cases_Bool (nat_eq o.number number))
+    where
+      other_late : ¬ o.number ≡ number → ¬ IsLate d.table.made value
+      other_late differ =
+          let leads : cell_of d.pages (d.tags o.number) o.tag ≡ Some at = sym (cell_stays o.number differ o.tag) ∙ ap (λ (ps : List TagPlace). cell_of now.pages ps o.tag) (sym (s.tags o.number differ)) ∙ o.leads in
+          below.rest.births at cell value (record { number = o.number; original = o.original; tag = o.tag; leads = leads })
+          (by_first o.number differ o.tag at leads cell stands (named_by first_tag_of d o.number) (below.chains.slots o.number)) has
 
-    live_of : (chain : List PlacedCell) → StaysInOriginal d chain → is_removed chain ≡ false
-    live_of [] stays = absurd stays
-    live_of (first ∷ rest) stays = stays.1
+  live_of : (chain : List PlacedCell) → StaysInOriginal d chain → is_removed chain ≡ false
+  live_of [] stays = absurd stays
+  live_of (first ∷ rest) stays = stays.1
 
-    led_rest : SaysTheRest (led number tag d now chains chains_now files files_now indexes below s) files_now
-    led_rest = record {
-      kinds = λ at cell on. ⊎_elim (λ was. below.rest.kinds at cell was) (λ inside. goes.rest.known (record { at = at; cell = cell }) inside) (was_or_chain at cell on);
-      firsts = λ at cell on primary. ⊎_elim (λ was. below.rest.firsts at cell was primary) (λ inside. goes.rest.good (record { at = at; cell = cell }) inside primary) (was_or_chain at cell on);
-      births = births_now;
-      holes = λ at chain is stays. ⊎_elim (λ was. below.rest.holes at chain was stays) (λ none. none) (goes.rest.holes at chain is (live_of chain stays));
-    }
+  led_rest : SaysTheRest (led number tag d now chains chains_now files files_now indexes below s) files_now
+  led_rest = record {
+    kinds = λ at cell on. ⊎_elim (λ was. below.rest.kinds at cell was) (λ inside. goes.rest.known (record { at = at; cell = cell }) inside) (was_or_chain at cell on);
+    firsts = λ at cell on primary. ⊎_elim (λ was. below.rest.firsts at cell was primary) (λ inside. goes.rest.good (record { at = at; cell = cell }) inside primary) (was_or_chain at cell on);
+    births = births_now;
+    holes = λ at chain is stays. ⊎_elim (λ was. below.rest.holes at chain was stays) (λ none. none) (goes.rest.holes at chain is (live_of chain stays));
+  }
 
-    pub rest_stands : SaysTheRest now files_now
-    rest_stands = subst (λ (x : DomainNow). SaysTheRest x files_now) (led_is number tag d now chains chains_now files files_now indexes below s) led_rest
+  pub rest_stands : SaysTheRest now files_now
+  rest_stands = subst (λ (x : DomainNow). SaysTheRest x files_now) (led_is number tag d now chains chains_now files files_now indexes below s) led_rest

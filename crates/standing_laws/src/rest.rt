@@ -6,15 +6,11 @@ ghost use Rattle.deferred_delete.specs.Standing.{Files};
 ghost use Rattle.domain_standing.specs.Chains.{IndexesAt};
 ghost use Rattle.domain_standing.specs.Domain.{DomainNow};
 ghost use Rattle.domain_standing.specs.Rest.{SaysTheRest};
-ghost use Rattle.standing_laws.specs.Kinds.{KeepsKinds};
-ghost use Rattle.standing_laws.specs.Leads.{LeadsOn, StandsBelow, fileset_now};
+ghost use Rattle.standing_laws.specs.Leads.{LeadsOn, StandsBelow};
 
-/// Where a domain stands, its cells say what is asked of them also after a call on a file, if one
-/// that gives it a page leaves each cell of its chain the kind of record that it had.
+/// Where a domain stands, its cells say what is asked of them also after a call on a file.
 pub fn rest_stands_on()
     ensures { (number : ℕ) (tag : Tag) (d now : DomainNow) (chains chains_now : Chains)
         (files files_now : Files) (indexes : IndexesAt) → StandsBelow d files indexes
-        → (leads : LeadsOn number tag d now chains chains_now files files_now)
-        → KeepsKinds number d.frame.version tag (fileset_now d number chains files)
-        (fileset_now now number chains_now files_now) leads.call → SaysTheRest now files_now }
+        → LeadsOn number tag d now chains chains_now files files_now → SaysTheRest now files_now }
 {}
