@@ -3,10 +3,12 @@ pub mod ChainsGoOn
 pub mod ChainsNamed
 pub mod ChainsStand
 pub mod EntryListed
+pub mod FilesetsStand
 pub mod HeldHolders
 pub mod HeldSpaces
 pub mod HeldStill
 pub mod NothingLeft
+pub mod OtherSlots
 pub mod RestFirst
 pub mod RestRecords
 pub mod RestStands

@@ -14,7 +14,7 @@ use Rattle.bitfile_core.specs.Files.{AreFiles, Chains, IsOf, LeadsToFile, first_
 use Rattle.bitfile_core.proofs.Tags.{directory_same, pages_same}
 use Rattle.fileset_table.specs.Table.{Table}
 use Rattle.deferred_delete.specs.Listing.{Listing}
-use Rattle.deferred_delete.specs.Standing.{Files, IsFileOrQuotas, IsQuotas, IsStanding, place_in}
+use Rattle.deferred_delete.specs.Standing.{Files, IsQuotas, IsStanding, place_in}
 use Rattle.deferred_delete.specs.Steps.{IsWell}
 use Rattle.deferred_delete.proofs.Spread.{none_not, some_same}
 use Rattle.deferred_delete.proofs.Standings.{is_file, quota_first, standing}
@@ -74,24 +74,26 @@ module _ (number : ℕ) (tag : Tag) (d now : DomainNow) (chains chains_now : Cha
   file_attributes xs some None leads = absurd leads
   file_attributes xs some (Some at) leads = has_attributes d.pages at xs leads
 
+  -- those that begin there stay
+  module _ (n : ℕ) (at : CellAt) (cs : List PlacedCell) (there : files at ≡ Some cs) (are : AreQuotasOf d n at cs) where
+    no_attributes : first_record 1 cs ≡ None
+    no_attributes = quota_first d.pages at cs are.quotas 1 (λ e. omega (arith, e)) (λ e. omega (arith, e))
+
+    not_of_tag : (xs : List PlacedCell) → chains tag ≡ Some xs → ¬ xs ≡ cs
+    not_of_tag xs some same = file_attributes xs some (cell_of d.pages (d.tags number) tag) (tag_leads xs some).leads (ap (first_record 1) same ∙ no_attributes)
+
+    quotas_there : files_now at ≡ Some cs
+    quotas_there = other_file at cs there not_of_tag
+
+    pub quotas_stay : IsQuotas now.pages at cs
+    quotas_stay = ⊎_elim (λ file. absurd (has_attributes now.pages at cs file no_attributes)) (λ are_now. are_now) (stands at cs quotas_there).stands
+
   pub quotas_now : (n : ℕ) (at : CellAt) → IsQuotaOf now n at → IsSomeAnd (files_now at) (AreQuotasOf now n at)
   quotas_now n at quota = by_chain (files at) refl (below.chains.quotas n at (quota_was number tag d now chains chains_now files files_now indexes below s n at quota))
     where
       by_chain : (o : Option (List PlacedCell)) → files at ≡ o → IsSomeAnd o (AreQuotasOf d n at) → IsSomeAnd (files_now at) (AreQuotasOf now n at)
       by_chain None there are = absurd are
-      by_chain (Some cs) there are = subst (λ o. IsSomeAnd o (AreQuotasOf now n at)) (sym stays) (record { quotas = quotas (stands at cs stays).stands; of = are.of; once = are.once })
-        where
-          no_attributes : first_record 1 cs ≡ None
-          no_attributes = quota_first d.pages at cs are.quotas 1 (λ e. omega (arith, e)) (λ e. omega (arith, e))
-
-          differ : (xs : List PlacedCell) → chains tag ≡ Some xs → ¬ xs ≡ cs
-          differ xs some same = file_attributes xs some (cell_of d.pages (d.tags number) tag) (tag_leads xs some).leads (ap (first_record 1) same ∙ no_attributes)
-
-          stays : files_now at ≡ Some cs
-          stays = other_file at cs there differ
-
-          quotas : IsFileOrQuotas now.pages at cs → IsQuotas now.pages at cs
-          quotas either = ⊎_elim (λ file. absurd (has_attributes now.pages at cs file no_attributes)) (λ are_now. are_now) either
+      by_chain (Some cs) there are = subst (λ o. IsSomeAnd o (AreQuotasOf now n at)) (sym (quotas_there n at cs there are)) (record { quotas = quotas_stay n at cs there are; of = are.of; once = are.once })
 
   -- ---- another slot
 

@@ -66,7 +66,7 @@ first_and : {X : Type 0} (P : X → Type 0) (xs ys : List X) → IsSomeAnd (slic
 first_and P [] ys is = absurd is
 first_and P (x ∷ xs) ys is = is
 
-abbrev number_of : Holder → ℕ
+abbrev pub number_of : Holder → ℕ
 number_of Holder.of_volume = 0
 number_of Holder.of_log = 0
 number_of Holder.of_table = 0

@@ -5,6 +5,7 @@
 mod chains;
 mod held;
 mod rest;
+mod slots;
 mod tables;
 
 pub use chains::{
@@ -14,4 +15,8 @@ pub use chains::{
 };
 pub use held::held_pages_stand_on;
 pub use rest::rest_stands_on;
+pub use slots::{
+    each_original_stands_in_its_slot, filesets_stand_on, other_slots_keep_their_bytes,
+    other_slots_stay,
+};
 pub use tables::tables_stand_on;

@@ -1,0 +1,24 @@
+-- The fileset of one slot of a domain, and what a change elsewhere leaves of its bytes.
+use Rattle.std.specs.Prelude.{◌≡◌, ℕ, Some}
+use Rattle.fileset_model.specs.declared.fileset.FilesetSlot.{FilesetSlot}
+use Rattle.fileset_table.specs.declared.slot.FilesetEntry.{FilesetEntry}
+use Rattle.fileset_table.specs.declared.slot.SlotItem.TheVariants as slot
+use Rattle.stored_set.specs.Sets.{StandsAsSet}
+use Rattle.domain_layout.specs.Filled.{Fills}
+use Rattle.domain_layout.specs.Shape.{FilesetShape, IsOriginal, Shapes}
+use Rattle.layout_laws.specs.Agreeing.{AgreeOnShape}
+use Rattle.domain_standing.specs.Domain.{DomainNow, item_in}
+
+-- an original in a slot stands for this fileset: its pages have this shape, which is filled so, and
+-- its files stand as the set that the shape shows
+pub record StandsSlot (d : DomainNow) (number : ℕ) (entry : FilesetEntry) (shape : FilesetShape)
+    (fileset : FilesetSlot) : Type 0 where
+  pub is : IsOriginal d.pages number entry shape
+  pub filled : Fills d.contents shape fileset
+  pub set : StandsAsSet number (d.tags number) d.space d.cells d.pages shape.shown
+
+-- the same bytes stand at each home at which a file of another slot has a page
+abbrev pub AgreeOnOthers : ℕ → DomainNow → DomainNow → Shapes → Type 0
+AgreeOnOthers number d now shapes = (other : ℕ) (entry : FilesetEntry) (shape : FilesetShape)
+    → ¬ other ≡ number → item_in d other ≡ Some (slot.Original entry)
+    → shapes entry.name ≡ Some shape → AgreeOnShape d.contents now.contents shape
