@@ -1,3 +1,4 @@
+pub mod BelowStands
 pub mod CellsNow
 pub mod ChainsGoOn
 pub mod ChainsNamed

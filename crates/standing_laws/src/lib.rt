@@ -2,12 +2,17 @@
 //! body.
 #![tactic(auto)]
 
+mod below;
 mod chains;
 mod held;
 mod rest;
 mod slots;
 mod tables;
 
+pub use below::{
+    all_below_stands_on, all_below_stands_on_where_a_file_is_listed,
+    filesets_stay_where_a_file_is_listed,
+};
 pub use chains::{
     cells_in_use_stay_in_chains, chains_stand_on, chains_stand_on_where_a_file_is_listed,
     chains_stay_somebodys, entries_stay_to_be_done, indexes_stay, listed_tag_pages_stay,
