@@ -8,6 +8,7 @@ pub mod FilesetsStand
 pub mod HeldHolders
 pub mod HeldSpaces
 pub mod HeldStill
+pub mod MemoryKept
 pub mod NothingLeft
 pub mod OtherSlots
 pub mod RestFirst

@@ -5,6 +5,7 @@
 mod below;
 mod chains;
 mod held;
+mod keeping;
 mod rest;
 mod slots;
 mod tables;
@@ -19,6 +20,7 @@ pub use chains::{
     quota_cells_stand_on, slots_stand_on,
 };
 pub use held::held_pages_stand_on;
+pub use keeping::a_domain_that_is_kept_stands;
 pub use rest::rest_stands_on;
 pub use slots::{
     each_original_stands_in_its_slot, filesets_stand_on, other_slots_keep_their_bytes,

@@ -1,0 +1,3 @@
+pub mod SlotsChanged
+pub mod TagsForgotten
+pub mod Listed
