@@ -8,12 +8,16 @@ pub mod FilesetsStand
 pub mod HeldHolders
 pub mod HeldSpaces
 pub mod HeldStill
+pub mod HomeLists
 pub mod MemoryKept
 pub mod NothingLeft
 pub mod OtherSlots
+pub mod OthersStand
+pub mod ParentsKept
 pub mod RestFirst
 pub mod RestRecords
 pub mod RestStands
+pub mod SlotsKept
 pub mod SlotsStand
 pub mod TablesStand
 pub mod TablesTaken

@@ -41,24 +41,24 @@ use Rattle.standing_laws.proofs.TablesTaken.{go_on, low_table, member_taken, pag
 
 -- ---- lists
 
-default_is : (xs : List ℕ) (k d : ℕ) → k < length xs → slice_index_or xs k d ≡ slice_index xs k
+pub default_is : (xs : List ℕ) (k d : ℕ) → k < length xs → slice_index_or xs k d ≡ slice_index xs k
 default_is [] k d within = absurd (omega (arith, within))
 default_is (x ∷ xs) zero d within = refl
 default_is (x ∷ xs) (suc k) d within = default_is xs k d (omega (arith, within))
 
-past : (xs : List ℕ) (k d : ℕ) → length xs ≤ k → slice_index_or xs k d ≡ d
+pub past : (xs : List ℕ) (k d : ℕ) → length xs ≤ k → slice_index_or xs k d ≡ d
 past [] k d far = refl
 past (x ∷ xs) zero d far = absurd (omega (arith, far))
 past (x ∷ xs) (suc k) d far = past xs k d (omega (arith, far))
 
-index_in : (xs : List ℕ) (k : ℕ) → k < length xs → Contains xs (slice_index xs k)
+pub index_in : (xs : List ℕ) (k : ℕ) → k < length xs → Contains xs (slice_index xs k)
 index_in xs k within = (k, within, default_is xs k (slice_index xs k) within)
 
 first_still : {X : Type 0} (xs ys : List X) (x : X) → slice_get xs 0 ≡ Some x → slice_get (xs ++ ys) 0 ≡ Some x
 first_still [] ys x is = absurd (none_not x is)
 first_still (y ∷ xs) ys x is = is
 
-first_in : (xs : List ℕ) (x : ℕ) → slice_get xs 0 ≡ Some x → Contains xs x
+pub first_in : (xs : List ℕ) (x : ℕ) → slice_get xs 0 ≡ Some x → Contains xs x
 first_in [] x is = absurd (none_not x is)
 first_in (y ∷ xs) x is = (0, omega arith, some_same y x is)
 

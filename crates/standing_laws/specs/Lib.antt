@@ -1,3 +1,4 @@
 pub mod Leads
 pub mod Left
+pub mod OtherPages
 pub mod Slots

@@ -6,6 +6,7 @@ mod below;
 mod chains;
 mod held;
 mod keeping;
+mod others;
 mod rest;
 mod slots;
 mod tables;
@@ -21,6 +22,10 @@ pub use chains::{
 };
 pub use held::held_pages_stand_on;
 pub use keeping::a_domain_that_is_kept_stands;
+pub use others::{
+    all_slots_stand_on_where_bits_change, all_stands_on_where_other_pages_change,
+    parents_stay_where_bits_change,
+};
 pub use rest::rest_stands_on;
 pub use slots::{
     each_original_stands_in_its_slot, filesets_stand_on, other_slots_keep_their_bytes,
