@@ -106,10 +106,10 @@ module _ (old new : List Entry) (at : CellAt) (clone : Option CellAt) (adds : Ad
           (λ s. subst (λ (es : List Entry). Contains es e) (sym s.is) inside)
           orders
 
-  kept : (e : Entry) → Contains old e → HasOne new e.at
+  pub kept : (e : Entry) → Contains old e → HasOne new e.at
   kept e inside = let put = put_kept e inside in (put.0, ordered put.0 put.1, put.2)
 
-  listed_one : Contains new one
+  pub listed_one : Contains new one
   listed_one = ordered one put_new
 
 -- ---- what is left of a file that stays
@@ -132,7 +132,7 @@ trim_left (Some (written.Volume vol pages bitmap_pages)) live left = absurd (tru
 trim_left (Some (written.DenseExtents rows)) live left = absurd (true≢false (sym left))
 trim_left (Some (written.ShortDense rows)) live left = absurd (true≢false (sym left))
 
-trim_there : (cs : List PlacedCell) → is_removed cs ≡ false → is_some (left_of cs) ≡ true → left_of cs ≡ Some Trim
+pub trim_there : (cs : List PlacedCell) → is_removed cs ≡ false → is_some (left_of cs) ≡ true → left_of cs ≡ Some Trim
 trim_there cs live left = trim_left (first_record 6 cs) live left
 
 module _ (number : ℕ) (tag : Tag) (d now : DomainNow) (chains chains_now : Chains) (files files_now : Files) (indexes : IndexesAt) (below : StandsBelow d files indexes) (s : LeadsOn number tag d now chains chains_now files files_now)

@@ -1,3 +1,5 @@
+pub mod IndexCalls
+pub mod Kinds
 pub mod Leads
 pub mod Left
 pub mod OtherPages

@@ -5,6 +5,7 @@
 mod below;
 mod chains;
 mod held;
+mod indexes;
 mod keeping;
 mod others;
 mod rest;
@@ -21,6 +22,10 @@ pub use chains::{
     quota_cells_stand_on, slots_stand_on,
 };
 pub use held::held_pages_stand_on;
+pub use indexes::{
+    all_stands_on_where_a_file_goes_with_its_index, all_stands_on_where_an_index_page_is_put_in,
+    all_stands_on_where_an_index_page_is_written,
+};
 pub use keeping::a_domain_that_is_kept_stands;
 pub use others::{
     all_slots_stand_on_where_bits_change, all_stands_on_where_other_pages_change,

@@ -1,0 +1,206 @@
+-- A domain stands on where a file is taken away, and with it its index.
+use Rattle.std.proofs.Common.{◌≡◌, ◌∙◌, inr, ℕ, false, List, [], ◌∷◌, Option, Some, None, IsSomeAnd, cond, is_some, slice_get, refl, sym, ap, subst, arith}
+use Rattle.std.specs.Option.{option_and_then, option_map}
+use Rattle.domain_base.specs.declared.place.CellAt.{CellAt}
+use Rattle.domain_base.specs.declared.place.Home.{Home}
+use Rattle.domain_base.specs.declared.place.Tag.{Tag}
+use Rattle.page_store.specs.Pages.{Pages}
+use Rattle.record_table.specs.declared.record.Leftover.TheVariants.{Remove}
+use Rattle.record_table.specs.declared.record.Record.TheVariants as written
+use Rattle.bmt_mcells.specs.Cell.{Cell, record_of}
+use Rattle.bmt_mcells.specs.CellPage.{cell_at, home_of}
+use Rattle.bmt_mcells.specs.Chain.{PlacedCell}
+use Rattle.tag_dirs.proofs.Slots.{off_slot}
+use Rattle.free_space.specs.Spaces.{Spaces}
+use Rattle.bitfile_cells.specs.Files.{AreFile, IsFile}
+use Rattle.bitfile_core.specs.Changes.{ChangesBeside, Removes, says_removed, with_chain, with_first, without_chain}
+use Rattle.bitfile_core.specs.Files.{Chains, is_removed}
+use Rattle.bitfile_core.specs.Index.{says_index}
+use Rattle.bitfile_core.specs.Shown.{index_in, index_of}
+use Rattle.bitfile_core.specs.Together.{AreTogether}
+use Rattle.bitfile_core.proofs.FirstCell.{find_other}
+use Rattle.bitfile_core.proofs.OneChain.{chain_same, same_tag_itself}
+use Rattle.stored_index.specs.Homes.{AreIndexHomes}
+use Rattle.stored_set.specs.Sets.{GivesIndexBack, without_index, without_index_from}
+use Rattle.fileset_table.specs.declared.slot.FilesetEntry.{FilesetEntry}
+use Rattle.fileset_table.specs.declared.slot.SlotItem.TheVariants as slot
+use Rattle.deferred_delete.specs.Listed.{IsEntry, left_of, leftover_in}
+use Rattle.deferred_delete.specs.Listing.{Adds, Listing}
+use Rattle.deferred_delete.specs.Standing.{Files, with_file}
+use Rattle.deferred_laws.specs.Calls.{StandsWell}
+use Rattle.deferred_laws.proofs.FirstWell.{SaysBeside, removed_beside}
+use Rattle.domain_layout.specs.Filled.{Contents}
+use Rattle.domain_standing.specs.Chains.{IndexesAt, IsToDo}
+use Rattle.domain_standing.specs.Domain.{DomainNow, item_in}
+use Rattle.standing_laws.specs.IndexCalls.{KeepsTables, NamesFile, with_index_at, with_removed}
+use Rattle.standing_laws.specs.Leads.{StandsBelow, fileset_now}
+use Rattle.standing_laws.proofs.IndexChains.{chains_told}
+use Rattle.standing_laws.proofs.IndexHeld.{owned_told}
+use Rattle.standing_laws.proofs.IndexListed.{chains_listed}
+use Rattle.standing_laws.proofs.IndexRest.{rest_told}
+use Rattle.standing_laws.proofs.IndexSaid.{gone_beside, gone_none, gone_there, gone_well, index_firsts, removed_firsts, says_gone}
+use Rattle.standing_laws.proofs.IndexSet.{IsChain, chain_at}
+use Rattle.standing_laws.proofs.IndexSpaces.{Among, NoHome, SpacesMove, moves_away}
+use Rattle.standing_laws.proofs.IndexTables.{tables_told}
+use Rattle.standing_laws.proofs.IndexTold.{Told, files_now, indexes_now, led, there_now}
+use Rattle.standing_laws.proofs.IndexWas.{file_was, firsts_was, index_low_was, live_was, off_cells, off_first, well_was}
+use Rattle.standing_laws.proofs.OtherList.{owned_relisted, rest_relisted, tables_relisted}
+use Rattle.standing_laws.proofs.RestFirst.{AreFirsts, SaysWell, removed_well}
+
+-- what the first cell says then is well, and that all goes, and it names no index
+pub record SaysGone (d : DomainNow) (says : Cell → Cell) (cell : Cell) : Type 0 where
+  pub beside : SaysBeside says cell
+  pub told : SaysWell d.frame.version d.table (says cell)
+  pub firsts : AreFirsts (says cell).records
+  pub gone : record_of 6 (says cell).records ≡ Some (written.Pending Remove)
+  pub no_index : option_and_then index_in (record_of 9 (says cell).records) ≡ None
+
+module _ (d : DomainNow) (files : Files) (indexes : IndexesAt) (below : StandsBelow d files indexes) (number : ℕ) (entry : FilesetEntry) (original : item_in d number ≡ Some (slot.Original entry)) (tag : Tag) (chains : Chains) (well : StandsWell number (fileset_now d number chains files)) (first : PlacedCell) (rest : List PlacedCell)
+    (is : chains tag ≡ Some (first ∷ rest)) (group : ℕ) (space : Spaces) (pages : Pages) (contents : Contents) (together : AreTogether number (d.tags number) space d.cells pages (without_chain tag chains)) (gives : GivesIndexBack group (d.tags number) (chains tag) (indexes first.at) d.space space d.pages pages) where
+  module _ (says : Cell → Cell) (gone : SaysGone d says first.cell) (file : IsFile pages first.at (with_first says (first ∷ rest))) where
+    no_chain : without_chain tag chains tag ≡ None
+    no_chain = ap (λ b. cond b None (chains tag)) (same_tag_itself tag)
+
+    beside : ChangesBeside (d.tags number) (Some (first ∷ rest)) d.pages gives.said
+    beside = subst (λ o. ChangesBeside (d.tags number) o d.pages gives.said) is gives.beside
+
+    told : Told d files indexes pages space []
+    told = record {
+      number = number;
+      entry = entry;
+      original = original;
+      tag = tag;
+      chains = chains;
+      well = well;
+      first = first;
+      rest = rest;
+      is = is;
+      says = says;
+      beside = gone.beside;
+      told = gone.told;
+      firsts = gone.firsts;
+      file = file;
+      chains_now = without_chain tag chains;
+      are = together.files;
+      others = λ t other. ap (λ b. cond b None (chains t)) other;
+      whose = inr (no_chain, ap (option_and_then leftover_in) gone.gone);
+      comes = NoHome;
+      goes = Among (indexes first.at);
+      cells = λ at on other.
+          ap (λ (o : Option (List ℕ)). cell_at (λ _. o) at) (gives.drops.others (home_of at) (λ inside. off_cells d files indexes below number entry original tag chains well first rest is (home_of at) inside on))
+          ∙ beside.cells at other;
+      stay = λ home off no_tags none no_come.
+          gives.drops.others home none
+          ∙ beside.pages home (off_slot (d.tags number) first.cell.head.slot home no_tags) (off_first d files indexes below number entry original tag chains well first rest is home off);
+      belong = together.allocated.belong;
+      ends = together.allocated.ends;
+      indexed = subst (λ o. AreIndexHomes pages o []) (sym gone.no_index) tt;
+      once = λ j k home none. absurd (no_place j home none);
+      back = λ home inside. absurd (omega (arith, inside.1));
+      on = λ home inside. inr inside;
+      came = λ home none. absurd none;
+      gone = λ home inside. (inside, λ none. omega (arith, none.1));
+      spaces = subst (SpacesMove NoHome (Among (indexes first.at)) d.space) (sym gives.drops.waits)
+          (moves_away (indexes first.at) group d.space (index_low_was d files indexes below number entry original tag chains well first rest is));
+    }
+      where
+        no_place : (j : ℕ) (home : Home) → ¬ slice_get [] j ≡ Some home
+        no_place j home e = cc
+
+    abbrev now : DomainNow
+    now = led d files indexes below pages contents space [] told
+
+    abbrev files_then : Files
+    files_then = files_now d files indexes below pages contents space [] told
+
+    abbrev indexes_then : IndexesAt
+    indexes_then = indexes_now d files indexes below pages contents space [] told
+
+    to_do : IsToDo files_then first.at
+    unfolding told
+    to_do = ap (λ o. is_some (option_and_then left_of o)) (there_now d files indexes below pages contents space [] told) ∙ ap (λ o. is_some (option_and_then leftover_in o)) gone.gone
+
+    gone_stands : (clone : Option CellAt) (listed : Listing) → IsEntry files_then (record { at = first.at; clone = clone }) → Adds first.at clone d.list.entries listed.entries → listed.tag_pages ≡ d.list.tag_pages → StandsBelow (record now { list = listed }) files_then indexes_then
+    unfolding told
+    gone_stands clone listed may adds same = record {
+      tables = tables_relisted now listed (tables_told d files indexes below pages contents space [] told);
+      chains = chains_listed now files_then indexes_then first.at (chains_told d files indexes below pages contents space [] told) clone listed to_do may adds same;
+      owned = owned_relisted now listed files_then indexes_then (owned_told d files indexes below pages contents space [] told);
+      rest = rest_relisted now listed files_then (rest_told d files indexes below pages contents space [] told);
+    }
+
+  -- ---- by what its first cell said
+
+  -- what is to be shown, by what the tag's chain is once its first cell names no index
+  abbrev Going : Option (List PlacedCell) → Type 0
+  Going o = (clone : Option CellAt) (listed : Listing) → IsEntry (with_file first.at (option_map (with_first says_removed) o) files) (record { at = first.at; clone = clone }) → Adds first.at clone d.list.entries listed.entries → listed.tag_pages ≡ d.list.tag_pages
+      → StandsBelow (record d { pages = pages; contents = contents; space = space; list = listed }) (with_file first.at (option_map (with_first says_removed) o) files) (with_index_at first.at [] indexes)
+
+  old_file : AreFile d.pages first rest
+  old_file = file_was d files indexes below number entry original tag chains well first rest is
+
+  old_well : SaysWell d.frame.version d.table first.cell
+  old_well = well_was d files indexes below number entry original tag chains well first rest is
+
+  old_firsts : AreFirsts first.cell.records
+  old_firsts = firsts_was d files indexes below number entry original tag chains well first rest is
+
+  old_live : is_removed (first ∷ rest) ≡ false
+  old_live = live_was d files indexes below number entry original tag chains well first rest is
+
+  -- it named none
+  none_goes : index_of (first ∷ rest) ≡ None → IsFile pages first.at (with_first says_removed (first ∷ rest)) → Going (Some (first ∷ rest))
+  unfolding told
+  none_goes none file = gone_stands says_removed
+      (record {
+        beside = removed_beside d.pages first rest old_file;
+        told = removed_well d.frame.version d.table first rest old_well old_firsts old_live (removed_firsts first.cell old_firsts);
+        firsts = removed_firsts first.cell old_firsts;
+        gone = gone_there first.cell;
+        no_index = ap (option_and_then index_in) (find_other 6 9 (Some (written.Pending Remove)) first.cell.records (λ e. omega (arith, e)) refl) ∙ none;
+      })
+      file
+
+  -- it named one
+  some_goes : IsFile pages first.at (with_first says_gone (first ∷ rest)) → Going (Some (with_first (says_index None) (first ∷ rest)))
+  unfolding told
+  some_goes file = gone_stands says_gone
+      (record {
+        beside = gone_beside d.pages first rest old_file;
+        told = gone_well d.frame.version d.table first rest old_well old_firsts old_live;
+        firsts = removed_firsts (says_index None first.cell) (index_firsts None first.cell old_firsts);
+        gone = gone_there (says_index None first.cell);
+        no_index = ap (option_and_then index_in) (gone_none first.cell);
+      })
+      file
+
+  goes_by : (o : Option Home) → index_of (first ∷ rest) ≡ o → IsSomeAnd (without_index_from o tag chains tag) (λ cells. IsFile pages first.at (with_first says_removed cells)) → Going (without_index_from o tag chains tag)
+  goes_by None none pending = subst Going (sym is) (none_goes none (subst (λ o. IsSomeAnd o (λ cells. IsFile pages first.at (with_first says_removed cells))) is pending))
+  goes_by (Some home) some pending =
+      let tag_then : with_chain tag (with_first (says_index None)) chains tag ≡ Some (with_first (says_index None) (first ∷ rest)) = chain_same tag (with_first (says_index None)) chains tag (same_tag_itself tag) ∙ ap (option_map (with_first (says_index None))) is in
+      subst Going (sym tag_then) (some_goes (subst (λ o. IsSomeAnd o (λ cells. IsFile pages first.at (with_first says_removed cells))) tag_then pending))
+
+  pub goes : IsSomeAnd (without_index tag chains tag) (λ cells. IsFile pages first.at (with_first says_removed cells)) → Going (without_index tag chains tag)
+  goes pending = goes_as (option_and_then index_of (chains tag)) (ap (option_and_then index_of) (sym is)) pending
+    where
+      goes_as : (o : Option Home) → index_of (first ∷ rest) ≡ o → IsSomeAnd (without_index_from o tag chains tag) (λ cells. IsFile pages first.at (with_first says_removed cells)) → Going (without_index_from o tag chains tag)
+      goes_as o same pending = goes_by o same pending
+
+-- ---- the law
+
+module _ (number : ℕ) (tag : Tag) (d now : DomainNow) (chains : Chains) (files : Files) (indexes : IndexesAt) (group : ℕ) (below : StandsBelow d files indexes) (same : KeepsTables d now) (together : AreTogether number (d.tags number) now.space d.cells now.pages (without_chain tag chains)) where
+  abbrev GoesAt : CellAt → Type 0
+  GoesAt a = Removes number (d.tags number) tag a (without_index tag chains) now.pages → GivesIndexBack group (d.tags number) (chains tag) (indexes a) d.space now.space d.pages now.pages
+      → (clone : Option CellAt) (listed : Listing) → IsEntry (with_removed a tag chains files) (record { at = a; clone = clone }) → Adds a clone d.list.entries listed.entries → listed.tag_pages ≡ d.list.tag_pages
+      → StandsBelow (record now { list = listed }) (with_removed a tag chains files) (with_index_at a [] indexes)
+
+  goes_first : (first : PlacedCell) (rest : List PlacedCell) → chains tag ≡ Some (first ∷ rest) → NamesFile number tag first.at d chains files → GoesAt first.at
+  goes_first first rest is names removes gives clone listed may adds same_pages =
+      subst (λ (x : DomainNow). StandsBelow (record x { list = listed }) (with_removed first.at tag chains files) (with_index_at first.at [] indexes)) (sym same)
+      (goes d files indexes below number names.entry names.original tag chains names.well first rest is group now.space now.pages now.contents together gives removes.pending clone listed may adds same_pages)
+
+  pub gone : (start : CellAt) → NamesFile number tag start d chains files → GoesAt start
+  gone start names = by_start (chain_at chains tag start names.begins)
+    where
+      by_start : IsChain chains tag start → GoesAt start
+      by_start c = subst GoesAt c.at (goes_first c.first c.rest c.is (subst (λ (a : CellAt). NamesFile number tag a d chains files) (sym c.at) names))
