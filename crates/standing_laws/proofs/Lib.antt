@@ -4,6 +4,7 @@ pub mod ChainsGoOn
 pub mod ChainsNamed
 pub mod ChainsStand
 pub mod EntryListed
+pub mod FilesetBegins
 pub mod FilesetsStand
 pub mod HeldHolders
 pub mod HeldSpaces
@@ -30,6 +31,7 @@ pub mod ParentsKept
 pub mod RestFirst
 pub mod RestRecords
 pub mod RestStands
+pub mod RootMade
 pub mod SlotsKept
 pub mod SlotsStand
 pub mod TablesStand

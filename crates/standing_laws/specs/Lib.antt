@@ -2,5 +2,6 @@ pub mod IndexCalls
 pub mod Kinds
 pub mod Leads
 pub mod Left
+pub mod NewFileset
 pub mod OtherPages
 pub mod Slots

@@ -2,6 +2,7 @@
 //! body.
 #![tactic(auto)]
 
+mod beginning;
 mod below;
 mod chains;
 mod held;
@@ -12,6 +13,7 @@ mod rest;
 mod slots;
 mod tables;
 
+pub use beginning::{a_fileset_begins, an_empty_fileset_begins};
 pub use below::{
     all_below_stands_on, all_below_stands_on_where_a_file_is_listed,
     filesets_stay_where_a_file_is_listed,
