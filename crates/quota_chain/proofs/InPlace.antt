@@ -1,0 +1,120 @@
+-- A chain of quota cells of which one says an owner's limits in their place.
+use Rattle.std.proofs.Common.{◌≡◌, ◌∙◌, ◌⊎◌, inl, inr, ℕ, ◌+◌, ◌<◌, true, false, List, [], ◌∷◌, ◌++◌, length, take, drop, get_or, set, Option, Some, None, Contains, refl, sym, ap, subst}
+use Rattle.std.proofs.lemmas.List.{drop_more, take-append-drop}
+use Rattle.std.specs.List.{AllByRecursion}
+use Rattle.std.specs.Option.{option_map_or}
+use Rattle.std.specs.FinMap.Entries.{put}
+use Rattle.domain_base.specs.declared.place.CellAt.{CellAt}
+use Rattle.page_store.specs.Pages.{Pages}
+use Rattle.bmt_mcells.specs.Chain.{LeavesOthers, PlacedCell, StandsAt, is_at, places}
+use Rattle.bitfile_cells.specs.FileChanges.{AreOnTables}
+use Rattle.bitfile_cells.proofs.ChainChanges.{at_apart}
+use Rattle.bitfile_cells.proofs.Still.{on_by_places}
+use Rattle.bitfile_core.proofs.OneChain.{follow_by}
+use Rattle.chain_release.specs.Steps.{AllStand}
+use Rattle.chain_release.proofs.Chains.{all_back, all_front, all_join, distinct_same, fresh_front, fresh_rest, places_same}
+use Rattle.chain_release.proofs.Stepped.{stand_apart}
+use Rattle.deferred_delete.specs.Standing.{IsQuotaCell, IsQuotas}
+use Rattle.fileset_model.specs.Orders.{owner_cmp}
+use Rattle.fileset_model.specs.declared.command.Owner.{Owner}
+use Rattle.fileset_model.specs.declared.command.Owner.TheVariants as owner
+use Rattle.fileset_model.specs.declared.fileset.Limits.{Limits}
+use Rattle.free_cells.specs.Cells.{Cells}
+use Rattle.quota_book.specs.QuotaCells.{Said, has_room, is_said, or_else, first_where, said_by, touched, with_quota}
+use Rattle.quota_chain.specs.QuotaChain.{AreOf, SetsLimits, records_for, said_in, with_limits}
+use Rattle.quota_chain.proofs.Chains.{all_quotas, follow_back, quotas_after, quotas_stand}
+use Rattle.quota_chain.proofs.Once.{once_after}
+use Rattle.quota_chain.proofs.ReadCells.{distinct_quotas}
+use Rattle.quota_chain.proofs.SaidRecords.{all_named, all_of_limits, put_named, said_records}
+use Rattle.quota_chain.proofs.Touched.{found_there}
+
+-- ---- the touched cell
+
+-- the cell is there, and says something of the owner or has room
+pub touched_there : (cells : List Said) (who : Owner) (k : ℕ) → touched cells who ≡ Some k → (k < length cells) × ((is_said who (get_or cells k []) ≡ true) ⊎ (has_room (get_or cells k []) ≡ true))
+touched_there cells who k is = by_first (first_where (is_said who) cells) refl is
+  where
+    by_first : (o : Option ℕ) → first_where (is_said who) cells ≡ o → or_else o (first_where has_room cells) ≡ Some k → (k < length cells) × ((is_said who (get_or cells k []) ≡ true) ⊎ (has_room (get_or cells k []) ≡ true))
+    by_first None none is = let f = found_there has_room cells k is in (f.0, inr f.1)
+    by_first (Some j) some is = let f = found_there (is_said who) cells k (some ∙ is) in (f.0, inl f.1)
+
+-- the chain, cut at a place
+pub cut_at : (chain : List PlacedCell) (k : ℕ) (d : PlacedCell) → k < length chain → chain ≡ take k chain ++ get_or chain k d ∷ drop (k + 1) chain
+cut_at chain k d within = sym (take-append-drop k chain) ∙ ap (λ (cs : List PlacedCell). take k chain ++ cs) (drop_more chain k d within)
+
+-- ---- the chain then
+
+set_said : (front : List PlacedCell) (c now : PlacedCell) (rest : List PlacedCell) → said_in (front ++ now ∷ rest) ≡ set (said_in (front ++ c ∷ rest)) (length front) (said_by now.cell.records)
+set_said [] c now rest = refl
+set_said (f ∷ front) c now rest = ap (λ (s : List Said). said_by f.cell.records ∷ s) (set_said front c now rest)
+
+there_said : (front : List PlacedCell) (c : PlacedCell) (rest : List PlacedCell) (d : Said) → get_or (said_in (front ++ c ∷ rest)) (length front) d ≡ said_by c.cell.records
+there_said [] c rest d = refl
+there_said (f ∷ front) c rest d = there_said front c rest d
+
+module _ (old new : Pages) (start : CellAt) (front : List PlacedCell) (c : PlacedCell) (rest : List PlacedCell) (quotas : IsQuotas old start (front ++ c ∷ rest))
+    (who : Owner) (limits : Limits) (named : ¬ who ≡ owner.Fileset)
+    (stands : StandsAt new c.at (record { head = c.cell.head; records = records_for (put owner_cmp who limits (said_by c.cell.records)) }))
+    (others : LeavesOthers (is_at c.at) old new) where
+  abbrev pub now : PlacedCell
+  now = record { at = c.at; cell = record { head = c.cell.head; records = records_for (put owner_cmp who limits (said_by c.cell.records)) } }
+
+  said_now : said_by now.cell.records ≡ put owner_cmp who limits (said_by c.cell.records)
+  said_now = said_records (put owner_cmp who limits (said_by c.cell.records)) (put_named who limits (said_by c.cell.records) named (all_named c.cell.records))
+
+  cells_were : AllByRecursion (λ (q : PlacedCell). IsQuotaCell q.cell) (front ++ c ∷ rest)
+  cells_were = all_quotas old start (front ++ c ∷ rest) quotas
+
+  stood : AllStand old (front ++ c ∷ rest)
+  stood = quotas_stand old start (front ++ c ∷ rest) quotas
+
+  apart_front : (q : CellAt) → Contains (places front) q → is_at c.at q ≡ false
+  apart_front q inside = at_apart c.at q (λ same. fresh_front front c rest (distinct_quotas old start (front ++ c ∷ rest) quotas) (subst (Contains (places front)) (sym same) inside))
+
+  apart_rest : (q : CellAt) → Contains (places rest) q → is_at c.at q ≡ false
+  apart_rest q inside = at_apart c.at q (λ same. fresh_rest front c rest (distinct_quotas old start (front ++ c ∷ rest) quotas) (subst (Contains (places rest)) (sym same) inside))
+
+  front_stands : AllStand new front
+  front_stands = stand_apart old new (is_at c.at) others front apart_front (all_front (λ (q : PlacedCell). StandsAt old q.at q.cell) front (c ∷ rest) stood)
+
+  rest_stands : AllStand new rest
+  rest_stands = stand_apart old new (is_at c.at) others rest apart_rest (all_back (λ (q : PlacedCell). StandsAt old q.at q.cell) front (c ∷ rest) stood).1
+
+  cell_now : IsQuotaCell now.cell
+  cell_now = record {
+    kind = (all_back (λ (q : PlacedCell). IsQuotaCell q.cell) front (c ∷ rest) cells_were).0.kind;
+    limits = all_of_limits (put owner_cmp who limits (said_by c.cell.records));
+  }
+
+  cells_now : AllByRecursion (λ (q : PlacedCell). IsQuotaCell q.cell) (front ++ now ∷ rest)
+  cells_now = all_join (λ (q : PlacedCell). IsQuotaCell q.cell) front (now ∷ rest) (all_front (λ (q : PlacedCell). IsQuotaCell q.cell) front (c ∷ rest) cells_were)
+      (cell_now, (all_back (λ (q : PlacedCell). IsQuotaCell q.cell) front (c ∷ rest) cells_were).1)
+
+  pub quotas_now : IsQuotas new start (front ++ now ∷ rest)
+  quotas_now = quotas_after old new start c now rest rest refl refl stands (follow_by new old c.cell.head rest rest_stands (follow_back old start front c rest quotas)) front quotas front_stands
+      (distinct_same front c now rest refl (distinct_quotas old start (front ++ c ∷ rest) quotas)) cells_now
+
+  same_places : places (front ++ now ∷ rest) ≡ places (front ++ c ∷ rest)
+  same_places = sym (places_same front c now rest refl)
+
+  same_of : (fileset : ℕ) → AreOf fileset (front ++ c ∷ rest) → AreOf fileset (front ++ now ∷ rest)
+  same_of fileset of = all_join (λ (q : PlacedCell). q.cell.head.fileset ≡ Some fileset) front (now ∷ rest) (all_front (λ (q : PlacedCell). q.cell.head.fileset ≡ Some fileset) front (c ∷ rest) of)
+      (all_back (λ (q : PlacedCell). q.cell.head.fileset ≡ Some fileset) front (c ∷ rest) of)
+
+  module _ (touches : touched (said_in (front ++ c ∷ rest)) who ≡ Some (length front)) (fileset : ℕ) (cells : Cells) (on : AreOnTables cells (front ++ c ∷ rest)) where
+    said_then : said_in (front ++ now ∷ rest) ≡ with_limits who limits (said_in (front ++ c ∷ rest))
+    said_then = set_said front c now rest ∙ ap (set (said_in (front ++ c ∷ rest)) (length front)) (said_now ∙ ap (put owner_cmp who limits) (sym (there_said front c rest [])))
+        ∙ ap (λ o. option_map_or (λ k. with_quota k who limits (said_in (front ++ c ∷ rest))) o (said_in (front ++ c ∷ rest) ++ ((who, limits) ∷ []) ∷ [])) (sym touches)
+
+    pub set_limits_there : SetsLimits fileset who limits start (front ++ c ∷ rest) cells cells old new
+    set_limits_there = record {
+      after = front ++ now ∷ rest;
+      is = quotas_now;
+      said = said_then;
+      once = once_after old (front ++ c ∷ rest) who limits stood (said_in (front ++ now ∷ rest)) said_then;
+      of_fileset = same_of fileset;
+      on_tables = on_by_places cells (front ++ now ∷ rest) (front ++ c ∷ rest) same_places on;
+      kept = λ at inside. subst (λ (ps : List CellAt). Contains ps at) (sym same_places) inside;
+      joined = λ at inside apart. absurd (apart (subst (λ (ps : List CellAt). Contains ps at) same_places inside));
+      handed = λ at is. inl is;
+    }

@@ -1,0 +1,17 @@
+//! Quota cells in memory.
+ghost use Rattle.std.specs.Prelude.{IsTrue};
+ghost use Rattle.std.specs.FinMap.Entries.{is_sorted};
+ghost use Rattle.fileset_model.specs.Orders.{owner_cmp};
+
+use bmt_mcells::CellHead;
+use domain_base::CellAt;
+use fileset_model::{Limits, Owner};
+
+/// A quota cell: where it stands, its head, and the limits that it says.
+#[derive(Drop)]
+pub(crate) struct QuotaCell {
+    pub at: CellAt,
+    pub head: CellHead,
+    pub said: Vec<(Owner, Limits)>,
+    ghost sorted: { IsTrue (is_sorted owner_cmp said.items) },
+}
