@@ -1,9 +1,8 @@
 -- The first cell of a chain that passes a test, found by going from one to the next.
-use Rattle.std.proofs.Common.{◌≡◌, ◌∙◌, ℕ, zero, suc, ◌+◌, ◌<◌, ◌≤◌, Bool, true, false, cond, List, [], ◌∷◌, length, take, get_or, Option, Some, None, ⊎_elim, refl, ap, subst, arith}
-use Rattle.std.proofs.lemmas.Bool.{cases_Bool, lt-ltb, ltb-true}
+use Rattle.std.proofs.Common.{◌≡◌, ◌∙◌, ℕ, zero, suc, ◌+◌, ◌<◌, ◌≤◌, Bool, true, false, cond, List, [], ◌∷◌, length, take, get_or, Option, Some, None, refl, ap, subst, arith}
 use Rattle.std.proofs.lemmas.List.{take_all}
 use Rattle.std.specs.Option.{option_map}
-use Rattle.quota_book.specs.QuotaCells.{Said, first_where, has_room}
+use Rattle.quota_book.specs.QuotaCells.{Said, first_where}
 
 module _ (test : Said → Bool) where
   no_suc : (o : Option ℕ) → option_map suc o ≡ None → o ≡ None
@@ -56,14 +55,3 @@ module _ (test : Said → Bool) where
           let s = some_suc (first_where test xs) is in
           let r = rest s.0 s.1 in
           subst (λ n. (n < suc (length xs)) × (test (get_or (x ∷ xs) n []) ≡ true)) s.2 (omega (arith, r.0), r.1)
-
--- ---- room for one more record
-
-pub room_there : (said : Said) → length said < 9 → has_room said ≡ true
-room_there said less = lt-ltb (length said) 9 less
-
-pub no_room : (said : Said) → 9 ≤ length said → has_room said ≡ false
-no_room said full = ⊎_elim (λ is. absurd (not_less (ltb-true (length said) 9 is))) (λ none. none) (cases_Bool (has_room said))
-  where
-    not_less : length said < 9 → ⊥
-    not_less less = omega (arith, less, full)

@@ -14,6 +14,13 @@ fn says(cell: &QuotaCell, who: Owner) -> bool
     find(&cell.said, &who).is_some()
 }
 
+/// Whether a cell has room for one more record.
+fn has_place(cell: &QuotaCell) -> bool
+    ensures { result ≡ has_room (says_of cell.now) }
+{
+    cell.said.len() < 9
+}
+
 /// The first cell that says something of the owner.
 fn first_saying(cells: &[QuotaCell], who: Owner) -> Option<usize>
     ensures { result ≡ first_where (is_said who) (map says_of cells.now) }
@@ -31,7 +38,7 @@ fn first_with_room(cells: &[QuotaCell]) -> Option<usize>
     ensures { result ≡ first_where has_room (map says_of cells.now) }
 {
     for (place, cell) in cells.iter().enumerate() {
-        if cell.said.len() < 9 {
+        if has_place(cell) {
             return Some(place);
         }
     }
