@@ -1,5 +1,5 @@
 -- A quota cell more: the first of a fileset, or one behind the last of its chain.
-use Rattle.std.proofs.Common.{◌≡◌, ◌∙◌, ◌⊎◌, ◌||◌, ⊎_elim, inl, inr, ℕ, zero, suc, ◌≤◌, true, false, not, List, [], ◌∷◌, ◌++◌, Some, None, Contains, refl, sym, ap, subst, arith}
+use Rattle.std.proofs.Common.{◌≡◌, ◌∙◌, ◌⊎◌, ◌||◌, ⊎_elim, inl, inr, ℕ, zero, suc, ◌≤◌, true, false, not, List, [], ◌∷◌, ◌++◌, Option, Some, None, Contains, refl, sym, ap, subst, arith}
 use Rattle.std.proofs.lemmas.Bool.{and_parts, not-true, or_from}
 use Rattle.std.specs.List.{AllByRecursion}
 use Rattle.std.specs.Option.{option_map_or}
@@ -29,7 +29,7 @@ use Rattle.fileset_model.specs.declared.fileset.Limits.{Limits}
 use Rattle.free_cells.specs.Cells.{Cells, is_free, table_of}
 use Rattle.free_space.specs.Spaces.{Spaces}
 use Rattle.quota_book.specs.QuotaCells.{Said, said_by, touched, with_quota}
-use Rattle.quota_chain.specs.QuotaChain.{SetsLimits, quota_head, records_for, said_in, with_limits}
+use Rattle.quota_chain.specs.QuotaChain.{SetsLimits, filesets_in, quota_head, records_for, said_in, with_fileset, with_limits}
 use Rattle.quota_chain.proofs.Chains.{all_quotas, quotas_after, quotas_stand}
 use Rattle.quota_chain.proofs.Once.{once_after}
 use Rattle.quota_chain.proofs.ReadCells.{distinct_quotas}
@@ -61,8 +61,8 @@ module _ (prefer : ℕ) (at : CellAt) (space space_now : Spaces) (cells cells_no
     after = more ∷ [];
     is = (refl, record { links = record { stands = stands; follow = refl; distinct = ((λ inside. omega (arith, inside.1)), tt) }; cells = (more_cell, tt) });
     said = said_first;
-    once = once_after old [] who limits tt (said_in (more ∷ [])) said_first;
-    of_fileset = λ _. (refl, tt);
+    once = once_after old [] who limits tt (more ∷ []) said_first;
+    filesets = refl;
     on_tables = (at_on prefer at space space_now cells cells_now old between low allocated takes, tt);
     kept = λ q inside. absurd (omega (arith, inside.1));
     joined = λ q inside apart cell stood on. one_place q inside cell stood on;
@@ -147,6 +147,10 @@ module _ (prefer : ℕ) (at : CellAt) (space space_now : Spaces) (cells cells_no
     said_more [] = (λ i. said_by (same_records i) ∷ more_said i ∷ [])
     said_more (f ∷ front) = ap (λ (s : List Said). said_by f.cell.records ∷ s) (said_more front)
 
+    filesets_more : (front : List PlacedCell) → filesets_in (front ++ now ∷ more ∷ []) ≡ filesets_in (front ++ c ∷ []) ++ Some fileset ∷ []
+    filesets_more [] = refl
+    filesets_more (f ∷ front) = ap (λ (os : List (Option ℕ)). f.cell.head.fileset ∷ os) (filesets_more front)
+
     now_cell : IsQuotaCell now.cell
     now_cell = record { kind = last_was.kind; limits = all_of_limits (said_by c.cell.records) }
 
@@ -174,9 +178,8 @@ module _ (prefer : ℕ) (at : CellAt) (space space_now : Spaces) (cells cells_no
       after = after;
       is = quotas_then;
       said = said_behind none;
-      once = once_after old (front ++ c ∷ []) who limits stood (said_in after) (said_behind none);
-      of_fileset = λ of. all_join (λ (q : PlacedCell). q.cell.head.fileset ≡ Some fileset) front (now ∷ more ∷ []) (all_front (λ (q : PlacedCell). q.cell.head.fileset ≡ Some fileset) front (c ∷ []) of)
-          ((all_back (λ (q : PlacedCell). q.cell.head.fileset ≡ Some fileset) front (c ∷ []) of).0, (refl, tt));
+      once = once_after old (front ++ c ∷ []) who limits stood after (said_behind none);
+      filesets = filesets_more front ∙ ap (λ o. with_fileset fileset o (filesets_in (front ++ c ∷ []))) (sym none);
       on_tables = on_now;
       kept = λ q inside. in_now front q inside;
       joined = λ q inside apart cell there on. ⊎_elim apart (λ same. fresh_at q cell on there same) (in_after front q inside);

@@ -21,7 +21,7 @@ use Rattle.fileset_model.specs.declared.command.Owner.TheVariants as owner
 use Rattle.fileset_model.specs.declared.fileset.Limits.{Limits}
 use Rattle.free_cells.specs.Cells.{Cells}
 use Rattle.quota_book.specs.QuotaCells.{Said, has_room, is_said, or_else, first_where, said_by, touched, with_quota}
-use Rattle.quota_chain.specs.QuotaChain.{AreOf, SetsLimits, records_for, said_in, with_limits}
+use Rattle.quota_chain.specs.QuotaChain.{SetsLimits, filesets_in, records_for, said_in, with_fileset, with_limits}
 use Rattle.quota_chain.proofs.Chains.{all_quotas, follow_back, quotas_after, quotas_stand}
 use Rattle.quota_chain.proofs.Once.{once_after}
 use Rattle.quota_chain.proofs.ReadCells.{distinct_quotas}
@@ -51,6 +51,10 @@ set_said (f ∷ front) c now rest = ap (λ (s : List Said). said_by f.cell.recor
 there_said : (front : List PlacedCell) (c : PlacedCell) (rest : List PlacedCell) (d : Said) → get_or (said_in (front ++ c ∷ rest)) (length front) d ≡ said_by c.cell.records
 there_said [] c rest d = refl
 there_said (f ∷ front) c rest d = there_said front c rest d
+
+same_filesets : (front : List PlacedCell) (c now : PlacedCell) (rest : List PlacedCell) → now.cell.head.fileset ≡ c.cell.head.fileset → filesets_in (front ++ now ∷ rest) ≡ filesets_in (front ++ c ∷ rest)
+same_filesets [] c now rest same = ap (λ (o : Option ℕ). o ∷ filesets_in rest) same
+same_filesets (f ∷ front) c now rest same = ap (λ (os : List (Option ℕ)). f.cell.head.fileset ∷ os) (same_filesets front c now rest same)
 
 module _ (old new : Pages) (start : CellAt) (front : List PlacedCell) (c : PlacedCell) (rest : List PlacedCell) (quotas : IsQuotas old start (front ++ c ∷ rest))
     (who : Owner) (limits : Limits) (named : ¬ who ≡ owner.Fileset)
@@ -97,10 +101,6 @@ module _ (old new : Pages) (start : CellAt) (front : List PlacedCell) (c : Place
   same_places : places (front ++ now ∷ rest) ≡ places (front ++ c ∷ rest)
   same_places = sym (places_same front c now rest refl)
 
-  same_of : (fileset : ℕ) → AreOf fileset (front ++ c ∷ rest) → AreOf fileset (front ++ now ∷ rest)
-  same_of fileset of = all_join (λ (q : PlacedCell). q.cell.head.fileset ≡ Some fileset) front (now ∷ rest) (all_front (λ (q : PlacedCell). q.cell.head.fileset ≡ Some fileset) front (c ∷ rest) of)
-      (all_back (λ (q : PlacedCell). q.cell.head.fileset ≡ Some fileset) front (c ∷ rest) of)
-
   module _ (touches : touched (said_in (front ++ c ∷ rest)) who ≡ Some (length front)) (fileset : ℕ) (cells : Cells) (on : AreOnTables cells (front ++ c ∷ rest)) where
     said_then : said_in (front ++ now ∷ rest) ≡ with_limits who limits (said_in (front ++ c ∷ rest))
     said_then = set_said front c now rest ∙ ap (set (said_in (front ++ c ∷ rest)) (length front)) (said_now ∙ ap (put owner_cmp who limits) (sym (there_said front c rest [])))
@@ -111,8 +111,9 @@ module _ (old new : Pages) (start : CellAt) (front : List PlacedCell) (c : Place
       after = front ++ now ∷ rest;
       is = quotas_now;
       said = said_then;
-      once = once_after old (front ++ c ∷ rest) who limits stood (said_in (front ++ now ∷ rest)) said_then;
-      of_fileset = same_of fileset;
+      once = once_after old (front ++ c ∷ rest) who limits stood (front ++ now ∷ rest) said_then;
+      filesets = same_filesets front c now rest refl
+          ∙ ap (λ o. with_fileset fileset o (filesets_in (front ++ c ∷ rest))) (sym touches);
       on_tables = on_by_places cells (front ++ now ∷ rest) (front ++ c ∷ rest) same_places on;
       kept = λ at inside. subst (λ (ps : List CellAt). Contains ps at) (sym same_places) inside;
       joined = λ at inside apart. absurd (apart (subst (λ (ps : List CellAt). Contains ps at) same_places inside));

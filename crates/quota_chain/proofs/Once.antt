@@ -3,6 +3,7 @@ use Rattle.std.proofs.Common.{◌≡◌, ◌∙◌, ℕ, zero, suc, ◌+◌, ◌
 use Rattle.std.proofs.lemmas.Bool.{and_parts, true≢false}
 use Rattle.std.proofs.lemmas.Cmp.{eq_by_cmp_equiv}
 use Rattle.std.proofs.lemmas.List.{append-nil, map-append}
+use Rattle.std.proofs.lemmas.List.Elements.{filter_map-append}
 use Rattle.std.specs.List.{AllByRecursion, IsDistinct}
 use Rattle.std.specs.Option.{option_map_or}
 use Rattle.std.specs.declared.cmp.Ordering.{Ordering}
@@ -11,13 +12,13 @@ use Rattle.std.specs.Ordering.{is_eq}
 use Rattle.std.specs.FinMap.Entries.{below_all, by_order as ordered, find, is_sorted, length-put, put}
 use Rattle.sorted_entries.proofs.EntryLemmas.{to_T}
 use Rattle.page_store.specs.Pages.{Pages}
-use Rattle.bmt_mcells.specs.Chain.{PlacedCell}
+use Rattle.bmt_mcells.specs.Chain.{PlacedCell, records_of}
 use Rattle.chain_release.specs.Steps.{AllStand}
 use Rattle.fileset_model.specs.Orders.{owner_cmp, owner_cmp-total}
 use Rattle.fileset_model.specs.declared.command.Owner.{Owner}
 use Rattle.fileset_model.specs.declared.fileset.Limits.{Limits}
 use Rattle.quota_book.specs.Owners.{same_owner}
-use Rattle.quota_book.specs.QuotaCells.{AreOnce, Said, all_said, first_where, has_room, is_said, or_else, with_quota}
+use Rattle.quota_book.specs.QuotaCells.{AreOnce, Said, all_said, first_where, has_room, is_said, limits_said, or_else, said_by, with_quota}
 use Rattle.quota_chain.specs.QuotaChain.{said_in, with_limits}
 use Rattle.quota_chain.proofs.SaidRecords.{said_sorted}
 use Rattle.quota_chain.proofs.Touched.{found_there, none_tested}
@@ -188,8 +189,15 @@ sorted_in : (pages : Pages) (chain : List PlacedCell) → AllStand pages chain �
 sorted_in pages [] stand = tt
 sorted_in pages (c ∷ chain) stand = (said_sorted c.cell.records stand.0.is.well_formed, sorted_in pages chain stand.1)
 
+-- what the cells say together is what their records do
+records_all : (chain : List PlacedCell) → said_by (records_of chain) ≡ all_said (said_in chain)
+records_all [] = refl
+records_all (c ∷ chain) =
+    filter_map-append limits_said c.cell.records (records_of chain) ∙ ap (λ (s : Said). said_by c.cell.records ++ s) (records_all chain)
+
 -- of no owner something is said twice then
-pub once_after : (pages : Pages) (chain : List PlacedCell) (who : Owner) (limits : Limits) → AllStand pages chain → (after : List Said) → after ≡ with_limits who limits (said_in chain)
-    → AreOnce (all_said (said_in chain)) → AreOnce (all_said after)
+pub once_after : (pages : Pages) (chain : List PlacedCell) (who : Owner) (limits : Limits) → AllStand pages chain → (after : List PlacedCell) → said_in after ≡ with_limits who limits (said_in chain)
+    → AreOnce (said_by (records_of chain)) → AreOnce (said_by (records_of after))
 once_after pages chain who limits stand after is once =
-    subst (λ (cells : List Said). AreOnce (all_said cells)) (sym is) (once_first (said_in chain) who limits once (sorted_in pages chain stand) (first_where (is_said who) (said_in chain)) refl)
+    subst AreOnce (sym (records_all after)) (subst (λ (cells : List Said). AreOnce (all_said cells)) (sym is)
+    (once_first (said_in chain) who limits (subst AreOnce (records_all chain) once) (sorted_in pages chain stand) (first_where (is_said who) (said_in chain)) refl))

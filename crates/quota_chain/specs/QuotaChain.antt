@@ -1,6 +1,6 @@
 -- The limits of owners in a chain of quota cells, and a change of one owner's.
 use Rattle.std.specs.Prelude.{◌≡◌, ◌⊎◌, ℕ, List, [], ◌∷◌, ◌++◌, map, Option, Some, None, Contains}
-use Rattle.std.specs.List.{AllByRecursion, filter_map}
+use Rattle.std.specs.List.{filter_map}
 use Rattle.std.specs.Option.{option_map_or}
 use Rattle.domain_base.specs.declared.place.CellAt.{CellAt}
 use Rattle.page_store.specs.Pages.{Pages}
@@ -9,11 +9,11 @@ use Rattle.record_table.specs.declared.record.Record.TheVariants.{UserQuota, Gro
 use Rattle.bmt_mcells.specs.declared.head.CellHead.{CellHead}
 use Rattle.bmt_mcells.specs.declared.head.CellKind.TheVariants.{Quota}
 use Rattle.bmt_mcells.specs.Cell.{Cell}
-use Rattle.bmt_mcells.specs.Chain.{PlacedCell, StandsAt, places}
+use Rattle.bmt_mcells.specs.Chain.{PlacedCell, StandsAt, places, records_of}
 use Rattle.fileset_model.specs.declared.command.Owner.{Owner}
 use Rattle.fileset_model.specs.declared.command.Owner.TheVariants as owner
 use Rattle.fileset_model.specs.declared.fileset.Limits.{Limits}
-use Rattle.quota_book.specs.QuotaCells.{AreOnce, Said, all_said, said_by, touched, with_quota}
+use Rattle.quota_book.specs.QuotaCells.{AreOnce, Said, said_by, touched, with_quota}
 use Rattle.free_cells.specs.Cells.{Cells, table_of}
 use Rattle.free_space.specs.Spaces.{Spaces}
 use Rattle.bitfile_cells.specs.FileChanges.{AreOnTables}
@@ -72,20 +72,25 @@ with_limits who limits cells =
     option_map_or (λ k. with_quota k who limits cells) (touched cells who)
     (cells ++ ((who, limits) ∷ []) ∷ [])
 
--- the cells are a fileset's
-abbrev pub AreOf : ℕ → List PlacedCell → Type 0
-AreOf fileset chain =
-    AllByRecursion (λ (c : PlacedCell). c.cell.head.fileset ≡ Some fileset) chain
+-- the fileset that each cell says; one more is of the fileset where none is touched
+abbrev pub filesets_in : List PlacedCell → List (Option ℕ)
+filesets_in chain = map (λ (c : PlacedCell). c.cell.head.fileset) chain
+
+abbrev pub with_fileset : ℕ → Option ℕ → List (Option ℕ) → List (Option ℕ)
+with_fileset fileset (Some k) filesets = filesets
+with_fileset fileset None filesets = filesets ++ Some fileset ∷ []
 
 -- the chain that begins there then says an owner's limits, and all else as it did, of nobody twice;
--- it keeps its cells, and has each that is handed out, which was none in use of the tables
+-- it keeps its cells, with their filesets, and has each that is handed out, which was none in use of
+-- the tables
 pub record SetsLimits (fileset : ℕ) (who : Owner) (limits : Limits) (start : CellAt)
     (chain : List PlacedCell) (cells cells_now : Cells) (old new : Pages) : Type 0 where
   pub after : List PlacedCell
   pub is : IsQuotas new start after
   pub said : said_in after ≡ with_limits who limits (said_in chain)
-  pub once : AreOnce (all_said (said_in chain)) → AreOnce (all_said (said_in after))
-  pub of_fileset : AreOf fileset chain → AreOf fileset after
+  pub once : AreOnce (said_by (records_of chain)) → AreOnce (said_by (records_of after))
+  pub filesets : filesets_in after
+      ≡ with_fileset fileset (touched (said_in chain) who) (filesets_in chain)
   pub on_tables : AreOnTables cells_now after
   pub kept : (at : CellAt) → Contains (places chain) at → Contains (places after) at
   pub joined : (at : CellAt) → Contains (places after) at → ¬ Contains (places chain) at
