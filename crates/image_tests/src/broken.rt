@@ -48,14 +48,14 @@ pub fn told_otherwise(alloc: Global, version: Version, images: &[Broken]) -> Res
 }
 
 /// The table begins with other letters; it stands on a page of the log.
-static TABLES: [Broken; 2] = [
+pub static TABLES: [Broken; 2] = [
     (Whole::Files, "letters 132 0 FSTX", "4 1:132\n"),
     (Whole::Files, "table 131 0", "4 1:131\n"),
 ];
 
 /// A page of cells: other letters; another index; a next page that is the log's; another count of
 /// free cells.
-static CELL_PAGES: [Broken; 4] = [
+pub static CELL_PAGES: [Broken; 4] = [
     (Whole::Files, "letters 3 0 BMTX", "5 1:3\n6 1:140\n"),
     (Whole::Files, "bytes 3 4 01000000", "5 1:3\n"),
     (Whole::Files, "bytes 3 8 05000000", "5 1:5\n"),
@@ -65,7 +65,7 @@ static CELL_PAGES: [Broken; 4] = [
 /// A cell: of no kind; with no links; a file with a parent; one that says other pages of a volume;
 /// a second one that says a volume; a chain cell to which none leads, and one that is not there;
 /// a page twice, and limits twice; and a hole in an original.
-static CELLS: [Broken; 10] = [
+pub static CELLS: [Broken; 10] = [
     (Whole::Files, "cells 3 0 0 22\nbytes 3 5871 05", "5 1:3\n"),
     (
         Whole::Files,
@@ -110,7 +110,7 @@ cell 3.9 2 1 4.7 - runs,0+1@206",
 /// Tags: other letters on their page; another index; an entry that leads to a free cell; no root,
 /// and one that is to be removed; a file that no entry names; and two directories that begin at one
 /// page.
-static TAGS: [Broken; 7] = [
+pub static TAGS: [Broken; 7] = [
     (Whole::Files, "letters 140 0 TAGX", "6 1:3\n6 1:140\n"),
     (Whole::Files, "bytes 140 4 01000000", "6 1:3\n6 1:140\n"),
     (Whole::Files, "tags 140 0 - 9=3.9,1", "6 1:140\n"),
@@ -127,7 +127,7 @@ static TAGS: [Broken; 7] = [
 /// What is named: a source of another tag; a birth behind the last clone, and a number unsynced;
 /// quota cells that no slot names, and a slot that names those to which others lead; and a clone's
 /// number that no clone was made with.
-static NAMED: [Broken; 6] = [
+pub static NAMED: [Broken; 6] = [
     (
         Whole::Changed,
         "cell 3.5 1 2 2.1 3.6 file,24576 from,3.3,3 short,0+1@210",
@@ -154,7 +154,7 @@ static NAMED: [Broken; 6] = [
 
 /// A file's page: behind its volume; on no volume; on one that is no member; on the log; and on a
 /// page of another file. The bitmap says that page 205 is free.
-static EXTENTS: [Broken; 5] = [
+pub static EXTENTS: [Broken; 5] = [
     (
         Whole::Files,
         "cell 3.4 1 1 4.7 - file,5 short,0+1@256\nbytes 2 25 1f",
@@ -184,7 +184,7 @@ static EXTENTS: [Broken; 5] = [
 
 /// The bitmap: a page that nothing has is used; one that a file has is free; and so is one that the
 /// volume has not.
-static BITS: [Broken; 3] = [
+pub static BITS: [Broken; 3] = [
     (Whole::Files, "bytes 2 25 7f", "8 1:2\n"),
     (Whole::Files, "bytes 2 25 1f", "8 1:2\n"),
     (Whole::Files, "bytes 2 32 fe", "8 1:2\n"),
@@ -192,7 +192,7 @@ static BITS: [Broken; 3] = [
 
 /// A directory's pages: other letters; a name twice; a row that leads to the root, and to nothing;
 /// one of another kind than what it leads to; and two of what a clone has lost.
-static ROWS: [Broken; 6] = [
+pub static ROWS: [Broken; 6] = [
     (Whole::Files, "letters 204 0 DIRX", "9 1:3\n9 1:204\n"),
     (
         Whole::Files,
@@ -212,7 +212,7 @@ static ROWS: [Broken; 6] = [
 /// Files and directories: another size than the pages; another directory than the one that says it
 /// to be there; links that no row has, or rows that no link has; a directory with two rows, with
 /// none, and below itself; and a directory with two links.
-static PLACES: [Broken; 8] = [
+pub static PLACES: [Broken; 8] = [
     (
         Whole::Files,
         "cell 3.3 1 1 3.1 - dir,16384,uid=7 short,0+1@204 parent,1.1",
@@ -246,7 +246,7 @@ cell 3.3 1 1 3.1 - dir,8192 short,0+1@204 parent,3.1",
 
 /// An index: other letters on its first page, of which page 151 is then none; one that leads to a
 /// page of the log.
-static INDEX_PAGES: [Broken; 2] = [
+pub static INDEX_PAGES: [Broken; 2] = [
     (
         Whole::Indexed,
         "letters 150 0 DIRY\nbytes 2 18 40",
@@ -261,7 +261,7 @@ static INDEX_PAGES: [Broken; 2] = [
 
 /// An index of a directory: entries out of order; one that has no row, while a row has none;
 /// another total; a row without its entry; an index of a directory of one page, and of a file.
-static INDEXES: [Broken; 6] = [
+pub static INDEXES: [Broken; 6] = [
     (Whole::Indexed, "index 150 151 98@0 97@0", "10 1:150\n"),
     (
         Whole::Indexed,

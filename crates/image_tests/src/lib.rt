@@ -5,6 +5,8 @@
 #[cfg(test)]
 mod broken;
 #[cfg(test)]
+mod brought;
+#[cfg(test)]
 mod image;
 #[cfg(test)]
 mod meant;

@@ -1,0 +1,14 @@
+use Rattle.std.proofs.Common.{◌≡◌, ℕ, Some}
+use Rattle.domain_base.specs.declared.place.Home.{Home}
+use Rattle.filesets_reading.specs.Seen.{home_in}
+use Rattle.home_sets.specs.Members.{IsIn}
+use Rattle.row_faults.specs.declared.there.FileThere.{FileThere}
+use Rattle.image_loading.specs.Loaded.{Grows}
+use Rattle.image_loading.proofs.Listed.{HoldBelow}
+use Rattle.image_loading.proofs.directories.insert_slot.Given as goal
+
+abbrev pub invariant-loop-file : goal.invariant-loop-file
+invariant-loop-file g l = record {
+  grows : Grows l.fn.found l.found;
+  below : HoldBelow l.file-index l.file-items (λ (file : FileThere). (page : ℕ) (home : Home) → home_in file.seen.homes.items page ≡ Some home → IsIn l.found home);
+}
