@@ -110,11 +110,11 @@ fn load_behind<R: Rack, M: MetaPages>(
 }
 
 /// Brings each page at which the rules of a domain look and that is not there yet: that of the
-/// fileset table, those of bitmaps, cells and tag directories, and where these break no rule those of
-/// indexes and directories. Where the table and the bitmaps stand on pages of members, and the pages
-/// that were there are the images of groups of a log, the pages then agree wherever the rules look
-/// with the rack's contents once the log is redone, and so have the same faults. A fault names the
-/// volume of which a read failed. After an error some of the pages may have been brought.
+/// fileset table, those of bitmaps, cells and tag directories, and where these break no rule those
+/// of indexes and directories. Where the table and the bitmaps stand on pages of members, and the
+/// pages that were there are the images of groups of a log, the pages then agree wherever the rules
+/// look with the rack's contents once the log is redone, and so have the same faults. A fault names
+/// the volume of which a read failed. After an error some of the pages may have been brought.
 pub fn load<R: Rack, M: MetaPages>(
     alloc: Global,
     rack: &mut R,
