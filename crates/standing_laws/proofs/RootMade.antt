@@ -20,9 +20,9 @@ pub root_made : (number : ℕ) (entry : FilesetEntry) (d joined now : DomainNow)
     → ((other : ℕ) → ¬ other ≡ number → now.tags other ≡ joined.tags other) → StandsBelow now files_now indexes
 root_made number entry d joined now chains_now files files_now indexes below joins makes early frame table tags = record {
   tables = tables_stand number root_tag joined now no_chains chains_now files files_now indexes begins.0 leads;
-  chains = chains_stand number root_tag joined now no_chains chains_now files files_now indexes begins.0 leads tt;
+  chains = chains_stand number root_tag joined now no_chains chains_now files files_now indexes begins.0 leads;
   owned = owned_still number root_tag joined now no_chains chains_now files files_now indexes begins.0 leads;
-  rest = rest_stands number root_tag joined now no_chains chains_now files files_now indexes begins.0 leads tt;
+  rest = rest_stands number root_tag joined now no_chains chains_now files files_now indexes begins.0 leads;
 }
   where
     begins : StandsBelow joined files indexes × StandsWell number (fileset_now joined number no_chains files)
