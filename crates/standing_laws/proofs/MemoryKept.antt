@@ -245,15 +245,18 @@ module _ (d : DomainNow) (t : Spaces) (e : Cells) (space : (vol : ℕ) → volum
 
       space_kept : (vol : ℕ) (o : Option VolumeSpace) → AreHeldAt d files indexes vol o → AreHeldAt now files indexes vol (option_map keeping o)
       space_kept vol None none = none
-      space_kept vol (Some v) is = (is.0, record {
-        count = is.1.count;
-        opened = is.1.opened;
-        free = λ page within. (
-          (λ unused. let f = (is.1.free page within).0 unused in ((λ holder holds. f.0 holder (was_held holder _ holds)), f.1)),
-          (λ f. (is.1.free page within).1 ((λ holder holds. f.0 holder (is_held holder _ holds)), f.1)),
-        );
-        waits = λ page waits holder holds. is.1.waits page waits holder (was_held holder _ holds);
-      })
+      space_kept vol (Some v) is = (
+        is.0,
+        record {
+          count = is.1.count;
+          opened = is.1.opened;
+          free = λ page within. (
+            (λ unused. let f = (is.1.free page within).0 unused in ((λ holder holds. f.0 holder (was_held holder _ holds)), f.1)),
+            (λ f. (is.1.free page within).1 ((λ holder holds. f.0 holder (is_held holder _ holds)), f.1)),
+          );
+          waits = λ page waits holder holds. is.1.waits page waits holder (was_held holder _ holds);
+        },
+      )
 
       owned_kept : HoldsOwned d files indexes → HoldsOwned now files indexes
       owned_kept is = record {
