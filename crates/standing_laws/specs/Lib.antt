@@ -1,5 +1,4 @@
 pub mod IndexCalls
-pub mod Kinds
 pub mod Leads
 pub mod Left
 pub mod NewFileset
