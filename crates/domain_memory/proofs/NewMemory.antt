@@ -1,5 +1,5 @@
 -- The memory of a domain that was just made stands for no fileset.
-use Rattle.std.proofs.Common.{◌≡◌, ◌∙◌, ℕ, ◌<◌, ◌≤◌, List, [], ◌∷◌, Option, Some, None, IsSomeAnd, refl, sym, ap, subst, arith}
+use Rattle.std.proofs.Common.{◌≡◌, ◌∙◌, ℕ, ◌<◌, ◌≤◌, List, [], ◌∷◌, Option, Some, None, IsSomeAnd, replicate, refl, sym, ap, subst, arith}
 use Rattle.std.specs.FinMap.{empty}
 use Rattle.domain_base.specs.Version.{most_pages, number_of}
 use Rattle.domain_base.specs.declared.version.Version.{Version}
@@ -33,12 +33,14 @@ use Rattle.domain_standing.proofs.NewDomain.{new_stands}
 use Rattle.domain_making.specs.Making.{new_frame}
 use Rattle.page_ways.specs.Frame.{frame_in}
 use Rattle.staged_pages.specs.Store.{before_of}
-use Rattle.domain_memory.specs.Memory.{StandsFor, books_in, kept_in, kept_places, slot_in}
+use Rattle.domain_parts.specs.Slots.{kept_places, slot_in}
+use Rattle.domain_memory.specs.Memory.{StandsFor, books_in, kept_in, with_was}
 use Rattle.domain_memory.specs.declared.memory.DomainMemory.{DomainMemory}
 use Rattle.domain_memory.proofs.KeptCells.{cells_of_other}
 use Rattle.domain_memory.proofs.KeptSpace.{kept_is, marked_kept}
 use Rattle.domain_memory.proofs.NewLayout.{laid_with, layout_with}
 use Rattle.domain_memory.proofs.NewMarks.{has_bitmaps, marked_behind, marked_held}
+use Rattle.domain_memory.proofs.SlotsKept.{nothing_in}
 
 -- the one page of cells
 abbrev pub first_table : Frame → ℕ → List ℕ
@@ -121,7 +123,7 @@ module _ (m : DomainMemory) (version : Version) (pages : ℕ) (room : (first_pag
     (new : IsNew (before_of m.pages) (new_frame version pages)) (space : Spaces) (marked : IsMarked (before_of m.pages) (new_frame version pages) space) (space_is : m.space ≡ change_volumes keeping space)
     (cells : Cells) (are : (layout : Layout) → IsLayout (before_of m.pages) layout → frame_of layout ≡ frame_in m.frame → AreCellsOf (before_of m.pages) layout cells)
     (kept : ℕ → KeptTable) (same : Holds (table_of cells) (is_closed cells) (is_free cells) kept m.cells) (settled : taken_back m.cells ≡ m.cells)
-    (fresh : IsNewTable m.table) (entries : m.list.list.entries ≡ []) (tag_pages : m.list.list.tag_pages ≡ []) (slots : m.slots.items ≡ []) where
+    (fresh : IsNewTable m.table) (entries : m.list.list.entries ≡ []) (tag_pages : m.list.list.tag_pages ≡ []) (slots : m.slots.items ≡ replicate 32 None) (was : m.was ≡ None) where
   frames : (P : Frame → Type 0) → P (new_frame version pages) → P (frame_in m.frame)
   frames P p = subst P (sym frame) p
 
@@ -136,7 +138,7 @@ module _ (m : DomainMemory) (version : Version) (pages : ℕ) (room : (first_pag
       frames (λ f. IsMarked (before_of m.pages) f (kept_spaces m.space)) (subst (IsMarked (before_of m.pages) (new_frame version pages)) (sym is) (marked_kept (before_of m.pages) (new_frame version pages) space marked))
 
   untagged : (number : ℕ) → kept_places (slot_in m.slots.items number) ≡ []
-  untagged number = ap (λ s. kept_places (slot_in s number)) slots
+  untagged number = ap (λ s. kept_places (slot_in s number)) slots ∙ ap kept_places (nothing_in 32 number)
 
   is_new : IsNew (before_of m.pages) (frame_in m.frame)
   is_new = frames (λ f. IsNew (before_of m.pages) f) new
@@ -150,10 +152,13 @@ module _ (m : DomainMemory) (version : Version) (pages : ℕ) (room : (first_pag
   log : IsLogInside (frame_in m.frame).version (frame_in m.frame).anchor
   log = frames (λ f. IsLogInside f.version f.anchor) (log_inside version pages room)
 
+  fresh_kept : IsNewTable (with_was m.was m.table)
+  fresh_kept = subst (λ w. IsNewTable (with_was w m.table)) (sym was) fresh
+
   pub stands_for : StandsFor m empty
   stands_for = record {
-    stands = stands (kept_in m) is_new says few_pages log fresh kept_marks kept_are untagged (entries, tag_pages);
-    parents = parents (kept_in m) is_new says few_pages log fresh kept_marks kept_are untagged (entries, tag_pages);
-    marked = marks (kept_in m) is_new says few_pages log fresh kept_marks kept_are untagged (entries, tag_pages);
-    books = books (kept_in m) is_new says few_pages log fresh kept_marks kept_are untagged (entries, tag_pages) (books_in m);
+    stands = stands (kept_in m) is_new says few_pages log fresh_kept kept_marks kept_are untagged (entries, tag_pages);
+    parents = parents (kept_in m) is_new says few_pages log fresh_kept kept_marks kept_are untagged (entries, tag_pages);
+    marked = marks (kept_in m) is_new says few_pages log fresh_kept kept_marks kept_are untagged (entries, tag_pages);
+    books = books (kept_in m) is_new says few_pages log fresh_kept kept_marks kept_are untagged (entries, tag_pages) (books_in m);
   }

@@ -1,37 +1,29 @@
 -- What a domain keeps in memory, as it was when that was last kept.
-use Rattle.std.specs.Prelude.{ℕ, List, [], Option, Some, None, slice_get, take}
-use Rattle.std.specs.Option.{option_and_then}
-use Rattle.tag_dirs.specs.declared.dir.TagPlace.{TagPlace}
+use Rattle.std.specs.Prelude.{ℕ, List, Option, Some, None}
 use Rattle.free_space.specs.Spaces.{kept_spaces}
 use Rattle.free_cells.specs.Cells.{taken_back}
 use Rattle.fileset_model.specs.Filesets.{FilesetMap}
+use Rattle.fileset_table.specs.Table.{Table, with_slot}
 use Rattle.staged_pages.specs.Store.{before_of}
 use Rattle.page_ways.specs.Frame.{frame_in}
-use Rattle.quota_book.specs.Book.{Book, empty_book}
+use Rattle.quota_book.specs.Book.{Book}
 use Rattle.domain_layout.specs.Read.{contents_of}
 use Rattle.domain_standing.specs.Domain.{DomainNow}
 use Rattle.domain_standing.specs.Standing.{AreBooksOf, HaveParents, IsMarkedBut, StandsDomain}
+use Rattle.domain_parts.specs.Slots.{kept_book, kept_places, slot_in}
 use Rattle.domain_memory.specs.declared.memory.DomainMemory.{DomainMemory}
-use Rattle.domain_memory.specs.declared.memory.SlotFiles.{SlotFiles}
+use Rattle.domain_memory.specs.declared.memory.ReplacedSlot.{ReplacedSlot}
 
--- what is in a slot of these, if something is
-abbrev pub slot_in : List (Option SlotFiles) → ℕ → Option SlotFiles
-slot_in slots number = option_and_then (λ slot. slot) (slice_get slots number)
-
--- where the pages of its tag directory stood, and its book, when that was last kept
-abbrev pub kept_places : Option SlotFiles → List TagPlace
-kept_places None = []
-kept_places (Some slot) = take slot.tag_pages slot.files.tags
-
-abbrev pub kept_book : Option SlotFiles → Book
-kept_book None = empty_book
-kept_book (Some slot) = slot.book.kept
+-- the fileset table with what the slot had that was set anew, if one was
+abbrev pub with_was : Option ReplacedSlot → Table → Table
+with_was None table = table
+with_was (Some was) table = with_slot was.number was.item table
 
 -- the domain as it was when memory was last kept: no change that is laid over it is seen
 abbrev pub kept_in : DomainMemory → DomainNow
 kept_in memory = record {
   frame = frame_in memory.frame;
-  table = memory.table;
+  table = with_was memory.was memory.table;
   tags = λ number. kept_places (slot_in memory.slots.items number);
   pages = before_of memory.pages;
   contents = contents_of (before_of memory.pages);

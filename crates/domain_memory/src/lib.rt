@@ -1,7 +1,8 @@
 //! What a domain keeps in memory beside the rack that has its volumes.
 #![tactic(auto)]
 
+mod keeping;
 mod making;
 mod memory;
 
-pub use memory::{DomainMemory, SlotFiles};
+pub use memory::{DomainMemory, ReplacedSlot};

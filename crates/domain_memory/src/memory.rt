@@ -1,22 +1,20 @@
 //! What a domain keeps in memory.
-use bitfile_core::Bitfiles;
 use deferred_delete::Deferred;
-use fileset_table::FilesetTable;
+use domain_base::{CellAt, FilesetNo};
+use domain_parts::SlotFiles;
+use fileset_table::{FilesetTable, SlotItem};
 use free_cells::FreeCells;
 use free_space::FreeSpace;
 use page_ways::DomainFrame;
-use quota_book::QuotaBook;
 use staged_pages::StagedPages;
 
-/// What is in a slot of the fileset table, but for a clone.
+/// A slot of the fileset table, and what it had before a change that is not kept yet.
 #[derive(Drop)]
-pub struct SlotFiles {
-    /// The fileset's number and its tag directory.
-    pub files: Bitfiles,
-    /// What owners use of the fileset, and their limits.
-    pub book: QuotaBook,
-    /// How many pages the tag directory had when that was last kept.
-    pub tag_pages: usize,
+pub struct ReplacedSlot {
+    /// The slot's number.
+    pub number: FilesetNo,
+    /// What it had.
+    pub item: SlotItem,
 }
 
 /// What a domain keeps in memory: its pages that belong to an owner, and what is looked up often. A
@@ -37,4 +35,9 @@ pub struct DomainMemory {
     pub list: Deferred,
     /// What is in each of the 32 slots.
     pub slots: Vec<Option<SlotFiles>>,
+    /// The slot of the table that the change has set anew, if it has: one at most.
+    pub was: Option<ReplacedSlot>,
+    /// The first cells of files that the change leaves to be let go of, all of them or their last
+    /// pages, in the order in which they came: they come on the list once the change is kept.
+    pub listed: Vec<CellAt>,
 }

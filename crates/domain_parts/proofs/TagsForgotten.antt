@@ -53,7 +53,7 @@ pub one_more : (all : List TagPlace) (n : ℕ) → n < length all → (place : T
 one_more [] n within = absurd (omega (arith, within))
 one_more (x ∷ xs) n within = (get_or (x ∷ xs) n x, take_more (x ∷ xs) n x within)
 
-take_length : (xs : List TagPlace) → take (length xs) xs ≡ xs
+pub take_length : (xs : List TagPlace) → take (length xs) xs ≡ xs
 take_length [] = refl
 take_length (x ∷ xs) = ap (λ (l : List TagPlace). x ∷ l) (take_length xs)
 

@@ -1,0 +1,199 @@
+-- A domain stands once the change over its memory is kept.
+use Rattle.std.proofs.Common.{◌≡◌, ◌∙◌, ◌↔◌, ℕ, ◌+◌, ◌*◌, ◌/◌, ◌<◌, ◌≤◌, true, [], Option, Some, None, IsSome, IsSomeAnd, refl, sym, ap, subst, arith}
+use Rattle.std.specs.FinMap.{get}
+use Rattle.std.specs.Option.{is_some, option_map, unwrap_or}
+use Rattle.domain_base.specs.Version.{bitmap_pages, most_pages}
+use Rattle.domain_base.specs.declared.place.Home.{Home}
+use Rattle.domain_base.specs.declared.version.Version.{Version}
+use Rattle.domain_base.specs.declared.version.Version.TheVariants.{Three, Four}
+use Rattle.page_store.specs.Pages.{Pages}
+use Rattle.log_ring.specs.Homes.{IsMember, member_of}
+use Rattle.bmt_mcells.proofs.Changed.{homes_same}
+use Rattle.free_space.specs.Spaces.{IsHeld, Spaces, change_volumes, kept_spaces, volume_of}
+use Rattle.free_space.specs.VolumeSpace.{VolumeSpace, as_kept, keeping}
+use Rattle.free_cells.specs.Cells.{Cells, Holds as HoldsCells, is_closed, is_free, kept_of, table_of, taken_back}
+use Rattle.fileset_model.specs.Filesets.{FilesetMap}
+use Rattle.fileset_table.specs.declared.slot.FilesetEntry.{FilesetEntry}
+use Rattle.fileset_table.specs.declared.slot.SlotItem.TheVariants as slot
+use Rattle.quota_book.specs.Sums.{IsBookOf}
+use Rattle.domain_layout.specs.Read.{contents_of}
+use Rattle.domain_layout.specs.Reached.{Frame, first_cells}
+use Rattle.bitmap_marks.specs.Marks.{bitmap_home, is_marked}
+use Rattle.bitmap_marks.specs.Marking.{ChangeBits, IsHeldIn, IsOfBitmap, IsPageIn, SayHeld}
+use Rattle.bitmap_marks.proofs.Volumes.{volume_changed}
+use Rattle.domain_standing.specs.Chains.{IndexesAt}
+use Rattle.domain_standing.specs.Domain.{DomainNow, item_in}
+use Rattle.domain_standing.specs.Holders.{AreHeldAt, Holder, Holds, HoldsOwned}
+use Rattle.domain_standing.specs.Standing.{AreBooksOf, HaveParents, IsMarkedBut, StandsDomain}
+use Rattle.deferred_delete.specs.Standing.{Files}
+use Rattle.page_ways.specs.Frame.{frame_in}
+use Rattle.quota_book.specs.Book.{Book}
+use Rattle.staged_pages.specs.Store.{before_of, pages_of}
+use Rattle.staged_pages.specs.declared.pages.StagedPages.{StagedPages}
+use Rattle.domain_parts.specs.Listing.{list_with}
+use Rattle.domain_parts.specs.Slots.{ChangesSlots, IsKept, slot_in}
+use Rattle.domain_memory.specs.Memory.{StandsFor, kept_in, with_was}
+use Rattle.domain_memory.specs.Staged.{IsSettled, IsStaged, MayBeKept, staged_in}
+use Rattle.domain_memory.specs.declared.memory.DomainMemory.{DomainMemory}
+use Rattle.domain_memory.proofs.KeptSpace.{kept_is}
+use Rattle.domain_memory.proofs.SlotsKept.{book_kept, book_same, places_kept, places_same}
+use Rattle.standing_laws.specs.Leads.{StandsBelow}
+use Rattle.standing_laws.specs.OtherPages.{KeepsPages}
+use Rattle.standing_laws.proofs.MemoryKept.{all_kept_stands}
+use Rattle.standing_laws.proofs.OthersStand.{others_stand}
+use Rattle.standing_laws.proofs.ParentsKept.{parents_kept}
+use Rattle.standing_laws.proofs.SlotsKept.{slots_kept}
+
+-- ---- pages of bitmaps
+
+on_bitmap : (version : Version) (pages page : ℕ) → pages ≤ most_pages version → page < pages → page / 65536 < bitmap_pages version pages
+on_bitmap Three pages page most within = omega (arith, most, within)
+on_bitmap Four pages page most within = omega (arith, within)
+
+module _ (d : DomainNow) (all : FilesetMap) (stands : StandsDomain d all) where
+  abbrev files : Files
+  files = stands.files
+
+  abbrev indexes : IndexesAt
+  indexes = stands.indexes
+
+  below : StandsBelow d files indexes
+  below = record { tables = stands.tables; chains = stands.chains; owned = stands.owned; rest = stands.rest }
+
+  -- a volume that is there is a member, and has its pages
+  pub member_there : (vol page : ℕ) → 1 ≤ vol → IsPageIn (volume_of d.space vol) page → IsMember d.frame.anchor vol × (page < (member_of d.frame.anchor vol).pages)
+  member_there vol page first within = by_volume (volume_of d.space vol) (stands.owned.spaces vol first) within
+    where
+      by_volume : (o : Option VolumeSpace) → AreHeldAt d files indexes vol o → IsPageIn o page → IsMember d.frame.anchor vol × (page < (member_of d.frame.anchor vol).pages)
+      by_volume None none within = absurd within
+      by_volume (Some v) is within = (is.0, subst (λ n. page < n) is.1.count within)
+
+  -- and a member is there, with its pages
+  pub volume_there : (vol page : ℕ) → IsMember d.frame.anchor vol → page < (member_of d.frame.anchor vol).pages → IsPageIn (volume_of d.space vol) page
+  volume_there vol page member within = by_volume (volume_of d.space vol) (stands.owned.spaces vol member.first)
+    where
+      by_volume : (o : Option VolumeSpace) → AreHeldAt d files indexes vol o → IsPageIn o page
+      by_volume None none = absurd (none member)
+      by_volume (Some v) is = subst (λ n. page < n) (sym is.1.count) within
+
+  pub no_more : (vol page : ℕ) → IsMember d.frame.anchor vol → (member_of d.frame.anchor vol).pages ≤ page → IsPageIn (volume_of d.space vol) page → ⊥
+  no_more vol page member far within = omega (arith, far, (member_there vol page member.first within).1)
+
+  -- a page of a bitmap is held for its volume
+  bitmap_held : (vol : ℕ) (home : Home) → 1 ≤ vol → IsOfBitmap vol (volume_of d.space vol) home → Holds d files indexes Holder.of_volume home
+  bitmap_held vol home first is =
+      let there = member_there vol is.page first is.within in
+      let same : home ≡ bitmap_home vol is.page = homes_same home (bitmap_home vol is.page) is.at in
+      subst (Holds d files indexes Holder.of_volume) (sym same)
+      (there.0, omega (arith, on_bitmap d.frame.version (member_of d.frame.anchor vol).pages is.page (stands.tables.few vol there.0) there.1))
+
+  -- ---- its bits
+
+  module _ (pages : Pages) (change : ChangeBits d.space d.pages pages) where
+    abbrev marked : DomainNow
+    marked = record d { pages = pages; contents = contents_of pages }
+
+    other_pages : (home : Home) (holder : Holder) → Holds d files indexes holder home → ¬ holder ≡ Holder.of_volume → pages home ≡ d.pages home
+    other_pages home holder holds not_volume = change.elsewhere home (λ vol first is. not_volume (stands.owned.once home holder Holder.of_volume holds (bitmap_held vol home first is)))
+
+    keeps : KeepsPages d marked files indexes
+    keeps home holder holds not_volume not_log = other_pages home holder holds not_volume
+
+    pub marked_stands : d.contents ≡ contents_of d.pages → StandsDomain marked all
+    marked_stands same =
+        let still = others_stand d marked files indexes below refl (λ home holder holds not_volume not_log not_file. other_pages home holder holds not_volume) in
+        record {
+          tables = still.tables;
+          files = files;
+          indexes = indexes;
+          chains = still.chains;
+          owned = still.owned;
+          rest = still.rest;
+          slots = slots_kept d marked files indexes all below refl keeps
+              (λ home holder holds not_volume not_log. ap (λ o. unwrap_or o []) (other_pages home holder holds not_volume) ∙ sym (ap (λ (c : Contents). c home) same))
+              stands.slots;
+        }
+
+    pub marked_parents : HaveParents d → HaveParents marked
+    marked_parents = parents_kept d marked files indexes all below stands.slots refl keeps
+
+    module _ (was : IsMarkedBut (record d { space = kept_spaces d.space })) (say : SayHeld pages d.space) where
+      pub marked_bits : IsMarkedBut (record marked { space = change_volumes keeping d.space })
+      marked_bits = record {
+        there = λ vol page member within. change.there (bitmap_home vol page) ∙ was.there vol page member within;
+        bits = λ vol page member within. held_kept vol page (say vol member.first member.last page (volume_there vol page member within));
+        behind = λ vol page member far within. change.behind vol page (no_more vol page member far) ∙ was.behind vol page member far within;
+      }
+        where
+          kept_in_volume : (o : Option VolumeSpace) (page : ℕ) → IsHeldIn o page ↔ IsHeldIn (option_map keeping o) page
+          kept_in_volume None page = ((λ is. is), (λ is. is))
+          kept_in_volume (Some v) page = ((λ is. is), (λ is. is))
+
+          held_kept : (vol page : ℕ) → (is_marked pages vol page ≡ true) ↔ IsHeldIn (volume_of d.space vol) page → (is_marked pages vol page ≡ true) ↔ IsHeldIn (volume_of (change_volumes keeping d.space) vol) page
+          held_kept vol page both = subst (λ o. (is_marked pages vol page ≡ true) ↔ IsHeldIn o page) (sym (volume_changed keeping d.space vol))
+              ((λ marked. (kept_in_volume (volume_of d.space vol) page).0 (both.0 marked)), (λ held. both.1 ((kept_in_volume (volume_of d.space vol) page).1 held)))
+
+  -- ---- what the marking of bits asks
+
+  module _ (was : IsMarkedBut (record d { space = kept_spaces d.space })) where
+    pub bitmaps_there : (vol page : ℕ) → 1 ≤ vol → IsPageIn (volume_of d.space vol) page → IsSome (d.pages (bitmap_home vol page))
+    bitmaps_there vol page first within = let there = member_there vol page first within in was.there vol page there.0 there.1
+
+    pub said_held : SayHeld d.pages (kept_spaces d.space)
+    said_held vol first last page within =
+        let there = member_there vol page first (was_page (volume_of d.space vol) (subst (λ o. IsPageIn o page) (volume_changed as_kept d.space vol) within)) in
+        was.bits vol page there.0 there.1
+      where
+        was_page : (o : Option VolumeSpace) → IsPageIn (option_map as_kept o) page → IsPageIn o page
+        was_page None within = absurd within
+        was_page (Some v) within = within
+
+-- ---- memory that was kept
+
+module _ (old new : DomainMemory) (marks : StagedPages) (all : FilesetMap) (staged : IsStaged old all)
+    (say : SayHeld (pages_of marks) old.space) (change : ChangeBits old.space (pages_of old.pages) (pages_of marks))
+    (frame : new.frame ≡ old.frame) (table : new.table ≡ old.table) (pages : before_of new.pages ≡ pages_of marks) (space : new.space ≡ change_volumes keeping old.space)
+    (same : HoldsCells (table_of old.cells) (is_closed old.cells) (is_free old.cells) (kept_of new.cells) new.cells) (settled : taken_back new.cells ≡ new.cells)
+    (slots : ChangesSlots IsKept old.slots.items new.slots.items) (list : new.list.list ≡ list_with old.listed.items old.list.list) (was : new.was ≡ None) where
+  abbrev target : DomainNow
+  target = record (marked (staged_in old) all staged.stands (pages_of marks) change) { space = change_volumes keeping old.space; cells = new.cells }
+
+  space_is : kept_spaces new.space ≡ change_volumes keeping old.space
+  space_is = ap kept_spaces space ∙ kept_is old.space
+
+  pub is_target : kept_in new ≡ target
+  is_target = λ i. record {
+    frame = frame_in (frame i);
+    table = (ap (λ w. with_was w new.table) was ∙ table) i;
+    tags = λ number. places_kept (slot_in old.slots.items number) (slot_in new.slots.items number) (slots.each number) i;
+    pages = pages i;
+    contents = contents_of (pages i);
+    space = space_is i;
+    cells = settled i;
+    list = list i;
+  }
+
+  target_stands : StandsDomain target all
+  target_stands =
+      all_kept_stands (marked (staged_in old) all staged.stands (pages_of marks) change) (change_volumes keeping old.space) new.cells (volume_changed keeping old.space) same.tables same.marks same.cells all
+      (marked_stands (staged_in old) all staged.stands (pages_of marks) change refl)
+
+  pub kept_stands : MayBeKept old all → StandsFor new all
+  kept_stands may = record {
+    stands = subst (λ (d : DomainNow). StandsDomain d all) (sym is_target) target_stands;
+    parents = subst HaveParents (sym is_target) (marked_parents (staged_in old) all staged.stands (pages_of marks) change may.parents);
+    marked = subst IsMarkedBut (sym is_target) (marked_bits (staged_in old) all staged.stands (pages_of marks) change staged.marked say);
+    books = λ number entry item. subst (λ (b : Book). IsSomeAnd (get all entry.name) (λ fileset. IsBookOf b fileset.tree)) (sym (book_kept (slot_in old.slots.items number) (slot_in new.slots.items number) (slots.each number)))
+        (may.books number entry (ap (λ (d : DomainNow). item_in d number) (sym is_target) ∙ item));
+  }
+
+  pub kept_settled : pages_of new.pages ≡ before_of new.pages → new.listed.items ≡ [] → IsSettled new
+  kept_settled none_staged listed = record {
+    pages = none_staged;
+    space = space_is ∙ sym space;
+    cells = settled;
+    places = λ number. places_same (slot_in old.slots.items number) (slot_in new.slots.items number) (slots.each number);
+    books = λ number. book_same (slot_in old.slots.items number) (slot_in new.slots.items number) (slots.each number);
+    was = was;
+    listed = listed;
+  }

@@ -1,0 +1,78 @@
+-- Memory whose change was taken back, and memory that was just made.
+use Rattle.std.proofs.Common.{◌≡◌, ◌∙◌, ℕ, List, [], ◌∷◌, Option, Some, None, IfSome, map, replicate, refl, sym, ap, subst}
+use Rattle.std.specs.Option.{option_map}
+use Rattle.page_store.specs.Pages.{Pages}
+use Rattle.free_space.specs.Spaces.{Spaces, kept_spaces}
+use Rattle.free_space.specs.VolumeSpace.{VolumeSpace, as_kept}
+use Rattle.free_cells.specs.Cells.{Cells, taken_back}
+use Rattle.fileset_table.specs.Table.{IsTable, Table}
+use Rattle.page_ways.specs.Frame.{frame_in}
+use Rattle.quota_book.specs.Book.{Book}
+use Rattle.domain_layout.specs.Read.{contents_of}
+use Rattle.staged_pages.specs.Store.{before_of, pages_of}
+use Rattle.domain_parts.specs.Slots.{CanGoBack, ChangesSlots, IsTakenBack, book_in, kept_book, kept_places, places_in, slot_in}
+use Rattle.domain_parts.specs.declared.slots.SlotFiles.{SlotFiles}
+use Rattle.domain_memory.specs.Memory.{books_in, kept_in, with_was}
+use Rattle.domain_memory.specs.Staged.{IsSettled, MayGoBack}
+use Rattle.domain_memory.specs.declared.memory.DomainMemory.{DomainMemory}
+use Rattle.domain_memory.proofs.SlotsKept.{book_back, book_stays, nothing_in, places_back, places_stay}
+
+kept_twice : (volumes : List (Option VolumeSpace)) → map (option_map as_kept) (map (option_map as_kept) volumes) ≡ map (option_map as_kept) volumes
+kept_twice [] = refl
+kept_twice (v ∷ vs) = λ i. once v i ∷ kept_twice vs i
+  where
+    once : (o : Option VolumeSpace) → option_map as_kept (option_map as_kept o) ≡ option_map as_kept o
+    once None = refl
+    once (Some v) = refl
+
+pub space_twice : (space : Spaces) → kept_spaces (kept_spaces space) ≡ kept_spaces space
+space_twice space = λ i. record { volumes = kept_twice space.volumes i; misses = space.misses }
+
+module _ (old new : DomainMemory) (frame : new.frame ≡ old.frame) (pages : pages_of new.pages ≡ before_of old.pages) (before : before_of new.pages ≡ before_of old.pages) (space : new.space ≡ kept_spaces old.space)
+    (cells : new.cells ≡ taken_back old.cells) (settled : taken_back new.cells ≡ new.cells) (slots : ChangesSlots IsTakenBack old.slots.items new.slots.items) (list : new.list ≡ old.list)
+    (table : new.table ≡ with_was old.was old.table) (was : new.was ≡ None) (listed : new.listed.items ≡ []) where
+  pub back_kept : kept_in new ≡ kept_in old
+  back_kept = λ i. record {
+    frame = frame_in (frame i);
+    table = (ap (λ w. with_was w new.table) was ∙ table) i;
+    tags = λ number. places_stay (slot_in old.slots.items number) (slot_in new.slots.items number) (slots.each number) i;
+    pages = before i;
+    contents = contents_of (before i);
+    space = (ap kept_spaces space ∙ space_twice old.space) i;
+    cells = (settled ∙ cells) i;
+    list = (ap (λ l. l.list) list) i;
+  }
+
+  pub back_books : books_in new ≡ books_in old
+  back_books = λ i number. book_stays (slot_in old.slots.items number) (slot_in new.slots.items number) (slots.each number) i
+
+  pub back_settled : IsSettled new
+  back_settled = record {
+    pages = pages ∙ sym before;
+    space = ap kept_spaces space ∙ space_twice old.space ∙ sym space;
+    cells = settled;
+    places = λ number. places_back (slot_in old.slots.items number) (slot_in new.slots.items number) (slots.each number);
+    books = λ number. book_back (slot_in old.slots.items number) (slot_in new.slots.items number) (slots.each number);
+    was = was;
+    listed = listed;
+  }
+
+-- with nothing in its slots
+pub none_settled : (m : DomainMemory) → pages_of m.pages ≡ before_of m.pages → kept_spaces m.space ≡ m.space → taken_back m.cells ≡ m.cells → m.slots.items ≡ replicate 32 None → m.was ≡ None → m.listed.items ≡ [] → IsSettled m
+none_settled m pages space cells slots was listed =
+    let none : (number : ℕ) → slot_in m.slots.items number ≡ None = λ number. ap (λ s. slot_in s number) slots ∙ nothing_in 32 number in
+    record {
+      pages = pages;
+      space = space;
+      cells = cells;
+      places = λ number. ap places_in (none number) ∙ sym (ap kept_places (none number));
+      books = λ number. ap book_in (none number) ∙ sym (ap kept_book (none number));
+      was = was;
+      listed = listed;
+    }
+
+pub none_to_take_back : (m : DomainMemory) → IsTable m.table → m.slots.items ≡ replicate 32 None → m.was ≡ None → MayGoBack m
+none_to_take_back m table slots was = record {
+  table = subst (λ w. IsTable (with_was w m.table)) (sym was) table;
+  slots = λ number. subst (λ o. IfSome o CanGoBack) (sym (ap (λ s. slot_in s number) slots ∙ nothing_in 32 number)) tt;
+}

@@ -1,0 +1,66 @@
+-- What a domain keeps in memory, with a change that is laid over it.
+use Rattle.std.specs.Prelude.{◌≡◌, ◌≤◌, ℕ, List, [], Option, Some, None, IfSome, length}
+use Rattle.tag_dirs.specs.declared.dir.TagPlace.{TagPlace}
+use Rattle.free_space.specs.Spaces.{kept_spaces}
+use Rattle.free_cells.specs.Cells.{taken_back}
+use Rattle.fileset_model.specs.Filesets.{FilesetMap}
+use Rattle.fileset_table.specs.Table.{IsTable}
+use Rattle.staged_pages.specs.Store.{before_of, pages_of}
+use Rattle.page_ways.specs.Frame.{frame_in}
+use Rattle.quota_book.specs.Book.{Book}
+use Rattle.domain_layout.specs.Read.{contents_of}
+use Rattle.domain_standing.specs.Domain.{DomainNow}
+use Rattle.domain_standing.specs.Standing.{AreBooksOf, HaveParents, IsMarkedBut, StandsDomain}
+use Rattle.domain_parts.specs.Listing.{HaveOnce, list_with}
+use Rattle.domain_parts.specs.Slots.{CanGoBack, book_in, kept_book, kept_places, places_in, slot_in}
+use Rattle.domain_memory.specs.Memory.{kept_in, with_was}
+use Rattle.domain_memory.specs.declared.memory.DomainMemory.{DomainMemory}
+
+-- the domain as it is once the change is kept, but for the bits of its bitmaps
+abbrev pub staged_in : DomainMemory → DomainNow
+staged_in memory = record {
+  frame = frame_in memory.frame;
+  table = memory.table;
+  tags = λ number. places_in (slot_in memory.slots.items number);
+  pages = pages_of memory.pages;
+  contents = contents_of (pages_of memory.pages);
+  space = memory.space;
+  cells = memory.cells;
+  list = list_with memory.listed.items memory.list.list;
+}
+
+abbrev pub staged_books : DomainMemory → ℕ → Book
+staged_books memory number = book_in (slot_in memory.slots.items number)
+
+-- with the change, memory is that of a domain with these filesets; bits of bitmaps still say what
+-- was used when it was last kept, and there is room on the list for what comes on it
+pub record IsStaged (memory : DomainMemory) (all : FilesetMap) : Type 0 where
+  pub stands : StandsDomain (staged_in memory) all
+  pub marked : IsMarkedBut (record (staged_in memory) { space = kept_spaces memory.space })
+  pub once : HaveOnce memory.list.list.entries
+  pub room : length memory.listed.items ≤ memory.list.room
+
+-- and so it may be kept: directories say in which one they stand, and books say what their filesets
+-- use
+pub record MayBeKept (memory : DomainMemory) (all : FilesetMap) : Type 0 where
+  pub staged : IsStaged memory all
+  pub parents : HaveParents (staged_in memory)
+  pub books : AreBooksOf (staged_books memory) (staged_in memory) all
+
+-- a change can be taken back: a slot that was set anew may have what it had, and each tag directory
+-- has the pages that it had
+pub record MayGoBack (memory : DomainMemory) : Type 0 where
+  pub table : IsTable (with_was memory.was memory.table)
+  pub slots : (number : ℕ) → IfSome (slot_in memory.slots.items number) CanGoBack
+
+-- no change is laid over it
+pub record IsSettled (memory : DomainMemory) : Type 0 where
+  pub pages : pages_of memory.pages ≡ before_of memory.pages
+  pub space : kept_spaces memory.space ≡ memory.space
+  pub cells : taken_back memory.cells ≡ memory.cells
+  pub places : (number : ℕ) → places_in (slot_in memory.slots.items number)
+      ≡ kept_places (slot_in memory.slots.items number)
+  pub books : (number : ℕ) → book_in (slot_in memory.slots.items number)
+      ≡ kept_book (slot_in memory.slots.items number)
+  pub was : memory.was ≡ None
+  pub listed : memory.listed.items ≡ []
