@@ -16,6 +16,7 @@ use Rattle.fileset_model.specs.Filesets.{FilesetMap}
 use Rattle.fileset_table.specs.declared.slot.FilesetEntry.{FilesetEntry}
 use Rattle.fileset_table.specs.declared.slot.SlotItem.TheVariants as slot
 use Rattle.quota_book.specs.Sums.{IsBookOf}
+use Rattle.domain_layout.specs.Filled.{Contents}
 use Rattle.domain_layout.specs.Read.{contents_of}
 use Rattle.domain_layout.specs.Reached.{Frame, first_cells}
 use Rattle.bitmap_marks.specs.Marks.{bitmap_home, is_marked}
@@ -178,11 +179,16 @@ module _ (old new : DomainMemory) (marks : StagedPages) (all : FilesetMap) (stag
       all_kept_stands (marked (staged_in old) all staged.stands (pages_of marks) change) (change_volumes keeping old.space) new.cells (volume_changed keeping old.space) same.tables same.marks same.cells all
       (marked_stands (staged_in old) all staged.stands (pages_of marks) change refl)
 
+  target_marked : IsMarkedBut target
+  target_marked =
+      let bits = marked_bits (staged_in old) all staged.stands (pages_of marks) change staged.marked say in
+      record { there = bits.there; bits = bits.bits; behind = bits.behind }
+
   pub kept_stands : MayBeKept old all → StandsFor new all
   kept_stands may = record {
     stands = subst (λ (d : DomainNow). StandsDomain d all) (sym is_target) target_stands;
     parents = subst HaveParents (sym is_target) (marked_parents (staged_in old) all staged.stands (pages_of marks) change may.parents);
-    marked = subst IsMarkedBut (sym is_target) (marked_bits (staged_in old) all staged.stands (pages_of marks) change staged.marked say);
+    marked = subst IsMarkedBut (sym is_target) target_marked;
     books = λ number entry item. subst (λ (b : Book). IsSomeAnd (get all entry.name) (λ fileset. IsBookOf b fileset.tree)) (sym (book_kept (slot_in old.slots.items number) (slot_in new.slots.items number) (slots.each number)))
         (may.books number entry (ap (λ (d : DomainNow). item_in d number) (sym is_target) ∙ item));
   }

@@ -1,7 +1,6 @@
 -- Slots that were kept, or taken back.
-use Rattle.std.proofs.Common.{◌≡◌, ◌∙◌, ℕ, List, [], ◌∷◌, Option, Some, None, IsSomeAnd, length, replicate, slice_get, take, zero, suc, refl, sym, ap}
+use Rattle.std.proofs.Common.{◌≡◌, ◌∙◌, ℕ, List, [], ◌∷◌, Option, Some, None, IsSomeAnd, length, replicate, take, zero, suc, refl, sym, ap}
 use Rattle.tag_dirs.specs.declared.dir.TagPlace.{TagPlace}
-use Rattle.quota_book.specs.Book.{Book}
 use Rattle.domain_parts.specs.Slots.{ChangesSlot, IsKept, IsTakenBack, book_in, kept_book, kept_places, places_in, slot_in}
 use Rattle.domain_parts.specs.declared.slots.SlotFiles.{SlotFiles}
 use Rattle.domain_parts.proofs.TagsForgotten.{take_length}
@@ -25,15 +24,15 @@ places_kept (Some old) new is = (kept_there old new is).0
 
 pub book_kept : (old new : Option SlotFiles) → ChangesSlot IsKept old new → kept_book new ≡ book_in old
 book_kept None new is = ap kept_book is
-book_kept (Some old) new is = (kept_there old new is).1.0
+book_kept (Some old) new is = (kept_there old new is).1
 
 pub places_same : (old new : Option SlotFiles) → ChangesSlot IsKept old new → places_in new ≡ kept_places new
 places_same None new is = ap places_in is ∙ sym (ap kept_places is)
-places_same (Some old) new is = (kept_there old new is).1.1.0 ∙ sym (kept_there old new is).0
+places_same (Some old) new is = (kept_there old new is).2 ∙ sym (kept_there old new is).0
 
 pub book_same : (old new : Option SlotFiles) → ChangesSlot IsKept old new → book_in new ≡ kept_book new
 book_same None new is = ap book_in is ∙ sym (ap kept_book is)
-book_same (Some old) new is = (kept_there old new is).1.1.1 ∙ sym (kept_there old new is).1.0
+book_same (Some old) new is = (kept_there old new is).3 ∙ sym (kept_there old new is).1
 
 back_there : (old : SlotFiles) (o : Option SlotFiles) → IsSomeAnd o (IsTakenBack old) → (kept_places o ≡ kept_places (Some old)) × (kept_book o ≡ kept_book (Some old)) × (places_in o ≡ kept_places (Some old)) × (book_in o ≡ kept_book (Some old))
 back_there old None is = absurd is
@@ -57,15 +56,15 @@ places_stay (Some old) new is = (back_there old new is).0
 
 pub book_stays : (old new : Option SlotFiles) → ChangesSlot IsTakenBack old new → kept_book new ≡ kept_book old
 book_stays None new is = ap kept_book is
-book_stays (Some old) new is = (back_there old new is).1.0
+book_stays (Some old) new is = (back_there old new is).1
 
 pub places_back : (old new : Option SlotFiles) → ChangesSlot IsTakenBack old new → places_in new ≡ kept_places new
 places_back None new is = ap places_in is ∙ sym (ap kept_places is)
-places_back (Some old) new is = (back_there old new is).1.1.0 ∙ sym (back_there old new is).0
+places_back (Some old) new is = (back_there old new is).2 ∙ sym (back_there old new is).0
 
 pub book_back : (old new : Option SlotFiles) → ChangesSlot IsTakenBack old new → book_in new ≡ kept_book new
 book_back None new is = ap book_in is ∙ sym (ap kept_book is)
-book_back (Some old) new is = (back_there old new is).1.1.1 ∙ sym (back_there old new is).1.0
+book_back (Some old) new is = (back_there old new is).3 ∙ sym (back_there old new is).1
 
 -- in free slots is nothing
 pub nothing_in : (n k : ℕ) → slot_in (replicate n None) k ≡ None

@@ -1,17 +1,14 @@
 -- Memory whose change was taken back, and memory that was just made.
 use Rattle.std.proofs.Common.{◌≡◌, ◌∙◌, ℕ, List, [], ◌∷◌, Option, Some, None, IfSome, map, replicate, refl, sym, ap, subst}
 use Rattle.std.specs.Option.{option_map}
-use Rattle.page_store.specs.Pages.{Pages}
 use Rattle.free_space.specs.Spaces.{Spaces, kept_spaces}
 use Rattle.free_space.specs.VolumeSpace.{VolumeSpace, as_kept}
-use Rattle.free_cells.specs.Cells.{Cells, taken_back}
-use Rattle.fileset_table.specs.Table.{IsTable, Table}
+use Rattle.free_cells.specs.Cells.{taken_back}
+use Rattle.fileset_table.specs.Table.{IsTable}
 use Rattle.page_ways.specs.Frame.{frame_in}
-use Rattle.quota_book.specs.Book.{Book}
 use Rattle.domain_layout.specs.Read.{contents_of}
 use Rattle.staged_pages.specs.Store.{before_of, pages_of}
 use Rattle.domain_parts.specs.Slots.{CanGoBack, ChangesSlots, IsTakenBack, book_in, kept_book, kept_places, places_in, slot_in}
-use Rattle.domain_parts.specs.declared.slots.SlotFiles.{SlotFiles}
 use Rattle.domain_memory.specs.Memory.{books_in, kept_in, with_was}
 use Rattle.domain_memory.specs.Staged.{IsSettled, MayGoBack}
 use Rattle.domain_memory.specs.declared.memory.DomainMemory.{DomainMemory}

@@ -1,5 +1,5 @@
 -- What a domain keeps in memory, as it was when that was last kept.
-use Rattle.std.specs.Prelude.{ℕ, List, Option, Some, None}
+use Rattle.std.specs.Prelude.{ℕ, Option, Some, None}
 use Rattle.free_space.specs.Spaces.{kept_spaces}
 use Rattle.free_cells.specs.Cells.{taken_back}
 use Rattle.fileset_model.specs.Filesets.{FilesetMap}

@@ -1,6 +1,5 @@
 -- What a domain keeps in memory, with a change that is laid over it.
-use Rattle.std.specs.Prelude.{◌≡◌, ◌≤◌, ℕ, List, [], Option, Some, None, IfSome, length}
-use Rattle.tag_dirs.specs.declared.dir.TagPlace.{TagPlace}
+use Rattle.std.specs.Prelude.{◌≡◌, ◌≤◌, ℕ, [], None, IfSome, length}
 use Rattle.free_space.specs.Spaces.{kept_spaces}
 use Rattle.free_cells.specs.Cells.{taken_back}
 use Rattle.fileset_model.specs.Filesets.{FilesetMap}
@@ -13,7 +12,7 @@ use Rattle.domain_standing.specs.Domain.{DomainNow}
 use Rattle.domain_standing.specs.Standing.{AreBooksOf, HaveParents, IsMarkedBut, StandsDomain}
 use Rattle.domain_parts.specs.Listing.{HaveOnce, list_with}
 use Rattle.domain_parts.specs.Slots.{CanGoBack, book_in, kept_book, kept_places, places_in, slot_in}
-use Rattle.domain_memory.specs.Memory.{kept_in, with_was}
+use Rattle.domain_memory.specs.Memory.{with_was}
 use Rattle.domain_memory.specs.declared.memory.DomainMemory.{DomainMemory}
 
 -- the domain as it is once the change is kept, but for the bits of its bitmaps

@@ -30,6 +30,7 @@ use Rattle.fileset_model.specs.Filesets.{FilesetMap}
 use Rattle.attaching_laws.specs.Space.{AreCellsOf, IsFreeAt}
 use Rattle.domain_layout.specs.Layout.{IsCellTable, first_tag_of}
 use Rattle.domain_layout.specs.Owners.{IsOnTable}
+use Rattle.domain_layout.specs.Reached.{first_cells}
 use Rattle.domain_standing.specs.Chains.{AreQuotasOf, HasEmptyTags, HasFilesAmong, IndexesAt, StandChains, StandsInSlot}
 use Rattle.domain_standing.specs.Domain.{DomainNow, all_of, layout_of, named_by}
 use Rattle.domain_standing.specs.Holders.{AreHeldAt, AreHeldOn, Holder, Holds, HoldsOwned, IsUnheld}
@@ -164,7 +165,7 @@ module _ (d : DomainNow) (t : Spaces) (e : Cells) (space : (vol : ℕ) → volum
     laid = record {
       version = is.laid.version;
       table = is.laid.table;
-      cells = λ vol member. subst (λ (l : List ℕ). IsCellTable d.pages vol _ l) (sym (tables vol)) (is.laid.cells vol member);
+      cells = λ vol member. subst (λ (l : List ℕ). IsCellTable d.pages vol (first_cells d.frame vol) l) (sym (tables vol)) (is.laid.cells vol member);
       tags = is.laid.tags;
     };
     log = is.log;

@@ -1,13 +1,33 @@
 use Rattle.std.proofs.Common.{refl}
-use Rattle.domain_memory.proofs.TakingBack.{back_books, back_kept, back_settled}
+use Rattle.domain_memory.proofs.TakingBack.{back_kept, back_settled}
 use Rattle.domain_memory.proofs.memory.DomainMemory.take_back.Goals as goal
 
 pub returns-clause-kept : goal.returns-clause-kept
 returns-clause-kept c =
-    back_kept c.args.self.now _ refl c.take_back.ensures.pages c.take_back.ensures.before c.take_back-2.ensures c.take_back-3.ensures.value c.take_back-3.ensures.settled c.take_back_slots.ensures refl
+    back_kept c.args.self.now (record {
+      frame = c.args.self.now.frame;
+      pages = c.take_back.new.self;
+      space = c.take_back-2.new.self;
+      cells = c.take_back-3.new.self;
+      table = c.put_slot_back.new.table;
+      list = c.args.self.now.list;
+      slots = c.take_back_slots.new.slots;
+      was = c.put_slot_back.new.was;
+      listed = c.clear.new.self;
+    }) refl c.take_back.ensures.pages c.take_back.ensures.before c.take_back-2.ensures c.take_back-3.ensures.value c.take_back-3.ensures.settled c.take_back_slots.ensures refl
     c.put_slot_back.ensures.table c.put_slot_back.ensures.none c.clear.ensures.items
 
 pub returns-clause-settled : goal.returns-clause-settled
 returns-clause-settled c =
-    back_settled c.args.self.now _ refl c.take_back.ensures.pages c.take_back.ensures.before c.take_back-2.ensures c.take_back-3.ensures.value c.take_back-3.ensures.settled c.take_back_slots.ensures refl
+    back_settled c.args.self.now (record {
+      frame = c.args.self.now.frame;
+      pages = c.take_back.new.self;
+      space = c.take_back-2.new.self;
+      cells = c.take_back-3.new.self;
+      table = c.put_slot_back.new.table;
+      list = c.args.self.now.list;
+      slots = c.take_back_slots.new.slots;
+      was = c.put_slot_back.new.was;
+      listed = c.clear.new.self;
+    }) refl c.take_back.ensures.pages c.take_back.ensures.before c.take_back-2.ensures c.take_back-3.ensures.value c.take_back-3.ensures.settled c.take_back_slots.ensures refl
     c.put_slot_back.ensures.table c.put_slot_back.ensures.none c.clear.ensures.items
