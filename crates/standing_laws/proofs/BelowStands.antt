@@ -33,7 +33,7 @@ module _ (d : DomainNow) (listed : Listing) where
   abbrev other : DomainNow
   other = record d { list = listed }
 
-  tables_listed : StandTables d → StandTables other
+  pub tables_listed : StandTables d → StandTables other
   tables_listed stand = record {
     laid = stand.laid;
     log = stand.log;
@@ -86,7 +86,7 @@ module _ (d : DomainNow) (listed : Listing) where
       },
     )
 
-    owned_listed : HoldsOwned d files indexes → HoldsOwned other files indexes
+    pub owned_listed : HoldsOwned d files indexes → HoldsOwned other files indexes
     owned_listed owned = record {
       once = λ home one two held also. owned.once home one two (held_before one home held) (held_before two home also);
       spaces = λ vol low. space_listed vol (volume_of d.space vol) (owned.spaces vol low);
@@ -96,7 +96,7 @@ module _ (d : DomainNow) (listed : Listing) where
     stays_before [] stays = stays
     stays_before (first ∷ rest) stays = stays
 
-    rest_listed : SaysTheRest d files → SaysTheRest other files
+    pub rest_listed : SaysTheRest d files → SaysTheRest other files
     rest_listed rest = record {
       kinds = λ at cell on. rest.kinds at cell (record { member = on.member; table = on.table; stands = on.stands });
       firsts = λ at cell on primary. rest.firsts at cell (record { member = on.member; table = on.table; stands = on.stands }) primary;

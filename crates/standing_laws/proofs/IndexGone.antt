@@ -34,6 +34,7 @@ use Rattle.domain_standing.specs.Chains.{IndexesAt, IsToDo}
 use Rattle.domain_standing.specs.Domain.{DomainNow, item_in}
 use Rattle.standing_laws.specs.IndexCalls.{KeepsTables, NamesFile, with_index_at, with_removed}
 use Rattle.standing_laws.specs.Leads.{StandsBelow, fileset_now}
+use Rattle.standing_laws.proofs.BelowStands.{owned_listed, rest_listed, tables_listed}
 use Rattle.standing_laws.proofs.IndexChains.{chains_told}
 use Rattle.standing_laws.proofs.IndexHeld.{owned_told}
 use Rattle.standing_laws.proofs.IndexListed.{chains_listed}
@@ -44,7 +45,6 @@ use Rattle.standing_laws.proofs.IndexSpaces.{Among, NoHome, SpacesMove, moves_aw
 use Rattle.standing_laws.proofs.IndexTables.{tables_told}
 use Rattle.standing_laws.proofs.IndexTold.{Told, files_now, indexes_now, led, there_now}
 use Rattle.standing_laws.proofs.IndexWas.{file_was, firsts_was, index_low_was, live_was, off_cells, off_first, well_was}
-use Rattle.standing_laws.proofs.OtherList.{owned_relisted, rest_relisted, tables_relisted}
 use Rattle.standing_laws.proofs.RestFirst.{AreFirsts, SaysWell, removed_well}
 
 -- what the first cell says then is well, and that all goes, and it names no index
@@ -123,10 +123,10 @@ module _ (d : DomainNow) (files : Files) (indexes : IndexesAt) (below : StandsBe
     gone_stands : (clone : Option CellAt) (listed : Listing) → IsEntry files_then (record { at = first.at; clone = clone }) → Adds first.at clone d.list.entries listed.entries → listed.tag_pages ≡ d.list.tag_pages → StandsBelow (record now { list = listed }) files_then indexes_then
     unfolding told
     gone_stands clone listed may adds same = record {
-      tables = tables_relisted now listed (tables_told d files indexes below pages contents space [] told);
+      tables = tables_listed now listed (tables_told d files indexes below pages contents space [] told);
       chains = chains_listed now files_then indexes_then first.at (chains_told d files indexes below pages contents space [] told) clone listed to_do may adds same;
-      owned = owned_relisted now listed files_then indexes_then (owned_told d files indexes below pages contents space [] told);
-      rest = rest_relisted now listed files_then (rest_told d files indexes below pages contents space [] told);
+      owned = owned_listed now listed files_then indexes_then (owned_told d files indexes below pages contents space [] told);
+      rest = rest_listed now listed files_then indexes_then (rest_told d files indexes below pages contents space [] told);
     }
 
   -- ---- by what its first cell said

@@ -24,7 +24,6 @@ pub mod IndexWas
 pub mod IndexWell
 pub mod MemoryKept
 pub mod NothingLeft
-pub mod OtherList
 pub mod OtherSlots
 pub mod OthersStand
 pub mod ParentsKept

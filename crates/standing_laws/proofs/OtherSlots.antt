@@ -62,7 +62,7 @@ get_in [] home (k, within, is) = absurd (omega (arith, within))
 get_in (h ∷ homes) home (zero, within, is) = (0, ap Some is)
 get_in (h ∷ homes) home (suc k, within, is) = let later = get_in homes home (k, omega (arith, within), is) in (suc later.0, later.1)
 
-links_of : (pages : Pages) (at : CellAt) (cs : List PlacedCell) → IsQuotas pages at cs → LinksFrom pages at cs
+pub links_of : (pages : Pages) (at : CellAt) (cs : List PlacedCell) → IsQuotas pages at cs → LinksFrom pages at cs
 links_of pages at [] are = absurd are
 links_of pages at (first ∷ rest) are = (are.0, are.1.links)
 
@@ -93,7 +93,7 @@ module _ (cs : List PlacedCell) (seen : SeenFile) (page : ℕ) (home : Home) (at
   by_removed true same = absurd (none_not seen same)
   by_removed false same = by_attributes (attributes_of cs) same
 
-  seen_place : seen_in cs ≡ Some seen → places_of cs page ≡ At home
+  pub seen_place : seen_in cs ≡ Some seen → places_of cs page ≡ At home
   seen_place same = by_removed (is_removed cs) same
 
 module _ (number : ℕ) (tag : Tag) (d now : DomainNow) (chains chains_now : Chains) (files files_now : Files) (indexes : IndexesAt) (below : StandsBelow d files indexes) (s : LeadsOn number tag d now chains chains_now files files_now) where

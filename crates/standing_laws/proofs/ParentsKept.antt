@@ -37,7 +37,7 @@ use Rattle.domain_standing.specs.Standing.{HaveParents}
 use Rattle.standing_laws.specs.Leads.{StandsBelow}
 use Rattle.standing_laws.specs.OtherPages.{KeepsPages, KeepsPlaces}
 use Rattle.standing_laws.proofs.OthersStand.{IsOfFilesets, SaysWhere, cells_lead, of_filesets, placed, says_more, stand_still, standing_was, tags_now}
-use Rattle.standing_laws.proofs.SlotsKept.{seen_there}
+use Rattle.standing_laws.proofs.OtherSlots.{seen_place}
 
 module _ (d : DomainNow) (files : Files) (indexes : IndexesAt) (below : StandsBelow d files indexes) (pages : Pages) (contents : Contents)
     (keeps : (holder : Holder) (home : Home) → IsOfFilesets holder → Holds d files indexes holder home → pages home ≡ d.pages home) (no_clone : (number : ℕ) → of_clone (item_in d number) ≡ false) where
@@ -96,7 +96,7 @@ module _ (d : DomainNow) (files : Files) (indexes : IndexesAt) (below : StandsBe
               };
               same = λ page home stands.
                   keeps (of_file at page) home tt
-                  (ap (λ o. option_map_or (λ cs. places_of cs page) o Absent) in_domain ∙ ap (λ (cs : List PlacedCell). places_of cs page) (sym one) ∙ seen_there cells seen page home stands is.is);
+                  (ap (λ o. option_map_or (λ cs. places_of cs page) o Absent) in_domain ∙ ap (λ (cs : List PlacedCell). places_of cs page) (sym one) ∙ seen_place cells seen page home stands is.is);
             }
 
         by_list : (cs : List PlacedCell) → has.chains tag ≡ Some cs → IsFile d.pages at cs → WasThere n tag cells seen

@@ -9,21 +9,14 @@ use Rattle.domain_standing.specs.Chains.{IndexesAt}
 use Rattle.domain_standing.specs.Domain.{DomainNow}
 use Rattle.standing_laws.specs.Leads.{LeadsOn, StandsBelow, fileset_now}
 use Rattle.standing_laws.specs.NewFileset.{JoinsEmpty, no_chains}
+use Rattle.standing_laws.proofs.BelowStands.{below_stands}
 use Rattle.standing_laws.proofs.FilesetBegins.{empty_begins, now_item}
-use Rattle.standing_laws.proofs.HeldStill.{owned_still}
-use Rattle.standing_laws.proofs.NothingLeft.{chains_stand}
-use Rattle.standing_laws.proofs.RestStands.{rest_stands}
-use Rattle.standing_laws.proofs.TablesStand.{tables_stand}
 
 pub root_made : (number : ℕ) (entry : FilesetEntry) (d joined now : DomainNow) (chains_now : Chains) (files files_now : Files) (indexes : IndexesAt) → StandsBelow d files indexes → JoinsEmpty number entry d joined
     → (makes : Makes number joined.frame.version root_tag (fileset_now joined number no_chains files) (fileset_now now number chains_now files_now)) → makes.what.birth ≤ joined.table.made → now.frame ≡ joined.frame → now.table ≡ joined.table
     → ((other : ℕ) → ¬ other ≡ number → now.tags other ≡ joined.tags other) → StandsBelow now files_now indexes
-root_made number entry d joined now chains_now files files_now indexes below joins makes early frame table tags = record {
-  tables = tables_stand number root_tag joined now no_chains chains_now files files_now indexes begins.0 leads;
-  chains = chains_stand number root_tag joined now no_chains chains_now files files_now indexes begins.0 leads;
-  owned = owned_still number root_tag joined now no_chains chains_now files files_now indexes begins.0 leads;
-  rest = rest_stands number root_tag joined now no_chains chains_now files files_now indexes begins.0 leads;
-}
+root_made number entry d joined now chains_now files files_now indexes below joins makes early frame table tags =
+    below_stands number root_tag joined now no_chains chains_now files files_now indexes begins.0 leads tt
   where
     begins : StandsBelow joined files indexes × StandsWell number (fileset_now joined number no_chains files)
     begins = empty_begins number entry d joined files indexes below joins

@@ -1,25 +1,22 @@
 -- The filesets of a domain stand on where no page of them changes, nor its bytes.
-use Rattle.std.proofs.Common.{◌≡◌, ◌∙◌, ℕ, nat_lt, Bool, true, false, cond, List, [], ◌∷◌, Option, Some, None, IfSome, IsSomeAnd, Contains, is_some, slice_get, refl, sym, ap, subst, arith, ⊎_elim}
+use Rattle.std.proofs.Common.{◌≡◌, ◌∙◌, ℕ, true, false, List, [], ◌∷◌, Option, Some, None, IfSome, IsSomeAnd, Contains, is_some, slice_get, refl, sym, ap, subst, arith, ⊎_elim}
 use Rattle.std.specs.List.{AllByRecursion}
-use Rattle.std.specs.Option.{option_and_then, option_map, option_map_or}
+use Rattle.std.specs.Option.{option_and_then, option_map_or}
 use Rattle.domain_base.specs.declared.place.CellAt.{CellAt}
 use Rattle.domain_base.specs.declared.place.Home.{Home}
 use Rattle.domain_base.specs.declared.place.Tag.{Tag}
 use Rattle.page_store.specs.Pages.{Pages}
 use Rattle.record_table.specs.declared.record.Record.{Record}
 use Rattle.bmt_mcells.specs.CellPage.{cell_at, home_of}
-use Rattle.bmt_mcells.specs.Chain.{LinksFrom, PlacedCell, records_of}
+use Rattle.bmt_mcells.specs.Chain.{PlacedCell, records_of}
 use Rattle.tag_dirs.specs.Directory.{IsDirectoryAt}
 use Rattle.tag_dirs.specs.declared.dir.TagPlace.{TagPlace}
 use Rattle.tag_dirs.proofs.Reading.{same_directory}
-use Rattle.extent_maps.specs.declared.run.PagePlace.{PagePlace}
-use Rattle.extent_maps.specs.declared.run.PagePlace.TheVariants.{Absent, At, Hole}
-use Rattle.extent_maps.specs.Runs.{home_at}
+use Rattle.extent_maps.specs.declared.run.PagePlace.TheVariants.{Absent, At}
 use Rattle.free_cells.specs.Cells.{table_of}
 use Rattle.bitfile_cells.specs.FileChanges.{AreOnTables}
 use Rattle.bitfile_cells.specs.Files.{places_of}
-use Rattle.bitfile_core.specs.declared.attributes.Attributes.{Attributes}
-use Rattle.bitfile_core.specs.Files.{AreFiles, Chains, attributes_of, is_removed, keep_of, place_at}
+use Rattle.bitfile_core.specs.Files.{AreFiles, Chains, place_at}
 use Rattle.bitfile_core.specs.Shown.{index_of}
 use Rattle.bitfile_core.proofs.Created.{allocated_beside, one_chains}
 use Rattle.stored_index.specs.Homes.{AreIndexHomes}
@@ -32,14 +29,14 @@ use Rattle.fileset_table.specs.Table.{entry_of}
 use Rattle.fileset_table.specs.declared.slot.FilesetEntry.{FilesetEntry}
 use Rattle.fileset_table.specs.declared.slot.SlotItem.{SlotItem}
 use Rattle.fileset_table.specs.declared.slot.SlotItem.TheVariants as slot
-use Rattle.deferred_delete.specs.Standing.{Files, IsQuotas, place_in}
+use Rattle.deferred_delete.specs.Standing.{Files, place_in}
 use Rattle.deferred_laws.specs.Tags.{AreAmong}
 use Rattle.deferred_laws.proofs.Tags.{IsNamed, named}
 use Rattle.domain_layout.proofs.OneShape.{links_same}
 use Rattle.domain_layout.specs.CellRules.{of_clone}
 use Rattle.domain_layout.specs.Filled.{Contents}
 use Rattle.domain_layout.specs.Layout.{first_tag_of}
-use Rattle.domain_layout.specs.Seen.{SeenFile, kept_by, seen_in}
+use Rattle.domain_layout.specs.Seen.{seen_in}
 use Rattle.domain_layout.specs.Shape.{AreQuotas, FilesetShape, HasFileset, IsOriginal, IsShapeOf}
 use Rattle.domain_layout.specs.TagRules.{quota_of}
 use Rattle.layout_laws.specs.Agreeing.{AgreeOn, AgreeOnShape}
@@ -52,6 +49,7 @@ use Rattle.domain_standing.specs.Slots.{StandSlots}
 use Rattle.standing_laws.specs.Leads.{StandsBelow}
 use Rattle.standing_laws.specs.OtherPages.{KeepsBytes, KeepsPages, KeepsPlaces}
 use Rattle.standing_laws.proofs.HomeLists.{in_get}
+use Rattle.standing_laws.proofs.OtherSlots.{links_of, seen_place}
 use Rattle.standing_laws.proofs.OthersStand.{IsOfFilesets, SaysWhere, member_on, of_filesets, placed, quotas_on, says_more}
 
 none_not : {X : Type 0} (x : X) → ¬ None ≡ Some x
@@ -59,40 +57,6 @@ none_not x is = cc
 
 absent_not : (home : Home) → ¬ Absent ≡ At home
 absent_not home is = cc
-
-pub links_of : (pages : Pages) (at : CellAt) (cs : List PlacedCell) → IsQuotas pages at cs → LinksFrom pages at cs
-links_of pages at [] are = absurd are
-links_of pages at (first ∷ rest) are = (are.0, are.1.links)
-
--- a home at which a file is seen to have a page is that of a page of its chain
-module _ (cs : List PlacedCell) (seen : SeenFile) (page : ℕ) (home : Home) (at : seen.homes page ≡ Some home) where
-  by_place : (p : PagePlace) → home_at p ≡ Some home → p ≡ At home
-  by_place Absent is = absurd (none_not home is)
-  by_place (At other) is = λ i. some_home (is i)
-    where
-      some_home : Option Home → PagePlace
-      some_home None = Absent
-      some_home (Some h) = At h
-  by_place Hole is = absurd (none_not home is)
-
-  by_front : (b : Bool) → cond b (places_of cs page) Absent ≡ At home → places_of cs page ≡ At home
-  by_front true is = is
-  by_front false is = absurd (absent_not home is)
-
-  by_keep : (is : Attributes) (o : Option ℕ) → option_map (λ keep. record { is = is; homes = λ p. home_at (cond (nat_lt p keep) (places_of cs p) Absent) }) o ≡ Some seen → places_of cs page ≡ At home
-  by_keep is None same = absurd (none_not seen same)
-  by_keep is (Some keep) same = by_front (nat_lt page keep) (by_place (cond (nat_lt page keep) (places_of cs page) Absent) (ap (λ (o : Option SeenFile). option_and_then (λ (s : SeenFile). s.homes page) o) same ∙ at))
-
-  by_attributes : (o : Option Attributes) → option_and_then (kept_by cs) o ≡ Some seen → places_of cs page ≡ At home
-  by_attributes None same = absurd (none_not seen same)
-  by_attributes (Some is) same = by_keep is (keep_of cs) same
-
-  by_removed : (b : Bool) → cond b None (option_and_then (kept_by cs) (attributes_of cs)) ≡ Some seen → places_of cs page ≡ At home
-  by_removed true same = absurd (none_not seen same)
-  by_removed false same = by_attributes (attributes_of cs) same
-
-  pub seen_there : seen_in cs ≡ Some seen → places_of cs page ≡ At home
-  seen_there same = by_removed (is_removed cs) same
 
 module _ (d : DomainNow) (files : Files) (indexes : IndexesAt) (below : StandsBelow d files indexes) (pages : Pages) (contents : Contents)
     (keeps : (holder : Holder) (home : Home) → IsOfFilesets holder → Holds d files indexes holder home → pages home ≡ d.pages home)
@@ -238,7 +202,7 @@ module _ (d : DomainNow) (files : Files) (indexes : IndexesAt) (below : StandsBe
         by_chain None none seen_is = absurd (none_not seen seen_is)
         by_chain (Some cs) some seen_is =
             let m = begun t cs some in
-            sym (bytes (of_file m.at page) home tt (ap (λ o. option_map_or (λ cs. places_of cs page) o Absent) m.is ∙ seen_there cs seen page home stands seen_is))
+            sym (bytes (of_file m.at page) home tt (ap (λ o. option_map_or (λ cs. places_of cs page) o Absent) m.is ∙ seen_place cs seen page home stands seen_is))
 
   -- ---- all of them
 
