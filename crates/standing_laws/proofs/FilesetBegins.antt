@@ -72,11 +72,14 @@ use Rattle.domain_standing.specs.Rest.{HasNoHoles, IsOfOriginal, SaysTheRest, St
 use Rattle.domain_standing.specs.Tables.{HasVolumeCell, StandTables, first_place}
 use Rattle.standing_laws.specs.Leads.{StandsBelow, fileset_now}
 use Rattle.standing_laws.specs.NewFileset.{JoinsEmpty, no_chains}
+use Rattle.standing_laws.specs.Slots.{StandsSlot}
+use Rattle.standing_laws.specs.SlotsStay.{IsPageOfSlot, KeepsSlot, OthersStand}
 use Rattle.standing_laws.proofs.CellsNow.{all_in, later_chain, placed}
 use Rattle.standing_laws.proofs.IndexSpaces.{Is, NoHome, SpacesMove, ThereMoves, VolumeMoves, held_still, moves_page}
 use Rattle.standing_laws.proofs.HomeLists.{in_get}
 use Rattle.standing_laws.proofs.IndexWell.{listed_has}
 use Rattle.standing_laws.proofs.RestRecords.{good_records, good_removed}
+use Rattle.standing_laws.proofs.SlotStays.{slot_stays_so}
 use Rattle.standing_laws.proofs.TablesStand.{first_in, index_in}
 use Rattle.standing_laws.proofs.TablesTaken.{unheld_taken}
 
@@ -740,6 +743,35 @@ module _ (d : DomainNow) (files : Files) (indexes : IndexesAt) (below : StandsBe
     pub below_begun : StandsBelow begun files indexes
     below_begun = record { tables = tables_on; chains = chains_on; owned = owned_on; rest = rest_on }
 
+    -- ---- the filesets of other slots
+
+    -- by what a page of another slot is held for
+    record IsHeldFor (home : Home) : Type 0 where
+      holder : Holder
+      holds : Was holder home
+      no_table : ¬ holder ≡ of_table
+
+    held_for : (n : ℕ) (home : Home) → IsPageOfSlot n d files indexes home → IsHeldFor home
+    held_for n home of = ⊎_elim
+        (λ has. record { holder = of_tags n; holds = has; no_table = λ e. cc })
+        (λ rest. ⊎_elim
+        (λ f. record { holder = of_file f.0 f.1; holds = f.3; no_table = λ e. cc })
+        (λ i. record { holder = of_index i.0 i.1; holds = i.3; no_table = λ e. cc })
+        rest)
+        of
+
+    pub keeps_begun : ((home : Home) → pages home ≡ d.pages home → contents home ≡ d.contents home) → (n : ℕ) → ¬ n ≡ number → KeepsSlot n d begun files files indexes indexes
+    keeps_begun bytes n differ = record {
+      item = item_other n differ;
+      tags = tags_other n differ;
+      chains = λ a it. refl;
+      quotas = λ a quota. refl;
+      homes = λ a it. refl;
+      pages = λ home of. let h = held_for n home of in page_same h.holder home h.holds h.no_table;
+      held = λ home of from is. held_still (Is first_home) NoHome d.space space_now moves home from (λ none. none) is;
+      bytes = λ home of. let h = held_for n home (inr (inl of)) in bytes home (page_same h.holder home h.holds h.no_table);
+    }
+
 -- ---- the laws
 
 module _ (number : ℕ) (entry : FilesetEntry) (d now : DomainNow) (files : Files) (indexes : IndexesAt) (below : StandsBelow d files indexes) (s : JoinsEmpty number entry d now) where
@@ -767,3 +799,9 @@ module _ (number : ℕ) (entry : FilesetEntry) (d now : DomainNow) (files : File
 
   pub now_item : item_in now number ≡ Some (slot.Original entry)
   now_item = ap (λ (t : Table). slice_get t.slots number) s.table ∙ get_set d.table.slots number (slot.Original entry) slot.Free s.free_slot
+
+  pub others_begun : OthersStand number d now
+  others_begun bytes n differ other shape fileset there stood =
+      subst (λ (x : DomainNow). StandsSlot x n other shape fileset) it_is
+      (slot_stays_so n d it files files indexes indexes below (below_begun d files indexes below number entry s.free_slot s.no_quota s.low s.free now.pages now.contents s.fresh says_it s.others)
+      (keeps_begun d files indexes below number entry s.free_slot s.no_quota s.low s.free now.pages now.contents s.fresh says_it s.others bytes n differ) other shape fileset there stood)

@@ -1,254 +1,37 @@
 -- The filesets for which a domain stands after a call on a tag.
-use Rattle.std.proofs.Common.{◌≡◌, ◌∙◌, ◌⊎◌, inl, inr, ⊎_elim, ℕ, zero, suc, ◌<◌, true, false, ◌&&◌, List, [], ◌∷◌, drop, Option, Some, None, IfSome, IsSome, IsSomeAnd, is_some, slice_get, refl, sym, ap, subst, arith, true≢false}
-use Rattle.std.proofs.lemmas.Bool.{cases_lt, eq-eqb}
-use Rattle.std.specs.FinMap.{get, insert}
-use Rattle.std.specs.List.{AllByRecursion, IsDistinct}
-use Rattle.domain_base.specs.declared.place.Home.{Home}
+use Rattle.std.proofs.Common.{◌≡◌, ◌∙◌, ℕ, IfSome, refl, sym, ap, subst, slice_get}
+use Rattle.std.specs.FinMap.{insert}
 use Rattle.domain_base.specs.declared.place.Tag.{Tag}
 use Rattle.bitfile_core.specs.Files.{Chains}
-use Rattle.fileset_model.proofs.MapLemmas.{get-insert_other, get-insert_same}
 use Rattle.fileset_model.specs.Filesets.{FilesetMap}
-use Rattle.fileset_model.specs.Orders.{Name, name_cmp-total, name_cmp-IsAntisymmetric}
-use Rattle.fileset_model.specs.Paths.{same_name}
 use Rattle.fileset_model.specs.declared.fileset.FilesetSlot.{FilesetSlot}
-use Rattle.fileset_table.specs.Page.{IsTablePage}
-use Rattle.fileset_table.specs.Table.{HaveOwnNames, Table, entry_of, share_name}
+use Rattle.fileset_table.specs.Table.{Table, entry_of}
 use Rattle.fileset_table.specs.declared.slot.FilesetEntry.{FilesetEntry}
 use Rattle.fileset_table.specs.declared.slot.SlotItem.{SlotItem}
 use Rattle.fileset_table.specs.declared.slot.SlotItem.TheVariants as slot
-use Rattle.stored_set.specs.Sets.{StandsAsSet}
 use Rattle.deferred_delete.specs.Standing.{Files}
-use Rattle.deferred_delete.proofs.Spread.{none_not, some_same}
-use Rattle.domain_layout.specs.CellRules.{of_clone}
-use Rattle.domain_layout.specs.Filled.{FillsThere}
-use Rattle.domain_layout.specs.Shape.{AreShapesOf, FilesetShape, HasFileset, IsOriginal, IsShapeOf, Shapes}
-use Rattle.layout_laws.proofs.Reached.{same_number}
+use Rattle.deferred_delete.proofs.Spread.{some_same}
+use Rattle.domain_layout.specs.Shape.{FilesetShape}
 use Rattle.domain_standing.specs.Chains.{IndexesAt}
 use Rattle.domain_standing.specs.Domain.{DomainNow}
 use Rattle.domain_standing.specs.Slots.{StandSlots}
 use Rattle.standing_laws.specs.Leads.{LeadsOn, StandsBelow}
 use Rattle.standing_laws.specs.Slots.{AgreeOnOthers, StandsSlot}
-use Rattle.standing_laws.proofs.ChainsNamed.{number_or_not}
+use Rattle.standing_laws.specs.SlotsStay.{PutsFileset}
+use Rattle.standing_laws.proofs.FilesetPut.{slots_put}
 use Rattle.standing_laws.proofs.OtherSlots.{slot_stays}
-
--- ---- names
-
-name_decided : (one other : Name) → (one ≡ other) ⊎ ¬ one ≡ other
-name_decided [] [] = inl refl
-name_decided [] (y ∷ ys) = inr (λ e. absurd (cc))
-name_decided (x ∷ xs) [] = inr (λ e. absurd (cc))
-name_decided (x ∷ xs) (y ∷ ys) = ⊎_elim
-    (λ first. ⊎_elim (λ rest. inl (λ i. first i ∷ rest i)) (λ other. inr (λ e. other (ap (λ (zs : Name). drop 1 zs) e))) (name_decided xs ys))
-    (λ other. inr (λ e. other (ap first_byte e)))
-    (same_number x y)
-  where
-    first_byte : Name → ℕ
-    first_byte [] = 0
-    first_byte (z ∷ zs) = z
-
-same_itself : (name : Name) → same_name name name ≡ true
-same_itself [] = refl
-same_itself (byte ∷ name) = λ i. eq-eqb byte byte refl i && same_itself name i
-
-item_name : SlotItem → Name
-item_name (slot.Original entry) = entry.name
-item_name _ = []
-
-one_name : (a b : FilesetEntry) → slot.Original a ≡ slot.Original b → a.name ≡ b.name
-unfolding item_name
-one_name a b same = ap item_name same
-
--- two slots with filesets of one name are one
-one_slot : (slots : List SlotItem) → HaveOwnNames slots → (i j : ℕ) (a b : FilesetEntry) → i < j → slice_get slots i ≡ Some (slot.Original a) → slice_get slots j ≡ Some (slot.Original b) → ¬ a.name ≡ b.name
-unfolding IsDistinct
-one_slot [] own i j a b less at at' same = none_not (slot.Original a) at
-one_slot (x ∷ slots) own zero zero a b less at at' same = omega (arith, less)
-one_slot (x ∷ slots) own (suc i) zero a b less at at' same = omega (arith, less)
-one_slot (x ∷ slots) own (suc i) (suc j) a b less at at' same = one_slot slots own.1 i j a b (omega (arith, less)) at at' same
-one_slot (x ∷ slots) own zero (suc j) a b less at at' same = true≢false (sym shares ∙ apart slots own.0 j at')
-  where
-    apart : (ys : List SlotItem) → AllByRecursion (λ y. share_name x y ≡ false) ys → (k : ℕ) → slice_get ys k ≡ Some (slot.Original b) → share_name x (slot.Original b) ≡ false
-    apart [] all k at = absurd (none_not (slot.Original b) at)
-    apart (y ∷ ys) all zero at = subst (λ z. share_name x z ≡ false) (some_same y (slot.Original b) at) all.0
-    apart (y ∷ ys) all (suc k) at = apart ys all.1 k at
-
-    shares : share_name x (slot.Original b) ≡ true
-    shares = ap (λ z. share_name z (slot.Original b)) (some_same x (slot.Original a) at) ∙ ap (λ n. same_name b.name n) same ∙ same_itself b.name
-
--- ---- an original of a domain that stands for filesets
-
-module _ (d : DomainNow) (all : FilesetMap) (slots : StandSlots d all) where
-  record StoodIn (n : ℕ) (entry : FilesetEntry) : Type 0 where
-    shape_was : FilesetShape
-    fileset_was : FilesetSlot
-    shaped : slots.shapes entry.name ≡ Some shape_was
-    filled : get all entry.name ≡ Some fileset_was
-    stood : StandsSlot d n entry shape_was fileset_was
-
-  stood_in : (n : ℕ) (entry : FilesetEntry) → slice_get d.table.slots n ≡ Some (slot.Original entry) → StoodIn n entry
-  stood_in n entry at = by_shape (slots.shapes entry.name) refl (slots.are.each n (slot.Original entry) at)
-    where
-      by_fileset : (sh : FilesetShape) → slots.shapes entry.name ≡ Some sh → IsOriginal d.pages n entry sh → (o : Option FilesetSlot) → get all entry.name ≡ o → FillsThere d.contents (Some sh) o → StoodIn n entry
-      by_fileset sh is original None there fills = absurd fills
-      by_fileset sh is original (Some f) there fills = record {
-        shape_was = sh;
-        fileset_was = f;
-        shaped = is;
-        filled = there;
-        stood = record { is = original; filled = fills; set = slots.sets n entry sh at is };
-      }
-
-      by_shape : (o : Option FilesetShape) → slots.shapes entry.name ≡ o → IsSomeAnd o (IsOriginal d.pages n entry) → StoodIn n entry
-      by_shape None is original = absurd original
-      by_shape (Some sh) is original = by_fileset sh is original (get all entry.name) refl (subst (λ o. FillsThere d.contents o (get all entry.name)) is (slots.filled entry.name))
-
-  pub each_stands : (n : ℕ) (entry : FilesetEntry) → slice_get d.table.slots n ≡ Some (slot.Original entry) → IsSomeAnd (slots.shapes entry.name) (λ shape. IsSomeAnd (get all entry.name) (StandsSlot d n entry shape))
-  each_stands n entry at =
-      let it = stood_in n entry at in
-      subst (λ o. IsSomeAnd o (λ shape. IsSomeAnd (get all entry.name) (StandsSlot d n entry shape))) (sym it.shaped) (subst (λ o. IsSomeAnd o (StandsSlot d n entry it.shape_was)) (sym it.filled) it.stood)
+use Rattle.standing_laws.proofs.TablesStand.{tables_stand}
 
 module _ (number : ℕ) (tag : Tag) (d now : DomainNow) (chains chains_now : Chains) (files files_now : Files) (indexes : IndexesAt) (below : StandsBelow d files indexes) (s : LeadsOn number tag d now chains chains_now files files_now) where
-  own_names : HaveOwnNames d.table.slots
-  own_names = by_home d.frame.anchor.table below.tables.laid.table
-    where
-      by_page : (o : Option (List ℕ)) → IsSomeAnd o (λ page. IsTablePage page d.table) → HaveOwnNames d.table.slots
-      by_page None is = absurd is
-      by_page (Some page) is = is.good.together.names
-
-      by_home : (o : Option Home) → IsSomeAnd o (λ home. IsSomeAnd (d.pages home) (λ page. IsTablePage page d.table)) → HaveOwnNames d.table.slots
-      by_home None is = absurd is
-      by_home (Some home) is = by_page (d.pages home) is
-
-  -- another slot has another name
-  other_name : (n : ℕ) (entry : FilesetEntry) → ¬ n ≡ number → slice_get d.table.slots n ≡ Some (slot.Original entry) → ¬ s.entry.name ≡ entry.name
-  other_name n entry differ at same = ⊎_elim
-      (λ less. one_slot d.table.slots own_names n number entry s.entry less at s.original (sym same))
-      (λ more. ⊎_elim
-      (λ less. one_slot d.table.slots own_names number n s.entry entry less s.original at same)
-      (λ also. differ (omega (arith, more, also)))
-      (cases_lt number n))
-      (cases_lt n number)
+  puts : PutsFileset number s.entry d now
+  puts = record {
+    has = ap (λ (t : Table). slice_get t.slots number) s.table ∙ s.original;
+    had = λ item at. subst (λ (x : SlotItem). IfSome (entry_of x) (λ (was : FilesetEntry). was.name ≡ s.entry.name)) (some_same (slot.Original s.entry) item (sym s.original ∙ at)) refl;
+    others = λ other differ. ap (λ (t : Table). slice_get t.slots other) s.table;
+  }
 
   module _ (all : FilesetMap) (slots : StandSlots d all) (agree : AgreeOnOthers number d now slots.shapes) (shape : FilesetShape) (fileset : FilesetSlot) (own : StandsSlot now number s.entry shape fileset) where
-    -- ---- the shapes with that one
-
-    abbrev shape_if : (name : Name) → Option FilesetShape → (s.entry.name ≡ name) ⊎ ¬ s.entry.name ≡ name → Option FilesetShape
-    shape_if name was (inl same) = Some shape
-    shape_if name was (inr differ) = was
-
-    abbrev shapes_now : Shapes
-    shapes_now name = shape_if name (slots.shapes name) (name_decided s.entry.name name)
-
-    put_same : (name : Name) → s.entry.name ≡ name → shapes_now name ≡ Some shape
-    put_same name same = by_name (name_decided s.entry.name name)
-      where
-        by_name : (e : (s.entry.name ≡ name) ⊎ ¬ s.entry.name ≡ name) → shape_if name (slots.shapes name) e ≡ Some shape
-        by_name (inl is) = refl
-        by_name (inr differ) = absurd (differ same)
-
-    put_other : (name : Name) → ¬ s.entry.name ≡ name → shapes_now name ≡ slots.shapes name
-    put_other name differ = by_name (name_decided s.entry.name name)
-      where
-        by_name : (e : (s.entry.name ≡ name) ⊎ ¬ s.entry.name ≡ name) → shape_if name (slots.shapes name) e ≡ slots.shapes name
-        by_name (inl is) = absurd (differ is)
-        by_name (inr other) = refl
-
-    -- ---- another slot
-
-    module _ (n : ℕ) (entry : FilesetEntry) (differ : ¬ n ≡ number) (at : slice_get d.table.slots n ≡ Some (slot.Original entry)) where
-      there : StoodIn d all slots n entry
-      there = stood_in d all slots n entry at
-
-      stays : StandsSlot now n entry there.shape_was there.fileset_was
-      stays = slot_stays number tag d now chains chains_now files files_now indexes below s n entry there.shape_was there.fileset_was differ at there.stood (agree n entry there.shape_was differ at there.shaped)
-
-      shaped_still : shapes_now entry.name ≡ Some there.shape_was
-      shaped_still = put_other entry.name (other_name n entry differ at) ∙ there.shaped
-
-      shape_stays : IsSomeAnd (shapes_now entry.name) (IsOriginal now.pages n entry)
-      shape_stays = subst (λ o. IsSomeAnd o (IsOriginal now.pages n entry)) (sym shaped_still) stays.is
-
-      filled_still : FillsThere now.contents (slots.shapes entry.name) (get all entry.name)
-      filled_still = subst (λ o. FillsThere now.contents o (get all entry.name)) (sym there.shaped) (subst (FillsThere now.contents (Some there.shape_was)) (sym there.filled) stays.filled)
-
-      set_stays : (sh : FilesetShape) → shapes_now entry.name ≡ Some sh → StandsAsSet n (now.tags n) now.space now.cells now.pages sh.shown
-      set_stays sh is = subst (λ (x : FilesetShape). StandsAsSet n (now.tags n) now.space now.cells now.pages x.shown) (some_same there.shape_was sh (sym shaped_still ∙ is)) stays.set
-
-    -- ---- all slots
-
-    its_entry : (n : ℕ) (item : SlotItem) → n ≡ number → slice_get d.table.slots n ≡ Some item → slot.Original s.entry ≡ item
-    its_entry n item same at = some_same (slot.Original s.entry) item (sym s.original ∙ ap (slice_get d.table.slots) (sym same) ∙ at)
-
-    own_shape : IsSomeAnd (shapes_now s.entry.name) (IsOriginal now.pages number s.entry)
-    own_shape = subst (λ o. IsSomeAnd o (IsOriginal now.pages number s.entry)) (sym (put_same s.entry.name refl)) own.is
-
-    no_clone : (n of clone : ℕ) (entry : FilesetEntry) → ¬ slice_get d.table.slots n ≡ Some (slot.Clone of clone entry)
-    no_clone n of clone entry at = true≢false (sym (ap of_clone at) ∙ slots.no_clone n)
-
-    each_other : (n : ℕ) (item : SlotItem) → ¬ n ≡ number → slice_get d.table.slots n ≡ Some item → IfSome (entry_of item) (λ entry. IsShapeOf now.pages d.table n item (shapes_now entry.name))
-    each_other n slot.Free differ at = tt
-    each_other n (slot.Removed first_tag quota) differ at = tt
-    each_other n (slot.Clone of clone entry) differ at = absurd (no_clone n of clone entry at)
-    each_other n (slot.Original entry) differ at = shape_stays n entry differ at
-
-    each_now : (n : ℕ) (item : SlotItem) → slice_get d.table.slots n ≡ Some item → IfSome (entry_of item) (λ entry. IsShapeOf now.pages d.table n item (shapes_now entry.name))
-    each_now n item at = ⊎_elim
-        (λ same.
-        subst (λ (x : SlotItem). IfSome (entry_of x) (λ entry. IsShapeOf now.pages d.table n x (shapes_now entry.name))) (its_entry n item same at)
-        (subst (λ (k : ℕ). IfSome (entry_of (slot.Original s.entry)) (λ entry. IsShapeOf now.pages d.table k (slot.Original s.entry) (shapes_now entry.name))) (sym same) own_shape))
-        (λ differ. each_other n item differ at)
-        (number_or_not number tag d now chains chains_now files files_now indexes below s n)
-
-    only_now : (name : Name) → IsSome (shapes_now name) → HasFileset d.table name
-    only_now name some = ⊎_elim
-        (λ same. record { number = number; item = slot.Original s.entry; there = s.original; named = same })
-        (λ differ. slots.are.only name (ap is_some (sym (put_other name differ)) ∙ some))
-        (name_decided s.entry.name name)
-
-    -- ---- their filesets
-
-    named_still : (name : Name) → ¬ s.entry.name ≡ name → (n : ℕ) (item : SlotItem) → slice_get d.table.slots n ≡ Some item → IsSomeAnd (entry_of item) (λ entry. entry.name ≡ name) → FillsThere now.contents (slots.shapes name) (get all name)
-    named_still name differ n slot.Free at named = absurd named
-    named_still name differ n (slot.Removed first_tag quota) at named = absurd named
-    named_still name differ n (slot.Clone of clone entry) at named = absurd (no_clone n of clone entry at)
-    named_still name differ n (slot.Original entry) at named =
-        subst (λ (x : Name). FillsThere now.contents (slots.shapes x) (get all x)) named (filled_still n entry (λ same. differ (one_name s.entry entry (its_entry n (slot.Original entry) same at) ∙ named)) at)
-
-    filled_other : (name : Name) → ¬ s.entry.name ≡ name → FillsThere now.contents (slots.shapes name) (get all name)
-    filled_other name differ = by_shape (slots.shapes name) refl
-      where
-        by_shape : (o : Option FilesetShape) → slots.shapes name ≡ o → FillsThere now.contents (slots.shapes name) (get all name)
-        by_shape None none = subst (λ o. FillsThere now.contents o (get all name)) (sym none) (subst (λ o. FillsThere d.contents o (get all name)) none (slots.filled name))
-        by_shape (Some sh) some = let has = slots.are.only name (ap is_some some) in named_still name differ has.number has.item has.there has.named
-
-    filled_now : (name : Name) → FillsThere now.contents (shapes_now name) (get (insert all s.entry.name fileset) name)
-    filled_now name = ⊎_elim
-        (λ same.
-        subst (λ (x : Name). FillsThere now.contents (shapes_now x) (get (insert all s.entry.name fileset) x)) same
-        (subst (λ o. FillsThere now.contents o (get (insert all s.entry.name fileset) s.entry.name)) (sym (put_same s.entry.name refl))
-        (subst (FillsThere now.contents (Some shape)) (sym (get-insert_same name_cmp-total name_cmp-IsAntisymmetric all s.entry.name fileset)) own.filled)))
-        (λ differ.
-        subst (λ o. FillsThere now.contents o (get (insert all s.entry.name fileset) name)) (sym (put_other name differ))
-        (subst (FillsThere now.contents (slots.shapes name)) (sym (get-insert_other name_cmp-total name_cmp-IsAntisymmetric all s.entry.name fileset name (λ same. differ (sym same)))) (filled_other name differ)))
-        (name_decided s.entry.name name)
-
-    -- ---- their sets
-
-    sets_now : (n : ℕ) (entry : FilesetEntry) (sh : FilesetShape) → slice_get d.table.slots n ≡ Some (slot.Original entry) → shapes_now entry.name ≡ Some sh → StandsAsSet n (now.tags n) now.space now.cells now.pages sh.shown
-    sets_now n entry sh at is = ⊎_elim
-        (λ same. subst (λ (k : ℕ). StandsAsSet k (now.tags k) now.space now.cells now.pages sh.shown) (sym same)
-        (subst (λ (x : FilesetShape). StandsAsSet number (now.tags number) now.space now.cells now.pages x.shown)
-        (some_same shape sh (sym (put_same entry.name (one_name s.entry entry (its_entry n (slot.Original entry) same at))) ∙ is)) own.set))
-        (λ differ. set_stays n entry differ at sh is)
-        (number_or_not number tag d now chains chains_now files files_now indexes below s n)
-
-    -- ---- all of it
-
     pub slots_stand : StandSlots now (insert all s.entry.name fileset)
-    slots_stand = record {
-      shapes = shapes_now;
-      are = subst (λ (t : Table). AreShapesOf now.pages t shapes_now) (sym s.table) (record { each = each_now; only = only_now });
-      filled = filled_now;
-      sets = λ n entry sh at. sets_now n entry sh (ap (λ (t : Table). slice_get t.slots n) (sym s.table) ∙ at);
-      no_clone = λ n. ap (λ (t : Table). of_clone (slice_get t.slots n)) s.table ∙ slots.no_clone n;
-    }
+    slots_stand =
+        slots_put number s.entry d now (tables_stand number tag d now chains chains_now files files_now indexes below s) puts all slots
+        (λ other its sh f differ at shaped stood. slot_stays number tag d now chains chains_now files files_now indexes below s other its sh f differ at stood (agree other its sh differ at shaped)) shape fileset own

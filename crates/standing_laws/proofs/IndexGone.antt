@@ -33,12 +33,14 @@ use Rattle.domain_layout.specs.Filled.{Contents}
 use Rattle.domain_standing.specs.Chains.{IndexesAt, IsToDo}
 use Rattle.domain_standing.specs.Domain.{DomainNow, item_in}
 use Rattle.standing_laws.specs.IndexCalls.{KeepsTables, NamesFile, with_index_at, with_removed}
+use Rattle.standing_laws.specs.SlotsStay.{OthersStand}
 use Rattle.standing_laws.specs.Leads.{StandsBelow, fileset_now}
 use Rattle.standing_laws.proofs.BelowStands.{owned_listed, rest_listed, tables_listed}
 use Rattle.standing_laws.proofs.IndexChains.{chains_told}
 use Rattle.standing_laws.proofs.IndexHeld.{owned_told}
 use Rattle.standing_laws.proofs.IndexListed.{chains_listed}
 use Rattle.standing_laws.proofs.IndexRest.{rest_told}
+use Rattle.standing_laws.proofs.IndexOthers.{slot_listed}
 use Rattle.standing_laws.proofs.IndexSaid.{gone_beside, gone_none, gone_there, gone_well, index_firsts, removed_firsts, says_gone}
 use Rattle.standing_laws.proofs.IndexSet.{IsChain, chain_at}
 use Rattle.standing_laws.proofs.IndexSpaces.{Among, NoHome, SpacesMove, moves_away}
@@ -129,12 +131,21 @@ module _ (d : DomainNow) (files : Files) (indexes : IndexesAt) (below : StandsBe
       rest = rest_listed now listed files_then indexes_then (rest_told d files indexes below pages contents space [] told);
     }
 
+    gone_slots : (clone : Option CellAt) (listed : Listing) → IsEntry files_then (record { at = first.at; clone = clone }) → Adds first.at clone d.list.entries listed.entries → listed.tag_pages ≡ d.list.tag_pages → OthersStand number d (record now { list = listed })
+    unfolding told
+    gone_slots clone listed may adds same bytes n differ other shape fileset there stood = slot_listed d files indexes below pages contents space [] told bytes n differ listed (gone_stands clone listed may adds same) other shape fileset there stood
+
+    gone_both : (clone : Option CellAt) (listed : Listing) → IsEntry files_then (record { at = first.at; clone = clone }) → Adds first.at clone d.list.entries listed.entries → listed.tag_pages ≡ d.list.tag_pages
+        → StandsBelow (record now { list = listed }) files_then indexes_then × OthersStand number d (record now { list = listed })
+    gone_both clone listed may adds same = (gone_stands clone listed may adds same, gone_slots clone listed may adds same)
+
   -- ---- by what its first cell said
 
   -- what is to be shown, by what the tag's chain is once its first cell names no index
   abbrev Going : Option (List PlacedCell) → Type 0
   Going o = (clone : Option CellAt) (listed : Listing) → IsEntry (with_file first.at (option_map (with_first says_removed) o) files) (record { at = first.at; clone = clone }) → Adds first.at clone d.list.entries listed.entries → listed.tag_pages ≡ d.list.tag_pages
       → StandsBelow (record d { pages = pages; contents = contents; space = space; list = listed }) (with_file first.at (option_map (with_first says_removed) o) files) (with_index_at first.at [] indexes)
+      × OthersStand number d (record d { pages = pages; contents = contents; space = space; list = listed })
 
   old_file : AreFile d.pages first rest
   old_file = file_was d files indexes below number entry original tag chains well first rest is
@@ -151,7 +162,7 @@ module _ (d : DomainNow) (files : Files) (indexes : IndexesAt) (below : StandsBe
   -- it named none
   none_goes : index_of (first ∷ rest) ≡ None → IsFile pages first.at (with_first says_removed (first ∷ rest)) → Going (Some (first ∷ rest))
   unfolding told
-  none_goes none file = gone_stands says_removed
+  none_goes none file = gone_both says_removed
       (record {
         beside = removed_beside d.pages first rest old_file;
         told = removed_well d.frame.version d.table first rest old_well old_firsts old_live (removed_firsts first.cell old_firsts);
@@ -164,7 +175,7 @@ module _ (d : DomainNow) (files : Files) (indexes : IndexesAt) (below : StandsBe
   -- it named one
   some_goes : IsFile pages first.at (with_first says_gone (first ∷ rest)) → Going (Some (with_first (says_index None) (first ∷ rest)))
   unfolding told
-  some_goes file = gone_stands says_gone
+  some_goes file = gone_both says_gone
       (record {
         beside = gone_beside d.pages first rest old_file;
         told = gone_well d.frame.version d.table first rest old_well old_firsts old_live;
@@ -192,11 +203,11 @@ module _ (number : ℕ) (tag : Tag) (d now : DomainNow) (chains : Chains) (files
   abbrev GoesAt : CellAt → Type 0
   GoesAt a = Removes number (d.tags number) tag a (without_index tag chains) now.pages → GivesIndexBack group (d.tags number) (chains tag) (indexes a) d.space now.space d.pages now.pages
       → (clone : Option CellAt) (listed : Listing) → IsEntry (with_removed a tag chains files) (record { at = a; clone = clone }) → Adds a clone d.list.entries listed.entries → listed.tag_pages ≡ d.list.tag_pages
-      → StandsBelow (record now { list = listed }) (with_removed a tag chains files) (with_index_at a [] indexes)
+      → StandsBelow (record now { list = listed }) (with_removed a tag chains files) (with_index_at a [] indexes) × OthersStand number d (record now { list = listed })
 
   goes_first : (first : PlacedCell) (rest : List PlacedCell) → chains tag ≡ Some (first ∷ rest) → NamesFile number tag first.at d chains files → GoesAt first.at
   goes_first first rest is names removes gives clone listed may adds same_pages =
-      subst (λ (x : DomainNow). StandsBelow (record x { list = listed }) (with_removed first.at tag chains files) (with_index_at first.at [] indexes)) (sym same)
+      subst (λ (x : DomainNow). StandsBelow (record x { list = listed }) (with_removed first.at tag chains files) (with_index_at first.at [] indexes) × OthersStand number d (record x { list = listed })) (sym same)
       (goes d files indexes below number names.entry names.original tag chains names.well first rest is group now.space now.pages now.contents together gives removes.pending clone listed may adds same_pages)
 
   pub gone : (start : CellAt) → NamesFile number tag start d chains files → GoesAt start

@@ -28,6 +28,7 @@ use Rattle.stored_index.proofs.Dropped.{low_from}
 use Rattle.stored_index.proofs.Held.{in_inserted}
 use Rattle.set_laws.proofs.Together.{together_away}
 use Rattle.stored_set.specs.Sets.{AddsIndexPage, SaysIndex, WritesIndexPage}
+use Rattle.fileset_model.specs.declared.fileset.FilesetSlot.{FilesetSlot}
 use Rattle.fileset_table.specs.declared.slot.FilesetEntry.{FilesetEntry}
 use Rattle.fileset_table.specs.declared.slot.SlotItem.TheVariants as slot
 use Rattle.deferred_delete.specs.Listed.{left_of, leftover_in}
@@ -37,15 +38,19 @@ use Rattle.deferred_laws.specs.Calls.{StandsWell}
 use Rattle.deferred_laws.specs.Tags.{start_of}
 use Rattle.deferred_laws.proofs.FirstWell.{are_file, index_beside, index_live}
 use Rattle.domain_layout.specs.Filled.{Contents}
+use Rattle.domain_layout.specs.Shape.{FilesetShape}
 use Rattle.domain_standing.specs.Chains.{IndexesAt, IsOnList, IsToDo}
 use Rattle.domain_standing.specs.Domain.{DomainNow, item_in}
 use Rattle.domain_standing.specs.Holders.{IsUnheld}
 use Rattle.domain_standing.specs.Holders.Holder.{of_cells, of_index, of_tags}
 use Rattle.standing_laws.specs.IndexCalls.{KeepsTables, NamesFile, with_index_at, with_said}
+use Rattle.standing_laws.specs.Slots.{StandsSlot}
+use Rattle.standing_laws.specs.SlotsStay.{OthersStand}
 use Rattle.standing_laws.specs.Leads.{StandsBelow, fileset_now}
 use Rattle.standing_laws.proofs.HeldHolders.{MayTake}
 use Rattle.standing_laws.proofs.IndexChains.{chains_told}
 use Rattle.standing_laws.proofs.IndexHeld.{owned_told}
+use Rattle.standing_laws.proofs.IndexOthers.{slot_told}
 use Rattle.standing_laws.proofs.IndexListed.{chains_all}
 use Rattle.standing_laws.proofs.IndexRest.{rest_told}
 use Rattle.standing_laws.proofs.IndexSaid.{index_firsts, index_other, index_well}
@@ -216,6 +221,10 @@ module _ (d : DomainNow) (files : Files) (indexes : IndexesAt) (below : StandsBe
       rest = rest_told d files indexes below pages contents space homes told;
     }
 
+    pub set_slot : ((home : Home) → pages home ≡ d.pages home → contents home ≡ d.contents home) → (n : ℕ) → ¬ n ≡ number → (entry_of_it : FilesetEntry) (shape : FilesetShape) (fileset : FilesetSlot) → item_in d n ≡ Some (slot.Original entry_of_it) → StandsSlot d n entry_of_it shape fileset → StandsSlot now n entry_of_it shape fileset
+    unfolding told
+    set_slot bytes n differ entry_of_it shape fileset there stood = slot_told d files indexes below pages contents space homes told bytes n differ set_stands entry_of_it shape fileset there stood
+
 -- ---- the file of a tag
 
 -- which it is
@@ -262,6 +271,15 @@ module _ (number : ℕ) (tag : Tag) (d now : DomainNow) (chains : Chains) (files
         (subst (λ o. StandsBelow (record d { pages = now.pages; contents = now.contents; space = now.space }) (with_file first.at (option_map (with_first says) o) files) (with_index_at first.at (indexes first.at) indexes))
         (sym (there_was d files indexes below number names.entry names.original tag chains names.well first rest is)) stands))
 
+    slots_written : OthersStand number d now
+    unfolding told
+    slots_written bytes n differ other shape fileset there stood =
+        subst (λ (x : DomainNow). StandsSlot x n other shape fileset) (sym same)
+        (set_slot d files indexes below number names.entry names.original tag chains names.well first rest is d.space now.space writes.said now.pages (indexes first.at) NoHome writes.says
+        (λ home none no_come. writes.puts.others home (λ at. none (get_in (indexes first.at) page home at)))
+        (λ home none. absurd none) writes.puts.are (once_was d files indexes below number names.entry names.original tag chains names.well first rest is)
+        (λ home inside. inl inside) (λ home inside. inside) (moves_same d.space now.space same_space) now.contents bytes n differ other shape fileset there stood)
+
   pub written : (start : CellAt) → NamesFile number tag start d chains files → (writes : WritesIndexPage number (d.tags number) d.space d.cells tag page bytes chains (indexes start) d.pages now.pages) → StandsBelow now (with_said start (says_index (Some writes.says.index)) files) indexes
   written start names = by_start (chain_at chains tag start names.begins)
     where
@@ -270,6 +288,13 @@ module _ (number : ℕ) (tag : Tag) (d now : DomainNow) (chains : Chains) (files
           (λ (a : CellAt). (writes : WritesIndexPage number (d.tags number) d.space d.cells tag page bytes chains (indexes a) d.pages now.pages) → StandsBelow now (with_said a (says_index (Some writes.says.index)) files) indexes)
           c.at
           (written_first c.first c.rest c.is (subst (λ (a : CellAt). NamesFile number tag a d chains files) (sym c.at) names))
+
+  pub written_slots : (start : CellAt) → NamesFile number tag start d chains files → WritesIndexPage number (d.tags number) d.space d.cells tag page bytes chains (indexes start) d.pages now.pages → OthersStand number d now
+  written_slots start names = by_start (chain_at chains tag start names.begins)
+    where
+      by_start : IsChain chains tag start → WritesIndexPage number (d.tags number) d.space d.cells tag page bytes chains (indexes start) d.pages now.pages → OthersStand number d now
+      by_start c = subst (λ (a : CellAt). WritesIndexPage number (d.tags number) d.space d.cells tag page bytes chains (indexes a) d.pages now.pages → OthersStand number d now) c.at
+          (slots_written c.first c.rest c.is (subst (λ (a : CellAt). NamesFile number tag a d chains files) (sym c.at) names))
 
 -- ---- a page is put in
 
@@ -318,6 +343,18 @@ module _ (number : ℕ) (tag : Tag) (d now : DomainNow) (chains : Chains) (files
         (subst (λ o. StandsBelow (record d { pages = now.pages; contents = now.contents; space = now.space }) (with_file first.at (option_map (with_first says_more) o) files) (with_index_at first.at more indexes))
         (sym (there_was d files indexes below number names.entry names.original tag chains names.well first rest is)) stands_more)
 
+    slots_added : OthersStand number d now
+    unfolding told
+    slots_added bytes n differ other shape fileset there stood =
+        subst (λ (x : DomainNow). StandsSlot x n other shape fileset) (sym same)
+        (set_slot d files indexes below number names.entry names.original tag chains names.well first rest is now.space now.space adds.said now.pages more (Is adds.home) adds.says
+        (λ home none no_come. adds.inserts.others home none (false_from_ne_true (same_home home adds.home) (λ here. no_come (homes_same home adds.home here))))
+        (λ home here. (subst (Contains more) (sym here) (in_more (indexes first.at) place adds.home), subst (MayTake d.space) (sym here) (low, adds.free)))
+        adds.inserts.are
+        (more_once (indexes first.at) place adds.home not_in (once_was d files indexes below number names.entry names.original tag chains names.well first rest is))
+        (λ home inside. ⊎_elim (λ here. inr (sym here)) (λ was. inl was) (in_inserted (indexes first.at) place adds.home home inside))
+        (λ home inside. in_still (indexes first.at) place adds.home home inside) (moves_page d.space now.space adds.home low adds.taken) now.contents bytes n differ other shape fileset there stood)
+
   pub added : (start : CellAt) → NamesFile number tag start d chains files → (adds : AddsIndexPage number (d.tags number) d.cells tag place bytes prefer chains (indexes start) d.space now.space d.pages now.pages)
       → StandsBelow now (with_said start (says_index (Some adds.says.index)) files) (with_index_at start (insert (indexes start) place adds.home) indexes)
   added start names = by_start (chain_at chains tag start names.begins)
@@ -328,3 +365,10 @@ module _ (number : ℕ) (tag : Tag) (d now : DomainNow) (chains : Chains) (files
           (λ (a : CellAt). (adds : AddsIndexPage number (d.tags number) d.cells tag place bytes prefer chains (indexes a) d.space now.space d.pages now.pages) → StandsBelow now (with_said a (says_index (Some adds.says.index)) files) (with_index_at a (insert (indexes a) place adds.home) indexes))
           c.at
           (added_first c.first c.rest c.is (subst (λ (a : CellAt). NamesFile number tag a d chains files) (sym c.at) names))
+
+  pub added_slots : (start : CellAt) → NamesFile number tag start d chains files → AddsIndexPage number (d.tags number) d.cells tag place bytes prefer chains (indexes start) d.space now.space d.pages now.pages → OthersStand number d now
+  added_slots start names = by_start (chain_at chains tag start names.begins)
+    where
+      by_start : IsChain chains tag start → AddsIndexPage number (d.tags number) d.cells tag place bytes prefer chains (indexes start) d.space now.space d.pages now.pages → OthersStand number d now
+      by_start c = subst (λ (a : CellAt). AddsIndexPage number (d.tags number) d.cells tag place bytes prefer chains (indexes a) d.space now.space d.pages now.pages → OthersStand number d now) c.at
+          (slots_added c.first c.rest c.is (subst (λ (a : CellAt). NamesFile number tag a d chains files) (sym c.at) names))

@@ -5,6 +5,7 @@ pub mod ChainsNamed
 pub mod ChainsStand
 pub mod EntryListed
 pub mod FilesetBegins
+pub mod FilesetPut
 pub mod FilesetsStand
 pub mod HeldHolders
 pub mod HeldSpaces
@@ -14,6 +15,7 @@ pub mod IndexChains
 pub mod IndexGone
 pub mod IndexHeld
 pub mod IndexListed
+pub mod IndexOthers
 pub mod IndexRest
 pub mod IndexSaid
 pub mod IndexSet
@@ -31,6 +33,7 @@ pub mod RestFirst
 pub mod RestRecords
 pub mod RestStands
 pub mod RootMade
+pub mod SlotStays
 pub mod SlotsKept
 pub mod SlotsStand
 pub mod TablesStand

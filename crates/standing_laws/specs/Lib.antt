@@ -4,3 +4,4 @@ pub mod Left
 pub mod NewFileset
 pub mod OtherPages
 pub mod Slots
+pub mod SlotsStay

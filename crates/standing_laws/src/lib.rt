@@ -5,6 +5,7 @@
 mod beginning;
 mod below;
 mod chains;
+mod elsewhere;
 mod held;
 mod indexes;
 mod keeping;
@@ -22,6 +23,12 @@ pub use chains::{
     cells_in_use_stay_in_chains, chains_stand_on, chains_stand_on_where_a_file_is_listed,
     chains_stay_somebodys, entries_stay_to_be_done, indexes_stay, listed_tag_pages_stay,
     quota_cells_stand_on, slots_stand_on,
+};
+pub use elsewhere::{
+    a_slot_stays, filesets_stand_where_others_stay,
+    other_slots_stay_where_a_file_goes_with_its_index, other_slots_stay_where_a_fileset_begins,
+    other_slots_stay_where_an_index_page_is_put_in,
+    other_slots_stay_where_an_index_page_is_written,
 };
 pub use held::held_pages_stand_on;
 pub use indexes::{
