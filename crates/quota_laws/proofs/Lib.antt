@@ -1,0 +1,3 @@
+pub mod AllWell
+pub mod PagesWritten
+pub mod TagsTogether
