@@ -38,3 +38,5 @@ pub mod SlotsKept
 pub mod SlotsStand
 pub mod TablesStand
 pub mod TablesTaken
+pub mod QuotaSlots
+pub mod QuotaChains

@@ -3,5 +3,6 @@ pub mod Leads
 pub mod Left
 pub mod NewFileset
 pub mod OtherPages
+pub mod SetsQuota
 pub mod Slots
 pub mod SlotsStay

@@ -10,6 +10,7 @@ mod held;
 mod indexes;
 mod keeping;
 mod others;
+mod quotas;
 mod rest;
 mod slots;
 mod tables;
@@ -40,6 +41,7 @@ pub use others::{
     all_slots_stand_on_where_bits_change, all_stands_on_where_other_pages_change,
     parents_stay_where_bits_change,
 };
+pub use quotas::chains_stand_on_where_limits_are_set;
 pub use rest::rest_stands_on;
 pub use slots::{
     each_original_stands_in_its_slot, filesets_stand_on, other_slots_keep_their_bytes,
