@@ -40,3 +40,7 @@ pub mod TablesStand
 pub mod TablesTaken
 pub mod QuotaSlots
 pub mod QuotaChains
+pub mod QuotaCells
+pub mod QuotaTables
+pub mod QuotaHeld
+pub mod QuotaRest

@@ -46,7 +46,7 @@ abbrev pub IsGrownDirectory : Spaces → List TagPlace → List TagPlace → Typ
 IsGrownDirectory space old new = (new ≡ old) ⊎ HasTagPageMore space old new
 
 module _ (prefer : ℕ) (space space_now : Spaces) (cells cells_now : Cells) (old : Pages) (one : TakesOne prefer space space_now cells cells_now old) where
-  one_grown : (vol : ℕ) → IsGrown space vol (table_of cells vol) (table_of cells_now vol)
+  pub one_grown : (vol : ℕ) → IsGrown space vol (table_of cells vol) (table_of cells_now vol)
   one_grown vol = ⊎_elim
       (λ had. inl (one.takes.taken.tables vol ∙ ap (λ (c : Cells). table_of c vol) had.same_cells))
       (λ none. by_volume none.home none.adds.free (nat_eq vol none.home.vol) refl (one.takes.taken.tables vol ∙ none.adds.joins.tables vol))
@@ -56,7 +56,7 @@ module _ (prefer : ℕ) (space space_now : Spaces) (cells cells_now : Cells) (ol
       by_volume home free true same is = inr (record { page = home.page; free = subst (λ v. CanTake space v home.page) (sym (eqb-true vol home.vol same)) free; joins = is })
       by_volume home free false other is = inl is
 
-  one_marks : (vol : ℕ) → is_closed cells_now vol ≡ is_closed cells vol
+  pub one_marks : (vol : ℕ) → is_closed cells_now vol ≡ is_closed cells vol
   one_marks vol = one.takes.taken.marks vol ∙ ⊎_elim
       (λ had. ap (λ (c : Cells). is_closed c vol) had.same_cells)
       (λ none. none.adds.joins.marks vol)

@@ -41,7 +41,11 @@ pub use others::{
     all_slots_stand_on_where_bits_change, all_stands_on_where_other_pages_change,
     parents_stay_where_bits_change,
 };
-pub use quotas::chains_stand_on_where_limits_are_set;
+pub use quotas::{
+    all_below_stands_on_where_limits_are_set, chains_stand_on_where_limits_are_set,
+    held_pages_stand_on_where_limits_are_set, rest_stands_on_where_limits_are_set,
+    tables_stand_on_where_limits_are_set,
+};
 pub use rest::rest_stands_on;
 pub use slots::{
     each_original_stands_in_its_slot, filesets_stand_on, other_slots_keep_their_bytes,
