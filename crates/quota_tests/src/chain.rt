@@ -104,13 +104,13 @@ pub fn set_lines(alloc: Global, world: &mut World, text: &str) -> Result<Option<
 pub fn refuse(
     alloc: Global,
     world: &mut World,
-    first: Option<CellAt>,
+    first: &Option<CellAt>,
     line: &str,
 ) -> Result<(), Fail>
-    requires { HasChain world.old first }
-    ensures { IfOk result (λ _. HasChain world.new first) }
+    requires { HasChain world.old first.now }
+    ensures { IfOk result (λ _. HasChain world.new first.now) }
 {
-    match set_line(alloc, world, first, line)? {
+    match set_line(alloc, world, *first, line)? {
         Err(StoreFault::NoPage) => Ok(()),
         _ => Err(Fail::from("a volume that is full")),
     }

@@ -9,7 +9,7 @@ use std::test::Fail;
 fn looks_so(alloc: Global, lines: &str, cells: &str) -> Result<bool, Fail> {
     let mut world = new_scene(alloc, 40)?;
     let first = set_lines(alloc, &mut world, lines)?;
-    let text = shown(alloc, &world, first)?;
+    let text = shown(alloc, &world, &first)?;
     Ok(text.as_str() == cells)
 }
 
@@ -81,10 +81,10 @@ fn refused(alloc: Global) -> Result<(bool, u64, bool), Fail> {
     let mut world = new_scene(alloc, 3)?;
     use_cells(alloc, &mut world, 27)?;
     let first = set_lines(alloc, &mut world, NINE)?;
-    let before = shown(alloc, &world, first)?;
+    let before = shown(alloc, &world, &first)?;
     let misses = world.space.misses();
-    refuse(alloc, &mut world, first, "user 10 1 1")?;
-    let after = shown(alloc, &world, first)?;
+    refuse(alloc, &mut world, &first, "user 10 1 1")?;
+    let after = shown(alloc, &world, &first)?;
     let counted = world.space.misses().saturating_sub(misses);
     let again = set_line(alloc, &mut world, first, "user 5 2 2")?;
     Ok((before.as_str() == after.as_str(), counted, again.is_ok()))

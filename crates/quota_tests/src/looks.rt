@@ -38,9 +38,9 @@ fn push_cell(alloc: Global, text: &mut String, used: &UsedCell) -> Result<(), Ou
 }
 
 /// The cells of the chain that begins there.
-pub fn shown(alloc: Global, world: &World, first: Option<CellAt>) -> Result<String, Fail> {
+pub fn shown(alloc: Global, world: &World, first: &Option<CellAt>) -> Result<String, Fail> {
     let mut text = String::new(alloc);
-    let mut next = first;
+    let mut next = *first;
     for _ in 0..20 {
         let Some(at) = next else {
             return Ok(text);
