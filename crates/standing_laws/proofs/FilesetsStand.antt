@@ -22,6 +22,82 @@ use Rattle.standing_laws.proofs.FilesetPut.{slots_put}
 use Rattle.standing_laws.proofs.OtherSlots.{slot_stays}
 use Rattle.standing_laws.proofs.TablesStand.{tables_stand}
 
+-- ---- names
+
+pub name_decided : (one other : Name) → (one ≡ other) ⊎ ¬ one ≡ other
+name_decided [] [] = inl refl
+name_decided [] (y ∷ ys) = inr (λ e. absurd (cc))
+name_decided (x ∷ xs) [] = inr (λ e. absurd (cc))
+name_decided (x ∷ xs) (y ∷ ys) = ⊎_elim
+    (λ first. ⊎_elim (λ rest. inl (λ i. first i ∷ rest i)) (λ other. inr (λ e. other (ap (λ (zs : Name). drop 1 zs) e))) (name_decided xs ys))
+    (λ other. inr (λ e. other (ap first_byte e)))
+    (same_number x y)
+  where
+    first_byte : Name → ℕ
+    first_byte [] = 0
+    first_byte (z ∷ zs) = z
+
+same_itself : (name : Name) → same_name name name ≡ true
+same_itself [] = refl
+same_itself (byte ∷ name) = λ i. eq-eqb byte byte refl i && same_itself name i
+
+item_name : SlotItem → Name
+item_name (slot.Original entry) = entry.name
+item_name _ = []
+
+pub one_name : (a b : FilesetEntry) → slot.Original a ≡ slot.Original b → a.name ≡ b.name
+unfolding item_name
+one_name a b same = ap item_name same
+
+-- two slots with filesets of one name are one
+pub one_slot : (slots : List SlotItem) → HaveOwnNames slots → (i j : ℕ) (a b : FilesetEntry) → i < j → slice_get slots i ≡ Some (slot.Original a) → slice_get slots j ≡ Some (slot.Original b) → ¬ a.name ≡ b.name
+unfolding IsDistinct
+one_slot [] own i j a b less at at' same = none_not (slot.Original a) at
+one_slot (x ∷ slots) own zero zero a b less at at' same = omega (arith, less)
+one_slot (x ∷ slots) own (suc i) zero a b less at at' same = omega (arith, less)
+one_slot (x ∷ slots) own (suc i) (suc j) a b less at at' same = one_slot slots own.1 i j a b (omega (arith, less)) at at' same
+one_slot (x ∷ slots) own zero (suc j) a b less at at' same = true≢false (sym shares ∙ apart slots own.0 j at')
+  where
+    apart : (ys : List SlotItem) → AllByRecursion (λ y. share_name x y ≡ false) ys → (k : ℕ) → slice_get ys k ≡ Some (slot.Original b) → share_name x (slot.Original b) ≡ false
+    apart [] all k at = absurd (none_not (slot.Original b) at)
+    apart (y ∷ ys) all zero at = subst (λ z. share_name x z ≡ false) (some_same y (slot.Original b) at) all.0
+    apart (y ∷ ys) all (suc k) at = apart ys all.1 k at
+
+    shares : share_name x (slot.Original b) ≡ true
+    shares = ap (λ z. share_name z (slot.Original b)) (some_same x (slot.Original a) at) ∙ ap (λ n. same_name b.name n) same ∙ same_itself b.name
+
+-- ---- an original of a domain that stands for filesets
+
+module _ (d : DomainNow) (all : FilesetMap) (slots : StandSlots d all) where
+  pub record StoodIn (n : ℕ) (entry : FilesetEntry) : Type 0 where
+    pub shape_was : FilesetShape
+    pub fileset_was : FilesetSlot
+    pub shaped : slots.shapes entry.name ≡ Some shape_was
+    pub filled : get all entry.name ≡ Some fileset_was
+    pub stood : StandsSlot d n entry shape_was fileset_was
+
+  pub stood_in : (n : ℕ) (entry : FilesetEntry) → slice_get d.table.slots n ≡ Some (slot.Original entry) → StoodIn n entry
+  stood_in n entry at = by_shape (slots.shapes entry.name) refl (slots.are.each n (slot.Original entry) at)
+    where
+      by_fileset : (sh : FilesetShape) → slots.shapes entry.name ≡ Some sh → IsOriginal d.pages n entry sh → (o : Option FilesetSlot) → get all entry.name ≡ o → FillsThere d.contents (Some sh) o → StoodIn n entry
+      by_fileset sh is original None there fills = absurd fills
+      by_fileset sh is original (Some f) there fills = record {
+        shape_was = sh;
+        fileset_was = f;
+        shaped = is;
+        filled = there;
+        stood = record { is = original; filled = fills; set = slots.sets n entry sh at is };
+      }
+
+      by_shape : (o : Option FilesetShape) → slots.shapes entry.name ≡ o → IsSomeAnd o (IsOriginal d.pages n entry) → StoodIn n entry
+      by_shape None is original = absurd original
+      by_shape (Some sh) is original = by_fileset sh is original (get all entry.name) refl (subst (λ o. FillsThere d.contents o (get all entry.name)) is (slots.filled entry.name))
+
+  pub each_stands : (n : ℕ) (entry : FilesetEntry) → slice_get d.table.slots n ≡ Some (slot.Original entry) → IsSomeAnd (slots.shapes entry.name) (λ shape. IsSomeAnd (get all entry.name) (StandsSlot d n entry shape))
+  each_stands n entry at =
+      let it = stood_in n entry at in
+      subst (λ o. IsSomeAnd o (λ shape. IsSomeAnd (get all entry.name) (StandsSlot d n entry shape))) (sym it.shaped) (subst (λ o. IsSomeAnd o (StandsSlot d n entry it.shape_was)) (sym it.filled) it.stood)
+
 module _ (number : ℕ) (tag : Tag) (d now : DomainNow) (chains chains_now : Chains) (files files_now : Files) (indexes : IndexesAt) (below : StandsBelow d files indexes) (s : LeadsOn number tag d now chains chains_now files files_now) where
   puts : PutsFileset number s.entry d now
   puts = record {

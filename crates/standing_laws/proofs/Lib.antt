@@ -44,3 +44,6 @@ pub mod QuotaCells
 pub mod QuotaTables
 pub mod QuotaHeld
 pub mod QuotaRest
+pub mod QuotaSets
+pub mod QuotaLimits
+pub mod QuotaFilesets

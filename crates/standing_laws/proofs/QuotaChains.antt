@@ -266,21 +266,23 @@ module _ (number : ℕ) (d now : DomainNow) (files files_now : Files) (indexes :
       (λ none. subst (IsQuotas d.pages w.0) none w.4)
       was_of
 
+  -- that one stays
+  pub quotas_stay : (n : ℕ) (at : CellAt) (cs : List PlacedCell) → ¬ n ≡ number → files at ≡ Some cs → AreQuotasOf d n at cs → IsQuotas now.pages at cs
+  quotas_stay n at cs differ is are = quotas (stands at cs (other_now at (not_start n at cs differ is are.of) ∙ is)).stands
+    where
+      quotas : IsFileOrQuotas now.pages at cs → IsQuotas now.pages at cs
+      quotas stand = ⊎_elim
+          (λ file. absurd (has_attributes now.pages at cs file (quota_first d.pages at cs are.quotas 1 (λ e. omega (arith, e)) (λ e. omega (arith, e)))))
+          (λ are_now. are_now)
+          stand
+
   other_quotas : (n : ℕ) (at : CellAt) → ¬ n ≡ number → IsQuotaOf d n at → IsSomeAnd (files_now at) (AreQuotasOf now n at)
   other_quotas n at differ quota = by_chain (files at) refl (below.chains.quotas n at quota)
     where
       by_chain : (o : Option (List PlacedCell)) → files at ≡ o → IsSomeAnd o (AreQuotasOf d n at) → IsSomeAnd (files_now at) (AreQuotasOf now n at)
       by_chain None is are = absurd are
-      by_chain (Some cs) is are = subst (λ o. IsSomeAnd o (AreQuotasOf now n at)) (sym stays) (record { quotas = quotas (stands at cs stays).stands; of = are.of; once = are.once })
-        where
-          stays : files_now at ≡ Some cs
-          stays = other_now at (not_start n at cs differ is are.of) ∙ is
-
-          quotas : IsFileOrQuotas now.pages at cs → IsQuotas now.pages at cs
-          quotas stand = ⊎_elim
-              (λ file. absurd (has_attributes now.pages at cs file (quota_first d.pages at cs are.quotas 1 (λ e. omega (arith, e)) (λ e. omega (arith, e)))))
-              (λ are_now. are_now)
-              stand
+      by_chain (Some cs) is are = subst (λ o. IsSomeAnd o (AreQuotasOf now n at)) (sym (other_now at (not_start n at cs differ is are.of) ∙ is))
+          (record { quotas = quotas_stay n at cs differ is are; of = are.of; once = are.once })
 
   quotas_now : (n : ℕ) (at : CellAt) → IsQuotaOf now n at → IsSomeAnd (files_now at) (AreQuotasOf now n at)
   quotas_now n at quota = ⊎_elim

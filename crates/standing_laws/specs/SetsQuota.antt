@@ -1,15 +1,21 @@
 -- An owner's limits, set in the fileset of a slot, as a change of a domain that stands.
-use Rattle.std.specs.Prelude.{◌≡◌, ℕ, Some, IsSomeAnd, Contains}
+use Rattle.std.specs.Prelude.{◌≡◌, ℕ, Some, IsSomeAnd, Contains, if◌then◌else◌}
+use Rattle.domain_base.specs.declared.place.CellAt.{CellAt}
 use Rattle.domain_base.specs.declared.place.Home.{Home}
 use Rattle.free_cells.specs.Cells.{table_of}
+use Rattle.fileset_model.specs.Usage.{with_limits}
 use Rattle.fileset_model.specs.declared.command.Owner.{Owner}
+use Rattle.fileset_model.specs.declared.command.Owner.TheVariants as owner
+use Rattle.fileset_model.specs.declared.fileset.FilesetSlot.{FilesetSlot}
 use Rattle.fileset_model.specs.declared.fileset.Limits.{Limits}
 use Rattle.fileset_table.specs.Page.{IsTablePage}
 use Rattle.fileset_table.specs.Table.{with_slot}
 use Rattle.fileset_table.specs.declared.slot.FilesetEntry.{FilesetEntry}
 use Rattle.fileset_table.specs.declared.slot.SlotItem.TheVariants as slot
+use Rattle.quota_book.specs.Owners.{same_owner}
 use Rattle.deferred_delete.specs.Standing.{Files}
 use Rattle.quota_laws.specs.Setting.{SetsIn}
+use Rattle.domain_layout.specs.Shape.{FilesetShape}
 use Rattle.domain_standing.specs.Domain.{DomainNow, all_of, item_in}
 
 -- limits are set in the chain that the slot of an original names, or in one that begins so, which
@@ -20,6 +26,7 @@ pub record SetsQuota (number : ℕ) (d now : DomainNow) (files files_now : Files
   pub prefer : ℕ
   pub who : Owner
   pub limits : Limits
+  pub named : ¬ who ≡ owner.Fileset
   pub sets : SetsIn number prefer who limits entry.quota (all_of d files) (all_of now files_now)
   pub table : now.table
       ≡ with_slot number (slot.Original (record entry { quota = Some sets.start })) d.table
@@ -29,3 +36,18 @@ pub record SetsQuota (number : ℕ) (d now : DomainNow) (files files_now : Files
       → ¬ d.frame.anchor.table ≡ Some home → now.pages home ≡ d.pages home
   pub frame : now.frame ≡ d.frame
   pub tags : now.tags ≡ d.tags
+
+-- a shape, and a fileset, with these limits of an owner
+abbrev pub shape_limited : Owner → Limits → FilesetShape → FilesetShape
+shape_limited who limits shape = record shape {
+  limits = λ other. if same_owner other who then limits else shape.limits other;
+}
+
+abbrev pub fileset_limited : Owner → Limits → FilesetSlot → FilesetSlot
+fileset_limited who limits fileset = record fileset {
+  tree = record fileset.tree { limits = with_limits fileset.tree.limits who limits };
+}
+
+-- the slot's entry then: it names the chain
+abbrev pub entry_limited : CellAt → FilesetEntry → FilesetEntry
+entry_limited start entry = record entry { quota = Some start }

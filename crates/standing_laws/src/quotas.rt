@@ -1,13 +1,22 @@
 //! A domain once an owner's limits are set in one of its filesets.
-ghost use Rattle.std.specs.Prelude.{ℕ};
+ghost use Rattle.std.specs.Prelude.{◌≡◌, ℕ, Some};
+ghost use Rattle.std.specs.FinMap.{get, insert};
+ghost use Rattle.fileset_model.specs.Filesets.{FilesetMap};
+ghost use Rattle.fileset_model.specs.declared.fileset.FilesetSlot.{FilesetSlot};
+ghost use Rattle.fileset_table.specs.declared.slot.FilesetEntry.{FilesetEntry};
+ghost use Rattle.fileset_table.specs.declared.slot.SlotItem.TheVariants as slot;
 ghost use Rattle.deferred_delete.specs.Standing.{Files};
+ghost use Rattle.domain_layout.specs.Shape.{FilesetShape};
+ghost use Rattle.layout_laws.specs.Agreeing.{AgreeOn, AgreeOnShape};
 ghost use Rattle.domain_standing.specs.Chains.{IndexesAt, StandChains};
-ghost use Rattle.domain_standing.specs.Domain.{DomainNow};
+ghost use Rattle.domain_standing.specs.Domain.{DomainNow, item_in};
 ghost use Rattle.domain_standing.specs.Holders.{HoldsOwned};
 ghost use Rattle.domain_standing.specs.Rest.{SaysTheRest};
+ghost use Rattle.domain_standing.specs.Slots.{StandSlots};
 ghost use Rattle.domain_standing.specs.Tables.{StandTables};
 ghost use Rattle.standing_laws.specs.Leads.{StandsBelow};
-ghost use Rattle.standing_laws.specs.SetsQuota.{SetsQuota};
+ghost use Rattle.standing_laws.specs.SetsQuota.{SetsQuota, entry_limited, fileset_limited, shape_limited};
+ghost use Rattle.standing_laws.specs.Slots.{StandsSlot};
 
 /// Where a domain stands, its tables do once an owner's limits are set in the chain of quota cells
 /// that a slot names, or in one that it names from then on.
@@ -44,4 +53,39 @@ pub fn all_below_stands_on_where_limits_are_set()
     ensures { (number : ℕ) (d now : DomainNow) (files files_now : Files) (indexes : IndexesAt)
         → StandsBelow d files indexes → SetsQuota number d now files files_now
         → StandsBelow now files_now indexes }
+{}
+
+/// The original in another slot has the shape that it had, stands for the same fileset, and shows
+/// the same set, where the bytes at the homes of its files are the same.
+pub fn other_slots_stay_where_limits_are_set()
+    ensures { (number : ℕ) (d now : DomainNow) (files files_now : Files) (indexes : IndexesAt)
+        → StandsBelow d files indexes → SetsQuota number d now files files_now
+        → (other : ℕ) (entry : FilesetEntry) (shape : FilesetShape) (fileset : FilesetSlot)
+        → ¬ other ≡ number → item_in d other ≡ Some (slot.Original entry)
+        → StandsSlot d other entry shape fileset → AgreeOnShape d.contents now.contents shape
+        → StandsSlot now other entry shape fileset }
+{}
+
+/// That in the slot stands for its fileset with these limits of the owner.
+pub fn the_slot_has_the_limits_that_are_set()
+    ensures { (number : ℕ) (d now : DomainNow) (files files_now : Files) (indexes : IndexesAt)
+        → StandsBelow d files indexes → (sets : SetsQuota number d now files files_now)
+        → (shape : FilesetShape) (fileset : FilesetSlot)
+        → StandsSlot d number sets.entry shape fileset
+        → AgreeOnShape d.contents now.contents shape
+        → StandsSlot now number (entry_limited sets.sets.start sets.entry)
+        (shape_limited sets.who sets.limits shape)
+        (fileset_limited sets.who sets.limits fileset) }
+{}
+
+/// So a domain stands for its filesets, of which that one has these limits of the owner, where the
+/// bytes of all files are the same.
+pub fn filesets_stand_on_where_limits_are_set()
+    ensures { (number : ℕ) (d now : DomainNow) (files files_now : Files) (indexes : IndexesAt)
+        → StandsBelow d files indexes → (sets : SetsQuota number d now files files_now)
+        → (all : FilesetMap) → (slots : StandSlots d all)
+        → AgreeOn d.contents now.contents slots.shapes → (fileset : FilesetSlot)
+        → get all sets.entry.name ≡ Some fileset
+        → StandSlots now
+        (insert all sets.entry.name (fileset_limited sets.who sets.limits fileset)) }
 {}
