@@ -31,7 +31,7 @@ use Rattle.standing_laws.specs.SlotsStay.{PutsFileset}
 
 -- ---- names
 
-name_decided : (one other : Name) → (one ≡ other) ⊎ ¬ one ≡ other
+pub name_decided : (one other : Name) → (one ≡ other) ⊎ ¬ one ≡ other
 name_decided [] [] = inl refl
 name_decided [] (y ∷ ys) = inr (λ e. absurd (cc))
 name_decided (x ∷ xs) [] = inr (λ e. absurd (cc))
@@ -52,12 +52,12 @@ item_name : SlotItem → Name
 item_name (slot.Original entry) = entry.name
 item_name _ = []
 
-one_name : (a b : FilesetEntry) → slot.Original a ≡ slot.Original b → a.name ≡ b.name
+pub one_name : (a b : FilesetEntry) → slot.Original a ≡ slot.Original b → a.name ≡ b.name
 unfolding item_name
 one_name a b same = ap item_name same
 
 -- two slots with filesets of one name are one
-one_slot : (slots : List SlotItem) → HaveOwnNames slots → (i j : ℕ) (a b : FilesetEntry) → i < j → slice_get slots i ≡ Some (slot.Original a) → slice_get slots j ≡ Some (slot.Original b) → ¬ a.name ≡ b.name
+pub one_slot : (slots : List SlotItem) → HaveOwnNames slots → (i j : ℕ) (a b : FilesetEntry) → i < j → slice_get slots i ≡ Some (slot.Original a) → slice_get slots j ≡ Some (slot.Original b) → ¬ a.name ≡ b.name
 unfolding IsDistinct
 one_slot [] own i j a b less at at' same = none_not (slot.Original a) at
 one_slot (x ∷ slots) own zero zero a b less at at' same = omega (arith, less)

@@ -1,0 +1,71 @@
+-- A domain stands around a slot where it stands but for its filesets, and the slot's files belong together.
+use Rattle.std.proofs.Common.{◌≡◌, ◌∙◌, ℕ, List, [], ◌∷◌, Some, None, IfSome, slice_get, sym, ap, subst, ⊎_elim}
+use Rattle.std.specs.Option.{option_and_then}
+use Rattle.domain_base.specs.declared.place.CellAt.{CellAt}
+use Rattle.domain_base.specs.declared.place.Tag.{Tag}
+use Rattle.bmt_mcells.specs.Cell.{Cell, record_of}
+use Rattle.bmt_mcells.specs.Chain.{PlacedCell}
+use Rattle.bitfile_core.specs.Changes.{with_first}
+use Rattle.bitfile_core.specs.Files.{Chains, IsOf, LeadsToFile}
+use Rattle.bitfile_core.specs.Together.{AreTogether}
+use Rattle.bitfile_core.proofs.Created.{one_chains}
+use Rattle.fileset_table.specs.declared.slot.FilesetEntry.{FilesetEntry}
+use Rattle.fileset_table.specs.declared.slot.SlotItem.TheVariants as slot
+use Rattle.deferred_delete.specs.Standing.{Files, source_at, source_in, source_of, with_file}
+use Rattle.deferred_delete.proofs.Standings.{file_other, file_there, same_or_not}
+use Rattle.deferred_laws.specs.Tags.{AreAmong, start_of}
+use Rattle.domain_layout.specs.Layout.{first_tag_of}
+use Rattle.domain_standing.specs.Chains.{HasFilesAmong, IndexesAt, IsOfFileset, IsRemoved, StandsInSlot}
+use Rattle.domain_standing.specs.Domain.{DomainNow, all_of}
+use Rattle.standing_laws.specs.IndexCalls.{NamesFile}
+use Rattle.standing_laws.specs.Leads.{StandsBelow}
+use Rattle.standing_laws.proofs.IndexWas.{there_was}
+use Rattle.set_standing.specs.Around.{StandsAround}
+
+pub its_number : (number : ℕ) (tag : Tag) (cs : List PlacedCell) → IsOf number tag cs → IsOfFileset number cs
+its_number number tag [] of = of
+its_number number tag (first ∷ rest) of = of.2
+
+module _ (number : ℕ) (d : DomainNow) (entry : FilesetEntry) (original : slice_get d.table.slots number ≡ Some (slot.Original entry)) (files : Files) (indexes : IndexesAt) (below : StandsBelow d files indexes) (chains : Chains) (together : AreTogether number (d.tags number) d.space d.cells d.pages chains) where
+  has : HasFilesAmong d files number
+  has = ⊎_elim
+      (λ among. among)
+      (λ empty. absurd (subst IsRemoved original empty.removed))
+      (subst (λ o. StandsInSlot d files number (option_and_then first_tag_of o)) original (below.chains.slots number))
+
+  among : AreAmong (all_of d files) (d.tags number) chains
+  among = subst (AreAmong (all_of d files) (d.tags number)) (λ k t. one_chains d.pages number (d.tags number) has.chains chains has.are together.files t k) has.among
+
+  pub around_of : ((at : CellAt) → source_at files at ≡ None) → StandsAround number d
+  around_of alone = record {
+    entry = entry;
+    original = original;
+    files = files;
+    indexes = indexes;
+    below = below;
+    chains = chains;
+    well = record { well = below.chains.well; together = together; among = among };
+    alone = alone;
+  }
+
+-- the file that a tag of the slot names
+module _ (number : ℕ) (tag : Tag) (d : DomainNow) (around : StandsAround number d) (first : PlacedCell) (rest : List PlacedCell) (is : around.chains tag ≡ Some (first ∷ rest)) where
+  pub there_first : around.files first.at ≡ Some (first ∷ rest)
+  there_first = there_was d around.files around.indexes around.below number around.entry around.original tag around.chains around.well first rest is
+
+  pub number_first : IsOfFileset number (first ∷ rest)
+  number_first = its_number number tag (first ∷ rest) (subst (λ o. IfSome o (LeadsToFile number (d.tags number) d.pages tag)) is (around.well.together.files.some tag)).is_of
+
+  pub names_first : NamesFile number tag first.at d around.chains around.files
+  names_first = record { entry = around.entry; original = around.original; well = around.well; begins = ap (option_and_then start_of) is }
+
+  -- it is read through none, whatever its first cell says beside
+  pub alone_said : (says : Cell → Cell) → record_of 2 (says first.cell).records ≡ record_of 2 first.cell.records → (at : CellAt) → source_at (with_file first.at (Some (with_first says (first ∷ rest))) around.files) at ≡ None
+  alone_said says same at = ⊎_elim
+      (λ here.
+      ap (option_and_then source_of) (ap (with_file first.at (Some (with_first says (first ∷ rest))) around.files) here ∙ file_there first.at (Some (with_first says (first ∷ rest))) around.files)
+      ∙ ap (option_and_then source_in) same
+      ∙ sym (ap (option_and_then source_of) there_first)
+      ∙ around.alone first.at)
+      (λ apart. ap (option_and_then source_of) (file_other first.at (Some (with_first says (first ∷ rest))) around.files at apart) ∙ around.alone at)
+      (same_or_not at first.at)

@@ -1,0 +1,159 @@
+-- A domain stands on around a slot where a page of a directory's index is written, or put in.
+use Rattle.std.proofs.Common.{◌≡◌, ◌∙◌, ℕ, ◌≤◌, true, false, List, ◌∷◌, Option, Some, None, Contains, refl, sym, ap, subst, arith}
+use Rattle.std.proofs.lemmas.Bool.{false_from_ne_true}
+use Rattle.std.specs.List.{insert}
+use Rattle.std.specs.Option.{option_and_then, option_map}
+use Rattle.domain_base.specs.declared.place.CellAt.{CellAt}
+use Rattle.domain_base.specs.declared.place.Home.{Home}
+use Rattle.domain_base.specs.declared.place.Tag.{Tag}
+use Rattle.page_store.specs.Pages.{Pages, same_home}
+use Rattle.bmt_mcells.specs.Cell.{Cell}
+use Rattle.bmt_mcells.specs.CellPage.{cell_at, home_of}
+use Rattle.bmt_mcells.specs.Chain.{PlacedCell}
+use Rattle.bmt_mcells.proofs.Changed.{homes_same}
+use Rattle.tag_dirs.specs.Directory.{has_home}
+use Rattle.free_cells.specs.Cells.{table_of}
+use Rattle.free_space.specs.Spaces.{Spaces}
+use Rattle.bitfile_core.specs.Changes.{ChangesFirst, with_chain, with_first}
+use Rattle.bitfile_core.specs.declared.indexing.IndexPlace.{IndexPlace}
+use Rattle.bitfile_core.specs.Index.{says_index}
+use Rattle.bitfile_core.specs.Together.{AreTogether, IsHeldApart}
+use Rattle.bitfile_core.proofs.Grown.{apart_taken}
+use Rattle.set_laws.proofs.Together.{together_away}
+use Rattle.stored_set.specs.Sets.{AddsIndexPage, WritesIndexPage}
+use Rattle.deferred_delete.specs.Standing.{Files, source_at, with_file}
+use Rattle.deferred_laws.specs.Tags.{start_of}
+use Rattle.domain_layout.specs.Filled.{Contents}
+use Rattle.domain_standing.specs.Chains.{IndexesAt}
+use Rattle.domain_standing.specs.Domain.{DomainNow}
+use Rattle.domain_standing.specs.Holders.{IsUnheld}
+use Rattle.domain_standing.specs.Holders.Holder.{of_cells, of_tags}
+use Rattle.standing_laws.specs.IndexCalls.{KeepsTables, with_index_at, with_said}
+use Rattle.standing_laws.specs.Leads.{StandsBelow}
+use Rattle.standing_laws.specs.OtherPages.{KeepsPlaces}
+use Rattle.standing_laws.proofs.HomeLists.{get_in}
+use Rattle.standing_laws.proofs.IndexSaid.{index_other}
+use Rattle.standing_laws.proofs.IndexSet.{IsChain, added, chain_at, written}
+use Rattle.standing_laws.proofs.IndexWas.{member_on, off_cells, off_first, off_tags}
+use Rattle.standing_laws.proofs.TablesTaken.{low_table, unheld_taken}
+use Rattle.set_standing.specs.Around.{BytesFollow, GoesOnAround, StandsAround}
+use Rattle.set_standing.proofs.Again.{alone_said, around_of, names_first, number_first, there_first}
+use Rattle.set_standing.proofs.Aside.{stays_aside}
+
+module _ (number : ℕ) (tag : Tag) (d : DomainNow) (around : StandsAround number d) (first : PlacedCell) (rest : List PlacedCell) (is : around.chains tag ≡ Some (first ∷ rest)) where
+  off_its_cells : (home : Home) → Contains (around.indexes first.at) home → ¬ Contains (table_of d.cells home.vol) home.page
+  off_its_cells = off_cells d around.files around.indexes around.below number around.entry around.original tag around.chains around.well first rest is
+
+  off_its_tags : (home : Home) → Contains (around.indexes first.at) home → ¬ has_home (d.tags number) home ≡ true
+  off_its_tags = off_tags d around.files around.indexes around.below number around.entry around.original tag around.chains around.well first rest is number
+
+  off_its_first : (home : Home) → ¬ Contains (table_of d.cells home.vol) home.page → same_home home (home_of first.at) ≡ false
+  off_its_first = off_first d around.files around.indexes around.below number around.entry around.original tag around.chains around.well first rest is
+
+  -- where its first cell says an index
+  said_files : (says : Cell → Cell) → with_said first.at says around.files ≡ with_file first.at (Some (with_first says (first ∷ rest))) around.files
+  said_files says = ap (λ o. with_file first.at (option_map (with_first says) o) around.files) (there_first number tag d around first rest is)
+
+  alone_now : (index : Option IndexPlace) (at : CellAt) → source_at (with_said first.at (says_index index) around.files) at ≡ None
+  alone_now index at =
+      ap (λ (f : Files). source_at f at) (said_files (says_index index)) ∙ alone_said number tag d around first rest is (says_index index) (index_other index first.cell 2 (λ e. omega (arith, e))) at
+
+  -- ---- a page is written
+
+  module _ (page : ℕ) (bytes : List ℕ) (pages : Pages) (contents : Contents) (writes : WritesIndexPage number (d.tags number) d.space d.cells tag page bytes around.chains (around.indexes first.at) d.pages pages) where
+    abbrev then : DomainNow
+    then = record d { pages = pages; contents = contents }
+
+    abbrev says : Cell → Cell
+    says = says_index (Some writes.says.index)
+
+    changes : ChangesFirst (Some (first ∷ rest)) d.pages writes.said
+    changes = subst (λ o. ChangesFirst o d.pages writes.said) is writes.says.first
+
+    put_apart : (home : Home) → ¬ Contains (around.indexes first.at) home → pages home ≡ writes.said home
+    put_apart home none = writes.puts.others home (λ at. none (get_in (around.indexes first.at) page home at))
+
+    on_table : (home : Home) → Contains (table_of d.cells home.vol) home.page → pages home ≡ writes.said home
+    on_table home on = put_apart home (λ inside. off_its_cells home inside on)
+
+    below_then : StandsBelow then (with_said first.at says around.files) around.indexes
+    below_then = written number tag d then around.chains around.files around.indexes page bytes around.below refl refl first.at (names_first number tag d around first rest is) writes
+
+    together_then : AreTogether number (d.tags number) d.space d.cells pages (with_chain tag (with_first says) around.chains)
+    together_then = together_away writes.said pages d.cells on_table number (d.tags number) d.space (with_chain tag (with_first says) around.chains)
+        (λ home has. put_apart home (λ inside. off_its_tags home inside has)) writes.says.together
+
+    page_written : BytesFollow d then → GoesOnAround number d then
+    page_written follow = (
+      around_of number then around.entry around.original (with_said first.at says around.files) around.indexes below_then (with_chain tag (with_first says) around.chains) together_then (alone_now (Some writes.says.index)),
+      stays_aside number first.at d then around.files around.indexes around.below (first ∷ rest) (there_first number tag d around first rest is) (number_first number tag d around first rest is) (λ n differ. refl) refl below_then.chains.well.together.allocated
+          (λ at on other. ap (λ (o : Option (List ℕ)). cell_at (λ _. o) at) (on_table (home_of at) on) ∙ changes.0 at other)
+          (λ home off. put_apart home off.no_index ∙ changes.1 home (off_its_first home off.off_table))
+          (λ home off held. held) follow refl refl,
+    )
+
+  -- ---- a page is put in
+
+  module _ (place prefer : ℕ) (bytes : List ℕ) (pages : Pages) (contents : Contents) (space : Spaces) (adds : AddsIndexPage number (d.tags number) d.cells tag place bytes prefer around.chains (around.indexes first.at) d.space space d.pages pages) where
+    abbrev more : DomainNow
+    more = record d { pages = pages; contents = contents; space = space }
+
+    abbrev says_more : Cell → Cell
+    says_more = says_index (Some adds.says.index)
+
+    abbrev indexes_more : IndexesAt
+    indexes_more = with_index_at first.at (insert (around.indexes first.at) place adds.home) around.indexes
+
+    changes_more : ChangesFirst (Some (first ∷ rest)) d.pages adds.said
+    changes_more = subst (λ o. ChangesFirst o d.pages adds.said) is adds.says.first
+
+    -- what is held is not the page that is taken
+    not_taken : (home : Home) → 1 ≤ home.vol → ¬ IsUnheld d around.files around.indexes home → same_home home adds.home ≡ false
+    not_taken home low held = false_from_ne_true (same_home home adds.home) (λ here.
+        let same = homes_same home adds.home here in
+        held (subst (IsUnheld d around.files around.indexes) (sym same) (unheld_taken d around.files around.indexes around.below.owned adds.home (subst (λ (h : Home). 1 ≤ h.vol) same low) adds.free)))
+
+    put_beside : (home : Home) → 1 ≤ home.vol → ¬ Contains (around.indexes first.at) home → ¬ IsUnheld d around.files around.indexes home → pages home ≡ adds.said home
+    put_beside home low none held = adds.inserts.others home none (not_taken home low held)
+
+    on_table_more : (home : Home) → Contains (table_of d.cells home.vol) home.page → pages home ≡ adds.said home
+    on_table_more home on =
+        put_beside home (low_table d.cells home.vol home.page on) (λ inside. off_its_cells home inside on)
+        (λ none. none of_cells (member_on d around.files around.indexes around.below number around.entry around.original tag around.chains around.well first rest is home.vol home.page on, on))
+
+    below_more : StandsBelow more (with_said first.at says_more around.files) indexes_more
+    below_more = added number tag d more around.chains around.files around.indexes place prefer bytes around.below refl first.at (names_first number tag d around first rest is) adds
+
+    together_more : AreTogether number (d.tags number) space d.cells pages (with_chain tag (with_first says_more) around.chains)
+    together_more = together_away adds.said pages d.cells on_table_more number (d.tags number) space (with_chain tag (with_first says_more) around.chains)
+        (λ home has. put_beside home (around.well.among.low home has) (λ inside. off_its_tags home inside has) (λ none. none (of_tags number) has)) adds.says.together
+
+    held_more : (home : Home) → IsHeldApart d.space d.cells home → IsHeldApart space d.cells home
+    held_more home held = subst (λ (s : Spaces). IsHeldApart s d.cells home) (sym adds.taken) (apart_taken d.space d.cells adds.home home held)
+
+    page_put : BytesFollow d more → GoesOnAround number d more
+    page_put follow = (
+      around_of number more around.entry around.original (with_said first.at says_more around.files) indexes_more below_more (with_chain tag (with_first says_more) around.chains) together_more (alone_now (Some adds.says.index)),
+      stays_aside number first.at d more around.files around.indexes around.below (first ∷ rest) (there_first number tag d around first rest is) (number_first number tag d around first rest is) (λ n differ. refl) refl below_more.chains.well.together.allocated
+          (λ at on other. ap (λ (o : Option (List ℕ)). cell_at (λ _. o) at) (on_table_more (home_of at) on) ∙ changes_more.0 at other)
+          (λ home off. put_beside home off.low off.no_index off.held ∙ changes_more.1 home (off_its_first home off.off_table))
+          (λ home off held. held_more home held) follow refl refl,
+    )
+
+pub is_written : (number : ℕ) (tag : Tag) (start : CellAt) (page : ℕ) (bytes : List ℕ) (d now : DomainNow) (around : StandsAround number d) → KeepsPlaces d now → BytesFollow d now → option_and_then start_of (around.chains tag) ≡ Some start
+    → WritesIndexPage number (d.tags number) d.space d.cells tag page bytes around.chains (around.indexes start) d.pages now.pages → GoesOnAround number d now
+is_written number tag start page bytes d now around same follow begins = by_chain (chain_at around.chains tag start begins)
+  where
+    by_chain : IsChain around.chains tag start → WritesIndexPage number (d.tags number) d.space d.cells tag page bytes around.chains (around.indexes start) d.pages now.pages → GoesOnAround number d now
+    by_chain c writes = subst (GoesOnAround number d) (sym same)
+        (page_written number tag d around c.first c.rest c.is page bytes now.pages now.contents
+        (subst (λ (a : CellAt). WritesIndexPage number (d.tags number) d.space d.cells tag page bytes around.chains (around.indexes a) d.pages now.pages) (sym c.at) writes) follow)
+
+pub is_put_in : (number : ℕ) (tag : Tag) (start : CellAt) (place prefer : ℕ) (bytes : List ℕ) (d now : DomainNow) (around : StandsAround number d) → KeepsTables d now → BytesFollow d now → option_and_then start_of (around.chains tag) ≡ Some start
+    → AddsIndexPage number (d.tags number) d.cells tag place bytes prefer around.chains (around.indexes start) d.space now.space d.pages now.pages → GoesOnAround number d now
+is_put_in number tag start place prefer bytes d now around same follow begins = by_chain (chain_at around.chains tag start begins)
+  where
+    by_chain : IsChain around.chains tag start → AddsIndexPage number (d.tags number) d.cells tag place bytes prefer around.chains (around.indexes start) d.space now.space d.pages now.pages → GoesOnAround number d now
+    by_chain c adds = subst (GoesOnAround number d) (sym same)
+        (page_put number tag d around c.first c.rest c.is place prefer bytes now.pages now.contents now.space
+        (subst (λ (a : CellAt). AddsIndexPage number (d.tags number) d.cells tag place bytes prefer around.chains (around.indexes a) d.space now.space d.pages now.pages) (sym c.at) adds) follow)

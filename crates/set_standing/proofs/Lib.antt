@@ -1,0 +1,10 @@
+pub mod Added
+pub mod Again
+pub mod Aside
+pub mod Besides
+pub mod CallsAround
+pub mod IndexAround
+pub mod Joined
+pub mod Led
+pub mod Removed
+pub mod Written

@@ -1,0 +1,167 @@
+-- A domain stands on around a slot where a file is taken away, and with it its index.
+use Rattle.std.proofs.Common.{◌≡◌, ◌∙◌, ℕ, false, List, [], ◌∷◌, Option, Some, None, IfSome, IsSomeAnd, Contains, inl, is_some, refl, sym, ap, subst}
+use Rattle.std.specs.Option.{option_and_then, option_map}
+use Rattle.domain_base.specs.declared.place.CellAt.{CellAt}
+use Rattle.domain_base.specs.declared.place.Home.{Home}
+use Rattle.domain_base.specs.declared.place.Tag.{Tag}
+use Rattle.page_store.specs.Pages.{Pages, same_home}
+use Rattle.record_table.specs.declared.record.Leftover.TheVariants.{Remove}
+use Rattle.record_table.specs.declared.record.Record.TheVariants as written
+use Rattle.bmt_mcells.specs.Cell.{Cell, record_of}
+use Rattle.bmt_mcells.specs.CellPage.{cell_at, home_of}
+use Rattle.bmt_mcells.specs.Chain.{PlacedCell}
+use Rattle.tag_dirs.proofs.Slots.{off_slot}
+use Rattle.free_cells.specs.Cells.{table_of}
+use Rattle.free_space.specs.Spaces.{Spaces}
+use Rattle.bitfile_cells.specs.Files.{AreFile, IsFile}
+use Rattle.bitfile_core.specs.Changes.{ChangesBeside, Removes, says_removed, with_first, without_chain}
+use Rattle.bitfile_core.specs.Files.{LeadsToFile, first_record}
+use Rattle.bitfile_core.specs.Index.{says_index}
+use Rattle.bitfile_core.specs.Shown.{index_of}
+use Rattle.bitfile_core.specs.Together.{AreTogether}
+use Rattle.bitfile_core.proofs.OneChain.{chain_same, same_tag_itself}
+use Rattle.stored_set.specs.Sets.{GivesIndexBack, without_index, without_index_from}
+use Rattle.deferred_delete.specs.Listed.{IsEntry}
+use Rattle.deferred_delete.specs.Listing.{Adds, Listing}
+use Rattle.deferred_delete.specs.Standing.{Files, ReadsThrough, source_at, with_file}
+use Rattle.deferred_delete.proofs.Spread.{none_not}
+use Rattle.deferred_delete.proofs.Standings.{file_there}
+use Rattle.deferred_laws.proofs.FirstWell.{removed_beside}
+use Rattle.domain_layout.specs.Filled.{Contents}
+use Rattle.domain_standing.specs.Domain.{DomainNow}
+use Rattle.standing_laws.specs.IndexCalls.{KeepsTables, with_index_at, with_removed}
+use Rattle.standing_laws.specs.Leads.{StandsBelow}
+use Rattle.standing_laws.proofs.IndexGone.{gone}
+use Rattle.standing_laws.proofs.IndexSaid.{gone_beside, gone_there, says_gone}
+use Rattle.standing_laws.proofs.IndexSpaces.{Among, NoHome, SpacesMove, held_still, moves_away}
+use Rattle.standing_laws.proofs.IndexWas.{file_was, index_low_was, off_cells, off_first}
+use Rattle.set_standing.specs.Around.{BytesFollow, GoesOnAround, StandsAround}
+use Rattle.set_standing.proofs.Again.{alone_said, around_of, names_first, number_first, there_first}
+use Rattle.set_standing.proofs.Aside.{stays_aside}
+
+module _ (number : ℕ) (tag : Tag) (group : ℕ) (d : DomainNow) (around : StandsAround number d) (pages : Pages) (contents : Contents) (space : Spaces) (together : AreTogether number (d.tags number) space d.cells pages (without_chain tag around.chains)) where
+  abbrev now : DomainNow
+  now = record d { pages = pages; contents = contents; space = space }
+
+  module _ (first : PlacedCell) (rest : List PlacedCell) (is : around.chains tag ≡ Some (first ∷ rest)) (removes : Removes number (d.tags number) tag first.at (without_index tag around.chains) pages) (gives : GivesIndexBack group (d.tags number) (around.chains tag) (around.indexes first.at) d.space space d.pages pages)
+      (listed : Listing) (adds : Adds first.at None d.list.entries listed.entries) (same_pages : listed.tag_pages ≡ d.list.tag_pages) (follow : BytesFollow d now)
+    where
+      abbrev then : DomainNow
+      then = record now { list = listed }
+
+      abbrev files_then : Files
+      files_then = with_removed first.at tag around.chains around.files
+
+      beside : ChangesBeside (d.tags number) (Some (first ∷ rest)) d.pages gives.said
+      beside = subst (λ o. ChangesBeside (d.tags number) o d.pages gives.said) is gives.beside
+
+      -- the file as it is then
+      record Gone : Type 0 where
+        says : Cell → Cell
+        files : files_then ≡ with_file first.at (Some (with_first says (first ∷ rest))) around.files
+        pending : record_of 6 (says first.cell).records ≡ Some (written.Pending Remove)
+        source : record_of 2 (says first.cell).records ≡ record_of 2 first.cell.records
+
+      gone_file : Gone
+      gone_file = by_index (option_and_then index_of (around.chains tag)) refl
+        where
+          old_file : AreFile d.pages first rest
+          old_file = file_was d around.files around.indexes around.below number around.entry around.original tag around.chains around.well first rest is
+
+          by_index : (o : Option Home) → option_and_then index_of (around.chains tag) ≡ o → Gone
+          by_index None none =
+              let same : without_index tag around.chains tag ≡ Some (first ∷ rest) = ap (λ o. without_index_from o tag around.chains tag) none ∙ is in
+              record {
+                says = says_removed;
+                files = ap (λ o. with_file first.at (option_map (with_first says_removed) o) around.files) same;
+                pending = gone_there first.cell;
+                source = (removed_beside d.pages first rest old_file).source;
+              }
+          by_index (Some home) some =
+              let same : without_index tag around.chains tag ≡ Some (with_first (says_index None) (first ∷ rest)) =
+              ap (λ o. without_index_from o tag around.chains tag) some ∙ chain_same tag (with_first (says_index None)) around.chains tag (same_tag_itself tag) ∙ ap (option_map (with_first (says_index None))) is
+              in
+              record {
+                says = says_gone;
+                files = ap (λ o. with_file first.at (option_map (with_first says_removed) o) around.files) same;
+                pending = gone_there (says_index None first.cell);
+                source = (gone_beside d.pages first rest old_file).source;
+              }
+
+      alone_then : (at : CellAt) → source_at files_then at ≡ None
+      alone_then at = ap (λ (f : Files). source_at f at) gone_file.files ∙ alone_said number tag d around first rest is gone_file.says gone_file.source at
+
+      there_then : files_then first.at ≡ Some (with_first gone_file.says (first ∷ rest))
+      there_then = ap (λ (f : Files). f first.at) gone_file.files ∙ file_there first.at (Some (with_first gone_file.says (first ∷ rest))) around.files
+
+      entry : IsEntry files_then (record { at = first.at; clone = None })
+      entry = record {
+        there = ap is_some there_then;
+        says = inl (ap (λ o. is_some (option_and_then (first_record 6) o)) there_then ∙ ap is_some gone_file.pending);
+        given = λ clone none. absurd (none_not clone none);
+        all = λ clone reads. absurd (none_reads clone reads);
+      }
+        where
+          none_reads : (clone : CellAt) → ReadsThrough files_then clone first.at → ⊥
+          none_reads clone reads = subst (λ o. IsSomeAnd o (λ source. source.at ≡ first.at)) (alone_then clone) reads
+
+      below_then : StandsBelow then files_then (with_index_at first.at [] around.indexes)
+      below_then = gone number tag d now around.chains around.files around.indexes group around.below refl together first.at (names_first number tag d around first rest is) removes gives None listed entry adds same_pages
+
+      off_its_cells : (home : Home) → Contains (around.indexes first.at) home → ¬ Contains (table_of d.cells home.vol) home.page
+      off_its_cells = off_cells d around.files around.indexes around.below number around.entry around.original tag around.chains around.well first rest is
+
+      off_its_first : (home : Home) → ¬ Contains (table_of d.cells home.vol) home.page → same_home home (home_of first.at) ≡ false
+      off_its_first = off_first d around.files around.indexes around.below number around.entry around.original tag around.chains around.well first rest is
+
+      moves : SpacesMove NoHome (Among (around.indexes first.at)) d.space space
+      moves = subst (SpacesMove NoHome (Among (around.indexes first.at)) d.space) (sym gives.drops.waits)
+          (moves_away (around.indexes first.at) group d.space (index_low_was d around.files around.indexes around.below number around.entry around.original tag around.chains around.well first rest is))
+
+      pub file_gone : GoesOnAround number d then
+      file_gone = (
+        around_of number then around.entry around.original files_then (with_index_at first.at [] around.indexes) below_then (without_chain tag around.chains) together alone_then,
+        stays_aside number first.at d then around.files around.indexes around.below (first ∷ rest) (there_first number tag d around first rest is) (number_first number tag d around first rest is) (λ n differ. refl) refl below_then.chains.well.together.allocated
+            (λ at on other.
+            ap (λ (o : Option (List ℕ)). cell_at (λ _. o) at) (gives.drops.others (home_of at) (λ inside. off_its_cells (home_of at) inside on))
+            ∙ beside.cells at other)
+            (λ home off.
+            gives.drops.others home off.no_index
+            ∙ beside.pages home (off_slot (d.tags number) first.cell.head.slot home off.no_tags) (off_its_first home off.off_table))
+            (λ home off apart. record { held = held_still NoHome (Among (around.indexes first.at)) d.space space moves home off.low off.no_index apart.held; off_table = apart.off_table }) follow refl refl,
+      )
+
+  -- ---- where its chain begins
+
+  pub begun_at : (start : CellAt) → Removes number (d.tags number) tag start (without_index tag around.chains) pages → GivesIndexBack group (d.tags number) (around.chains tag) (around.indexes start) d.space space d.pages pages
+      → (listed : Listing) → Adds start None d.list.entries listed.entries → listed.tag_pages ≡ d.list.tag_pages → BytesFollow d now → GoesOnAround number d (record now { list = listed })
+  begun_at start removes gives listed adds same_pages follow = by_chain (around.chains tag) refl (around.well.together.files.some tag)
+    where
+      start_of_file : (first : PlacedCell) (rest : List PlacedCell) → around.chains tag ≡ Some (first ∷ rest) → (o : Option Home) → IsSomeAnd (without_index_from o tag around.chains tag) (λ cells. IsFile pages start (with_first says_removed cells)) → first.at ≡ start
+      start_of_file first rest is None pending = (subst (λ o. IsSomeAnd o (λ cells. IsFile pages start (with_first says_removed cells))) is pending).0
+      start_of_file first rest is (Some home) pending =
+          (subst (λ o. IsSomeAnd o (λ cells. IsFile pages start (with_first says_removed cells)))
+          (chain_same tag (with_first (says_index None)) around.chains tag (same_tag_itself tag) ∙ ap (option_map (with_first (says_index None))) is) pending).0
+
+      nothing : around.chains tag ≡ None → ⊥
+      nothing none =
+          subst (λ o. IsSomeAnd o (λ cells. IsFile pages start (with_first says_removed cells)))
+          (ap (λ o. without_index_from o tag around.chains tag) (ap (option_and_then index_of) none) ∙ none) removes.pending
+
+      from : (first : PlacedCell) (rest : List PlacedCell) → around.chains tag ≡ Some (first ∷ rest) → first.at ≡ start → GoesOnAround number d (record now { list = listed })
+      from first rest is here = file_gone first rest is
+          (subst (λ (a : CellAt). Removes number (d.tags number) tag a (without_index tag around.chains) pages) (sym here) removes)
+          (subst (λ (a : CellAt). GivesIndexBack group (d.tags number) (around.chains tag) (around.indexes a) d.space space d.pages pages) (sym here) gives)
+          listed (subst (λ (a : CellAt). Adds a None d.list.entries listed.entries) (sym here) adds) same_pages follow
+
+      by_chain : (o : Option (List PlacedCell)) → around.chains tag ≡ o → IfSome o (LeadsToFile number (d.tags number) d.pages tag) → GoesOnAround number d (record now { list = listed })
+      by_chain None none leads = absurd (nothing none)
+      by_chain (Some []) is leads = absurd leads.is_of
+      by_chain (Some (first ∷ rest)) is leads = from first rest is (start_of_file first rest is (option_and_then index_of (around.chains tag)) removes.pending)
+
+pub is_gone : (number : ℕ) (tag : Tag) (start : CellAt) (group : ℕ) (d now : DomainNow) (around : StandsAround number d) → KeepsTables d now → BytesFollow d now → AreTogether number (d.tags number) now.space d.cells now.pages (without_chain tag around.chains)
+    → Removes number (d.tags number) tag start (without_index tag around.chains) now.pages → GivesIndexBack group (d.tags number) (around.chains tag) (around.indexes start) d.space now.space d.pages now.pages
+    → (listed : Listing) → Adds start None d.list.entries listed.entries → listed.tag_pages ≡ d.list.tag_pages → GoesOnAround number d (record now { list = listed })
+is_gone number tag start group d now around same follow together removes gives listed adds same_pages =
+    subst (λ (x : DomainNow). GoesOnAround number d (record x { list = listed })) (sym same)
+    (begun_at number tag group d around now.pages now.contents now.space together start removes gives listed adds same_pages follow)

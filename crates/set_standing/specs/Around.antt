@@ -1,0 +1,59 @@
+-- A domain that stands around the fileset in one of its slots, while calls change that.
+use Rattle.std.specs.Prelude.{◌≡◌, ℕ, Some, None}
+use Rattle.domain_base.specs.declared.place.CellAt.{CellAt}
+use Rattle.domain_base.specs.declared.place.Home.{Home}
+use Rattle.bitfile_core.specs.Files.{Chains}
+use Rattle.fileset_model.specs.declared.fileset.FilesetSlot.{FilesetSlot}
+use Rattle.fileset_table.specs.declared.slot.FilesetEntry.{FilesetEntry}
+use Rattle.fileset_table.specs.declared.slot.SlotItem.TheVariants as slot
+use Rattle.deferred_delete.specs.Standing.{Files, source_at}
+use Rattle.deferred_laws.specs.Calls.{StandsWell}
+use Rattle.domain_layout.specs.Shape.{FilesetShape}
+use Rattle.domain_standing.specs.Chains.{IndexesAt, no_files, no_indexes}
+use Rattle.domain_standing.specs.Domain.{DomainNow, item_in}
+use Rattle.domain_standing.specs.Holders.{Holder, Holds}
+use Rattle.standing_laws.specs.Leads.{StandsBelow, fileset_now}
+use Rattle.standing_laws.specs.Slots.{StandsSlot}
+
+-- an original is in the slot of a domain that stands but for its filesets, its files are among the
+-- domain's, and no file of the domain is read through another
+pub record StandsAround (number : ℕ) (d : DomainNow) : Type 0 where
+  pub entry : FilesetEntry
+  pub original : item_in d number ≡ Some (slot.Original entry)
+  pub files : Files
+  pub indexes : IndexesAt
+  pub below : StandsBelow d files indexes
+  pub chains : Chains
+  pub well : StandsWell number (fileset_now d number chains files)
+  pub alone : (at : CellAt) → source_at files at ≡ None
+
+-- the page is one of the first pages of a volume
+abbrev pub IsOfVolume : DomainNow → Home → Type 0
+IsOfVolume d home = Holds d no_files no_indexes Holder.of_volume home
+
+-- all that is not of the slot is as it was: the frame and the table, the tags of other slots and
+-- what they stand for, and the first pages of volumes
+pub record StaysAround (number : ℕ) (d now : DomainNow) : Type 0 where
+  pub frame : now.frame ≡ d.frame
+  pub table : now.table ≡ d.table
+  pub tags : (other : ℕ) → ¬ other ≡ number → now.tags other ≡ d.tags other
+  pub slots : (other : ℕ) (entry : FilesetEntry) (shape : FilesetShape) (fileset : FilesetSlot)
+      → ¬ other ≡ number → item_in d other ≡ Some (slot.Original entry)
+      → StandsSlot d other entry shape fileset → StandsSlot now other entry shape fileset
+  pub volumes : (home : Home) → IsOfVolume d home → now.pages home ≡ d.pages home
+
+-- and the domain stands around the slot
+abbrev pub GoesOnAround : ℕ → DomainNow → DomainNow → Type 0
+GoesOnAround number d now = StandsAround number now × StaysAround number d now
+
+-- a page of which nothing is changed has the bytes that it had
+abbrev pub BytesFollow : DomainNow → DomainNow → Type 0
+BytesFollow d now =
+    (home : Home) → now.pages home ≡ d.pages home → now.contents home ≡ d.contents home
+
+-- nothing is changed but the slot's tags, pages, their bytes, free space and cells
+pub record ChangesSlot (number : ℕ) (d now : DomainNow) : Type 0 where
+  pub frame : now.frame ≡ d.frame
+  pub table : now.table ≡ d.table
+  pub list : now.list ≡ d.list
+  pub tags : (other : ℕ) → ¬ other ≡ number → now.tags other ≡ d.tags other

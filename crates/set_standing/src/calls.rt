@@ -1,0 +1,61 @@
+//! Calls on files that are made, and on what is said of them.
+ghost use Rattle.std.specs.Prelude.{◌≡◌, ◌≤◌, ◌⊎◌, [], ℕ, Some};
+ghost use Rattle.domain_base.specs.Limits.{max_links};
+ghost use Rattle.domain_base.specs.declared.place.Kind.TheVariants.{Directory};
+ghost use Rattle.domain_base.specs.declared.place.Tag.{Tag};
+ghost use Rattle.free_space.specs.Spaces.{missed};
+ghost use Rattle.bitfile_cells.specs.FileChanges.{LeavesOtherCells};
+ghost use Rattle.bitfile_core.specs.Changes.{ChangesFirst, says_attributes, says_parent, with_chain, with_first};
+ghost use Rattle.bitfile_core.specs.Creation.{Creates, LeavesBeside, TakesForFile};
+ghost use Rattle.bitfile_core.specs.Together.{AreTogether};
+ghost use Rattle.bitfile_core.specs.declared.attributes.Attributes.{Attributes};
+ghost use Rattle.bitfile_core.specs.declared.new_cells.NewFile.{NewFile};
+ghost use Rattle.stored_set.specs.Sets.{attributes_at};
+ghost use Rattle.domain_standing.specs.Domain.{DomainNow};
+ghost use Rattle.standing_laws.specs.Leads.{IsLiveOf};
+ghost use Rattle.standing_laws.specs.OtherPages.{KeepsPlaces};
+ghost use Rattle.set_standing.specs.Around.{BytesFollow, ChangesSlot, GoesOnAround, StandsAround};
+
+/// Where a call was refused, and at most a miss was counted, the domain stands on around the slot.
+pub fn all_stands_around_a_call_that_does_nothing()
+    ensures { (number : ℕ) (d now : DomainNow) → StandsAround number d → ChangesSlot number d now
+        → BytesFollow d now → now.tags number ≡ d.tags number → now.cells ≡ d.cells
+        → now.pages ≡ d.pages → (now.space ≡ d.space) ⊎ (now.space ≡ missed d.space)
+        → GoesOnAround number d now }
+{}
+
+/// So it does where a file or directory is made, which is of no clone that was not made.
+pub fn all_stands_around_a_file_that_is_made()
+    ensures { (number : ℕ) (tag : Tag) (what : NewFile) (prefer : ℕ) (d now : DomainNow)
+        → (around : StandsAround number d) → ChangesSlot number d now
+        → BytesFollow d now → what.birth ≤ d.table.made
+        → Creates number (now.tags number) tag d.frame.version what around.chains now.space d.cells
+        now.cells d.pages now.pages
+        → TakesForFile prefer (d.tags number) (now.tags number) d.space now.space d.cells now.cells
+        d.pages
+        → LeavesOtherCells d.cells [] d.pages now.pages
+        → LeavesBeside now.cells (now.tags number) d.pages now.pages
+        → GoesOnAround number d now }
+{}
+
+/// Where the first cell of a file or directory says another number of links, from 1 to 1,000.
+pub fn all_stands_around_links_that_are_set()
+    ensures { (number : ℕ) (tag : Tag) (was : Attributes) (links : ℕ) (d now : DomainNow)
+        → (around : StandsAround number d) → KeepsPlaces d now → BytesFollow d now
+        → attributes_at around.chains tag ≡ Some was → 1 ≤ links → links ≤ max_links
+        → ChangesFirst (around.chains tag) d.pages now.pages
+        → AreTogether number (d.tags number) d.space d.cells now.pages (with_chain tag
+        (with_first (says_attributes (record was { links = links }))) around.chains)
+        → GoesOnAround number d now }
+{}
+
+/// Where that of a directory says another one, in which it stands.
+pub fn all_stands_around_a_parent_that_is_said()
+    ensures { (number : ℕ) (tag parent : Tag) (d now : DomainNow)
+        → (around : StandsAround number d) → KeepsPlaces d now → BytesFollow d now
+        → IsLiveOf Directory (around.chains tag)
+        → ChangesFirst (around.chains tag) d.pages now.pages
+        → AreTogether number (d.tags number) d.space d.cells now.pages
+        (with_chain tag (with_first (says_parent parent)) around.chains)
+        → GoesOnAround number d now }
+{}

@@ -1,0 +1,22 @@
+//! Laws of a domain that stands around a fileset while that one's set of files and directories
+//! changes, each the contract of a function without a body.
+#![tactic(auto)]
+
+mod around;
+mod calls;
+mod indexes;
+mod pages;
+mod removing;
+
+pub use around::{all_stays_around, changes_around_join};
+pub use calls::{
+    all_stands_around_a_call_that_does_nothing, all_stands_around_a_file_that_is_made,
+    all_stands_around_a_parent_that_is_said, all_stands_around_links_that_are_set,
+};
+pub use indexes::{
+    all_stands_around_an_index_page_that_is_put_in, all_stands_around_an_index_page_that_is_written,
+};
+pub use pages::{
+    all_stands_around_a_directory_that_gets_a_page, all_stands_around_a_page_that_is_written,
+};
+pub use removing::all_stands_around_a_file_that_is_taken_away;

@@ -1,0 +1,33 @@
+//! Pages of directories.
+ghost use Rattle.std.specs.Prelude.{◌≡◌, ◌<◌, ℕ, IsSomeAnd, List};
+ghost use Rattle.domain_base.specs.Limits.{file_pages};
+ghost use Rattle.domain_base.specs.declared.place.Home.{Home};
+ghost use Rattle.domain_base.specs.declared.place.Tag.{Tag};
+ghost use Rattle.page_store.specs.Bitfiles.{Bitfiles, IsDirectory, count_pages};
+ghost use Rattle.extent_maps.specs.declared.run.PagePlace.TheVariants.{At};
+ghost use Rattle.bitfile_core.specs.Files.{place_at};
+ghost use Rattle.stored_set.specs.Sets.{AddsPage, StandsAsSet, attributes_at};
+ghost use Rattle.domain_standing.specs.Domain.{DomainNow};
+ghost use Rattle.standing_laws.specs.OtherPages.{KeepsPlaces};
+ghost use Rattle.set_standing.specs.Around.{BytesFollow, ChangesSlot, GoesOnAround, StandsAround};
+
+/// Where a page of a file or directory is put in place of the one that stood there.
+pub fn all_stands_around_a_page_that_is_written()
+    ensures { (number : ℕ) (tag : Tag) (page : ℕ) (d now : DomainNow)
+        → (around : StandsAround number d) → KeepsPlaces d now → BytesFollow d now
+        → ((home : Home) → ¬ place_at around.chains tag page ≡ At home
+        → now.pages home ≡ d.pages home)
+        → GoesOnAround number d now }
+{}
+
+/// Where a directory gets a page behind its last one.
+pub fn all_stands_around_a_directory_that_gets_a_page()
+    ensures { (number : ℕ) (tag : Tag) (page : ℕ) (bytes : List ℕ) (prefer : ℕ)
+        (d now : DomainNow) → (around : StandsAround number d) → ChangesSlot number d now
+        → BytesFollow d now → now.tags number ≡ d.tags number
+        → (set : Bitfiles) → StandsAsSet number (d.tags number) d.space d.cells d.pages set
+        → IsDirectory set tag → page ≡ count_pages set tag → page < file_pages
+        → IsSomeAnd (attributes_at around.chains tag) (AddsPage number (d.tags number) tag page
+        bytes prefer d.frame.version around.chains d.space now.space d.cells now.cells d.pages
+        now.pages) → GoesOnAround number d now }
+{}
