@@ -9,6 +9,8 @@ mod brought;
 #[cfg(test)]
 mod image;
 #[cfg(test)]
+mod left;
+#[cfg(test)]
 mod meant;
 #[cfg(test)]
 mod rack;

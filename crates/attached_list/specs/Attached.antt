@@ -1,0 +1,49 @@
+-- A domain as it is read of pages without a fault: what is kept in memory is what the pages say.
+use Rattle.std.specs.Prelude.{◌≡◌, ℕ, false, [], None, Some}
+use Rattle.domain_base.specs.declared.place.CellAt.{CellAt}
+use Rattle.domain_base.specs.declared.place.Tag.{Tag}
+use Rattle.page_store.specs.Pages.{Pages}
+use Rattle.bmt_mcells.specs.Cell.{Cell}
+use Rattle.bmt_mcells.specs.Chain.{StandsAt}
+use Rattle.tag_dirs.specs.Directory.{cell_of}
+use Rattle.attaching_laws.specs.Space.{IsSpaceOf}
+use Rattle.domain_layout.specs.CellRules.{LeadsTo, say_removed}
+use Rattle.domain_layout.specs.Faults.{HasNoFault}
+use Rattle.domain_layout.specs.Reached.{Frame}
+use Rattle.domain_layout.specs.TagRules.{IsQuotaOf}
+use Rattle.domain_standing.specs.Chains.{IsQuotaOf as IsNamedQuota, IsRemoved}
+use Rattle.domain_standing.specs.Domain.{DomainNow, item_in, layout_of}
+use Rattle.domain_standing.specs.Tables.{StandTables}
+use Rattle.attached_list.specs.ToDo.{HaveNoSource, ListsToDo}
+
+-- ** What no rule asks, beside that no file reads through another one
+
+-- each file that a tag names stays
+abbrev pub TagsStay : DomainNow → Type 0
+TagsStay d = (number : ℕ) (tag : Tag) (at : CellAt) (cell : Cell)
+    → cell_of d.pages (d.tags number) tag ≡ Some at → StandsAt d.pages at cell
+    → say_removed cell.records ≡ false
+
+-- the first of a fileset's quota cells stands there: no other one leads to it
+pub record IsFirstQuota (pages : Pages) (frame : Frame) (number : ℕ) (at : CellAt) : Type 0 where
+  pub is : IsQuotaOf pages frame number at
+  pub first : (other : CellAt) → ¬ LeadsTo pages frame other at
+
+-- so it does where what is being removed names quota cells
+abbrev pub HaveQuotasToGo : DomainNow → Type 0
+HaveQuotasToGo d = (number : ℕ) (at : CellAt) → IsRemoved (item_in d number)
+    → IsNamedQuota d number at → IsFirstQuota d.pages d.frame number at
+
+-- ** All of it
+
+-- the pages have no fault and what no rule asks; tables and free space are as they say, and the list
+-- is what first cells say to be left to do
+pub record IsReadFrom (d : DomainNow) : Type 0 where
+  pub tables : StandTables d
+  pub no_fault : HasNoFault d.pages d.frame
+  pub space : IsSpaceOf d.pages (layout_of d) d.space
+  pub tags : (number : ℕ) → item_in d number ≡ None → d.tags number ≡ []
+  pub sources : HaveNoSource d.pages (layout_of d)
+  pub stay : TagsStay d
+  pub quotas : HaveQuotasToGo d
+  pub list : ListsToDo d.pages (layout_of d) d.list

@@ -1,0 +1,3 @@
+pub mod ToDo
+pub mod Listing
+pub mod Attached

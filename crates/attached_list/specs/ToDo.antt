@@ -1,0 +1,53 @@
+-- What first cells say to be left to do, and the list of it.
+use Rattle.std.specs.Prelude.{◌≡◌, ◌<◌, ℕ, List, [], None, IsSome, Contains, get_or, length}
+use Rattle.std.specs.Option.{option_and_then}
+use Rattle.domain_base.specs.declared.place.CellAt.{CellAt}
+use Rattle.page_store.specs.Pages.{Pages}
+use Rattle.record_table.specs.declared.record.Record.{Record}
+use Rattle.bmt_mcells.specs.Cell.{Cell, record_of}
+use Rattle.bmt_mcells.specs.declared.head.CellKind.TheVariants.{Primary}
+use Rattle.deferred_delete.specs.Listed.{leftover_in}
+use Rattle.deferred_delete.specs.Listing.{Listing}
+use Rattle.deferred_delete.specs.Standing.{source_in}
+use Rattle.deferred_delete.specs.declared.list.Entry.{Entry}
+use Rattle.domain_layout.specs.Layout.{Layout}
+use Rattle.domain_layout.specs.Owners.{IsOnTable}
+
+-- records say what is left to be done of their file
+abbrev pub SayLeft : List Record → Type 0
+SayLeft records = IsSome (option_and_then leftover_in (record_of 6 records))
+
+-- a first cell in use says so
+pub record IsLeftToDo (pages : Pages) (layout : Layout) (at : CellAt) : Type 0 where
+  pub cell : Cell
+  pub on : IsOnTable pages layout at cell
+  pub kind : cell.head.kind ≡ Primary
+  pub says : SayLeft cell.records
+
+-- the list has the file that begins at a cell
+abbrev pub Lists : Listing → CellAt → Type 0
+Lists list at = (entry : Entry) × Contains list.entries entry × (entry.at ≡ at)
+
+-- it has the files of which first cells say so, each once, and nothing else
+pub record ListsToDo (pages : Pages) (layout : Layout) (list : Listing) : Type 0 where
+  pub all : (at : CellAt) → IsLeftToDo pages layout at → Lists list at
+  pub only : (entry : Entry) → Contains list.entries entry
+      → IsLeftToDo pages layout entry.at × (entry.clone ≡ None)
+  pub once : (i j : ℕ) (e : Entry) → i < length list.entries → j < length list.entries
+      → (get_or list.entries i e).at ≡ (get_or list.entries j e).at → i ≡ j
+  pub no_tags : list.tag_pages ≡ []
+
+-- records say through which file another one is read
+abbrev pub SaySource : List Record → Type 0
+SaySource records = IsSome (option_and_then source_in (record_of 2 records))
+
+-- a first cell in use says so
+pub record HasSource (pages : Pages) (layout : Layout) (at : CellAt) : Type 0 where
+  pub cell : Cell
+  pub on : IsOnTable pages layout at cell
+  pub kind : cell.head.kind ≡ Primary
+  pub says : SaySource cell.records
+
+-- no file reads through another one
+abbrev pub HaveNoSource : Pages → Layout → Type 0
+HaveNoSource pages layout = (at : CellAt) → ¬ HasSource pages layout at

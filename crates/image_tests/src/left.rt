@@ -1,0 +1,74 @@
+//! What first cells of images say to be left to do, and which files are read through others.
+use crate::image::Image;
+use crate::whole::Whole;
+use attached_list::{has_readers, read_list};
+use cell_faults::read_tables;
+use cell_links::CellLinks;
+use chain_faults::read_links;
+use domain_base::{CellAt, Version, VolIx};
+use page_ways::DomainFrame;
+use std::alloc::Global;
+use std::test::Fail;
+
+/// What is read of each cell in use of an image.
+fn links_of(alloc: Global, image: &Image) -> Result<CellLinks, Fail> {
+    let frame = DomainFrame {
+        anchor: image.anchor,
+        version: image.version,
+    };
+    let tables = read_tables(alloc, &image.pages, &frame)?;
+    Ok(read_links(alloc, &image.pages, &frame, &tables)?)
+}
+
+/// The file that is let go of first, and whether the list of an image has any, and whether some file
+/// of it is read through another one.
+fn told_left(
+    alloc: Global,
+    version: Version,
+    text: &str,
+) -> Result<(Option<CellAt>, bool, bool), Fail> {
+    let image = Image::new(alloc, version, text)?;
+    let links = links_of(alloc, &image)?;
+    let list = read_list(alloc, &image.pages, &links)?;
+    let readers = has_readers(alloc, &image.pages, &links)?;
+    let last = list.last().map(|entry| entry.at);
+    Ok((last, list.is_empty(), readers))
+}
+
+/// A cell of page 3 of the first volume.
+fn cell(number: u8) -> Result<Option<CellAt>, Fail> {
+    let vol = VolIx::new(1).ok_or("a volume")?;
+    Ok(Some(CellAt {
+        vol,
+        page: 3,
+        cell: number,
+    }))
+}
+
+#[test]
+fn nothing_is_left_of_whole_files(rt: HostRuntime) -> Result<(), Fail> {
+    let alloc = rt.alloc();
+    let told = told_left(alloc, Version::Three, Whole::Files.text())?;
+    assert_eq!(rt; told, (None, true, false));
+    let told = told_left(alloc, Version::Four, Whole::Cloned.text())?;
+    assert_eq!(rt; told, (None, true, false));
+    Ok(())
+}
+
+#[test]
+fn the_last_file_that_says_so_goes_first(rt: HostRuntime) -> Result<(), Fail> {
+    let alloc = rt.alloc();
+    let told = told_left(alloc, Version::Three, Whole::Pending.text())?;
+    assert_eq!(rt; told, (cell(3)?, false, false));
+    let told = told_left(alloc, Version::Three, Whole::Removed.text())?;
+    assert_eq!(rt; told, (cell(6)?, false, false));
+    Ok(())
+}
+
+#[test]
+fn files_of_a_clone_are_read_through_others(rt: HostRuntime) -> Result<(), Fail> {
+    let alloc = rt.alloc();
+    let told = told_left(alloc, Version::Three, Whole::Changed.text())?;
+    assert_eq!(rt; told, (None, true, true));
+    Ok(())
+}
