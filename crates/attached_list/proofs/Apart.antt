@@ -1,5 +1,5 @@
 -- Where no rule of tables is broken, two chains share no cell.
-use Rattle.std.proofs.Common.{◌≡◌, ◌∙◌, ◌⊎◌, inl, inr, ℕ, zero, suc, ◌≤◌, true, false, List, [], ◌∷◌, ◌++◌, Option, Some, None, Contains, slice_get, refl, sym, ap, subst, arith, ⊎_elim}
+use Rattle.std.proofs.Common.{◌≡◌, ◌∙◌, inl, inr, ℕ, zero, suc, ◌≤◌, true, List, [], ◌∷◌, Some, slice_get, refl, sym, ap, subst, ⊎_elim}
 use Rattle.std.specs.List.{AllByRecursion}
 use Rattle.domain_base.specs.declared.place.CellAt.{CellAt}
 use Rattle.page_store.specs.Pages.{Pages}
@@ -19,7 +19,7 @@ use Rattle.layout_laws.proofs.OnePage.{some_same}
 use Rattle.layout_laws.proofs.OwnedOnce.{same_cell}
 use Rattle.filesets_reading.proofs.ChainsApart.{index_of, one_before}
 use Rattle.attached_list.specs.Attached.{IsFirstQuota}
-use Rattle.attached_list.proofs.Begun.{ChainAt, head_of, nowhere, quota_in, same_begun}
+use Rattle.attached_list.proofs.Begun.{ChainAt, head_of, nowhere, quota_in}
 use Rattle.attached_list.proofs.OnTables.{link_there}
 use Rattle.attached_list.proofs.Walked.{IsOnWay}
 

@@ -1,5 +1,5 @@
 -- The chains of a domain that was read of pages without a fault.
-use Rattle.std.proofs.Common.{◌≡◌, ◌∙◌, ◌⊎◌, inl, inr, ℕ, ◌≤◌, List, Option, Some, None, Contains, slice_get, refl, sym, ap, subst, ⊎_elim}
+use Rattle.std.proofs.Common.{◌≡◌, ◌⊎◌, inl, inr, ℕ, ◌≤◌, List, Option, Some, None, slice_get, refl, sym, subst}
 use Rattle.std.specs.Option.{option_and_then}
 use Rattle.domain_base.specs.declared.place.CellAt.{CellAt}
 use Rattle.log_ring.specs.Homes.{IsMember, member_of}
@@ -10,7 +10,7 @@ use Rattle.fileset_table.specs.declared.slot.SlotItem.{SlotItem}
 use Rattle.fileset_table.specs.declared.slot.SlotItem.TheVariants as slot
 use Rattle.deferred_delete.specs.Standing.{Files}
 use Rattle.domain_layout.specs.CellRules.{LeadsTo}
-use Rattle.domain_layout.specs.Faults.{HasNoExtentFault, HasNoFault, HasNoTablesFault}
+use Rattle.domain_layout.specs.Faults.{HasNoExtentFault, HasNoTablesFault}
 use Rattle.domain_layout.specs.Owners.{frame_of}
 use Rattle.domain_layout.specs.TagRules.{IsQuotaOf, quota_of}
 use Rattle.domain_layout.proofs.NoTables.{none_of_extents}

@@ -1,5 +1,5 @@
 -- Each page of a domain that was read is held for one thing alone, or is free.
-use Rattle.std.proofs.Common.{◌≡◌, ◌∙◌, ◌⊎◌, inl, inr, ℕ, zero, suc, ◌+◌, ◌<◌, ◌≤◌, nat_eq, nat_le, ◌||◌, Bool, true, false, cond, List, [], ◌∷◌, ◌++◌, length, Option, Some, None, IsSomeAnd, Contains, slice_get, refl, sym, ap, subst, arith, ⊎_elim}
+use Rattle.std.proofs.Common.{◌≡◌, ◌∙◌, ◌⊎◌, inl, inr, ℕ, zero, suc, ◌≤◌, nat_eq, nat_le, Bool, true, false, cond, List, [], ◌∷◌, ◌++◌, Option, Some, None, IsSomeAnd, Contains, slice_get, refl, sym, ap, subst, arith, ⊎_elim}
 use Rattle.std.proofs.lemmas.Bool.{cases_Bool, eqb-true, le-leb, true≢false}
 use Rattle.std.specs.List.{AllByRecursion, filter}
 use Rattle.std.specs.Option.{option_and_then, option_map_or}
@@ -15,7 +15,6 @@ use Rattle.bmt_mcells.specs.declared.head.CellKind.TheVariants as kinds
 use Rattle.bmt_mcells.proofs.Unique.{one_stands}
 use Rattle.tag_dirs.specs.Directory.{has_home}
 use Rattle.tag_dirs.specs.declared.dir.TagPlace.{TagPlace}
-use Rattle.extent_maps.specs.declared.run.PagePlace.{PagePlace}
 use Rattle.extent_maps.specs.declared.run.PagePlace.TheVariants.{Absent, At}
 use Rattle.extent_records.specs.Rows.{AreOneMap}
 use Rattle.extent_records.specs.Writing.{most_rows, places_in}
@@ -24,7 +23,6 @@ use Rattle.log_ring.specs.Homes.{member_of}
 use Rattle.free_space.specs.Spaces.{volume_of}
 use Rattle.free_space.specs.VolumeSpace.{VolumeSpace, is_among, is_waiting}
 use Rattle.bitfile_cells.specs.Files.{HasMap, IsFile, IsMapCell, has_rows, map_records, places_of}
-use Rattle.bitfile_core.specs.Files.{first_record}
 use Rattle.bitfile_core.specs.Shown.{index_in, index_of}
 use Rattle.chain_release.proofs.Once.{file_map, shown_value}
 use Rattle.deferred_delete.proofs.Standings.{no_record}
@@ -34,9 +32,7 @@ use Rattle.attaching_laws.specs.Space.{IsSpaceAt, IsVolumeSpace}
 use Rattle.attaching_laws.proofs.Indexes.{few}
 use Rattle.domain_layout.specs.CellRules.{IsFirstPlace, is_chain_records}
 use Rattle.domain_layout.specs.Owners.{BelongsTo, HasExtent, HasIndexPage, IsOnTable, IsOwned, Owner, frame_of}
-use Rattle.domain_layout.specs.Reached.{begins}
 use Rattle.layout_laws.proofs.Named.{no_cell}
-use Rattle.layout_laws.proofs.OnePage.{some_same}
 use Rattle.layout_laws.proofs.OwnedOnce.{used_on}
 use Rattle.domain_standing.specs.Domain.{DomainNow, layout_of}
 use Rattle.domain_standing.specs.Tables.{first_place}
@@ -45,7 +41,7 @@ use Rattle.filesets_reading.proofs.OnTables.{on_table}
 use Rattle.domain_standing.specs.Holders.{AreHeldAt, AreHeldOn, Holder, Holds, HoldsOwned, IsUnheld}
 use Rattle.attached_list.specs.Attached.{IsReadFrom}
 use Rattle.attached_list.proofs.Begun.{nowhere}
-use Rattle.attached_list.proofs.Domain.{Chain, chain_at, chain_there, fault, files, quotas, small, tables}
+use Rattle.attached_list.proofs.Domain.{chain_at, chain_there, fault, files, quotas, small, tables}
 use Rattle.attached_list.proofs.InUse.{first_place as first_place_of, inside, inside_or_not, placed_in, used}
 use Rattle.attached_list.proofs.Indexed.{good_all, indexes, indexes_are, indexes_none, names_index, pages_of, read_all}
 use Rattle.attached_list.proofs.IndexPages.{ComesAt, from_first, stands_in}

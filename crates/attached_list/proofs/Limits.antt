@@ -1,5 +1,5 @@
 -- Where no rule of tables is broken, nothing is said of an owner twice in a chain of quota cells.
-use Rattle.std.proofs.Common.{◌≡◌, ◌∙◌, ◌⊎◌, inl, inr, ℕ, zero, suc, ◌+◌, ◌*◌, ◌^◌, ◌<◌, Bool, true, false, List, [], ◌∷◌, ◌++◌, Option, Some, None, Contains, refl, sym, ap, subst, arith, ⊎_elim}
+use Rattle.std.proofs.Common.{◌≡◌, ◌∙◌, inl, inr, ℕ, zero, suc, ◌+◌, ◌*◌, ◌^◌, ◌<◌, true, false, List, [], ◌∷◌, ◌++◌, Option, Some, None, Contains, refl, sym, ap, arith, ⊎_elim}
 use Rattle.std.proofs.lemmas.Bool.{cases_Bool}
 use Rattle.std.specs.List.{AllByRecursion, IsDistinct, cons_option}
 use Rattle.domain_base.specs.declared.place.CellAt.{CellAt}
@@ -7,7 +7,7 @@ use Rattle.page_store.specs.Pages.{Pages}
 use Rattle.record_table.specs.Records.{kind_of}
 use Rattle.record_table.specs.declared.record.Record.{Record}
 use Rattle.record_table.specs.declared.record.Record.TheVariants as written
-use Rattle.bmt_mcells.specs.Cell.{AreRising, Cell, id_of, place_of}
+use Rattle.bmt_mcells.specs.Cell.{AreRising, id_of, place_of}
 use Rattle.bmt_mcells.specs.Chain.{Follow, PlacedCell, StandsAt, records_of}
 use Rattle.bmt_mcells.specs.declared.head.CellKind.TheVariants.{Quota}
 use Rattle.fileset_model.specs.declared.command.Owner.{Owner}

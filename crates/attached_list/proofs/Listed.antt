@@ -1,19 +1,16 @@
 -- What first cells say to be left to do is on the list of a domain that was read, and nothing else.
-use Rattle.std.proofs.Common.{◌≡◌, ◌∙◌, ◌⊎◌, inl, inr, ℕ, zero, suc, ◌<◌, List, [], ◌∷◌, length, Option, Some, None, IsSome, Contains, get_or, refl, sym, ap, subst, arith, ⊎_elim}
+use Rattle.std.proofs.Common.{◌≡◌, ◌∙◌, inl, ℕ, zero, suc, ◌<◌, List, [], ◌∷◌, length, Option, Some, None, IsSome, Contains, get_or, refl, sym, ap, subst, arith, ⊎_elim}
 use Rattle.std.proofs.lemmas.Bool.{true≢false}
 use Rattle.std.specs.Option.{option_and_then}
 use Rattle.domain_base.specs.declared.place.CellAt.{CellAt}
-use Rattle.domain_base.specs.declared.place.Home.{Home}
 use Rattle.record_table.specs.declared.record.Record.{Record}
 use Rattle.bmt_mcells.specs.Cell.{Cell, record_of}
 use Rattle.bmt_mcells.specs.Chain.{PlacedCell}
 use Rattle.bmt_mcells.proofs.Unique.{one_stands}
 use Rattle.bitfile_cells.specs.Files.{IsFile}
 use Rattle.bitfile_core.specs.Files.{first_record}
-use Rattle.bitfile_core.specs.Together.{IsHeldApart}
 use Rattle.chain_release.specs.Releases.{AreAllOnce}
 use Rattle.deferred_delete.specs.Listed.{IsEntry, IsListed, leftover_in, left_of}
-use Rattle.deferred_delete.specs.Standing.{place_in}
 use Rattle.deferred_delete.specs.declared.list.Entry.{Entry}
 use Rattle.deferred_delete.proofs.Standings.{quota_first}
 use Rattle.domain_layout.specs.Owners.{IsOnTable}

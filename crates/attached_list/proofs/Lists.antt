@@ -1,23 +1,21 @@
 -- The list of what is left to be done grows by the files whose first cells say so, and has all of them in the end.
-use Rattle.std.proofs.Common.{◌≡◌, ◌∙◌, ◌⊎◌, ◌↔◌, inl, inr, ℕ, zero, suc, ◌+◌, ◌<◌, ◌≤◌, Bool, true, false, IsTrue, List, [], ◌∷◌, ◌++◌, length, Option, Some, None, IsSome, Contains, get_or, slice_set, refl, sym, ap, subst, arith, ⊎_elim, length-append}
+use Rattle.std.proofs.Common.{◌≡◌, ◌∙◌, ◌⊎◌, ◌↔◌, inl, inr, ℕ, zero, suc, ◌<◌, ◌≤◌, Bool, true, false, IsTrue, List, [], ◌∷◌, ◌++◌, length, None, Contains, get_or, slice_set, refl, sym, ap, subst, arith, ⊎_elim, length-append}
 use Rattle.std.proofs.lemmas.Bool.{cases_lt, true≢false}
 use Rattle.domain_base.specs.declared.place.CellAt.{CellAt}
 use Rattle.page_store.specs.Pages.{Pages}
 use Rattle.bmt_mcells.specs.Cell.{Cell}
 use Rattle.bmt_mcells.specs.Chain.{StandsAt}
 use Rattle.bmt_mcells.proofs.Unique.{one_stands}
-use Rattle.deferred_delete.specs.Listing.{Adds, AddsEntry, Listing, Puts, SetsEntry}
+use Rattle.deferred_delete.specs.Listing.{Adds, Listing, SetsEntry}
 use Rattle.deferred_delete.specs.declared.list.Entry.{Entry}
 use Rattle.cell_links.specs.Links.{HasLink, cells_of}
 use Rattle.cell_links.specs.declared.links.CellLink.{CellLink}
 use Rattle.cell_links.specs.declared.links.CellLinks.{CellLinks}
 use Rattle.chain_faults.specs.Links.{AreLinks, link_in}
 use Rattle.chain_leads.proofs.Each.{AreFound}
-use Rattle.domain_layout.specs.CellRules.{Link}
 use Rattle.domain_layout.specs.Faults.{HasNoTablesFault}
 use Rattle.domain_layout.specs.Layout.{IsLayout, Layout}
 use Rattle.domain_layout.specs.Owners.{IsOnTable, frame_of}
-use Rattle.layout_laws.proofs.Named.{link_to}
 use Rattle.attached_list.specs.Listing.{AddsLeft, AreAlone, AreOnce, IsLeftAt, SaysLeft, SaysThrough}
 use Rattle.attached_list.specs.ToDo.{HasSource, IsLeftToDo, Lists, ListsToDo}
 use Rattle.attached_list.proofs.Listed.{at_place, not_in}

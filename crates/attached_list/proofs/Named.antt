@@ -1,5 +1,5 @@
 -- Each chain of a domain that was read is somebody's: of a tag's file, of one that is to be removed, or of a slot's quota cells.
-use Rattle.std.proofs.Common.{◌≡◌, ◌∙◌, ◌⊎◌, inl, inr, ℕ, ◌+◌, Bool, true, false, List, [], ◌∷◌, Option, Some, None, slice_get, refl, sym, ap, subst, arith, ⊎_elim}
+use Rattle.std.proofs.Common.{◌≡◌, ◌∙◌, inl, inr, ℕ, true, false, List, Option, Some, None, refl, sym, ap, subst, arith, ⊎_elim}
 use Rattle.std.proofs.lemmas.Bool.{cases_Bool, true≢false}
 use Rattle.std.specs.Option.{option_and_then, option_map_or}
 use Rattle.domain_base.specs.declared.place.CellAt.{CellAt}
@@ -16,7 +16,7 @@ use Rattle.bmt_mcells.specs.declared.head.CellKind.TheVariants as kinds
 use Rattle.bmt_mcells.proofs.Unique.{one_stands}
 use Rattle.tag_dirs.specs.Directory.{IsDirectoryAt, cell_of}
 use Rattle.bitfile_core.specs.Files.{first_record, is_removed, says_remove}
-use Rattle.deferred_delete.specs.Listed.{left_of, leftover_in}
+use Rattle.deferred_delete.specs.Listed.{leftover_in}
 use Rattle.domain_layout.specs.CellRules.{IsLink, IsUsed, say_removed}
 use Rattle.domain_layout.specs.Layout.{AreTagPlaces}
 use Rattle.domain_layout.specs.Owners.{IsOnTable, frame_of}
@@ -28,7 +28,7 @@ use Rattle.fileset_shapes.proofs.Roots.{entry_leads}
 use Rattle.domain_standing.specs.Chains.{IsQuotaOf, IsSomebodys, IsTagged}
 use Rattle.domain_standing.specs.Domain.{DomainNow, layout_of}
 use Rattle.attached_list.specs.Attached.{IsReadFrom}
-use Rattle.attached_list.proofs.Begun.{is_there_or_not, nowhere}
+use Rattle.attached_list.proofs.Begun.{is_there_or_not}
 use Rattle.attached_list.proofs.Domain.{Chain, chain_at, files, tables}
 use Rattle.attached_list.proofs.Listed.{first_is}
 use Rattle.attached_list.proofs.OnTables.{link_there}

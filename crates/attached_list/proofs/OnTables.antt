@@ -1,9 +1,8 @@
 -- Where the pages of tables are well formed, it is decided of each place whether a cell in use stands there.
-use Rattle.std.proofs.Common.{◌≡◌, ◌∙◌, ◌⊎◌, inl, inr, ℕ, ◌<◌, ◌≤◌, Bool, true, false, cond, nat_lt, ◌&&◌, List, length, Option, Some, None, IsSomeAnd, Contains, slice_index, refl, sym, ap, subst, arith, ⊎_elim}
+use Rattle.std.proofs.Common.{◌≡◌, ◌∙◌, ◌⊎◌, inl, inr, ℕ, ◌<◌, ◌≤◌, List, length, Option, Some, None, IsSomeAnd, Contains, slice_index, refl, sym, ap, subst, arith, ⊎_elim}
 use Rattle.std.proofs.lemmas.Bool.{cases_lt}
 use Rattle.domain_base.specs.Page.{zero_bytes}
 use Rattle.domain_base.specs.declared.place.CellAt.{CellAt}
-use Rattle.domain_base.specs.declared.place.Home.{Home}
 use Rattle.page_store.specs.Pages.{Pages}
 use Rattle.record_table.specs.Fields.{number_at}
 use Rattle.log_ring.specs.Homes.{IsMember}

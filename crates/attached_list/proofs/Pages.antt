@@ -1,14 +1,11 @@
 -- Pages of the chains of a domain that was read: each is held, is none of cells, and is that of one page alone.
-use Rattle.std.proofs.Common.{◌≡◌, ◌∙◌, ◌⊎◌, inl, inr, ℕ, zero, suc, true, false, List, [], ◌∷◌, Option, Some, None, IfSome, IsSome, IsSomeAnd, Contains, refl, sym, ap, subst, arith, ⊎_elim}
-use Rattle.std.proofs.lemmas.Bool.{cases_Bool}
+use Rattle.std.proofs.Common.{◌≡◌, ◌∙◌, inl, ℕ, zero, suc, true, false, List, [], ◌∷◌, Option, Some, None, IfSome, IsSome, IsSomeAnd, Contains, refl, sym, ap, subst, arith, ⊎_elim}
 use Rattle.std.specs.List.{AllByRecursion}
 use Rattle.std.specs.Option.{option_and_then, option_map_or}
 use Rattle.domain_base.specs.declared.place.CellAt.{CellAt}
 use Rattle.domain_base.specs.declared.place.Home.{Home}
-use Rattle.record_table.specs.declared.record.Record.{Record}
 use Rattle.bmt_mcells.specs.CellPage.{home_of}
 use Rattle.bmt_mcells.specs.Chain.{PlacedCell, is_at, places}
-use Rattle.extent_maps.specs.declared.run.PagePlace.{PagePlace}
 use Rattle.extent_maps.specs.declared.run.PagePlace.TheVariants.{Absent, At}
 use Rattle.free_cells.specs.Cells.{table_of}
 use Rattle.bitfile_cells.specs.Files.{IsFile, places_of}
@@ -16,12 +13,11 @@ use Rattle.bitfile_core.specs.Files.{AreApart}
 use Rattle.bitfile_core.specs.Together.{IsHeldApart}
 use Rattle.deferred_delete.specs.Standing.{ReadsThrough, Source, StandTogether, place_in, source_at, source_in, source_of}
 use Rattle.deferred_delete.proofs.Standings.{at_itself, quota_first}
-use Rattle.domain_layout.specs.Owners.{BelongsTo, HasExtent, IsOwnedOnce, Owner, frame_of}
+use Rattle.domain_layout.specs.Owners.{BelongsTo, HasExtent, IsOwnedOnce, frame_of}
 use Rattle.domain_layout.specs.Owners.Owner.{of_cells, of_file}
 use Rattle.domain_layout.specs.Reached.{MayBe}
-use Rattle.layout_laws.proofs.OnePage.{some_same}
 use Rattle.layout_laws.proofs.OwnedOnce.{no_extent, owned_once, same_cell}
-use Rattle.layout_laws.proofs.Reached.{may_be_by, same_number}
+use Rattle.layout_laws.proofs.Reached.{may_be_by}
 use Rattle.attaching_laws.proofs.FilePages.{IsSaid, is_said}
 use Rattle.attaching_laws.proofs.Held.{held}
 use Rattle.attaching_laws.proofs.Tables.{allocated, of_member}

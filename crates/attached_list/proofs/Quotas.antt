@@ -1,5 +1,5 @@
 -- Each slot of a domain that was read has for its quota cells a chain of its fileset.
-use Rattle.std.proofs.Common.{◌≡◌, ◌∙◌, ◌⊎◌, inl, inr, ℕ, ◌+◌, ◌≤◌, List, [], ◌∷◌, Option, Some, None, IsSomeAnd, refl, sym, ap, subst, arith, ⊎_elim}
+use Rattle.std.proofs.Common.{◌≡◌, ◌∙◌, inr, ℕ, ◌+◌, List, [], ◌∷◌, Option, Some, None, IsSomeAnd, refl, sym, ap, subst, arith, ⊎_elim}
 use Rattle.domain_base.specs.declared.place.CellAt.{CellAt}
 use Rattle.record_table.specs.Fields.{number_at}
 use Rattle.bmt_mcells.specs.Cell.{Cell, IsFileset}
@@ -18,7 +18,7 @@ use Rattle.filesets_reading.proofs.TagPlaces.{equal_by, most_by}
 use Rattle.domain_standing.specs.Chains.{AreQuotasOf, IsOfFileset, IsQuotaOf}
 use Rattle.domain_standing.specs.Domain.{DomainNow, layout_of}
 use Rattle.attached_list.specs.Attached.{IsFirstQuota, IsReadFrom}
-use Rattle.attached_list.proofs.Begun.{begins_or_not, head_of, nowhere, same_begun}
+use Rattle.attached_list.proofs.Begun.{begins_or_not, head_of}
 use Rattle.attached_list.proofs.Domain.{BeginsAt, Chain, chain_at, chain_there, fault, files, quotas, small, tables}
 use Rattle.attached_list.proofs.Limits.{limits_once}
 use Rattle.attached_list.proofs.OnTables.{LinkOf, link_there, link_used}

@@ -1,5 +1,5 @@
 -- Where no rule of tables and extents is broken, each chain is a file's or one of quota cells, on pages of tables.
-use Rattle.std.proofs.Common.{◌≡◌, ◌∙◌, ◌⊎◌, inl, inr, ℕ, ◌≤◌, ◌^◌, ◌||◌, nat_eq, true, false, List, [], ◌∷◌, Option, Some, None, IfSome, Contains, refl, sym, ap, subst, arith, ⊎_elim}
+use Rattle.std.proofs.Common.{◌≡◌, ◌∙◌, ◌⊎◌, inl, inr, ℕ, ◌≤◌, ◌^◌, ◌||◌, nat_eq, true, List, [], ◌∷◌, Option, Some, None, IfSome, Contains, refl, sym, ap, subst, arith, ⊎_elim}
 use Rattle.std.proofs.lemmas.Bool.{and_parts, cases_Bool, eqb-true, or_cases}
 use Rattle.std.specs.List.{AllByRecursion, list_all}
 use Rattle.domain_base.specs.declared.place.CellAt.{CellAt}
@@ -11,11 +11,11 @@ use Rattle.bmt_mcells.specs.Cell.{Cell}
 use Rattle.bmt_mcells.specs.Chain.{Follow, PlacedCell, may_follow}
 use Rattle.bmt_mcells.specs.declared.head.CellKind.{CellKind}
 use Rattle.bmt_mcells.specs.declared.head.CellKind.TheVariants as kinds
-use Rattle.free_cells.specs.Cells.{Cells, table_of}
+use Rattle.free_cells.specs.Cells.{Cells}
 use Rattle.bitfile_cells.specs.FileChanges.{AreOnTables}
 use Rattle.bitfile_cells.specs.Files.{IsFile}
 use Rattle.bitfile_core.specs.Files.{HasFirstKinds}
-use Rattle.deferred_delete.specs.Standing.{IsFileOrQuotas, IsQuotaCell, IsQuotas, IsStanding}
+use Rattle.deferred_delete.specs.Standing.{IsQuotaCell, IsQuotas, IsStanding}
 use Rattle.domain_layout.specs.CellRules.{are_limits}
 use Rattle.domain_layout.specs.Faults.{HasNoExtentFault, HasNoTablesFault}
 use Rattle.domain_layout.specs.Layout.{IsLayout, Layout}

@@ -1,5 +1,5 @@
 -- The files that the tags of a slot name are among those of a domain that was read.
-use Rattle.std.proofs.Common.{◌≡◌, ◌∙◌, ◌⊎◌, inl, inr, ℕ, ◌≤◌, ◌^◌, nat_eq, ◌&&◌, true, false, List, [], ◌∷◌, Option, Some, None, IfSome, IsSome, IsSomeAnd, Contains, slice_get, refl, sym, ap, subst, arith, ⊎_elim}
+use Rattle.std.proofs.Common.{◌≡◌, ◌∙◌, inl, ℕ, ◌≤◌, ◌^◌, ◌&&◌, true, false, List, ◌∷◌, Option, Some, None, IfSome, IsSome, IsSomeAnd, Contains, slice_get, refl, sym, ap, subst, arith, ⊎_elim}
 use Rattle.std.proofs.lemmas.Bool.{cases_Bool, eq-eqb, true≢false}
 use Rattle.std.specs.Option.{option_and_then, option_map_or}
 use Rattle.domain_base.specs.declared.place.CellAt.{CellAt}
@@ -11,7 +11,6 @@ use Rattle.record_table.specs.declared.record.Leftover.TheVariants.{Remove, Trim
 use Rattle.record_table.specs.declared.record.Record.{Record}
 use Rattle.record_table.specs.declared.record.Record.TheVariants as written
 use Rattle.log_ring.specs.Homes.{IsMember, member_of}
-use Rattle.bmt_mcells.specs.Cell.{Cell, record_of}
 use Rattle.bmt_mcells.specs.Chain.{PlacedCell}
 use Rattle.bmt_mcells.specs.declared.head.CellKind.TheVariants as kinds
 use Rattle.tag_dirs.specs.Directory.{IsDirectoryAt, cell_of, has_home}
@@ -23,9 +22,9 @@ use Rattle.deferred_delete.specs.Listed.{leftover_in, left_of}
 use Rattle.deferred_delete.specs.Standing.{place_in}
 use Rattle.deferred_delete.specs.declared.list.Entry.{Entry}
 use Rattle.deferred_laws.specs.Tags.{AreAmong, chains_in, start_of}
-use Rattle.domain_layout.specs.CellRules.{Link, next_in, say_removed}
+use Rattle.domain_layout.specs.CellRules.{Link, next_in}
 use Rattle.domain_layout.specs.Layout.{AreTagPlaces, first_tag_of}
-use Rattle.domain_layout.specs.Owners.{BelongsTo, HasTagPage, IsOnTable, frame_of}
+use Rattle.domain_layout.specs.Owners.{HasTagPage, frame_of}
 use Rattle.domain_layout.specs.Owners.Owner.{of_file, of_tags}
 use Rattle.domain_layout.specs.TagRules.{HasTags, IsFirstOf}
 use Rattle.layout_laws.proofs.Named.{first_there}

@@ -1,14 +1,12 @@
 -- Where no rule of tables is broken, a chain is walked from its first cell to its end.
-use Rattle.std.proofs.Common.{◌≡◌, ◌∙◌, ◌⊎◌, inl, inr, ℕ, zero, suc, ◌+◌, ◌*◌, ◌<◌, ◌≤◌, Bool, true, false, eqb, ◌||◌, List, [], ◌∷◌, ◌++◌, length, map, Option, Some, None, Contains, refl, sym, ap, subst, arith, ⊎_elim}
+use Rattle.std.proofs.Common.{◌≡◌, ◌∙◌, inl, inr, ℕ, zero, suc, ◌+◌, ◌*◌, ◌<◌, ◌≤◌, true, false, eqb, ◌||◌, List, [], ◌∷◌, ◌++◌, length, map, Option, Some, None, Contains, refl, sym, ap, subst, arith, ⊎_elim}
 use Rattle.std.proofs.lemmas.Bool.{cases_Bool, eqb-true}
 use Rattle.std.proofs.lemmas.Map.Steps.{length-le_from_distinct_below}
 use Rattle.std.specs.List.{AllByRecursion, IsDistinct, list_any}
-use Rattle.std.specs.Prelude.{slice_index_or}
 use Rattle.domain_base.specs.declared.place.CellAt.{CellAt}
 use Rattle.page_store.specs.Pages.{Pages}
 use Rattle.log_ring.specs.Homes.{IsMember, member_of}
 use Rattle.bmt_mcells.specs.Cell.{Cell}
-use Rattle.bmt_mcells.specs.CellPage.{home_of}
 use Rattle.bmt_mcells.specs.Chain.{IsChain, Path, PlacedCell, StandsAt, may_follow, places}
 use Rattle.bmt_mcells.specs.Chain as ways
 use Rattle.bmt_mcells.proofs.Unique.{one_stands}
@@ -19,7 +17,7 @@ use Rattle.domain_layout.specs.Owners.{IsOnTable, frame_of}
 use Rattle.layout_laws.proofs.Named.{follows_on, link_to, no_cell}
 use Rattle.filesets_reading.proofs.TagPlaces.{most_by}
 use Rattle.filesets_reading.proofs.Ways.{map_pushed, pushed}
-use Rattle.attached_list.proofs.OnTables.{Used, link_there, link_used, used_or_not}
+use Rattle.attached_list.proofs.OnTables.{Used, link_used, used_or_not}
 
 -- ---- cells as numbers
 

@@ -36,8 +36,8 @@ HaveQuotasToGo d = (number : ℕ) (at : CellAt) → IsRemoved (item_in d number)
 
 -- ** All of it
 
--- the pages have no fault and what no rule asks; tables and free space are as they say, and the list
--- is what first cells say to be left to do
+-- the pages have no fault and what no rule asks; tables and free space are as they say, and the
+-- list is what first cells say to be left to do
 pub record IsReadFrom (d : DomainNow) : Type 0 where
   pub tables : StandTables d
   pub no_fault : HasNoFault d.pages d.frame

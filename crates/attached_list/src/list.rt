@@ -48,8 +48,8 @@ fn says_through<M: MetaPages>(alloc: Global, pages: &M, at: &CellAt) -> Result<b
     )
 }
 
-/// Puts the file that begins at a cell on the list, if its first cell says that something is left to
-/// be done of it.
+/// Puts the file that begins at a cell on the list, if its first cell says that something is left
+/// to be done of it.
 fn add_left<M: MetaPages>(
     alloc: Global,
     pages: &M,

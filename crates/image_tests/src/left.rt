@@ -20,7 +20,7 @@ fn links_of(alloc: Global, image: &Image) -> Result<CellLinks, Fail> {
     Ok(read_links(alloc, &image.pages, &frame, &tables)?)
 }
 
-/// The file that is let go of first, and whether the list of an image has any, and whether some file
+/// The file that is let go of first, whether the list of an image has none, and whether some file
 /// of it is read through another one.
 fn told_left(
     alloc: Global,

@@ -1,4 +1,4 @@
-use Rattle.std.proofs.Common.{◌≡◌, ◌∙◌, Contains}
+use Rattle.std.proofs.Common.{◌∙◌, Contains}
 use Rattle.deferred_delete.specs.declared.list.Entry.{Entry}
 use Rattle.chain_leads.proofs.Each.{all_found, found_more}
 use Rattle.attached_list.specs.Listing.{IsLeftAt}
