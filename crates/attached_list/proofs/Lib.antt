@@ -18,3 +18,4 @@ pub mod Rest
 pub mod IndexPages
 pub mod Held
 pub mod Lists
+pub mod Stands
