@@ -76,14 +76,14 @@ one_slot (x ∷ slots) own zero (suc j) a b less at at' same = true≢false (sym
 -- ---- an original of a domain that stands for filesets
 
 module _ (d : DomainNow) (all : FilesetMap) (slots : StandSlots d all) where
-  record StoodIn (n : ℕ) (entry : FilesetEntry) : Type 0 where
-    shape_was : FilesetShape
-    fileset_was : FilesetSlot
-    shaped : slots.shapes entry.name ≡ Some shape_was
-    filled : get all entry.name ≡ Some fileset_was
-    stood : StandsSlot d n entry shape_was fileset_was
+  pub record StoodIn (n : ℕ) (entry : FilesetEntry) : Type 0 where
+    pub shape_was : FilesetShape
+    pub fileset_was : FilesetSlot
+    pub shaped : slots.shapes entry.name ≡ Some shape_was
+    pub filled : get all entry.name ≡ Some fileset_was
+    pub stood : StandsSlot d n entry shape_was fileset_was
 
-  stood_in : (n : ℕ) (entry : FilesetEntry) → slice_get d.table.slots n ≡ Some (slot.Original entry) → StoodIn n entry
+  pub stood_in : (n : ℕ) (entry : FilesetEntry) → slice_get d.table.slots n ≡ Some (slot.Original entry) → StoodIn n entry
   stood_in n entry at = by_shape (slots.shapes entry.name) refl (slots.are.each n (slot.Original entry) at)
     where
       by_fileset : (sh : FilesetShape) → slots.shapes entry.name ≡ Some sh → IsOriginal d.pages n entry sh → (o : Option FilesetSlot) → get all entry.name ≡ o → FillsThere d.contents (Some sh) o → StoodIn n entry

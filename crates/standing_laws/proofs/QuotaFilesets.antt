@@ -25,7 +25,7 @@ use Rattle.domain_standing.specs.Slots.{StandSlots}
 use Rattle.standing_laws.specs.Leads.{StandsBelow}
 use Rattle.standing_laws.specs.SetsQuota.{SetsQuota, entry_limited, fileset_limited, shape_limited}
 use Rattle.standing_laws.specs.Slots.{StandsSlot}
-use Rattle.standing_laws.proofs.FilesetsStand.{StoodIn, name_decided, one_name, one_slot, stood_in}
+use Rattle.standing_laws.proofs.FilesetPut.{StoodIn, name_decided, one_name, one_slot, stood_in}
 use Rattle.standing_laws.proofs.QuotaLimits.{slot_limited}
 use Rattle.standing_laws.proofs.QuotaSets.{slot_stays}
 use Rattle.standing_laws.proofs.QuotaSlots.{item_mine, item_other, number_or_not}
