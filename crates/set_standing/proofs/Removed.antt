@@ -106,7 +106,7 @@ module _ (number : ℕ) (tag : Tag) (group : ℕ) (d : DomainNow) (around : Stan
           none_reads clone reads = subst (λ o. IsSomeAnd o (λ source. source.at ≡ first.at)) (alone_then clone) reads
 
       below_then : StandsBelow then files_then (with_index_at first.at [] around.indexes)
-      below_then = gone number tag d now around.chains around.files around.indexes group around.below refl together first.at (names_first number tag d around first rest is) removes gives None listed entry adds same_pages
+      below_then = (gone number tag d now around.chains around.files around.indexes group around.below refl together first.at (names_first number tag d around first rest is) removes gives None listed entry adds same_pages).0
 
       off_its_cells : (home : Home) → Contains (around.indexes first.at) home → ¬ Contains (table_of d.cells home.vol) home.page
       off_its_cells = off_cells d around.files around.indexes around.below number around.entry around.original tag around.chains around.well first rest is
