@@ -6,5 +6,8 @@ pub mod CallsAround
 pub mod IndexAround
 pub mod Joined
 pub mod Led
+pub mod PartsCalls
+pub mod PartsGone
+pub mod PartsKept
 pub mod Removed
 pub mod Written

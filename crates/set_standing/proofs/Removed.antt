@@ -33,11 +33,33 @@ use Rattle.standing_laws.specs.IndexCalls.{KeepsTables, with_index_at, with_remo
 use Rattle.standing_laws.specs.Leads.{StandsBelow}
 use Rattle.standing_laws.proofs.IndexGone.{gone}
 use Rattle.standing_laws.proofs.IndexSaid.{gone_beside, gone_there, says_gone}
+use Rattle.standing_laws.proofs.IndexSet.{IsChain}
 use Rattle.standing_laws.proofs.IndexSpaces.{Among, NoHome, SpacesMove, held_still, moves_away}
 use Rattle.standing_laws.proofs.IndexWas.{file_was, index_low_was, off_cells, off_first}
 use Rattle.set_standing.specs.Around.{BytesFollow, GoesOnAround, StandsAround}
 use Rattle.set_standing.proofs.Again.{alone_said, around_of, names_first, number_first, there_first}
 use Rattle.set_standing.proofs.Aside.{stays_aside}
+
+-- where the chain begins of a file that was taken away
+module _ (number : ℕ) (tag : Tag) (d : DomainNow) (around : StandsAround number d) (pages : Pages) (start : CellAt) (removes : Removes number (d.tags number) tag start (without_index tag around.chains) pages) where
+  starts_at : (first : PlacedCell) (rest : List PlacedCell) → around.chains tag ≡ Some (first ∷ rest) → (o : Option Home) → IsSomeAnd (without_index_from o tag around.chains tag) (λ cells. IsFile pages start (with_first says_removed cells)) → first.at ≡ start
+  starts_at first rest is None pending = (subst (λ o. IsSomeAnd o (λ cells. IsFile pages start (with_first says_removed cells))) is pending).0
+  starts_at first rest is (Some home) pending =
+      (subst (λ o. IsSomeAnd o (λ cells. IsFile pages start (with_first says_removed cells)))
+      (chain_same tag (with_first (says_index None)) around.chains tag (same_tag_itself tag) ∙ ap (option_map (with_first (says_index None))) is) pending).0
+
+  nothing : around.chains tag ≡ None → ⊥
+  nothing none =
+      subst (λ o. IsSomeAnd o (λ cells. IsFile pages start (with_first says_removed cells)))
+      (ap (λ o. without_index_from o tag around.chains tag) (ap (option_and_then index_of) none) ∙ none) removes.pending
+
+  pub removed_chain : IsChain around.chains tag start
+  removed_chain = by_chain (around.chains tag) refl (around.well.together.files.some tag)
+    where
+      by_chain : (o : Option (List PlacedCell)) → around.chains tag ≡ o → IfSome o (LeadsToFile number (d.tags number) d.pages tag) → IsChain around.chains tag start
+      by_chain None none leads = absurd (nothing none)
+      by_chain (Some []) is leads = absurd leads.is_of
+      by_chain (Some (first ∷ rest)) is leads = record { first = first; rest = rest; is = is; at = starts_at first rest is (option_and_then index_of (around.chains tag)) removes.pending }
 
 module _ (number : ℕ) (tag : Tag) (group : ℕ) (d : DomainNow) (around : StandsAround number d) (pages : Pages) (contents : Contents) (space : Spaces) (together : AreTogether number (d.tags number) space d.cells pages (without_chain tag around.chains)) where
   abbrev now : DomainNow
@@ -131,33 +153,15 @@ module _ (number : ℕ) (tag : Tag) (group : ℕ) (d : DomainNow) (around : Stan
             (λ home off apart. record { held = held_still NoHome (Among (around.indexes first.at)) d.space space moves home off.low off.no_index apart.held; off_table = apart.off_table }) follow refl refl,
       )
 
-  -- ---- where its chain begins
-
   pub begun_at : (start : CellAt) → Removes number (d.tags number) tag start (without_index tag around.chains) pages → GivesIndexBack group (d.tags number) (around.chains tag) (around.indexes start) d.space space d.pages pages
       → (listed : Listing) → Adds start None d.list.entries listed.entries → listed.tag_pages ≡ d.list.tag_pages → BytesFollow d now → GoesOnAround number d (record now { list = listed })
-  begun_at start removes gives listed adds same_pages follow = by_chain (around.chains tag) refl (around.well.together.files.some tag)
+  begun_at start removes gives listed adds same_pages follow = from (removed_chain number tag d around pages start removes)
     where
-      start_of_file : (first : PlacedCell) (rest : List PlacedCell) → around.chains tag ≡ Some (first ∷ rest) → (o : Option Home) → IsSomeAnd (without_index_from o tag around.chains tag) (λ cells. IsFile pages start (with_first says_removed cells)) → first.at ≡ start
-      start_of_file first rest is None pending = (subst (λ o. IsSomeAnd o (λ cells. IsFile pages start (with_first says_removed cells))) is pending).0
-      start_of_file first rest is (Some home) pending =
-          (subst (λ o. IsSomeAnd o (λ cells. IsFile pages start (with_first says_removed cells)))
-          (chain_same tag (with_first (says_index None)) around.chains tag (same_tag_itself tag) ∙ ap (option_map (with_first (says_index None))) is) pending).0
-
-      nothing : around.chains tag ≡ None → ⊥
-      nothing none =
-          subst (λ o. IsSomeAnd o (λ cells. IsFile pages start (with_first says_removed cells)))
-          (ap (λ o. without_index_from o tag around.chains tag) (ap (option_and_then index_of) none) ∙ none) removes.pending
-
-      from : (first : PlacedCell) (rest : List PlacedCell) → around.chains tag ≡ Some (first ∷ rest) → first.at ≡ start → GoesOnAround number d (record now { list = listed })
-      from first rest is here = file_gone first rest is
-          (subst (λ (a : CellAt). Removes number (d.tags number) tag a (without_index tag around.chains) pages) (sym here) removes)
-          (subst (λ (a : CellAt). GivesIndexBack group (d.tags number) (around.chains tag) (around.indexes a) d.space space d.pages pages) (sym here) gives)
-          listed (subst (λ (a : CellAt). Adds a None d.list.entries listed.entries) (sym here) adds) same_pages follow
-
-      by_chain : (o : Option (List PlacedCell)) → around.chains tag ≡ o → IfSome o (LeadsToFile number (d.tags number) d.pages tag) → GoesOnAround number d (record now { list = listed })
-      by_chain None none leads = absurd (nothing none)
-      by_chain (Some []) is leads = absurd leads.is_of
-      by_chain (Some (first ∷ rest)) is leads = from first rest is (start_of_file first rest is (option_and_then index_of (around.chains tag)) removes.pending)
+      from : IsChain around.chains tag start → GoesOnAround number d (record now { list = listed })
+      from c = file_gone c.first c.rest c.is
+          (subst (λ (a : CellAt). Removes number (d.tags number) tag a (without_index tag around.chains) pages) (sym c.at) removes)
+          (subst (λ (a : CellAt). GivesIndexBack group (d.tags number) (around.chains tag) (around.indexes a) d.space space d.pages pages) (sym c.at) gives)
+          listed (subst (λ (a : CellAt). Adds a None d.list.entries listed.entries) (sym c.at) adds) same_pages follow
 
 pub is_gone : (number : ℕ) (tag : Tag) (start : CellAt) (group : ℕ) (d now : DomainNow) (around : StandsAround number d) → KeepsTables d now → BytesFollow d now → AreTogether number (d.tags number) now.space d.cells now.pages (without_chain tag around.chains)
     → Removes number (d.tags number) tag start (without_index tag around.chains) now.pages → GivesIndexBack group (d.tags number) (around.chains tag) (around.indexes start) d.space now.space d.pages now.pages

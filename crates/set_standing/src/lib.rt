@@ -6,6 +6,7 @@ mod around;
 mod calls;
 mod indexes;
 mod pages;
+mod parts;
 mod removing;
 
 pub use around::{all_stays_around, changes_around_join};
@@ -19,4 +20,5 @@ pub use indexes::{
 pub use pages::{
     all_stands_around_a_directory_that_gets_a_page, all_stands_around_a_page_that_is_written,
 };
+pub use parts::{changes_of_parts_join, parts_that_stay_keep_all_around};
 pub use removing::all_stands_around_a_file_that_is_taken_away;
