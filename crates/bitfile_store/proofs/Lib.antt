@@ -1,3 +1,4 @@
+pub mod Arounds
 pub mod Behind
 pub mod Held
 pub mod Looks

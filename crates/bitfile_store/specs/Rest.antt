@@ -1,6 +1,6 @@
 -- What stays of a set of files that calls change, and what is listed of files that are taken away.
 use Rattle.std.specs.Prelude.{◌≡◌, ◌++◌, ◌∷◌, ℕ, List, []}
-use Rattle.std.proofs.Common.{◌∙◌, append_assoc, refl, sym, ap}
+use Rattle.std.proofs.Common.{◌∙◌, append_assoc, refl, sym, ap, subst}
 use Rattle.std.proofs.lemmas.List.{append-nil}
 use Rattle.domain_base.specs.declared.place.CellAt.{CellAt}
 use Rattle.domain_base.specs.declared.place.Tag.{Tag}
@@ -9,32 +9,46 @@ use Rattle.tag_dirs.specs.declared.dir.TagPlace.{TagPlace}
 use Rattle.bitfile_core.specs.Changes.{Removes}
 use Rattle.bitfile_core.specs.Files.{Chains}
 use Rattle.stored_set.specs.Sets.{without_index}
+use Rattle.free_cells.specs.Cells.{Cells}
+use Rattle.free_space.specs.Spaces.{Spaces}
+use Rattle.set_standing.specs.Parts.{KeepsAround, Parts}
+use Rattle.set_standing.proofs.PartsKept.{both_kept, none_kept}
 use Rattle.bitfile_store.specs.declared.parts.CallSettings.{CallSettings}
 
 -- cells are listed behind those that were
 abbrev pub Lists : List CellAt → List CellAt → Type 0
 Lists removed removed_now = (more : List CellAt) × (removed ++ more ≡ removed_now)
 
+-- the parts in which the files of a fileset stand
+abbrev pub parts_of : List TagPlace → Pages → Spaces → Cells → Parts
+parts_of tags pages space cells =
+    record { tags = tags; pages = pages; space = space; cells = cells }
+
 -- the fileset's number, what calls are given and the pages that a change is taken back to are as
--- they were, and so are the cells that were listed, behind which more may be
+-- they were, and so are the cells that were listed, behind which more may be; and whatever domain
+-- stood around the fileset does still, once those are on its list
 pub record LeavesRest (fileset fileset_now : ℕ) (settings settings_now : CallSettings)
-    (before before_now : Pages) (removed removed_now : List CellAt) : Type 0 where
+    (before before_now : Pages) (removed removed_now : List CellAt) (parts parts_now : Parts)
+    : Type 0 where
   pub same_number : fileset_now ≡ fileset
   pub same_settings : settings_now ≡ settings
   pub same_before : before_now ≡ before
   pub lists : Lists removed removed_now
+  pub around : KeepsAround fileset settings.version settings.born lists.0 parts parts_now
 
 -- where nothing is changed, all is so
 pub rest_is : (fileset : ℕ) (settings : CallSettings) (before : Pages) (removed : List CellAt)
-    → LeavesRest fileset fileset settings settings before before removed removed
-rest_is fileset settings before removed = record {
+    (parts : Parts)
+    → LeavesRest fileset fileset settings settings before before removed removed parts parts
+rest_is fileset settings before removed parts = record {
   same_number = refl;
   same_settings = refl;
   same_before = refl;
   lists = ([], append-nil removed);
+  around = none_kept fileset settings.version settings.born parts;
 }
 
-lists_joined : (a b c : List CellAt) → Lists a b → Lists b c → Lists a c
+abbrev lists_joined : (a b c : List CellAt) → Lists a b → Lists b c → Lists a c
 lists_joined a b c first then = (
   first.0 ++ then.0,
   sym (append_assoc a first.0 then.0) ∙ ap (λ xs. xs ++ then.0) first.1 ∙ then.1,
@@ -42,12 +56,17 @@ lists_joined a b c first then = (
 
 -- and after two changes, if it is after each
 pub rest_joined : (f g h : ℕ) (s t u : CallSettings) (p q r : Pages) (a b c : List CellAt)
-    → LeavesRest f g s t p q a b → LeavesRest g h t u q r b c → LeavesRest f h s u p r a c
-rest_joined f g h s t u p q r a b c first then = record {
+    (x y z : Parts) → LeavesRest f g s t p q a b x y → LeavesRest g h t u q r b c y z
+    → LeavesRest f h s u p r a c x z
+rest_joined f g h s t u p q r a b c x y z first then = record {
   same_number = then.same_number ∙ first.same_number;
   same_settings = then.same_settings ∙ first.same_settings;
   same_before = then.same_before ∙ first.same_before;
   lists = lists_joined a b c first.lists then.lists;
+  around = both_kept f s.version s.born first.lists.0 then.lists.0 x y z first.around
+      (subst (λ (n : ℕ). KeepsAround n s.version s.born then.lists.0 y z) first.same_number
+      (subst (λ (w : CallSettings). KeepsAround g w.version w.born then.lists.0 y z)
+      first.same_settings then.around));
 }
 
 -- the tag names nothing any more, and the cell at which its chain begins is listed behind the

@@ -5,7 +5,7 @@ ghost use Rattle.bitfile_core.specs.Changes.{says_parent, with_chain, with_first
 ghost use Rattle.bitfile_core.specs.Files.{AreFiles, Chains};
 ghost use Rattle.bitfile_core.specs.Together.{AreTogether};
 ghost use Rattle.stored_set.specs.Sets.{HasSet, StandsAsSet};
-ghost use Rattle.bitfile_store.specs.Rest.{LeavesRest, TakesAway, rest_is, rest_joined};
+ghost use Rattle.bitfile_store.specs.Rest.{LeavesRest, TakesAway, parts_of, rest_is, rest_joined};
 ghost use Rattle.bitfile_store.specs.Shown.{shown, shown_sound};
 
 use crate::parts::{CallSettings, StoredParts};
@@ -143,7 +143,9 @@ impl<M: MetaPages> BitfileSet for StoredBitfiles<M> {
 
     ghost leaves_rest = { λ old new. LeavesRest old.parts.files.fileset new.parts.files.fileset
         old.settings new.settings (M.before old.parts.pages) (M.before new.parts.pages)
-        old.parts.removed.items new.parts.removed.items };
+        old.parts.removed.items new.parts.removed.items
+        (parts_of old.parts.files.tags (M.pages old.parts.pages) old.parts.space old.parts.cells)
+        (parts_of new.parts.files.tags (M.pages new.parts.pages) new.parts.space new.parts.cells) };
 
     ghost is_spent = { λ _ _. ⊥ };
 
@@ -152,9 +154,10 @@ impl<M: MetaPages> BitfileSet for StoredBitfiles<M> {
         (M.whole set.parts.pages) };
 
     ghost rest_same = { λ set. rest_is set.parts.files.fileset set.settings
-        (M.before set.parts.pages) set.parts.removed.items };
+        (M.before set.parts.pages) set.parts.removed.items
+        (parts_of set.parts.files.tags (M.pages set.parts.pages) set.parts.space set.parts.cells) };
 
-    ghost rest_joins = { λ _ _ _ first then. rest_joined _ _ _ _ _ _ _ _ _ _ _ _ first then };
+    ghost rest_joins = { λ _ _ _ first then. rest_joined _ _ _ _ _ _ _ _ _ _ _ _ _ _ _ first then };
 
     ghost rest_spends = { λ _ _ _ _. (λ none. none, λ none. none) };
 

@@ -4,6 +4,8 @@ use Rattle.bitfile_store.specs.Shown.{shown, shown_is, shown_stands}
 use Rattle.bitfile_store.proofs.Held.{both_ends, is_there, still}
 use Rattle.bitfile_store.proofs.ParentSaid.{put_in_stands}
 use Rattle.bitfile_store.proofs.Rests.{kept}
+use Rattle.bitfile_store.specs.Rest.{parts_of}
+use Rattle.bitfile_store.proofs.Arounds.{parent_around}
 use Rattle.bitfile_store.proofs.stored_bitfiles.StoredBitfiles.set_parent.Goals as goal
 
 pub set_parent-requires-clause-files : goal.set_parent-requires-clause-files
@@ -47,4 +49,9 @@ pub returns-clause-says : goal.returns-clause-says
 returns-clause-says g c = λ chains together. c.set_parent.ensures.together c.args.self.now.parts.space c.args.self.now.parts.cells chains together
 
 pub returns-clause-rest : goal.returns-clause-rest
-returns-clause-rest g c = kept _ _ _ _ _ _ refl c.set_parent.ensures.before
+returns-clause-rest g c =
+    let set = c.args.self.now in
+    let pages = g.M.MetaPages.pages set.parts.pages in
+    let was = (shown_stands set.parts.files.fileset set.parts.files.tags set.parts.space set.parts.cells pages set.held) in
+    let p = parts_of set.parts.files.tags pages set.parts.space set.parts.cells in
+    kept _ _ _ _ _ _ _ _ refl c.set_parent.ensures.before (parent_around set.parts.files.fileset set.settings.version set.settings.born p (g.M.MetaPages.pages c.set_parent.new.pages) c.args.tag c.args.parent _ was c.requires c.set_parent.result c.set_parent.ensures.beside (c.set_parent.ensures.together set.parts.space set.parts.cells) c.set_parent.ensures.err)

@@ -1,4 +1,4 @@
-use Rattle.std.proofs.Common.{◌∙◌, ◌++◌, ◌∷◌, [], List, IsSome, ap, refl}
+use Rattle.std.proofs.Common.{◌∙◌, ◌++◌, ◌∷◌, [], List, IsSome, ap, inl, refl}
 use Rattle.domain_base.specs.declared.place.CellAt.{CellAt}
 use Rattle.bitfile_core.specs.declared.bitfiles.Bitfiles.{Bitfiles as Files}
 use Rattle.stored_set.proofs.StableSet.{has_set}
@@ -6,6 +6,10 @@ use Rattle.bitfile_store.specs.Shown.{shown, shown_is, shown_stands}
 use Rattle.bitfile_store.proofs.Held.{always_err, changed_held, of_each, on_err_both, still}
 use Rattle.bitfile_store.proofs.Misses.{given_less, kept_space}
 use Rattle.bitfile_store.proofs.Rests.{kept_as, kept_with}
+use Rattle.bitfile_store.specs.Rest.{parts_of}
+use Rattle.bitfile_store.proofs.Arounds.{gone_around}
+use Rattle.set_standing.proofs.PartsCalls.{refused_kept}
+use Rattle.set_standing.proofs.PartsKept.{none_kept}
 use Rattle.bitfile_store.proofs.stored_bitfiles.StoredBitfiles.take_away.Goals as goal
 
 pub remove-requires-clause-set : goal.remove-requires-clause-set
@@ -36,7 +40,12 @@ invariant_of-self-2 g c =
     record { held = changed_held c.remove.new.files.fileset c.remove.new.files.tags c.remove.new.space set.parts.cells (g.M.MetaPages.pages c.remove.new.pages) _ (shown set.parts.files.fileset set.parts.files.tags set.parts.space set.parts.cells pages set.held) c.remove.result (c.remove.ensures.ok _ (shown_stands set.parts.files.fileset set.parts.files.tags set.parts.space set.parts.cells pages set.held)) (on_err_both (λ none err. still set.parts.files c.remove.new.files set.parts.space c.remove.new.space set.parts.cells pages (g.M.MetaPages.pages c.remove.new.pages) (shown set.parts.files.fileset set.parts.files.tags set.parts.space set.parts.cells pages set.held) (shown_stands set.parts.files.fileset set.parts.files.tags set.parts.space set.parts.cells pages set.held) c.remove.ensures.same none err) c.remove.result c.remove.ensures.none c.remove.ensures.err) }
 
 pub returns-in_err-reserve-clause-rest : goal.returns-in_err-reserve-clause-rest
-returns-in_err-reserve-clause-rest g c = kept_as _ _ _ _ _ _ _ refl refl c.reserve.ensures.items
+returns-in_err-reserve-clause-rest g c =
+    let set = c.args.self.now in
+    let pages = g.M.MetaPages.pages set.parts.pages in
+    let was = (shown_stands set.parts.files.fileset set.parts.files.tags set.parts.space set.parts.cells pages set.held) in
+    let p = parts_of set.parts.files.tags pages set.parts.space set.parts.cells in
+    kept_as _ _ _ _ _ _ _ _ _ refl refl c.reserve.ensures.items (none_kept set.parts.files.fileset set.settings.version set.settings.born p)
 
 pub returns-in_err-at-clause-err : goal.returns-in_err-at-clause-err
 returns-in_err-at-clause-err g c =
@@ -51,7 +60,12 @@ returns-in_err-at-clause-count g c =
     kept_space set.parts.space c.remove.new.space c.in_err-at.ensures.none
 
 pub returns-in_err-at-clause-rest : goal.returns-in_err-at-clause-rest
-returns-in_err-at-clause-rest g c = kept_as _ _ _ _ _ _ _ (ap (λ (f : Files). f.fileset) c.remove.ensures.same) c.remove.ensures.before c.reserve.ensures.items
+returns-in_err-at-clause-rest g c =
+    let set = c.args.self.now in
+    let pages = g.M.MetaPages.pages set.parts.pages in
+    let was = (shown_stands set.parts.files.fileset set.parts.files.tags set.parts.space set.parts.cells pages set.held) in
+    let p = parts_of set.parts.files.tags pages set.parts.space set.parts.cells in
+    kept_as _ _ _ _ _ _ _ _ _ (ap (λ (f : Files). f.fileset) c.remove.ensures.same) c.remove.ensures.before c.reserve.ensures.items (refused_kept set.parts.files.fileset set.settings.version set.settings.born p (parts_of c.remove.new.files.tags (g.M.MetaPages.pages c.remove.new.pages) c.remove.new.space set.parts.cells) (ap (λ (f : Files). f.tags) c.remove.ensures.same) refl c.in_err-at.ensures.err (inl c.in_err-at.ensures.none))
 
 pub returns-clause-ok : goal.returns-clause-ok
 returns-clause-ok g c =
@@ -74,4 +88,10 @@ returns-clause-count g c =
     given_less (was.indexes c.args.tag) set.settings.group set.parts.space c.remove.new.space (c.in_ok-at.ensures.gives was.chains (was.indexes c.args.tag) was.stands.together.files (was.stands.indexed c.args.tag)).drops.waits
 
 pub returns-clause-rest : goal.returns-clause-rest
-returns-clause-rest g c = kept_with _ _ _ _ _ _ _ c.in_ok-at.at (ap (λ (f : Files). f.fileset) c.remove.ensures.same) c.remove.ensures.before (c.push_reserved.ensures.items ∙ ap (λ (xs : List CellAt). xs ++ c.in_ok-at.at ∷ []) c.reserve.ensures.items)
+returns-clause-rest g c =
+    let set = c.args.self.now in
+    let pages = g.M.MetaPages.pages set.parts.pages in
+    let was = (shown_stands set.parts.files.fileset set.parts.files.tags set.parts.space set.parts.cells pages set.held) in
+    let p = parts_of set.parts.files.tags pages set.parts.space set.parts.cells in
+    kept_with _ _ _ _ _ _ _ c.in_ok-at.at _ _ (ap (λ (f : Files). f.fileset) c.remove.ensures.same) c.remove.ensures.before (c.push_reserved.ensures.items ∙ ap (λ (xs : List CellAt). xs ++ c.in_ok-at.at ∷ []) c.reserve.ensures.items)
+    (gone_around set.parts.files.fileset set.settings.version set.settings.born p (g.M.MetaPages.pages c.remove.new.pages) c.remove.new.space set.parts.files c.remove.new.files refl refl c.remove.ensures.same c.args.tag c.in_ok-at.at set.settings.group _ (c.in_ok-at.ensures.ok _ was) c.in_ok-at.ensures.removes c.in_ok-at.ensures.gives)

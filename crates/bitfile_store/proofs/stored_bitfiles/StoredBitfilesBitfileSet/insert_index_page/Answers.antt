@@ -5,6 +5,8 @@ use Rattle.bitfile_store.specs.Shown.{shown_is, shown_stands}
 use Rattle.bitfile_store.proofs.Held.{at_ends, changed_held, err_map, of_each, on_err_map, on_ok_map}
 use Rattle.bitfile_store.proofs.Misses.{index_less, none_found, none_found_less}
 use Rattle.bitfile_store.proofs.Rests.{kept}
+use Rattle.bitfile_store.specs.Rest.{parts_of}
+use Rattle.bitfile_store.proofs.Arounds.{insert_around}
 use Rattle.bitfile_store.proofs.stored_bitfiles.StoredBitfilesBitfileSet.insert_index_page.Goals as goal
 
 pub insert_index_page-requires-clause-set : goal.insert_index_page-requires-clause-set
@@ -57,4 +59,9 @@ returns-clause-count g c =
     at_ends (λ adds. index_less _ _ _ _ _ _ _ _ _ set.parts.space c.insert_index_page.new.space _ _ adds) (λ fault none. none_found_less set.parts.space c.insert_index_page.new.space (omega (arith, c.misses.ensures.value)) fault none) c.insert_index_page.result (c.insert_index_page.ensures.adds was.chains (was.indexes c.args.tag) was.stands.together (was.stands.indexed c.args.tag)) c.insert_index_page.ensures.none
 
 pub returns-clause-rest : goal.returns-clause-rest
-returns-clause-rest g c = kept _ _ _ _ _ _ refl c.insert_index_page.ensures.before
+returns-clause-rest g c =
+    let set = c.args.self.now in
+    let pages = g.M.MetaPages.pages set.parts.pages in
+    let was = (shown_stands set.parts.files.fileset set.parts.files.tags set.parts.space set.parts.cells pages set.held) in
+    let p = parts_of set.parts.files.tags pages set.parts.space set.parts.cells in
+    kept _ _ _ _ _ _ _ _ refl c.insert_index_page.ensures.before (insert_around set.parts.files.fileset set.settings.version set.settings.born p (g.M.MetaPages.pages c.insert_index_page.new.pages) c.insert_index_page.new.space c.args.tag c.args.page set.settings.prefer c.args.bytes _ was c.requires.directory c.insert_index_page.result c.insert_index_page.ensures.adds c.insert_index_page.ensures.none c.insert_index_page.ensures.pages)

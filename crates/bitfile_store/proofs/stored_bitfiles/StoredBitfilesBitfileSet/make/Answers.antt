@@ -1,9 +1,12 @@
-use Rattle.std.proofs.Common.{arith}
+use Rattle.std.proofs.Common.{ap, arith}
 use Rattle.stored_set.proofs.StableSet.{has_set}
 use Rattle.bitfile_store.specs.Shown.{shown_is, shown_stands}
 use Rattle.bitfile_store.proofs.Held.{at_ends, err_map, made_held, ok_map, on_err_map}
 use Rattle.bitfile_store.proofs.Misses.{made_less, none_made, none_made_less}
 use Rattle.bitfile_store.proofs.Rests.{kept}
+use Rattle.bitfile_store.specs.Rest.{parts_of}
+use Rattle.bitfile_store.proofs.Arounds.{make_around}
+use Rattle.bitfile_core.specs.declared.bitfiles.Bitfiles.{Bitfiles as FilesOf}
 use Rattle.bitfile_store.proofs.stored_bitfiles.StoredBitfilesBitfileSet.make.Goals as goal
 
 pub make-requires : goal.make-requires
@@ -43,4 +46,9 @@ returns-clause-count g c =
     at_ends (λ taken. made_less set.settings.prefer set.parts.files.tags c.make.new.files.tags set.parts.space c.make.new.space set.parts.cells c.make.new.cells pages taken) (λ fault none. none_made_less set.parts.space c.make.new.space (omega (arith, c.misses.ensures.value)) set.parts.files.tags set.parts.cells pages fault none) c.make.result c.make.ensures.taken c.make.ensures.none
 
 pub returns-clause-rest : goal.returns-clause-rest
-returns-clause-rest g c = kept _ _ _ _ _ _ c.make.ensures.fileset c.make.ensures.before
+returns-clause-rest g c =
+    let set = c.args.self.now in
+    let pages = g.M.MetaPages.pages set.parts.pages in
+    let was = (shown_stands set.parts.files.fileset set.parts.files.tags set.parts.space set.parts.cells pages set.held) in
+    let p = parts_of set.parts.files.tags pages set.parts.space set.parts.cells in
+    kept _ _ _ _ _ _ _ _ c.make.ensures.fileset c.make.ensures.before (make_around set.parts.files.fileset set.settings.version set.settings.born p (parts_of c.make.new.files.tags (g.M.MetaPages.pages c.make.new.pages) c.make.new.space c.make.new.cells) c.args.kind c.args.uid c.args.gid set.settings.prefer c.make.result c.make.ensures.creates c.make.ensures.taken c.make.ensures.others c.make.ensures.elsewhere c.make.ensures.none (on_err_map (λ same. ap (λ (f : FilesOf). f.tags) same) c.make.result c.make.ensures.same) c.make.ensures.cells c.make.ensures.pages)

@@ -1,10 +1,13 @@
 use Rattle.std.proofs.Common.{◌≡◌, ◌<◌, arith, refl}
 use Rattle.page_store.specs.Bitfiles.{IsDirectory, count_pages}
 use Rattle.stored_set.proofs.StableSet.{has_set}
-use Rattle.bitfile_store.specs.Shown.{shown_is, shown_stands}
+use Rattle.bitfile_store.specs.Shown.{shown, shown_is, shown_stands}
 use Rattle.bitfile_store.proofs.Held.{at_ends, changed_held, err_map, of_each, on_err_map, on_ok_map}
 use Rattle.bitfile_store.proofs.Misses.{added_less, none_added, none_added_less}
 use Rattle.bitfile_store.proofs.Rests.{kept}
+use Rattle.bitfile_store.specs.Rest.{parts_of}
+use Rattle.bitfile_store.proofs.Arounds.{add_around}
+use Rattle.set_standing.proofs.PartsCalls.{written_kept}
 use Rattle.bitfile_store.proofs.stored_bitfiles.StoredBitfilesBitfileSet.put_dir_page.Goals as goal
 
 pub write_page-requires-clause-set : goal.write_page-requires-clause-set
@@ -88,7 +91,17 @@ returns-clause-count g c =
     at_ends (λ some. added_less _ _ c.args.tag c.args.page _ _ _ was.chains set.parts.space c.add_page.new.space set.parts.cells c.add_page.new.cells pages (g.M.MetaPages.pages c.add_page.new.pages) some) (λ fault none. none_added_less set.parts.space c.add_page.new.space (omega (arith, c.misses.ensures.value)) c.args.tag c.args.page was.chains set.parts.cells fault none) c.add_page.result (c.add_page.ensures.adds was.chains was.stands.together) (c.add_page.ensures.none was.chains was.stands.together)
 
 pub returns-then-page-count-clause-rest : goal.returns-then-page-count-clause-rest
-returns-then-page-count-clause-rest g c = kept _ _ _ _ _ _ refl c.write_page.ensures.before
+returns-then-page-count-clause-rest g c =
+    let set = c.args.self.now in
+    let pages = g.M.MetaPages.pages set.parts.pages in
+    let was = (shown_stands set.parts.files.fileset set.parts.files.tags set.parts.space set.parts.cells pages set.held) in
+    let p = parts_of set.parts.files.tags pages set.parts.space set.parts.cells in
+    kept _ _ _ _ _ _ _ _ refl c.write_page.ensures.before (written_kept set.parts.files.fileset set.settings.version set.settings.born p (g.M.MetaPages.pages c.write_page.new.pages) c.args.tag c.args.page c.write_page.ensures.elsewhere)
 
 pub returns-clause-rest : goal.returns-clause-rest
-returns-clause-rest g c = kept _ _ _ _ _ _ refl c.add_page.ensures.before
+returns-clause-rest g c =
+    let set = c.args.self.now in
+    let pages = g.M.MetaPages.pages set.parts.pages in
+    let was = (shown_stands set.parts.files.fileset set.parts.files.tags set.parts.space set.parts.cells pages set.held) in
+    let p = parts_of set.parts.files.tags pages set.parts.space set.parts.cells in
+    kept _ _ _ _ _ _ _ _ refl c.add_page.ensures.before (add_around set.parts.files.fileset set.settings.version set.settings.born p (parts_of set.parts.files.tags (g.M.MetaPages.pages c.add_page.new.pages) c.add_page.new.space c.add_page.new.cells) c.args.tag c.args.page c.args.bytes set.settings.prefer (shown set.parts.files.fileset set.parts.files.tags set.parts.space set.parts.cells pages set.held) was c.requires.directory (omega arith) c.requires.fits c.add_page.result refl c.add_page.ensures.adds c.add_page.ensures.none c.add_page.ensures.cells c.add_page.ensures.pages)

@@ -6,6 +6,9 @@ use Rattle.bitfile_store.proofs.Behind.{put_behind}
 use Rattle.bitfile_store.proofs.Held.{at_ends, changed_held, err_map, of_each, on_err_map, on_ok_map, still}
 use Rattle.bitfile_store.proofs.Misses.{index_less, none_found, none_found_less}
 use Rattle.bitfile_store.proofs.Rests.{kept}
+use Rattle.bitfile_store.specs.Rest.{parts_of}
+use Rattle.bitfile_store.proofs.Arounds.{insert_around, still_around}
+use Rattle.set_standing.proofs.PartsCalls.{reindexed_kept}
 use Rattle.bitfile_store.proofs.stored_bitfiles.StoredBitfilesBitfileSet.put_index_page.Goals as goal
 
 pub write_index_page-requires-clause-set : goal.write_index_page-requires-clause-set
@@ -94,10 +97,25 @@ invariant_of-self g c =
     record { held = changed_held set.parts.files.fileset set.parts.files.tags set.parts.space set.parts.cells (g.M.MetaPages.pages c.write_index_page.new.pages) _ (shown set.parts.files.fileset set.parts.files.tags set.parts.space set.parts.cells pages set.held) c.write_index_page.result (c.write_index_page.ensures.ok _ (shown_stands set.parts.files.fileset set.parts.files.tags set.parts.space set.parts.cells pages set.held)) (on_err_map (λ err. still set.parts.files set.parts.files set.parts.space set.parts.space set.parts.cells pages (g.M.MetaPages.pages c.write_index_page.new.pages) (shown set.parts.files.fileset set.parts.files.tags set.parts.space set.parts.cells pages set.held) (shown_stands set.parts.files.fileset set.parts.files.tags set.parts.space set.parts.cells pages set.held) refl refl err) c.write_index_page.result c.write_index_page.ensures.err) }
 
 pub returns-clause-rest : goal.returns-clause-rest
-returns-clause-rest g c = kept _ _ _ _ _ _ refl c.insert_index_page.ensures.before
+returns-clause-rest g c =
+    let set = c.args.self.now in
+    let pages = g.M.MetaPages.pages set.parts.pages in
+    let was = (shown_stands set.parts.files.fileset set.parts.files.tags set.parts.space set.parts.cells pages set.held) in
+    let p = parts_of set.parts.files.tags pages set.parts.space set.parts.cells in
+    kept _ _ _ _ _ _ _ _ refl c.insert_index_page.ensures.before (insert_around set.parts.files.fileset set.settings.version set.settings.born p (g.M.MetaPages.pages c.insert_index_page.new.pages) c.insert_index_page.new.space c.args.tag c.args.page set.settings.prefer c.args.bytes _ was c.requires.directory c.insert_index_page.result c.insert_index_page.ensures.adds c.insert_index_page.ensures.none c.insert_index_page.ensures.pages)
 
 pub returns-in-Ok-clause-rest : goal.returns-in-Ok-clause-rest
-returns-in-Ok-clause-rest g c = kept _ _ _ _ _ _ refl c.write_index_page.ensures.before
+returns-in-Ok-clause-rest g c =
+    let set = c.args.self.now in
+    let pages = g.M.MetaPages.pages set.parts.pages in
+    let was = (shown_stands set.parts.files.fileset set.parts.files.tags set.parts.space set.parts.cells pages set.held) in
+    let p = parts_of set.parts.files.tags pages set.parts.space set.parts.cells in
+    kept _ _ _ _ _ _ _ _ refl c.write_index_page.ensures.before (reindexed_kept set.parts.files.fileset set.settings.version set.settings.born p (g.M.MetaPages.pages c.write_index_page.new.pages) c.args.tag c.args.page c.args.bytes _ was c.requires.directory c.in-Ok.ensures.writes)
 
 pub returns-in-Err-clause-rest : goal.returns-in-Err-clause-rest
-returns-in-Err-clause-rest g c = kept _ _ _ _ _ _ refl c.write_index_page.ensures.before
+returns-in-Err-clause-rest g c =
+    let set = c.args.self.now in
+    let pages = g.M.MetaPages.pages set.parts.pages in
+    let was = (shown_stands set.parts.files.fileset set.parts.files.tags set.parts.space set.parts.cells pages set.held) in
+    let p = parts_of set.parts.files.tags pages set.parts.space set.parts.cells in
+    kept _ _ _ _ _ _ _ _ refl c.write_index_page.ensures.before (still_around set.parts.files.fileset set.settings.version set.settings.born p (g.M.MetaPages.pages c.write_index_page.new.pages) c.in-Err.ensures.err)

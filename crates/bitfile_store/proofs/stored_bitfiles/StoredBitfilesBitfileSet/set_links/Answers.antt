@@ -3,6 +3,9 @@ use Rattle.stored_set.proofs.StableSet.{has_set}
 use Rattle.bitfile_store.specs.Shown.{shown, shown_is, shown_stands}
 use Rattle.bitfile_store.proofs.Held.{changed_held, of_each, on_err_map, still}
 use Rattle.bitfile_store.proofs.Rests.{kept}
+use Rattle.bitfile_store.specs.Rest.{parts_of}
+use Rattle.bitfile_store.proofs.Arounds.{still_around}
+use Rattle.set_standing.proofs.PartsCalls.{linked_kept}
 use Rattle.bitfile_store.proofs.stored_bitfiles.StoredBitfilesBitfileSet.set_links.Goals as goal
 
 pub set_links-requires-clause-set : goal.set_links-requires-clause-set
@@ -36,7 +39,17 @@ invariant_of-self g c =
     record { held = changed_held set.parts.files.fileset set.parts.files.tags set.parts.space set.parts.cells (g.M.MetaPages.pages c.set_links.new.pages) _ (shown set.parts.files.fileset set.parts.files.tags set.parts.space set.parts.cells pages set.held) c.set_links.result (c.set_links.ensures.ok _ (shown_stands set.parts.files.fileset set.parts.files.tags set.parts.space set.parts.cells pages set.held)) (on_err_map (λ err. still set.parts.files set.parts.files set.parts.space set.parts.space set.parts.cells pages (g.M.MetaPages.pages c.set_links.new.pages) (shown set.parts.files.fileset set.parts.files.tags set.parts.space set.parts.cells pages set.held) (shown_stands set.parts.files.fileset set.parts.files.tags set.parts.space set.parts.cells pages set.held) refl refl err) c.set_links.result c.set_links.ensures.err) }
 
 pub returns-in-Ok-clause-rest : goal.returns-in-Ok-clause-rest
-returns-in-Ok-clause-rest g c = kept _ _ _ _ _ _ refl c.set_links.ensures.before
+returns-in-Ok-clause-rest g c =
+    let set = c.args.self.now in
+    let pages = g.M.MetaPages.pages set.parts.pages in
+    let was = (shown_stands set.parts.files.fileset set.parts.files.tags set.parts.space set.parts.cells pages set.held) in
+    let p = parts_of set.parts.files.tags pages set.parts.space set.parts.cells in
+    kept _ _ _ _ _ _ _ _ refl c.set_links.ensures.before (linked_kept set.parts.files.fileset set.settings.version set.settings.born p (g.M.MetaPages.pages c.set_links.new.pages) c.args.tag c.args.links c.requires.named c.requires.most c.set_links.ensures.beside c.in-Ok.ensures.says)
 
 pub returns-in-Err-clause-rest : goal.returns-in-Err-clause-rest
-returns-in-Err-clause-rest g c = kept _ _ _ _ _ _ refl c.set_links.ensures.before
+returns-in-Err-clause-rest g c =
+    let set = c.args.self.now in
+    let pages = g.M.MetaPages.pages set.parts.pages in
+    let was = (shown_stands set.parts.files.fileset set.parts.files.tags set.parts.space set.parts.cells pages set.held) in
+    let p = parts_of set.parts.files.tags pages set.parts.space set.parts.cells in
+    kept _ _ _ _ _ _ _ _ refl c.set_links.ensures.before (still_around set.parts.files.fileset set.settings.version set.settings.born p (g.M.MetaPages.pages c.set_links.new.pages) c.in-Err.ensures.err)
