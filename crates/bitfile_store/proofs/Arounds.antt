@@ -35,11 +35,11 @@ use Rattle.set_standing.proofs.PartsCalls.{added_kept, inserted_kept, made_kept,
 abbrev pub AtMostMissed : Spaces → Spaces → Type 0
 AtMostMissed space space_now = (space_now ≡ space) ⊎ (space_now ≡ missed space)
 
-none_made : (places : List TagPlace) (space space_now : Spaces) (cells : Cells) (old : Pages) (fault : StoreFault) → CreatesNone places space space_now cells old fault → AtMostMissed space space_now
+pub none_made : (places : List TagPlace) (space space_now : Spaces) (cells : Cells) (old : Pages) (fault : StoreFault) → CreatesNone places space space_now cells old fault → AtMostMissed space space_now
 none_made places space space_now cells old NoPage none = inr none.1
 none_made places space space_now cells old OutOfMemory none = inl none
 
-none_found : (space space_now : Spaces) (fault : StoreFault) → FindsNoPage space space_now fault → AtMostMissed space space_now
+pub none_found : (space space_now : Spaces) (fault : StoreFault) → FindsNoPage space space_now fault → AtMostMissed space space_now
 none_found space space_now NoPage none = inr none.1
 none_found space space_now OutOfMemory none = inl none
 
@@ -47,7 +47,7 @@ none_got : (page : ℕ) (chain : List PlacedCell) (space space_now : Spaces) (ce
 none_got page chain space space_now cells NoPage none = inr none.1
 none_got page chain space space_now cells OutOfMemory none = inl none
 
-none_added : (tag : Tag) (page : ℕ) (chains : Chains) (space space_now : Spaces) (cells : Cells) (fault : StoreFault) → AddsNone tag page chains space space_now cells fault → AtMostMissed space space_now
+pub none_added : (tag : Tag) (page : ℕ) (chains : Chains) (space space_now : Spaces) (cells : Cells) (fault : StoreFault) → AddsNone tag page chains space space_now cells fault → AtMostMissed space space_now
 none_added tag page chains space space_now cells fault none = by_attributes (attributes_at chains tag) none
   where
     by_chain : (o : Option (List PlacedCell)) → IsSomeAnd o (λ chain. GetsNone page chain space space_now cells fault) → AtMostMissed space space_now

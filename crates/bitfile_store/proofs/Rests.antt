@@ -5,16 +5,16 @@ use Rattle.domain_base.specs.declared.place.CellAt.{CellAt}
 use Rattle.page_store.specs.Pages.{Pages}
 use Rattle.bitfile_store.specs.declared.parts.CallSettings.{CallSettings}
 use Rattle.set_standing.specs.Parts.{KeepsAround, Parts}
-use Rattle.bitfile_store.specs.Rest.{LeavesRest}
+use Rattle.bitfile_store.specs.Rest.{KeepsKept, LeavesRest}
 
 -- no cell is listed
-pub kept : (fileset fileset_now : ℕ) (settings : CallSettings) (before before_now : Pages) (removed : List CellAt) (parts parts_now : Parts) → fileset_now ≡ fileset → before_now ≡ before → KeepsAround fileset settings.version settings.born [] parts parts_now → LeavesRest fileset fileset_now settings settings before before_now removed removed parts parts_now
-kept fileset fileset_now settings before before_now removed parts parts_now files pages around = record { same_number = files; same_settings = refl; same_before = pages; lists = ([], append-nil removed); around = around }
+pub kept : (fileset fileset_now : ℕ) (settings : CallSettings) (before before_now : Pages) (removed : List CellAt) (parts parts_now : Parts) → fileset_now ≡ fileset → before_now ≡ before → KeepsKept parts parts_now → KeepsAround fileset settings.version settings.born [] parts parts_now → LeavesRest fileset fileset_now settings settings before before_now removed removed parts parts_now
+kept fileset fileset_now settings before before_now removed parts parts_now files pages keeps around = record { same_number = files; same_settings = refl; same_before = pages; lists = ([], append-nil removed); kept = keeps; around = around }
 
 -- one is
-pub kept_with : (fileset fileset_now : ℕ) (settings : CallSettings) (before before_now : Pages) (removed removed_now : List CellAt) (at : CellAt) (parts parts_now : Parts) → fileset_now ≡ fileset → before_now ≡ before → removed_now ≡ removed ++ at ∷ [] → KeepsAround fileset settings.version settings.born (at ∷ []) parts parts_now → LeavesRest fileset fileset_now settings settings before before_now removed removed_now parts parts_now
-kept_with fileset fileset_now settings before before_now removed removed_now at parts parts_now files pages listed around = record { same_number = files; same_settings = refl; same_before = pages; lists = (at ∷ [], sym listed); around = around }
+pub kept_with : (fileset fileset_now : ℕ) (settings : CallSettings) (before before_now : Pages) (removed removed_now : List CellAt) (at : CellAt) (parts parts_now : Parts) → fileset_now ≡ fileset → before_now ≡ before → removed_now ≡ removed ++ at ∷ [] → KeepsKept parts parts_now → KeepsAround fileset settings.version settings.born (at ∷ []) parts parts_now → LeavesRest fileset fileset_now settings settings before before_now removed removed_now parts parts_now
+kept_with fileset fileset_now settings before before_now removed removed_now at parts parts_now files pages listed keeps around = record { same_number = files; same_settings = refl; same_before = pages; lists = (at ∷ [], sym listed); kept = keeps; around = around }
 
 -- the cells that are listed are the same
-pub kept_as : (fileset fileset_now : ℕ) (settings : CallSettings) (before before_now : Pages) (removed removed_now : List CellAt) (parts parts_now : Parts) → fileset_now ≡ fileset → before_now ≡ before → removed_now ≡ removed → KeepsAround fileset settings.version settings.born [] parts parts_now → LeavesRest fileset fileset_now settings settings before before_now removed removed_now parts parts_now
-kept_as fileset fileset_now settings before before_now removed removed_now parts parts_now files pages same around = record { same_number = files; same_settings = refl; same_before = pages; lists = ([], append-nil removed ∙ sym same); around = around }
+pub kept_as : (fileset fileset_now : ℕ) (settings : CallSettings) (before before_now : Pages) (removed removed_now : List CellAt) (parts parts_now : Parts) → fileset_now ≡ fileset → before_now ≡ before → removed_now ≡ removed → KeepsKept parts parts_now → KeepsAround fileset settings.version settings.born [] parts parts_now → LeavesRest fileset fileset_now settings settings before before_now removed removed_now parts parts_now
+kept_as fileset fileset_now settings before before_now removed removed_now parts parts_now files pages same keeps around = record { same_number = files; same_settings = refl; same_before = pages; lists = ([], append-nil removed ∙ sym same); kept = keeps; around = around }

@@ -1,5 +1,5 @@
 -- What stays of a set of files that calls change, and what is listed of files that are taken away.
-use Rattle.std.specs.Prelude.{◌≡◌, ◌++◌, ◌∷◌, ℕ, List, []}
+use Rattle.std.specs.Prelude.{◌≡◌, ◌++◌, ◌∷◌, ℕ, List, [], Option}
 use Rattle.std.proofs.Common.{◌∙◌, append_assoc, refl, sym, ap, subst}
 use Rattle.std.proofs.lemmas.List.{append-nil}
 use Rattle.domain_base.specs.declared.place.CellAt.{CellAt}
@@ -9,8 +9,9 @@ use Rattle.tag_dirs.specs.declared.dir.TagPlace.{TagPlace}
 use Rattle.bitfile_core.specs.Changes.{Removes}
 use Rattle.bitfile_core.specs.Files.{Chains}
 use Rattle.stored_set.specs.Sets.{without_index}
-use Rattle.free_cells.specs.Cells.{Cells}
-use Rattle.free_space.specs.Spaces.{Spaces}
+use Rattle.free_cells.specs.Cells.{Cells, kept_of}
+use Rattle.free_space.specs.Spaces.{Spaces, kept_spaces}
+use Rattle.free_space.specs.VolumeSpace.{VolumeSpace}
 use Rattle.set_standing.specs.Parts.{KeepsAround, Parts}
 use Rattle.set_standing.proofs.PartsKept.{both_kept, none_kept}
 use Rattle.bitfile_store.specs.declared.parts.CallSettings.{CallSettings}
@@ -24,9 +25,19 @@ abbrev pub parts_of : List TagPlace → Pages → Spaces → Cells → Parts
 parts_of tags pages space cells =
     record { tags = tags; pages = pages; space = space; cells = cells }
 
+-- what is kept of each volume's free space, which a change that is taken back comes back to
+abbrev pub kept_volumes : Spaces → List (Option VolumeSpace)
+kept_volumes space = (kept_spaces space).volumes
+
+-- and what is kept of free space and of free cells is what it was
+pub record KeepsKept (parts parts_now : Parts) : Type 0 where
+  pub spaces : kept_volumes parts_now.space ≡ kept_volumes parts.space
+  pub cells : (vol : ℕ) → kept_of parts_now.cells vol ≡ kept_of parts.cells vol
+
 -- the fileset's number, what calls are given and the pages that a change is taken back to are as
--- they were, and so are the cells that were listed, behind which more may be; and whatever domain
--- stood around the fileset does still, once those are on its list
+-- they were, and so are the cells that were listed, behind which more may be, and what is kept of
+-- free space and free cells; and whatever domain stood around the fileset does still, once those
+-- cells are on its list
 pub record LeavesRest (fileset fileset_now : ℕ) (settings settings_now : CallSettings)
     (before before_now : Pages) (removed removed_now : List CellAt) (parts parts_now : Parts)
     : Type 0 where
@@ -34,6 +45,7 @@ pub record LeavesRest (fileset fileset_now : ℕ) (settings settings_now : CallS
   pub same_settings : settings_now ≡ settings
   pub same_before : before_now ≡ before
   pub lists : Lists removed removed_now
+  pub kept : KeepsKept parts parts_now
   pub around : KeepsAround fileset settings.version settings.born lists.0 parts parts_now
 
 -- where nothing is changed, all is so
@@ -45,6 +57,7 @@ rest_is fileset settings before removed parts = record {
   same_settings = refl;
   same_before = refl;
   lists = ([], append-nil removed);
+  kept = record { spaces = refl; cells = λ vol. refl };
   around = none_kept fileset settings.version settings.born parts;
 }
 
@@ -63,6 +76,10 @@ rest_joined f g h s t u p q r a b c x y z first then = record {
   same_settings = then.same_settings ∙ first.same_settings;
   same_before = then.same_before ∙ first.same_before;
   lists = lists_joined a b c first.lists then.lists;
+  kept = record {
+    spaces = then.kept.spaces ∙ first.kept.spaces;
+    cells = λ vol. then.kept.cells vol ∙ first.kept.cells vol;
+  };
   around = both_kept f s.version s.born first.lists.0 then.lists.0 x y z first.around
       (subst (λ (n : ℕ). KeepsAround n s.version s.born then.lists.0 y z) first.same_number
       (subst (λ (w : CallSettings). KeepsAround g w.version w.born then.lists.0 y z)

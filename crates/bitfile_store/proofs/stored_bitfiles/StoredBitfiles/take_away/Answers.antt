@@ -10,6 +10,7 @@ use Rattle.bitfile_store.specs.Rest.{parts_of}
 use Rattle.bitfile_store.proofs.Arounds.{gone_around}
 use Rattle.set_standing.proofs.PartsCalls.{refused_kept}
 use Rattle.set_standing.proofs.PartsKept.{none_kept}
+use Rattle.bitfile_store.proofs.KeptParts.{gone_keeps, same_kept}
 use Rattle.bitfile_store.proofs.stored_bitfiles.StoredBitfiles.take_away.Goals as goal
 
 pub remove-requires-clause-set : goal.remove-requires-clause-set
@@ -45,7 +46,7 @@ returns-in_err-reserve-clause-rest g c =
     let pages = g.M.MetaPages.pages set.parts.pages in
     let was = (shown_stands set.parts.files.fileset set.parts.files.tags set.parts.space set.parts.cells pages set.held) in
     let p = parts_of set.parts.files.tags pages set.parts.space set.parts.cells in
-    kept_as _ _ _ _ _ _ _ _ _ refl refl c.reserve.ensures.items (none_kept set.parts.files.fileset set.settings.version set.settings.born p)
+    kept_as _ _ _ _ _ _ _ _ _ refl refl c.reserve.ensures.items (same_kept p p refl refl) (none_kept set.parts.files.fileset set.settings.version set.settings.born p)
 
 pub returns-in_err-at-clause-err : goal.returns-in_err-at-clause-err
 returns-in_err-at-clause-err g c =
@@ -65,7 +66,7 @@ returns-in_err-at-clause-rest g c =
     let pages = g.M.MetaPages.pages set.parts.pages in
     let was = (shown_stands set.parts.files.fileset set.parts.files.tags set.parts.space set.parts.cells pages set.held) in
     let p = parts_of set.parts.files.tags pages set.parts.space set.parts.cells in
-    kept_as _ _ _ _ _ _ _ _ _ (ap (λ (f : Files). f.fileset) c.remove.ensures.same) c.remove.ensures.before c.reserve.ensures.items (refused_kept set.parts.files.fileset set.settings.version set.settings.born p (parts_of c.remove.new.files.tags (g.M.MetaPages.pages c.remove.new.pages) c.remove.new.space set.parts.cells) (ap (λ (f : Files). f.tags) c.remove.ensures.same) refl c.in_err-at.ensures.err (inl c.in_err-at.ensures.none))
+    kept_as _ _ _ _ _ _ _ _ _ (ap (λ (f : Files). f.fileset) c.remove.ensures.same) c.remove.ensures.before c.reserve.ensures.items (same_kept p (parts_of c.remove.new.files.tags (g.M.MetaPages.pages c.remove.new.pages) c.remove.new.space set.parts.cells) c.in_err-at.ensures.none refl) (refused_kept set.parts.files.fileset set.settings.version set.settings.born p (parts_of c.remove.new.files.tags (g.M.MetaPages.pages c.remove.new.pages) c.remove.new.space set.parts.cells) (ap (λ (f : Files). f.tags) c.remove.ensures.same) refl c.in_err-at.ensures.err (inl c.in_err-at.ensures.none))
 
 pub returns-clause-ok : goal.returns-clause-ok
 returns-clause-ok g c =
@@ -94,4 +95,4 @@ returns-clause-rest g c =
     let was = (shown_stands set.parts.files.fileset set.parts.files.tags set.parts.space set.parts.cells pages set.held) in
     let p = parts_of set.parts.files.tags pages set.parts.space set.parts.cells in
     kept_with _ _ _ _ _ _ _ c.in_ok-at.at _ _ (ap (λ (f : Files). f.fileset) c.remove.ensures.same) c.remove.ensures.before (c.push_reserved.ensures.items ∙ ap (λ (xs : List CellAt). xs ++ c.in_ok-at.at ∷ []) c.reserve.ensures.items)
-    (gone_around set.parts.files.fileset set.settings.version set.settings.born p (g.M.MetaPages.pages c.remove.new.pages) c.remove.new.space set.parts.files c.remove.new.files refl refl c.remove.ensures.same c.args.tag c.in_ok-at.at set.settings.group _ (c.in_ok-at.ensures.ok _ was) c.in_ok-at.ensures.removes c.in_ok-at.ensures.gives)
+    (gone_keeps p (parts_of c.remove.new.files.tags (g.M.MetaPages.pages c.remove.new.pages) c.remove.new.space set.parts.cells) set.settings.group (was.chains c.args.tag) (was.indexes c.args.tag) (c.in_ok-at.ensures.gives was.chains (was.indexes c.args.tag) was.stands.together.files (was.stands.indexed c.args.tag)) refl) (gone_around set.parts.files.fileset set.settings.version set.settings.born p (g.M.MetaPages.pages c.remove.new.pages) c.remove.new.space set.parts.files c.remove.new.files refl refl c.remove.ensures.same c.args.tag c.in_ok-at.at set.settings.group _ (c.in_ok-at.ensures.ok _ was) c.in_ok-at.ensures.removes c.in_ok-at.ensures.gives)

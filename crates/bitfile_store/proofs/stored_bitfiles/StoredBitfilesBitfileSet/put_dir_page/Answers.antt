@@ -8,6 +8,7 @@ use Rattle.bitfile_store.proofs.Rests.{kept}
 use Rattle.bitfile_store.specs.Rest.{parts_of}
 use Rattle.bitfile_store.proofs.Arounds.{add_around}
 use Rattle.set_standing.proofs.PartsCalls.{written_kept}
+use Rattle.bitfile_store.proofs.KeptParts.{add_keeps, same_kept}
 use Rattle.bitfile_store.proofs.stored_bitfiles.StoredBitfilesBitfileSet.put_dir_page.Goals as goal
 
 pub write_page-requires-clause-set : goal.write_page-requires-clause-set
@@ -96,7 +97,7 @@ returns-then-page-count-clause-rest g c =
     let pages = g.M.MetaPages.pages set.parts.pages in
     let was = (shown_stands set.parts.files.fileset set.parts.files.tags set.parts.space set.parts.cells pages set.held) in
     let p = parts_of set.parts.files.tags pages set.parts.space set.parts.cells in
-    kept _ _ _ _ _ _ _ _ refl c.write_page.ensures.before (written_kept set.parts.files.fileset set.settings.version set.settings.born p (g.M.MetaPages.pages c.write_page.new.pages) c.args.tag c.args.page c.write_page.ensures.elsewhere)
+    kept _ _ _ _ _ _ _ _ refl c.write_page.ensures.before (same_kept p (parts_of set.parts.files.tags (g.M.MetaPages.pages c.write_page.new.pages) set.parts.space set.parts.cells) refl refl) (written_kept set.parts.files.fileset set.settings.version set.settings.born p (g.M.MetaPages.pages c.write_page.new.pages) c.args.tag c.args.page c.write_page.ensures.elsewhere)
 
 pub returns-clause-rest : goal.returns-clause-rest
 returns-clause-rest g c =
@@ -104,4 +105,4 @@ returns-clause-rest g c =
     let pages = g.M.MetaPages.pages set.parts.pages in
     let was = (shown_stands set.parts.files.fileset set.parts.files.tags set.parts.space set.parts.cells pages set.held) in
     let p = parts_of set.parts.files.tags pages set.parts.space set.parts.cells in
-    kept _ _ _ _ _ _ _ _ refl c.add_page.ensures.before (add_around set.parts.files.fileset set.settings.version set.settings.born p (parts_of set.parts.files.tags (g.M.MetaPages.pages c.add_page.new.pages) c.add_page.new.space c.add_page.new.cells) c.args.tag c.args.page c.args.bytes set.settings.prefer (shown set.parts.files.fileset set.parts.files.tags set.parts.space set.parts.cells pages set.held) was c.requires.directory (omega arith) c.requires.fits c.add_page.result refl c.add_page.ensures.adds c.add_page.ensures.none c.add_page.ensures.cells c.add_page.ensures.pages)
+    kept _ _ _ _ _ _ _ _ refl c.add_page.ensures.before (add_keeps p (parts_of set.parts.files.tags (g.M.MetaPages.pages c.add_page.new.pages) c.add_page.new.space c.add_page.new.cells) set.parts.files.fileset c.args.tag c.args.page c.args.bytes set.settings.prefer set.settings.version was.chains c.add_page.result (c.add_page.ensures.adds was.chains was.stands.together) (c.add_page.ensures.none was.chains was.stands.together) c.add_page.ensures.cells) (add_around set.parts.files.fileset set.settings.version set.settings.born p (parts_of set.parts.files.tags (g.M.MetaPages.pages c.add_page.new.pages) c.add_page.new.space c.add_page.new.cells) c.args.tag c.args.page c.args.bytes set.settings.prefer (shown set.parts.files.fileset set.parts.files.tags set.parts.space set.parts.cells pages set.held) was c.requires.directory (omega arith) c.requires.fits c.add_page.result refl c.add_page.ensures.adds c.add_page.ensures.none c.add_page.ensures.cells c.add_page.ensures.pages)

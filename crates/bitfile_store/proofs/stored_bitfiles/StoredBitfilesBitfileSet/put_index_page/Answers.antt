@@ -9,6 +9,7 @@ use Rattle.bitfile_store.proofs.Rests.{kept}
 use Rattle.bitfile_store.specs.Rest.{parts_of}
 use Rattle.bitfile_store.proofs.Arounds.{insert_around, still_around}
 use Rattle.set_standing.proofs.PartsCalls.{reindexed_kept}
+use Rattle.bitfile_store.proofs.KeptParts.{insert_keeps, same_kept}
 use Rattle.bitfile_store.proofs.stored_bitfiles.StoredBitfilesBitfileSet.put_index_page.Goals as goal
 
 pub write_index_page-requires-clause-set : goal.write_index_page-requires-clause-set
@@ -102,7 +103,7 @@ returns-clause-rest g c =
     let pages = g.M.MetaPages.pages set.parts.pages in
     let was = (shown_stands set.parts.files.fileset set.parts.files.tags set.parts.space set.parts.cells pages set.held) in
     let p = parts_of set.parts.files.tags pages set.parts.space set.parts.cells in
-    kept _ _ _ _ _ _ _ _ refl c.insert_index_page.ensures.before (insert_around set.parts.files.fileset set.settings.version set.settings.born p (g.M.MetaPages.pages c.insert_index_page.new.pages) c.insert_index_page.new.space c.args.tag c.args.page set.settings.prefer c.args.bytes _ was c.requires.directory c.insert_index_page.result c.insert_index_page.ensures.adds c.insert_index_page.ensures.none c.insert_index_page.ensures.pages)
+    kept _ _ _ _ _ _ _ _ refl c.insert_index_page.ensures.before (insert_keeps p (parts_of set.parts.files.tags (g.M.MetaPages.pages c.insert_index_page.new.pages) c.insert_index_page.new.space set.parts.cells) set.parts.files.fileset c.args.tag c.args.page c.args.bytes set.settings.prefer was.chains (was.indexes c.args.tag) c.insert_index_page.result (c.insert_index_page.ensures.adds was.chains (was.indexes c.args.tag) was.stands.together (was.stands.indexed c.args.tag)) c.insert_index_page.ensures.none refl) (insert_around set.parts.files.fileset set.settings.version set.settings.born p (g.M.MetaPages.pages c.insert_index_page.new.pages) c.insert_index_page.new.space c.args.tag c.args.page set.settings.prefer c.args.bytes _ was c.requires.directory c.insert_index_page.result c.insert_index_page.ensures.adds c.insert_index_page.ensures.none c.insert_index_page.ensures.pages)
 
 pub returns-in-Ok-clause-rest : goal.returns-in-Ok-clause-rest
 returns-in-Ok-clause-rest g c =
@@ -110,7 +111,7 @@ returns-in-Ok-clause-rest g c =
     let pages = g.M.MetaPages.pages set.parts.pages in
     let was = (shown_stands set.parts.files.fileset set.parts.files.tags set.parts.space set.parts.cells pages set.held) in
     let p = parts_of set.parts.files.tags pages set.parts.space set.parts.cells in
-    kept _ _ _ _ _ _ _ _ refl c.write_index_page.ensures.before (reindexed_kept set.parts.files.fileset set.settings.version set.settings.born p (g.M.MetaPages.pages c.write_index_page.new.pages) c.args.tag c.args.page c.args.bytes _ was c.requires.directory c.in-Ok.ensures.writes)
+    kept _ _ _ _ _ _ _ _ refl c.write_index_page.ensures.before (same_kept p (parts_of set.parts.files.tags (g.M.MetaPages.pages c.write_index_page.new.pages) set.parts.space set.parts.cells) refl refl) (reindexed_kept set.parts.files.fileset set.settings.version set.settings.born p (g.M.MetaPages.pages c.write_index_page.new.pages) c.args.tag c.args.page c.args.bytes _ was c.requires.directory c.in-Ok.ensures.writes)
 
 pub returns-in-Err-clause-rest : goal.returns-in-Err-clause-rest
 returns-in-Err-clause-rest g c =
@@ -118,4 +119,4 @@ returns-in-Err-clause-rest g c =
     let pages = g.M.MetaPages.pages set.parts.pages in
     let was = (shown_stands set.parts.files.fileset set.parts.files.tags set.parts.space set.parts.cells pages set.held) in
     let p = parts_of set.parts.files.tags pages set.parts.space set.parts.cells in
-    kept _ _ _ _ _ _ _ _ refl c.write_index_page.ensures.before (still_around set.parts.files.fileset set.settings.version set.settings.born p (g.M.MetaPages.pages c.write_index_page.new.pages) c.in-Err.ensures.err)
+    kept _ _ _ _ _ _ _ _ refl c.write_index_page.ensures.before (same_kept p (parts_of set.parts.files.tags (g.M.MetaPages.pages c.write_index_page.new.pages) set.parts.space set.parts.cells) refl refl) (still_around set.parts.files.fileset set.settings.version set.settings.born p (g.M.MetaPages.pages c.write_index_page.new.pages) c.in-Err.ensures.err)

@@ -6,6 +6,7 @@ use Rattle.bitfile_store.proofs.Rests.{kept}
 use Rattle.bitfile_store.specs.Rest.{parts_of}
 use Rattle.bitfile_store.proofs.Arounds.{still_around}
 use Rattle.set_standing.proofs.PartsCalls.{linked_kept}
+use Rattle.bitfile_store.proofs.KeptParts.{same_kept}
 use Rattle.bitfile_store.proofs.stored_bitfiles.StoredBitfilesBitfileSet.set_links.Goals as goal
 
 pub set_links-requires-clause-set : goal.set_links-requires-clause-set
@@ -44,7 +45,7 @@ returns-in-Ok-clause-rest g c =
     let pages = g.M.MetaPages.pages set.parts.pages in
     let was = (shown_stands set.parts.files.fileset set.parts.files.tags set.parts.space set.parts.cells pages set.held) in
     let p = parts_of set.parts.files.tags pages set.parts.space set.parts.cells in
-    kept _ _ _ _ _ _ _ _ refl c.set_links.ensures.before (linked_kept set.parts.files.fileset set.settings.version set.settings.born p (g.M.MetaPages.pages c.set_links.new.pages) c.args.tag c.args.links c.requires.named c.requires.most c.set_links.ensures.beside c.in-Ok.ensures.says)
+    kept _ _ _ _ _ _ _ _ refl c.set_links.ensures.before (same_kept p (parts_of set.parts.files.tags (g.M.MetaPages.pages c.set_links.new.pages) set.parts.space set.parts.cells) refl refl) (linked_kept set.parts.files.fileset set.settings.version set.settings.born p (g.M.MetaPages.pages c.set_links.new.pages) c.args.tag c.args.links c.requires.named c.requires.most c.set_links.ensures.beside c.in-Ok.ensures.says)
 
 pub returns-in-Err-clause-rest : goal.returns-in-Err-clause-rest
 returns-in-Err-clause-rest g c =
@@ -52,4 +53,4 @@ returns-in-Err-clause-rest g c =
     let pages = g.M.MetaPages.pages set.parts.pages in
     let was = (shown_stands set.parts.files.fileset set.parts.files.tags set.parts.space set.parts.cells pages set.held) in
     let p = parts_of set.parts.files.tags pages set.parts.space set.parts.cells in
-    kept _ _ _ _ _ _ _ _ refl c.set_links.ensures.before (still_around set.parts.files.fileset set.settings.version set.settings.born p (g.M.MetaPages.pages c.set_links.new.pages) c.in-Err.ensures.err)
+    kept _ _ _ _ _ _ _ _ refl c.set_links.ensures.before (same_kept p (parts_of set.parts.files.tags (g.M.MetaPages.pages c.set_links.new.pages) set.parts.space set.parts.cells) refl refl) (still_around set.parts.files.fileset set.settings.version set.settings.born p (g.M.MetaPages.pages c.set_links.new.pages) c.in-Err.ensures.err)
