@@ -1,3 +1,4 @@
+pub mod BegunEmpty
 pub mod BelowStands
 pub mod CellsNow
 pub mod ChainsGoOn

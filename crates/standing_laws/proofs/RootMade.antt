@@ -12,17 +12,15 @@ use Rattle.standing_laws.specs.NewFileset.{JoinsEmpty, no_chains}
 use Rattle.standing_laws.proofs.BelowStands.{below_stands}
 use Rattle.standing_laws.proofs.FilesetBegins.{empty_begins, now_item}
 
-pub root_made : (number : ℕ) (entry : FilesetEntry) (d joined now : DomainNow) (chains_now : Chains) (files files_now : Files) (indexes : IndexesAt) → StandsBelow d files indexes → JoinsEmpty number entry d joined
-    → (makes : Makes number joined.frame.version root_tag (fileset_now joined number no_chains files) (fileset_now now number chains_now files_now)) → makes.what.birth ≤ joined.table.made → now.frame ≡ joined.frame → now.table ≡ joined.table
-    → ((other : ℕ) → ¬ other ≡ number → now.tags other ≡ joined.tags other) → StandsBelow now files_now indexes
-root_made number entry d joined now chains_now files files_now indexes below joins makes early frame table tags =
-    below_stands number root_tag joined now no_chains chains_now files files_now indexes begins.0 leads tt
+module _ (number : ℕ) (entry : FilesetEntry) (d joined now : DomainNow) (chains_now : Chains) (files files_now : Files) (indexes : IndexesAt) (below : StandsBelow d files indexes) (joins : JoinsEmpty number entry d joined)
+    (makes : Makes number joined.frame.version root_tag (fileset_now joined number no_chains files) (fileset_now now number chains_now files_now)) (early : makes.what.birth ≤ joined.table.made) (frame : now.frame ≡ joined.frame) (table : now.table ≡ joined.table)
+    (tags : (other : ℕ) → ¬ other ≡ number → now.tags other ≡ joined.tags other)
   where
     begins : StandsBelow joined files indexes × StandsWell number (fileset_now joined number no_chains files)
     begins = empty_begins number entry d joined files indexes below joins
 
-    leads : LeadsOn number root_tag joined now no_chains chains_now files files_now
-    leads = record {
+    pub root_leads : LeadsOn number root_tag joined now no_chains chains_now files files_now
+    root_leads = record {
       entry = entry;
       original = now_item number entry d joined files indexes below joins;
       well = begins.1;
@@ -32,3 +30,7 @@ root_made number entry d joined now chains_now files files_now indexes below joi
       table = table;
       tags = tags;
     }
+
+    pub root_made : StandsBelow now files_now indexes
+    unfolding root_leads
+    root_made = below_stands number root_tag joined now no_chains chains_now files files_now indexes begins.0 root_leads tt

@@ -2,14 +2,20 @@
 -- directory.
 use Rattle.std.specs.Prelude.{◌≡◌, ◌≤◌, ◌∷◌, ℕ, [], None, Some, IsSomeAnd}
 use Rattle.domain_base.specs.declared.place.Home.{Home}
+use Rattle.domain_base.specs.declared.place.Kind.TheVariants as kind
 use Rattle.tag_dirs.specs.TagPage.{IsNewPage}
 use Rattle.free_space.specs.Spaces.{CanTake, change_volume}
 use Rattle.free_space.specs.VolumeSpace.{with_page}
+use Rattle.bitfile_core.specs.declared.new_cells.NewFile.{NewFile}
 use Rattle.bitfile_core.specs.Files.{Chains}
+use Rattle.fileset_model.specs.Apply.{empty_fileset}
+use Rattle.fileset_model.specs.declared.fileset.FilesetSlot.{FilesetSlot}
+use Rattle.fileset_model.specs.declared.fileset.Role.TheVariants as role
 use Rattle.fileset_table.specs.Page.{IsTablePage}
 use Rattle.fileset_table.specs.Table.{with_slot}
 use Rattle.fileset_table.specs.declared.slot.FilesetEntry.{FilesetEntry}
 use Rattle.fileset_table.specs.declared.slot.SlotItem.TheVariants as slot
+use Rattle.name_space.specs.Names.{number_of, root_tag}
 use Rattle.domain_standing.specs.Domain.{DomainNow, item_in}
 
 -- no tag names a file
@@ -36,3 +42,15 @@ pub record JoinsEmpty (number : ℕ) (entry : FilesetEntry) (d now : DomainNow) 
   pub frame : now.frame ≡ d.frame
   pub cells : now.cells ≡ d.cells
   pub list : now.list ≡ d.list
+
+-- an original with nothing but an empty root, of user 0 and group 0
+abbrev pub empty_slot : FilesetSlot
+empty_slot = record { tree = empty_fileset (number_of root_tag); role = role.Original }
+
+-- a directory of user 0 and group 0 is made
+abbrev pub IsPlainRoot : NewFile → Type 0
+IsPlainRoot what = (what.kind ≡ kind.Directory) × (what.uid ≡ 0) × (what.gid ≡ 0)
+
+-- the slot sets no limits
+abbrev pub SetsNoLimit : FilesetEntry → Type 0
+SetsNoLimit entry = (entry.files_limit ≡ 0) × (entry.blocks_limit ≡ 0)

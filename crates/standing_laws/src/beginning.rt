@@ -1,14 +1,22 @@
 //! Filesets that begin.
 ghost use Rattle.std.specs.Prelude.{◌≡◌, ◌≤◌, ℕ};
+ghost use Rattle.std.specs.FinMap.{insert};
+ghost use Rattle.domain_base.specs.declared.place.CellAt.{CellAt};
+ghost use Rattle.domain_base.specs.declared.place.Home.{Home};
+ghost use Rattle.extent_maps.specs.declared.run.PagePlace.TheVariants.{At};
 ghost use Rattle.bitfile_core.specs.Creation.{root_tag};
 ghost use Rattle.bitfile_core.specs.Files.{Chains};
+ghost use Rattle.fileset_model.specs.Filesets.{FilesetMap};
 ghost use Rattle.fileset_table.specs.declared.slot.FilesetEntry.{FilesetEntry};
-ghost use Rattle.deferred_delete.specs.Standing.{Files};
+ghost use Rattle.deferred_delete.specs.Standing.{Files, place_in};
 ghost use Rattle.deferred_laws.specs.Calls.{Makes, StandsWell};
+ghost use Rattle.domain_layout.specs.Shape.{FilesetShape};
 ghost use Rattle.domain_standing.specs.Chains.{IndexesAt};
 ghost use Rattle.domain_standing.specs.Domain.{DomainNow};
+ghost use Rattle.domain_standing.specs.Slots.{StandSlots};
 ghost use Rattle.standing_laws.specs.Leads.{StandsBelow, fileset_now};
-ghost use Rattle.standing_laws.specs.NewFileset.{JoinsEmpty, no_chains};
+ghost use Rattle.standing_laws.specs.NewFileset.{IsPlainRoot, JoinsEmpty, SetsNoLimit, empty_slot, no_chains};
+ghost use Rattle.standing_laws.specs.Slots.{StandsSlot};
 
 /// Where an original joins the table whose tag directory is one new page, the domain stands on, and
 /// calls on the tags of the original may follow, of which none names a file yet.
@@ -30,4 +38,39 @@ pub fn a_fileset_begins()
         → now.table ≡ joined.table
         → ((other : ℕ) → ¬ other ≡ number → now.tags other ≡ joined.tags other)
         → StandsBelow now files_now indexes }
+{}
+
+/// Where that root is a directory of user 0 and group 0 and the original sets no limits, it stands
+/// then for the fileset with nothing but an empty root.
+pub fn the_fileset_that_begins_is_empty()
+    ensures { (number : ℕ) (entry : FilesetEntry) (d joined now : DomainNow) (chains_now : Chains)
+        (files files_now : Files) (indexes : IndexesAt) → StandsBelow d files indexes
+        → JoinsEmpty number entry d joined
+        → (makes : Makes number joined.frame.version root_tag
+        (fileset_now joined number no_chains files) (fileset_now now number chains_now files_now))
+        → makes.what.birth ≤ joined.table.made → now.frame ≡ joined.frame
+        → now.table ≡ joined.table
+        → ((other : ℕ) → ¬ other ≡ number → now.tags other ≡ joined.tags other)
+        → IsPlainRoot makes.what → SetsNoLimit entry
+        → (shape : FilesetShape) × StandsSlot now number entry shape empty_slot }
+{}
+
+/// And the domain stands for that one beside all others, where pages of files keep their bytes and,
+/// while the original joins the table, each page does that does not change.
+pub fn filesets_stand_on_where_one_begins()
+    ensures { (number : ℕ) (entry : FilesetEntry) (d joined now : DomainNow) (chains_now : Chains)
+        (files files_now : Files) (indexes : IndexesAt) → StandsBelow d files indexes
+        → JoinsEmpty number entry d joined
+        → (makes : Makes number joined.frame.version root_tag
+        (fileset_now joined number no_chains files) (fileset_now now number chains_now files_now))
+        → makes.what.birth ≤ joined.table.made → now.frame ≡ joined.frame
+        → now.table ≡ joined.table
+        → ((other : ℕ) → ¬ other ≡ number → now.tags other ≡ joined.tags other)
+        → IsPlainRoot makes.what → SetsNoLimit entry
+        → ((home : Home) → joined.pages home ≡ d.pages home
+        → joined.contents home ≡ d.contents home)
+        → ((at : CellAt) (page : ℕ) (home : Home) → place_in files at page ≡ At home
+        → joined.contents home ≡ now.contents home)
+        → (all : FilesetMap) → StandSlots d all
+        → StandSlots now (insert all entry.name empty_slot) }
 {}
