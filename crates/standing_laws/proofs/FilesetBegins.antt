@@ -106,7 +106,7 @@ remove_said (Some (written.DenseExtents rows)) is = absurd (none_not Remove is)
 remove_said (Some (written.ShortDense rows)) is = absurd (none_not Remove is)
 
 -- a slot that is there has what is put into it
-get_set : (xs : List SlotItem) (n : ℕ) (y x : SlotItem) → slice_get xs n ≡ Some x → slice_get (slice_set xs n y) n ≡ Some y
+pub get_set : (xs : List SlotItem) (n : ℕ) (y x : SlotItem) → slice_get xs n ≡ Some x → slice_get (slice_set xs n y) n ≡ Some y
 get_set [] n y x is = absurd (none_not x is)
 get_set (z ∷ xs) zero y x is = refl
 get_set (z ∷ xs) (suc n) y x is = get_set xs n y x is

@@ -105,24 +105,25 @@ module _ (d : DomainNow) (all : FilesetMap) (slots : StandSlots d all) where
       let it = stood_in n entry at in
       subst (λ o. IsSomeAnd o (λ shape. IsSomeAnd (get all entry.name) (StandsSlot d n entry shape))) (sym it.shaped) (subst (λ o. IsSomeAnd o (StandsSlot d n entry it.shape_was)) (sym it.filled) it.stood)
 
+-- of two slots of a table none have one name
+pub own_names : (d : DomainNow) → StandTables d → HaveOwnNames d.table.slots
+own_names d tables = by_home d.frame.anchor.table tables.laid.table
+  where
+    by_page : (o : Option (List ℕ)) → IsSomeAnd o (λ page. IsTablePage page d.table) → HaveOwnNames d.table.slots
+    by_page None is = absurd is
+    by_page (Some page) is = is.good.together.names
+
+    by_home : (o : Option Home) → IsSomeAnd o (λ home. IsSomeAnd (d.pages home) (λ page. IsTablePage page d.table)) → HaveOwnNames d.table.slots
+    by_home None is = absurd is
+    by_home (Some home) is = by_page (d.pages home) is
+
 module _ (number : ℕ) (entry0 : FilesetEntry) (d now : DomainNow) (tables : StandTables now) (puts : PutsFileset number entry0 d now) where
-  own_names : HaveOwnNames now.table.slots
-  own_names = by_home now.frame.anchor.table tables.laid.table
-    where
-      by_page : (o : Option (List ℕ)) → IsSomeAnd o (λ page. IsTablePage page now.table) → HaveOwnNames now.table.slots
-      by_page None is = absurd is
-      by_page (Some page) is = is.good.together.names
-
-      by_home : (o : Option Home) → IsSomeAnd o (λ home. IsSomeAnd (now.pages home) (λ page. IsTablePage page now.table)) → HaveOwnNames now.table.slots
-      by_home None is = absurd is
-      by_home (Some home) is = by_page (now.pages home) is
-
   -- another slot has another name
   other_name : (n : ℕ) (entry : FilesetEntry) → ¬ n ≡ number → slice_get now.table.slots n ≡ Some (slot.Original entry) → ¬ entry0.name ≡ entry.name
   other_name n entry differ at same = ⊎_elim
-      (λ less. one_slot now.table.slots own_names n number entry entry0 less at puts.has (sym same))
+      (λ less. one_slot now.table.slots (own_names now tables) n number entry entry0 less at puts.has (sym same))
       (λ more. ⊎_elim
-      (λ less. one_slot now.table.slots own_names number n entry0 entry less puts.has at same)
+      (λ less. one_slot now.table.slots (own_names now tables) number n entry0 entry less puts.has at same)
       (λ also. differ (omega (arith, more, also)))
       (cases_lt number n))
       (cases_lt n number)

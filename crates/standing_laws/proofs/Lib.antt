@@ -6,6 +6,7 @@ pub mod ChainsNamed
 pub mod ChainsStand
 pub mod EntryListed
 pub mod FilesetBegins
+pub mod FilesetGoes
 pub mod FilesetPut
 pub mod FilesetsStand
 pub mod HeldHolders

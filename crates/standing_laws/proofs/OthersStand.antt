@@ -27,8 +27,9 @@ use Rattle.bitfile_core.proofs.Tags.{cell_same, directory_same, pages_same}
 use Rattle.stored_index.specs.Homes.{AreIndexHomes}
 use Rattle.stored_index.proofs.Homes.{kept_same}
 use Rattle.fileset_table.specs.Page.{IsTablePage}
+use Rattle.fileset_table.specs.Table.{Table}
 use Rattle.fileset_table.specs.declared.slot.SlotItem.{SlotItem}
-use Rattle.deferred_delete.specs.Standing.{Files, IsFileOrQuotas, IsQuotas, IsStanding}
+use Rattle.deferred_delete.specs.Standing.{Files, IsQuotas, IsStanding}
 use Rattle.deferred_delete.specs.Steps.{IsWell}
 use Rattle.deferred_delete.proofs.Spread.{none_not}
 use Rattle.deferred_delete.proofs.Standings.{chain_by, each_from, quota_first, stand_chain, standing}
@@ -36,33 +37,34 @@ use Rattle.deferred_laws.proofs.StillAmong.{file_of_tag}
 use Rattle.deferred_laws.proofs.Tags.{has_attributes}
 use Rattle.layout_laws.proofs.Reached.{member_or_none}
 use Rattle.attaching_laws.specs.Space.{IsFreeAt}
+use Rattle.domain_layout.specs.CellRules.{is_good_first, of_original}
 use Rattle.domain_layout.specs.Filled.{Contents}
 use Rattle.domain_layout.specs.Layout.{AreTagPlaces, IsCellTable, IsPageAt, first_tag_of}
 use Rattle.domain_layout.specs.Owners.{IsOnTable}
 use Rattle.domain_layout.specs.Reached.{first_cells}
-use Rattle.domain_layout.specs.TagRules.{IsLate}
-use Rattle.domain_standing.specs.Chains.{AreQuotasOf, HasEmptyTags, HasFilesAmong, IndexesAt, IsSomebodys, StandChains, StandsInSlot}
+use Rattle.domain_layout.specs.TagRules.{IsLate, quota_of}
+use Rattle.domain_standing.specs.Chains.{AreQuotasOf, HasEmptyTags, HasFilesAmong, IndexesAt, IsQuotaOf, IsRemoved, IsSomebodys, StandChains, StandsInSlot}
 use Rattle.domain_standing.specs.Domain.{DomainNow, all_of, layout_of, named_by}
 use Rattle.domain_standing.specs.Holders.{AreHeldAt, Holder, Holds, HoldsOwned}
 use Rattle.domain_standing.specs.Holders.Holder.{of_cells, of_file, of_index, of_log, of_table, of_tags, of_volume}
-use Rattle.domain_standing.specs.Rest.{IsOfOriginal, SaysTheRest}
+use Rattle.domain_standing.specs.Rest.{IsOfOriginal, SaysTheRest, StaysInOriginal}
 use Rattle.domain_standing.specs.Tables.{HasVolumeCell, StandTables, first_place}
 use Rattle.standing_laws.specs.Leads.{StandsBelow}
 use Rattle.standing_laws.specs.OtherPages.{KeepsPlaces, KeepsWhere}
 use Rattle.standing_laws.proofs.HomeLists.{in_get}
 use Rattle.standing_laws.proofs.TablesStand.{first_in, index_in}
 
--- what says where all else stands
+-- what says where all else stands, but for the fileset table
 abbrev pub SaysWhere : Holder → Type 0
 SaysWhere of_volume = ⊥
 SaysWhere of_log = ⊥
-SaysWhere of_table = Unit {0}
+SaysWhere of_table = ⊥
 SaysWhere of_cells = Unit {0}
 SaysWhere (of_tags n) = Unit {0}
 SaysWhere (of_index at k) = Unit {0}
 SaysWhere (of_file at page) = ⊥
 
--- the same, and files
+-- the same, that table and files
 abbrev pub IsOfFilesets : Holder → Type 0
 IsOfFilesets of_volume = ⊥
 IsOfFilesets of_log = ⊥
@@ -84,7 +86,7 @@ of_filesets (of_file at page) is = ((λ e. cc), (λ e. cc))
 pub says_more : (holder : Holder) → SaysWhere holder → IsOfFilesets holder
 says_more of_volume says = says
 says_more of_log says = says
-says_more of_table says = tt
+says_more of_table says = absurd says
 says_more of_cells says = tt
 says_more (of_tags n) says = tt
 says_more (of_index at k) says = tt
@@ -93,14 +95,28 @@ says_more (of_file at page) says = tt
 no_file : (holder : Holder) → SaysWhere holder → (at : CellAt) (page : ℕ) → ¬ holder ≡ of_file at page
 no_file of_volume says at page = absurd says
 no_file of_log says at page = absurd says
-no_file of_table says at page = λ e. cc
+no_file of_table says at page = absurd says
 no_file of_cells says at page = λ e. cc
 no_file (of_tags n) says at page = λ e. cc
 no_file (of_index a k) says at page = λ e. cc
 no_file (of_file a k) says at page = absurd says
 
+-- a table that says less of slots: what is in them begins where it did, with its tags and its quota
+-- cells, and what is an original was one
+pub record NamesTheSame (was now : Table) : Type 0 where
+  pub made : now.made ≡ was.made
+  pub firsts : (n : ℕ) → option_and_then first_tag_of (slice_get now.slots n) ≡ option_and_then first_tag_of (slice_get was.slots n)
+  pub quotas : (n : ℕ) → option_and_then quota_of (slice_get now.slots n) ≡ option_and_then quota_of (slice_get was.slots n)
+  pub removed : (n : ℕ) → IsRemoved (slice_get was.slots n) → IsRemoved (slice_get now.slots n)
+  pub original : (n : ℕ) → of_original (slice_get now.slots n) ≡ true → of_original (slice_get was.slots n) ≡ true
+  pub good : (cell : Cell) → is_good_first was cell ≡ true → is_good_first now cell ≡ true
+
+itself : (table : Table) → NamesTheSame table table
+itself table = record { made = refl; firsts = λ n. refl; quotas = λ n. refl; removed = λ n is. is; original = λ n is. is; good = λ cell is. is }
+
 module _ (d : DomainNow) (files : Files) (indexes : IndexesAt) (below : StandsBelow d files indexes) (pages : Pages) (contents : Contents)
     (keeps : (holder : Holder) (home : Home) → SaysWhere holder → Holds d files indexes holder home → pages home ≡ d.pages home) where
+  -- the same table
   abbrev pub placed : DomainNow
   placed = record d { pages = pages; contents = contents }
 
@@ -125,9 +141,6 @@ module _ (d : DomainNow) (files : Files) (indexes : IndexesAt) (below : StandsBe
   stand_still [] on stand = tt
   stand_still (c ∷ cs) on stand = (stands_on c.at c.cell on.0 stand.0, stand_still cs on.1 stand.1)
 
-  on_was : (at : CellAt) (cell : Cell) → IsOnTable pages (layout_of placed) at cell → IsOnTable d.pages (layout_of d) at cell
-  on_was at cell on = record { member = on.member; table = on.table; stands = stands_back at cell on.table on.stands }
-
   -- ---- tag directories
 
   tag_pages : (n : ℕ) (home : Home) → has_home (d.tags n) home ≡ true → pages home ≡ d.pages home
@@ -151,11 +164,7 @@ module _ (d : DomainNow) (files : Files) (indexes : IndexesAt) (below : StandsBe
       by_item None at = nothing (subst (λ o. StandsInSlot d files n (option_and_then first_tag_of o)) at (below.chains.slots n))
       by_item (Some item) at = by_first (first_tag_of item) (below.tables.laid.tags n item at)
 
-  -- ---- tables
-
-  table_stays : (o : Option Home) → d.frame.anchor.table ≡ o → IsSomeAnd o (λ home. IsSomeAnd (d.pages home) (λ page. IsTablePage page d.table)) → IsSomeAnd o (λ home. IsSomeAnd (pages home) (λ page. IsTablePage page d.table))
-  table_stays None at is = absurd is
-  table_stays (Some home) at is = subst (λ o. IsSomeAnd o (λ page. IsTablePage page d.table)) (sym (keeps of_table home tt at)) is
+  -- ---- tables of cells
 
   cells_now : (vol : ℕ) → IsMember d.frame.anchor vol → IsCellTable pages vol (first_cells d.frame vol) (table_of d.cells vol)
   cells_now vol member =
@@ -166,79 +175,6 @@ module _ (d : DomainNow) (files : Files) (indexes : IndexesAt) (below : StandsBe
         each = λ place within. subst (λ o. IsSomeAnd o (IsPageAt (table_of d.cells vol) place)) (sym (on_table (record { vol = vol; page = slice_index (table_of d.cells vol) place }) (index_in (table_of d.cells vol) place within))) (was.each place within);
       }
 
-  volume_now : (vol : ℕ) → IsMember d.frame.anchor vol → HasVolumeCell placed vol
-  volume_now vol member =
-      let cell = below.tables.volumes vol member in
-      let was : IsCellTable d.pages vol (first_cells d.frame vol) (table_of d.cells vol) = below.tables.laid.cells vol member in
-      record { cell = cell.cell; stands = stands_on (first_place d.frame vol) cell.cell (first_in (table_of d.cells vol) (first_cells d.frame vol) was.begins) cell.stands; says = cell.says }
-
-  free_there : (at : CellAt) → IsFreeAt d.pages (layout_of d) at → IsFreeAt pages (layout_of placed) at
-  free_there at f = record { member = f.member; table = f.table; within = f.within; free = subst (λ o. IsSomeAnd o (λ page. is_free_in page at.cell ≡ true)) (sym (on_table (home_of at) f.table)) f.free }
-
-  free_back : (at : CellAt) → IsFreeAt pages (layout_of placed) at → IsFreeAt d.pages (layout_of d) at
-  free_back at f = record { member = f.member; table = f.table; within = f.within; free = subst (λ o. IsSomeAnd o (λ page. is_free_in page at.cell ≡ true)) (on_table (home_of at) f.table) f.free }
-
-  tables_on : StandTables placed
-  tables_on = record {
-    laid = record {
-      version = below.tables.laid.version;
-      table = table_stays d.frame.anchor.table refl below.tables.laid.table;
-      cells = cells_now;
-      tags = λ n item there. tags_now n (first_tag_of item) (below.tables.laid.tags n item there);
-    };
-    log = below.tables.log;
-    few = below.tables.few;
-    may = below.tables.may;
-    volumes = volume_now;
-    cells = record {
-      tables = λ vol member. refl;
-      others = below.tables.cells.others;
-      closed = below.tables.cells.closed;
-      free = λ at. ((λ is. free_there at ((below.tables.cells.free at).0 is)), (λ f. (below.tables.cells.free at).1 (free_back at f)));
-    };
-  }
-
-  -- ---- what pages are held for
-
-  held_back : (h : Holder) (home : Home) → Holds placed files indexes h home → Holds d files indexes h home
-  held_back of_volume home is = is
-  held_back of_log home is = is
-  held_back of_table home is = is
-  held_back of_cells home is = is
-  held_back (of_tags n) home is = is
-  held_back (of_index at k) home is = is
-  held_back (of_file at page) home is = is
-
-  held_on : (h : Holder) (home : Home) → Holds d files indexes h home → Holds placed files indexes h home
-  held_on of_volume home is = is
-  held_on of_log home is = is
-  held_on of_table home is = is
-  held_on of_cells home is = is
-  held_on (of_tags n) home is = is
-  held_on (of_index at k) home is = is
-  held_on (of_file at page) home is = is
-
-  space_on : (vol : ℕ) (o : Option VolumeSpace) → AreHeldAt d files indexes vol o → AreHeldAt placed files indexes vol o
-  space_on vol None none = none
-  space_on vol (Some v) held = (
-    held.0,
-    record {
-      count = held.1.count;
-      opened = held.1.opened;
-      free = λ page within. (
-        (λ unused. let was = (held.1.free page within).0 unused in ((λ h is. was.0 h (held_back h (record { vol = vol; page = page }) is)), was.1)),
-        (λ is. (held.1.free page within).1 ((λ h was. is.0 h (held_on h (record { vol = vol; page = page }) was)), is.1)),
-      );
-      waits = λ page waiting h is. held.1.waits page waiting h (held_back h (record { vol = vol; page = page }) is);
-    },
-  )
-
-  owned_on : HoldsOwned placed files indexes
-  owned_on = record {
-    once = λ home one other a b. below.owned.once home one other (held_back one home a) (held_back other home b);
-    spaces = λ vol low. space_on vol (volume_of d.space vol) (below.owned.spaces vol low);
-  }
-
   -- ---- chains
 
   pub standing_was : (at : CellAt) (cs : List PlacedCell) → files at ≡ Some cs → IsStanding d.cells d.pages at cs
@@ -248,21 +184,6 @@ module _ (d : DomainNow) (files : Files) (indexes : IndexesAt) (below : StandsBe
   standing_now at cs there =
       let was = standing_was at cs there in
       record { stands = chain_by d.pages pages at cs (stand_still cs was.on_tables (stand_chain d.pages at cs was.stands)) was.stands; on_tables = was.on_tables }
-
-  well_on : IsWell (all_of placed files)
-  well_on =
-      let well = below.chains.well in
-      record {
-        together = record {
-          allocated = allocated_beside d.space d.cells d.pages pages on_table well.together.allocated;
-          each = each_from d.cells pages files standing_now;
-          apart = well.together.apart;
-          held = well.together.held;
-          once = well.together.once;
-          one_deep = well.together.one_deep;
-        };
-        listed = well.listed;
-      }
 
   module _ (n : ℕ) (has : HasFilesAmong d files n) where
     leads_on : (tag : Tag) (cs : List PlacedCell) → has.chains tag ≡ Some cs → LeadsToFile n (d.tags n) d.pages tag cs → LeadsToFile n (d.tags n) pages tag cs
@@ -294,55 +215,16 @@ module _ (d : DomainNow) (files : Files) (indexes : IndexesAt) (below : StandsBe
         by_chain tag None is was = tt
         by_chain tag (Some cs) is was = leads_on tag cs is was
 
-    files_on : HasFilesAmong placed files n
-    files_on =
-        let among = has.among in
-        record {
-          chains = has.chains;
-          are = are_on;
-          among = record { same = among.same; live = among.live; trimmed = among.trimmed; low = among.low; no_tags = among.no_tags; not_listed = among.not_listed };
-        }
-
-  empty_on : (n : ℕ) → HasEmptyTags d n → HasEmptyTags placed n
-  empty_on n empty = record { removed = empty.removed; none = λ tag. cells_lead n tag ∙ empty.none tag; listed = empty.listed }
-
-  slot_on : (n : ℕ) (o : Option Home) → StandsInSlot d files n o → StandsInSlot placed files n o
-  slot_on n None none = none
-  slot_on n (Some first) stood = ⊎_elim (λ has. inl (files_on n has)) (λ empty. inr (empty_on n empty)) stood
-
-  pub quotas_on : (n : ℕ) (at : CellAt) (o : Option (List PlacedCell)) → files at ≡ o → IsSomeAnd o (AreQuotasOf d n at) → IsSomeAnd o (AreQuotasOf placed n at)
-  quotas_on n at None is are = are
-  quotas_on n at (Some cs) is are = record { quotas = quotas (standing_now at cs is).stands; of = are.of; once = are.once }
+  pub quotas_kept : (n : ℕ) (at : CellAt) (cs : List PlacedCell) → files at ≡ Some cs → AreQuotasOf d n at cs → IsQuotas pages at cs
+  quotas_kept n at cs is are = ⊎_elim (λ file. absurd (has_attributes pages at cs file no_attributes)) (λ are_now. are_now) (standing_now at cs is).stands
     where
       no_attributes : first_record 1 cs ≡ None
       no_attributes = quota_first d.pages at cs are.quotas 1 (λ e. omega (arith, e)) (λ e. omega (arith, e))
-
-      quotas : IsFileOrQuotas pages at cs → IsQuotas pages at cs
-      quotas either = ⊎_elim (λ file. absurd (has_attributes pages at cs file no_attributes)) (λ are_now. are_now) either
 
   indexed_on : (at : CellAt) → AreIndexHomes pages (option_and_then index_of (files at)) (indexes at)
   indexed_on at =
       kept_same d.pages pages (option_and_then index_of (files at)) (indexes at) (below.chains.indexed at)
       (λ home inside. let k = in_get (indexes at) home inside in keeps (of_index at k.0) home tt k.1)
-
-  named_on : (at : CellAt) (cs : List PlacedCell) → IsSomebodys d at cs → IsSomebodys placed at cs
-  named_on at cs of = ⊎_elim
-      (λ it. inl (it.0, it.1, cells_lead it.0 it.1 ∙ it.2))
-      (λ rest. inr (⊎_elim (λ left. inl left) (λ quota. inr (quota.0, quota.1)) rest))
-      of
-
-  chains_on : StandChains placed files indexes
-  chains_on = record {
-    well = well_on;
-    slots = λ n. slot_on n (named_by first_tag_of d n) (below.chains.slots n);
-    quotas = λ n at quota. quotas_on n at (files at) refl (below.chains.quotas n at quota);
-    indexed = indexed_on;
-    used = λ at cell on. below.chains.used at cell (on_was at cell on);
-    named = λ at cs there. named_on at cs (below.chains.named at cs there);
-    to_do = λ at left. let on = below.chains.to_do at left in (on.0, on.1, on.2);
-    listed = λ at on. ⊎_elim (λ left. inl left) (λ quota. inr (quota.0, quota.1, quota.2)) (below.chains.listed at (on.0, on.1, on.2));
-    tag_pages = λ home inside. let empty = below.chains.tag_pages home inside in (empty.0, empty_on empty.0 empty.1);
-  }
 
   -- ---- single cells
 
@@ -365,23 +247,193 @@ module _ (d : DomainNow) (files : Files) (indexes : IndexesAt) (below : StandsBe
     tagged_on None empty = absurd (none_not at (sym (ap (λ (ps : List TagPlace). cell_of d.pages ps tag) empty) ∙ leads))
     tagged_on (Some first) in_slot = ⊎_elim in_files (λ e. absurd (none_not at (sym (e.none tag) ∙ leads))) in_slot
 
-  births_on : (at : CellAt) (cell : Cell) (value : Record) → IsOfOriginal placed at → StandsAt pages at cell → record_of 1 cell.records ≡ Some value → ¬ IsLate d.table.made value
-  births_on at cell value o stands has =
-      let leads : cell_of d.pages (d.tags o.number) o.tag ≡ Some at = sym (cells_lead o.number o.tag) ∙ o.leads in
-      below.rest.births at cell value (record { number = o.number; original = o.original; tag = o.tag; leads = leads })
-      (stands_back at cell (tagged_on o.number o.tag at leads (named_by first_tag_of d o.number) (below.chains.slots o.number)) stands) has
+  -- ---- with a table that names the same
 
-  rest_on : SaysTheRest placed files
-  rest_on = record {
-    kinds = λ at cell on. below.rest.kinds at cell (on_was at cell on);
-    firsts = λ at cell on. below.rest.firsts at cell (on_was at cell on);
-    births = births_on;
-    holes = λ at chain is stays. below.rest.holes at chain is stays;
-  }
+  module _ (table_now : Table) (re : NamesTheSame d.table table_now) (says : IsSomeAnd d.frame.anchor.table (λ home. IsSomeAnd (pages home) (λ page. IsTablePage page table_now))) where
+    abbrev pub retabled : DomainNow
+    retabled = record d { table = table_now; pages = pages; contents = contents }
 
-  pub below_on : StandsBelow placed files indexes
-  below_on = record { tables = tables_on; chains = chains_on; owned = owned_on; rest = rest_on }
+    on_was : (at : CellAt) (cell : Cell) → IsOnTable pages (layout_of retabled) at cell → IsOnTable d.pages (layout_of d) at cell
+    on_was at cell on = record { member = on.member; table = on.table; stands = stands_back at cell on.table on.stands }
+
+    -- ---- tables
+
+    volume_now : (vol : ℕ) → IsMember d.frame.anchor vol → HasVolumeCell retabled vol
+    volume_now vol member =
+        let cell = below.tables.volumes vol member in
+        let was : IsCellTable d.pages vol (first_cells d.frame vol) (table_of d.cells vol) = below.tables.laid.cells vol member in
+        record { cell = cell.cell; stands = stands_on (first_place d.frame vol) cell.cell (first_in (table_of d.cells vol) (first_cells d.frame vol) was.begins) cell.stands; says = cell.says }
+
+    free_there : (at : CellAt) → IsFreeAt d.pages (layout_of d) at → IsFreeAt pages (layout_of retabled) at
+    free_there at f = record { member = f.member; table = f.table; within = f.within; free = subst (λ o. IsSomeAnd o (λ page. is_free_in page at.cell ≡ true)) (sym (on_table (home_of at) f.table)) f.free }
+
+    free_back : (at : CellAt) → IsFreeAt pages (layout_of retabled) at → IsFreeAt d.pages (layout_of d) at
+    free_back at f = record { member = f.member; table = f.table; within = f.within; free = subst (λ o. IsSomeAnd o (λ page. is_free_in page at.cell ≡ true)) (on_table (home_of at) f.table) f.free }
+
+    -- where the tags of a slot stood, by what is in it now
+    places_were : (n : ℕ) (item : SlotItem) → slice_get table_now.slots n ≡ Some item → AreTagPlaces d.pages (first_tag_of item) (d.tags n)
+    places_were n item there = by_item (slice_get d.table.slots n) refl (sym (re.firsts n) ∙ ap (option_and_then first_tag_of) there)
+      where
+        by_item : (o : Option SlotItem) → slice_get d.table.slots n ≡ o → option_and_then first_tag_of o ≡ first_tag_of item → AreTagPlaces d.pages (first_tag_of item) (d.tags n)
+        by_item None at is = subst (λ o. AreTagPlaces d.pages o (d.tags n)) is (subst (λ o. StandsInSlot d files n (option_and_then first_tag_of o)) at (below.chains.slots n))
+        by_item (Some was) at is = subst (λ o. AreTagPlaces d.pages o (d.tags n)) is (below.tables.laid.tags n was at)
+
+    tables_on : StandTables retabled
+    tables_on = record {
+      laid = record {
+        version = below.tables.laid.version;
+        table = says;
+        cells = cells_now;
+        tags = λ n item there. tags_now n (first_tag_of item) (places_were n item there);
+      };
+      log = below.tables.log;
+      few = below.tables.few;
+      may = below.tables.may;
+      volumes = volume_now;
+      cells = record {
+        tables = λ vol member. refl;
+        others = below.tables.cells.others;
+        closed = below.tables.cells.closed;
+        free = λ at. ((λ is. free_there at ((below.tables.cells.free at).0 is)), (λ f. (below.tables.cells.free at).1 (free_back at f)));
+      };
+    }
+
+    -- ---- what pages are held for
+
+    held_back : (h : Holder) (home : Home) → Holds retabled files indexes h home → Holds d files indexes h home
+    held_back of_volume home is = is
+    held_back of_log home is = is
+    held_back of_table home is = is
+    held_back of_cells home is = is
+    held_back (of_tags n) home is = is
+    held_back (of_index at k) home is = is
+    held_back (of_file at page) home is = is
+
+    held_on : (h : Holder) (home : Home) → Holds d files indexes h home → Holds retabled files indexes h home
+    held_on of_volume home is = is
+    held_on of_log home is = is
+    held_on of_table home is = is
+    held_on of_cells home is = is
+    held_on (of_tags n) home is = is
+    held_on (of_index at k) home is = is
+    held_on (of_file at page) home is = is
+
+    space_on : (vol : ℕ) (o : Option VolumeSpace) → AreHeldAt d files indexes vol o → AreHeldAt retabled files indexes vol o
+    space_on vol None none = none
+    space_on vol (Some v) held = (
+      held.0,
+      record {
+        count = held.1.count;
+        opened = held.1.opened;
+        free = λ page within. (
+          (λ unused. let was = (held.1.free page within).0 unused in ((λ h is. was.0 h (held_back h (record { vol = vol; page = page }) is)), was.1)),
+          (λ is. (held.1.free page within).1 ((λ h was. is.0 h (held_on h (record { vol = vol; page = page }) was)), is.1)),
+        );
+        waits = λ page waiting h is. held.1.waits page waiting h (held_back h (record { vol = vol; page = page }) is);
+      },
+    )
+
+    owned_on : HoldsOwned retabled files indexes
+    owned_on = record {
+      once = λ home one other a b. below.owned.once home one other (held_back one home a) (held_back other home b);
+      spaces = λ vol low. space_on vol (volume_of d.space vol) (below.owned.spaces vol low);
+    }
+
+    -- ---- chains
+
+    well_on : IsWell (all_of retabled files)
+    well_on =
+        let well = below.chains.well in
+        record {
+          together = record {
+            allocated = allocated_beside d.space d.cells d.pages pages on_table well.together.allocated;
+            each = each_from d.cells pages files standing_now;
+            apart = well.together.apart;
+            held = well.together.held;
+            once = well.together.once;
+            one_deep = well.together.one_deep;
+          };
+          listed = well.listed;
+        }
+
+    files_on : (n : ℕ) → HasFilesAmong d files n → HasFilesAmong retabled files n
+    files_on n has =
+        let among = has.among in
+        record {
+          chains = has.chains;
+          are = are_on n has;
+          among = record { same = among.same; live = among.live; trimmed = among.trimmed; low = among.low; no_tags = among.no_tags; not_listed = among.not_listed };
+        }
+
+    empty_on : (n : ℕ) → HasEmptyTags d n → HasEmptyTags retabled n
+    empty_on n empty = record { removed = re.removed n empty.removed; none = λ tag. cells_lead n tag ∙ empty.none tag; listed = empty.listed }
+
+    slot_on : (n : ℕ) (o : Option Home) → StandsInSlot d files n o → StandsInSlot retabled files n o
+    slot_on n None none = none
+    slot_on n (Some first) stood = ⊎_elim (λ has. inl (files_on n has)) (λ empty. inr (empty_on n empty)) stood
+
+    quotas_on : (n : ℕ) (at : CellAt) (o : Option (List PlacedCell)) → files at ≡ o → IsSomeAnd o (AreQuotasOf d n at) → IsSomeAnd o (AreQuotasOf retabled n at)
+    quotas_on n at None is are = are
+    quotas_on n at (Some cs) is are = record { quotas = quotas_kept n at cs is are; of = are.of; once = are.once }
+
+    quota_was : (n : ℕ) (at : CellAt) → IsQuotaOf retabled n at → IsQuotaOf d n at
+    quota_was n at quota = sym (re.quotas n) ∙ quota
+
+    quota_now : (n : ℕ) (at : CellAt) → IsQuotaOf d n at → IsQuotaOf retabled n at
+    quota_now n at quota = re.quotas n ∙ quota
+
+    named_on : (at : CellAt) (cs : List PlacedCell) → IsSomebodys d at cs → IsSomebodys retabled at cs
+    named_on at cs of = ⊎_elim
+        (λ it. inl (it.0, it.1, cells_lead it.0 it.1 ∙ it.2))
+        (λ rest. inr (⊎_elim (λ left. inl left) (λ quota. inr (quota.0, quota_now quota.0 at quota.1)) rest))
+        of
+
+    chains_on : StandChains retabled files indexes
+    chains_on = record {
+      well = well_on;
+      slots = λ n. subst (StandsInSlot retabled files n) (sym (re.firsts n)) (slot_on n (named_by first_tag_of d n) (below.chains.slots n));
+      quotas = λ n at quota. quotas_on n at (files at) refl (below.chains.quotas n at (quota_was n at quota));
+      indexed = indexed_on;
+      used = λ at cell on. below.chains.used at cell (on_was at cell on);
+      named = λ at cs there. named_on at cs (below.chains.named at cs there);
+      to_do = λ at left. let on = below.chains.to_do at left in (on.0, on.1, on.2);
+      listed = λ at on. ⊎_elim (λ left. inl left) (λ quota. inr (quota.0, re.removed quota.0 quota.1, quota_now quota.0 at quota.2)) (below.chains.listed at (on.0, on.1, on.2));
+      tag_pages = λ home inside. let empty = below.chains.tag_pages home inside in (empty.0, empty_on empty.0 empty.1);
+    }
+
+    -- ---- single cells
+
+    births_on : (at : CellAt) (cell : Cell) (value : Record) → IsOfOriginal retabled at → StandsAt pages at cell → record_of 1 cell.records ≡ Some value → ¬ IsLate table_now.made value
+    births_on at cell value o stands has =
+        let leads : cell_of d.pages (d.tags o.number) o.tag ≡ Some at = sym (cells_lead o.number o.tag) ∙ o.leads in
+        subst (λ (made : ℕ). ¬ IsLate made value) (sym re.made)
+        (below.rest.births at cell value (record { number = o.number; original = re.original o.number o.original; tag = o.tag; leads = leads })
+        (stands_back at cell (tagged_on o.number o.tag at leads (named_by first_tag_of d o.number) (below.chains.slots o.number)) stands) has)
+
+    stayed : (chain : List PlacedCell) → StaysInOriginal retabled chain → StaysInOriginal d chain
+    stayed [] stays = stays
+    stayed (first ∷ rest) stays = (by_fileset first.cell.head.fileset stays.0, stays.1)
+      where
+        by_fileset : (o : Option ℕ) → of_original (option_and_then (slice_get table_now.slots) o) ≡ true → of_original (option_and_then (slice_get d.table.slots) o) ≡ true
+        by_fileset None is = is
+        by_fileset (Some n) is = re.original n is
+
+    rest_on : SaysTheRest retabled files
+    rest_on = record {
+      kinds = λ at cell on. below.rest.kinds at cell (on_was at cell on);
+      firsts = λ at cell on primary. re.good cell (below.rest.firsts at cell (on_was at cell on) primary);
+      births = births_on;
+      holes = λ at chain is stays. below.rest.holes at chain is (stayed chain stays);
+    }
+
+    pub below_on : StandsBelow retabled files indexes
+    below_on = record { tables = tables_on; chains = chains_on; owned = owned_on; rest = rest_on }
 
 pub others_stand : (d now : DomainNow) (files : Files) (indexes : IndexesAt) → StandsBelow d files indexes → KeepsPlaces d now → KeepsWhere d now files indexes → StandsBelow now files indexes
 others_stand d now files indexes below same keeps = subst (λ (x : DomainNow). StandsBelow x files indexes) (sym same)
-    (below_on d files indexes below now.pages now.contents (λ holder home says held. let of = of_filesets holder (says_more holder says) in keeps home holder held of.0 of.1 (no_file holder says)))
+    (below_on d files indexes below now.pages now.contents (λ holder home says held. let of = of_filesets holder (says_more holder says) in keeps home holder held of.0 of.1 (no_file holder says)) d.table (itself d.table)
+    (table_stays d.frame.anchor.table refl below.tables.laid.table))
+  where
+    table_stays : (o : Option Home) → d.frame.anchor.table ≡ o → IsSomeAnd o (λ home. IsSomeAnd (d.pages home) (λ page. IsTablePage page d.table)) → IsSomeAnd o (λ home. IsSomeAnd (now.pages home) (λ page. IsTablePage page d.table))
+    table_stays None at is = absurd is
+    table_stays (Some home) at is = subst (λ o. IsSomeAnd o (λ page. IsTablePage page d.table)) (sym (keeps home of_table at (λ e. cc) (λ e. cc) (λ a page e. cc))) is

@@ -50,7 +50,7 @@ use Rattle.standing_laws.specs.Leads.{StandsBelow}
 use Rattle.standing_laws.specs.OtherPages.{KeepsBytes, KeepsPages, KeepsPlaces}
 use Rattle.standing_laws.proofs.HomeLists.{in_get}
 use Rattle.standing_laws.proofs.OtherSlots.{links_of, seen_place}
-use Rattle.standing_laws.proofs.OthersStand.{IsOfFilesets, SaysWhere, member_on, of_filesets, placed, quotas_on, says_more}
+use Rattle.standing_laws.proofs.OthersStand.{IsOfFilesets, SaysWhere, member_on, of_filesets, placed, quotas_kept, says_more}
 
 none_not : {X : Type 0} (x : X) → ¬ None ≡ Some x
 none_not x is = cc
@@ -174,7 +174,7 @@ module _ (d : DomainNow) (files : Files) (indexes : IndexesAt) (below : StandsBe
         by_chain None none quotas = absurd quotas
         by_chain (Some cs) some quotas = (
           cs,
-          links_of pages at cs (quotas_on d files indexes below pages contents keeps_where n at (Some cs) some quotas).quotas,
+          links_of pages at cs (quotas_kept d files indexes below pages contents keeps_where n at cs some quotas),
           are.2 ∙ ap records_of (links_same d.pages at are.0 cs are.1 (links_of d.pages at cs quotas.quotas)),
         )
 

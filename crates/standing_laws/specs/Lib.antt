@@ -1,3 +1,4 @@
+pub mod GoingFileset
 pub mod IndexCalls
 pub mod Leads
 pub mod Left

@@ -6,6 +6,7 @@ mod beginning;
 mod below;
 mod chains;
 mod elsewhere;
+mod going;
 mod held;
 mod indexes;
 mod keeping;
@@ -15,7 +16,10 @@ mod rest;
 mod slots;
 mod tables;
 
-pub use beginning::{a_fileset_begins, an_empty_fileset_begins};
+pub use beginning::{
+    a_fileset_begins, an_empty_fileset_begins, filesets_stand_on_where_one_begins,
+    the_fileset_that_begins_is_empty,
+};
 pub use below::{
     all_below_stands_on, all_below_stands_on_where_a_file_is_listed,
     filesets_stay_where_a_file_is_listed,
@@ -30,6 +34,10 @@ pub use elsewhere::{
     other_slots_stay_where_a_file_goes_with_its_index, other_slots_stay_where_a_fileset_begins,
     other_slots_stay_where_an_index_page_is_put_in,
     other_slots_stay_where_an_index_page_is_written,
+};
+pub use going::{
+    a_domain_stands_on_where_a_fileset_begins_to_go, all_stands_on_where_a_fileset_begins_to_go,
+    filesets_stand_on_where_one_begins_to_go, other_slots_stay_where_a_fileset_begins_to_go,
 };
 pub use held::held_pages_stand_on;
 pub use indexes::{

@@ -1,0 +1,46 @@
+//! Filesets that begin to be removed.
+ghost use Rattle.std.specs.Prelude.{◌≡◌, ℕ};
+ghost use Rattle.std.specs.FinMap.{remove};
+ghost use Rattle.domain_base.specs.declared.place.Home.{Home};
+ghost use Rattle.fileset_model.specs.Filesets.{FilesetMap};
+ghost use Rattle.fileset_table.specs.declared.slot.FilesetEntry.{FilesetEntry};
+ghost use Rattle.deferred_delete.specs.Standing.{Files};
+ghost use Rattle.domain_standing.specs.Chains.{IndexesAt};
+ghost use Rattle.domain_standing.specs.Domain.{DomainNow};
+ghost use Rattle.domain_standing.specs.Slots.{StandSlots};
+ghost use Rattle.domain_standing.specs.Standing.{StandsDomain};
+ghost use Rattle.standing_laws.specs.GoingFileset.{BeginsToGo};
+ghost use Rattle.standing_laws.specs.Leads.{StandsBelow};
+ghost use Rattle.standing_laws.specs.SlotsStay.{OthersStand};
+
+/// A domain stands on, all but its filesets, where the slot of an original says that it is being
+/// removed: its tags and quota cells stand where they did.
+pub fn all_stands_on_where_a_fileset_begins_to_go()
+    ensures { (number : ℕ) (entry : FilesetEntry) (d now : DomainNow) (files : Files)
+        (indexes : IndexesAt) → StandsBelow d files indexes → BeginsToGo number entry d now
+        → StandsBelow now files indexes }
+{}
+
+/// The original in each other slot stands for the fileset for which it stood.
+pub fn other_slots_stay_where_a_fileset_begins_to_go()
+    ensures { (number : ℕ) (entry : FilesetEntry) (d now : DomainNow) (files : Files)
+        (indexes : IndexesAt) → StandsBelow d files indexes → BeginsToGo number entry d now
+        → OthersStand number d now }
+{}
+
+/// So the domain stands for all filesets but this one, where each page keeps its bytes that does
+/// not change.
+pub fn filesets_stand_on_where_one_begins_to_go()
+    ensures { (number : ℕ) (entry : FilesetEntry) (d now : DomainNow) (files : Files)
+        (indexes : IndexesAt) → StandsBelow d files indexes → BeginsToGo number entry d now
+        → ((home : Home) → now.pages home ≡ d.pages home → now.contents home ≡ d.contents home)
+        → (all : FilesetMap) → StandSlots d all → StandSlots now (remove all entry.name) }
+{}
+
+/// All together: a domain stands for its filesets without this one.
+pub fn a_domain_stands_on_where_a_fileset_begins_to_go()
+    ensures { (number : ℕ) (entry : FilesetEntry) (d now : DomainNow)
+        → BeginsToGo number entry d now
+        → ((home : Home) → now.pages home ≡ d.pages home → now.contents home ≡ d.contents home)
+        → (all : FilesetMap) → StandsDomain d all → StandsDomain now (remove all entry.name) }
+{}
