@@ -15,6 +15,8 @@ use Rattle.fileset_table.specs.declared.slot.FilesetEntry.{FilesetEntry}
 use Rattle.fileset_table.specs.declared.slot.SlotItem.{SlotItem}
 use Rattle.fileset_table.specs.declared.slot.SlotItem.TheVariants as slot
 use Rattle.fileset_table.proofs.Leaving.{get_other}
+use Rattle.quota_book.specs.Book.{Book}
+use Rattle.quota_book.specs.Sums.{IsBookOf}
 use Rattle.stored_set.specs.Sets.{StandsAsSet}
 use Rattle.deferred_delete.specs.Standing.{Files}
 use Rattle.deferred_delete.proofs.Spread.{some_same}
@@ -28,7 +30,7 @@ use Rattle.domain_standing.specs.Domain.{DomainNow, item_in}
 use Rattle.domain_standing.specs.Holders.{Holder, Holds}
 use Rattle.domain_standing.specs.Holders.Holder.{of_file, of_index, of_table, of_tags}
 use Rattle.domain_standing.specs.Slots.{StandSlots}
-use Rattle.domain_standing.specs.Standing.{StandsDomain}
+use Rattle.domain_standing.specs.Standing.{AreBooksOf, StandsDomain}
 use Rattle.standing_laws.specs.GoingFileset.{BeginsToGo}
 use Rattle.standing_laws.specs.Leads.{StandsBelow}
 use Rattle.standing_laws.specs.Slots.{StandsSlot}
@@ -180,6 +182,16 @@ module _ (number : ℕ) (entry : FilesetEntry) (d now : DomainNow) (files : File
       (λ also. differ (omega (arith, more, also)))
       (cases_lt number n))
       (cases_lt n number)
+
+  -- the books of the others are theirs still
+  pub books_went : (books : ℕ → Book) (all : FilesetMap) → AreBooksOf books d all → AreBooksOf books now (remove all entry.name)
+  books_went books all are n its at = ⊎_elim
+      (λ same. absurd (true≢false (sym (ap of_original (sym here_now ∙ ap (item_in now) (sym same) ∙ at)))))
+      (λ differ.
+      let was : item_in d n ≡ Some (slot.Original its) = sym (other_now n differ) ∙ at in
+      subst (λ (o : Option FilesetSlot). IsSomeAnd o (λ fileset. IsBookOf (books n) fileset.tree))
+      (sym (get-remove_other name_cmp-total name_cmp-IsAntisymmetric all entry.name its.name (λ same. other_name n its differ was (sym same)))) (are n its was))
+      (number_or_not n)
 
   module _ (bytes : (home : Home) → now.pages home ≡ d.pages home → now.contents home ≡ d.contents home) (all : FilesetMap) (slots : StandSlots d all) where
     abbrev shape_but : (name : Name) → Option FilesetShape → (entry.name ≡ name) ⊎ ¬ entry.name ≡ name → Option FilesetShape

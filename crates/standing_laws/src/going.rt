@@ -4,11 +4,12 @@ ghost use Rattle.std.specs.FinMap.{remove};
 ghost use Rattle.domain_base.specs.declared.place.Home.{Home};
 ghost use Rattle.fileset_model.specs.Filesets.{FilesetMap};
 ghost use Rattle.fileset_table.specs.declared.slot.FilesetEntry.{FilesetEntry};
+ghost use Rattle.quota_book.specs.Book.{Book};
 ghost use Rattle.deferred_delete.specs.Standing.{Files};
 ghost use Rattle.domain_standing.specs.Chains.{IndexesAt};
 ghost use Rattle.domain_standing.specs.Domain.{DomainNow};
 ghost use Rattle.domain_standing.specs.Slots.{StandSlots};
-ghost use Rattle.domain_standing.specs.Standing.{StandsDomain};
+ghost use Rattle.domain_standing.specs.Standing.{AreBooksOf, StandsDomain};
 ghost use Rattle.standing_laws.specs.GoingFileset.{BeginsToGo};
 ghost use Rattle.standing_laws.specs.Leads.{StandsBelow};
 ghost use Rattle.standing_laws.specs.SlotsStay.{OthersStand};
@@ -43,4 +44,12 @@ pub fn a_domain_stands_on_where_a_fileset_begins_to_go()
         → BeginsToGo number entry d now
         → ((home : Home) → now.pages home ≡ d.pages home → now.contents home ≡ d.contents home)
         → (all : FilesetMap) → StandsDomain d all → StandsDomain now (remove all entry.name) }
+{}
+
+/// The book of each other slot is that of its fileset still.
+pub fn books_stay_where_a_fileset_begins_to_go()
+    ensures { (number : ℕ) (entry : FilesetEntry) (d now : DomainNow) (files : Files)
+        (indexes : IndexesAt) → StandsBelow d files indexes → BeginsToGo number entry d now
+        → (books : ℕ → Book) (all : FilesetMap) → AreBooksOf books d all
+        → AreBooksOf books now (remove all entry.name) }
 {}

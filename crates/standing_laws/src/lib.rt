@@ -37,7 +37,8 @@ pub use elsewhere::{
 };
 pub use going::{
     a_domain_stands_on_where_a_fileset_begins_to_go, all_stands_on_where_a_fileset_begins_to_go,
-    filesets_stand_on_where_one_begins_to_go, other_slots_stay_where_a_fileset_begins_to_go,
+    books_stay_where_a_fileset_begins_to_go, filesets_stand_on_where_one_begins_to_go,
+    other_slots_stay_where_a_fileset_begins_to_go,
 };
 pub use held::held_pages_stand_on;
 pub use indexes::{
