@@ -1,6 +1,9 @@
 -- A domain stands once the change over its memory is kept.
-use Rattle.std.proofs.Common.{◌≡◌, ◌∙◌, ◌↔◌, ℕ, ◌+◌, ◌*◌, ◌/◌, ◌<◌, ◌≤◌, true, [], Option, Some, None, IsSome, IsSomeAnd, refl, sym, ap, subst, arith}
+use Rattle.std.proofs.Common.{◌≡◌, ◌∙◌, ◌↔◌, ℕ, ◌/◌, ◌<◌, ◌≤◌, ◌⊎◌, inl, inr, Bool, true, false, [], length, Option, Some, None, IsSome, IsSomeAnd, refl, sym, ap, subst, arith, ⊎_elim, true≢false}
+use Rattle.std.proofs.Math.Logic.{∥∥₁_elim}
+use Rattle.std.proofs.lemmas.Bool.{cases_eq, cases_lt}
 use Rattle.std.specs.FinMap.{get}
+use Rattle.std.specs.FinSet.{contains}
 use Rattle.std.specs.Option.{is_some, option_map, unwrap_or}
 use Rattle.domain_base.specs.Version.{bitmap_pages, most_pages}
 use Rattle.domain_base.specs.declared.place.Home.{Home}
@@ -9,32 +12,29 @@ use Rattle.domain_base.specs.declared.version.Version.TheVariants.{Three, Four}
 use Rattle.page_store.specs.Pages.{Pages}
 use Rattle.log_ring.specs.Homes.{IsMember, member_of}
 use Rattle.bmt_mcells.proofs.Changed.{homes_same}
-use Rattle.free_space.specs.Spaces.{IsHeld, Spaces, change_volumes, kept_spaces, volume_of}
-use Rattle.free_space.specs.VolumeSpace.{VolumeSpace, as_kept, keeping}
-use Rattle.free_cells.specs.Cells.{Cells, Holds as HoldsCells, is_closed, is_free, kept_of, table_of, taken_back}
+use Rattle.free_space.specs.Spaces.{change_volumes, kept_spaces, volume_of}
+use Rattle.free_space.specs.VolumeSpace.{VolumeSpace, as_kept, is_among, keeping}
+use Rattle.free_cells.specs.Cells.{Holds as HoldsCells, is_closed, is_free, kept_of, table_of, taken_back}
 use Rattle.fileset_model.specs.Filesets.{FilesetMap}
-use Rattle.fileset_table.specs.declared.slot.FilesetEntry.{FilesetEntry}
-use Rattle.fileset_table.specs.declared.slot.SlotItem.TheVariants as slot
 use Rattle.quota_book.specs.Sums.{IsBookOf}
 use Rattle.domain_layout.specs.Filled.{Contents}
 use Rattle.domain_layout.specs.Read.{contents_of}
-use Rattle.domain_layout.specs.Reached.{Frame, first_cells}
 use Rattle.bitmap_marks.specs.Marks.{bitmap_home, is_marked}
 use Rattle.bitmap_marks.specs.Marking.{ChangeBits, IsHeldIn, IsOfBitmap, IsPageIn, SayHeld}
 use Rattle.bitmap_marks.proofs.Volumes.{volume_changed}
 use Rattle.domain_standing.specs.Chains.{IndexesAt}
 use Rattle.domain_standing.specs.Domain.{DomainNow, item_in}
-use Rattle.domain_standing.specs.Holders.{AreHeldAt, Holder, Holds, HoldsOwned}
-use Rattle.domain_standing.specs.Standing.{AreBooksOf, HaveParents, IsMarkedBut, StandsDomain}
+use Rattle.domain_standing.specs.Holders.{AreHeldAt, Holder, Holds}
+use Rattle.domain_standing.specs.Standing.{HaveParents, IsMarkedBut, StandsDomain}
 use Rattle.deferred_delete.specs.Standing.{Files}
 use Rattle.page_ways.specs.Frame.{frame_in}
 use Rattle.quota_book.specs.Book.{Book}
 use Rattle.staged_pages.specs.Store.{before_of, pages_of}
 use Rattle.staged_pages.specs.declared.pages.StagedPages.{StagedPages}
-use Rattle.domain_parts.specs.Listing.{list_with}
+use Rattle.domain_parts.specs.Listing.{HaveOnce, list_with}
 use Rattle.domain_parts.specs.Slots.{ChangesSlots, IsKept, slot_in}
 use Rattle.domain_memory.specs.Memory.{StandsFor, kept_in, with_was}
-use Rattle.domain_memory.specs.Staged.{IsSettled, IsStaged, MayBeKept, staged_in}
+use Rattle.domain_memory.specs.Staged.{IsSettled, IsStaged, IsStagedForSome, MayBeKept, staged_in}
 use Rattle.domain_memory.specs.declared.memory.DomainMemory.{DomainMemory}
 use Rattle.domain_memory.proofs.KeptSpace.{kept_is}
 use Rattle.domain_memory.proofs.SlotsKept.{book_kept, book_same, places_kept, places_same}
@@ -193,13 +193,56 @@ module _ (old new : DomainMemory) (marks : StagedPages) (all : FilesetMap) (stag
         (may.books number entry (ap (λ (d : DomainNow). item_in d number) (sym is_target) ∙ item));
   }
 
-  pub kept_settled : pages_of new.pages ≡ before_of new.pages → new.listed.items ≡ [] → IsSettled new
-  kept_settled none_staged listed = record {
-    pages = none_staged;
-    space = space_is ∙ sym space;
-    cells = settled;
-    places = λ number. places_same (slot_in old.slots.items number) (slot_in new.slots.items number) (slots.each number);
-    books = λ number. book_same (slot_in old.slots.items number) (slot_in new.slots.items number) (slots.each number);
-    was = was;
-    listed = listed;
-  }
+-- and no change is laid over it any more
+pub kept_settled : (old new : DomainMemory) → before_of new.pages ≡ pages_of new.pages → new.space ≡ change_volumes keeping old.space → taken_back new.cells ≡ new.cells
+    → ChangesSlots IsKept old.slots.items new.slots.items → new.was ≡ None → new.listed.items ≡ [] → IsSettled new
+kept_settled old new pages space settled slots was listed = record {
+  pages = sym pages;
+  space = ap kept_spaces space ∙ kept_is old.space ∙ sym space;
+  cells = settled;
+  places = λ number. places_same (slot_in old.slots.items number) (slot_in new.slots.items number) (slots.each number);
+  books = λ number. book_same (slot_in old.slots.items number) (slot_in new.slots.items number) (slots.each number);
+  was = was;
+  listed = listed;
+}
+
+-- ---- what keeping asks, where it is known that there are such filesets
+
+nothing : {A : Type 0} → ∥ A ∥₁ → (A → ⊥) → ⊥
+nothing t none = ∥∥₁_elim t (λ x y. absurd x) none
+
+module _ (memory : DomainMemory) (staged : ∥ IsStagedForSome memory ∥₁) where
+  pub asks_bitmaps : (vol page : ℕ) → 1 ≤ vol → IsPageIn (volume_of memory.space vol) page → IsSome (pages_of memory.pages (bitmap_home vol page))
+  asks_bitmaps vol page first within = by_test (is_some (pages_of memory.pages (bitmap_home vol page))) refl
+    where
+      by_test : (b : Bool) → is_some (pages_of memory.pages (bitmap_home vol page)) ≡ b → b ≡ true
+      by_test true is = refl
+      by_test false is = absurd (nothing staged (λ s. true≢false (sym (bitmaps_there (staged_in memory) s.0 s.1.stands s.1.marked vol page first within) ∙ is)))
+
+  held_or_not : (o : Option VolumeSpace) (page : ℕ) → IsHeldIn o page ⊎ (IsHeldIn o page → ⊥)
+  held_or_not None page = inr (λ is. is)
+  held_or_not (Some v) page = by_tests (contains v.used page) (is_among v.waiting page) refl refl
+    where
+      by_tests : (used waits : Bool) → contains v.used page ≡ used → is_among v.waiting page ≡ waits → IsHeldIn (Some v) page ⊎ (IsHeldIn (Some v) page → ⊥)
+      by_tests true false used waits = inl (used, waits)
+      by_tests true true used waits = inr (λ held. true≢false (sym waits ∙ held.1))
+      by_tests false waits_too used waits = inr (λ held. true≢false (sym held.0 ∙ used))
+
+  pub asks_bits : SayHeld (pages_of memory.pages) (kept_spaces memory.space)
+  asks_bits vol first last page within = (
+    (λ marked. ⊎_elim (λ held. held) (λ other. absurd (nothing staged (λ s. other ((said s).0 marked)))) (held_or_not (volume_of (kept_spaces memory.space) vol) page)),
+    (λ held. by_mark (is_marked (pages_of memory.pages) vol page) refl held),
+  )
+    where
+      said : IsStagedForSome memory → (is_marked (pages_of memory.pages) vol page ≡ true) ↔ IsHeldIn (volume_of (kept_spaces memory.space) vol) page
+      said s = said_held (staged_in memory) s.0 s.1.stands s.1.marked vol first last page within
+
+      by_mark : (b : Bool) → is_marked (pages_of memory.pages) vol page ≡ b → IsHeldIn (volume_of (kept_spaces memory.space) vol) page → b ≡ true
+      by_mark true is held = refl
+      by_mark false is held = absurd (nothing staged (λ s. true≢false (sym ((said s).1 held) ∙ is)))
+
+  pub asks_once : HaveOnce memory.list.list.entries
+  asks_once i j d low_i low_j same = ⊎_elim (λ is. is) (λ other. absurd (nothing staged (λ s. other (s.1.once i j d low_i low_j same)))) (cases_eq i j)
+
+  pub asks_room : length memory.listed.items ≤ memory.list.room
+  asks_room = ⊎_elim (λ more. absurd (nothing staged (λ s. omega (arith, more, s.1.room)))) (λ fits. fits) (cases_lt memory.list.room (length memory.listed.items))

@@ -1,8 +1,9 @@
 pub mod ChangeKept
-pub mod NewLayout
-pub mod NewMarks
+pub mod GoingBack
 pub mod KeptCells
 pub mod KeptSpace
+pub mod NewLayout
+pub mod NewMarks
 pub mod NewMemory
 pub mod SlotsKept
 pub mod TakingBack

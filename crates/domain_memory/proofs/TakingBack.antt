@@ -1,5 +1,7 @@
 -- Memory whose change was taken back, and memory that was just made.
-use Rattle.std.proofs.Common.{◌≡◌, ◌∙◌, ℕ, List, [], ◌∷◌, Option, Some, None, IfSome, map, replicate, refl, sym, ap, subst}
+use Rattle.std.proofs.Common.{◌≡◌, ◌∙◌, ℕ, List, [], ◌∷◌, Option, Some, None, IfSome, map, replicate, refl, sym, ap, subst, length, arith, ⊎_elim, slice_get, ◌<◌, ◌≤◌}
+use Rattle.std.proofs.Math.Logic.{∥∥₁_elim, ∥∥₁_map}
+use Rattle.std.proofs.lemmas.Bool.{cases_eq, cases_lt}
 use Rattle.std.specs.Option.{option_map}
 use Rattle.free_space.specs.Spaces.{Spaces, kept_spaces}
 use Rattle.free_space.specs.VolumeSpace.{VolumeSpace, as_kept}
@@ -9,6 +11,7 @@ use Rattle.page_ways.specs.Frame.{frame_in}
 use Rattle.domain_layout.specs.Read.{contents_of}
 use Rattle.staged_pages.specs.Store.{before_of, pages_of}
 use Rattle.domain_parts.specs.Slots.{CanGoBack, ChangesSlots, IsTakenBack, book_in, kept_book, kept_places, places_in, slot_in}
+use Rattle.domain_parts.specs.declared.slots.SlotFiles.{SlotFiles}
 use Rattle.domain_memory.specs.Memory.{books_in, kept_in, with_was}
 use Rattle.domain_memory.specs.Staged.{IsSettled, MayGoBack}
 use Rattle.domain_memory.specs.declared.memory.DomainMemory.{DomainMemory}
@@ -73,3 +76,22 @@ none_to_take_back m table slots was = record {
   table = subst (λ w. IsTable (with_was w m.table)) (sym was) table;
   slots = λ number. subst (λ o. IfSome o CanGoBack) (sym (ap (λ s. slot_in s number) slots ∙ nothing_in 32 number)) tt;
 }
+
+-- ---- what taking back asks, where it is known that it may be
+
+nothing : {A : Type 0} → ∥ A ∥₁ → (A → ⊥) → ⊥
+nothing t none = ∥∥₁_elim t (λ x y. absurd x) none
+
+module _ (memory : DomainMemory) (may : ∥ MayGoBack memory ∥₁) where
+  pub asks_table : ∥ IsTable (with_was memory.was memory.table) ∥₁
+  asks_table = ∥∥₁_map may (λ m. m.table)
+
+  pub asks_slots : (number : ℕ) → IfSome (slot_in memory.slots.items number) CanGoBack
+  asks_slots number = by_slot (slot_in memory.slots.items number) refl
+    where
+      by_slot : (o : Option SlotFiles) → slot_in memory.slots.items number ≡ o → IfSome o CanGoBack
+      by_slot None is = tt
+      by_slot (Some slot) is = record {
+        few = ⊎_elim (λ more. absurd (nothing may (λ m. let can = subst (λ o. IfSome o CanGoBack) is (m.slots number) in omega (arith, more, can.few)))) (λ fits. fits) (cases_lt (length slot.files.tags) slot.tag_pages);
+        once = λ j k p q at_j at_k same. ⊎_elim (λ e. e) (λ other. absurd (nothing may (λ m. let can = subst (λ o. IfSome o CanGoBack) is (m.slots number) in other (can.once j k p q at_j at_k same)))) (cases_eq j k);
+      }

@@ -39,6 +39,10 @@ pub record IsStaged (memory : DomainMemory) (all : FilesetMap) : Type 0 where
   pub once : HaveOnce memory.list.list.entries
   pub room : length memory.listed.items ≤ memory.list.room
 
+-- so it is with some filesets
+abbrev pub IsStagedForSome : DomainMemory → Type 0
+IsStagedForSome memory = (all : FilesetMap) × IsStaged memory all
+
 -- and so it may be kept: directories say in which one they stand, and books say what their filesets
 -- use
 pub record MayBeKept (memory : DomainMemory) (all : FilesetMap) : Type 0 where

@@ -3,7 +3,7 @@ ghost use Rattle.std.specs.Prelude.{◌≡◌, None};
 ghost use Rattle.fileset_model.specs.Filesets.{FilesetMap};
 ghost use Rattle.fileset_table.specs.Table.{IsTable};
 ghost use Rattle.domain_memory.specs.Memory.{StandsFor, books_in, kept_in, with_was};
-ghost use Rattle.domain_memory.specs.Staged.{IsSettled, IsStaged, MayBeKept, MayGoBack};
+ghost use Rattle.domain_memory.specs.Staged.{IsSettled, IsStagedForSome, MayBeKept, MayGoBack};
 
 use crate::memory::{DomainMemory, ReplacedSlot};
 use bitmap_marks::mark_changes;
@@ -12,12 +12,14 @@ use fileset_table::FilesetTable;
 
 /// Puts into the slot that was set anew, if one was, what it had.
 fn put_slot_back(table: &mut FilesetTable, was: &mut Option<ReplacedSlot>)
-    requires { IsTable (with_was was.old table.old) }
+    requires { ∥ IsTable (with_was was.old table.old) ∥₁ }
     ensures table { table.new ≡ with_was was.old table.old }
     ensures none { was.new ≡ None }
 {
-    if let Some(ReplacedSlot { number, item }) = was.take() {
-        table.set_slot(number, item);
+    if let Some(slot) = was.take() {
+        let Ok(()) = table.try_set_slot(slot.number, slot.item) else {
+            unreachable!();
+        };
     }
 }
 
@@ -26,9 +28,10 @@ impl DomainMemory {
     /// bits of its bitmaps say which pages are used, and what the change left to be let go of is on
     /// the list. It takes no memory, and the time of what the change has changed.
     pub fn keep(&mut self)
-        requires { (all : FilesetMap) × IsStaged self.old all }
+        requires { ∥ IsStagedForSome self.old ∥₁ }
         ensures stands { (all : FilesetMap) → MayBeKept self.old all → StandsFor self.new all }
         ensures settled { IsSettled self.new }
+        ensures back { ∥ MayGoBack self.new ∥₁ }
         ensures frame { self.new.frame ≡ self.old.frame }
     {
         mark_changes(&mut self.pages, &self.space);
@@ -44,10 +47,11 @@ impl DomainMemory {
     /// Takes the change back: all is as it was when it was last kept. It takes no memory, and the
     /// time of what the change has changed.
     pub fn take_back(&mut self)
-        requires { MayGoBack self.old }
+        requires { ∥ MayGoBack self.old ∥₁ }
         ensures kept { kept_in self.new ≡ kept_in self.old }
         ensures books { books_in self.new ≡ books_in self.old }
         ensures settled { IsSettled self.new }
+        ensures back { ∥ MayGoBack self.new ∥₁ }
         ensures frame { self.new.frame ≡ self.old.frame }
     {
         self.pages.take_back();

@@ -30,7 +30,7 @@ below [] k p there = absurd (cc)
 below (x ∷ xs) zero p there = omega arith
 below (x ∷ xs) (suc k) p there = omega (arith, below xs k p there)
 
-taken_was : (xs : List TagPlace) (n k : ℕ) (p : TagPlace) → slice_get (take n xs) k ≡ Some p → slice_get xs k ≡ Some p
+pub taken_was : (xs : List TagPlace) (n k : ℕ) (p : TagPlace) → slice_get (take n xs) k ≡ Some p → slice_get xs k ≡ Some p
 taken_was [] zero k p there = there
 taken_was [] (suc n) k p there = there
 taken_was (x ∷ xs) zero k p there = absurd (cc)

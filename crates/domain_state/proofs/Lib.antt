@@ -1,2 +1,4 @@
 pub mod Beginning
+pub mod Committing
+pub mod NoClones
 pub mod Unmoved

@@ -8,6 +8,8 @@ use Rattle.history_model.specs.Legal.{Legal}
 use Rattle.history_model.specs.State.{State}
 use Rattle.domain_layout.specs.Reached.{Frame}
 use Rattle.domain_memory.specs.Memory.{StandsFor}
+use Rattle.domain_memory.specs.Staged.{MayBeKept}
+use Rattle.history_laws.specs.GoingOn.{MayGoOnFrom}
 use Rattle.domain_memory.specs.declared.memory.DomainMemory.{DomainMemory}
 use Rattle.domain_state.specs.Opening.{IsStartOf}
 
@@ -27,3 +29,15 @@ pub record GoesOn (pages : Pages) (frame : Frame) (sizes : List ℕ) (memory : D
   pub all : FilesetMap
   pub stands : StandsFor memory all
   pub leads : LeadsTo pages frame sizes entries job all
+
+-- ** A change that is kept
+
+-- with the change that is laid over memory the domain stands for filesets to which an entry leads
+-- from these, at each point to which the history may have come
+pub record MayCommit (pages : Pages) (frame : Frame) (sizes : List ℕ) (memory : DomainMemory)
+    (entries : List Entry) (job : Option Command) (e : Entry) (all : FilesetMap) : Type 0 where
+  pub now : FilesetMap
+  pub kept : MayBeKept memory now
+  pub step : (start : State) → IsStartOf pages frame sizes start
+      → MayGoOnFrom start entries job (record start { filesets = all }) e
+      (record start { filesets = now })

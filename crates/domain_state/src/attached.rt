@@ -1,5 +1,6 @@
 //! A domain that was made or attached, before a history of it is begun.
 ghost use Rattle.std.specs.Prelude.{◌≡◌};
+ghost use Rattle.domain_memory.specs.Staged.{IsSettled, MayGoBack};
 ghost use Rattle.domain_state.specs.History.{StandsForSome};
 
 use domain_memory::DomainMemory;
@@ -11,6 +12,8 @@ pub struct Attached<R: Rack> {
     pub(crate) rack: R,
     pub(crate) memory: DomainMemory,
     ghost stands: { ∥ StandsForSome memory ∥₁ },
+    ghost settled: { ∥ IsSettled memory ∥₁ },
+    ghost back: { ∥ MayGoBack memory ∥₁ },
 }
 
 impl<R: Rack> Attached<R> {

@@ -1,17 +1,21 @@
 //! A domain with the history of its commands.
-ghost use Rattle.std.specs.Prelude.{◌≡◌, ◌-◌, ◌≤◌, ℕ, [], List, None, OnOk, length, vec_capacity};
+ghost use Rattle.std.specs.Prelude.{◌≡◌, ◌+◌, ◌-◌, ◌≤◌, ◌∷◌, ◌++◌, ℕ, [], List, None, OnOk, length, vec_capacity};
 ghost use Rattle.domain_base.specs.declared.version.Version.TheVariants.{Four};
 ghost use Rattle.page_store.specs.Pages.{Pages, no_pages};
 ghost use Rattle.domain_layout.specs.Reached.{Frame};
 ghost use Rattle.page_ways.specs.Frame.{frame_in};
 ghost use Rattle.staged_pages.specs.Store.{before_of};
 ghost use Rattle.domain_making.specs.Making.{new_frame};
-ghost use Rattle.domain_state.specs.History.{GoesOn};
+ghost use Rattle.fileset_model.specs.Filesets.{FilesetMap};
+ghost use Rattle.domain_memory.specs.Memory.{StandsFor, books_in, kept_in};
+ghost use Rattle.domain_memory.specs.Staged.{IsSettled, MayBeKept, MayGoBack};
+ghost use Rattle.history_laws.specs.GoingOn.{job_left};
+ghost use Rattle.domain_state.specs.History.{GoesOn, MayCommit};
 
 use crate::Attached;
 use domain_base::OutOfMemory;
 use domain_memory::DomainMemory;
-use fileset_model::{Command, Entry, Told};
+use fileset_model::{Actor, Command, Entry, Told};
 use std::alloc::Global;
 use std::marker::{Brand, PhantomData};
 use volume_disk::Rack;
@@ -45,6 +49,7 @@ pub struct Domain<R: Rack, O: Opening> {
     job: Option<Command>,
     of: PhantomData<O>,
     ghost stands: { ∥ GoesOn O.pages O.frame O.sizes memory entries.items job ∥₁ },
+    ghost back: { ∥ MayGoBack memory ∥₁ },
     ghost lasts: { durable ≤ length entries.items },
 }
 
@@ -68,6 +73,15 @@ impl<R: Rack, O: Opening> Told for Domain<R, O> {
     }
 
     ghost bounded = { λ domain. domain.lasts };
+}
+
+/// Ends the mover's job with its own entry.
+fn end_job(job: &mut Option<Command>, actor: &Actor)
+    ensures { job.new ≡ job_left actor.now job.old }
+{
+    if let Actor::Mover = actor {
+        *job = None;
+    }
 }
 
 impl<R: Rack, O: Opening> Domain<R, O> {
@@ -105,6 +119,51 @@ impl<R: Rack, O: Opening> Domain<R, O> {
     {
         self.entries.reserve(more)?;
         Ok(())
+    }
+
+    /// Keeps the change that is laid over the domain, and adds the command whose change it is, with
+    /// its reply. The mover's own entry ends its job. It takes no memory, and the time of what the
+    /// change has changed.
+    pub fn commit(&mut self, entry: Entry)
+        requires room { 1 ≤ ⟦<Domain<R, O> as Told>⟧.room self.old }
+        requires step { (all : FilesetMap) → StandsFor self.old.memory all → MayCommit O.pages
+            O.frame O.sizes self.old.memory (⟦<Domain<R, O> as Told>⟧.history self.old)
+            (⟦<Domain<R, O> as Told>⟧.begun self.old) entry all }
+        ensures history { ⟦<Domain<R, O> as Told>⟧.history self.new
+            ≡ ⟦<Domain<R, O> as Told>⟧.history self.old ++ entry ∷ [] }
+        ensures begun { ⟦<Domain<R, O> as Told>⟧.begun self.new
+            ≡ job_left entry.actor (⟦<Domain<R, O> as Told>⟧.begun self.old) }
+        ensures stands { (all : FilesetMap) → MayBeKept self.old.memory all
+            → StandsFor self.new.memory all }
+        ensures settled { IsSettled self.new.memory }
+        ensures room { ⟦<Domain<R, O> as Told>⟧.room self.old
+            ≤ ⟦<Domain<R, O> as Told>⟧.room self.new + 1 }
+        ensures rack { self.new.rack ≡ self.old.rack }
+        ensures frame { self.new.memory.frame ≡ self.old.memory.frame }
+        ensures durable { self.new.durable ≡ self.old.durable }
+    {
+        self.memory.keep();
+        end_job(&mut self.job, &entry.actor);
+        self.entries.push_reserved(entry);
+    }
+
+    /// Takes the change back that is laid over the domain. It takes no memory, and the time of what
+    /// the change has changed.
+    pub fn discard(&mut self)
+        ensures kept { kept_in self.new.memory ≡ kept_in self.old.memory }
+        ensures books { books_in self.new.memory ≡ books_in self.old.memory }
+        ensures settled { IsSettled self.new.memory }
+        ensures history { ⟦<Domain<R, O> as Told>⟧.history self.new
+            ≡ ⟦<Domain<R, O> as Told>⟧.history self.old }
+        ensures begun { ⟦<Domain<R, O> as Told>⟧.begun self.new
+            ≡ ⟦<Domain<R, O> as Told>⟧.begun self.old }
+        ensures room { ⟦<Domain<R, O> as Told>⟧.room self.new
+            ≡ ⟦<Domain<R, O> as Told>⟧.room self.old }
+        ensures rack { self.new.rack ≡ self.old.rack }
+        ensures frame { self.new.memory.frame ≡ self.old.memory.frame }
+        ensures durable { self.new.durable ≡ self.old.durable }
+    {
+        self.memory.take_back();
     }
 
     /// The commands since the domain was opened, with their replies.

@@ -20,6 +20,7 @@ ghost use Rattle.domain_making.specs.Making.{
 ghost use Rattle.domain_making.specs.Pages.{AreNew};
 ghost use Rattle.domain_making.specs.declared.fault.MakeFault.TheVariants.{VolumeSmall};
 ghost use Rattle.domain_memory.specs.Memory.{StandsFor};
+ghost use Rattle.domain_memory.specs.Staged.{IsSettled, MayGoBack};
 
 use crate::Attached;
 use domain_base::Version;
@@ -38,6 +39,8 @@ fn new_memory<R: Rack>(
     requires large { IsLarge (R.disk rack.now).sizes }
     requires new { AreNew version (pages_in_use version (R.disk rack.now).sizes) new.now }
     ensures stands { IfOk result (λ memory. StandsFor memory empty) }
+    ensures settled { IfOk result IsSettled }
+    ensures back { IfOk result MayGoBack }
     ensures frame { IfOk result (λ memory. frame_in memory.frame
         ≡ new_frame version (pages_in_use version (R.disk rack.now).sizes)) }
     ensures cause { IfErr result (HasCause (R.disk rack.now) (R.disk rack.now)) }

@@ -9,4 +9,8 @@ returns-in-Err-new_memory-clause-any_moment_of_fault g c = λ told ready.
     none_yet c.args.version (pages_in_use c.args.version disk.sizes) disk ready
 
 pub invariant_of-result : goal.invariant_of-result
-invariant_of-result g c = record { stands = ∣ (empty, c.in-Ok-new_memory.ensures.stands) ∣₁ }
+invariant_of-result g c = record {
+  stands = ∣ (empty, c.in-Ok-new_memory.ensures.stands) ∣₁;
+  settled = ∣ c.in-Ok-new_memory.ensures.settled ∣₁;
+  back = ∣ c.in-Ok-new_memory.ensures.back ∣₁;
+}

@@ -1,10 +1,19 @@
-use Rattle.std.proofs.Common.{◌∙◌, refl, sym, ap}
-use Rattle.domain_memory.specs.Staged.{staged_in}
-use Rattle.domain_memory.proofs.ChangeKept.{kept_settled, kept_stands, said_held}
+use Rattle.std.proofs.Common.{◌∙◌, refl, sym}
+use Rattle.domain_memory.proofs.ChangeKept.{asks_bitmaps, asks_bits, asks_once, asks_room, kept_settled, kept_stands}
+use Rattle.domain_memory.proofs.GoingBack.{kept_goes_back}
 use Rattle.domain_memory.proofs.memory.DomainMemory.keep.Goals as goal
 
+pub mark_changes-requires-clause-there : goal.mark_changes-requires-clause-there
+mark_changes-requires-clause-there c = asks_bitmaps c.args.self.now c.requires
+
 pub mark_changes-requires-clause-said : goal.mark_changes-requires-clause-said
-mark_changes-requires-clause-said c = said_held (staged_in c.args.self.now) c.requires.0 c.requires.1.stands c.requires.1.marked
+mark_changes-requires-clause-said c = asks_bits c.args.self.now c.requires
+
+pub put_on_list-requires-clause-room : goal.put_on_list-requires-clause-room
+put_on_list-requires-clause-room c = asks_room c.args.self.now c.requires
+
+pub put_on_list-requires-clause-once : goal.put_on_list-requires-clause-once
+put_on_list-requires-clause-once c = asks_once c.args.self.now c.requires
 
 pub returns-clause-stands : goal.returns-clause-stands
 returns-clause-stands c = λ all may.
@@ -13,6 +22,7 @@ returns-clause-stands c = λ all may.
 
 pub returns-clause-settled : goal.returns-clause-settled
 returns-clause-settled c =
-    kept_settled c.args.self.now _ c.mark_changes.new.pages c.requires.0 c.requires.1 c.mark_changes.ensures.say c.mark_changes.ensures.change refl refl c.keep.ensures.before c.keep-2.ensures
-    c.keep-3.ensures.same c.keep-3.ensures.settled c.keep_slots.ensures (c.start_over.ensures.list ∙ c.put_on_list.ensures.list) refl
-    (c.keep.ensures.pages ∙ sym c.keep.ensures.before) c.put_on_list.ensures.listed
+    kept_settled c.args.self.now _ (c.keep.ensures.before ∙ sym c.keep.ensures.pages) c.keep-2.ensures c.keep-3.ensures.settled c.keep_slots.ensures refl c.put_on_list.ensures.listed
+
+pub returns-clause-back : goal.returns-clause-back
+returns-clause-back c = kept_goes_back c.args.self.now _ c.requires refl refl c.keep_slots.ensures

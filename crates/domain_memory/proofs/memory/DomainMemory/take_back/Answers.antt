@@ -1,5 +1,6 @@
 use Rattle.std.proofs.Common.{refl}
-use Rattle.domain_memory.proofs.TakingBack.{back_kept, back_settled}
+use Rattle.domain_memory.proofs.TakingBack.{asks_slots, asks_table, back_kept, back_settled}
+use Rattle.domain_memory.proofs.GoingBack.{back_goes_back}
 use Rattle.domain_memory.proofs.memory.DomainMemory.take_back.Goals as goal
 
 pub returns-clause-kept : goal.returns-clause-kept
@@ -31,3 +32,12 @@ returns-clause-settled c =
       listed = c.clear.new.self;
     }) refl c.take_back.ensures.pages c.take_back.ensures.before c.take_back-2.ensures c.take_back-3.ensures.value c.take_back-3.ensures.settled c.take_back_slots.ensures refl
     c.put_slot_back.ensures.table c.put_slot_back.ensures.none c.clear.ensures.items
+
+pub take_back_slots-requires : goal.take_back_slots-requires
+take_back_slots-requires c = asks_slots c.args.self.now c.requires
+
+pub put_slot_back-requires : goal.put_slot_back-requires
+put_slot_back-requires c = asks_table c.args.self.now c.requires
+
+pub returns-clause-back : goal.returns-clause-back
+returns-clause-back c = back_goes_back c.args.self.now _ c.requires c.put_slot_back.ensures.table c.put_slot_back.ensures.none c.take_back_slots.ensures

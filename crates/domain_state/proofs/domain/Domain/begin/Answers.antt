@@ -10,5 +10,6 @@ invariant_of-result g c =
     record {
       stands = subst (λ (entries : List Entry). ∥ GoesOn o.pages o.frame o.sizes c.args.attached.memory entries None ∥₁) (sym c.new.ensures.items)
           (begun c.args.attached.memory o.sizes o.pages o.frame c.requires.pages c.requires.frame c.args.attached.stands);
+      back = c.args.attached.back;
       lasts = omega arith;
     }

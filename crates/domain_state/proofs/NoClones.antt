@@ -1,0 +1,44 @@
+-- A domain that stands has no clone among its filesets.
+use Rattle.std.proofs.Common.{◌≡◌, ◌∙◌, ℕ, true, false, Option, Some, None, IfSome, IsSome, IsSomeAnd, slice_get, refl, sym, ap, subst, true≢false}
+use Rattle.std.specs.FinMap.{get}
+use Rattle.fileset_model.specs.Filesets.{FilesetMap}
+use Rattle.fileset_model.specs.Orders.{Name}
+use Rattle.fileset_model.specs.declared.fileset.FilesetSlot.{FilesetSlot}
+use Rattle.fileset_model.specs.declared.fileset.Role.{Role}
+use Rattle.fileset_model.specs.declared.fileset.Role.TheVariants as role
+use Rattle.fileset_table.specs.Table.{entry_of}
+use Rattle.fileset_table.specs.declared.slot.FilesetEntry.{FilesetEntry}
+use Rattle.fileset_table.specs.declared.slot.SlotItem.{SlotItem}
+use Rattle.fileset_table.specs.declared.slot.SlotItem.TheVariants as slot
+use Rattle.history_laws.specs.GoingOn.{HaveNoClone}
+use Rattle.domain_layout.specs.CellRules.{of_clone}
+use Rattle.domain_layout.specs.Filled.{FillsThere, IsRole}
+use Rattle.domain_layout.specs.Shape.{FilesetShape, HasFileset, IsOriginal, IsShapeOf}
+use Rattle.domain_standing.specs.Domain.{DomainNow, item_in}
+use Rattle.domain_standing.specs.Slots.{StandSlots}
+
+is_original : (name : Option Name) (r : Role) → IsRole name r → name ≡ None → r ≡ role.Original
+is_original None r is none = is
+is_original (Some name) r is none = absurd (cc)
+
+module _ (d : DomainNow) (all : FilesetMap) (stand : StandSlots d all) where
+  of_item : (name : Name) (shape : FilesetShape) (number : ℕ) (item : SlotItem) → stand.shapes name ≡ Some shape → slice_get d.table.slots number ≡ Some item → IsSomeAnd (entry_of item) (λ entry. entry.name ≡ name)
+      → IfSome (entry_of item) (λ entry. IsShapeOf d.pages d.table number item (stand.shapes entry.name)) → shape.original ≡ None
+  of_item name shape number slot.Free has there named is = absurd named
+  of_item name shape number (slot.Removed first_tag quota) has there named is = absurd named
+  of_item name shape number (slot.Original entry) has there named is =
+      (subst (λ o. IsSomeAnd o (IsOriginal d.pages number entry)) (ap stand.shapes named ∙ has) is).none
+  of_item name shape number (slot.Clone of clone entry) has there named is =
+      absurd (true≢false (sym (ap of_clone there) ∙ stand.no_clone number))
+
+  no_original : (name : Name) (shape : FilesetShape) → stand.shapes name ≡ Some shape → shape.original ≡ None
+  no_original name shape has =
+      let found = stand.are.only name (subst IsSome (sym has) refl) in
+      of_item name shape found.number found.item has found.there found.named (stand.are.each found.number found.item found.there)
+
+  pub have_no_clone : HaveNoClone all
+  have_no_clone name fileset there = by_shape (stand.shapes name) refl (subst (FillsThere d.contents (stand.shapes name)) there (stand.filled name))
+    where
+      by_shape : (o : Option FilesetShape) → stand.shapes name ≡ o → FillsThere d.contents o (Some fileset) → fileset.role ≡ role.Original
+      by_shape None is fills = absurd (cc)
+      by_shape (Some shape) is fills = is_original shape.original fileset.role fills.role (no_original name shape is)
