@@ -1,9 +1,8 @@
 -- A change can be taken back from memory that was just kept, or taken back.
-use Rattle.std.proofs.Common.{◌≡◌, ◌∙◌, ◌<◌, ◌≤◌, ℕ, zero, suc, List, [], ◌∷◌, Option, Some, None, IfSome, IsSomeAnd, length, slice_get, take, refl, sym, ap, subst, arith}
+use Rattle.std.proofs.Common.{◌≡◌, ◌∙◌, ◌≤◌, ℕ, zero, suc, List, [], ◌∷◌, Option, Some, None, IfSome, IsSomeAnd, length, slice_get, take, refl, sym, ap, subst, arith}
 use Rattle.std.proofs.Math.Logic.{∥∥₁_map}
 use Rattle.std.specs.Option.{option_and_then}
 use Rattle.domain_base.specs.declared.place.Home.{Home}
-use Rattle.tag_dirs.specs.Directory.{IsDirectory}
 use Rattle.tag_dirs.specs.declared.dir.TagPlace.{TagPlace}
 use Rattle.fileset_model.specs.Filesets.{FilesetMap}
 use Rattle.fileset_table.specs.Page.{IsTablePage}
@@ -12,7 +11,7 @@ use Rattle.fileset_table.specs.declared.slot.SlotItem.{SlotItem}
 use Rattle.domain_layout.specs.Layout.{AreTagPlaces, first_tag_of}
 use Rattle.layout_laws.proofs.OnePage.{one_of}
 use Rattle.domain_standing.specs.Chains.{StandsInSlot}
-use Rattle.domain_standing.specs.Domain.{DomainNow, item_in, named_by}
+use Rattle.domain_standing.specs.Domain.{DomainNow, item_in}
 use Rattle.domain_standing.specs.Standing.{StandsDomain}
 use Rattle.domain_parts.specs.Slots.{CanGoBack, ChangesSlot, ChangesSlots, IsKept, IsTakenBack, places_in, slot_in}
 use Rattle.domain_parts.specs.declared.slots.SlotFiles.{SlotFiles}

@@ -5,5 +5,6 @@ pub mod KeptSpace
 pub mod NewLayout
 pub mod NewMarks
 pub mod NewMemory
+pub mod SettledKept
 pub mod SlotsKept
 pub mod TakingBack

@@ -1,4 +1,4 @@
-use Rattle.std.proofs.Common.{◌≡◌, ◌∙◌, Option, Some, refl, sym, ap, subst}
+use Rattle.std.proofs.Common.{◌∙◌, Option, sym, subst}
 use Rattle.std.proofs.Math.Logic.{∥∥₁_elim}
 use Rattle.fileset_table.specs.Table.{IsTable}
 use Rattle.domain_memory.specs.Memory.{with_was}

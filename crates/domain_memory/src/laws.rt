@@ -1,0 +1,12 @@
+//! Laws of a change that is laid over a domain's memory.
+ghost use Rattle.fileset_model.specs.Filesets.{FilesetMap};
+ghost use Rattle.domain_memory.specs.Memory.{StandsFor};
+ghost use Rattle.domain_memory.specs.Staged.{IsSettled, MayBeKept};
+ghost use Rattle.domain_memory.specs.declared.memory.DomainMemory.{DomainMemory as MemoryOf};
+
+/// Where no change is laid over a domain's memory, it may be kept as it is: for the filesets for
+/// which the domain stands.
+pub fn what_is_settled_may_be_kept()
+    ensures { (memory : MemoryOf) (all : FilesetMap) → IsSettled memory → StandsFor memory all
+        → MayBeKept memory all }
+{}
