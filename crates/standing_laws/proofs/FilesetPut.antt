@@ -119,7 +119,7 @@ own_names d tables = by_home d.frame.anchor.table tables.laid.table
 
 module _ (number : ℕ) (entry0 : FilesetEntry) (d now : DomainNow) (tables : StandTables now) (puts : PutsFileset number entry0 d now) where
   -- another slot has another name
-  other_name : (n : ℕ) (entry : FilesetEntry) → ¬ n ≡ number → slice_get now.table.slots n ≡ Some (slot.Original entry) → ¬ entry0.name ≡ entry.name
+  pub other_name : (n : ℕ) (entry : FilesetEntry) → ¬ n ≡ number → slice_get now.table.slots n ≡ Some (slot.Original entry) → ¬ entry0.name ≡ entry.name
   other_name n entry differ at same = ⊎_elim
       (λ less. one_slot now.table.slots (own_names now tables) n number entry entry0 less at puts.has (sym same))
       (λ more. ⊎_elim

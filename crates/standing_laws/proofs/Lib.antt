@@ -1,5 +1,7 @@
 pub mod BegunEmpty
 pub mod BelowStands
+pub mod BitsStay
+pub mod BooksStay
 pub mod CellsNow
 pub mod ChainsGoOn
 pub mod ChainsNamed
@@ -30,6 +32,7 @@ pub mod MemoryKept
 pub mod NothingLeft
 pub mod OtherSlots
 pub mod OthersStand
+pub mod ParentsBegin
 pub mod ParentsKept
 pub mod RestFirst
 pub mod RestRecords

@@ -1,8 +1,10 @@
 -- Pages that are written in place.
-use Rattle.std.specs.Prelude.{◌≡◌, ℕ}
+use Rattle.std.specs.Prelude.{◌≡◌, ◌<◌, ℕ}
 use Rattle.domain_base.specs.declared.place.CellAt.{CellAt}
 use Rattle.domain_base.specs.declared.place.Home.{Home}
+use Rattle.log_ring.specs.Homes.{IsMember}
 use Rattle.deferred_delete.specs.Standing.{Files}
+use Rattle.domain_layout.specs.Reached.{first_cells}
 use Rattle.domain_standing.specs.Chains.{IndexesAt}
 use Rattle.domain_standing.specs.Domain.{DomainNow}
 use Rattle.domain_standing.specs.Holders.{Holder, Holds}
@@ -31,3 +33,8 @@ KeepsWhere d now files indexes = (home : Home) (holder : Holder)
     → Holds d files indexes holder home → ¬ holder ≡ Holder.of_volume → ¬ holder ≡ Holder.of_log
     → ((at : CellAt) (page : ℕ) → ¬ holder ≡ Holder.of_file at page)
     → now.pages home ≡ d.pages home
+
+-- the first pages of each volume are, up to its first page of cells: label, anchors and bitmap
+abbrev pub KeepsVolumes : DomainNow → DomainNow → Type 0
+KeepsVolumes d now = (home : Home) → IsMember d.frame.anchor home.vol
+    → home.page < first_cells d.frame home.vol → now.pages home ≡ d.pages home

@@ -4,6 +4,7 @@
 
 mod beginning;
 mod below;
+mod beside;
 mod chains;
 mod elsewhere;
 mod going;
@@ -23,6 +24,13 @@ pub use beginning::{
 pub use below::{
     all_below_stands_on, all_below_stands_on_where_a_file_is_listed,
     filesets_stay_where_a_file_is_listed,
+};
+pub use beside::{
+    bits_stay_where_a_fileset_begins, bits_stay_where_a_fileset_begins_to_go,
+    bits_stay_where_cells_and_tags_change, bits_stay_where_volumes_keep_their_pages,
+    books_stay_where_a_fileset_begins, books_stay_where_a_slot_has_another_fileset,
+    books_stay_where_limits_are_set, parents_stay_where_a_fileset_begins,
+    parents_stay_where_a_fileset_begins_to_go,
 };
 pub use chains::{
     cells_in_use_stay_in_chains, chains_stand_on, chains_stand_on_where_a_file_is_listed,

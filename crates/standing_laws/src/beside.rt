@@ -1,0 +1,104 @@
+//! What is asked of a domain beside what stands, between two commands: the bits of its bitmaps,
+//! what directories say of their parents, and books.
+ghost use Rattle.std.specs.Prelude.{◌≡◌, ℕ, Some};
+ghost use Rattle.std.specs.FinMap.{get, insert};
+ghost use Rattle.bitfile_core.specs.Creation.{LeavesBeside};
+ghost use Rattle.fileset_model.specs.Filesets.{FilesetMap};
+ghost use Rattle.fileset_model.specs.Usage.{with_limits};
+ghost use Rattle.fileset_model.specs.declared.fileset.FilesetSlot.{FilesetSlot};
+ghost use Rattle.fileset_table.specs.declared.slot.FilesetEntry.{FilesetEntry};
+ghost use Rattle.free_space.specs.Spaces.{Spaces};
+ghost use Rattle.quota_book.specs.Book.{Book, empty_book};
+ghost use Rattle.quota_book.specs.Sums.{IsBookOf};
+ghost use Rattle.deferred_delete.specs.Standing.{Files};
+ghost use Rattle.domain_standing.specs.Chains.{IndexesAt};
+ghost use Rattle.domain_standing.specs.Domain.{DomainNow};
+ghost use Rattle.domain_standing.specs.Slots.{StandSlots};
+ghost use Rattle.domain_standing.specs.Standing.{AreBooksOf, HaveParents, IsMarkedBut};
+ghost use Rattle.domain_standing.specs.Tables.{StandTables};
+ghost use Rattle.standing_laws.specs.GoingFileset.{BeginsToGo};
+ghost use Rattle.standing_laws.specs.Leads.{StandsBelow};
+ghost use Rattle.standing_laws.specs.NewFileset.{JoinsEmpty, empty_slot};
+ghost use Rattle.standing_laws.specs.OtherPages.{KeepsVolumes};
+ghost use Rattle.standing_laws.specs.SetsQuota.{SetsQuota, fileset_limited};
+ghost use Rattle.standing_laws.specs.SlotsStay.{PutsFileset};
+
+/// Bits say what they said, of whatever free space, where the first pages of volumes stay.
+pub fn bits_stay_where_volumes_keep_their_pages()
+    ensures { (d now : DomainNow) → StandTables d → now.frame ≡ d.frame → KeepsVolumes d now
+        → (space : Spaces) → IsMarkedBut (record d { space = space })
+        → IsMarkedBut (record now { space = space }) }
+{}
+
+/// So where a fileset begins.
+pub fn bits_stay_where_a_fileset_begins()
+    ensures { (number : ℕ) (entry : FilesetEntry) (d now : DomainNow) (files : Files)
+        (indexes : IndexesAt) → StandsBelow d files indexes → JoinsEmpty number entry d now
+        → (space : Spaces) → IsMarkedBut (record d { space = space })
+        → IsMarkedBut (record now { space = space }) }
+{}
+
+/// So where one begins to be removed.
+pub fn bits_stay_where_a_fileset_begins_to_go()
+    ensures { (number : ℕ) (entry : FilesetEntry) (d now : DomainNow) (files : Files)
+        (indexes : IndexesAt) → StandsBelow d files indexes → BeginsToGo number entry d now
+        → (space : Spaces) → IsMarkedBut (record d { space = space })
+        → IsMarkedBut (record now { space = space }) }
+{}
+
+/// So where tables of cells change and the tag directory of one slot, as where a root is made.
+pub fn bits_stay_where_cells_and_tags_change()
+    ensures { (number : ℕ) (d now : DomainNow) (files : Files) (indexes : IndexesAt)
+        → StandTables d → StandsBelow now files indexes → now.frame ≡ d.frame
+        → LeavesBeside now.cells (now.tags number) d.pages now.pages
+        → (space : Spaces) → IsMarkedBut (record d { space = space })
+        → IsMarkedBut (record now { space = space }) }
+{}
+
+/// Each directory says still the one in which its row stands, where an original joins the table
+/// that has no file yet.
+pub fn parents_stay_where_a_fileset_begins()
+    ensures { (number : ℕ) (entry : FilesetEntry) (d now : DomainNow) (files : Files)
+        (indexes : IndexesAt) (all : FilesetMap) → StandsBelow d files indexes → StandSlots d all
+        → JoinsEmpty number entry d now → HaveParents d → HaveParents now }
+{}
+
+/// So where one begins to be removed.
+pub fn parents_stay_where_a_fileset_begins_to_go()
+    ensures { (number : ℕ) (entry : FilesetEntry) (d now : DomainNow) (files : Files)
+        (indexes : IndexesAt) (all : FilesetMap) → StandsBelow d files indexes → StandSlots d all
+        → BeginsToGo number entry d now → HaveParents d → HaveParents now }
+{}
+
+/// Books are those of their filesets where one slot has another fileset, or a new one, whose book
+/// is its own, and the other books stay.
+pub fn books_stay_where_a_slot_has_another_fileset()
+    ensures { (number : ℕ) (entry : FilesetEntry) (d now : DomainNow) → StandTables now
+        → PutsFileset number entry d now → (books books_now : ℕ → Book)
+        → ((n : ℕ) → ¬ n ≡ number → books_now n ≡ books n) → (fileset : FilesetSlot)
+        → IsBookOf (books_now number) fileset.tree → (all : FilesetMap) → AreBooksOf books d all
+        → AreBooksOf books_now now (insert all entry.name fileset) }
+{}
+
+/// So with an empty book for a fileset that begins.
+pub fn books_stay_where_a_fileset_begins()
+    ensures { (number : ℕ) (entry : FilesetEntry) (d now : DomainNow) → StandTables now
+        → PutsFileset number entry d now → (books books_now : ℕ → Book)
+        → ((n : ℕ) → ¬ n ≡ number → books_now n ≡ books n) → books_now number ≡ empty_book
+        → (all : FilesetMap) → AreBooksOf books d all
+        → AreBooksOf books_now now (insert all entry.name empty_slot) }
+{}
+
+/// So where an owner's limits are set, in the book too.
+pub fn books_stay_where_limits_are_set()
+    ensures { (number : ℕ) (d now : DomainNow) (files files_now : Files) (indexes : IndexesAt)
+        → StandsBelow d files indexes → StandTables now
+        → (sets : SetsQuota number d now files files_now) → (books books_now : ℕ → Book)
+        → ((n : ℕ) → ¬ n ≡ number → books_now n ≡ books n)
+        → books_now number ≡ record (books number) {
+          limits = with_limits (books number).limits sets.who sets.limits;
+        } → (all : FilesetMap) (fileset : FilesetSlot) → get all sets.entry.name ≡ Some fileset
+        → AreBooksOf books d all
+        → AreBooksOf books_now now
+        (insert all sets.entry.name (fileset_limited sets.who sets.limits fileset)) }
+{}
