@@ -19,3 +19,5 @@ pub mod IndexPages
 pub mod Held
 pub mod Lists
 pub mod Stands
+pub mod FirstQuotas
+pub mod Beside

@@ -24,7 +24,7 @@ use Rattle.attached_list.proofs.Limits.{limits_once}
 use Rattle.attached_list.proofs.OnTables.{LinkOf, link_there, link_used}
 use Rattle.attached_list.proofs.Standing.{is_as}
 
-fileset_is : (n number : ℕ) (o : Option ℕ) → IsFileset n o → IsFileset n (Some number) → o ≡ Some number
+pub fileset_is : (n number : ℕ) (o : Option ℕ) → IsFileset n o → IsFileset n (Some number) → o ≡ Some number
 fileset_is n number None is also = absurd (omega (arith, is, also.0))
 fileset_is n number (Some f) is also = ap Some (omega (arith, is.0, also.0))
 

@@ -1,17 +1,20 @@
 -- A domain as it is read of pages without a fault: what is kept in memory is what the pages say.
-use Rattle.std.specs.Prelude.{◌≡◌, ℕ, false, [], None, Some}
+use Rattle.std.specs.Prelude.{◌≡◌, ℕ, false, List, [], None, Some, slice_get}
+use Rattle.std.specs.Option.{option_and_then}
 use Rattle.domain_base.specs.declared.place.CellAt.{CellAt}
 use Rattle.domain_base.specs.declared.place.Tag.{Tag}
 use Rattle.page_store.specs.Pages.{Pages}
 use Rattle.bmt_mcells.specs.Cell.{Cell}
 use Rattle.bmt_mcells.specs.Chain.{StandsAt}
 use Rattle.tag_dirs.specs.Directory.{cell_of}
+use Rattle.tag_dirs.specs.declared.dir.TagPlace.{TagPlace}
+use Rattle.fileset_table.specs.Table.{Table}
 use Rattle.attaching_laws.specs.Space.{IsSpaceOf}
 use Rattle.domain_layout.specs.CellRules.{LeadsTo, say_removed}
 use Rattle.domain_layout.specs.Faults.{HasNoFault}
 use Rattle.domain_layout.specs.Reached.{Frame}
-use Rattle.domain_layout.specs.TagRules.{IsQuotaOf}
-use Rattle.domain_standing.specs.Chains.{IsQuotaOf as IsNamedQuota, IsRemoved}
+use Rattle.domain_layout.specs.TagRules.{IsQuotaOf, quota_of}
+use Rattle.domain_standing.specs.Chains.{IsRemoved}
 use Rattle.domain_standing.specs.Domain.{DomainNow, item_in, layout_of}
 use Rattle.domain_standing.specs.Tables.{StandTables}
 use Rattle.attached_list.specs.ToDo.{HaveNoSource, ListsToDo}
@@ -19,9 +22,9 @@ use Rattle.attached_list.specs.ToDo.{HaveNoSource, ListsToDo}
 -- ** What no rule asks, beside that no file reads through another one
 
 -- each file that a tag names stays
-abbrev pub TagsStay : DomainNow → Type 0
-TagsStay d = (number : ℕ) (tag : Tag) (at : CellAt) (cell : Cell)
-    → cell_of d.pages (d.tags number) tag ≡ Some at → StandsAt d.pages at cell
+abbrev pub TagsStay : Pages → (ℕ → List TagPlace) → Type 0
+TagsStay pages tags = (number : ℕ) (tag : Tag) (at : CellAt) (cell : Cell)
+    → cell_of pages (tags number) tag ≡ Some at → StandsAt pages at cell
     → say_removed cell.records ≡ false
 
 -- the first of a fileset's quota cells stands there: no other one leads to it
@@ -30,9 +33,11 @@ pub record IsFirstQuota (pages : Pages) (frame : Frame) (number : ℕ) (at : Cel
   pub first : (other : CellAt) → ¬ LeadsTo pages frame other at
 
 -- so it does where what is being removed names quota cells
-abbrev pub HaveQuotasToGo : DomainNow → Type 0
-HaveQuotasToGo d = (number : ℕ) (at : CellAt) → IsRemoved (item_in d number)
-    → IsNamedQuota d number at → IsFirstQuota d.pages d.frame number at
+abbrev pub HaveQuotasToGo : Pages → Frame → Table → Type 0
+HaveQuotasToGo pages frame table = (number : ℕ) (at : CellAt)
+    → IsRemoved (slice_get table.slots number)
+    → option_and_then quota_of (slice_get table.slots number) ≡ Some at
+    → IsFirstQuota pages frame number at
 
 -- ** All of it
 
@@ -44,6 +49,6 @@ pub record IsReadFrom (d : DomainNow) : Type 0 where
   pub space : IsSpaceOf d.pages (layout_of d) d.space
   pub tags : (number : ℕ) → item_in d number ≡ None → d.tags number ≡ []
   pub sources : HaveNoSource d.pages (layout_of d)
-  pub stay : TagsStay d
-  pub quotas : HaveQuotasToGo d
+  pub stay : TagsStay d.pages d.tags
+  pub quotas : HaveQuotasToGo d.pages d.frame d.table
   pub list : ListsToDo d.pages (layout_of d) d.list

@@ -1,3 +1,4 @@
 pub mod ToDo
 pub mod Listing
 pub mod Attached
+pub mod Going

@@ -3,9 +3,13 @@
 #![tactic(auto)]
 
 mod filesets;
+mod going;
 mod list;
 mod reading;
+mod tables;
 
 pub use filesets::a_read_domain_stands;
+pub use going::has_quotas_to_go;
 pub use list::{has_readers, read_list};
 pub use reading::read_pages_stand;
+pub use tables::{read_bits_are_right, read_parents_are_right, read_tables_stand};

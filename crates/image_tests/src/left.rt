@@ -1,7 +1,8 @@
-//! What first cells of images say to be left to do, and which files are read through others.
+//! What first cells of images say to be left to do, which files are read through others, and which
+//! quota cells what is being removed names.
 use crate::image::Image;
 use crate::whole::Whole;
-use attached_list::{has_readers, read_list};
+use attached_list::{has_quotas_to_go, has_readers, read_list};
 use cell_faults::read_tables;
 use cell_links::CellLinks;
 use chain_faults::read_links;
@@ -9,13 +10,19 @@ use domain_base::{CellAt, Version, VolIx};
 use page_ways::DomainFrame;
 use std::alloc::Global;
 use std::test::Fail;
+use table_faults::{TableRead, read_table};
+
+/// By what the pages of an image are read.
+fn frame_of(image: &Image) -> DomainFrame {
+    DomainFrame {
+        anchor: image.anchor,
+        version: image.version,
+    }
+}
 
 /// What is read of each cell in use of an image.
 fn links_of(alloc: Global, image: &Image) -> Result<CellLinks, Fail> {
-    let frame = DomainFrame {
-        anchor: image.anchor,
-        version: image.version,
-    };
+    let frame = frame_of(image);
     let tables = read_tables(alloc, &image.pages, &frame)?;
     Ok(read_links(alloc, &image.pages, &frame, &tables)?)
 }
@@ -70,5 +77,34 @@ fn files_of_a_clone_are_read_through_others(rt: HostRuntime) -> Result<(), Fail>
     let alloc = rt.alloc();
     let told = told_left(alloc, Version::Three, Whole::Changed.text())?;
     assert_eq!(rt; told, (None, true, true));
+    Ok(())
+}
+
+/// Whether what is being removed in an image, with lines that change it, names first quota cells.
+fn told_quotas(alloc: Global, whole: Whole, change: &str) -> Result<bool, Fail> {
+    let text = format!(in alloc; "{}{change}", whole.text())?;
+    let image = Image::new(alloc, Version::Three, text.as_str())?;
+    let TableRead::There { table } = read_table(alloc, &image.pages, &frame_of(&image))? else {
+        return Err(Fail::from("a table"));
+    };
+    let links = links_of(alloc, &image)?;
+    Ok(has_quotas_to_go(alloc, &image.pages, &table, &links)?)
+}
+
+#[test]
+fn what_is_removed_names_first_quota_cells(rt: HostRuntime) -> Result<(), Fail> {
+    let alloc = rt.alloc();
+    assert!(rt; told_quotas(alloc, Whole::Limits, "")?);
+    assert!(rt; told_quotas(alloc, Whole::Removed, "")?);
+    assert!(rt; told_quotas(alloc, Whole::Limits, "slot 0 3 a 140 0 0 5 100 3.7")?);
+    Ok(())
+}
+
+#[test]
+fn what_is_removed_names_other_cells(rt: HostRuntime) -> Result<(), Fail> {
+    let alloc = rt.alloc();
+    assert!(rt; !told_quotas(alloc, Whole::Removed, "slot 1 3 x 144 0 0 0 0 3.1")?);
+    assert!(rt; !told_quotas(alloc, Whole::Limits, "slot 0 3 a 140 0 0 5 100 3.8")?);
+    assert!(rt; !told_quotas(alloc, Whole::Limits, "slot 1 3 b - 0 0 0 0 3.7")?);
     Ok(())
 }
