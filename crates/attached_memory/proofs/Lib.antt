@@ -1,2 +1,3 @@
 pub mod Layouts
 pub mod ReadMemory
+pub mod AsRead

@@ -1,5 +1,5 @@
 -- The memory of a domain as it is read of its pages.
-use Rattle.std.specs.Prelude.{◌≡◌, ℕ, false, List, [], None, Some, IfSome, length, slice_get}
+use Rattle.std.specs.Prelude.{◌≡◌, ℕ, false, List, [], Option, None, Some, IfSome, length, slice_get}
 use Rattle.domain_base.specs.declared.place.Home.{Home}
 use Rattle.page_store.specs.Pages.{Pages}
 use Rattle.log_recovery.specs.Range.{IsLogInside}
@@ -7,15 +7,18 @@ use Rattle.free_cells.specs.Cells.{taken_back}
 use Rattle.free_space.specs.Spaces.{kept_spaces}
 use Rattle.staged_pages.specs.Store.{before_of, pages_of}
 use Rattle.page_ways.specs.Frame.{frame_in}
-use Rattle.fileset_table.specs.Table.{IsTable}
+use Rattle.fileset_table.specs.Table.{IsTable, Table}
 use Rattle.attaching_laws.specs.Keeping.{KeepDirectories}
 use Rattle.attaching_laws.specs.Marks.{HasBitmaps, IsMarked}
 use Rattle.attaching_laws.specs.Space.{AreCellsOf, AreFew}
 use Rattle.domain_layout.specs.CellRules.{of_clone}
 use Rattle.domain_layout.specs.Layout.{IsLayout, Layout}
 use Rattle.domain_layout.specs.Owners.{frame_of}
-use Rattle.domain_layout.specs.Reached.{IsWithin}
+use Rattle.domain_layout.specs.Faults.{HasNoTablesFault}
+use Rattle.domain_layout.specs.Reached.{Frame, IsWithin}
 use Rattle.fileset_shapes.specs.Files.{IsWhole}
+use Rattle.cell_links.specs.declared.links.CellLinks.{CellLinks}
+use Rattle.chain_faults.specs.Links.{AreLinks}
 use Rattle.domain_parts.specs.Slots.{places_in, slot_in}
 use Rattle.domain_parts.specs.declared.slots.SlotFiles.{SlotFiles}
 use Rattle.domain_memory.specs.declared.memory.DomainMemory.{DomainMemory}
@@ -57,3 +60,16 @@ pub record IsReadMemory (memory : DomainMemory) (layout : Layout) : Type 0 where
   pub list : ListsToDo (before_of memory.pages) layout memory.list.list
   pub was : memory.was ≡ None
   pub listed : memory.listed.items ≡ []
+
+-- what is read of pages has this layout: the fileset table, what each cell in use leads to, and what
+-- is in the slots
+pub record IsReadAs (pages : Pages) (frame : Frame) (table : Table) (links : CellLinks)
+    (slots : List (Option SlotFiles)) (layout : Layout) : Type 0 where
+  pub framed : frame_of layout ≡ frame
+  pub tabled : layout.table ≡ table
+  pub laid : IsLayout pages layout
+  pub no_fault : HasNoTablesFault pages (frame_of layout)
+  pub linked : AreLinks pages (frame_of layout) links
+  pub tags : (number : ℕ) → places_in (slot_in slots number) ≡ layout.tags number
+  pub none : (number : ℕ) → slice_get layout.table.slots number ≡ None → layout.tags number ≡ []
+  pub settled : (number : ℕ) → IfSome (slot_in slots number) IsSettledSlot

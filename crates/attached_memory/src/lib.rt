@@ -1,7 +1,9 @@
-//! The memory of a domain that is attached, by what is read of its pages: laws alone, each the
-//! contract of a function without a body.
+//! The memory of a domain that is attached, read of its pages; and a law: where these have no fault
+//! it stands for the filesets that they have.
 #![tactic(auto)]
 
+mod memory;
 mod reading;
 
+pub use memory::read_memory;
 pub use reading::read_memory_stands_for;
