@@ -23,7 +23,8 @@ struct Seen<R: Rack> {
     rack: R,
 }
 
-/// Begins the history of a domain, makes room for some entries, and gives its rack back.
+/// Begins the history of a domain, makes room for some entries, discards a change of nothing, and
+/// gives the domain's rack back.
 fn opened<R: Rack + Drop, O: Opening>(
     alloc: Global,
     attached: Attached<R>,
@@ -35,6 +36,7 @@ fn opened<R: Rack + Drop, O: Opening>(
 {
     let mut domain: Domain<R, O> = Domain::begin(alloc, attached);
     domain.reserve_history(more)?;
+    domain.discard();
     Ok(Seen {
         entries: domain.entries().len(),
         committed: domain.committed(),
