@@ -33,11 +33,13 @@ pub mod NothingLeft
 pub mod OtherSlots
 pub mod OthersStand
 pub mod ParentsBegin
+pub mod ParentsElsewhere
 pub mod ParentsKept
 pub mod RestFirst
 pub mod RestRecords
 pub mod RestStands
 pub mod RootMade
+pub mod RootParents
 pub mod SlotStays
 pub mod SlotsKept
 pub mod SlotsStand

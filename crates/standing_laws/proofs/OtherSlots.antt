@@ -121,7 +121,7 @@ module _ (number : ℕ) (tag : Tag) (d now : DomainNow) (chains chains_now : Cha
 
     -- ---- its files
 
-    begins : IsDirectoryAt d.pages entry.first_tag (d.tags n)
+    pub begins : IsDirectoryAt d.pages entry.first_tag (d.tags n)
     begins = below.tables.laid.tags n (slot.Original entry) there
 
     has : HasFilesAmong d files n
@@ -143,7 +143,7 @@ module _ (number : ℕ) (tag : Tag) (d now : DomainNow) (chains chains_now : Cha
           (cases_Bool (has_home (d.tags n) home));
     }
 
-    beside_now : StandsBeside n (d.tags n) its is
+    pub beside_now : StandsBeside n (d.tags n) its is
     beside_now = beside_call number d.frame.version tag was is s.well n differ (d.tags n) its beside s.call (apart_of (d.tags n) s.call s.may)
 
     begun : (t : Tag) (cs : List PlacedCell) → its t ≡ Some cs → IsNamed files cs
@@ -151,7 +151,7 @@ module _ (number : ℕ) (tag : Tag) (d now : DomainNow) (chains chains_now : Cha
 
     -- ---- the pages that it shows
 
-    page_same : (t : Tag) (page : ℕ) (home : Home) → place_at its t page ≡ At home → now.pages home ≡ d.pages home
+    pub page_same : (t : Tag) (page : ℕ) (home : Home) → place_at its t page ≡ At home → now.pages home ≡ d.pages home
     page_same t page home at = by_chain (its t) refl at
       where
         by_chain : (o : Option (List PlacedCell)) → its t ≡ o → option_map_or (λ cs. places_of cs page) o Absent ≡ At home → now.pages home ≡ d.pages home

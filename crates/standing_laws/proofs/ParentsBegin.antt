@@ -34,13 +34,13 @@ use Rattle.standing_laws.proofs.OthersStand.{SaysWhere}
 use Rattle.standing_laws.proofs.ParentsKept.{parents_on}
 use Rattle.standing_laws.proofs.TablesTaken.{unheld_taken}
 
-number_or_not : (n number : ℕ) → (n ≡ number) ⊎ (¬ n ≡ number)
+pub number_or_not : (n number : ℕ) → (n ≡ number) ⊎ (¬ n ≡ number)
 number_or_not n number = ⊎_elim
     (λ same. inl (eqb-true n number same))
     (λ apart. inr (λ same. both_ways (n == number) apart (eq-eqb n number same)))
     (cases_Bool (n == number))
 
-other_slot : (table : Table) (number n : ℕ) (item : SlotItem) → ¬ n ≡ number → slice_get (with_slot number item table).slots n ≡ slice_get table.slots n
+pub other_slot : (table : Table) (number n : ℕ) (item : SlotItem) → ¬ n ≡ number → slice_get (with_slot number item table).slots n ≡ slice_get table.slots n
 other_slot table number n item differ = get_other table.slots number n item (false_from_ne_true (n == number) (λ same. differ (eqb-true n number same)))
 
 file_not_table : (at : CellAt) (page : ℕ) → of_file at page ≡ of_table → ⊥

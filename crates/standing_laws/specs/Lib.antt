@@ -5,5 +5,6 @@ pub mod Left
 pub mod NewFileset
 pub mod OtherPages
 pub mod SetsQuota
+pub mod SlotParents
 pub mod Slots
 pub mod SlotsStay

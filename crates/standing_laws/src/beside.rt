@@ -1,8 +1,12 @@
 //! What is asked of a domain beside what stands, between two commands: the bits of its bitmaps,
 //! what directories say of their parents, and books.
-ghost use Rattle.std.specs.Prelude.{◌≡◌, ℕ, Some};
+ghost use Rattle.std.specs.Prelude.{◌≡◌, ◌≤◌, ℕ, Some};
 ghost use Rattle.std.specs.FinMap.{get, insert};
-ghost use Rattle.bitfile_core.specs.Creation.{LeavesBeside};
+ghost use Rattle.domain_base.specs.declared.place.Home.{Home};
+ghost use Rattle.domain_base.specs.declared.place.Kind.TheVariants.{Directory};
+ghost use Rattle.domain_base.specs.declared.place.Tag.{Tag};
+ghost use Rattle.bitfile_core.specs.Creation.{LeavesBeside, root_tag};
+ghost use Rattle.bitfile_core.specs.Files.{Chains};
 ghost use Rattle.fileset_model.specs.Filesets.{FilesetMap};
 ghost use Rattle.fileset_model.specs.Usage.{with_limits};
 ghost use Rattle.fileset_model.specs.declared.fileset.FilesetSlot.{FilesetSlot};
@@ -11,16 +15,18 @@ ghost use Rattle.free_space.specs.Spaces.{Spaces};
 ghost use Rattle.quota_book.specs.Book.{Book, empty_book};
 ghost use Rattle.quota_book.specs.Sums.{IsBookOf};
 ghost use Rattle.deferred_delete.specs.Standing.{Files};
+ghost use Rattle.deferred_laws.specs.Calls.{Makes};
 ghost use Rattle.domain_standing.specs.Chains.{IndexesAt};
 ghost use Rattle.domain_standing.specs.Domain.{DomainNow};
 ghost use Rattle.domain_standing.specs.Slots.{StandSlots};
 ghost use Rattle.domain_standing.specs.Standing.{AreBooksOf, HaveParents, IsMarkedBut};
 ghost use Rattle.domain_standing.specs.Tables.{StandTables};
 ghost use Rattle.standing_laws.specs.GoingFileset.{BeginsToGo};
-ghost use Rattle.standing_laws.specs.Leads.{StandsBelow};
-ghost use Rattle.standing_laws.specs.NewFileset.{JoinsEmpty, empty_slot};
+ghost use Rattle.standing_laws.specs.Leads.{LeadsOn, StandsBelow, fileset_now};
+ghost use Rattle.standing_laws.specs.NewFileset.{JoinsEmpty, empty_slot, no_chains};
 ghost use Rattle.standing_laws.specs.OtherPages.{KeepsVolumes};
 ghost use Rattle.standing_laws.specs.SetsQuota.{SetsQuota, fileset_limited};
+ghost use Rattle.standing_laws.specs.SlotParents.{HasOnlyRoot, HaveParentsIn, StandsForSome};
 ghost use Rattle.standing_laws.specs.SlotsStay.{PutsFileset};
 
 /// Bits say what they said, of whatever free space, where the first pages of volumes stay.
@@ -61,6 +67,37 @@ pub fn parents_stay_where_a_fileset_begins()
     ensures { (number : ℕ) (entry : FilesetEntry) (d now : DomainNow) (files : Files)
         (indexes : IndexesAt) (all : FilesetMap) → StandsBelow d files indexes → StandSlots d all
         → JoinsEmpty number entry d now → HaveParents d → HaveParents now }
+{}
+
+/// Directories of another slot do so after a call on a tag.
+pub fn parents_stay_in_other_slots()
+    ensures { (number : ℕ) (tag : Tag) (d now : DomainNow) (chains chains_now : Chains)
+        (files files_now : Files) (indexes : IndexesAt) → StandsBelow d files indexes
+        → LeadsOn number tag d now chains chains_now files files_now → (other : ℕ)
+        → ¬ other ≡ number → StandsForSome other d → HaveParentsIn other d
+        → HaveParentsIn other now }
+{}
+
+/// A root alone that says itself stands where it says.
+pub fn a_root_alone_stands_in_itself()
+    ensures { (number : ℕ) (d : DomainNow) → StandTables d → HasOnlyRoot number d
+        → HaveParentsIn number d }
+{}
+
+/// So all directories say those in which they stand once the root of a fileset that begins is made.
+pub fn parents_stay_where_a_root_is_made()
+    ensures { (number : ℕ) (entry : FilesetEntry) (d joined now : DomainNow) (chains_now : Chains)
+        (files files_now : Files) (indexes : IndexesAt) (all : FilesetMap)
+        → StandsBelow d files indexes → StandSlots d all → JoinsEmpty number entry d joined
+        → (makes : Makes number joined.frame.version root_tag
+        (fileset_now joined number no_chains files) (fileset_now now number chains_now files_now))
+        → makes.what.birth ≤ joined.table.made → now.frame ≡ joined.frame
+        → now.table ≡ joined.table
+        → ((other : ℕ) → ¬ other ≡ number → now.tags other ≡ joined.tags other)
+        → makes.what.kind ≡ Directory
+        → ((home : Home) → joined.pages home ≡ d.pages home
+        → joined.contents home ≡ d.contents home)
+        → HaveParents d → HaveParents now }
 {}
 
 /// So where one begins to be removed.

@@ -1,0 +1,134 @@
+-- Directories of other slots say the ones in which they stand after a call on a tag.
+use Rattle.std.proofs.Common.{◌≡◌, ◌∙◌, ⊎_elim, inl, inr, ℕ, true, false, List, [], ◌∷◌, Option, Some, None, IfSome, IsSomeAnd, refl, sym, ap, subst}
+use Rattle.std.proofs.lemmas.Bool.{true≢false}
+use Rattle.std.specs.Option.{option_map_or}
+use Rattle.domain_base.specs.declared.place.CellAt.{CellAt}
+use Rattle.domain_base.specs.declared.place.Home.{Home}
+use Rattle.domain_base.specs.declared.place.Tag.{Tag}
+use Rattle.page_store.specs.Pages.{Pages}
+use Rattle.bmt_mcells.specs.Chain.{LinksFrom, PlacedCell}
+use Rattle.dir_pages.specs.declared.row.Row.{Row}
+use Rattle.tag_dirs.specs.Directory.{IsDirectoryAt, cell_of}
+use Rattle.tag_dirs.specs.declared.dir.TagPlace.{TagPlace}
+use Rattle.tag_dirs.proofs.Reading.{same_directory}
+use Rattle.extent_maps.specs.declared.run.PagePlace.TheVariants.{Absent}
+use Rattle.bitfile_cells.specs.Files.{IsFile, places_of}
+use Rattle.bitfile_core.specs.Files.{AreFiles, Chains, LeadsToFile}
+use Rattle.fileset_model.specs.declared.fileset.FilesetSlot.{FilesetSlot}
+use Rattle.fileset_table.specs.declared.slot.FilesetEntry.{FilesetEntry}
+use Rattle.fileset_table.specs.declared.slot.SlotItem.{SlotItem}
+use Rattle.fileset_table.specs.declared.slot.SlotItem.TheVariants as slot
+use Rattle.deferred_delete.specs.Standing.{Files}
+use Rattle.domain_layout.proofs.OneShape.{links_same}
+use Rattle.domain_layout.specs.CellRules.{of_clone}
+use Rattle.domain_layout.specs.DirectoryRules.{Has, IsInItem, IsInOriginal, IsRow, RowPlace}
+use Rattle.domain_layout.specs.Seen.{SeenFile}
+use Rattle.domain_layout.specs.Shape.{FilesetShape}
+use Rattle.domain_standing.specs.Chains.{IndexesAt}
+use Rattle.domain_standing.specs.Domain.{DomainNow, item_in}
+use Rattle.standing_laws.specs.Leads.{LeadsOn, StandsBelow}
+use Rattle.standing_laws.specs.SlotParents.{HaveParentsIn, StandsForSome}
+use Rattle.standing_laws.specs.Slots.{StandsSlot}
+use Rattle.standing_laws.proofs.OtherSlots.{begins, beside_now, page_same, seen_place}
+
+links_in : (pages : Pages) (at : CellAt) (cs : List PlacedCell) → IsFile pages at cs → LinksFrom pages at cs
+links_in pages at [] file = absurd file
+links_in pages at (first ∷ rest) file = (file.0, file.1.links)
+
+-- what an original has at a tag is the chain of that tag
+module _ (n : ℕ) (entry : FilesetEntry) (pages : Pages) (places : List TagPlace) (its : Chains) (at_first : IsDirectoryAt pages entry.first_tag places) (are : AreFiles n places pages its) where
+  some_leads : (tag : Tag) (cs : List PlacedCell) → its tag ≡ Some cs → IsSomeAnd (cell_of pages places tag) (λ at. IsFile pages at cs)
+  some_leads tag cs some = (subst (λ o. IfSome o (LeadsToFile n places pages tag)) some (are.some tag)).leads
+
+  pub chain_at : (tag : Tag) (cells : List PlacedCell) (seen : SeenFile) → IsInOriginal pages entry tag cells seen → its tag ≡ Some cells
+  chain_at tag cells seen is = by_chain (its tag) refl
+    where
+      leads : IsSomeAnd (cell_of pages places tag) (λ at. LinksFrom pages at cells)
+      leads = subst (λ (ps : List TagPlace). IsSomeAnd (cell_of pages ps tag) (λ at. LinksFrom pages at cells))
+          (same_directory pages entry.first_tag is.there.places places is.there.directory at_first) is.there.leads
+
+      one_links : (cs : List PlacedCell) (o : Option CellAt) → IsSomeAnd o (λ at. LinksFrom pages at cells) → IsSomeAnd o (λ at. IsFile pages at cs) → cs ≡ cells
+      one_links cs None links file = absurd links
+      one_links cs (Some at) links file = links_same pages at cs cells (links_in pages at cs file) links
+
+      by_chain : (o : Option (List PlacedCell)) → its tag ≡ o → its tag ≡ Some cells
+      by_chain None none = absurd (subst (λ o. IsSomeAnd o (λ at. LinksFrom pages at cells)) (are.none tag none) leads)
+      by_chain (Some cs) some = some ∙ ap Some (one_links cs (cell_of pages places tag) leads (some_leads tag cs some))
+
+  -- and the other way round
+  pub in_original : (tag : Tag) (cells : List PlacedCell) → its tag ≡ Some cells → IsSomeAnd (cell_of pages places tag) (λ at. LinksFrom pages at cells)
+  in_original tag cells some = by_cell (cell_of pages places tag) (some_leads tag cells some)
+    where
+      by_cell : (o : Option CellAt) → IsSomeAnd o (λ at. IsFile pages at cells) → IsSomeAnd o (λ at. LinksFrom pages at cells)
+      by_cell None file = absurd file
+      by_cell (Some at) file = links_in pages at cells file
+
+module _ (number : ℕ) (tag : Tag) (d now : DomainNow) (chains chains_now : Chains) (files files_now : Files) (indexes : IndexesAt) (below : StandsBelow d files indexes) (s : LeadsOn number tag d now chains chains_now files files_now)
+    (n : ℕ) (differ : ¬ n ≡ number) (stands : StandsForSome n d)
+  where
+    -- what is at a tag was there, with pages that are as they were
+    record WasHere (at : Tag) (cells : List PlacedCell) (seen : SeenFile) : Type 0 where
+      has : Has d.pages d.table n at cells seen
+      same : (page : ℕ) (home : Home) → seen.homes page ≡ Some home → now.pages home ≡ d.pages home
+
+    in_slot : (entry : FilesetEntry) (at : Tag) (cells : List PlacedCell) (seen : SeenFile) → item_in d n ≡ Some (slot.Original entry) → IsInOriginal now.pages entry at cells seen → WasHere at cells seen
+    in_slot entry at cells seen there is = record {
+      has = record {
+        item = slot.Original entry;
+        there = there;
+        is = record { there = record { places = d.tags n; directory = begins_was; leads = in_original n entry d.pages (d.tags n) was.2.set.chains begins_was was.2.set.stands.together.files at cells chain }; is = is.is };
+      };
+      same = λ page home stands.
+          page_same number tag d now chains chains_now files files_now indexes below s n entry was.0 was.1 differ there was.2 at page home
+          (ap (λ o. option_map_or (λ (cs : List PlacedCell). places_of cs page) o Absent) chain ∙ seen_place cells seen page home stands is.is);
+    }
+      where
+        was : (shape : FilesetShape) × (fileset : FilesetSlot) × StandsSlot d n entry shape fileset
+        was = stands.each entry there
+
+        begins_was : IsDirectoryAt d.pages entry.first_tag (d.tags n)
+        begins_was = begins number tag d now chains chains_now files files_now indexes below s n entry was.0 was.1 differ there was.2
+
+        files_here : AreFiles n (d.tags n) now.pages was.2.set.chains
+        files_here = (beside_now number tag d now chains chains_now files files_now indexes below s n entry was.0 was.1 differ there was.2).together.files
+
+        begins_here : IsDirectoryAt now.pages entry.first_tag (d.tags n)
+        begins_here = record { directory = files_here.directory; begins = begins_was.begins }
+
+        chain : was.2.set.chains at ≡ Some cells
+        chain = chain_at n entry now.pages (d.tags n) was.2.set.chains begins_here files_here at cells seen is
+
+    was_here : (at : Tag) (cells : List PlacedCell) (seen : SeenFile) → Has now.pages d.table n at cells seen → WasHere at cells seen
+    was_here at cells seen h = by_item h.item h.there h.is
+      where
+        by_item : (item : SlotItem) → item_in d n ≡ Some item → IsInItem now.pages d.table item at cells seen → WasHere at cells seen
+        by_item slot.Free there is = absurd is
+        by_item (slot.Original entry) there is = in_slot entry at cells seen there is
+        by_item (slot.Clone of clone entry) there is = absurd (true≢false (sym (ap of_clone there) ∙ stands.no_clone))
+        by_item (slot.Removed first_tag quota) there is = absurd is
+
+    row_was : (at : RowPlace) (row : Row) (home : Home) → IsRow now.pages d.frame d.table n at row home → IsRow d.pages d.frame d.table n at row home
+    row_was at row home is =
+        let page = is.is in
+        let w = was_here at.dir page.cells page.seen page.has in
+        record {
+          bytes = is.bytes;
+          is = record { cells = page.cells; seen = page.seen; has = w.has; kind = page.kind; at = page.at; within = page.within; there = sym (w.same at.page home page.at) ∙ page.there };
+          good = is.good;
+          there = is.there;
+        }
+
+    right_here : HaveParentsIn n d → HaveParentsIn n (record now { frame = d.frame; table = d.table })
+    right_here parents at cells seen h directory wrong =
+        parents at cells seen (was_here at cells seen h).has directory
+        (record {
+          parent = wrong.parent;
+          is = ⊎_elim
+              (λ root. inl root)
+              (λ r. inr (r.0, r.1, r.2, row_was r.0 r.1 r.2 r.3, r.4, r.5, r.6, r.7))
+              wrong.is;
+          wrong = wrong.wrong;
+        })
+
+    pub parents_elsewhere : HaveParentsIn n d → HaveParentsIn n now
+    parents_elsewhere parents = subst (HaveParentsIn n) (λ i. record now { frame = sym s.frame i; table = sym s.table i }) (right_here parents)
