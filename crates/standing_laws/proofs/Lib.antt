@@ -54,3 +54,4 @@ pub mod QuotaRest
 pub mod QuotaSets
 pub mod QuotaLimits
 pub mod QuotaFilesets
+pub mod QuotaBeside

@@ -1,5 +1,5 @@
 -- Directories of other slots say the ones in which they stand after a call on a tag.
-use Rattle.std.proofs.Common.{◌≡◌, ◌∙◌, ⊎_elim, inl, inr, ℕ, true, false, List, [], ◌∷◌, Option, Some, None, IfSome, IsSomeAnd, refl, sym, ap, subst}
+use Rattle.std.proofs.Common.{◌≡◌, ◌∙◌, ⊎_elim, inl, inr, ℕ, true, false, List, [], ◌∷◌, Option, Some, None, IfSome, IsSomeAnd, slice_get, refl, sym, ap, subst}
 use Rattle.std.proofs.lemmas.Bool.{true≢false}
 use Rattle.std.specs.Option.{option_map_or}
 use Rattle.domain_base.specs.declared.place.CellAt.{CellAt}
@@ -11,10 +11,11 @@ use Rattle.dir_pages.specs.declared.row.Row.{Row}
 use Rattle.tag_dirs.specs.Directory.{IsDirectoryAt, cell_of}
 use Rattle.tag_dirs.specs.declared.dir.TagPlace.{TagPlace}
 use Rattle.tag_dirs.proofs.Reading.{same_directory}
-use Rattle.extent_maps.specs.declared.run.PagePlace.TheVariants.{Absent}
+use Rattle.extent_maps.specs.declared.run.PagePlace.TheVariants.{Absent, At}
 use Rattle.bitfile_cells.specs.Files.{IsFile, places_of}
-use Rattle.bitfile_core.specs.Files.{AreFiles, Chains, LeadsToFile}
+use Rattle.bitfile_core.specs.Files.{AreFiles, Chains, LeadsToFile, place_at}
 use Rattle.fileset_model.specs.declared.fileset.FilesetSlot.{FilesetSlot}
+use Rattle.fileset_table.specs.Table.{Table}
 use Rattle.fileset_table.specs.declared.slot.FilesetEntry.{FilesetEntry}
 use Rattle.fileset_table.specs.declared.slot.SlotItem.{SlotItem}
 use Rattle.fileset_table.specs.declared.slot.SlotItem.TheVariants as slot
@@ -63,26 +64,92 @@ module _ (n : ℕ) (entry : FilesetEntry) (pages : Pages) (places : List TagPlac
       by_cell None file = absurd file
       by_cell (Some at) file = links_in pages at cells file
 
+-- an original's files are where they were, and so are their pages
+pub record FilesStay (n : ℕ) (d now : DomainNow) (entry_now : FilesetEntry) : Type 0 where
+  pub entry : FilesetEntry
+  pub there : item_in d n ≡ Some (slot.Original entry)
+  pub chains : Chains
+  pub begins : IsDirectoryAt d.pages entry.first_tag (d.tags n)
+  pub begins_now : IsDirectoryAt now.pages entry_now.first_tag (d.tags n)
+  pub are : AreFiles n (d.tags n) d.pages chains
+  pub are_now : AreFiles n (d.tags n) now.pages chains
+  pub same : (t : Tag) (page : ℕ) (home : Home) → place_at chains t page ≡ At home → now.pages home ≡ d.pages home
+
+module _ (d now : DomainNow) (n : ℕ) (frame : now.frame ≡ d.frame) (no_clone : of_clone (item_in now n) ≡ false) (stays : (entry_now : FilesetEntry) → item_in now n ≡ Some (slot.Original entry_now) → FilesStay n d now entry_now) where
+  -- what is at a tag was there, with pages that are as they were
+  record WasHere (at : Tag) (cells : List PlacedCell) (seen : SeenFile) : Type 0 where
+    has : Has d.pages d.table n at cells seen
+    same : (page : ℕ) (home : Home) → seen.homes page ≡ Some home → now.pages home ≡ d.pages home
+
+  in_slot : (entry_now : FilesetEntry) (at : Tag) (cells : List PlacedCell) (seen : SeenFile) → item_in now n ≡ Some (slot.Original entry_now) → IsInOriginal now.pages entry_now at cells seen → WasHere at cells seen
+  in_slot entry_now at cells seen there is =
+      let it = stays entry_now there in
+      let chain = chain_at n entry_now now.pages (d.tags n) it.chains it.begins_now it.are_now at cells seen is in
+      record {
+        has = record {
+          item = slot.Original it.entry;
+          there = it.there;
+          is = record { there = record { places = d.tags n; directory = it.begins; leads = in_original n it.entry d.pages (d.tags n) it.chains it.begins it.are at cells chain }; is = is.is };
+        };
+        same = λ page home stands. it.same at page home (ap (λ o. option_map_or (λ (cs : List PlacedCell). places_of cs page) o Absent) chain ∙ seen_place cells seen page home stands is.is);
+      }
+
+  was_here : (at : Tag) (cells : List PlacedCell) (seen : SeenFile) → Has now.pages now.table n at cells seen → WasHere at cells seen
+  was_here at cells seen h = by_item h.item h.there h.is
+    where
+      by_item : (item : SlotItem) → item_in now n ≡ Some item → IsInItem now.pages now.table item at cells seen → WasHere at cells seen
+      by_item slot.Free there is = absurd is
+      by_item (slot.Original entry) there is = in_slot entry at cells seen there is
+      by_item (slot.Clone of clone entry) there is = absurd (true≢false (sym (ap of_clone there) ∙ no_clone))
+      by_item (slot.Removed first_tag quota) there is = absurd is
+
+  row_was : (at : RowPlace) (row : Row) (home : Home) → IsRow now.pages d.frame now.table n at row home → IsRow d.pages d.frame d.table n at row home
+  row_was at row home is =
+      let page = is.is in
+      let w = was_here at.dir page.cells page.seen page.has in
+      record {
+        bytes = is.bytes;
+        is = record { cells = page.cells; seen = page.seen; has = w.has; kind = page.kind; at = page.at; within = page.within; there = sym (w.same at.page home page.at) ∙ page.there };
+        good = is.good;
+        there = is.there;
+      }
+
+  right_here : HaveParentsIn n d → HaveParentsIn n (record now { frame = d.frame })
+  right_here parents at cells seen h directory wrong =
+      parents at cells seen (was_here at cells seen h).has directory
+      (record {
+        parent = wrong.parent;
+        is = ⊎_elim
+            (λ root. inl root)
+            (λ r. inr (r.0, r.1, r.2, row_was r.0 r.1 r.2 r.3, r.4, r.5, r.6, r.7))
+            wrong.is;
+        wrong = wrong.wrong;
+      })
+
+  pub slot_parents : HaveParentsIn n d → HaveParentsIn n now
+  slot_parents parents = subst (HaveParentsIn n) (λ i. record now { frame = sym frame i }) (right_here parents)
+
 module _ (number : ℕ) (tag : Tag) (d now : DomainNow) (chains chains_now : Chains) (files files_now : Files) (indexes : IndexesAt) (below : StandsBelow d files indexes) (s : LeadsOn number tag d now chains chains_now files files_now)
     (n : ℕ) (differ : ¬ n ≡ number) (stands : StandsForSome n d)
   where
-    -- what is at a tag was there, with pages that are as they were
-    record WasHere (at : Tag) (cells : List PlacedCell) (seen : SeenFile) : Type 0 where
-      has : Has d.pages d.table n at cells seen
-      same : (page : ℕ) (home : Home) → seen.homes page ≡ Some home → now.pages home ≡ d.pages home
+    item_same : item_in now n ≡ item_in d n
+    item_same = ap (λ (t : Table). slice_get t.slots n) s.table
 
-    in_slot : (entry : FilesetEntry) (at : Tag) (cells : List PlacedCell) (seen : SeenFile) → item_in d n ≡ Some (slot.Original entry) → IsInOriginal now.pages entry at cells seen → WasHere at cells seen
-    in_slot entry at cells seen there is = record {
-      has = record {
-        item = slot.Original entry;
-        there = there;
-        is = record { there = record { places = d.tags n; directory = begins_was; leads = in_original n entry d.pages (d.tags n) was.2.set.chains begins_was was.2.set.stands.together.files at cells chain }; is = is.is };
-      };
-      same = λ page home stands.
-          page_same number tag d now chains chains_now files files_now indexes below s n entry was.0 was.1 differ there was.2 at page home
-          (ap (λ o. option_map_or (λ (cs : List PlacedCell). places_of cs page) o Absent) chain ∙ seen_place cells seen page home stands is.is);
+    stay : (entry : FilesetEntry) → item_in now n ≡ Some (slot.Original entry) → FilesStay n d now entry
+    stay entry at = record {
+      entry = entry;
+      there = there;
+      chains = was.2.set.chains;
+      begins = begins_was;
+      begins_now = record { directory = files_here.directory; begins = begins_was.begins };
+      are = was.2.set.stands.together.files;
+      are_now = files_here;
+      same = page_same number tag d now chains chains_now files files_now indexes below s n entry was.0 was.1 differ there was.2;
     }
       where
+        there : item_in d n ≡ Some (slot.Original entry)
+        there = sym item_same ∙ at
+
         was : (shape : FilesetShape) × (fileset : FilesetSlot) × StandsSlot d n entry shape fileset
         was = stands.each entry there
 
@@ -92,43 +159,5 @@ module _ (number : ℕ) (tag : Tag) (d now : DomainNow) (chains chains_now : Cha
         files_here : AreFiles n (d.tags n) now.pages was.2.set.chains
         files_here = (beside_now number tag d now chains chains_now files files_now indexes below s n entry was.0 was.1 differ there was.2).together.files
 
-        begins_here : IsDirectoryAt now.pages entry.first_tag (d.tags n)
-        begins_here = record { directory = files_here.directory; begins = begins_was.begins }
-
-        chain : was.2.set.chains at ≡ Some cells
-        chain = chain_at n entry now.pages (d.tags n) was.2.set.chains begins_here files_here at cells seen is
-
-    was_here : (at : Tag) (cells : List PlacedCell) (seen : SeenFile) → Has now.pages d.table n at cells seen → WasHere at cells seen
-    was_here at cells seen h = by_item h.item h.there h.is
-      where
-        by_item : (item : SlotItem) → item_in d n ≡ Some item → IsInItem now.pages d.table item at cells seen → WasHere at cells seen
-        by_item slot.Free there is = absurd is
-        by_item (slot.Original entry) there is = in_slot entry at cells seen there is
-        by_item (slot.Clone of clone entry) there is = absurd (true≢false (sym (ap of_clone there) ∙ stands.no_clone))
-        by_item (slot.Removed first_tag quota) there is = absurd is
-
-    row_was : (at : RowPlace) (row : Row) (home : Home) → IsRow now.pages d.frame d.table n at row home → IsRow d.pages d.frame d.table n at row home
-    row_was at row home is =
-        let page = is.is in
-        let w = was_here at.dir page.cells page.seen page.has in
-        record {
-          bytes = is.bytes;
-          is = record { cells = page.cells; seen = page.seen; has = w.has; kind = page.kind; at = page.at; within = page.within; there = sym (w.same at.page home page.at) ∙ page.there };
-          good = is.good;
-          there = is.there;
-        }
-
-    right_here : HaveParentsIn n d → HaveParentsIn n (record now { frame = d.frame; table = d.table })
-    right_here parents at cells seen h directory wrong =
-        parents at cells seen (was_here at cells seen h).has directory
-        (record {
-          parent = wrong.parent;
-          is = ⊎_elim
-              (λ root. inl root)
-              (λ r. inr (r.0, r.1, r.2, row_was r.0 r.1 r.2 r.3, r.4, r.5, r.6, r.7))
-              wrong.is;
-          wrong = wrong.wrong;
-        })
-
     pub parents_elsewhere : HaveParentsIn n d → HaveParentsIn n now
-    parents_elsewhere parents = subst (HaveParentsIn n) (λ i. record now { frame = sym s.frame i; table = sym s.table i }) (right_here parents)
+    parents_elsewhere = slot_parents d now n s.frame (ap of_clone item_same ∙ stands.no_clone) stay

@@ -66,7 +66,7 @@ module _ (number : ℕ) (d now : DomainNow) (files files_now : Files) (indexes :
 
     -- ---- its files
 
-    begins : IsDirectoryAt d.pages entry.first_tag (d.tags n)
+    pub begins : IsDirectoryAt d.pages entry.first_tag (d.tags n)
     begins = below.tables.laid.tags n (slot.Original entry) there
 
     has : HasFilesAmong d files n
@@ -78,7 +78,7 @@ module _ (number : ℕ) (d now : DomainNow) (files files_now : Files) (indexes :
     among : AreAmong (all_of d files) (d.tags n) its
     among = subst (AreAmong (all_of d files) (d.tags n)) (λ k t. one_chains d.pages n (d.tags n) has.chains its has.are stood.set.stands.together.files t k) has.among
 
-    its_together : AreTogether n (d.tags n) now.space now.cells now.pages its
+    pub its_together : AreTogether n (d.tags n) now.space now.cells now.pages its
     its_together = together_now number s.prefer s.who s.limits s.entry.quota (all_of d files) (all_of now files_now) n (d.tags n) its below.chains.well s.sets
         (tag_page number d now files files_now indexes below s n) stood.set.stands.together among
 
@@ -87,7 +87,7 @@ module _ (number : ℕ) (d now : DomainNow) (files files_now : Files) (indexes :
 
     -- ---- the pages that it shows
 
-    page_same : (t : Tag) (page : ℕ) (home : Home) → place_at its t page ≡ At home → now.pages home ≡ d.pages home
+    pub page_same : (t : Tag) (page : ℕ) (home : Home) → place_at its t page ≡ At home → now.pages home ≡ d.pages home
     page_same t page home at = by_chain (its t) refl at
       where
         by_chain : (o : Option (List PlacedCell)) → its t ≡ o → option_map_or (λ cs. places_of cs page) o Absent ≡ At home → now.pages home ≡ d.pages home

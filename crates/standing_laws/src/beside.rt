@@ -52,6 +52,14 @@ pub fn bits_stay_where_a_fileset_begins_to_go()
         → IsMarkedBut (record now { space = space }) }
 {}
 
+/// So where an owner's limits are set.
+pub fn bits_stay_where_limits_are_set()
+    ensures { (number : ℕ) (d now : DomainNow) (files files_now : Files) (indexes : IndexesAt)
+        → StandsBelow d files indexes → SetsQuota number d now files files_now
+        → (space : Spaces) → IsMarkedBut (record d { space = space })
+        → IsMarkedBut (record now { space = space }) }
+{}
+
 /// So where tables of cells change and the tag directory of one slot, as where a root is made.
 pub fn bits_stay_where_cells_and_tags_change()
     ensures { (number : ℕ) (d now : DomainNow) (files : Files) (indexes : IndexesAt)
@@ -105,6 +113,13 @@ pub fn parents_stay_where_a_fileset_begins_to_go()
     ensures { (number : ℕ) (entry : FilesetEntry) (d now : DomainNow) (files : Files)
         (indexes : IndexesAt) (all : FilesetMap) → StandsBelow d files indexes → StandSlots d all
         → BeginsToGo number entry d now → HaveParents d → HaveParents now }
+{}
+
+/// So where an owner's limits are set.
+pub fn parents_stay_where_limits_are_set()
+    ensures { (number : ℕ) (d now : DomainNow) (files files_now : Files) (indexes : IndexesAt)
+        → StandsBelow d files indexes → SetsQuota number d now files files_now
+        → (all : FilesetMap) → StandSlots d all → HaveParents d → HaveParents now }
 {}
 
 /// Books are those of their filesets where one slot has another fileset, or a new one, whose book
