@@ -1,3 +1,4 @@
+pub mod BegunDomain
 pub mod BegunEmpty
 pub mod BelowStands
 pub mod BitsStay

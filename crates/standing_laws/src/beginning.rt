@@ -14,6 +14,7 @@ ghost use Rattle.domain_layout.specs.Shape.{FilesetShape};
 ghost use Rattle.domain_standing.specs.Chains.{IndexesAt};
 ghost use Rattle.domain_standing.specs.Domain.{DomainNow};
 ghost use Rattle.domain_standing.specs.Slots.{StandSlots};
+ghost use Rattle.domain_standing.specs.Standing.{StandsDomain};
 ghost use Rattle.standing_laws.specs.Leads.{StandsBelow, fileset_now};
 ghost use Rattle.standing_laws.specs.NewFileset.{IsPlainRoot, JoinsEmpty, SetsNoLimit, empty_slot, no_chains};
 ghost use Rattle.standing_laws.specs.Slots.{StandsSlot};
@@ -73,4 +74,23 @@ pub fn filesets_stand_on_where_one_begins()
         → joined.contents home ≡ now.contents home)
         → (all : FilesetMap) → StandSlots d all
         → StandSlots now (insert all entry.name empty_slot) }
+{}
+
+/// All together: a domain stands for its filesets beside the new one.
+pub fn a_domain_stands_on_where_a_fileset_begins()
+    ensures { (number : ℕ) (entry : FilesetEntry) (d joined now : DomainNow) (chains_now : Chains)
+        (files_now : Files) (all : FilesetMap) → (stands : StandsDomain d all)
+        → JoinsEmpty number entry d joined
+        → (makes : Makes number joined.frame.version root_tag
+        (fileset_now joined number no_chains stands.files)
+        (fileset_now now number chains_now files_now))
+        → makes.what.birth ≤ joined.table.made → now.frame ≡ joined.frame
+        → now.table ≡ joined.table
+        → ((other : ℕ) → ¬ other ≡ number → now.tags other ≡ joined.tags other)
+        → IsPlainRoot makes.what → SetsNoLimit entry
+        → ((home : Home) → joined.pages home ≡ d.pages home
+        → joined.contents home ≡ d.contents home)
+        → ((at : CellAt) (page : ℕ) (home : Home) → place_in stands.files at page ≡ At home
+        → joined.contents home ≡ now.contents home)
+        → StandsDomain now (insert all entry.name empty_slot) }
 {}

@@ -69,6 +69,20 @@ pub fn bits_stay_where_cells_and_tags_change()
         → IsMarkedBut (record now { space = space }) }
 {}
 
+/// So once the root of a fileset that begins is made.
+pub fn bits_stay_where_a_root_is_made()
+    ensures { (number : ℕ) (entry : FilesetEntry) (d joined now : DomainNow) (chains_now : Chains)
+        (files files_now : Files) (indexes : IndexesAt) → StandsBelow d files indexes
+        → JoinsEmpty number entry d joined
+        → (makes : Makes number joined.frame.version root_tag
+        (fileset_now joined number no_chains files) (fileset_now now number chains_now files_now))
+        → makes.what.birth ≤ joined.table.made → now.frame ≡ joined.frame
+        → now.table ≡ joined.table
+        → ((other : ℕ) → ¬ other ≡ number → now.tags other ≡ joined.tags other)
+        → (space : Spaces) → IsMarkedBut (record d { space = space })
+        → IsMarkedBut (record now { space = space }) }
+{}
+
 /// Each directory says still the one in which its row stands, where an original joins the table
 /// that has no file yet.
 pub fn parents_stay_where_a_fileset_begins()

@@ -18,8 +18,8 @@ mod slots;
 mod tables;
 
 pub use beginning::{
-    a_fileset_begins, an_empty_fileset_begins, filesets_stand_on_where_one_begins,
-    the_fileset_that_begins_is_empty,
+    a_domain_stands_on_where_a_fileset_begins, a_fileset_begins, an_empty_fileset_begins,
+    filesets_stand_on_where_one_begins, the_fileset_that_begins_is_empty,
 };
 pub use below::{
     all_below_stands_on, all_below_stands_on_where_a_file_is_listed,
@@ -27,12 +27,13 @@ pub use below::{
 };
 pub use beside::{
     a_root_alone_stands_in_itself, bits_stay_where_a_fileset_begins,
-    bits_stay_where_a_fileset_begins_to_go, bits_stay_where_cells_and_tags_change,
-    bits_stay_where_limits_are_set, bits_stay_where_volumes_keep_their_pages,
-    books_stay_where_a_fileset_begins, books_stay_where_a_slot_has_another_fileset,
-    books_stay_where_limits_are_set, parents_stay_in_other_slots,
-    parents_stay_where_a_fileset_begins, parents_stay_where_a_fileset_begins_to_go,
-    parents_stay_where_a_root_is_made, parents_stay_where_limits_are_set,
+    bits_stay_where_a_fileset_begins_to_go, bits_stay_where_a_root_is_made,
+    bits_stay_where_cells_and_tags_change, bits_stay_where_limits_are_set,
+    bits_stay_where_volumes_keep_their_pages, books_stay_where_a_fileset_begins,
+    books_stay_where_a_slot_has_another_fileset, books_stay_where_limits_are_set,
+    parents_stay_in_other_slots, parents_stay_where_a_fileset_begins,
+    parents_stay_where_a_fileset_begins_to_go, parents_stay_where_a_root_is_made,
+    parents_stay_where_limits_are_set,
 };
 pub use chains::{
     cells_in_use_stay_in_chains, chains_stand_on, chains_stand_on_where_a_file_is_listed,
