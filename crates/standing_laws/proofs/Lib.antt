@@ -56,3 +56,4 @@ pub mod QuotaSets
 pub mod QuotaLimits
 pub mod QuotaFilesets
 pub mod QuotaBeside
+pub mod QuotaDomain

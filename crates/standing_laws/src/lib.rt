@@ -62,10 +62,11 @@ pub use others::{
     parents_stay_where_bits_change,
 };
 pub use quotas::{
-    all_below_stands_on_where_limits_are_set, chains_stand_on_where_limits_are_set,
-    filesets_stand_on_where_limits_are_set, held_pages_stand_on_where_limits_are_set,
-    other_slots_stay_where_limits_are_set, rest_stands_on_where_limits_are_set,
-    tables_stand_on_where_limits_are_set, the_slot_has_the_limits_that_are_set,
+    a_domain_stands_on_where_limits_are_set, all_below_stands_on_where_limits_are_set,
+    chains_stand_on_where_limits_are_set, filesets_stand_on_where_limits_are_set,
+    held_pages_stand_on_where_limits_are_set, other_slots_stay_where_limits_are_set,
+    rest_stands_on_where_limits_are_set, tables_stand_on_where_limits_are_set,
+    the_slot_has_the_limits_that_are_set,
 };
 pub use rest::rest_stands_on;
 pub use slots::{

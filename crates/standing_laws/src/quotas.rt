@@ -13,6 +13,7 @@ ghost use Rattle.domain_standing.specs.Domain.{DomainNow, item_in};
 ghost use Rattle.domain_standing.specs.Holders.{HoldsOwned};
 ghost use Rattle.domain_standing.specs.Rest.{SaysTheRest};
 ghost use Rattle.domain_standing.specs.Slots.{StandSlots};
+ghost use Rattle.domain_standing.specs.Standing.{StandsDomain};
 ghost use Rattle.domain_standing.specs.Tables.{StandTables};
 ghost use Rattle.standing_laws.specs.Leads.{StandsBelow};
 ghost use Rattle.standing_laws.specs.SetsQuota.{SetsQuota, entry_limited, fileset_limited, shape_limited};
@@ -87,5 +88,15 @@ pub fn filesets_stand_on_where_limits_are_set()
         → AgreeOn d.contents now.contents slots.shapes → (fileset : FilesetSlot)
         → get all sets.entry.name ≡ Some fileset
         → StandSlots now
+        (insert all sets.entry.name (fileset_limited sets.who sets.limits fileset)) }
+{}
+
+/// All together: a domain stands for its filesets, of which that one has these limits of the owner.
+pub fn a_domain_stands_on_where_limits_are_set()
+    ensures { (number : ℕ) (d now : DomainNow) (files_now : Files) (all : FilesetMap)
+        → (stands : StandsDomain d all) → (sets : SetsQuota number d now stands.files files_now)
+        → AgreeOn d.contents now.contents stands.slots.shapes → (fileset : FilesetSlot)
+        → get all sets.entry.name ≡ Some fileset
+        → StandsDomain now
         (insert all sets.entry.name (fileset_limited sets.who sets.limits fileset)) }
 {}
