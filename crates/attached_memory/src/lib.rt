@@ -4,6 +4,8 @@
 
 mod memory;
 mod reading;
+mod slots;
 
 pub use memory::read_memory;
 pub use reading::read_memory_stands_for;
+pub use slots::read_slots;
