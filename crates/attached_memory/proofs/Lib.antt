@@ -1,3 +1,4 @@
 pub mod Layouts
 pub mod ReadMemory
 pub mod AsRead
+pub mod SlotsRead

@@ -1,0 +1,8 @@
+use Rattle.attached_memory.proofs.SlotsRead.{settled, their_pages}
+use Rattle.attached_memory.proofs.reading.read_slots_have_their_pages.Goals as goal
+
+pub returns-clause-pages : goal.returns-clause-pages
+returns-clause-pages c pages layout slots laid good are none number = their_pages pages slots number layout laid good are none
+
+pub returns-clause-settled : goal.returns-clause-settled
+returns-clause-settled c pages table slots are number = settled pages slots number table are
