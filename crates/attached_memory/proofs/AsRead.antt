@@ -1,5 +1,5 @@
 -- Memory of which each part was read of the pages is that of the pages.
-use Rattle.std.proofs.Common.{◌≡◌, ◌∙◌, ℕ, List, [], Option, None, refl, sym, ap, subst}
+use Rattle.std.proofs.Common.{◌≡◌, ◌∙◌, ℕ, [], None, refl, sym, ap, subst}
 use Rattle.page_store.specs.Pages.{Pages}
 use Rattle.free_cells.specs.VolumeTable.{KeptTable}
 use Rattle.free_cells.specs.Cells.{Cells, Holds, is_closed, is_free, table_of, taken_back}
@@ -15,7 +15,6 @@ use Rattle.attaching_laws.specs.Space.{AreCellsOf}
 use Rattle.domain_layout.specs.Faults.{HasNoTablesFault}
 use Rattle.domain_layout.specs.Layout.{IsLayout, Layout}
 use Rattle.domain_layout.specs.Owners.{frame_of}
-use Rattle.domain_layout.specs.Reached.{Frame}
 use Rattle.domain_memory.specs.declared.memory.DomainMemory.{DomainMemory}
 use Rattle.domain_memory.proofs.KeptCells.{cells_of_other}
 use Rattle.domain_memory.proofs.KeptSpace.{kept_is, marked_kept}

@@ -1,16 +1,15 @@
 -- Layouts of the same tables.
-use Rattle.std.proofs.Common.{◌≡◌, ◌∙◌, ℕ, List, Contains, refl, sym, subst}
+use Rattle.std.proofs.Common.{◌≡◌, ℕ, List, Contains, sym, subst}
 use Rattle.domain_base.specs.declared.place.CellAt.{CellAt}
 use Rattle.page_store.specs.Pages.{Pages}
 use Rattle.bmt_mcells.specs.Cell.{Cell}
 use Rattle.log_ring.specs.Homes.{IsMember}
-use Rattle.fileset_table.specs.Table.{Table}
 use Rattle.deferred_delete.specs.Listing.{Listing}
 use Rattle.domain_layout.specs.Layout.{IsCellTable, IsLayout, Layout}
 use Rattle.domain_layout.specs.Owners.{IsOnTable, frame_of}
-use Rattle.domain_layout.specs.Reached.{Frame, first_cells}
+use Rattle.domain_layout.specs.Reached.{first_cells}
 use Rattle.fileset_shapes.specs.Files.{IsWhole}
-use Rattle.attached_list.specs.ToDo.{HasSource, HaveNoSource, IsLeftToDo, ListsToDo}
+use Rattle.attached_list.specs.ToDo.{HaveNoSource, ListsToDo}
 
 -- a layout with other lists of pages of cells
 abbrev pub with_cells : (ℕ → List ℕ) → Layout → Layout

@@ -1,16 +1,13 @@
 -- Memory that was read of pages without a fault stands for the filesets that the pages have.
-use Rattle.std.proofs.Common.{◌≡◌, ◌∙◌, ℕ, ◌≤◌, List, [], ◌∷◌, length, Option, Some, None, IfSome, slice_get, take, refl, sym, ap, subst, arith}
+use Rattle.std.proofs.Common.{◌≡◌, ◌∙◌, ℕ, List, Option, Some, None, IfSome, slice_get, refl, sym, ap, subst, arith}
 use Rattle.std.proofs.lemmas.List.{take_all}
 use Rattle.fileset_model.specs.Filesets.{FilesetMap}
 use Rattle.log_ring.specs.Homes.{IsMember}
 use Rattle.domain_base.specs.declared.place.Home.{Home}
 use Rattle.page_store.specs.Pages.{Pages}
 use Rattle.tag_dirs.specs.declared.dir.TagPlace.{TagPlace}
-use Rattle.tag_dirs.specs.Directory.{IsDirectoryAt}
-use Rattle.free_cells.specs.Cells.{table_of, taken_back}
-use Rattle.free_space.specs.Spaces.{kept_spaces}
+use Rattle.free_cells.specs.Cells.{table_of}
 use Rattle.staged_pages.specs.Store.{before_of}
-use Rattle.page_ways.specs.Frame.{frame_in}
 use Rattle.fileset_table.specs.Table.{IsTable}
 use Rattle.fileset_table.specs.declared.slot.SlotItem.{SlotItem}
 use Rattle.attaching_laws.proofs.Marked.{marked_space}
@@ -19,11 +16,9 @@ use Rattle.domain_layout.specs.Filled.{AreFilled}
 use Rattle.domain_layout.specs.Layout.{AreTagPlaces, IsLayout, Layout, first_tag_of}
 use Rattle.domain_layout.specs.Owners.{frame_of}
 use Rattle.domain_layout.specs.Read.{contents_of}
-use Rattle.domain_layout.specs.Reached.{Frame}
 use Rattle.domain_layout.specs.Shape.{AreShapesOf, Shapes}
 use Rattle.domain_standing.specs.Domain.{DomainNow, layout_of}
 use Rattle.domain_standing.specs.Standing.{AreBooksOf, HaveParents, IsMarkedBut, StandsDomain}
-use Rattle.domain_standing.specs.Tables.{StandTables}
 use Rattle.domain_parts.specs.Slots.{CanGoBack, book_in, kept_book, kept_places, places_in, slot_in}
 use Rattle.domain_parts.specs.declared.slots.SlotFiles.{SlotFiles}
 use Rattle.domain_memory.specs.Memory.{StandsFor, books_in, kept_in, with_was}
@@ -34,7 +29,7 @@ use Rattle.attached_list.specs.Attached.{IsReadFrom}
 use Rattle.attached_list.proofs.Beside.{bits_are_right, parents_are_right, tables_stand}
 use Rattle.attached_list.proofs.Stands.{stands}
 use Rattle.attached_memory.specs.Read.{IsReadMemory, IsSettledSlot, MayBeAttached}
-use Rattle.attached_memory.proofs.Layouts.{laid_with, list_with, sources_with, whole_with, with_cells}
+use Rattle.attached_memory.proofs.Layouts.{laid_with, list_with, sources_with, whole_with}
 
 -- places that all were kept are those that are there
 settled_places : (o : Option SlotFiles) → IfSome o IsSettledSlot → kept_places o ≡ places_in o

@@ -1,5 +1,5 @@
 -- What is read of the slots has the pages that a layout has.
-use Rattle.std.proofs.Common.{◌≡◌, ◌∙◌, ◌≤◌, ℕ, List, [], Option, None, Some, IfSome, length, slice_get, sym, ap, subst, arith, ⊎_elim}
+use Rattle.std.proofs.Common.{◌≡◌, ◌∙◌, ℕ, List, [], Option, None, Some, IfSome, slice_get, sym, ap, subst, arith, ⊎_elim}
 use Rattle.std.specs.Option.{option_and_then}
 use Rattle.std.proofs.lemmas.Option.{slice_get_cases, slice_get_past}
 use Rattle.domain_base.specs.declared.place.Home.{Home}
