@@ -3,12 +3,9 @@ use Rattle.std.proofs.Common.{◌≡◌, ◌∙◌, ◌⊎◌, inl, inr, ℕ, �
 use Rattle.std.proofs.lemmas.Bool.{cases_Bool, true≢false}
 use Rattle.std.specs.FinSet.{contains}
 use Rattle.std.specs.Option.{option_map_or}
-use Rattle.domain_base.specs.Version.{bitmap_pages, most_pages}
+use Rattle.domain_base.specs.Version.{bitmap_pages}
 use Rattle.domain_base.specs.declared.place.CellAt.{CellAt}
 use Rattle.domain_base.specs.declared.place.Home.{Home}
-use Rattle.domain_base.specs.declared.place.Kind.{Kind}
-use Rattle.domain_base.specs.declared.place.Kind.TheVariants.{Directory}
-use Rattle.domain_base.specs.declared.place.Tag.{Tag}
 use Rattle.domain_base.specs.declared.version.Version.{Version}
 use Rattle.domain_base.specs.declared.version.Version.TheVariants.{Four, Three}
 use Rattle.record_table.specs.declared.record.Record.{Record}
@@ -18,23 +15,22 @@ use Rattle.log_ring.specs.Homes.{IsMember, member_of}
 use Rattle.log_recovery.specs.Range.{IsLogInside}
 use Rattle.bmt_mcells.specs.Cell.{Cell}
 use Rattle.bmt_mcells.specs.CellPage.{home_of}
-use Rattle.bmt_mcells.specs.Chain.{PlacedCell, StandsAt}
+use Rattle.bmt_mcells.specs.Chain.{StandsAt}
 use Rattle.bmt_mcells.specs.declared.head.CellKind.{CellKind}
 use Rattle.bmt_mcells.specs.declared.head.CellKind.TheVariants as kinds
 use Rattle.bmt_mcells.proofs.CellKinds.{used_not_zeros}
 use Rattle.bmt_mcells.proofs.Unique.{one_stands}
-use Rattle.free_space.specs.Spaces.{IsHeld, volume_of}
+use Rattle.free_space.specs.Spaces.{volume_of}
 use Rattle.free_space.specs.VolumeSpace.{VolumeSpace, is_among, is_waiting}
-use Rattle.attaching_laws.specs.Marks.{HasBitmaps, IsMarked, IsMarkedAt, IsMarkedVolume}
+use Rattle.attaching_laws.specs.Marks.{HasBitmaps, IsMarked, IsMarkedAt}
 use Rattle.attaching_laws.specs.Space.{AreCellsOf, AreFew}
 use Rattle.bitmap_marks.specs.Marks.{bitmap_home, is_marked}
 use Rattle.domain_layout.specs.CellRules.{IsPlace, SaysVolume}
-use Rattle.domain_layout.specs.DirectoryRules.{Has, HasWrongParent, IsWrongFile}
+use Rattle.domain_layout.specs.DirectoryRules.{IsWrongFile}
 use Rattle.domain_layout.specs.Faults.{HasNoFault, HasNoTablesFault}
 use Rattle.domain_layout.specs.Layout.{IsLayout}
 use Rattle.domain_layout.specs.Owners.{IsOwned, frame_of}
 use Rattle.domain_layout.specs.Reached.{Frame, IsWithin, first_cells}
-use Rattle.domain_layout.specs.Seen.{SeenFile}
 use Rattle.domain_layout.proofs.NoTables.{none_of_tables}
 use Rattle.layout_laws.proofs.Named.{no_cell}
 use Rattle.layout_laws.proofs.OwnedOnce.{cell_place, no_files}
@@ -44,7 +40,7 @@ use Rattle.fileset_shapes.proofs.ShapeFacts.{has_first}
 use Rattle.domain_standing.specs.Domain.{DomainNow, layout_of}
 use Rattle.domain_standing.specs.Standing.{HaveParents, IsMarkedBut}
 use Rattle.domain_standing.specs.Tables.{HasVolumeCell, StandTables, first_place}
-use Rattle.attached_list.proofs.OnTables.{HasPlaceOf, Used, used_or_zeros, used_there}
+use Rattle.attached_list.proofs.OnTables.{HasPlaceOf, used_or_zeros, used_there}
 use Rattle.attached_list.proofs.Searched.{Decides}
 
 -- ---- what the first cell of a volume says

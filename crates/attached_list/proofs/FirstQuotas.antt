@@ -6,11 +6,7 @@ use Rattle.domain_base.specs.declared.place.CellAt.{CellAt}
 use Rattle.page_store.specs.Pages.{Pages}
 use Rattle.record_table.specs.Fields.{number_at}
 use Rattle.bmt_mcells.specs.Cell.{IsFileset, kind_number}
-use Rattle.bmt_mcells.specs.Chain.{HasHeadAt}
-use Rattle.bmt_mcells.specs.declared.head.CellHead.{CellHead}
 use Rattle.bmt_mcells.specs.declared.head.CellKind.TheVariants.{Quota}
-use Rattle.cell_links.specs.Links.{HasLink}
-use Rattle.cell_links.specs.declared.links.CellLink.{CellLink}
 use Rattle.cell_links.specs.declared.links.CellLinks.{CellLinks}
 use Rattle.chain_faults.specs.Links.{AreLinks, link_in}
 use Rattle.chain_leads.specs.Heads.{IsLedTo}
@@ -22,10 +18,8 @@ use Rattle.domain_layout.specs.Faults.{HasNoTablesFault, SaysTable}
 use Rattle.domain_layout.specs.Layout.{IsLayout, Layout}
 use Rattle.domain_layout.specs.Owners.{frame_of}
 use Rattle.domain_layout.specs.TagRules.{quota_of}
-use Rattle.layout_laws.proofs.Named.{link_to}
 use Rattle.layout_laws.proofs.OnePage.{one_of, some_same}
 use Rattle.filesets_reading.proofs.Layouts.{few_slots}
-use Rattle.domain_standing.specs.Chains.{IsRemoved}
 use Rattle.attached_list.specs.Attached.{HaveQuotasToGo, IsFirstQuota}
 use Rattle.attached_list.specs.Going.{IsFirstRead, NamesFirst}
 use Rattle.attached_list.proofs.Begun.{nowhere}
