@@ -76,7 +76,15 @@ fn read_slot<M: MetaPages>(
         return Ok(None);
     };
     let book = QuotaBook::new(alloc);
-    let slot = read_slot_files(alloc, pages, &frame.anchor, frame.version, number, first, book)?;
+    let slot = read_slot_files(
+        alloc,
+        pages,
+        &frame.anchor,
+        frame.version,
+        number,
+        first,
+        book,
+    )?;
     Ok(Some(slot))
 }
 
