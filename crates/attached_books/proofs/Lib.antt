@@ -1,0 +1,4 @@
+pub mod Nodes
+pub mod Books
+pub mod Charged
+pub mod LimitsSet
