@@ -2,3 +2,4 @@ pub mod Nodes
 pub mod Books
 pub mod Charged
 pub mod LimitsSet
+pub mod OneOriginal

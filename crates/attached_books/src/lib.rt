@@ -4,5 +4,7 @@
 mod book;
 mod charges;
 mod limits;
+mod slot;
 
 pub use book::read_book;
+pub use slot::read_slot_book;
