@@ -3,3 +3,4 @@ pub mod Books
 pub mod Charged
 pub mod LimitsSet
 pub mod OneOriginal
+pub mod AllBooks

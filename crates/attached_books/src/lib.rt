@@ -3,8 +3,10 @@
 
 mod book;
 mod charges;
+mod laws;
 mod limits;
 mod slot;
 
 pub use book::read_book;
+pub use laws::books_are_of_the_filesets;
 pub use slot::read_slot_book;

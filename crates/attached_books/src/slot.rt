@@ -1,12 +1,9 @@
 //! The book of the original in a slot.
 ghost use Rattle.std.specs.Prelude.{◌≡◌, IfOk, Some, slice_get};
-ghost use Rattle.fileset_model.specs.declared.fileset.FilesetSlot.{FilesetSlot};
 ghost use Rattle.fileset_table.specs.declared.slot.SlotItem.TheVariants as slots;
-ghost use Rattle.quota_book.specs.Sums.{IsBookOf};
-ghost use Rattle.domain_layout.specs.Filled.{Contents, Fills};
-ghost use Rattle.domain_layout.specs.Shape.{FilesetShape, IsOriginal};
 ghost use Rattle.page_ways.specs.Frame.{frame_in};
 ghost use Rattle.fileset_shapes.specs.Shapes.{IsDomain};
+ghost use Rattle.attached_books.specs.Books.{IsBookOfSlot};
 
 use crate::book::read_book;
 use domain_base::{FilesetNo, OutOfMemory};
@@ -31,9 +28,8 @@ pub fn read_slot_book<M: MetaPages>(
     requires domain { IsDomain (M.pages pages.now) (frame_in domain.now) tables.now }
     requires original { slice_get tables.now.filesets.slots number
         ≡ Some (slots.Original entry.now) }
-    ensures book { IfOk result (λ books. (shape : FilesetShape) (contents : Contents)
-        (slot : FilesetSlot) → IsOriginal (M.pages pages.now) number entry.now shape
-        → Fills contents shape slot → IsBookOf books.book slot.tree) }
+    ensures book { IfOk result (λ books. IsBookOfSlot (M.pages pages.now) number entry.now
+        books.book) }
     ensures kept { IfOk result (λ books. books.kept ≡ books.book) }
 {
     let Some(found) = read_slot(alloc, pages, domain, tables, number)? else {
