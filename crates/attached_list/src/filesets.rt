@@ -11,7 +11,8 @@ ghost use Rattle.domain_standing.specs.Standing.{StandsDomain};
 ghost use Rattle.attached_list.specs.Attached.{IsReadFrom};
 
 /// A domain that is read of pages without a fault stands for the filesets that these have, where
-/// all pages of directories are there, no directory is to be cut, and no slot has a clone.
+/// each page of a file or directory on a member is there, no directory is to be cut, and no slot
+/// has a clone.
 pub fn a_read_domain_stands()
     ensures { (d : DomainNow) (shapes : Shapes) (all : FilesetMap) → IsReadFrom d
         → IsWhole d.pages (layout_of d) → AreShapesOf d.pages d.table shapes

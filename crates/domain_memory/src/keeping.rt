@@ -24,9 +24,10 @@ fn put_slot_back(table: &mut FilesetTable, was: &mut Option<ReplacedSlot>)
 }
 
 impl DomainMemory {
-    /// Keeps the change: the domain stands for the filesets then for which it stood with it. The
-    /// bits of its bitmaps say which pages are used, and what the change left to be let go of is on
-    /// the list. It takes no memory, and the time of what the change has changed.
+    /// Keeps the change: the domain stands for the filesets then for which it stood with it, if
+    /// directories say their parents with it and books are theirs. The bits of its bitmaps say
+    /// which pages are used, and what the change left to be let go of is on the list. It takes no
+    /// memory, and the time of what the change has changed.
     pub fn keep(&mut self)
         requires { ∥ IsStagedForSome self.old ∥₁ }
         ensures stands { (all : FilesetMap) → MayBeKept self.old all → StandsFor self.new all }

@@ -10,8 +10,8 @@ ghost use Rattle.domain_standing.specs.Domain.{DomainNow};
 ghost use Rattle.standing_laws.specs.IndexCalls.{KeepsTables};
 ghost use Rattle.set_standing.specs.Around.{BytesFollow, GoesOnAround, StandsAround};
 
-/// Where a file or directory is taken away, and its index with it, once it is put on the list: it
-/// is read by no clone, as no original is.
+/// Where a file or directory is taken away, and its index with it, once it is put on the list: no
+/// clone's file is given, as no file of the domain is read through another.
 pub fn all_stands_around_a_file_that_is_taken_away()
     ensures { (number : ℕ) (tag : Tag) (start : CellAt) (group : ℕ) (d now : DomainNow)
         → (around : StandsAround number d) → KeepsTables d now → BytesFollow d now
