@@ -1,12 +1,13 @@
 //! Domains that are made, and whose history is begun.
-ghost use Rattle.std.specs.Prelude.{◌≡◌};
+ghost use Rattle.std.specs.Prelude.{◌≡◌, ◌≤◌};
 ghost use Rattle.page_ways.specs.Frame.{frame_in};
 ghost use Rattle.staged_pages.specs.Store.{before_of};
+ghost use Rattle.state_tests.specs.Sync.{sync_entry};
 
 use domain_base::{OutOfMemory, Version};
 use domain_making::MakeFault;
 use domain_state::{Attached, Domain, Opening, make};
-use fileset_model::Told;
+use fileset_model::{Actor, Command, Entry, Reply, Told};
 use log_recovery::recover;
 use memory_disk::MemoryRack;
 use std::alloc::Global;
@@ -23,13 +24,26 @@ struct Seen<R: Rack> {
     rack: R,
 }
 
-/// Begins the history of a domain, makes room for some entries, discards a change of nothing, and
-/// gives the domain's rack back.
+/// A sync, and what a client is answered.
+fn synced() -> Entry
+    ensures { result ≡ sync_entry }
+{
+    Entry {
+        actor: Actor::Client(1),
+        command: Command::Sync,
+        reply: Reply::Done,
+        stamp: 0,
+    }
+}
+
+/// Begins the history of a domain, makes room for some entries, discards a change of nothing,
+/// answers a sync, and gives the domain's rack back.
 fn opened<R: Rack + Drop, O: Opening>(
     alloc: Global,
     attached: Attached<R>,
     more: usize,
 ) -> Result<Seen<R>, OutOfMemory>
+    requires some { 1 ≤ more }
     requires pages { O.pages ≡ before_of attached.memory.pages }
     requires frame { O.frame ≡ frame_in attached.memory.frame }
     requires sizes { O.sizes ≡ (R.disk attached.rack).sizes }
@@ -37,6 +51,7 @@ fn opened<R: Rack + Drop, O: Opening>(
     let mut domain: Domain<R, O> = Domain::begin(alloc, attached);
     domain.reserve_history(more)?;
     domain.discard();
+    domain.commit(synced());
     Ok(Seen {
         entries: domain.entries().len(),
         committed: domain.committed(),
@@ -101,15 +116,15 @@ fn made_and_opened(alloc: Global, pages: u32, version: Version) -> Result<Outcom
 }
 
 #[test]
-fn a_domain_that_is_made_has_no_entry(rt: HostRuntime) -> Result<(), Fail> {
+fn a_domain_that_is_made_answers_a_sync(rt: HostRuntime) -> Result<(), Fail> {
     let alloc = rt.alloc();
     let seen = [
         made_and_opened(alloc, 160, Version::Three)?,
         made_and_opened(alloc, 512, Version::Four)?,
     ];
     let empty = |table| Outcome::Opened {
-        entries: 0,
-        committed: 0,
+        entries: 1,
+        committed: 1,
         durable: 0,
         table,
     };

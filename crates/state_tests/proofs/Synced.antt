@@ -1,0 +1,81 @@
+-- A sync may be the first entry of a history, and changes nothing.
+use Rattle.std.proofs.Common.{◌≡◌, ◌∙◌, ◌≤◌, ◌&&◌, ℕ, Bool, false, List, [], Option, None, Contains, All, map, Ordering, Equal, Greater, Less, refl, sym, ap, subst, arith}
+use Rattle.std.specs.FinMap.{contains_key, get}
+use Rattle.std.specs.Option.{option_map_or}
+use Rattle.std.specs.Ordering.{nat_cmp, ordering_then}
+use Rattle.std.specs.FinSet.{contains-empty, contains-retain, empty, nat_cmp-IsAntisymmetric, same_set}
+use Rattle.page_store.specs.Pages.{Pages}
+use Rattle.fileset_model.specs.Filesets.{FilesetMap}
+use Rattle.fileset_model.specs.Orders.{name_cmp, name_cmp-IsAntisymmetric}
+use Rattle.fileset_model.specs.declared.command.Command.{Command}
+use Rattle.fileset_model.specs.declared.entry.Entry.{Entry}
+use Rattle.fileset_model.specs.declared.reply.Refusal.TheVariants.{Panicked}
+use Rattle.fileset_model.specs.declared.reply.Reply.TheVariants.{Refused}
+use Rattle.history_model.specs.Legal.{MayFollow}
+use Rattle.history_model.specs.Point.{Point}
+use Rattle.history_model.specs.State.{Apply, LooksLikeState, Numbered, State, numbered_cmp, numbered_cmp-total, still_striped}
+use Rattle.history_laws.specs.GoingOn.{ComesTo, LeadsOn}
+use Rattle.history_laws.proofs.GoesOn.{command_steps}
+use Rattle.history_laws.proofs.PlainLemmas.{there_itself}
+use Rattle.domain_layout.specs.Reached.{Frame}
+use Rattle.domain_memory.specs.Memory.{StandsFor}
+use Rattle.domain_memory.specs.Staged.{IsSettled}
+use Rattle.domain_memory.specs.declared.memory.DomainMemory.{DomainMemory}
+use Rattle.domain_memory.proofs.SettledKept.{settled_kept}
+use Rattle.domain_state.specs.History.{MayCommit}
+use Rattle.state_tests.specs.Sync.{sync_entry}
+
+-- ---- no file is striped where none was
+
+second : (a b : Ordering) → ordering_then a b ≡ Equal → (a ≡ Equal) × (b ≡ Equal)
+second Less b e = absurd (cc)
+second Equal b e = (refl, e)
+second Greater b e = absurd (cc)
+
+numbers_are : (x y : Numbered) → numbered_cmp x y ≡ Equal → x ≡ y
+numbers_are x y e =
+    let both = second (name_cmp x.0 y.0) (nat_cmp x.1 y.1) e in
+    λ i. (name_cmp-IsAntisymmetric x.0 y.0 both.0 i, nat_cmp-IsAntisymmetric x.1 y.1 both.1 i)
+
+none_striped : (all : FilesetMap) → still_striped all empty ≡ empty
+none_striped all = same_set numbered_cmp-total numbers_are (still_striped all empty) empty (λ q.
+    contains-retain empty (striped_in all) q (λ x tie. ap (striped_in all) (sym (numbers_are q x tie)))
+    ∙ ap (λ b. b && striped_in all q) (contains-empty numbered_cmp q) ∙ sym (contains-empty numbered_cmp q))
+  where
+    striped_in : FilesetMap → Numbered → Bool
+    striped_in all = λ n. option_map_or (λ slot. contains_key slot.tree.nodes n.1) (get all n.0) false
+
+-- ---- the step
+
+follows : (start : State) (point : Point) → ComesTo start [] None point → MayFollow point sync_entry
+follows start point comes = record {
+  stamp = subst (λ h. All (λ before. before.stamp ≤ 0) h) (sym comes.answered) (λ k d low. absurd (omega (arith, low)));
+  panicked = λ volume there. absurd (nothing (subst (λ h. Contains (map (λ (before : Entry). before.reply) h) (Refused (Panicked volume))) comes.answered there));
+  actor = refl;
+}
+  where
+    nothing : {X : Type 0} {x : X} → Contains [] x → ⊥
+    nothing there = omega (arith, there.1)
+
+looks_itself : (s : State) → LooksLikeState s s
+looks_itself s = record { filesets = λ name. there_itself (get s.filesets name); rest = refl }
+
+leads : (start now : State) (point : Point) → ComesTo start [] None point → now.striped ≡ empty → point.state ≡ now → LeadsOn point sync_entry now
+leads start now point comes none same = record {
+  end = now;
+  follows = follows start point comes;
+  step = command_steps point sync_entry now (subst (λ (s : State). Apply s sync_entry.command sync_entry.reply now) (sym same)
+      ((refl, refl), λ i. record now { striped = (none ∙ sym (none_striped now.filesets) ∙ ap (still_striped now.filesets) (sym none)) i }));
+  looks = looks_itself now;
+}
+
+pub may_sync : (pages : Pages) (frame : Frame) (sizes : List ℕ) (memory : DomainMemory) (history : List Entry) (job : Option Command) (e : Entry) → history ≡ [] → job ≡ None → e ≡ sync_entry → IsSettled memory
+    → (all : FilesetMap) → StandsFor memory all → MayCommit pages frame sizes memory history job e all
+may_sync pages frame sizes memory history job e none no_job is_sync settled all stands =
+    subst (λ h. MayCommit pages frame sizes memory h job e all) (sym none)
+    (subst (λ j. MayCommit pages frame sizes memory [] j e all) (sym no_job)
+    (subst (λ x. MayCommit pages frame sizes memory [] None x all) (sym is_sync) (record {
+      now = all;
+      kept = settled_kept memory all settled stands;
+      step = λ start is point comes same. leads start (record start { filesets = all }) point comes is.striped same;
+    })))

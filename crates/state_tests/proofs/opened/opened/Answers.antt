@@ -1,0 +1,10 @@
+use Rattle.std.proofs.Common.{◌∙◌}
+use Rattle.state_tests.proofs.Synced.{may_sync}
+use Rattle.state_tests.proofs.opened.opened.Goals as goal
+
+pub commit-requires-clause-step : goal.commit-requires-clause-step
+commit-requires-clause-step g c =
+    may_sync _ _ _ c.discard.new.self.memory _ _ _
+    (c.discard.ensures.history ∙ c.reserve_history.ensures.history ∙ c.begin-domain.ensures.history)
+    (c.discard.ensures.begun ∙ c.reserve_history.ensures.begun ∙ c.begin-domain.ensures.begun)
+    c.synced.ensures c.discard.ensures.settled
