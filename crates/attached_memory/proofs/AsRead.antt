@@ -50,6 +50,8 @@ module _ (m : DomainMemory) (links : CellLinks) (pages : pages_of m.pages ≡ be
       tags = read.tags;
       none = read.none;
       settled = read.settled;
+      count = read.count;
+      numbered = read.numbered;
       list = subst (λ (p : Pages). ListsToDo p layout m.list.list) pages (listed layout read.laid read.no_fault read.linked);
       was = was;
       listed = none_listed;

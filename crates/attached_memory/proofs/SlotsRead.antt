@@ -10,7 +10,7 @@ use Rattle.fileset_table.specs.Table.{IsTable, Table}
 use Rattle.domain_layout.specs.Layout.{AreTagPlaces, IsLayout, Layout, first_tag_of}
 use Rattle.domain_parts.specs.Slots.{places_in, slot_in}
 use Rattle.domain_parts.specs.declared.slots.SlotFiles.{SlotFiles}
-use Rattle.attached_memory.specs.Read.{IsSettledSlot}
+use Rattle.attached_memory.specs.Read.{HasNumber, IsSettledSlot}
 use Rattle.attached_memory.specs.Slots.{AreReadSlots, IsReadOf}
 
 same_places : (pages : Pages) (first : Option Home) (a b : List TagPlace) → AreTagPlaces pages first a → AreTagPlaces pages first b → a ≡ b
@@ -25,6 +25,15 @@ module _ (pages : Pages) (slots : List (Option SlotFiles)) (number : ℕ) where
       let there : slice_get slots number ≡ Some slot = some.2 in
       subst (λ (o : Option SlotFiles). IfSome o IsSettledSlot) (sym (ap (option_and_then (λ (s : Option SlotFiles). s)) there)) (are.each number slot there).is.settled)
       (λ none. subst (λ (o : Option SlotFiles). IfSome o IsSettledSlot) (sym (ap (option_and_then (λ (s : Option SlotFiles). s)) none.1)) _)
+      (slice_get_cases slots number).1
+
+  pub numbered : (table : Table) → AreReadSlots pages table slots → IfSome (slot_in slots number) (HasNumber number)
+  numbered table are =
+      ⊎_elim (λ some.
+      let slot = some.0 in
+      let there : slice_get slots number ≡ Some slot = some.2 in
+      subst (λ (o : Option SlotFiles). IfSome o (HasNumber number)) (sym (ap (option_and_then (λ (s : Option SlotFiles). s)) there)) (are.each number slot there).numbered)
+      (λ none. subst (λ (o : Option SlotFiles). IfSome o (HasNumber number)) (sym (ap (option_and_then (λ (s : Option SlotFiles). s)) none.1)) _)
       (slice_get_cases slots number).1
 
   pub their_pages : (layout : Layout) → IsLayout pages layout → IsTable layout.table → AreReadSlots pages layout.table slots

@@ -44,6 +44,10 @@ pub record IsSettledSlot (slot : SlotFiles) : Type 0 where
   pub pages : slot.tag_pages ≡ length slot.files.tags
   pub book : slot.book.kept ≡ slot.book.book
 
+-- the files of what is in a slot are those of the fileset with this number
+abbrev pub HasNumber : ℕ → SlotFiles → Type 0
+HasNumber number slot = slot.files.fileset ≡ number
+
 -- memory has what the pages say in this layout, and no change is laid over it
 pub record IsReadMemory (memory : DomainMemory) (layout : Layout) : Type 0 where
   pub frame : frame_of layout ≡ frame_in memory.frame
@@ -57,6 +61,8 @@ pub record IsReadMemory (memory : DomainMemory) (layout : Layout) : Type 0 where
   pub tags : (number : ℕ) → places_in (slot_in memory.slots.items number) ≡ layout.tags number
   pub none : (number : ℕ) → slice_get layout.table.slots number ≡ None → layout.tags number ≡ []
   pub settled : (number : ℕ) → IfSome (slot_in memory.slots.items number) IsSettledSlot
+  pub count : length memory.slots.items ≡ 32
+  pub numbered : (number : ℕ) → IfSome (slot_in memory.slots.items number) (HasNumber number)
   pub list : ListsToDo (before_of memory.pages) layout memory.list.list
   pub was : memory.was ≡ None
   pub listed : memory.listed.items ≡ []
@@ -73,3 +79,5 @@ pub record IsReadAs (pages : Pages) (frame : Frame) (table : Table) (links : Cel
   pub tags : (number : ℕ) → places_in (slot_in slots number) ≡ layout.tags number
   pub none : (number : ℕ) → slice_get layout.table.slots number ≡ None → layout.tags number ≡ []
   pub settled : (number : ℕ) → IfSome (slot_in slots number) IsSettledSlot
+  pub count : length slots ≡ 32
+  pub numbered : (number : ℕ) → IfSome (slot_in slots number) (HasNumber number)

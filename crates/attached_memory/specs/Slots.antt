@@ -7,7 +7,7 @@ use Rattle.quota_book.specs.Book.{empty_book}
 use Rattle.domain_layout.specs.Layout.{AreTagPlaces, first_tag_of}
 use Rattle.domain_parts.specs.Slots.{book_in, places_in}
 use Rattle.domain_parts.specs.declared.slots.SlotFiles.{SlotFiles}
-use Rattle.attached_memory.specs.Read.{IsSettledSlot}
+use Rattle.attached_memory.specs.Read.{HasNumber, IsSettledSlot}
 
 -- it has the tag directory that what is in the slot says, and an empty book
 pub record IsReadSlot (pages : Pages) (item : SlotItem) (slot : Option SlotFiles) : Type 0 where
@@ -15,12 +15,13 @@ pub record IsReadSlot (pages : Pages) (item : SlotItem) (slot : Option SlotFiles
   pub settled : IfSome slot IsSettledSlot
   pub book : book_in slot ≡ empty_book
 
--- the same of a slot of a table
+-- the same of a slot of a table, with its number
 pub record IsReadOf (pages : Pages) (table : Table) (number : ℕ) (slot : Option SlotFiles) : Type 0
   where
     pub item : SlotItem
     pub there : slice_get table.slots number ≡ Some item
     pub is : IsReadSlot pages item slot
+    pub numbered : IfSome slot (HasNumber number)
 
 -- a list has what was read of each slot of a table
 pub record AreReadSlots (pages : Pages) (table : Table) (slots : List (Option SlotFiles)) : Type 0

@@ -14,7 +14,7 @@ ghost use Rattle.domain_memory.specs.Staged.{IsSettled, MayGoBack};
 ghost use Rattle.domain_memory.specs.declared.memory.DomainMemory.{DomainMemory};
 ghost use Rattle.domain_parts.specs.Slots.{places_in, slot_in};
 ghost use Rattle.domain_parts.specs.declared.slots.SlotFiles.{SlotFiles};
-ghost use Rattle.attached_memory.specs.Read.{IsReadMemory, IsSettledSlot, MayBeAttached};
+ghost use Rattle.attached_memory.specs.Read.{HasNumber, IsReadMemory, IsSettledSlot, MayBeAttached};
 ghost use Rattle.attached_memory.specs.Slots.{AreReadSlots};
 
 /// Memory that has what pages without a fault say, with the books of their filesets, stands for
@@ -32,7 +32,7 @@ pub fn read_memory_stands_for()
 {}
 
 /// What is read of the slots of a table has the pages of tag directories that a layout with this
-/// table has, and nothing in it waits to be kept.
+/// table has, and the slots' numbers, and nothing in it waits to be kept.
 pub fn read_slots_have_their_pages()
     ensures pages { (pages : Pages) (layout : Layout) (slots : List (Option SlotFiles))
         → IsLayout pages layout → IsTable layout.table → AreReadSlots pages layout.table slots
@@ -41,4 +41,7 @@ pub fn read_slots_have_their_pages()
     ensures settled { (pages : Pages) (table : Table) (slots : List (Option SlotFiles))
         → AreReadSlots pages table slots
         → (number : ℕ) → IfSome (slot_in slots number) IsSettledSlot }
+    ensures numbered { (pages : Pages) (table : Table) (slots : List (Option SlotFiles))
+        → AreReadSlots pages table slots
+        → (number : ℕ) → IfSome (slot_in slots number) (HasNumber number) }
 {}

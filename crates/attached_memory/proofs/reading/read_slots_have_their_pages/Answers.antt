@@ -1,4 +1,4 @@
-use Rattle.attached_memory.proofs.SlotsRead.{settled, their_pages}
+use Rattle.attached_memory.proofs.SlotsRead.{numbered, settled, their_pages}
 use Rattle.attached_memory.proofs.reading.read_slots_have_their_pages.Goals as goal
 
 pub returns-clause-pages : goal.returns-clause-pages
@@ -6,3 +6,6 @@ returns-clause-pages c pages layout slots laid good are none number = their_page
 
 pub returns-clause-settled : goal.returns-clause-settled
 returns-clause-settled c pages table slots are number = settled pages slots number table are
+
+pub returns-clause-numbered : goal.returns-clause-numbered
+returns-clause-numbered c pages table slots are number = numbered pages slots number table are
