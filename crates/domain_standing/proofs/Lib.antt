@@ -2,3 +2,4 @@ pub mod OneMeaning
 pub mod NewTables
 pub mod NewHolders
 pub mod NewDomain
+pub mod SourcesStay

@@ -35,6 +35,7 @@ use Rattle.domain_standing.specs.Chains.{IsQuotaOf, StandChains, StandsInSlot, n
 use Rattle.domain_standing.specs.Domain.{DomainNow, item_in, layout_of, named_by}
 use Rattle.domain_standing.specs.Rest.{IsOfOriginal, SaysTheRest}
 use Rattle.domain_standing.specs.Slots.{StandSlots}
+use Rattle.domain_standing.specs.Sources.{StandAlone}
 use Rattle.domain_standing.specs.Standing.{StandsDomain}
 use Rattle.domain_standing.specs.Tables.{HasVolumeCell, StandTables}
 use Rattle.domain_standing.proofs.NewHolders.{holds_owned}
@@ -150,6 +151,12 @@ module _ (d : DomainNow) (new : IsNew d.pages d.frame) (laid : IsLayout d.pages 
     where
       no_original : {at : CellAt} → ¬ IsOfOriginal d at
       no_original is = let e : false ≡ true = sym (item_free (λ o. of_original o ≡ false) refl refl is.number) ∙ is.original in absurd (cc)
+
+  -- no cell is the first of a file
+  pub new_alone : StandAlone d
+  new_alone at has =
+      let e : Volume ≡ Primary = sym (ap (λ (c : Cell). c.head.kind) (first.alone at has.cell has.on) ∙ first.says.kind) ∙ has.kind in
+      absurd (cc)
 
   slots : StandSlots d empty
   slots = record {

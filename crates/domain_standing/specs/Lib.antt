@@ -4,4 +4,5 @@ pub mod Chains
 pub mod Holders
 pub mod Slots
 pub mod Rest
+pub mod Sources
 pub mod Standing

@@ -9,6 +9,7 @@ pub mod ChainsNamed
 pub mod ChainsStand
 pub mod EntryListed
 pub mod FilesetBegins
+pub mod FilesetBounded
 pub mod FilesetGoes
 pub mod FilesetPut
 pub mod FilesetsStand
@@ -44,6 +45,7 @@ pub mod RootParents
 pub mod SlotStays
 pub mod SlotsKept
 pub mod SlotsStand
+pub mod SourcesSaid
 pub mod TablesStand
 pub mod TablesTaken
 pub mod QuotaSlots
@@ -55,5 +57,6 @@ pub mod QuotaRest
 pub mod QuotaSets
 pub mod QuotaLimits
 pub mod QuotaFilesets
+pub mod QuotaAlone
 pub mod QuotaBeside
 pub mod QuotaDomain

@@ -42,7 +42,7 @@ use Rattle.standing_laws.proofs.OtherSlots.{seen_place}
 
 module _ (d : DomainNow) (files : Files) (indexes : IndexesAt) (below : StandsBelow d files indexes) (pages : Pages) (contents : Contents)
     (keeps_where : (holder : Holder) (home : Home) → SaysWhere holder → Holds d files indexes holder home → pages home ≡ d.pages home) (keeps_files : (at : CellAt) (page : ℕ) (home : Home) → Holds d files indexes (of_file at page) home → pages home ≡ d.pages home)
-    (table_now : Table) (item_was : (n : ℕ) (item : SlotItem) (tag : Tag) (cells : List PlacedCell) (seen : SeenFile) → slice_get table_now.slots n ≡ Some item → IsInItem pages table_now item tag cells seen → item_in d n ≡ Some item) (no_clone : (number : ℕ) → of_clone (item_in d number) ≡ false)
+    (table_now : Table) (item_was : (n : ℕ) (item : SlotItem) (tag : Tag) (cells : List PlacedCell) (seen : SeenFile) → slice_get table_now.slots n ≡ Some item → IsInItem pages table_now item tag cells seen → (was : SlotItem) × (item_in d n ≡ Some was) × IsInItem pages table_now was tag cells seen) (no_clone : (number : ℕ) → of_clone (item_in d number) ≡ false)
   where
     -- what is at a tag was there, with pages that are as they were
     pub record WasThere (number : ℕ) (tag : Tag) (cells : List PlacedCell) (seen : SeenFile) : Type 0 where
@@ -111,7 +111,7 @@ module _ (d : DomainNow) (files : Files) (indexes : IndexesAt) (below : StandsBe
       was_original = in_place (cell_of pages (d.tags n) tag) refl leads
 
     was_there : (number : ℕ) (tag : Tag) (cells : List PlacedCell) (seen : SeenFile) → Has pages table_now number tag cells seen → WasThere number tag cells seen
-    was_there number tag cells seen h = by_item h.item (item_was number h.item tag cells seen h.there h.is) h.is
+    was_there number tag cells seen h = let w = item_was number h.item tag cells seen h.there h.is in by_item w.0 w.1 w.2
       where
         by_item : (item : SlotItem) → item_in d number ≡ Some item → IsInItem pages table_now item tag cells seen → WasThere number tag cells seen
         by_item slot.Free there is = absurd is
@@ -134,8 +134,8 @@ module _ (d : DomainNow) (files : Files) (indexes : IndexesAt) (below : StandsBe
           there = is.there;
         }
 
-    pub parents_on : HaveParents d → HaveParents (record d { table = table_now; pages = pages; contents = contents })
-    parents_on parents number tag cells seen h directory wrong =
+    pub parents_on_as : HaveParents d → HaveParents (record d { table = table_now; pages = pages; contents = contents })
+    parents_on_as parents number tag cells seen h directory wrong =
         parents number tag cells seen (was_there number tag cells seen h).has directory
         (record {
           parent = wrong.parent;
@@ -145,6 +145,14 @@ module _ (d : DomainNow) (files : Files) (indexes : IndexesAt) (below : StandsBe
               wrong.is;
           wrong = wrong.wrong;
         })
+
+-- and so it is where what is in slots was there
+pub parents_on : (d : DomainNow) (files : Files) (indexes : IndexesAt) → StandsBelow d files indexes → (pages : Pages) (contents : Contents) → ((holder : Holder) (home : Home) → SaysWhere holder → Holds d files indexes holder home → pages home ≡ d.pages home)
+    → ((at : CellAt) (page : ℕ) (home : Home) → Holds d files indexes (of_file at page) home → pages home ≡ d.pages home) → (table_now : Table)
+    → ((n : ℕ) (item : SlotItem) (tag : Tag) (cells : List PlacedCell) (seen : SeenFile) → slice_get table_now.slots n ≡ Some item → IsInItem pages table_now item tag cells seen → item_in d n ≡ Some item) → ((number : ℕ) → of_clone (item_in d number) ≡ false)
+    → HaveParents d → HaveParents (record d { table = table_now; pages = pages; contents = contents })
+parents_on d files indexes below pages contents keeps_where keeps_files table_now item_was no_clone =
+    parents_on_as d files indexes below pages contents keeps_where keeps_files table_now (λ n item tag cells seen there is. (item, item_was n item tag cells seen there is, is)) no_clone
 
 pub parents_kept : (d now : DomainNow) (files : Files) (indexes : IndexesAt) (all : FilesetMap) → StandsBelow d files indexes → StandSlots d all → KeepsPlaces d now → KeepsPages d now files indexes → HaveParents d → HaveParents now
 parents_kept d now files indexes all below slots same keeps parents = subst HaveParents (sym same)

@@ -52,7 +52,7 @@ limits_with cells who other limits = by_touched (touched cells who) refl
 
 -- ---- the limits of a fileset
 
-limits_then : (tree : Fileset) (who q : Owner) (limits : Limits) → limits_of (record tree { limits = with_limits tree.limits who limits }) q ≡ cond (same_owner q who) limits (limits_of tree q)
+pub limits_then : (tree : Fileset) (who q : Owner) (limits : Limits) → limits_of (record tree { limits = with_limits tree.limits who limits }) q ≡ cond (same_owner q who) limits (limits_of tree q)
 limits_then tree who q limits = by_test (is_unlimited limits) refl
   where
     after_removal : (b : Bool) → is_unlimited limits ≡ true → unwrap_or (cond b None (map.get tree.limits q)) no_limits ≡ cond b limits (limits_of tree q)
@@ -68,7 +68,7 @@ limits_then tree who q limits = by_test (is_unlimited limits) refl
     by_test false some = ap (λ o. unwrap_or o no_limits) (map.get-insert owner_cmp-total tree.limits who limits q) ∙ after_insert (same_owner q who)
 
 -- other limits leave the names
-names_still : (shown : Bitfiles) (fileset : FilesetSlot) (who : Owner) (limits : Limits) → Names shown fileset → Names shown (fileset_limited who limits fileset)
+pub names_still : (shown : Bitfiles) (fileset : FilesetSlot) (who : Owner) (limits : Limits) → Names shown fileset → Names shown (fileset_limited who limits fileset)
 names_still shown fileset who limits names = record {
   paths = names.paths;
   shown = λ path tag of shows led. let is = names.shown path tag of shows led in record { kind = is.kind; out = is.out; node = is.node };
@@ -77,12 +77,12 @@ names_still shown fileset who limits names = record {
   seq = names.seq;
 }
 
-valid_still : (fileset : FilesetSlot) (who : Owner) (limits : Limits) → fileset.role ≡ role.Original → IsValidSlot fileset → IsValidSlot (fileset_limited who limits fileset)
+pub valid_still : (fileset : FilesetSlot) (who : Owner) (limits : Limits) → fileset.role ≡ role.Original → IsValidSlot fileset → IsValidSlot (fileset_limited who limits fileset)
 valid_still fileset who limits original valid =
     subst (λ (r : Role). IsValidAs r (fileset_limited who limits fileset)) (sym original)
     (with_limits-valid fileset.tree who limits (subst (λ (r : Role). IsValidAs r fileset) original valid))
 
-is_original : (name : Option Name) (r : Role) → IsRole name r → name ≡ None → r ≡ role.Original
+pub is_original : (name : Option Name) (r : Role) → IsRole name r → name ≡ None → r ≡ role.Original
 is_original None r is none = is
 is_original (Some name) r is none = let e : Some name ≡ None = none in absurd (cc)
 

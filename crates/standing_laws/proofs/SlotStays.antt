@@ -13,6 +13,7 @@ use Rattle.tag_dirs.specs.declared.dir.TagPlace.{TagPlace}
 use Rattle.tag_dirs.proofs.Reading.{same_directory}
 use Rattle.extent_maps.specs.declared.run.PagePlace.TheVariants.{Absent, At}
 use Rattle.free_cells.specs.Cells.{table_of}
+use Rattle.free_space.specs.Spaces.{IsHeld}
 use Rattle.bitfile_cells.specs.FileChanges.{AreOnTables}
 use Rattle.bitfile_cells.specs.Files.{IsFile, places_of}
 use Rattle.bitfile_core.specs.Files.{AreFiles, Chains, LeadsToFile, place_at}
@@ -42,13 +43,13 @@ use Rattle.domain_layout.specs.TagRules.{quota_of}
 use Rattle.layout_laws.specs.Agreeing.{AgreeOnShape}
 use Rattle.layout_laws.proofs.FilledAlike.{fills}
 use Rattle.layout_laws.proofs.Reached.{member_or_none}
-use Rattle.domain_standing.specs.Chains.{AreQuotasOf, HasFilesAmong, IndexesAt, IsRemoved, StandsInSlot}
-use Rattle.domain_standing.specs.Domain.{DomainNow, all_of, item_in}
+use Rattle.domain_standing.specs.Chains.{AreQuotasOf, HasFilesAmong, IndexesAt, IsQuotaOf, IsRemoved, StandsInSlot}
+use Rattle.domain_standing.specs.Domain.{DomainNow, all_of, item_in, named_by}
 use Rattle.domain_standing.specs.Holders.{Holder, Holds}
 use Rattle.domain_standing.specs.Holders.Holder.{of_cells, of_file, of_index, of_tags}
 use Rattle.standing_laws.specs.Leads.{StandsBelow}
 use Rattle.standing_laws.specs.Slots.{StandsSlot}
-use Rattle.standing_laws.specs.SlotsStay.{IsPageOfSlot, IsTaggedBy, KeepsSlot}
+use Rattle.standing_laws.specs.SlotsStay.{IsFilePageOf, IsPageOfSlot, IsTaggedBy, KeepsSlot}
 use Rattle.standing_laws.proofs.ChainsNamed.{leads_there}
 use Rattle.standing_laws.proofs.HomeLists.{in_get}
 use Rattle.standing_laws.proofs.IndexWas.{begins_low}
@@ -62,7 +63,18 @@ pub file_index_low : (pages : Pages) (at : CellAt) (cs : List PlacedCell) (homes
 file_index_low pages at [] homes file are home inside = absurd file
 file_index_low pages at (first ∷ rest) homes file are home inside = low_from pages (index_of (first ∷ rest)) homes are (begins_low pages first rest file.1) home inside
 
-module _ (n : ℕ) (d now : DomainNow) (files files_now : Files) (indexes indexes_now : IndexesAt) (below : StandsBelow d files indexes) (after : StandsBelow now files_now indexes_now) (k : KeepsSlot n d now files files_now indexes indexes_now)
+-- all of the slot is as it was but what the table says of it: of that its quota cells
+pub record KeepsFiles (n : ℕ) (d now : DomainNow) (files files_now : Files) (indexes indexes_now : IndexesAt) : Type 0 where
+  pub quota : named_by quota_of now n ≡ named_by quota_of d n
+  pub tags : now.tags n ≡ d.tags n
+  pub chains : (at : CellAt) → IsTaggedBy n d at → files_now at ≡ files at
+  pub quotas : (at : CellAt) → IsQuotaOf d n at → files_now at ≡ files at
+  pub homes : (at : CellAt) → IsTaggedBy n d at → indexes_now at ≡ indexes at
+  pub pages : (home : Home) → IsPageOfSlot n d files indexes home → now.pages home ≡ d.pages home
+  pub held : (home : Home) → IsPageOfSlot n d files indexes home → 1 ≤ home.vol → IsHeld d.space home.vol home.page → IsHeld now.space home.vol home.page
+  pub bytes : (home : Home) → IsFilePageOf n d files home → now.contents home ≡ d.contents home
+
+module _ (n : ℕ) (d now : DomainNow) (files files_now : Files) (indexes indexes_now : IndexesAt) (below : StandsBelow d files indexes) (after : StandsBelow now files_now indexes_now) (k : KeepsFiles n d now files files_now indexes indexes_now)
     (entry : FilesetEntry) (shape : FilesetShape) (fileset : FilesetSlot) (there : item_in d n ≡ Some (slot.Original entry)) (stood : StandsSlot d n entry shape fileset)
   where
     abbrev its : Chains
@@ -231,7 +243,7 @@ module _ (n : ℕ) (d now : DomainNow) (files files_now : Files) (indexes indexe
 
     quotas_still : (o : Option CellAt) → entry.quota ≡ o → (records : List Record) → AreQuotas d.pages o records → AreQuotas now.pages o records
     quotas_still None none records are = are
-    quotas_still (Some at) quota records are = by_chain (files at) refl (below.chains.quotas n at named_it) (after.chains.quotas n at (ap (option_and_then quota_of) k.item ∙ named_it))
+    quotas_still (Some at) quota records are = by_chain (files at) refl (below.chains.quotas n at named_it) (after.chains.quotas n at (k.quota ∙ named_it))
       where
         named_it : option_and_then quota_of (item_in d n) ≡ Some at
         named_it = ap (option_and_then quota_of) there ∙ quota
@@ -267,10 +279,26 @@ module _ (n : ℕ) (d now : DomainNow) (files files_now : Files) (indexes indexe
             let m = begun t cs some in
             sym (k.bytes home (m.at, page, tagged t cs some, ap (λ o. option_map_or (λ cs. places_of cs page) o Absent) m.is ∙ seen_place cs seen page home stands seen_is))
 
-    pub slot_stays_so : StandsSlot now n entry shape fileset
-    slot_stays_so = record {
+    pub slot_stays_as : StandsSlot now n entry shape fileset
+    slot_stays_as = record {
       is = shape_now;
       filled = fills d.contents now.contents shape fileset agree stood.filled;
       set = subst (λ (ps : List TagPlace). StandsAsSet n ps now.space now.cells now.pages shape.shown) (sym k.tags)
           (record { chains = its; indexes = stood.set.indexes; stands = shown_now; whole = stood.set.whole; bare = stood.set.bare; low = stood.set.low });
     }
+
+-- and so it is where the table says the same of it
+pub slot_stays_so : (n : ℕ) (d now : DomainNow) (files files_now : Files) (indexes indexes_now : IndexesAt) → StandsBelow d files indexes → StandsBelow now files_now indexes_now → KeepsSlot n d now files files_now indexes indexes_now
+    → (entry : FilesetEntry) (shape : FilesetShape) (fileset : FilesetSlot) → item_in d n ≡ Some (slot.Original entry) → StandsSlot d n entry shape fileset → StandsSlot now n entry shape fileset
+slot_stays_so n d now files files_now indexes indexes_now below after k =
+    slot_stays_as n d now files files_now indexes indexes_now below after
+    (record {
+      quota = ap (option_and_then quota_of) k.item;
+      tags = k.tags;
+      chains = k.chains;
+      quotas = k.quotas;
+      homes = k.homes;
+      pages = k.pages;
+      held = k.held;
+      bytes = k.bytes;
+    })

@@ -60,7 +60,7 @@ absent_not home is = cc
 
 module _ (d : DomainNow) (files : Files) (indexes : IndexesAt) (below : StandsBelow d files indexes) (pages : Pages) (contents : Contents)
     (keeps : (holder : Holder) (home : Home) → IsOfFilesets holder → Holds d files indexes holder home → pages home ≡ d.pages home)
-    (bytes : (holder : Holder) (home : Home) → IsOfFilesets holder → Holds d files indexes holder home → contents home ≡ d.contents home) where
+    (bytes : (at : CellAt) (page : ℕ) (home : Home) → Holds d files indexes (of_file at page) home → contents home ≡ d.contents home) where
   abbrev keeps_where : (holder : Holder) (home : Home) → SaysWhere holder → Holds d files indexes holder home → pages home ≡ d.pages home
   keeps_where = λ holder home says held. keeps holder home (says_more holder says) held
 
@@ -202,7 +202,7 @@ module _ (d : DomainNow) (files : Files) (indexes : IndexesAt) (below : StandsBe
         by_chain None none seen_is = absurd (none_not seen seen_is)
         by_chain (Some cs) some seen_is =
             let m = begun t cs some in
-            sym (bytes (of_file m.at page) home tt (ap (λ o. option_map_or (λ cs. places_of cs page) o Absent) m.is ∙ seen_place cs seen page home stands seen_is))
+            sym (bytes m.at page home (ap (λ o. option_map_or (λ cs. places_of cs page) o Absent) m.is ∙ seen_place cs seen page home stands seen_is))
 
   -- ---- all of them
 
@@ -226,7 +226,7 @@ module _ (d : DomainNow) (files : Files) (indexes : IndexesAt) (below : StandsBe
         true_not_false e = cc
     each_now n (slot.Removed first_tag quota) there is = is
 
-    agree : AgreeOn d.contents contents slots.shapes
+    pub agree : AgreeOn d.contents contents slots.shapes
     agree name shape some = by_slot (slots.are.only name (ap is_some some))
       where
         by_item : (n : ℕ) (item : SlotItem) → slice_get d.table.slots n ≡ Some item → IsSomeAnd (entry_of item) (λ entry. entry.name ≡ name) → AgreeOnShape d.contents contents shape
@@ -254,4 +254,4 @@ module _ (d : DomainNow) (files : Files) (indexes : IndexesAt) (below : StandsBe
 
 pub slots_kept : (d now : DomainNow) (files : Files) (indexes : IndexesAt) (all : FilesetMap) → StandsBelow d files indexes → KeepsPlaces d now → KeepsPages d now files indexes → KeepsBytes d now files indexes → StandSlots d all → StandSlots now all
 slots_kept d now files indexes all below same keeps bytes slots = subst (λ (x : DomainNow). StandSlots x all) (sym same)
-    (slots_on d files indexes below now.pages now.contents (λ holder home is held. let of = of_filesets holder is in keeps home holder held of.0 of.1) (λ holder home is held. let of = of_filesets holder is in bytes home holder held of.0 of.1) all slots)
+    (slots_on d files indexes below now.pages now.contents (λ holder home is held. let of = of_filesets holder is in keeps home holder held of.0 of.1) (λ a page home held. let of = of_filesets (of_file a page) tt in bytes home (of_file a page) held of.0 of.1) all slots)

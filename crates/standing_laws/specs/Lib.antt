@@ -1,4 +1,5 @@
 pub mod GoingFileset
+pub mod BoundedFileset
 pub mod IndexCalls
 pub mod Leads
 pub mod Left

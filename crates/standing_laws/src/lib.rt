@@ -5,6 +5,7 @@
 mod beginning;
 mod below;
 mod beside;
+mod bounds;
 mod chains;
 mod elsewhere;
 mod going;
@@ -15,6 +16,7 @@ mod others;
 mod quotas;
 mod rest;
 mod slots;
+mod sources;
 mod tables;
 
 pub use beginning::{
@@ -34,6 +36,11 @@ pub use beside::{
     parents_stay_in_other_slots, parents_stay_where_a_fileset_begins,
     parents_stay_where_a_fileset_begins_to_go, parents_stay_where_a_root_is_made,
     parents_stay_where_limits_are_set,
+};
+pub use bounds::{
+    a_domain_stands_on_where_a_fileset_is_bounded, bits_stay_where_a_fileset_is_bounded,
+    books_stay_where_a_fileset_is_bounded, files_stand_alone_where_a_fileset_is_bounded,
+    parents_stay_where_a_fileset_is_bounded,
 };
 pub use chains::{
     cells_in_use_stay_in_chains, chains_stand_on, chains_stand_on_where_a_file_is_listed,
@@ -63,14 +70,15 @@ pub use others::{
 };
 pub use quotas::{
     a_domain_stands_on_where_limits_are_set, all_below_stands_on_where_limits_are_set,
-    chains_stand_on_where_limits_are_set, filesets_stand_on_where_limits_are_set,
-    held_pages_stand_on_where_limits_are_set, other_slots_stay_where_limits_are_set,
-    rest_stands_on_where_limits_are_set, tables_stand_on_where_limits_are_set,
-    the_slot_has_the_limits_that_are_set,
+    chains_stand_on_where_limits_are_set, files_stand_alone_where_limits_are_set,
+    filesets_stand_on_where_limits_are_set, held_pages_stand_on_where_limits_are_set,
+    other_slots_stay_where_limits_are_set, rest_stands_on_where_limits_are_set,
+    tables_stand_on_where_limits_are_set, the_slot_has_the_limits_that_are_set,
 };
 pub use rest::rest_stands_on;
 pub use slots::{
     each_original_stands_in_its_slot, filesets_stand_on, other_slots_keep_their_bytes,
     other_slots_stay,
 };
+pub use sources::files_stand_alone;
 pub use tables::tables_stand_on;

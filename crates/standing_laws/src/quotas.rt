@@ -13,6 +13,7 @@ ghost use Rattle.domain_standing.specs.Domain.{DomainNow, item_in};
 ghost use Rattle.domain_standing.specs.Holders.{HoldsOwned};
 ghost use Rattle.domain_standing.specs.Rest.{SaysTheRest};
 ghost use Rattle.domain_standing.specs.Slots.{StandSlots};
+ghost use Rattle.domain_standing.specs.Sources.{StandAlone};
 ghost use Rattle.domain_standing.specs.Standing.{StandsDomain};
 ghost use Rattle.domain_standing.specs.Tables.{StandTables};
 ghost use Rattle.standing_laws.specs.Leads.{StandsBelow};
@@ -89,6 +90,13 @@ pub fn filesets_stand_on_where_limits_are_set()
         → get all sets.entry.name ≡ Some fileset
         → StandSlots now
         (insert all sets.entry.name (fileset_limited sets.who sets.limits fileset)) }
+{}
+
+/// No file comes to be read through another one.
+pub fn files_stand_alone_where_limits_are_set()
+    ensures { (number : ℕ) (d now : DomainNow) (files files_now : Files) (indexes : IndexesAt)
+        → StandsBelow d files indexes → StandsBelow now files_now indexes
+        → SetsQuota number d now files files_now → StandAlone d → StandAlone now }
 {}
 
 /// All together: a domain stands for its filesets, of which that one has these limits of the owner.
