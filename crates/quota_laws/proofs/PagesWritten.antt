@@ -1,5 +1,5 @@
 -- Limits stay set where pages that are none of cells are written.
-use Rattle.std.proofs.Common.{◌≡◌, ◌∙◌, ℕ, List, [], ◌∷◌, Option, Contains, ap}
+use Rattle.std.proofs.Common.{◌≡◌, ◌∙◌, ℕ, List, [], ◌∷◌, Option, Contains, refl, ap}
 use Rattle.domain_base.specs.declared.place.CellAt.{CellAt}
 use Rattle.domain_base.specs.declared.place.Home.{Home}
 use Rattle.page_store.specs.Pages.{Pages}
@@ -68,3 +68,8 @@ module _ (fileset prefer : ℕ) (who : Owner) (limits : Limits) (first : Option 
     files = s.files;
     list = s.list;
   }
+
+  -- the chain begins where it did
+  pub still_starts : still_set.start ≡ s.start
+  unfolding still_set
+  still_starts = refl

@@ -1,40 +1,59 @@
 -- A domain stands on around a slot where a directory gets a page behind its last one.
-use Rattle.std.proofs.Common.{◌≡◌, ◌∙◌, ℕ, ◌+◌, ◌<◌, ◌≤◌, false, cond, List, ◌∷◌, Option, Some, None, IsSomeAnd, refl, sym, ap, subst, ⊎_elim}
+use Rattle.std.proofs.Common.{◌≡◌, ◌∙◌, ℕ, ◌+◌, ◌<◌, ◌≤◌, true, false, cond, List, [], ◌∷◌, Option, Some, None, IsSomeAnd, Contains, refl, sym, ap, subst, ⊎_elim}
 use Rattle.std.proofs.lemmas.Bool.{eq-eqb, false_from_ne_true}
+use Rattle.std.proofs.lemmas.List.{append-nil}
 use Rattle.std.specs.Option.{option_and_then, option_map, option_map_or}
 use Rattle.domain_base.specs.Limits.{file_pages}
+use Rattle.domain_base.specs.declared.place.CellAt.{CellAt}
 use Rattle.domain_base.specs.declared.place.Home.{Home}
+use Rattle.domain_base.specs.declared.place.Kind.TheVariants.{Directory}
 use Rattle.domain_base.specs.declared.place.Tag.{Tag}
-use Rattle.page_store.specs.Bitfiles.{Bitfiles as SetOf, IsDirectory, count_pages}
+use Rattle.page_store.specs.Bitfiles.{Bitfiles as SetOf, IsDirectory, count_pages, same_tag}
 use Rattle.page_store.specs.Pages.{Pages, same_home}
 use Rattle.bmt_mcells.specs.Chain.{PlacedCell}
 use Rattle.bmt_mcells.proofs.Changed.{homes_same}
+use Rattle.tag_dirs.specs.Directory.{has_home as has_home_in}
 use Rattle.extent_maps.specs.declared.run.PagePlace.TheVariants.{Absent, At}
-use Rattle.free_cells.specs.Cells.{Cells}
+use Rattle.free_cells.specs.Cells.{Cells, table_of}
 use Rattle.free_space.specs.Spaces.{Spaces}
 use Rattle.bitfile_cells.specs.Files.{places_of}
 use Rattle.bitfile_core.specs.declared.attributes.Attributes.{Attributes}
 use Rattle.bitfile_core.specs.Changes.{CanSay, ChangesFirst, says_attributes, with_chain, with_first}
-use Rattle.bitfile_core.specs.Files.{Chains, place_at}
+use Rattle.bitfile_core.specs.Files.{Chains, attributes_of, of_live, place_at}
+use Rattle.bitfile_core.specs.State.{FileState, state_of}
 use Rattle.bitfile_core.specs.Together.{AreTogether}
 use Rattle.bitfile_core.proofs.Created.{one_chains}
 use Rattle.bitfile_core.proofs.OneChain.{chain_same, same_tag_itself, tag_after}
+use Rattle.bitfile_laws.specs.States.{described as described_state, placed}
+use Rattle.bitfile_laws.proofs.FirstCells.{attributes_said}
+use Rattle.bitfile_laws.proofs.Parts.{file_at}
+use Rattle.bitfile_laws.proofs.Placed.{page_placed}
 use Rattle.stored_set.specs.Sets.{AddsPage, GetsPage, StandsAsSet, attributes_at, long, with_length}
 use Rattle.stored_set.proofs.Lengthened.{can_say, may_grow_any}
 use Rattle.deferred_delete.specs.Standing.{Files, place_in, with_file}
+use Rattle.deferred_delete.proofs.Spread.{some_same}
 use Rattle.deferred_delete.proofs.Standings.{file_other, low_home}
 use Rattle.deferred_laws.specs.Calls.{Call, PutsPage, described, given}
 use Rattle.deferred_laws.specs.Tags.{start_of}
+use Rattle.deferred_laws.proofs.Tags.{IsNamed, named}
 use Rattle.domain_layout.specs.Filled.{Contents}
+use Rattle.domain_layout.specs.Seen.{SeenFile, seen_in}
 use Rattle.layout_laws.proofs.Reached.{same_number}
+use Rattle.node_laws.specs.Nodes.{seen_of}
 use Rattle.domain_standing.specs.Domain.{DomainNow}
 use Rattle.domain_standing.specs.Holders.Holder.{of_file}
-use Rattle.standing_laws.specs.Leads.{fileset_now}
+use Rattle.standing_laws.specs.Leads.{IsLiveOf, fileset_now}
+use Rattle.standing_laws.proofs.IndexWas.{off_first}
+use Rattle.standing_laws.proofs.OtherSlots.{seen_place}
 use Rattle.standing_laws.proofs.TablesTaken.{unheld_taken}
 use Rattle.set_standing.specs.Around.{BytesFollow, ChangesSlot, GoesOnAround, StandsAround}
+use Rattle.set_standing.specs.Follow.{ComesFrom, FilesFollow}
 use Rattle.set_standing.proofs.CallsAround.{HasFirst, first_of, sets}
+use Rattle.set_standing.proofs.Directories.{is_live, live_said, live_still}
+use Rattle.set_standing.proofs.FilesKept.{IsSameDirectory, KeepsBytesOf, comes_directory_changed, seen_directory, seen_says}
+use Rattle.set_standing.proofs.Following.{chain_changed, kept_sequences, other_begins, same_sequences}
 use Rattle.set_standing.proofs.Joined.{joined}
-use Rattle.set_standing.proofs.Led.{KeepsOthers, around_now, led, led_as, other_page}
+use Rattle.set_standing.proofs.Led.{KeepsOthers, around_now, follow as files_of_call, led, led_as, other_page}
 use Rattle.set_standing.proofs.Written.{is_written}
 
 -- nothing changes but pages, their bytes, free space and cells
@@ -96,8 +115,42 @@ module _ (number : ℕ) (tag : Tag) (page : ℕ) (bytes : List ℕ) (prefer : �
   abbrev around_mid : StandsAround number mid
   around_mid = around_now number tag d mid around changes_mid chains_mid files_mid says_longer can tt
 
+  live : IsLiveOf Directory (around.chains tag)
+  live = is_live number d around set stood tag directory
+
+  live_first : IsLiveOf Directory (Some (h.first ∷ h.rest))
+  live_first = subst (IsLiveOf Directory) h.is live
+
+  -- as a directory, whatever its size
+  said_mid : state_of chain_mid ≡ option_map (described_state value) (state_of (h.first ∷ h.rest))
+  said_mid = attributes_said d.pages h.first h.rest (file_at number (d.tags number) d.pages around.chains around.well.together.files tag (h.first ∷ h.rest) h.is).is_file.1 value
+
+  stays_directory : (is : SeenFile) → seen_in chain_mid ≡ Some is → ComesFrom d mid (Some (h.first ∷ h.rest)) is
+  stays_directory = comes_directory_changed d mid (h.first ∷ h.rest) chain_mid (described_state value) (λ s. refl) alike said_mid
+    where
+      alike : (state : FileState) → seen_in (h.first ∷ h.rest) ≡ Some (seen_of state) → IsSameDirectory (seen_of state) (seen_of (described_state value state))
+      alike state seen =
+          let said : a ≡ state.attributes = some_same a state.attributes (sym is_a ∙ ap (option_and_then (of_live attributes_of)) h.is ∙ seen_says (h.first ∷ h.rest) (seen_of state) seen) in
+          record {
+            directory = seen_directory (h.first ∷ h.rest) (seen_of state) live_first seen;
+            kind = ap (λ (w : Attributes). w.kind) said;
+            uid = ap (λ (w : Attributes). w.uid) said;
+            gid = ap (λ (w : Attributes). w.gid) said;
+          }
+
+  off_first_cell : (home : Home) → has_home_in (d.tags number) home ≡ true → adds.said home ≡ d.pages home
+  off_first_cell home has = changes_first.1 home
+      (off_first d around.files around.indexes around.below number around.entry around.original tag around.chains around.well h.first h.rest h.is home (around.well.together.tag_pages home has).off_table)
+    where
+      changes_first : ChangesFirst (Some (h.first ∷ h.rest)) d.pages adds.said
+      changes_first = subst (λ o. ChangesFirst o d.pages adds.said) h.is adds.first
+
   is_longer : GoesOnAround number d mid
   is_longer = led number tag d mid around changes_mid chains_mid files_mid says_longer can tt (λ home same. refl)
+      (files_of_call number tag d mid around changes_mid chains_mid files_mid says_longer can tt [] (sym (append-nil (d.tags number)))
+      (same_sequences number d mid refl (kept_sequences d.pages adds.said (d.tags number) around.well.together.files.directory off_first_cell))
+      (chain_changed number d mid around.chains tag (with_first (says_attributes value)) (h.first ∷ h.rest) h.is
+      (λ t cells differ there seen is file page home at. refl) stays_directory))
 
   is_mid : chains_mid tag ≡ Some chain_mid
   is_mid = chain_same tag (with_first (says_attributes value)) around.chains tag (same_tag_itself tag) ∙ ap (option_map (with_first (says_attributes value))) h.is
@@ -176,8 +229,56 @@ module _ (number : ℕ) (tag : Tag) (page : ℕ) (bytes : List ℕ) (prefer : �
             let same = homes_same home gets.home here in
             unheld_taken d around.files around.indexes around.below.owned gets.home (subst (λ (x : Home). 1 ≤ x.vol) same low) gets.taken.free (of_file at k) (subst (λ (x : Home). place_in around.files at k ≡ At x) same was))
 
+    -- the bytes of another tag's file stay
+    other_bytes : (t : Tag) (cells : List PlacedCell) → same_tag t tag ≡ false → chains_mid t ≡ Some cells → KeepsBytesOf mid held cells
+    other_bytes t cells differ there seen is file k home at =
+        sym (kept m.at k home (λ mine. apart (some_same first_mid m.at (sym (ap (option_and_then start_of) is_mid) ∙ mine)))
+        (ap (λ o. option_map_or (λ cs. places_of cs k) o Absent) m.is ∙ seen_place cells seen k home at is))
+      where
+        m : IsNamed files_mid cells
+        m = named files_mid chains_mid t cells there (around_mid.well.among.same t)
+
+        m_mid : IsNamed files_mid chain_mid
+        m_mid = named files_mid chains_mid tag chain_mid is_mid (around_mid.well.among.same tag)
+
+        first_mid : CellAt
+        first_mid = h.first.at
+
+        apart : ¬ first_mid ≡ m.at
+        apart same =
+            other_begins number (d.tags number) adds.said chains_mid adds.together.files files_mid t tag cells chain_mid there is_mid differ m m_mid
+            (sym same ∙ some_same first_mid m_mid.at m_mid.start)
+
+    -- pages of tags stay
+    tag_stays : (home : Home) → has_home_in (d.tags number) home ≡ true → gets.between home ≡ adds.said home
+    tag_stays home has = gets.elsewhere home (λ on. off_held home has on)
+      where
+        off_held : (home : Home) → has_home_in (d.tags number) home ≡ true → ¬ Contains (table_of cells home.vol) home.page
+        off_held home has = ((around_now number tag mid held around_mid changes_held chains_held files_held is_given absent tt).well.together.tag_pages home has).off_table
+
+    after_is : state_of after ≡ option_map (placed page (At gets.home)) (state_of chain_mid)
+    after_is = page_placed page (At gets.home) chain_mid after gets.given.change.changes.first gets.given.change.changes.at
+
+    live_mid : IsLiveOf Directory (Some chain_mid)
+    live_mid = live_still (h.first ∷ h.rest) chain_mid (described_state value) (live_said number (d.tags number) d.pages around.chains around.well.together.files tag (h.first ∷ h.rest) h.is)
+        (live_said number (d.tags number) adds.said chains_mid adds.together.files tag chain_mid is_mid) (λ s. refl) (λ s live_was kind_was. kind_said s live_was) said_mid live_first
+      where
+        kind_said : (s : FileState) → of_live attributes_of (h.first ∷ h.rest) ≡ Some s.attributes → value.kind ≡ s.attributes.kind
+        kind_said s live_was = ap (λ (w : Attributes). w.kind) (some_same a s.attributes (sym is_a ∙ ap (option_and_then (of_live attributes_of)) h.is ∙ live_was))
+
+    live_after : IsLiveOf Directory (Some after)
+    live_after = live_still chain_mid after (placed page (At gets.home)) (live_said number (d.tags number) adds.said chains_mid adds.together.files tag chain_mid is_mid)
+        (live_said number (d.tags number) gets.between chains_held gets.given.together.files tag after (tag_after tag after chains_mid chain_mid is_mid tag (same_tag_itself tag))) (λ s. refl) (λ s live_was kind_was. refl) after_is live_mid
+
+    follow_held : FilesFollow number mid held
+    follow_held = files_of_call number tag mid held around_mid changes_held chains_held files_held is_given absent tt [] (sym (append-nil (d.tags number)))
+        (same_sequences number mid held refl (kept_sequences adds.said gets.between (d.tags number) adds.together.files.directory tag_stays))
+        (chain_changed number mid held chains_mid tag (λ _. after) chain_mid is_mid other_bytes
+        (comes_directory_changed mid held chain_mid after (placed page (At gets.home)) (λ s. refl)
+        (λ state seen. record { directory = seen_directory chain_mid (seen_of state) live_mid seen; kind = refl; uid = refl; gid = refl }) after_is))
+
     has_home : GoesOnAround number mid held
-    has_home = led_as number tag mid held around_mid changes_held chains_held files_held is_given absent tt kept
+    has_home = led_as number tag mid held around_mid changes_held chains_held files_held is_given absent tt kept follow_held
 
     abbrev around_held : StandsAround number held
     around_held = around_now number tag mid held around_mid changes_held chains_held files_held is_given absent tt
@@ -194,7 +295,10 @@ module _ (number : ℕ) (tag : Tag) (page : ℕ) (bytes : List ℕ) (prefer : �
     place_of_it home none = false_from_ne_true (same_home home gets.home) (λ here. none (its_place ∙ ap At (sym (homes_same home gets.home here))))
 
     is_put : GoesOnAround number held now
-    is_put = is_written number tag page held now around_held refl (λ home same. refl) (λ home none. put_apart home (place_of_it home none))
+    is_put = is_written number tag page held now around_held refl (λ home same. refl) live_there (λ home none. put_apart home (place_of_it home none))
+      where
+        live_there : IsLiveOf Directory (chains_held tag)
+        live_there = subst (IsLiveOf Directory) (sym (tag_after tag after chains_mid chain_mid is_mid tag (same_tag_itself tag))) live_after
 
     pub page_added : GoesOnAround number d now
     page_added = joined number d mid now is_longer (joined number mid held now has_home is_put)

@@ -1,12 +1,15 @@
 -- A domain stands around a slot where it stands but for its filesets, and the slot's files belong together.
-use Rattle.std.proofs.Common.{◌≡◌, ◌∙◌, ℕ, List, [], ◌∷◌, Some, None, IfSome, slice_get, sym, ap, subst, ⊎_elim}
+use Rattle.std.proofs.Common.{◌≡◌, ◌∙◌, ℕ, List, [], ◌∷◌, Option, Some, None, IfSome, IsSomeAnd, slice_get, sym, ap, subst, ⊎_elim}
 use Rattle.std.specs.Option.{option_and_then}
 use Rattle.domain_base.specs.declared.place.CellAt.{CellAt}
 use Rattle.domain_base.specs.declared.place.Tag.{Tag}
+use Rattle.page_store.specs.Pages.{Pages}
 use Rattle.bmt_mcells.specs.Cell.{Cell, record_of}
 use Rattle.bmt_mcells.specs.Chain.{PlacedCell}
+use Rattle.tag_dirs.specs.Directory.{cell_of}
+use Rattle.bitfile_cells.specs.Files.{IsFile}
 use Rattle.bitfile_core.specs.Changes.{with_first}
-use Rattle.bitfile_core.specs.Files.{Chains, IsOf, LeadsToFile}
+use Rattle.bitfile_core.specs.Files.{Chains, IsOf, LeadsToFile, first_record}
 use Rattle.bitfile_core.specs.Together.{AreTogether}
 use Rattle.bitfile_core.proofs.Created.{one_chains}
 use Rattle.fileset_table.specs.declared.slot.FilesetEntry.{FilesetEntry}
@@ -14,6 +17,7 @@ use Rattle.fileset_table.specs.declared.slot.SlotItem.TheVariants as slot
 use Rattle.deferred_delete.specs.Standing.{Files, source_at, source_in, source_of, with_file}
 use Rattle.deferred_delete.proofs.Standings.{file_other, file_there, same_or_not}
 use Rattle.deferred_laws.specs.Tags.{AreAmong, start_of}
+use Rattle.deferred_laws.proofs.Tags.{has_attributes}
 use Rattle.domain_layout.specs.Layout.{first_tag_of}
 use Rattle.domain_standing.specs.Chains.{HasFilesAmong, IndexesAt, IsOfFileset, IsRemoved, StandsInSlot}
 use Rattle.domain_standing.specs.Domain.{DomainNow, all_of}
@@ -25,6 +29,10 @@ use Rattle.set_standing.specs.Around.{StandsAround}
 pub its_number : (number : ℕ) (tag : Tag) (cs : List PlacedCell) → IsOf number tag cs → IsOfFileset number cs
 its_number number tag [] of = of
 its_number number tag (first ∷ rest) of = of.2
+
+pub says_some : (pages : Pages) (o : Option CellAt) (cs : List PlacedCell) → IsSomeAnd o (λ at. IsFile pages at cs) → ¬ first_record 1 cs ≡ None
+says_some pages None cs leads = absurd leads
+says_some pages (Some at) cs leads = has_attributes pages at cs leads
 
 module _ (number : ℕ) (d : DomainNow) (entry : FilesetEntry) (original : slice_get d.table.slots number ≡ Some (slot.Original entry)) (files : Files) (indexes : IndexesAt) (below : StandsBelow d files indexes) (chains : Chains) (together : AreTogether number (d.tags number) d.space d.cells d.pages chains) where
   has : HasFilesAmong d files number
@@ -55,6 +63,10 @@ module _ (number : ℕ) (tag : Tag) (d : DomainNow) (around : StandsAround numbe
 
   pub number_first : IsOfFileset number (first ∷ rest)
   number_first = its_number number tag (first ∷ rest) (subst (λ o. IfSome o (LeadsToFile number (d.tags number) d.pages tag)) is (around.well.together.files.some tag)).is_of
+
+  -- its first cell has attributes
+  pub says_first : ¬ first_record 1 (first ∷ rest) ≡ None
+  says_first = says_some d.pages (cell_of d.pages (d.tags number) tag) (first ∷ rest) (subst (λ o. IfSome o (LeadsToFile number (d.tags number) d.pages tag)) is (around.well.together.files.some tag)).leads
 
   pub names_first : NamesFile number tag first.at d around.chains around.files
   names_first = record { entry = around.entry; original = around.original; well = around.well; begins = ap (option_and_then start_of) is }

@@ -1,14 +1,13 @@
 -- The original in another slot is as it was where one file of a slot changes, and no cell is taken.
-use Rattle.std.proofs.Common.{◌≡◌, ◌∙◌, ℕ, suc, ◌≤◌, true, false, List, [], ◌∷◌, Option, Some, None, IfSome, IsSomeAnd, Contains, slice_get, refl, sym, ap, subst, arith, ⊎_elim}
+use Rattle.std.proofs.Common.{◌≡◌, ◌∙◌, ℕ, suc, ◌≤◌, true, false, List, [], ◌∷◌, Option, Some, None, IfSome, Contains, slice_get, refl, sym, ap, subst, arith, ⊎_elim}
 use Rattle.std.specs.List.{AllByRecursion}
 use Rattle.std.specs.Option.{option_and_then, option_map_or}
 use Rattle.domain_base.specs.declared.place.CellAt.{CellAt}
 use Rattle.domain_base.specs.declared.place.Home.{Home}
 use Rattle.domain_base.specs.declared.place.Tag.{Tag}
 use Rattle.page_store.specs.Pages.{Pages}
-use Rattle.record_table.specs.declared.record.Record.{Record}
 use Rattle.bmt_mcells.specs.CellPage.{cell_at}
-use Rattle.bmt_mcells.specs.Chain.{LinksFrom, PlacedCell, StandsAt, is_at, places, records_of}
+use Rattle.bmt_mcells.specs.Chain.{LinksFrom, PlacedCell, StandsAt, is_at, places}
 use Rattle.tag_dirs.specs.Directory.{IsDirectoryAt, has_home}
 use Rattle.tag_dirs.specs.declared.dir.TagPlace.{TagPlace}
 use Rattle.tag_dirs.proofs.Reading.{same_directory}
@@ -18,7 +17,7 @@ use Rattle.bitfile_cells.specs.Allocated.{AreAllocated}
 use Rattle.bitfile_cells.specs.FileChanges.{AreOnTables}
 use Rattle.bitfile_cells.specs.Files.{places_of}
 use Rattle.bitfile_cells.proofs.ChainChanges.{at_apart}
-use Rattle.bitfile_core.specs.Files.{AreFiles, Chains, IsOf, LeadsToFile, place_at}
+use Rattle.bitfile_core.specs.Files.{AreFiles, Chains, IsOf, LeadsToFile, first_record, place_at}
 use Rattle.bitfile_core.specs.Shown.{index_of}
 use Rattle.bitfile_core.specs.Together.{AreFilesOnTables, IsHeldApart}
 use Rattle.bitfile_core.proofs.Created.{one_chains}
@@ -29,32 +28,36 @@ use Rattle.set_laws.specs.Standing.{StandsShown}
 use Rattle.set_laws.proofs.AnotherSet.{stands_again}
 use Rattle.stored_set.specs.Sets.{StandsAsSet}
 use Rattle.fileset_model.specs.declared.fileset.FilesetSlot.{FilesetSlot}
+use Rattle.fileset_table.specs.Table.{Table}
 use Rattle.fileset_table.specs.declared.slot.FilesetEntry.{FilesetEntry}
 use Rattle.fileset_table.specs.declared.slot.SlotItem.TheVariants as slot
 use Rattle.deferred_delete.specs.Standing.{Files, IsFileOrQuotas, IsStanding, place_in}
 use Rattle.deferred_delete.proofs.Spread.{none_not, some_same}
-use Rattle.deferred_delete.proofs.Standings.{apart_by, chain_by, chain_inside, linked_at, low_home, not_nil, stand_chain, standing}
+use Rattle.deferred_delete.proofs.Standings.{apart_by, chain_by, chain_inside, linked_at, low_home, not_nil, quota_first, stand_chain, standing}
 use Rattle.deferred_laws.specs.Calls.{StandsWell}
 use Rattle.deferred_laws.specs.Tags.{AreAmong}
 use Rattle.deferred_laws.proofs.Tags.{IsNamed, named}
-use Rattle.domain_layout.proofs.OneShape.{links_same}
+use Rattle.domain_layout.specs.CellRules.{of_clone}
 use Rattle.domain_layout.specs.Layout.{first_tag_of}
 use Rattle.domain_layout.specs.Seen.{seen_in}
-use Rattle.domain_layout.specs.Shape.{AreLimits, AreQuotas, FilesetShape, IsOriginal}
-use Rattle.domain_layout.specs.TagRules.{quota_of}
+use Rattle.domain_layout.specs.Shape.{AreLimits, FilesetShape, IsOriginal}
 use Rattle.layout_laws.specs.Agreeing.{AgreeOnShape}
 use Rattle.layout_laws.proofs.FilledAlike.{fills}
 use Rattle.domain_standing.specs.Chains.{AreQuotasOf, HasFilesAmong, IndexesAt, IsOfFileset, IsRemoved, StandsInSlot}
-use Rattle.domain_standing.specs.Domain.{DomainNow, all_of}
+use Rattle.domain_standing.specs.Domain.{DomainNow, all_of, item_in}
 use Rattle.domain_standing.specs.Holders.{Holder, Holds}
 use Rattle.domain_standing.specs.Holders.Holder.{of_file, of_index, of_tags, of_volume}
 use Rattle.standing_laws.specs.Leads.{StandsBelow, fileset_now}
+use Rattle.standing_laws.specs.SlotParents.{HaveParentsIn, StandsForSome}
 use Rattle.standing_laws.specs.Slots.{StandsSlot}
 use Rattle.standing_laws.proofs.HomeLists.{in_get}
 use Rattle.standing_laws.proofs.IndexWas.{index_low_was}
 use Rattle.standing_laws.proofs.OtherSlots.{seen_place}
+use Rattle.standing_laws.proofs.ParentsElsewhere.{FilesStay, slot_parents}
 use Rattle.set_standing.specs.Around.{BytesFollow, StaysAround}
+use Rattle.set_standing.specs.Follow.{FilesFollow}
 use Rattle.set_standing.proofs.Besides.{IsBeside, IsOff, is_off}
+use Rattle.set_standing.proofs.OwnLimits.{limits_still}
 
 absent_not : (home : Home) → ¬ Absent ≡ At home
 absent_not home is = cc
@@ -63,7 +66,7 @@ links_from : (pages : Pages) (at : CellAt) (cs : List PlacedCell) → IsFileOrQu
 links_from pages at [] are = absurd (not_nil pages at are)
 links_from pages at (first ∷ rest) are = linked_at pages at first rest are
 
-module _ (number : ℕ) (start : CellAt) (d now : DomainNow) (files : Files) (indexes : IndexesAt) (below : StandsBelow d files indexes) (mine : List PlacedCell) (there : files start ≡ Some mine) (mine_of : IsOfFileset number mine) (tags : (n : ℕ) → ¬ n ≡ number → now.tags n ≡ d.tags n) (same_cells : now.cells ≡ d.cells)
+module _ (number : ℕ) (start : CellAt) (d now : DomainNow) (files : Files) (indexes : IndexesAt) (below : StandsBelow d files indexes) (mine : List PlacedCell) (there : files start ≡ Some mine) (mine_of : IsOfFileset number mine) (says : ¬ first_record 1 mine ≡ None) (tags : (n : ℕ) → ¬ n ≡ number → now.tags n ≡ d.tags n) (same_cells : now.cells ≡ d.cells)
     (allocated : AreAllocated now.space now.cells now.pages) (cell : (at : CellAt) → Contains (table_of d.cells at.vol) at.page → is_at start at ≡ false → cell_at now.pages at ≡ cell_at d.pages at) (page : (home : Home) → IsOff number start d files indexes home → now.pages home ≡ d.pages home)
     (held : (home : Home) → IsOff number start d files indexes home → IsHeldApart d.space d.cells home → IsHeldApart now.space d.cells home) (bytes : BytesFollow d now) where
   -- ---- cells of other chains
@@ -235,25 +238,9 @@ module _ (number : ℕ) (start : CellAt) (d now : DomainNow) (files : Files) (in
         one_chains d.pages n (d.tags n) stood.is.chains its
         (subst (λ (ps : List TagPlace). AreFiles n ps d.pages stood.is.chains) (same_directory d.pages entry.first_tag h.places (d.tags n) h.directory begins) h.files) stood.set.stands.together.files
 
-    quotas_still : (o : Option CellAt) → entry.quota ≡ o → (records : List Record) → AreQuotas d.pages o records → AreQuotas now.pages o records
-    quotas_still None none records are = are
-    quotas_still (Some at) quota records are = by_chain (files at) refl (below.chains.quotas n at (ap (option_and_then quota_of) slot_there ∙ quota))
-      where
-        by_chain : (o : Option (List PlacedCell)) → files at ≡ o → IsSomeAnd o (AreQuotasOf d n at) → AreQuotas now.pages (Some at) records
-        by_chain None none quotas = absurd quotas
-        by_chain (Some cs) some quotas =
-            let other = not_start at cs some quotas.of in (
-              cs,
-              links_from now.pages at cs (chain_now at cs other some),
-              are.2 ∙ ap records_of (links_same d.pages at are.0 cs are.1 (links_from d.pages at cs (its_standing at cs other some).stands)),
-            )
-
     limits_now : AreLimits now.pages entry shape.limits
-    limits_now = record {
-      records = stood.is.limits.records;
-      quotas = quotas_still entry.quota refl stood.is.limits.records stood.is.limits.quotas;
-      each = stood.is.limits.each;
-    }
+    limits_now =
+        limits_still n d now files (below.chains.quotas n) (λ at cs some quotas. links_from now.pages at cs (chain_now at cs (not_start at cs some quotas.of) some)) entry slot_there shape.limits stood.is.limits
 
     shape_now : IsOriginal now.pages n entry shape
     shape_now = record {
@@ -288,12 +275,52 @@ module _ (number : ℕ) (start : CellAt) (d now : DomainNow) (files : Files) (in
       set = subst (λ (ps : List TagPlace). StandsAsSet n ps now.space now.cells now.pages shape.shown) (sym (tags n differ)) set_now;
     }
 
+  -- what its directories say of their parents
+  module _ (n : ℕ) (differ : ¬ n ≡ number) (stands : StandsForSome n d) (same_table : now.table ≡ d.table) where
+    item_same : item_in now n ≡ item_in d n
+    item_same = ap (λ (t : Table). slice_get t.slots n) same_table
+
+    files_stay : (entry : FilesetEntry) → item_in now n ≡ Some (slot.Original entry) → FilesStay n d now entry
+    files_stay entry at = record {
+      entry = entry;
+      there = it;
+      chains = was.2.set.chains;
+      begins = begins n entry was.0 was.1 differ it was.2;
+      begins_now = record { directory = files_here.directory; begins = (begins n entry was.0 was.1 differ it was.2).begins };
+      are = was.2.set.stands.together.files;
+      are_now = files_here;
+      same = λ t k home placed. page home (file_off n entry was.0 was.1 differ it was.2 t k home placed);
+    }
+      where
+        it : item_in d n ≡ Some (slot.Original entry)
+        it = sym item_same ∙ at
+
+        was : (shape : FilesetShape) × (fileset : FilesetSlot) × StandsSlot d n entry shape fileset
+        was = stands.each entry it
+
+        files_here : AreFiles n (d.tags n) now.pages was.2.set.chains
+        files_here = (shown_now n entry was.0 was.1 differ it was.2).together.files
+
+    parents_aside : now.frame ≡ d.frame → HaveParentsIn n d → HaveParentsIn n now
+    parents_aside same_frame = slot_parents d now n same_frame (ap of_clone item_same ∙ stands.no_clone) files_stay
+
+  -- its own quota cells begin elsewhere
+  own_quotas : (at : CellAt) (cs : List PlacedCell) → files at ≡ Some cs → AreQuotasOf d number at cs → LinksFrom now.pages at cs
+  own_quotas at cs some quotas = links_from now.pages at cs (chain_now at cs other some)
+    where
+      other : ¬ at ≡ start
+      other same =
+          says (ap (first_record 1) (some_same mine cs (sym there ∙ ap files (sym same) ∙ some)) ∙ quota_first d.pages at cs quotas.quotas 1 (λ e. omega (arith, e)) (λ e. omega (arith, e)))
+
   -- all that is not of the slot
-  pub stays_aside : now.frame ≡ d.frame → now.table ≡ d.table → StaysAround number d now
-  stays_aside same_frame same_table = record {
+  pub stays_aside : now.frame ≡ d.frame → now.table ≡ d.table → FilesFollow number d now → StaysAround number d now
+  stays_aside same_frame same_table files_too = record {
     frame = same_frame;
     table = same_table;
     tags = tags;
     slots = slot_aside;
+    parents = λ other differ stands had. parents_aside other differ stands same_table same_frame had;
+    files = files_too;
+    limits = λ entry limits at. limits_still number d now files (below.chains.quotas number) own_quotas entry at limits;
     volumes = λ home of. page home (is_off number start d files indexes below of_volume home of.0.first tt of);
   }

@@ -1,6 +1,7 @@
 -- A domain stands on around a slot where a page of a directory's index is written, or put in.
-use Rattle.std.proofs.Common.{◌≡◌, ◌∙◌, ℕ, ◌≤◌, true, false, List, ◌∷◌, Option, Some, None, Contains, refl, sym, ap, subst, arith}
+use Rattle.std.proofs.Common.{◌≡◌, ◌∙◌, ℕ, ◌≤◌, true, false, List, [], ◌∷◌, Option, Some, None, Contains, refl, sym, ap, subst, arith}
 use Rattle.std.proofs.lemmas.Bool.{false_from_ne_true}
+use Rattle.std.proofs.lemmas.List.{append-nil}
 use Rattle.std.specs.List.{insert}
 use Rattle.std.specs.Option.{option_and_then, option_map}
 use Rattle.domain_base.specs.declared.place.CellAt.{CellAt}
@@ -12,22 +13,31 @@ use Rattle.bmt_mcells.specs.CellPage.{cell_at, home_of}
 use Rattle.bmt_mcells.specs.Chain.{PlacedCell}
 use Rattle.bmt_mcells.proofs.Changed.{homes_same}
 use Rattle.tag_dirs.specs.Directory.{has_home}
+use Rattle.tag_dirs.specs.declared.dir.TagPlace.{TagPlace}
+use Rattle.extent_maps.specs.declared.run.PagePlace.TheVariants.{At}
 use Rattle.free_cells.specs.Cells.{table_of}
 use Rattle.free_space.specs.Spaces.{Spaces}
+use Rattle.bitfile_cells.specs.Files.{AreFile}
 use Rattle.bitfile_core.specs.Changes.{ChangesFirst, with_chain, with_first}
+use Rattle.bitfile_core.specs.Files.{AreFiles, place_at}
+use Rattle.bitfile_core.specs.State.{state_of}
 use Rattle.bitfile_core.specs.declared.indexing.IndexPlace.{IndexPlace}
 use Rattle.bitfile_core.specs.Index.{says_index}
 use Rattle.bitfile_core.specs.Together.{AreTogether, IsHeldApart}
 use Rattle.bitfile_core.proofs.Grown.{apart_taken}
+use Rattle.bitfile_laws.specs.States.{indexed}
+use Rattle.bitfile_laws.proofs.FirstCells.{index_said}
+use Rattle.bitfile_laws.proofs.Parts.{file_at}
 use Rattle.set_laws.proofs.Together.{together_away}
 use Rattle.stored_set.specs.Sets.{AddsIndexPage, WritesIndexPage}
 use Rattle.deferred_delete.specs.Standing.{Files, source_at, with_file}
+use Rattle.deferred_delete.proofs.Standings.{low_home}
 use Rattle.deferred_laws.specs.Tags.{start_of}
 use Rattle.domain_layout.specs.Filled.{Contents}
 use Rattle.domain_standing.specs.Chains.{IndexesAt}
 use Rattle.domain_standing.specs.Domain.{DomainNow}
 use Rattle.domain_standing.specs.Holders.{IsUnheld}
-use Rattle.domain_standing.specs.Holders.Holder.{of_cells, of_tags}
+use Rattle.domain_standing.specs.Holders.Holder.{of_cells, of_file, of_tags}
 use Rattle.standing_laws.specs.IndexCalls.{KeepsTables, with_index_at, with_said}
 use Rattle.standing_laws.specs.Leads.{StandsBelow}
 use Rattle.standing_laws.specs.OtherPages.{KeepsPlaces}
@@ -37,8 +47,12 @@ use Rattle.standing_laws.proofs.IndexSet.{IsChain, added, chain_at, written}
 use Rattle.standing_laws.proofs.IndexWas.{member_on, off_cells, off_first, off_tags}
 use Rattle.standing_laws.proofs.TablesTaken.{low_table, unheld_taken}
 use Rattle.set_standing.specs.Around.{BytesFollow, GoesOnAround, StandsAround}
-use Rattle.set_standing.proofs.Again.{alone_said, around_of, names_first, number_first, there_first}
+use Rattle.set_standing.specs.Follow.{FilesFollow}
+use Rattle.set_standing.proofs.Again.{alone_said, around_of, names_first, number_first, says_first, there_first}
 use Rattle.set_standing.proofs.Aside.{stays_aside}
+use Rattle.set_standing.proofs.FilesKept.{comes_changed, files_by}
+use Rattle.set_standing.proofs.Following.{chain_changed, kept_sequences, same_sequences}
+use Rattle.set_standing.proofs.OwnPages.{held_for, not_in_index, page_bytes}
 
 module _ (number : ℕ) (tag : Tag) (d : DomainNow) (around : StandsAround number d) (first : PlacedCell) (rest : List PlacedCell) (is : around.chains tag ≡ Some (first ∷ rest)) where
   off_its_cells : (home : Home) → Contains (around.indexes first.at) home → ¬ Contains (table_of d.cells home.vol) home.page
@@ -57,6 +71,20 @@ module _ (number : ℕ) (tag : Tag) (d : DomainNow) (around : StandsAround numbe
   alone_now : (index : Option IndexPlace) (at : CellAt) → source_at (with_said first.at (says_index index) around.files) at ≡ None
   alone_now index at =
       ap (λ (f : Files). source_at f at) (said_files (says_index index)) ∙ alone_said number tag d around first rest is (says_index index) (index_other index first.cell 2 (λ e. omega (arith, e))) at
+
+  -- what tags name follows where only its first cell says something of its index
+  index_follows : (now : DomainNow) (says : Cell → Cell) (index : Option IndexPlace) → says ≡ says_index index → now.tags number ≡ d.tags number → AreFiles number (d.tags number) now.pages (with_chain tag (with_first says) around.chains) → ((home : Home) → has_home (d.tags number) home ≡ true → now.pages home ≡ d.pages home)
+      → BytesFollow d now → ((t : Tag) (k : ℕ) (home : Home) → place_at around.chains t k ≡ At home → now.pages home ≡ d.pages home) → FilesFollow number d now
+  index_follows now says index said same_tags are tag_pages bytes stays =
+      files_by number d now [] (same_tags ∙ sym (append-nil (d.tags number))) (same_sequences number d now same_tags (kept_sequences d.pages now.pages (d.tags number) around.well.together.files.directory tag_pages))
+      around.chains (with_chain tag (with_first says) around.chains) around.well.together.files (subst (λ (ps : List TagPlace). AreFiles number ps now.pages (with_chain tag (with_first says) around.chains)) (sym same_tags) are)
+      (chain_changed number d now around.chains tag (with_first says) (first ∷ rest) is (λ t cells differ there. page_bytes number d around now bytes t cells there (stays t))
+      (comes_changed d now (first ∷ rest) (with_first says (first ∷ rest)) (indexed index) (λ s. refl) (λ state seen. record { kind = refl; uid = refl; gid = refl; size = refl; logged = refl; homes = λ page. refl })
+      (ap (λ (f : Cell → Cell). state_of (with_first f (first ∷ rest))) said ∙ index_said d.pages first rest its_file index)
+      (page_bytes number d around now bytes tag (first ∷ rest) is (stays tag))))
+    where
+      its_file : AreFile d.pages first rest
+      its_file = (file_at number (d.tags number) d.pages around.chains around.well.together.files tag (first ∷ rest) is).is_file.1
 
   -- ---- a page is written
 
@@ -83,13 +111,19 @@ module _ (number : ℕ) (tag : Tag) (d : DomainNow) (around : StandsAround numbe
     together_then = together_away writes.said pages d.cells on_table number (d.tags number) d.space (with_chain tag (with_first says) around.chains)
         (λ home has. put_apart home (λ inside. off_its_tags home inside has)) writes.says.together
 
+    off_tag : (home : Home) → has_home (d.tags number) home ≡ true → pages home ≡ d.pages home
+    off_tag home has = put_apart home (λ inside. off_its_tags home inside has) ∙ changes.1 home (off_its_first home (around.well.together.tag_pages home has).off_table)
+
+    file_stays : (t : Tag) (k : ℕ) (home : Home) → place_at around.chains t k ≡ At home → pages home ≡ d.pages home
+    file_stays t k home at = put_apart home (not_in_index number d around first t k home at) ∙ changes.1 home (off_its_first home (around.well.together.file_pages t k home at).apart.off_table)
+
     page_written : BytesFollow d then → GoesOnAround number d then
     page_written follow = (
       around_of number then around.entry around.original (with_said first.at says around.files) around.indexes below_then (with_chain tag (with_first says) around.chains) together_then (alone_now (Some writes.says.index)),
-      stays_aside number first.at d then around.files around.indexes around.below (first ∷ rest) (there_first number tag d around first rest is) (number_first number tag d around first rest is) (λ n differ. refl) refl below_then.chains.well.together.allocated
+      stays_aside number first.at d then around.files around.indexes around.below (first ∷ rest) (there_first number tag d around first rest is) (number_first number tag d around first rest is) (says_first number tag d around first rest is) (λ n differ. refl) refl below_then.chains.well.together.allocated
           (λ at on other. ap (λ (o : Option (List ℕ)). cell_at (λ _. o) at) (on_table (home_of at) on) ∙ changes.0 at other)
           (λ home off. put_apart home off.no_index ∙ changes.1 home (off_its_first home off.off_table))
-          (λ home off held. held) follow refl refl,
+          (λ home off held. held) follow refl refl (index_follows then says (Some writes.says.index) refl refl together_then.files off_tag follow file_stays),
     )
 
   -- ---- a page is put in
@@ -131,13 +165,24 @@ module _ (number : ℕ) (tag : Tag) (d : DomainNow) (around : StandsAround numbe
     held_more : (home : Home) → IsHeldApart d.space d.cells home → IsHeldApart space d.cells home
     held_more home held = subst (λ (s : Spaces). IsHeldApart s d.cells home) (sym adds.taken) (apart_taken d.space d.cells adds.home home held)
 
+    off_tag_more : (home : Home) → has_home (d.tags number) home ≡ true → pages home ≡ d.pages home
+    off_tag_more home has =
+        put_beside home (around.well.among.low home has) (λ inside. off_its_tags home inside has) (λ none. none (of_tags number) has)
+        ∙ changes_more.1 home (off_its_first home (around.well.together.tag_pages home has).off_table)
+
+    file_stays_more : (t : Tag) (k : ℕ) (home : Home) → place_at around.chains t k ≡ At home → pages home ≡ d.pages home
+    file_stays_more t k home at =
+        let h = held_for number d around t k home at in
+        put_beside home (low_home d.space d.cells d.pages around.files around.below.chains.well.together h.name.at k home h.placed) (not_in_index number d around first t k home at) (λ none. none (of_file h.name.at k) h.placed)
+        ∙ changes_more.1 home (off_its_first home (around.well.together.file_pages t k home at).apart.off_table)
+
     page_put : BytesFollow d more → GoesOnAround number d more
     page_put follow = (
       around_of number more around.entry around.original (with_said first.at says_more around.files) indexes_more below_more (with_chain tag (with_first says_more) around.chains) together_more (alone_now (Some adds.says.index)),
-      stays_aside number first.at d more around.files around.indexes around.below (first ∷ rest) (there_first number tag d around first rest is) (number_first number tag d around first rest is) (λ n differ. refl) refl below_more.chains.well.together.allocated
+      stays_aside number first.at d more around.files around.indexes around.below (first ∷ rest) (there_first number tag d around first rest is) (number_first number tag d around first rest is) (says_first number tag d around first rest is) (λ n differ. refl) refl below_more.chains.well.together.allocated
           (λ at on other. ap (λ (o : Option (List ℕ)). cell_at (λ _. o) at) (on_table_more (home_of at) on) ∙ changes_more.0 at other)
           (λ home off. put_beside home off.low off.no_index off.held ∙ changes_more.1 home (off_its_first home off.off_table))
-          (λ home off held. held_more home held) follow refl refl,
+          (λ home off held. held_more home held) follow refl refl (index_follows more says_more (Some adds.says.index) refl refl together_more.files off_tag_more follow file_stays_more),
     )
 
 pub is_written : (number : ℕ) (tag : Tag) (start : CellAt) (page : ℕ) (bytes : List ℕ) (d now : DomainNow) (around : StandsAround number d) → KeepsPlaces d now → BytesFollow d now → option_and_then start_of (around.chains tag) ≡ Some start

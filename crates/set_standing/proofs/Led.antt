@@ -1,15 +1,20 @@
 -- A domain stands on around a slot after a call on one of its tags.
-use Rattle.std.proofs.Common.{◌≡◌, ◌∙◌, ℕ, Some, slice_get, sym, ap}
-use Rattle.std.specs.Option.{option_and_then}
+use Rattle.std.proofs.Common.{◌≡◌, ◌∙◌, ◌≤◌, ◌++◌, ℕ, List, Some, slice_get, sym, ap}
+use Rattle.std.specs.Option.{option_and_then, option_map_or}
 use Rattle.domain_base.specs.declared.place.CellAt.{CellAt}
 use Rattle.domain_base.specs.declared.place.Home.{Home}
 use Rattle.domain_base.specs.declared.place.Tag.{Tag}
-use Rattle.extent_maps.specs.declared.run.PagePlace.TheVariants.{At}
+use Rattle.extent_maps.specs.declared.run.PagePlace.TheVariants.{Absent, At}
+use Rattle.bmt_mcells.specs.Chain.{PlacedCell}
+use Rattle.tag_dirs.specs.declared.dir.TagPlace.{TagPlace}
+use Rattle.bitfile_cells.specs.Files.{places_of}
+use Rattle.bitfile_core.specs.Creation.{last_sequence}
 use Rattle.bitfile_core.specs.Files.{Chains}
 use Rattle.fileset_table.specs.Table.{Table}
 use Rattle.deferred_delete.specs.Standing.{Files, place_in}
 use Rattle.deferred_laws.specs.Calls.{Call, FilesetNow, no_call, one_more}
 use Rattle.deferred_laws.specs.Tags.{start_of}
+use Rattle.deferred_laws.proofs.Tags.{named}
 use Rattle.deferred_laws.proofs.CallsWell.{stands_call}
 use Rattle.deferred_laws.proofs.SourcesStay.{sources_stay}
 use Rattle.domain_standing.specs.Domain.{DomainNow}
@@ -17,9 +22,14 @@ use Rattle.domain_standing.specs.Holders.Holder.{of_file, of_volume}
 use Rattle.standing_laws.specs.Leads.{LeadsOn, MayCall, fileset_now}
 use Rattle.standing_laws.specs.Left.{LeavesNothing}
 use Rattle.standing_laws.proofs.BelowStands.{below_stands}
-use Rattle.standing_laws.proofs.OtherSlots.{bytes_same, slot_stays}
+use Rattle.standing_laws.proofs.OtherSlots.{bytes_same, links_of, seen_place, slot_stays}
+use Rattle.standing_laws.proofs.ParentsElsewhere.{parents_elsewhere}
+use Rattle.standing_laws.proofs.SlotsStand.{quotas_stay}
 use Rattle.standing_laws.proofs.TablesTaken.{page_stays}
 use Rattle.set_standing.specs.Around.{BytesFollow, ChangesSlot, GoesOnAround, StandsAround, StaysAround}
+use Rattle.set_standing.specs.Follow.{FilesFollow, TagsFollow}
+use Rattle.set_standing.proofs.FilesKept.{KeepsBytesOf, files_by}
+use Rattle.set_standing.proofs.OwnLimits.{limits_still}
 
 module _ (number : ℕ) (tag : Tag) (d now : DomainNow) (around : StandsAround number d) (changes : ChangesSlot number d now) (chains_now : Chains) (files_now : Files)
     (call : Call number d.frame.version tag (fileset_now d number around.chains around.files) (fileset_now now number chains_now files_now))
@@ -63,19 +73,36 @@ module _ (number : ℕ) (tag : Tag) (d now : DomainNow) (around : StandsAround n
     abbrev pub KeepsOthers : Type 0
     KeepsOthers = (at : CellAt) (page : ℕ) (home : Home) → ¬ option_and_then start_of (around.chains tag) ≡ Some at → place_in around.files at page ≡ At home → d.contents home ≡ now.contents home
 
-    stays : KeepsOthers → StaysAround number d now
-    stays kept = record {
+    -- so the bytes of files stay
+    pub bytes_kept : BytesFollow d now → (t : Tag) (cells : List PlacedCell) → around.chains t ≡ Some cells → KeepsBytesOf d now cells
+    bytes_kept bytes t cells some seen is file page home at =
+        let m = named around.files around.chains t cells some (around.well.among.same t) in
+        bytes home (other_page m.at page home (ap (λ o. option_map_or (λ cs. places_of cs page) o Absent) m.is ∙ seen_place cells seen page home at is))
+
+    -- what tags name follows, by the chains that there are
+    pub follow : (more : List TagPlace) → now.tags number ≡ d.tags number ++ more → ((slot : ℕ) → last_sequence d.pages (d.tags number) slot ≤ last_sequence now.pages (now.tags number) slot)
+        → TagsFollow number d now around.chains chains_now → FilesFollow number d now
+    follow more grows sequences each = files_by number d now more grows sequences around.chains chains_now around.well.together.files around_now.well.together.files each
+
+    stays : KeepsOthers → FilesFollow number d now → StaysAround number d now
+    stays kept files = record {
       frame = changes.frame;
       table = changes.table;
       tags = changes.tags;
       slots = λ other entry shape fileset differ at stood.
           slot_stays number tag d now around.chains chains_now around.files files_now around.indexes around.below leads other entry shape fileset differ at stood
           (bytes_same number tag d now around.chains chains_now around.files files_now around.indexes around.below leads other entry shape fileset differ at stood kept);
+      parents = λ other differ stands had. parents_elsewhere number tag d now around.chains chains_now around.files files_now around.indexes around.below leads other differ stands had;
+      files = files;
+      limits = λ entry limits at.
+          limits_still number d now around.files (around.below.chains.quotas number)
+          (λ first cs some quotas.
+          links_of now.pages first cs (quotas_stay number tag d now around.chains chains_now around.files files_now around.indexes around.below leads number first cs some quotas)) entry at limits;
       volumes = λ home of. page_stays number tag d now around.chains chains_now around.files files_now around.indexes around.below leads of_volume home of (λ e. cc) (λ e. cc);
     }
 
-    pub led_as : KeepsOthers → GoesOnAround number d now
-    led_as kept = (around_now, stays kept)
+    pub led_as : KeepsOthers → FilesFollow number d now → GoesOnAround number d now
+    led_as kept files = (around_now, stays kept files)
 
-    pub led : BytesFollow d now → GoesOnAround number d now
-    led bytes = led_as (λ at page home none there. sym (bytes home (other_page at page home there)))
+    pub led : BytesFollow d now → FilesFollow number d now → GoesOnAround number d now
+    led bytes files = led_as (λ at page home none there. sym (bytes home (other_page at page home there))) files

@@ -2,10 +2,15 @@ pub mod Added
 pub mod Again
 pub mod Aside
 pub mod Besides
+pub mod Directories
+pub mod FilesKept
+pub mod Following
 pub mod CallsAround
 pub mod IndexAround
 pub mod Joined
 pub mod Led
+pub mod OwnLimits
+pub mod OwnPages
 pub mod PartsCalls
 pub mod PartsGone
 pub mod PartsKept

@@ -1,13 +1,11 @@
 -- A domain stands on around a slot after each call that changes its set of files, by the parts in which they stand.
 use Rattle.std.proofs.Common.{◌≡◌, ◌∙◌, ◌⊎◌, ◌<◌, ◌≤◌, ℕ, List, [], Option, Some, None, IsSomeAnd, refl, sym, ap, subst}
-use Rattle.std.specs.Option.{option_and_then, option_map}
+use Rattle.std.specs.Option.{option_and_then}
 use Rattle.domain_base.specs.Limits.{file_pages, max_links}
 use Rattle.domain_base.specs.declared.place.Home.{Home}
-use Rattle.domain_base.specs.declared.place.Kind.{Kind}
-use Rattle.domain_base.specs.declared.place.Kind.TheVariants.{Directory}
 use Rattle.domain_base.specs.declared.place.Tag.{Tag}
 use Rattle.domain_base.specs.declared.version.Version.{Version}
-use Rattle.page_store.specs.Bitfiles.{Bitfile, Bitfiles as SetOf, IsDirectory, count_pages}
+use Rattle.page_store.specs.Bitfiles.{Bitfiles as SetOf, IsDirectory, count_pages}
 use Rattle.page_store.specs.Pages.{Pages}
 use Rattle.tag_dirs.specs.declared.dir.TagPlace.{TagPlace}
 use Rattle.extent_maps.specs.declared.run.PagePlace.TheVariants.{At}
@@ -16,25 +14,21 @@ use Rattle.bitfile_cells.specs.FileChanges.{LeavesOtherCells}
 use Rattle.bitfile_core.specs.declared.attributes.Attributes.{Attributes}
 use Rattle.bitfile_core.specs.declared.new_cells.NewFile.{NewFile}
 use Rattle.bitfile_core.specs.Changes.{ChangesFirst, says_attributes, says_parent, with_chain, with_first}
-use Rattle.bitfile_core.specs.Creation.{Creates, LeavesBeside, TakesForFile}
+use Rattle.bitfile_core.specs.Creation.{Creates, LeavesBeside, TakesForFile, TakesNext}
 use Rattle.bitfile_core.specs.Files.{AreFiles, Chains, attributes_of, of_live, place_at}
 use Rattle.bitfile_core.specs.Shown.{index_of}
 use Rattle.bitfile_core.specs.Together.{AreTogether}
-use Rattle.bitfile_core.proofs.Created.{one_chains}
 use Rattle.stored_index.specs.Homes.{AreIndexHomes}
-use Rattle.set_laws.proofs.Told.{kind_told}
 use Rattle.stored_set.specs.Sets.{AddsIndexPage, AddsPage, StandsAsSet, WritesIndexPage, attributes_at}
 use Rattle.deferred_delete.specs.Listing.{Listing}
 use Rattle.deferred_laws.specs.Tags.{start_of}
-use Rattle.domain_standing.specs.Domain.{DomainNow}
-use Rattle.standing_laws.specs.Leads.{IsLiveOf}
 use Rattle.standing_laws.specs.IndexCalls.{KeepsTables}
 use Rattle.standing_laws.specs.OtherPages.{KeepsPlaces}
 use Rattle.set_standing.specs.Around.{BytesFollow, ChangesSlot, GoesOnAround, StandsAround}
 use Rattle.set_standing.specs.Parts.{KeepsAround, Parts, Surroundings, TagsOf, domain_of}
 use Rattle.set_standing.proofs.Added.{is_added}
-use Rattle.set_standing.proofs.Again.{there_first}
-use Rattle.set_standing.proofs.CallsAround.{HasFirst, first_of, is_linked, is_made, is_put_in, is_refused}
+use Rattle.set_standing.proofs.CallsAround.{is_linked, is_made, is_put_in, is_refused}
+use Rattle.set_standing.proofs.Directories.{first_there, index_there, is_live}
 use Rattle.set_standing.proofs.IndexAround.{is_put_in as is_inserted, is_written as is_reindexed}
 use Rattle.set_standing.proofs.PartsKept.{same_tags}
 use Rattle.set_standing.proofs.Written.{is_written}
@@ -55,8 +49,8 @@ module _ (number : ℕ) (version : Version) (born : ℕ) (p q : Parts) where
 
   pub made_kept : (tag : Tag) (what : NewFile) (prefer : ℕ) → what.birth ≡ born
       → ((chains : Chains) → AreTogether number p.tags p.space p.cells p.pages chains → Creates number q.tags tag version what chains q.space p.cells q.cells p.pages q.pages)
-      → TakesForFile prefer p.tags q.tags p.space q.space p.cells q.cells p.pages → LeavesOtherCells p.cells [] p.pages q.pages → LeavesBeside q.cells q.tags p.pages q.pages → KeepsAround number version born [] p q
-  made_kept tag what prefer birth creates takes others elsewhere s tags tags_now list list_now v b of adds around =
+      → TakesForFile prefer p.tags q.tags p.space q.space p.cells q.cells p.pages → LeavesOtherCells p.cells [] p.pages q.pages → LeavesBeside q.cells q.tags p.pages q.pages → TakesNext tag p.tags q.tags p.pages q.pages → KeepsAround number version born [] p q
+  made_kept tag what prefer birth creates takes others elsewhere next s tags tags_now list list_now v b of adds around =
       is_made number tag what prefer (domain_of s tags p list) (domain_of s tags_now q list_now) around (slot_changes s tags tags_now list list_now of adds) (follows s tags tags_now list list_now) (subst (λ (n : ℕ). n ≤ s.table.made) (sym birth) b)
       (subst (λ (w : Version). Creates number (tags_now number) tag w what around.chains q.space p.cells q.cells p.pages q.pages) (sym v)
       (subst (λ (ts : List TagPlace). Creates number ts tag version what around.chains q.space p.cells q.cells p.pages q.pages) (sym of.is)
@@ -64,6 +58,7 @@ module _ (number : ℕ) (version : Version) (born : ℕ) (p q : Parts) where
       (subst (λ (ts : List TagPlace). TakesForFile prefer ts (tags_now number) p.space q.space p.cells q.cells p.pages) (sym of.was)
       (subst (λ (ts : List TagPlace). TakesForFile prefer p.tags ts p.space q.space p.cells q.cells p.pages) (sym of.is) takes))
       others (subst (λ (ts : List TagPlace). LeavesBeside q.cells ts p.pages q.pages) (sym of.is) elsewhere)
+      (subst (λ (ts : List TagPlace). TakesNext tag ts (tags_now number) p.pages q.pages) (sym of.was) (subst (λ (ts : List TagPlace). TakesNext tag p.tags ts p.pages q.pages) (sym of.is) next))
 
   pub added_kept : (tag : Tag) (page : ℕ) (bytes : List ℕ) (prefer : ℕ) (set : SetOf) → StandsAsSet number p.tags p.space p.cells p.pages set → IsDirectory set tag → page ≡ count_pages set tag → page < file_pages → q.tags ≡ p.tags
       → ((chains : Chains) → AreTogether number p.tags p.space p.cells p.pages chains → IsSomeAnd (attributes_at chains tag) (AddsPage number p.tags tag page bytes prefer version chains p.space q.space p.cells q.cells p.pages q.pages)) → KeepsAround number version born [] p q
@@ -73,41 +68,6 @@ module _ (number : ℕ) (version : Version) (born : ℕ) (p q : Parts) where
       (subst (λ (w : Version). IsSomeAnd (attributes_at around.chains tag) (AddsPage number (tags number) tag page bytes prefer w around.chains p.space q.space p.cells q.cells p.pages q.pages)) (sym v)
       (subst (λ (ts : List TagPlace). IsSomeAnd (attributes_at around.chains tag) (AddsPage number ts tag page bytes prefer version around.chains p.space q.space p.cells q.cells p.pages q.pages)) (sym of.was)
       (added around.chains (together_was s tags tags_now list of around))))
-
--- what a set shows at a tag, and which file that is
-module _ (number : ℕ) (d : DomainNow) (around : StandsAround number d) (set : SetOf) (stood : StandsAsSet number (d.tags number) d.space d.cells d.pages set) (tag : Tag) (directory : IsDirectory set tag) where
-  same_chains : (t : Tag) → stood.chains t ≡ around.chains t
-  same_chains = one_chains d.pages number (d.tags number) stood.chains around.chains stood.stands.together.files around.well.together.files
-
-  pub is_live : IsLiveOf Directory (around.chains tag)
-  is_live = by_file (set tag) directory (option_and_then (of_live attributes_of) (around.chains tag))
-      (kind_told number (d.tags number) d.space d.cells d.pages stood.chains stood.indexes set stood.stands tag ∙ ap (λ o. option_map (λ (a : Attributes). a.kind) (option_and_then (of_live attributes_of) o)) (same_chains tag))
-    where
-      none_some : (k : Kind) → Some k ≡ None → ⊥
-      none_some k e = cc
-
-      kind_is : (one other : Kind) → Some one ≡ Some other → one ≡ other
-      kind_is one other e = ap (λ o. or_else o one) e
-        where
-          or_else : Option Kind → Kind → Kind
-          or_else None k = k
-          or_else (Some x) k = x
-
-      by_what : (file : Bitfile) → file.kind ≡ Directory → (o : Option Attributes) → Some file.kind ≡ option_map (λ (a : Attributes). a.kind) o → IsSomeAnd o (λ a. a.kind ≡ Directory)
-      by_what file is None told = absurd (none_some file.kind told)
-      by_what file is (Some a) told = sym (kind_is file.kind a.kind told) ∙ is
-
-      by_file : (o : Option Bitfile) → IsSomeAnd o (λ file. file.kind ≡ Directory) → (a : Option Attributes) → option_map (λ (file : Bitfile). file.kind) o ≡ option_map (λ (a : Attributes). a.kind) a → IsSomeAnd a (λ a. a.kind ≡ Directory)
-      by_file None is a told = absurd is
-      by_file (Some file) is a told = by_what file is a told
-
-  -- its index is where the domain has it
-  pub first_there : HasFirst around.chains tag
-  first_there = first_of number d around tag (λ (a : Attributes). a.kind ≡ Directory) is_live
-
-  pub index_there : AreIndexHomes d.pages (option_and_then index_of (around.chains tag)) (around.indexes first_there.first.at)
-  index_there = subst (λ o. AreIndexHomes d.pages (option_and_then index_of o) (around.indexes first_there.first.at)) (there_first number tag d around first_there.first first_there.rest first_there.is ∙ sym first_there.is)
-      (around.below.chains.indexed first_there.first.at)
 
 -- ---- calls that change pages alone, and free space
 
@@ -144,9 +104,10 @@ module _ (number : ℕ) (version : Version) (born : ℕ) (p : Parts) (pages : Pa
       (is_live number (domain_of s tags p list) around set (subst (λ (ts : List TagPlace). StandsAsSet number ts p.space p.cells p.pages set) (sym of.was) stood) tag directory)
       (subst (λ (ts : List TagPlace). AreTogether number ts p.space p.cells pages (with_chain tag (with_first (says_parent parent)) around.chains)) (sym of.was) (says around.chains was))
 
-  pub written_kept : (tag : Tag) (page : ℕ) → ((chains : Chains) → AreFiles number p.tags p.pages chains → (home : Home) → ¬ place_at chains tag page ≡ At home → pages home ≡ p.pages home) → KeepsAround number version born [] p with_pages
-  written_kept tag page elsewhere s tags tags_now list list_now v b of adds around =
+  pub written_kept : (tag : Tag) (page : ℕ) (set : SetOf) → StandsAsSet number p.tags p.space p.cells p.pages set → IsDirectory set tag → ((chains : Chains) → AreFiles number p.tags p.pages chains → (home : Home) → ¬ place_at chains tag page ≡ At home → pages home ≡ p.pages home) → KeepsAround number version born [] p with_pages
+  written_kept tag page set stood directory elsewhere s tags tags_now list list_now v b of adds around =
       is_written number tag page (domain_of s tags p list) (domain_of s tags_now with_pages list_now) around (keeps_places s tags tags_now list list_now of adds) (λ home same. s.alone pages p.pages home same)
+      (is_live number (domain_of s tags p list) around set (subst (λ (ts : List TagPlace). StandsAsSet number ts p.space p.cells p.pages set) (sym of.was) stood) tag directory)
       (elsewhere around.chains (files_was s tags tags_now list of around).files)
 
   pub reindexed_kept : (tag : Tag) (page : ℕ) (bytes : List ℕ) (set : SetOf) → StandsAsSet number p.tags p.space p.cells p.pages set → IsDirectory set tag

@@ -9,7 +9,7 @@ use Rattle.page_store.specs.Bitfiles.{Bitfiles as SetOf, same_tag}
 use Rattle.page_store.specs.Pages.{Pages}
 use Rattle.tag_dirs.specs.declared.dir.TagPlace.{TagPlace}
 use Rattle.free_space.specs.Spaces.{Spaces}
-use Rattle.bitfile_core.specs.Changes.{Removes, with_first, without_chain}
+use Rattle.bitfile_core.specs.Changes.{KeepsSequences, Removes, with_first, without_chain}
 use Rattle.bitfile_core.specs.Files.{AreFiles, Chains}
 use Rattle.bitfile_core.specs.Index.{says_index}
 use Rattle.bitfile_core.specs.Shown.{index_of}
@@ -41,6 +41,7 @@ without_both tag chains t = by_tag (same_tag t tag) refl
 
 module _ (number : ℕ) (version : Version) (born : ℕ) (p : Parts) (pages : Pages) (space : Spaces) (tag : Tag) (at : CellAt) (group : ℕ) (set : SetOf) (stood : StandsAsSet number p.tags space p.cells pages set) (removes : (chains : Chains) → AreFiles number p.tags p.pages chains → Removes number p.tags tag at (without_index tag chains) pages)
     (gives : (chains : Chains) (homes : List Home) → AreFiles number p.tags p.pages chains → AreIndexHomes p.pages (option_and_then index_of (chains tag)) homes → GivesIndexBack group p.tags (chains tag) homes p.space space p.pages pages)
+    (sequences : KeepsSequences p.tags p.pages pages)
   where
     abbrev left : Parts
     left = record p { pages = pages; space = space }
@@ -83,7 +84,7 @@ module _ (number : ℕ) (version : Version) (born : ℕ) (p : Parts) (pages : Pa
 
       gone_there : GoesOnAround number d (domain_of s tags_now left list_now)
       gone_there = subst (GoesOnAround number d) (sym now_is)
-          (is_gone number tag at group d now around refl (λ home same. s.alone pages p.pages home same) together removes_there gives_there adds.0 adds.1.entries adds.1.tag_pages)
+          (is_gone number tag at group d now around refl (λ home same. s.alone pages p.pages home same) together removes_there gives_there (subst (λ (ts : List TagPlace). KeepsSequences ts p.pages pages) (sym of.was) sequences) adds.0 adds.1.entries adds.1.tag_pages)
 
     pub gone_kept : KeepsAround number version born (at ∷ []) p left
     gone_kept s tags tags_now list list_now v b of adds around = gone_there s tags tags_now list list_now of adds around

@@ -1,5 +1,6 @@
 -- A domain stands on around a slot where a file is taken away, and with it its index.
 use Rattle.std.proofs.Common.{◌≡◌, ◌∙◌, ℕ, false, List, [], ◌∷◌, Option, Some, None, IfSome, IsSomeAnd, Contains, inl, is_some, refl, sym, ap, subst}
+use Rattle.std.proofs.lemmas.List.{append-nil}
 use Rattle.std.specs.Option.{option_and_then, option_map}
 use Rattle.domain_base.specs.declared.place.CellAt.{CellAt}
 use Rattle.domain_base.specs.declared.place.Home.{Home}
@@ -13,9 +14,10 @@ use Rattle.bmt_mcells.specs.Chain.{PlacedCell}
 use Rattle.tag_dirs.proofs.Slots.{off_slot}
 use Rattle.free_cells.specs.Cells.{table_of}
 use Rattle.free_space.specs.Spaces.{Spaces}
+use Rattle.extent_maps.specs.declared.run.PagePlace.TheVariants.{At}
 use Rattle.bitfile_cells.specs.Files.{AreFile, IsFile}
-use Rattle.bitfile_core.specs.Changes.{ChangesBeside, Removes, says_removed, with_first, without_chain}
-use Rattle.bitfile_core.specs.Files.{LeadsToFile, first_record}
+use Rattle.bitfile_core.specs.Changes.{ChangesBeside, KeepsSequences, Removes, says_removed, with_first, without_chain}
+use Rattle.bitfile_core.specs.Files.{LeadsToFile, first_record, place_at}
 use Rattle.bitfile_core.specs.Index.{says_index}
 use Rattle.bitfile_core.specs.Shown.{index_of}
 use Rattle.bitfile_core.specs.Together.{AreTogether}
@@ -37,8 +39,12 @@ use Rattle.standing_laws.proofs.IndexSet.{IsChain}
 use Rattle.standing_laws.proofs.IndexSpaces.{Among, NoHome, SpacesMove, held_still, moves_away}
 use Rattle.standing_laws.proofs.IndexWas.{file_was, index_low_was, off_cells, off_first}
 use Rattle.set_standing.specs.Around.{BytesFollow, GoesOnAround, StandsAround}
-use Rattle.set_standing.proofs.Again.{alone_said, around_of, names_first, number_first, there_first}
+use Rattle.set_standing.specs.Follow.{FilesFollow}
+use Rattle.set_standing.proofs.Again.{alone_said, around_of, names_first, number_first, says_first, there_first}
 use Rattle.set_standing.proofs.Aside.{stays_aside}
+use Rattle.set_standing.proofs.FilesKept.{files_by}
+use Rattle.set_standing.proofs.Following.{chain_gone, same_sequences}
+use Rattle.set_standing.proofs.OwnPages.{not_in_index, page_bytes}
 
 -- where the chain begins of a file that was taken away
 module _ (number : ℕ) (tag : Tag) (d : DomainNow) (around : StandsAround number d) (pages : Pages) (start : CellAt) (removes : Removes number (d.tags number) tag start (without_index tag around.chains) pages) where
@@ -66,7 +72,7 @@ module _ (number : ℕ) (tag : Tag) (group : ℕ) (d : DomainNow) (around : Stan
   now = record d { pages = pages; contents = contents; space = space }
 
   module _ (first : PlacedCell) (rest : List PlacedCell) (is : around.chains tag ≡ Some (first ∷ rest)) (removes : Removes number (d.tags number) tag first.at (without_index tag around.chains) pages) (gives : GivesIndexBack group (d.tags number) (around.chains tag) (around.indexes first.at) d.space space d.pages pages)
-      (listed : Listing) (adds : Adds first.at None d.list.entries listed.entries) (same_pages : listed.tag_pages ≡ d.list.tag_pages) (follow : BytesFollow d now)
+      (listed : Listing) (adds : Adds first.at None d.list.entries listed.entries) (same_pages : listed.tag_pages ≡ d.list.tag_pages) (follow : BytesFollow d now) (sequences : KeepsSequences (d.tags number) d.pages pages)
     where
       abbrev then : DomainNow
       then = record now { list = listed }
@@ -140,32 +146,43 @@ module _ (number : ℕ) (tag : Tag) (group : ℕ) (d : DomainNow) (around : Stan
       moves = subst (SpacesMove NoHome (Among (around.indexes first.at)) d.space) (sym gives.drops.waits)
           (moves_away (around.indexes first.at) group d.space (index_low_was d around.files around.indexes around.below number around.entry around.original tag around.chains around.well first rest is))
 
+      -- pages of files stay
+      page_stays : (t : Tag) (k : ℕ) (home : Home) → place_at around.chains t k ≡ At home → pages home ≡ d.pages home
+      page_stays t k home placed =
+          let apart = around.well.together.file_pages t k home placed in
+          gives.drops.others home (not_in_index number d around first t k home placed)
+          ∙ beside.pages home (off_slot (d.tags number) first.cell.head.slot home apart.no_tags) (off_its_first home apart.apart.off_table)
+
+      files_follow : FilesFollow number d then
+      files_follow = files_by number d then [] (sym (append-nil (d.tags number))) (same_sequences number d then refl sequences) around.chains (without_chain tag around.chains) around.well.together.files together.files
+          (chain_gone number d then around.chains tag (λ t cells differ there. page_bytes number d around then follow t cells there (λ k home placed. page_stays t k home placed)))
+
       pub file_gone : GoesOnAround number d then
       file_gone = (
         around_of number then around.entry around.original files_then (with_index_at first.at [] around.indexes) below_then (without_chain tag around.chains) together alone_then,
-        stays_aside number first.at d then around.files around.indexes around.below (first ∷ rest) (there_first number tag d around first rest is) (number_first number tag d around first rest is) (λ n differ. refl) refl below_then.chains.well.together.allocated
+        stays_aside number first.at d then around.files around.indexes around.below (first ∷ rest) (there_first number tag d around first rest is) (number_first number tag d around first rest is) (says_first number tag d around first rest is) (λ n differ. refl) refl below_then.chains.well.together.allocated
             (λ at on other.
             ap (λ (o : Option (List ℕ)). cell_at (λ _. o) at) (gives.drops.others (home_of at) (λ inside. off_its_cells (home_of at) inside on))
             ∙ beside.cells at other)
             (λ home off.
             gives.drops.others home off.no_index
             ∙ beside.pages home (off_slot (d.tags number) first.cell.head.slot home off.no_tags) (off_its_first home off.off_table))
-            (λ home off apart. record { held = held_still NoHome (Among (around.indexes first.at)) d.space space moves home off.low off.no_index apart.held; off_table = apart.off_table }) follow refl refl,
+            (λ home off apart. record { held = held_still NoHome (Among (around.indexes first.at)) d.space space moves home off.low off.no_index apart.held; off_table = apart.off_table }) follow refl refl files_follow,
       )
 
   pub begun_at : (start : CellAt) → Removes number (d.tags number) tag start (without_index tag around.chains) pages → GivesIndexBack group (d.tags number) (around.chains tag) (around.indexes start) d.space space d.pages pages
-      → (listed : Listing) → Adds start None d.list.entries listed.entries → listed.tag_pages ≡ d.list.tag_pages → BytesFollow d now → GoesOnAround number d (record now { list = listed })
-  begun_at start removes gives listed adds same_pages follow = from (removed_chain number tag d around pages start removes)
+      → KeepsSequences (d.tags number) d.pages pages → (listed : Listing) → Adds start None d.list.entries listed.entries → listed.tag_pages ≡ d.list.tag_pages → BytesFollow d now → GoesOnAround number d (record now { list = listed })
+  begun_at start removes gives sequences listed adds same_pages follow = from (removed_chain number tag d around pages start removes)
     where
       from : IsChain around.chains tag start → GoesOnAround number d (record now { list = listed })
       from c = file_gone c.first c.rest c.is
           (subst (λ (a : CellAt). Removes number (d.tags number) tag a (without_index tag around.chains) pages) (sym c.at) removes)
           (subst (λ (a : CellAt). GivesIndexBack group (d.tags number) (around.chains tag) (around.indexes a) d.space space d.pages pages) (sym c.at) gives)
-          listed (subst (λ (a : CellAt). Adds a None d.list.entries listed.entries) (sym c.at) adds) same_pages follow
+          listed (subst (λ (a : CellAt). Adds a None d.list.entries listed.entries) (sym c.at) adds) same_pages follow sequences
 
 pub is_gone : (number : ℕ) (tag : Tag) (start : CellAt) (group : ℕ) (d now : DomainNow) (around : StandsAround number d) → KeepsTables d now → BytesFollow d now → AreTogether number (d.tags number) now.space d.cells now.pages (without_chain tag around.chains)
     → Removes number (d.tags number) tag start (without_index tag around.chains) now.pages → GivesIndexBack group (d.tags number) (around.chains tag) (around.indexes start) d.space now.space d.pages now.pages
-    → (listed : Listing) → Adds start None d.list.entries listed.entries → listed.tag_pages ≡ d.list.tag_pages → GoesOnAround number d (record now { list = listed })
-is_gone number tag start group d now around same follow together removes gives listed adds same_pages =
+    → KeepsSequences (d.tags number) d.pages now.pages → (listed : Listing) → Adds start None d.list.entries listed.entries → listed.tag_pages ≡ d.list.tag_pages → GoesOnAround number d (record now { list = listed })
+is_gone number tag start group d now around same follow together removes gives sequences listed adds same_pages =
     subst (λ (x : DomainNow). GoesOnAround number d (record x { list = listed })) (sym same)
-    (begun_at number tag group d around now.pages now.contents now.space together start removes gives listed adds same_pages follow)
+    (begun_at number tag group d around now.pages now.contents now.space together start removes gives sequences listed adds same_pages follow)

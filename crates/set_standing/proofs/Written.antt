@@ -1,45 +1,45 @@
 -- A domain stands on around a slot where a page of a file is put in place.
-use Rattle.std.proofs.Common.{◌≡◌, ◌∙◌, ℕ, true, false, List, Option, Some, None, IfSome, Contains, inl, refl, sym, ap, subst, true≢false}
+use Rattle.std.proofs.Common.{◌≡◌, ◌∙◌, ℕ, Bool, true, false, List, [], Option, Some, None, IfSome, Contains, refl, sym, ap, subst, true≢false}
+use Rattle.std.proofs.lemmas.List.{append-nil}
 use Rattle.std.specs.Option.{option_map_or}
+use Rattle.domain_base.specs.declared.place.CellAt.{CellAt}
 use Rattle.domain_base.specs.declared.place.Home.{Home}
+use Rattle.domain_base.specs.declared.place.Kind.TheVariants.{Directory, File}
 use Rattle.domain_base.specs.declared.place.Tag.{Tag}
+use Rattle.page_store.specs.Bitfiles.{same_tag}
 use Rattle.page_store.specs.Pages.{Pages}
 use Rattle.bmt_mcells.specs.CellPage.{cell_at, home_of}
 use Rattle.bmt_mcells.specs.Chain.{PlacedCell}
-use Rattle.tag_dirs.specs.Directory.{has_home}
+use Rattle.tag_dirs.specs.Directory.{cell_of, has_home}
 use Rattle.extent_maps.specs.declared.run.PagePlace.TheVariants.{Absent, At}
 use Rattle.free_cells.specs.Cells.{table_of}
 use Rattle.bitfile_cells.specs.Files.{places_of}
+use Rattle.bitfile_core.specs.Creation.{last_sequence}
 use Rattle.bitfile_core.specs.Files.{LeadsToFile, place_at}
 use Rattle.bitfile_core.specs.Together.{AreTogether}
+use Rattle.bitfile_core.proofs.OneFile.{tags_same}
 use Rattle.set_laws.proofs.Together.{together_away}
 use Rattle.deferred_delete.specs.Standing.{place_in}
 use Rattle.deferred_laws.proofs.Tags.{IsNamed, named}
 use Rattle.domain_layout.specs.Filled.{Contents}
 use Rattle.domain_standing.specs.Domain.{DomainNow}
 use Rattle.domain_standing.specs.Holders.Holder.{of_file}
-use Rattle.standing_laws.specs.Leads.{StandsBelow}
+use Rattle.standing_laws.specs.Leads.{IsLiveOf, StandsBelow}
 use Rattle.standing_laws.specs.OtherPages.{KeepsPlaces, KeepsWhere}
 use Rattle.standing_laws.proofs.OthersStand.{others_stand}
 use Rattle.set_standing.specs.Around.{BytesFollow, GoesOnAround, StandsAround}
-use Rattle.set_standing.proofs.Again.{its_number}
+use Rattle.set_standing.specs.Follow.{FilesFollow, TagFollows}
+use Rattle.set_standing.proofs.Again.{its_number, says_some}
 use Rattle.set_standing.proofs.Aside.{stays_aside}
-use Rattle.set_standing.proofs.CallsAround.{is_refused}
+use Rattle.set_standing.proofs.FilesKept.{KeepsBytesOf, files_by, seen_directory, tag_same}
+use Rattle.set_standing.proofs.Following.{kept_sequences, other_begins, same_sequences}
+use Rattle.set_standing.proofs.OwnPages.{held_for, page_bytes}
 
-absent_not : (home : Home) → ¬ Absent ≡ At home
-absent_not home is = cc
-
-module _ (number : ℕ) (tag : Tag) (page : ℕ) (d : DomainNow) (around : StandsAround number d) (pages : Pages) (contents : Contents) (elsewhere : (home : Home) → ¬ place_at around.chains tag page ≡ At home → pages home ≡ d.pages home) where
+module _ (number : ℕ) (tag : Tag) (page : ℕ) (d : DomainNow) (around : StandsAround number d) (pages : Pages) (contents : Contents) (directory : IsLiveOf Directory (around.chains tag)) (elsewhere : (home : Home) → ¬ place_at around.chains tag page ≡ At home → pages home ≡ d.pages home) where
   abbrev now : DomainNow
   now = record d { pages = pages; contents = contents }
 
   module _ (bytes : BytesFollow d now) where
-    -- the tag names nothing, and so nothing is done
-    nothing_written : around.chains tag ≡ None → GoesOnAround number d now
-    nothing_written none =
-        is_refused number d now around (record { frame = refl; table = refl; list = refl; tags = λ other differ. refl }) bytes refl refl
-        (λ i home. elsewhere home (λ at. absent_not home (sym (ap (λ o. option_map_or (λ cs. places_of cs page) o Absent) none) ∙ at)) i) (inl refl)
-
     module _ (cs : List PlacedCell) (some : around.chains tag ≡ Some cs) where
       m : IsNamed around.files cs
       m = named around.files around.chains tag cs some (around.well.among.same tag)
@@ -87,22 +87,47 @@ module _ (number : ℕ) (tag : Tag) (page : ℕ) (d : DomainNow) (around : Stand
       leads : LeadsToFile number (d.tags number) d.pages tag cs
       leads = subst (λ o. IfSome o (LeadsToFile number (d.tags number) d.pages tag)) some (around.well.together.files.some tag)
 
+      -- the page is of no other tag's file
+      page_elsewhere : (t : Tag) (k : ℕ) (home : Home) → same_tag t tag ≡ false → place_at around.chains t k ≡ At home → pages home ≡ d.pages home
+      page_elsewhere t k home differ at = elsewhere home (λ mine.
+          let h = held_for number d around t k home at in
+          other_begins number (d.tags number) d.pages around.chains around.well.together.files around.files t tag h.cells cs h.there some differ h.name m
+          (one_start h.name.at k m.at page (around.below.owned.once home (of_file h.name.at k) (of_file m.at page) h.placed (place_there home mine))))
+        where
+          one_start : (a : CellAt) (j : ℕ) (b : CellAt) (k : ℕ) → of_file a j ≡ of_file b k → a ≡ b
+          one_start a j b k e = cc
+
+      files_follow : FilesFollow number d now
+      files_follow = files_by number d now [] (sym (append-nil (d.tags number)))
+          (same_sequences number d now refl (kept_sequences d.pages pages (d.tags number) around.well.together.files.directory on_tag)) around.chains around.chains around.well.together.files together_now.files
+          each
+        where
+          each : (t : Tag) → TagFollows d now (last_sequence d.pages (d.tags number) t.slot) t (around.chains t) (around.chains t)
+          each t = tag_same d now (last_sequence d.pages (d.tags number) t.slot) t (around.chains t) (λ cells there. by_tag cells there (same_tag t tag) refl)
+            where
+              by_tag : (cells : List PlacedCell) → around.chains t ≡ Some cells → (b : Bool) → same_tag t tag ≡ b → KeepsBytesOf d now cells
+              by_tag cells there true same = λ seen is file k home at.
+                  let live = subst (IsLiveOf Directory) (sym (ap around.chains (tags_same t tag same)) ∙ there) directory in
+                  let e : File ≡ Directory = sym file ∙ seen_directory cells seen live is in
+                  absurd (cc)
+              by_tag cells there false differ = page_bytes number d around now bytes t cells there (λ k home placed. page_elsewhere t k home differ placed)
+
       file_written : GoesOnAround number d now
       file_written = (
         around_now,
-        stays_aside number m.at d now around.files around.indexes around.below cs m.is (its_number number tag cs leads.is_of) (λ n differ. refl) refl below_now.chains.well.together.allocated
+        stays_aside number m.at d now around.files around.indexes around.below cs m.is (its_number number tag cs leads.is_of) (says_some d.pages (cell_of d.pages (d.tags number) tag) cs leads.leads) (λ n differ. refl) refl below_now.chains.well.together.allocated
             (λ at on other. ap (λ (o : Option (List ℕ)). cell_at (λ _. o) at) (on_table (home_of at) on))
             (λ home off. elsewhere home (λ at. off.no_page page (place_there home at)))
-            (λ home off held. held) bytes refl refl,
+            (λ home off held. held) bytes refl refl files_follow,
       )
 
     pub page_written : GoesOnAround number d now
     page_written = by_chain (around.chains tag) refl
       where
         by_chain : (o : Option (List PlacedCell)) → around.chains tag ≡ o → GoesOnAround number d now
-        by_chain None none = nothing_written none
+        by_chain None none = absurd (subst (IsLiveOf Directory) none directory)
         by_chain (Some cs) some = file_written cs some
 
-pub is_written : (number : ℕ) (tag : Tag) (page : ℕ) (d now : DomainNow) (around : StandsAround number d) → KeepsPlaces d now → BytesFollow d now → ((home : Home) → ¬ place_at around.chains tag page ≡ At home → now.pages home ≡ d.pages home) → GoesOnAround number d now
-is_written number tag page d now around same bytes elsewhere =
-    subst (GoesOnAround number d) (sym same) (page_written number tag page d around now.pages now.contents elsewhere bytes)
+pub is_written : (number : ℕ) (tag : Tag) (page : ℕ) (d now : DomainNow) (around : StandsAround number d) → KeepsPlaces d now → BytesFollow d now → IsLiveOf Directory (around.chains tag) → ((home : Home) → ¬ place_at around.chains tag page ≡ At home → now.pages home ≡ d.pages home) → GoesOnAround number d now
+is_written number tag page d now around same bytes directory elsewhere =
+    subst (GoesOnAround number d) (sym same) (page_written number tag page d around now.pages now.contents directory elsewhere bytes)

@@ -3,17 +3,21 @@ use Rattle.std.specs.Prelude.{◌≡◌, ℕ, Some, None}
 use Rattle.domain_base.specs.declared.place.CellAt.{CellAt}
 use Rattle.domain_base.specs.declared.place.Home.{Home}
 use Rattle.bitfile_core.specs.Files.{Chains}
+use Rattle.fileset_model.specs.declared.command.Owner.{Owner}
 use Rattle.fileset_model.specs.declared.fileset.FilesetSlot.{FilesetSlot}
+use Rattle.fileset_model.specs.declared.fileset.Limits.{Limits}
 use Rattle.fileset_table.specs.declared.slot.FilesetEntry.{FilesetEntry}
 use Rattle.fileset_table.specs.declared.slot.SlotItem.TheVariants as slot
 use Rattle.deferred_delete.specs.Standing.{Files, source_at}
 use Rattle.deferred_laws.specs.Calls.{StandsWell}
-use Rattle.domain_layout.specs.Shape.{FilesetShape}
+use Rattle.domain_layout.specs.Shape.{AreLimits, FilesetShape}
 use Rattle.domain_standing.specs.Chains.{IndexesAt, no_files, no_indexes}
 use Rattle.domain_standing.specs.Domain.{DomainNow, item_in}
 use Rattle.domain_standing.specs.Holders.{Holder, Holds}
 use Rattle.standing_laws.specs.Leads.{StandsBelow, fileset_now}
+use Rattle.standing_laws.specs.SlotParents.{HaveParentsIn, StandsForSome}
 use Rattle.standing_laws.specs.Slots.{StandsSlot}
+use Rattle.set_standing.specs.Follow.{FilesFollow}
 
 -- an original is in the slot of a domain that stands but for its filesets, its files are among the
 -- domain's, and no file of the domain is read through another
@@ -31,8 +35,9 @@ pub record StandsAround (number : ℕ) (d : DomainNow) : Type 0 where
 abbrev pub IsOfVolume : DomainNow → Home → Type 0
 IsOfVolume d home = Holds d no_files no_indexes Holder.of_volume home
 
--- all that is not of the slot is as it was: the frame and the table, the tags of other slots and
--- what they stand for, and the first pages of volumes
+-- all that is not of the slot is as it was: the frame and the table, the tags of other slots, what
+-- they stand for and what their directories say of parents, and the first pages of volumes; and the
+-- slot's own files keep what they have, and its owners their limits
 pub record StaysAround (number : ℕ) (d now : DomainNow) : Type 0 where
   pub frame : now.frame ≡ d.frame
   pub table : now.table ≡ d.table
@@ -40,7 +45,13 @@ pub record StaysAround (number : ℕ) (d now : DomainNow) : Type 0 where
   pub slots : (other : ℕ) (entry : FilesetEntry) (shape : FilesetShape) (fileset : FilesetSlot)
       → ¬ other ≡ number → item_in d other ≡ Some (slot.Original entry)
       → StandsSlot d other entry shape fileset → StandsSlot now other entry shape fileset
+  pub parents : (other : ℕ) → ¬ other ≡ number → StandsForSome other d → HaveParentsIn other d
+      → HaveParentsIn other now
   pub volumes : (home : Home) → IsOfVolume d home → now.pages home ≡ d.pages home
+  pub files : FilesFollow number d now
+  pub limits : (entry : FilesetEntry) (limits : Owner → Limits)
+      → item_in d number ≡ Some (slot.Original entry) → AreLimits d.pages entry limits
+      → AreLimits now.pages entry limits
 
 -- and the domain stands around the slot
 abbrev pub GoesOnAround : ℕ → DomainNow → DomainNow → Type 0

@@ -6,7 +6,7 @@ ghost use Rattle.domain_base.specs.declared.place.Tag.{Tag};
 ghost use Rattle.free_space.specs.Spaces.{missed};
 ghost use Rattle.bitfile_cells.specs.FileChanges.{LeavesOtherCells};
 ghost use Rattle.bitfile_core.specs.Changes.{ChangesFirst, says_attributes, says_parent, with_chain, with_first};
-ghost use Rattle.bitfile_core.specs.Creation.{Creates, LeavesBeside, TakesForFile};
+ghost use Rattle.bitfile_core.specs.Creation.{Creates, LeavesBeside, TakesForFile, TakesNext};
 ghost use Rattle.bitfile_core.specs.Together.{AreTogether};
 ghost use Rattle.bitfile_core.specs.declared.attributes.Attributes.{Attributes};
 ghost use Rattle.bitfile_core.specs.declared.new_cells.NewFile.{NewFile};
@@ -35,6 +35,7 @@ pub fn all_stands_around_a_file_that_is_made()
         d.pages
         → LeavesOtherCells d.cells [] d.pages now.pages
         → LeavesBeside now.cells (now.tags number) d.pages now.pages
+        → TakesNext tag (d.tags number) (now.tags number) d.pages now.pages
         → GoesOnAround number d now }
 {}
 

@@ -2,19 +2,22 @@
 ghost use Rattle.std.specs.Prelude.{◌≡◌, ◌<◌, ℕ, IsSomeAnd, List};
 ghost use Rattle.domain_base.specs.Limits.{file_pages};
 ghost use Rattle.domain_base.specs.declared.place.Home.{Home};
+ghost use Rattle.domain_base.specs.declared.place.Kind.TheVariants.{Directory};
 ghost use Rattle.domain_base.specs.declared.place.Tag.{Tag};
 ghost use Rattle.page_store.specs.Bitfiles.{Bitfiles, IsDirectory, count_pages};
 ghost use Rattle.extent_maps.specs.declared.run.PagePlace.TheVariants.{At};
 ghost use Rattle.bitfile_core.specs.Files.{place_at};
 ghost use Rattle.stored_set.specs.Sets.{AddsPage, StandsAsSet, attributes_at};
 ghost use Rattle.domain_standing.specs.Domain.{DomainNow};
+ghost use Rattle.standing_laws.specs.Leads.{IsLiveOf};
 ghost use Rattle.standing_laws.specs.OtherPages.{KeepsPlaces};
 ghost use Rattle.set_standing.specs.Around.{BytesFollow, ChangesSlot, GoesOnAround, StandsAround};
 
-/// Where a page of a file or directory is put in place of the one that stood there.
+/// Where a page of a directory is put in place of the one that stood there.
 pub fn all_stands_around_a_page_that_is_written()
     ensures { (number : ℕ) (tag : Tag) (page : ℕ) (d now : DomainNow)
         → (around : StandsAround number d) → KeepsPlaces d now → BytesFollow d now
+        → IsLiveOf Directory (around.chains tag)
         → ((home : Home) → ¬ place_at around.chains tag page ≡ At home
         → now.pages home ≡ d.pages home)
         → GoesOnAround number d now }

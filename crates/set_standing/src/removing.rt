@@ -2,7 +2,7 @@
 ghost use Rattle.std.specs.Prelude.{◌≡◌, ℕ, None};
 ghost use Rattle.domain_base.specs.declared.place.CellAt.{CellAt};
 ghost use Rattle.domain_base.specs.declared.place.Tag.{Tag};
-ghost use Rattle.bitfile_core.specs.Changes.{Removes, without_chain};
+ghost use Rattle.bitfile_core.specs.Changes.{KeepsSequences, Removes, without_chain};
 ghost use Rattle.bitfile_core.specs.Together.{AreTogether};
 ghost use Rattle.stored_set.specs.Sets.{GivesIndexBack, without_index};
 ghost use Rattle.deferred_delete.specs.Listing.{Adds, Listing};
@@ -19,7 +19,8 @@ pub fn all_stands_around_a_file_that_is_taken_away()
         (without_chain tag around.chains)
         → Removes number (d.tags number) tag start (without_index tag around.chains) now.pages
         → GivesIndexBack group (d.tags number) (around.chains tag) (around.indexes start) d.space
-        now.space d.pages now.pages → (listed : Listing)
+        now.space d.pages now.pages → KeepsSequences (d.tags number) d.pages now.pages
+        → (listed : Listing)
         → Adds start None d.list.entries listed.entries → listed.tag_pages ≡ d.list.tag_pages
         → GoesOnAround number d (record now { list = listed }) }
 {}

@@ -1,0 +1,35 @@
+-- Owners of a slot keep their limits where its quota cells stay.
+use Rattle.std.proofs.Common.{◌≡◌, ◌∙◌, ℕ, List, Option, Some, None, IsSomeAnd, refl, ap}
+use Rattle.std.specs.Option.{option_and_then}
+use Rattle.domain_base.specs.declared.place.CellAt.{CellAt}
+use Rattle.record_table.specs.declared.record.Record.{Record}
+use Rattle.bmt_mcells.specs.Chain.{LinksFrom, PlacedCell, records_of}
+use Rattle.fileset_model.specs.declared.command.Owner.{Owner}
+use Rattle.fileset_model.specs.declared.fileset.Limits.{Limits}
+use Rattle.fileset_table.specs.declared.slot.FilesetEntry.{FilesetEntry}
+use Rattle.fileset_table.specs.declared.slot.SlotItem.TheVariants as slot
+use Rattle.deferred_delete.specs.Standing.{Files}
+use Rattle.domain_layout.proofs.OneShape.{links_same}
+use Rattle.domain_layout.specs.Shape.{AreLimits, AreQuotas}
+use Rattle.domain_layout.specs.TagRules.{quota_of}
+use Rattle.domain_standing.specs.Chains.{AreQuotasOf, IsQuotaOf}
+use Rattle.domain_standing.specs.Domain.{DomainNow, item_in}
+use Rattle.standing_laws.proofs.OtherSlots.{links_of}
+
+module _ (n : ℕ) (d now : DomainNow) (files : Files) (named : (at : CellAt) → IsQuotaOf d n at → IsSomeAnd (files at) (AreQuotasOf d n at)) (links : (at : CellAt) (cs : List PlacedCell) → files at ≡ Some cs → AreQuotasOf d n at cs → LinksFrom now.pages at cs)
+    (entry : FilesetEntry) (there : item_in d n ≡ Some (slot.Original entry))
+  where
+    quotas_still : (o : Option CellAt) → entry.quota ≡ o → (records : List Record) → AreQuotas d.pages o records → AreQuotas now.pages o records
+    quotas_still None none records are = are
+    quotas_still (Some at) quota records are = by_chain (files at) refl (named at (ap (option_and_then quota_of) there ∙ quota))
+      where
+        by_chain : (o : Option (List PlacedCell)) → files at ≡ o → IsSomeAnd o (AreQuotasOf d n at) → AreQuotas now.pages (Some at) records
+        by_chain None none quotas = absurd quotas
+        by_chain (Some cs) some quotas = (
+          cs,
+          links at cs some quotas,
+          are.2 ∙ ap records_of (links_same d.pages at are.0 cs are.1 (links_of d.pages at cs quotas.quotas)),
+        )
+
+    pub limits_still : (limits : Owner → Limits) → AreLimits d.pages entry limits → AreLimits now.pages entry limits
+    limits_still limits are = record { records = are.records; quotas = quotas_still entry.quota refl are.records are.quotas; each = are.each }

@@ -1,0 +1,61 @@
+-- What the files of the fileset in one slot keep, while calls change its set of files and
+-- directories.
+use Rattle.std.specs.Prelude.{◌≡◌, ◌<◌, ◌≤◌, ◌++◌, ℕ, false, List, Option, None, Some, IsSome, IsSomeAnd}
+use Rattle.domain_base.specs.declared.place.Home.{Home}
+use Rattle.domain_base.specs.declared.place.Kind.TheVariants.{File}
+use Rattle.domain_base.specs.declared.place.Tag.{Tag}
+use Rattle.bmt_mcells.specs.Chain.{PlacedCell}
+use Rattle.tag_dirs.specs.declared.dir.TagPlace.{TagPlace}
+use Rattle.bitfile_core.specs.Creation.{last_sequence}
+use Rattle.bitfile_core.specs.Files.{AreFiles, Chains}
+use Rattle.domain_layout.specs.Seen.{SeenFile, seen_in}
+use Rattle.domain_standing.specs.Domain.{DomainNow}
+
+-- a file has the size, the flag and the pages that it had, and these their bytes
+pub record IsSameFile (d now : DomainNow) (was is : SeenFile) : Type 0 where
+  pub size : is.is.size ≡ was.is.size
+  pub logged : is.is.is_logged ≡ was.is.is_logged
+  pub homes : (page : ℕ) → is.homes page ≡ was.homes page
+  pub bytes : (page : ℕ) (home : Home) → was.homes page ≡ Some home
+      → now.contents home ≡ d.contents home
+
+-- it is of the kind and the owner that it was, and a file is the same
+pub record IsStill (d now : DomainNow) (was is : SeenFile) : Type 0 where
+  pub kind : is.is.kind ≡ was.is.kind
+  pub uid : is.is.uid ≡ was.is.uid
+  pub gid : is.is.gid ≡ was.is.gid
+  pub file : was.is.kind ≡ File → IsSameFile d now was is
+
+-- a file has no byte and no page
+pub record IsEmptyFile (is : SeenFile) : Type 0 where
+  pub size : is.is.size ≡ 0
+  pub logged : is.is.is_logged ≡ false
+  pub homes : (page : ℕ) → is.homes page ≡ None
+
+-- what a tag names is what it named; or the tag named nothing, and a file is empty
+abbrev pub ComesFrom : DomainNow → DomainNow → Option (List PlacedCell) → SeenFile → Type 0
+ComesFrom d now None is = is.is.kind ≡ File → IsEmptyFile is
+ComesFrom d now (Some cells) is = IsSomeAnd (seen_in cells) (λ was. IsStill d now was is)
+
+-- so of a tag, and where it named nothing its sequence is behind the last one that its slot had
+pub record TagFollows (d now : DomainNow) (last : ℕ) (tag : Tag)
+    (chain chain_now : Option (List PlacedCell)) : Type 0 where
+  pub fresh : chain ≡ None → IsSome chain_now → last < tag.seq
+  pub from : (cells : List PlacedCell) (is : SeenFile) → chain_now ≡ Some cells
+      → seen_in cells ≡ Some is → ComesFrom d now chain is
+
+-- of each tag of the slot
+abbrev pub TagsFollow : ℕ → DomainNow → DomainNow → Chains → Chains → Type 0
+TagsFollow number d now chains chains_now = (tag : Tag)
+    → TagFollows d now (last_sequence d.pages (d.tags number) tag.slot) tag (chains tag)
+    (chains_now tag)
+
+-- and the tag directory has the pages that it had and more behind them, with no lower sequence
+pub record FilesFollow (number : ℕ) (d now : DomainNow) : Type 0 where
+  pub more : List TagPlace
+  pub grows : now.tags number ≡ d.tags number ++ more
+  pub sequences : (slot : ℕ) → last_sequence d.pages (d.tags number) slot
+      ≤ last_sequence now.pages (now.tags number) slot
+  pub files : (chains chains_now : Chains) → AreFiles number (d.tags number) d.pages chains
+      → AreFiles number (now.tags number) now.pages chains_now
+      → TagsFollow number d now chains chains_now
