@@ -25,6 +25,7 @@ use Rattle.bitmap_marks.proofs.Volumes.{volume_changed}
 use Rattle.domain_standing.specs.Chains.{IndexesAt}
 use Rattle.domain_standing.specs.Domain.{DomainNow, item_in}
 use Rattle.domain_standing.specs.Holders.{AreHeldAt, Holder, Holds}
+use Rattle.domain_standing.specs.Sources.{StandAlone}
 use Rattle.domain_standing.specs.Standing.{HaveParents, IsMarkedBut, StandsDomain}
 use Rattle.deferred_delete.specs.Standing.{Files}
 use Rattle.page_ways.specs.Frame.{frame_in}
@@ -38,6 +39,7 @@ use Rattle.domain_memory.specs.Staged.{IsSettled, IsStaged, IsStagedForSome, May
 use Rattle.domain_memory.specs.declared.memory.DomainMemory.{DomainMemory}
 use Rattle.domain_memory.proofs.KeptSpace.{kept_is}
 use Rattle.domain_memory.proofs.SlotsKept.{book_kept, book_same, places_kept, places_same}
+use Rattle.domain_standing.proofs.SourcesStay.{sources_stay}
 use Rattle.standing_laws.specs.Leads.{StandsBelow}
 use Rattle.standing_laws.specs.OtherPages.{KeepsPages}
 use Rattle.standing_laws.proofs.MemoryKept.{all_kept_stands}
@@ -179,6 +181,12 @@ module _ (old new : DomainMemory) (marks : StagedPages) (all : FilesetMap) (stag
       all_kept_stands (marked (staged_in old) all staged.stands (pages_of marks) change) (change_volumes keeping old.space) new.cells (volume_changed keeping old.space) same.tables same.marks same.cells all
       (marked_stands (staged_in old) all staged.stands (pages_of marks) change refl)
 
+  target_alone : StandAlone target
+  target_alone =
+      sources_stay (staged_in old) target refl (λ vol member. same.tables vol)
+      (λ home member table. other_pages (staged_in old) all staged.stands (pages_of marks) change home Holder.of_cells (member, table) (λ is. absurd (cc)))
+      staged.alone
+
   target_marked : IsMarkedBut target
   target_marked =
       let bits = marked_bits (staged_in old) all staged.stands (pages_of marks) change staged.marked say in
@@ -187,6 +195,7 @@ module _ (old new : DomainMemory) (marks : StagedPages) (all : FilesetMap) (stag
   pub kept_stands : MayBeKept old all → StandsFor new all
   kept_stands may = record {
     stands = subst (λ (d : DomainNow). StandsDomain d all) (sym is_target) target_stands;
+    alone = subst StandAlone (sym is_target) target_alone;
     parents = subst HaveParents (sym is_target) (marked_parents (staged_in old) all staged.stands (pages_of marks) change may.parents);
     marked = subst IsMarkedBut (sym is_target) target_marked;
     books = λ number entry item. subst (λ (b : Book). IsSomeAnd (get all entry.name) (λ fileset. IsBookOf b fileset.tree)) (sym (book_kept (slot_in old.slots.items number) (slot_in new.slots.items number) (slots.each number)))

@@ -1,6 +1,6 @@
 -- A change can be taken back from memory that was just kept, or taken back.
 use Rattle.std.proofs.Common.{◌≡◌, ◌∙◌, ◌≤◌, ℕ, zero, suc, List, [], ◌∷◌, Option, Some, None, IfSome, IsSomeAnd, length, slice_get, take, refl, sym, ap, subst, arith}
-use Rattle.std.proofs.Math.Logic.{∥∥₁_map}
+use Rattle.std.proofs.Math.Logic.{∥∥₁_map, ∥∥₁_map₂}
 use Rattle.std.specs.Option.{option_and_then}
 use Rattle.domain_base.specs.declared.place.Home.{Home}
 use Rattle.tag_dirs.specs.declared.dir.TagPlace.{TagPlace}
@@ -13,7 +13,7 @@ use Rattle.layout_laws.proofs.OnePage.{one_of}
 use Rattle.domain_standing.specs.Chains.{StandsInSlot}
 use Rattle.domain_standing.specs.Domain.{DomainNow, item_in}
 use Rattle.domain_standing.specs.Standing.{StandsDomain}
-use Rattle.domain_parts.specs.Slots.{CanGoBack, ChangesSlot, ChangesSlots, IsKept, IsTakenBack, places_in, slot_in}
+use Rattle.domain_parts.specs.Slots.{CanGoBack, ChangesSlot, ChangesSlots, HasNumber, IsKept, IsTakenBack, places_in, slot_in}
 use Rattle.domain_parts.specs.declared.slots.SlotFiles.{SlotFiles}
 use Rattle.domain_parts.proofs.TagsForgotten.{taken_was}
 use Rattle.domain_memory.specs.Memory.{with_was}
@@ -59,8 +59,17 @@ kept_can (Some old) (Some new) is once = record {
   once = subst HasOnce (sym (ap (λ f. f.tags) is.files)) once;
 }
 
-pub kept_goes_back : (old new : DomainMemory) → ∥ IsStagedForSome old ∥₁ → new.table ≡ old.table → new.was ≡ None → ChangesSlots IsKept old.slots.items new.slots.items → ∥ MayGoBack new ∥₁
-kept_goes_back old new staged table was slots = ∥∥₁_map staged (λ s. record {
+kept_number : (number : ℕ) (old new : Option SlotFiles) → ChangesSlot IsKept old new → IfSome old (HasNumber number) → IfSome new (HasNumber number)
+kept_number number None new none has = subst (λ o. IfSome o (HasNumber number)) (sym none) tt
+kept_number number (Some old) None is has = absurd is
+kept_number number (Some old) (Some new) is has = ap (λ f. f.fileset) is.files ∙ has
+
+pub kept_goes_back : (old new : DomainMemory) → ∥ IsStagedForSome old ∥₁ → ∥ MayGoBack old ∥₁ → new.table ≡ old.table → new.was ≡ None → ChangesSlots IsKept old.slots.items new.slots.items → ∥ MayGoBack new ∥₁
+kept_goes_back old new staged back table was slots = ∥∥₁_map₂ staged back (λ s b. record {
+  has = record {
+    count = slots.count ∙ b.has.count;
+    numbered = λ number. kept_number number (slot_in old.slots.items number) (slot_in new.slots.items number) (slots.each number) (b.has.numbered number);
+  };
   table = subst (λ w. IsTable (with_was w new.table)) (sym was) (subst IsTable (sym table) (table_is (staged_in old) s.0 s.1.stands));
   slots = λ number. kept_can (slot_in old.slots.items number) (slot_in new.slots.items number) (slots.each number) (tags_once (staged_in old) s.0 s.1.stands number);
 })
@@ -80,8 +89,17 @@ back_can (Some old) (Some new) is can = record {
   once = subst HasOnce (sym is.tags) (λ j k p q at_j at_k same. can.once j k p q (taken_was old.files.tags old.tag_pages j p at_j) (taken_was old.files.tags old.tag_pages k q at_k) same);
 }
 
+back_number : (number : ℕ) (old new : Option SlotFiles) → ChangesSlot IsTakenBack old new → IfSome old (HasNumber number) → IfSome new (HasNumber number)
+back_number number None new none has = subst (λ o. IfSome o (HasNumber number)) (sym none) tt
+back_number number (Some old) None is has = absurd is
+back_number number (Some old) (Some new) is has = is.number ∙ has
+
 pub back_goes_back : (old new : DomainMemory) → ∥ MayGoBack old ∥₁ → new.table ≡ with_was old.was old.table → new.was ≡ None → ChangesSlots IsTakenBack old.slots.items new.slots.items → ∥ MayGoBack new ∥₁
 back_goes_back old new may table was slots = ∥∥₁_map may (λ m. record {
+  has = record {
+    count = slots.count ∙ m.has.count;
+    numbered = λ number. back_number number (slot_in old.slots.items number) (slot_in new.slots.items number) (slots.each number) (m.has.numbered number);
+  };
   table = subst (λ w. IsTable (with_was w new.table)) (sym was) (subst IsTable (sym table) m.table);
   slots = λ number. back_can (slot_in old.slots.items number) (slot_in new.slots.items number) (slots.each number) (m.slots number);
 })

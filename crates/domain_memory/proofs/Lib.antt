@@ -8,3 +8,4 @@ pub mod NewMemory
 pub mod SettledKept
 pub mod SlotsKept
 pub mod TakingBack
+pub mod KeptStands

@@ -28,8 +28,9 @@ use Rattle.layout_laws.specs.NewDomain.{IsNew, IsNewTablePage, firsts, on_first,
 use Rattle.layout_laws.proofs.NewDomain.{no_fault}
 use Rattle.layout_laws.proofs.NewTags.{all_free, has_none}
 use Rattle.domain_standing.specs.Domain.{DomainNow, layout_of}
+use Rattle.domain_standing.specs.Sources.{StandAlone}
 use Rattle.domain_standing.specs.Standing.{AreBooksOf, HaveParents, IsMarkedBut, StandsDomain}
-use Rattle.domain_standing.proofs.NewDomain.{new_stands}
+use Rattle.domain_standing.proofs.NewDomain.{new_alone, new_stands}
 use Rattle.domain_making.specs.Making.{new_frame}
 use Rattle.page_ways.specs.Frame.{frame_in}
 use Rattle.staged_pages.specs.Store.{before_of}
@@ -98,6 +99,9 @@ module _ (d : DomainNow) (new : IsNew d.pages d.frame) (version : d.frame.anchor
   pub stands : StandsDomain d empty
   stands = new_stands d new is_laid log few space cells untagged nothing
 
+  pub alone : StandAlone d
+  alone = new_alone d new is_laid log few space cells untagged nothing
+
   pub parents : HaveParents d
   parents = λ number tag cells seen has. absurd (has_none d.table fresh d.pages number tag cells seen has)
 
@@ -158,6 +162,7 @@ module _ (m : DomainMemory) (version : Version) (pages : ℕ) (room : (first_pag
   pub stands_for : StandsFor m empty
   stands_for = record {
     stands = stands (kept_in m) is_new says few_pages log fresh_kept kept_marks kept_are untagged (entries, tag_pages);
+    alone = alone (kept_in m) is_new says few_pages log fresh_kept kept_marks kept_are untagged (entries, tag_pages);
     parents = parents (kept_in m) is_new says few_pages log fresh_kept kept_marks kept_are untagged (entries, tag_pages);
     marked = marks (kept_in m) is_new says few_pages log fresh_kept kept_marks kept_are untagged (entries, tag_pages);
     books = books (kept_in m) is_new says few_pages log fresh_kept kept_marks kept_are untagged (entries, tag_pages) (books_in m);

@@ -5,6 +5,7 @@ use Rattle.page_ways.specs.Frame.{frame_in}
 use Rattle.quota_book.specs.Book.{Book}
 use Rattle.domain_layout.specs.Read.{contents_of}
 use Rattle.domain_standing.specs.Domain.{DomainNow}
+use Rattle.domain_standing.specs.Sources.{StandAlone}
 use Rattle.domain_standing.specs.Standing.{AreBooksOf, HaveParents, IsMarkedBut, StandsDomain}
 use Rattle.domain_parts.specs.Listing.{list_with}
 use Rattle.domain_memory.specs.Memory.{StandsFor, books_in, kept_in, with_was}
@@ -31,6 +32,7 @@ pub settled_kept : (memory : DomainMemory) (all : FilesetMap) → IsSettled memo
 settled_kept memory all settled stands = record {
   staged = record {
     stands = subst (λ (d : DomainNow). StandsDomain d all) (is_kept memory settled) stands.stands;
+    alone = subst StandAlone (is_kept memory settled) stands.alone;
     marked = subst (λ s. IsMarkedBut (record (staged_in memory) { space = s })) (sym settled.space) (subst IsMarkedBut (is_kept memory settled) stands.marked);
     once = stands.stands.chains.well.listed.once;
     room = omega (arith, ap length settled.listed);

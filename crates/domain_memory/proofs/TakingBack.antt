@@ -1,5 +1,5 @@
 -- Memory whose change was taken back, and memory that was just made.
-use Rattle.std.proofs.Common.{◌≡◌, ◌∙◌, ℕ, List, [], ◌∷◌, Option, Some, None, IfSome, map, replicate, refl, sym, ap, subst, length, arith, ⊎_elim}
+use Rattle.std.proofs.Common.{◌≡◌, ◌∙◌, ℕ, zero, suc, List, [], ◌∷◌, Option, Some, None, IfSome, map, replicate, refl, sym, ap, subst, length, arith, ⊎_elim}
 use Rattle.std.proofs.Math.Logic.{∥∥₁_elim, ∥∥₁_map}
 use Rattle.std.proofs.lemmas.Bool.{cases_eq, cases_lt}
 use Rattle.std.specs.Option.{option_map}
@@ -10,7 +10,7 @@ use Rattle.fileset_table.specs.Table.{IsTable}
 use Rattle.page_ways.specs.Frame.{frame_in}
 use Rattle.domain_layout.specs.Read.{contents_of}
 use Rattle.staged_pages.specs.Store.{before_of, pages_of}
-use Rattle.domain_parts.specs.Slots.{CanGoBack, ChangesSlots, IsTakenBack, book_in, kept_book, kept_places, places_in, slot_in}
+use Rattle.domain_parts.specs.Slots.{CanGoBack, ChangesSlots, HasNumber, IsTakenBack, book_in, kept_book, kept_places, places_in, slot_in}
 use Rattle.domain_parts.specs.declared.slots.SlotFiles.{SlotFiles}
 use Rattle.domain_memory.specs.Memory.{books_in, kept_in, with_was}
 use Rattle.domain_memory.specs.Staged.{IsSettled, MayGoBack}
@@ -71,8 +71,16 @@ none_settled m pages space cells slots was listed =
       listed = listed;
     }
 
+counted : (n : ℕ) (slot : Option SlotFiles) → length (replicate n slot) ≡ n
+counted zero slot = refl
+counted (suc n) slot = ap suc (counted n slot)
+
 pub none_to_take_back : (m : DomainMemory) → IsTable m.table → m.slots.items ≡ replicate 32 None → m.was ≡ None → MayGoBack m
 none_to_take_back m table slots was = record {
+  has = record {
+    count = ap length slots ∙ counted 32 None;
+    numbered = λ number. subst (λ o. IfSome o (HasNumber number)) (sym (ap (λ s. slot_in s number) slots ∙ nothing_in 32 number)) tt;
+  };
   table = subst (λ w. IsTable (with_was w m.table)) (sym was) table;
   slots = λ number. subst (λ o. IfSome o CanGoBack) (sym (ap (λ s. slot_in s number) slots ∙ nothing_in 32 number)) tt;
 }

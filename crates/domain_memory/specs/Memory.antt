@@ -9,6 +9,7 @@ use Rattle.page_ways.specs.Frame.{frame_in}
 use Rattle.quota_book.specs.Book.{Book}
 use Rattle.domain_layout.specs.Read.{contents_of}
 use Rattle.domain_standing.specs.Domain.{DomainNow}
+use Rattle.domain_standing.specs.Sources.{StandAlone}
 use Rattle.domain_standing.specs.Standing.{AreBooksOf, HaveParents, IsMarkedBut, StandsDomain}
 use Rattle.domain_parts.specs.Slots.{kept_book, kept_places, slot_in}
 use Rattle.domain_memory.specs.declared.memory.DomainMemory.{DomainMemory}
@@ -35,9 +36,10 @@ kept_in memory = record {
 abbrev pub books_in : DomainMemory → ℕ → Book
 books_in memory number = kept_book (slot_in memory.slots.items number)
 
--- memory is that of a domain with these filesets
+-- memory is that of a domain with these filesets, in which no file is read through another one
 pub record StandsFor (memory : DomainMemory) (all : FilesetMap) : Type 0 where
   pub stands : StandsDomain (kept_in memory) all
+  pub alone : StandAlone (kept_in memory)
   pub parents : HaveParents (kept_in memory)
   pub marked : IsMarkedBut (kept_in memory)
   pub books : AreBooksOf (books_in memory) (kept_in memory) all

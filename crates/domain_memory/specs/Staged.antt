@@ -9,9 +9,10 @@ use Rattle.page_ways.specs.Frame.{frame_in}
 use Rattle.quota_book.specs.Book.{Book}
 use Rattle.domain_layout.specs.Read.{contents_of}
 use Rattle.domain_standing.specs.Domain.{DomainNow}
+use Rattle.domain_standing.specs.Sources.{StandAlone}
 use Rattle.domain_standing.specs.Standing.{AreBooksOf, HaveParents, IsMarkedBut, StandsDomain}
 use Rattle.domain_parts.specs.Listing.{HaveOnce, list_with}
-use Rattle.domain_parts.specs.Slots.{CanGoBack, book_in, kept_book, kept_places, places_in, slot_in}
+use Rattle.domain_parts.specs.Slots.{CanGoBack, HasNumber, book_in, kept_book, kept_places, places_in, slot_in}
 use Rattle.domain_memory.specs.Memory.{with_was}
 use Rattle.domain_memory.specs.declared.memory.DomainMemory.{DomainMemory}
 
@@ -31,10 +32,12 @@ staged_in memory = record {
 abbrev pub staged_books : DomainMemory → ℕ → Book
 staged_books memory number = book_in (slot_in memory.slots.items number)
 
--- with the change, memory is that of a domain with these filesets; bits of bitmaps still say what
--- was used when it was last kept, and there is room on the list for what comes on it
+-- with the change, memory is that of a domain with these filesets, in which no file is read through
+-- another one; bits of bitmaps still say what was used when it was last kept, and there is room on
+-- the list for what comes on it
 pub record IsStaged (memory : DomainMemory) (all : FilesetMap) : Type 0 where
   pub stands : StandsDomain (staged_in memory) all
+  pub alone : StandAlone (staged_in memory)
   pub marked : IsMarkedBut (record (staged_in memory) { space = kept_spaces memory.space })
   pub once : HaveOnce memory.list.list.entries
   pub room : length memory.listed.items ≤ memory.list.room
@@ -50,9 +53,15 @@ pub record MayBeKept (memory : DomainMemory) (all : FilesetMap) : Type 0 where
   pub parents : HaveParents (staged_in memory)
   pub books : AreBooksOf (staged_books memory) (staged_in memory) all
 
+-- there are 32 slots, and what is in one is of the fileset with its number
+pub record HasSlots (memory : DomainMemory) : Type 0 where
+  pub count : length memory.slots.items ≡ 32
+  pub numbered : (number : ℕ) → IfSome (slot_in memory.slots.items number) (HasNumber number)
+
 -- a change can be taken back: a slot that was set anew may have what it had, and each tag directory
 -- has the pages that it had
 pub record MayGoBack (memory : DomainMemory) : Type 0 where
+  pub has : HasSlots memory
   pub table : IsTable (with_was memory.was memory.table)
   pub slots : (number : ℕ) → IfSome (slot_in memory.slots.items number) CanGoBack
 

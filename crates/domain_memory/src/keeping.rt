@@ -29,7 +29,8 @@ impl DomainMemory {
     /// which pages are used, and what the change left to be let go of is on the list. It takes no
     /// memory, and the time of what the change has changed.
     pub fn keep(&mut self)
-        requires { ∥ IsStagedForSome self.old ∥₁ }
+        requires staged { ∥ IsStagedForSome self.old ∥₁ }
+        requires back { ∥ MayGoBack self.old ∥₁ }
         ensures stands { (all : FilesetMap) → MayBeKept self.old all → StandsFor self.new all }
         ensures settled { IsSettled self.new }
         ensures back { ∥ MayGoBack self.new ∥₁ }

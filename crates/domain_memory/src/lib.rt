@@ -6,5 +6,5 @@ mod laws;
 mod making;
 mod memory;
 
-pub use laws::what_is_settled_may_be_kept;
+pub use laws::{changes_leave_what_was_kept, what_is_settled_may_be_kept, what_was_kept_stands};
 pub use memory::{DomainMemory, ReplacedSlot};

@@ -1,5 +1,5 @@
 -- Entries that come on the list.
-use Rattle.std.proofs.Common.{◌≡◌, ◌∙◌, ℕ, zero, suc, ◌+◌, ◌<◌, ◌≤◌, Bool, true, false, ◌||◌, ◌⊎◌, List, [], ◌∷◌, ◌++◌, length, get_or, take, map, slice_set, Contains, None, if◌then◌else◌, refl, sym, ap, subst, arith, ⊎_elim, true≢false}
+use Rattle.std.proofs.Common.{◌≡◌, ◌∙◌, ℕ, zero, suc, ◌+◌, ◌<◌, ◌≤◌, Bool, true, false, ◌||◌, ◌⊎◌, inl, inr, List, [], ◌∷◌, ◌++◌, length, get_or, take, map, slice_set, Contains, None, if◌then◌else◌, refl, sym, ap, subst, arith, ⊎_elim, true≢false}
 use Rattle.std.proofs.lemmas.Bool.{cases_eq, cases_lt, or_left, or_right}
 use Rattle.std.proofs.lemmas.List.{ext_get_or, get_or-map, get_or-set_other, get_or-set_same, length-map, length-set, take_more}
 use Rattle.domain_base.specs.declared.place.CellAt.{CellAt}
@@ -101,6 +101,41 @@ module _ (at : CellAt) (old : List Entry) (once : HaveOnce old) where
       by_test : (b : Bool) → has_entry at old ≡ b → HaveOnce (if b then map (without_clone_at at) old else old ++ entry ∷ [])
       by_test true is = once_mapped
       by_test false is = once_pushed is
+
+-- ---- an entry put on is one that is added
+
+place_of : (at : CellAt) (entries : List Entry) → has_entry at entries ≡ true → (place : ℕ) × (place < length entries) × ((d : Entry) → (get_or entries place d).at ≡ at)
+place_of at [] has = absurd (true≢false (sym has))
+place_of at (e ∷ entries) has = by_first (is_at e.at at) refl has (place_of at entries)
+  where
+    by_first : (b : Bool) → is_at e.at at ≡ b → (b || has_entry at entries) ≡ true → (has_entry at entries ≡ true → (place : ℕ) × (place < length entries) × ((d : Entry) → (get_or entries place d).at ≡ at))
+        → (place : ℕ) × (place < length (e ∷ entries)) × ((d : Entry) → (get_or (e ∷ entries) place d).at ≡ at)
+    by_first true is has_it later = (0, omega arith, λ d. at_same e.at at is)
+    by_first false is has_it later = let found = later has_it in (suc found.0, omega (arith, found.1), found.2)
+
+pub put_adds : (at : CellAt) (old : List Entry) → HaveOnce old → Adds at None old (put_on at old)
+put_adds at old once = by_test (has_entry at old) refl
+  where
+    entry : Entry
+    entry = record { at = at; clone = None }
+
+    none_there : has_entry at old ≡ false → (e : Entry) → Contains old e → ¬ e.at ≡ at
+    none_there none e (k, within, is) same = true≢false (sym (has_one at old k e within (ap (λ (x : Entry). x.at) is ∙ same)) ∙ none)
+
+    by_test : (b : Bool) → has_entry at old ≡ b → Adds at None old (if b then map (without_clone_at at) old else old ++ entry ∷ [])
+    by_test true has =
+        let it = place_of at old has in
+        record { place = it.0; between = map (without_clone_at at) old; puts = inl (record { within = it.1; was = it.2; is = sym (set_is_map at old once it.0 it.1 it.2) }); orders = refl }
+    by_test false none = record { place = length old; between = old ++ entry ∷ []; puts = inr (record { none = none_there none; behind = refl; is = refl }); orders = refl }
+
+-- more behind others
+pub put_both : (first more : List CellAt) (entries : List Entry) → put_all_on (first ++ more) entries ≡ put_all_on more (put_all_on first entries)
+put_both [] more entries = refl
+put_both (x ∷ first) more entries = put_both first more (put_on x entries)
+
+pub once_all : (listed : List CellAt) (entries : List Entry) → HaveOnce entries → HaveOnce (put_all_on listed entries)
+once_all [] entries once = once
+once_all (x ∷ listed) entries once = once_all listed (put_on x entries) (once_put x entries once)
 
 -- ---- one after the other
 

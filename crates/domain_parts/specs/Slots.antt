@@ -27,6 +27,10 @@ abbrev pub kept_book : Option SlotFiles → Book
 kept_book None = empty_book
 kept_book (Some slot) = slot.book.kept
 
+-- what is in a slot is of the fileset with this number
+abbrev pub HasNumber : ℕ → SlotFiles → Type 0
+HasNumber number slot = slot.files.fileset ≡ number
+
 -- the tag directory has the pages that it had then, and no index of a page twice
 pub record CanGoBack (slot : SlotFiles) : Type 0 where
   pub few : slot.tag_pages ≤ length slot.files.tags

@@ -1,0 +1,103 @@
+-- As long as what was kept stays, a domain stands for the filesets that it had.
+use Rattle.std.proofs.Common.{◌≡◌, ◌∙◌, ◌↔◌, ℕ, true, false, Option, Some, None, IsSomeAnd, slice_get, refl, sym, ap, subst}
+use Rattle.std.specs.FinMap.{get}
+use Rattle.std.specs.FinSet.{contains}
+use Rattle.std.specs.Option.{option_map}
+use Rattle.free_space.specs.Spaces.{kept_spaces, volume_of}
+use Rattle.free_space.specs.VolumeSpace.{VolumeSpace, as_kept, is_waiting, keeping}
+use Rattle.free_cells.specs.Cells.{taken_back}
+use Rattle.free_cells.proofs.Kept.{back_same}
+use Rattle.fileset_model.specs.Filesets.{FilesetMap}
+use Rattle.fileset_table.specs.Table.{Table}
+use Rattle.page_ways.specs.Frame.{frame_in}
+use Rattle.quota_book.specs.Book.{Book}
+use Rattle.quota_book.specs.Sums.{IsBookOf}
+use Rattle.bitmap_marks.specs.Marks.{is_marked}
+use Rattle.bitmap_marks.proofs.Volumes.{volume_changed}
+use Rattle.domain_layout.specs.Read.{contents_of}
+use Rattle.domain_standing.specs.Domain.{DomainNow}
+use Rattle.domain_standing.specs.Sources.{StandAlone}
+use Rattle.domain_standing.specs.Standing.{AreBooksOf, HaveParents, IsMarkedBut, StandsDomain}
+use Rattle.domain_standing.proofs.SourcesStay.{sources_stay}
+use Rattle.standing_laws.proofs.MemoryKept.{all_kept_stands}
+use Rattle.domain_memory.specs.Memory.{StandsFor, books_in, kept_in}
+use Rattle.domain_memory.specs.declared.memory.DomainMemory.{DomainMemory}
+use Rattle.domain_memory.specs.Kept.{KeepsKept}
+
+kept_again : (o : Option VolumeSpace) → option_map keeping (option_map as_kept o) ≡ option_map as_kept o
+kept_again None = refl
+kept_again (Some v) = refl
+
+module _ (old new : DomainMemory) (kept : KeepsKept old new) where
+  abbrev d : DomainNow
+  d = kept_in old
+
+  abbrev target : DomainNow
+  target = record d { space = kept_spaces new.space; cells = taken_back new.cells }
+
+  is_target : kept_in new ≡ target
+  is_target = λ i. record {
+    frame = frame_in (kept.frame i);
+    table = kept.table i;
+    tags = λ number. kept.places number i;
+    pages = kept.pages i;
+    contents = contents_of (kept.pages i);
+    space = kept_spaces new.space;
+    cells = taken_back new.cells;
+    list = kept.list i;
+  }
+
+  space_is : (vol : ℕ) → volume_of (kept_spaces new.space) vol ≡ option_map keeping (volume_of (kept_spaces old.space) vol)
+  space_is vol = kept.spaces vol ∙ volume_changed as_kept old.space vol ∙ sym (kept_again (volume_of old.space vol)) ∙ sym (ap (option_map keeping) (volume_changed as_kept old.space vol))
+
+  target_stands : (all : FilesetMap) → StandsDomain d all → StandsDomain target all
+  target_stands all is =
+      let same = back_same old.cells new.cells kept.cells kept.marks in
+      all_kept_stands d (kept_spaces new.space) (taken_back new.cells) space_is same.tables same.marks same.cells all is
+
+  target_marked : IsMarkedBut d → IsMarkedBut target
+  target_marked is = record {
+    there = is.there;
+    bits = λ vol page member within.
+        subst (λ (o : Option VolumeSpace). (is_marked d.pages vol page ≡ true) ↔ IsSomeAnd o (λ v. (contains v.used page ≡ true) × (is_waiting v page ≡ false))) (sym (kept.spaces vol)) (is.bits vol page member within);
+    behind = is.behind;
+  }
+
+  books_are : (all : FilesetMap) → AreBooksOf (books_in old) d all → AreBooksOf (books_in new) target all
+  books_are all are number entry there = subst (λ (b : Book). IsSomeAnd (get all entry.name) (λ fileset. IsBookOf b fileset.tree)) (sym (kept.books number entry there)) (are number entry there)
+
+  pub stands_so : (all : FilesetMap) → StandsFor old all → StandsFor new all
+  stands_so all is = record {
+    stands = subst (λ (t : DomainNow). StandsDomain t all) (sym is_target) (target_stands all is.stands);
+    alone = subst StandAlone (sym is_target)
+        (sources_stay d target refl (λ vol member. (back_same old.cells new.cells kept.cells kept.marks).tables vol) (λ home member on. refl) is.alone);
+    parents = subst HaveParents (sym is_target) is.parents;
+    marked = subst IsMarkedBut (sym is_target) (target_marked is.marked);
+    books = subst (λ (t : DomainNow). AreBooksOf (books_in new) t all) (sym is_target) (books_are all is.books);
+  }
+
+pub kept_joined : (first between last : DomainMemory) → KeepsKept first between → KeepsKept between last → KeepsKept first last
+kept_joined first between last a b = record {
+  frame = b.frame ∙ a.frame;
+  table = b.table ∙ a.table;
+  places = λ number. b.places number ∙ a.places number;
+  books = λ number entry there. b.books number entry (ap (λ (t : Table). slice_get t.slots number) a.table ∙ there) ∙ a.books number entry there;
+  pages = b.pages ∙ a.pages;
+  spaces = λ vol. b.spaces vol ∙ a.spaces vol;
+  cells = λ vol. b.cells vol ∙ a.cells vol;
+  marks = λ vol. b.marks vol ∙ a.marks vol;
+  list = b.list ∙ a.list;
+}
+
+pub none_kept : (memory : DomainMemory) → KeepsKept memory memory
+none_kept memory = record {
+  frame = refl;
+  table = refl;
+  places = λ number. refl;
+  books = λ number entry there. refl;
+  pages = refl;
+  spaces = λ vol. refl;
+  cells = λ vol. refl;
+  marks = λ vol. refl;
+  list = refl;
+}
