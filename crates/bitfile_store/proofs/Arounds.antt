@@ -15,8 +15,8 @@ use Rattle.tag_dirs.specs.declared.dir.TagPlace.{TagPlace}
 use Rattle.free_cells.specs.Cells.{Cells}
 use Rattle.free_space.specs.Spaces.{Spaces, missed}
 use Rattle.bitfile_cells.specs.FileChanges.{LeavesOtherCells}
-use Rattle.bitfile_core.specs.Changes.{ChangesFirst, Removes, says_parent, with_chain, with_first}
-use Rattle.bitfile_core.specs.Creation.{Creates, CreatesNone, LeavesBeside, TakesForFile, new_file}
+use Rattle.bitfile_core.specs.Changes.{ChangesFirst, KeepsSequences, Removes, says_parent, with_chain, with_first}
+use Rattle.bitfile_core.specs.Creation.{Creates, CreatesNone, LeavesBeside, TakesForFile, TakesNext, new_file}
 use Rattle.bitfile_core.specs.Files.{AreFiles, Chains}
 use Rattle.bitfile_core.specs.Pages.{GetsNone}
 use Rattle.bitfile_core.specs.Shown.{index_of}
@@ -61,10 +61,10 @@ none_added tag page chains space space_now cells fault none = by_attributes (att
 module _ (number : ℕ) (version : Version) (born : ℕ) (p q : Parts) where
   pub make_around : (kind : Kind) (uid gid prefer : ℕ) (r : Result Tag StoreFault)
       → ((chains : Chains) → AreTogether number p.tags p.space p.cells p.pages chains → IfOk r (λ tag. Creates number q.tags tag version (new_file kind uid gid born) chains q.space p.cells q.cells p.pages q.pages))
-      → OnOk r (TakesForFile prefer p.tags q.tags p.space q.space p.cells q.cells p.pages) → LeavesOtherCells p.cells [] p.pages q.pages → LeavesBeside q.cells q.tags p.pages q.pages
+      → OnOk r (TakesForFile prefer p.tags q.tags p.space q.space p.cells q.cells p.pages) → LeavesOtherCells p.cells [] p.pages q.pages → LeavesBeside q.cells q.tags p.pages q.pages → IfOk r (λ tag. TakesNext tag p.tags q.tags p.pages q.pages)
       → IfErr r (CreatesNone p.tags p.space q.space p.cells p.pages) → OnErr r (q.tags ≡ p.tags) → OnErr r (q.cells ≡ p.cells) → OnErr r (q.pages ≡ p.pages) → KeepsAround number version born [] p q
-  make_around kind uid gid prefer (Ok tag) creates takes others elsewhere none same cells pages = made_kept number version born p q tag (new_file kind uid gid born) prefer refl creates takes others elsewhere
-  make_around kind uid gid prefer (Err fault) creates takes others elsewhere none same cells pages = refused_kept number version born p q same cells pages (none_made p.tags p.space q.space p.cells p.pages fault none)
+  make_around kind uid gid prefer (Ok tag) creates takes others elsewhere next none same cells pages = made_kept number version born p q tag (new_file kind uid gid born) prefer refl creates takes others elsewhere next
+  make_around kind uid gid prefer (Err fault) creates takes others elsewhere next none same cells pages = refused_kept number version born p q same cells pages (none_made p.tags p.space q.space p.cells p.pages fault none)
 
   pub add_around : {X : Type 0} (tag : Tag) (page : ℕ) (bytes : List ℕ) (prefer : ℕ) (set : SetOf) (stood : StandsAsSet number p.tags p.space p.cells p.pages set) → IsDirectory set tag → page ≡ count_pages set tag → page < file_pages → (r : Result X StoreFault) → q.tags ≡ p.tags
       → ((chains : Chains) → AreTogether number p.tags p.space p.cells p.pages chains → OnOk r (IsSomeAnd (attributes_at chains tag) (AddsPage number p.tags tag page bytes prefer version chains p.space q.space p.cells q.cells p.pages q.pages)))
@@ -98,9 +98,9 @@ module _ (number : ℕ) (version : Version) (born : ℕ) (p : Parts) (pages : Pa
       (subst (λ (ts : List TagPlace). StandsAsSet files.fileset ts space p.cells pages set) its_tags (subst (λ (f : FilesOf). StandsAsSet f.fileset f.tags space p.cells pages set) same stood))
 
   pub gone_around : ((chains : Chains) → AreFiles number p.tags p.pages chains → Removes number p.tags tag at (without_index tag chains) pages)
-      → ((chains : Chains) (homes : List Home) → AreFiles number p.tags p.pages chains → AreIndexHomes p.pages (option_and_then index_of (chains tag)) homes → GivesIndexBack group p.tags (chains tag) homes p.space space p.pages pages)
+      → ((chains : Chains) (homes : List Home) → AreFiles number p.tags p.pages chains → AreIndexHomes p.pages (option_and_then index_of (chains tag)) homes → GivesIndexBack group p.tags (chains tag) homes p.space space p.pages pages) → KeepsSequences p.tags p.pages pages
       → KeepsAround number version born (at ∷ []) p (record { tags = files_now.tags; pages = pages; space = space; cells = p.cells })
-  gone_around removes gives =
+  gone_around removes gives sequences =
       subst (λ (f : FilesOf). KeepsAround number version born (at ∷ []) p (record { tags = f.tags; pages = pages; space = space; cells = p.cells })) (sym same)
       (subst (λ (ts : List TagPlace). KeepsAround number version born (at ∷ []) p (record { tags = ts; pages = pages; space = space; cells = p.cells })) (sym its_tags)
-      (gone_kept number version born p pages space tag at group set files_are removes gives))
+      (gone_kept number version born p pages space tag at group set files_are removes gives sequences))

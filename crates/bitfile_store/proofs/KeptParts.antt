@@ -9,7 +9,7 @@ use Rattle.bmt_mcells.specs.Chain.{PlacedCell}
 use Rattle.tag_dirs.specs.declared.dir.TagPlace.{TagPlace}
 use Rattle.extent_maps.specs.declared.run.PagePlace.{PagePlace}
 use Rattle.extent_maps.specs.declared.run.PagePlace.TheVariants.{At}
-use Rattle.free_cells.specs.Cells.{Cells, kept_of}
+use Rattle.free_cells.specs.Cells.{Cells, is_closed, kept_of}
 use Rattle.free_space.specs.VolumeSpace.{with_page, with_waiting}
 use Rattle.free_space.specs.Spaces.{Spaces, change_volume}
 use Rattle.free_space.specs.declared.waiting.PageUse.TheVariants.{Metadata}
@@ -26,12 +26,13 @@ use Rattle.bitfile_store.specs.Rest.{KeepsKept, kept_volumes}
 use Rattle.bitfile_store.proofs.Arounds.{AtMostMissed, none_added, none_found, none_made}
 
 pub same_kept : (p q : Parts) → q.space ≡ p.space → q.cells ≡ p.cells → KeepsKept p q
-same_kept p q space cells = record { spaces = ap kept_volumes space; cells = λ vol. ap (λ (c : Cells). kept_of c vol) cells }
+same_kept p q space cells = record { spaces = ap kept_volumes space; cells = λ vol. ap (λ (c : Cells). kept_of c vol) cells; marks = λ vol. ap (λ (c : Cells). is_closed c vol) cells }
 
 missed_kept : (p q : Parts) → AtMostMissed p.space q.space → q.cells ≡ p.cells → KeepsKept p q
 missed_kept p q space cells = record {
   spaces = ⊎_elim (λ same. ap kept_volumes same) (λ miss. ap kept_volumes miss) space;
   cells = λ vol. ap (λ (c : Cells). kept_of c vol) cells;
+  marks = λ vol. ap (λ (c : Cells). is_closed c vol) cells;
 }
 
 -- ---- what is taken
@@ -39,27 +40,30 @@ missed_kept p q space cells = record {
 record KeptOver (space space_now : Spaces) (cells cells_now : Cells) : Type 0 where
   volumes : kept_volumes space_now ≡ kept_volumes space
   tables : (vol : ℕ) → kept_of cells_now vol ≡ kept_of cells vol
+  marks : (vol : ℕ) → is_closed cells_now vol ≡ is_closed cells vol
 
 one_kept : (prefer : ℕ) (space space_now : Spaces) (cells cells_now : Cells) (old : Pages) → TakesOne prefer space space_now cells cells_now old → KeptOver space space_now cells cells_now
 one_kept prefer space space_now cells cells_now old t = ⊎_elim
     (λ had. record {
       volumes = ap kept_volumes had.same_space;
       tables = λ vol. t.takes.taken.keeps vol ∙ ap (λ (c : Cells). kept_of c vol) had.same_cells;
+      marks = λ vol. t.takes.taken.marks vol ∙ ap (λ (c : Cells). is_closed c vol) had.same_cells;
     })
     (λ none. record {
       volumes = ap kept_volumes none.adds.used ∙ ap (λ (s : Spaces). s.volumes) (kept-with_page none.home.page space none.home.vol);
       tables = λ vol. t.takes.taken.keeps vol ∙ none.adds.joins.keeps vol;
+      marks = λ vol. t.takes.taken.marks vol ∙ none.adds.joins.marks vol;
     })
     t.takes.before
 
 full_kept : (page : ℕ) (place : PagePlace) (chain : List PlacedCell) (prefer : ℕ) (space space_now : Spaces) (cells cells_now : Cells) (old : Pages) → TakesIfFull page place chain prefer space space_now cells cells_now old → KeptOver space space_now cells cells_now
 full_kept page place chain prefer space space_now cells cells_now old takes = ⊎_elim
-    (λ same. record { volumes = ap kept_volumes same.0; tables = λ vol. ap (λ (c : Cells). kept_of c vol) same.1 })
+    (λ same. record { volumes = ap kept_volumes same.0; tables = λ vol. ap (λ (c : Cells). kept_of c vol) same.1; marks = λ vol. ap (λ (c : Cells). is_closed c vol) same.1 })
     (λ t. one_kept prefer space space_now cells cells_now old t.1)
     takes
 
 with_one : (home : Home) (space space_now : Spaces) (cells cells_now : Cells) → KeptOver (change_volume (with_page home.page) space home.vol) space_now cells cells_now → KeptOver space space_now cells cells_now
-with_one home space space_now cells cells_now k = record { volumes = k.volumes ∙ ap (λ (s : Spaces). s.volumes) (kept-with_page home.page space home.vol); tables = k.tables }
+with_one home space space_now cells cells_now k = record { volumes = k.volumes ∙ ap (λ (s : Spaces). s.volumes) (kept-with_page home.page space home.vol); tables = k.tables; marks = k.marks }
 
 home_kept : (prefer page : ℕ) (home : Home) (chain : List PlacedCell) (space space_now : Spaces) (cells cells_now : Cells) (old : Pages) → TakesHome prefer page home chain space space_now cells cells_now old → KeptOver space space_now cells cells_now
 home_kept prefer page home chain space space_now cells cells_now old t =
@@ -92,7 +96,7 @@ waiting_kept (home ∷ more) group space =
 
 module _ (p q : Parts) where
   kept_over : KeptOver p.space q.space p.cells q.cells → KeepsKept p q
-  kept_over k = record { spaces = k.volumes; cells = k.tables }
+  kept_over k = record { spaces = k.volumes; cells = k.tables; marks = k.marks }
 
   pub make_keeps : (prefer : ℕ) (r : Result Tag StoreFault) → OnOk r (TakesForFile prefer p.tags q.tags p.space q.space p.cells q.cells p.pages) → IfErr r (CreatesNone p.tags p.space q.space p.cells p.pages) → OnErr r (q.cells ≡ p.cells) → KeepsKept p q
   make_keeps prefer (Ok tag) takes none cells = kept_over (file_kept prefer p.tags q.tags p.space q.space p.cells q.cells p.pages takes)
@@ -107,8 +111,8 @@ module _ (p q : Parts) where
   pub insert_keeps : {X : Type 0} (number : ℕ) (tag : Tag) (place : ℕ) (bytes : List ℕ) (prefer : ℕ) (chains : Chains) (homes : List Home) (r : Result X StoreFault)
       → OnOk r (AddsIndexPage number p.tags p.cells tag place bytes prefer chains homes p.space q.space p.pages q.pages) → IfErr r (FindsNoPage p.space q.space) → q.cells ≡ p.cells → KeepsKept p q
   insert_keeps number tag place bytes prefer chains homes (Ok x) adds none cells =
-      record { spaces = ap kept_volumes adds.taken ∙ ap (λ (s : Spaces). s.volumes) (kept-with_page adds.home.page p.space adds.home.vol); cells = λ vol. ap (λ (c : Cells). kept_of c vol) cells }
+      record { spaces = ap kept_volumes adds.taken ∙ ap (λ (s : Spaces). s.volumes) (kept-with_page adds.home.page p.space adds.home.vol); cells = λ vol. ap (λ (c : Cells). kept_of c vol) cells; marks = λ vol. ap (λ (c : Cells). is_closed c vol) cells }
   insert_keeps number tag place bytes prefer chains homes (Err fault) adds none cells = missed_kept p q (none_found p.space q.space fault none) cells
 
   pub gone_keeps : (group : ℕ) (chain : Option (List PlacedCell)) (homes : List Home) → GivesIndexBack group p.tags chain homes p.space q.space p.pages q.pages → q.cells ≡ p.cells → KeepsKept p q
-  gone_keeps group chain homes gives cells = record { spaces = ap kept_volumes gives.drops.waits ∙ waiting_kept homes group p.space; cells = λ vol. ap (λ (c : Cells). kept_of c vol) cells }
+  gone_keeps group chain homes gives cells = record { spaces = ap kept_volumes gives.drops.waits ∙ waiting_kept homes group p.space; cells = λ vol. ap (λ (c : Cells). kept_of c vol) cells; marks = λ vol. ap (λ (c : Cells). is_closed c vol) cells }

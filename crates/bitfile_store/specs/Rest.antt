@@ -9,7 +9,7 @@ use Rattle.tag_dirs.specs.declared.dir.TagPlace.{TagPlace}
 use Rattle.bitfile_core.specs.Changes.{Removes}
 use Rattle.bitfile_core.specs.Files.{Chains}
 use Rattle.stored_set.specs.Sets.{without_index}
-use Rattle.free_cells.specs.Cells.{Cells, kept_of}
+use Rattle.free_cells.specs.Cells.{Cells, is_closed, kept_of}
 use Rattle.free_space.specs.Spaces.{Spaces, kept_spaces}
 use Rattle.free_space.specs.VolumeSpace.{VolumeSpace}
 use Rattle.set_standing.specs.Parts.{KeepsAround, Parts}
@@ -29,10 +29,12 @@ parts_of tags pages space cells =
 abbrev pub kept_volumes : Spaces → List (Option VolumeSpace)
 kept_volumes space = (kept_spaces space).volumes
 
--- and what is kept of free space and of free cells is what it was
+-- and what is kept of free space and of free cells is what it was, and so are the volumes that are
+-- closed
 pub record KeepsKept (parts parts_now : Parts) : Type 0 where
   pub spaces : kept_volumes parts_now.space ≡ kept_volumes parts.space
   pub cells : (vol : ℕ) → kept_of parts_now.cells vol ≡ kept_of parts.cells vol
+  pub marks : (vol : ℕ) → is_closed parts_now.cells vol ≡ is_closed parts.cells vol
 
 -- the fileset's number, what calls are given and the pages that a change is taken back to are as
 -- they were, and so are the cells that were listed, behind which more may be, and what is kept of
@@ -57,7 +59,7 @@ rest_is fileset settings before removed parts = record {
   same_settings = refl;
   same_before = refl;
   lists = ([], append-nil removed);
-  kept = record { spaces = refl; cells = λ vol. refl };
+  kept = record { spaces = refl; cells = λ vol. refl; marks = λ vol. refl };
   around = none_kept fileset settings.version settings.born parts;
 }
 
@@ -79,6 +81,7 @@ rest_joined f g h s t u p q r a b c x y z first then = record {
   kept = record {
     spaces = then.kept.spaces ∙ first.kept.spaces;
     cells = λ vol. then.kept.cells vol ∙ first.kept.cells vol;
+    marks = λ vol. then.kept.marks vol ∙ first.kept.marks vol;
   };
   around = both_kept f s.version s.born first.lists.0 then.lists.0 x y z first.around
       (subst (λ (n : ℕ). KeepsAround n s.version s.born then.lists.0 y z) first.same_number

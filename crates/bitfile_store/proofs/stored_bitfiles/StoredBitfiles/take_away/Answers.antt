@@ -95,4 +95,4 @@ returns-clause-rest g c =
     let was = (shown_stands set.parts.files.fileset set.parts.files.tags set.parts.space set.parts.cells pages set.held) in
     let p = parts_of set.parts.files.tags pages set.parts.space set.parts.cells in
     kept_with _ _ _ _ _ _ _ c.in_ok-at.at _ _ (ap (λ (f : Files). f.fileset) c.remove.ensures.same) c.remove.ensures.before (c.push_reserved.ensures.items ∙ ap (λ (xs : List CellAt). xs ++ c.in_ok-at.at ∷ []) c.reserve.ensures.items)
-    (gone_keeps p (parts_of c.remove.new.files.tags (g.M.MetaPages.pages c.remove.new.pages) c.remove.new.space set.parts.cells) set.settings.group (was.chains c.args.tag) (was.indexes c.args.tag) (c.in_ok-at.ensures.gives was.chains (was.indexes c.args.tag) was.stands.together.files (was.stands.indexed c.args.tag)) refl) (gone_around set.parts.files.fileset set.settings.version set.settings.born p (g.M.MetaPages.pages c.remove.new.pages) c.remove.new.space set.parts.files c.remove.new.files refl refl c.remove.ensures.same c.args.tag c.in_ok-at.at set.settings.group _ (c.in_ok-at.ensures.ok _ was) c.in_ok-at.ensures.removes c.in_ok-at.ensures.gives)
+    (gone_keeps p (parts_of c.remove.new.files.tags (g.M.MetaPages.pages c.remove.new.pages) c.remove.new.space set.parts.cells) set.settings.group (was.chains c.args.tag) (was.indexes c.args.tag) (c.in_ok-at.ensures.gives was.chains (was.indexes c.args.tag) was.stands.together.files (was.stands.indexed c.args.tag)) refl) (gone_around set.parts.files.fileset set.settings.version set.settings.born p (g.M.MetaPages.pages c.remove.new.pages) c.remove.new.space set.parts.files c.remove.new.files refl refl c.remove.ensures.same c.args.tag c.in_ok-at.at set.settings.group _ (c.in_ok-at.ensures.ok _ was) c.in_ok-at.ensures.removes c.in_ok-at.ensures.gives c.in_ok-at.ensures.sequences)

@@ -52,4 +52,4 @@ returns-clause-rest g c =
     let pages = g.M.MetaPages.pages set.parts.pages in
     let was = (shown_stands set.parts.files.fileset set.parts.files.tags set.parts.space set.parts.cells pages set.held) in
     let p = parts_of set.parts.files.tags pages set.parts.space set.parts.cells in
-    kept _ _ _ _ _ _ _ _ c.make.ensures.fileset c.make.ensures.before (make_keeps p (parts_of c.make.new.files.tags (g.M.MetaPages.pages c.make.new.pages) c.make.new.space c.make.new.cells) set.settings.prefer c.make.result c.make.ensures.taken c.make.ensures.none c.make.ensures.cells) (make_around set.parts.files.fileset set.settings.version set.settings.born p (parts_of c.make.new.files.tags (g.M.MetaPages.pages c.make.new.pages) c.make.new.space c.make.new.cells) c.args.kind c.args.uid c.args.gid set.settings.prefer c.make.result c.make.ensures.creates c.make.ensures.taken c.make.ensures.others c.make.ensures.elsewhere c.make.ensures.none (on_err_map (λ same. ap (λ (f : FilesOf). f.tags) same) c.make.result c.make.ensures.same) c.make.ensures.cells c.make.ensures.pages)
+    kept _ _ _ _ _ _ _ _ c.make.ensures.fileset c.make.ensures.before (make_keeps p (parts_of c.make.new.files.tags (g.M.MetaPages.pages c.make.new.pages) c.make.new.space c.make.new.cells) set.settings.prefer c.make.result c.make.ensures.taken c.make.ensures.none c.make.ensures.cells) (make_around set.parts.files.fileset set.settings.version set.settings.born p (parts_of c.make.new.files.tags (g.M.MetaPages.pages c.make.new.pages) c.make.new.space c.make.new.cells) c.args.kind c.args.uid c.args.gid set.settings.prefer c.make.result c.make.ensures.creates c.make.ensures.taken c.make.ensures.others c.make.ensures.elsewhere c.make.ensures.next c.make.ensures.none (on_err_map (λ same. ap (λ (f : FilesOf). f.tags) same) c.make.result c.make.ensures.same) c.make.ensures.cells c.make.ensures.pages)

@@ -97,7 +97,7 @@ returns-then-page-count-clause-rest g c =
     let pages = g.M.MetaPages.pages set.parts.pages in
     let was = (shown_stands set.parts.files.fileset set.parts.files.tags set.parts.space set.parts.cells pages set.held) in
     let p = parts_of set.parts.files.tags pages set.parts.space set.parts.cells in
-    kept _ _ _ _ _ _ _ _ refl c.write_page.ensures.before (same_kept p (parts_of set.parts.files.tags (g.M.MetaPages.pages c.write_page.new.pages) set.parts.space set.parts.cells) refl refl) (written_kept set.parts.files.fileset set.settings.version set.settings.born p (g.M.MetaPages.pages c.write_page.new.pages) c.args.tag c.args.page c.write_page.ensures.elsewhere)
+    kept _ _ _ _ _ _ _ _ refl c.write_page.ensures.before (same_kept p (parts_of set.parts.files.tags (g.M.MetaPages.pages c.write_page.new.pages) set.parts.space set.parts.cells) refl refl) (written_kept set.parts.files.fileset set.settings.version set.settings.born p (g.M.MetaPages.pages c.write_page.new.pages) c.args.tag c.args.page (shown set.parts.files.fileset set.parts.files.tags set.parts.space set.parts.cells pages set.held) was c.requires.directory c.write_page.ensures.elsewhere)
 
 pub returns-clause-rest : goal.returns-clause-rest
 returns-clause-rest g c =

@@ -1,0 +1,4 @@
+pub mod Back
+pub mod Lending
+pub mod Listing
+pub mod Named

@@ -1,0 +1,14 @@
+use Rattle.chosen_files.proofs.Back.{goes_back, kept_still, now_staged, stays}
+use Rattle.chosen_files.proofs.laws.a_lent_set_is_staged.Goals as goal
+
+pub returns-clause-around : goal.returns-clause-around
+returns-clause-around c = stays
+
+pub returns-clause-kept : goal.returns-clause-kept
+returns-clause-kept c = kept_still
+
+pub returns-clause-back : goal.returns-clause-back
+returns-clause-back c = goes_back
+
+pub returns-clause-staged : goal.returns-clause-staged
+returns-clause-staged c = now_staged

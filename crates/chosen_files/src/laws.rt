@@ -1,0 +1,71 @@
+//! Memory whose files were lent, and that has them back as calls have left them.
+ghost use Rattle.std.specs.Prelude.{◌≡◌, ◌≤◌, ℕ, Some, length};
+ghost use Rattle.std.specs.FinMap.{get, insert};
+ghost use Rattle.bitfile_store.specs.declared.parts.CallSettings.{CallSettings};
+ghost use Rattle.domain_layout.specs.Shape.{FilesetShape};
+ghost use Rattle.domain_memory.specs.Kept.{KeepsKept};
+ghost use Rattle.domain_memory.specs.Staged.{IsStaged, MayGoBack, staged_in};
+ghost use Rattle.domain_memory.specs.declared.memory.DomainMemory.{DomainMemory};
+ghost use Rattle.domain_standing.specs.Domain.{item_in};
+ghost use Rattle.fileset_model.specs.Filesets.{FilesetMap};
+ghost use Rattle.fileset_model.specs.declared.fileset.FilesetSlot.{FilesetSlot};
+ghost use Rattle.fileset_table.specs.declared.slot.FilesetEntry.{FilesetEntry};
+ghost use Rattle.fileset_table.specs.declared.slot.SlotItem.TheVariants as slot;
+ghost use Rattle.name_space.specs.Changes.{IsOriginal};
+ghost use Rattle.names_standing.specs.Nodes.{NodesFollow};
+ghost use Rattle.set_standing.specs.Around.{StaysAround};
+ghost use Rattle.standing_laws.specs.Slots.{StandsSlot};
+ghost use Rattle.chosen_files.specs.Chosen.{AreSettingsOf, CallsChange, Lends, files_in};
+ghost use Rattle.chosen_files.specs.declared.chosen.Chosen.{Chosen as ChosenOf};
+
+/// Where memory of a domain has lent the files of an original, and has them back as calls on the set
+/// have left them, whether these succeeded or not, the domain stands around the original: all that is
+/// not of it is as it was, and its files keep what they have. What was kept before is kept, and the
+/// change can be taken back. Where the original stands for a fileset then, and there is room on the
+/// list for what was taken away, memory is that of a domain with this one beside the others.
+pub fn a_lent_set_is_staged()
+    ensures around { (old now : DomainMemory) (number : ℕ) (settings settings_now : CallSettings)
+        (chosen after : ChosenOf) (entry : FilesetEntry) (all : FilesetMap) → IsStaged old all
+        → MayGoBack old → item_in (staged_in old) number ≡ Some (slot.Original entry)
+        → AreSettingsOf old settings → Lends old number settings chosen
+        → CallsChange chosen after → Lends now number settings_now after
+        → StaysAround number (staged_in old) (staged_in now) }
+    ensures kept { (old now : DomainMemory) (number : ℕ) (settings settings_now : CallSettings)
+        (chosen after : ChosenOf) (entry : FilesetEntry) (all : FilesetMap) → IsStaged old all
+        → MayGoBack old → item_in (staged_in old) number ≡ Some (slot.Original entry)
+        → AreSettingsOf old settings → Lends old number settings chosen
+        → CallsChange chosen after → Lends now number settings_now after → KeepsKept old now }
+    ensures back { (old now : DomainMemory) (number : ℕ) (settings settings_now : CallSettings)
+        (chosen after : ChosenOf) (entry : FilesetEntry) (all : FilesetMap) → IsStaged old all
+        → MayGoBack old → item_in (staged_in old) number ≡ Some (slot.Original entry)
+        → AreSettingsOf old settings → Lends old number settings chosen
+        → CallsChange chosen after → Lends now number settings_now after → MayGoBack now }
+    ensures staged { (old now : DomainMemory) (number : ℕ) (settings settings_now : CallSettings)
+        (chosen after : ChosenOf) (entry : FilesetEntry) (all : FilesetMap) → IsStaged old all
+        → MayGoBack old → item_in (staged_in old) number ≡ Some (slot.Original entry)
+        → AreSettingsOf old settings → Lends old number settings chosen
+        → CallsChange chosen after → Lends now number settings_now after
+        → length now.listed.items ≤ now.list.room → (shape : FilesetShape)
+        (fileset : FilesetSlot) → StandsSlot (staged_in now) number entry shape fileset
+        → IsStaged now (insert all entry.name fileset) }
+{}
+
+/// The fileset for which memory stands is the one that the rows of a lent set make. Where these make
+/// another one once calls have changed the set, of which each file is what it was, or new, memory is
+/// that of a domain with this one beside the others, if there is room on the list.
+pub fn a_lent_set_of_new_names_is_staged()
+    ensures names { (memory : DomainMemory) (number : ℕ) (settings : CallSettings)
+        (chosen : ChosenOf) (entry : FilesetEntry) (all : FilesetMap) → IsStaged memory all
+        → MayGoBack memory → item_in (staged_in memory) number ≡ Some (slot.Original entry)
+        → Lends memory number settings chosen → (fileset : FilesetSlot)
+        → get all entry.name ≡ Some fileset → IsOriginal (files_in chosen) fileset }
+    ensures staged { (old now : DomainMemory) (number : ℕ) (settings settings_now : CallSettings)
+        (chosen after : ChosenOf) (entry : FilesetEntry) (all : FilesetMap) → IsStaged old all
+        → MayGoBack old → item_in (staged_in old) number ≡ Some (slot.Original entry)
+        → AreSettingsOf old settings → Lends old number settings chosen
+        → CallsChange chosen after → Lends now number settings_now after
+        → length now.listed.items ≤ now.list.room → (fileset fileset_now : FilesetSlot)
+        → get all entry.name ≡ Some fileset → IsOriginal (files_in after) fileset_now
+        → NodesFollow fileset.tree fileset_now.tree
+        → IsStaged now (insert all entry.name fileset_now) }
+{}
