@@ -1,0 +1,38 @@
+use Rattle.std.proofs.Common.{refl}
+use Rattle.name_space.specs.Changes.{unlink_checks}
+use Rattle.chosen_files.specs.Chosen.{CallsChange}
+use Rattle.chosen_files.specs.declared.chosen.Chosen.{Chosen}
+use Rattle.names_standing.proofs.Nodes.{path_left}
+use Rattle.name_stages.proofs.Calls.{back, err_by, has_names, is_refused, kept, names_were, ok_by, stands_with}
+use Rattle.name_stages.proofs.taking.unlink.Goals as goal
+
+pub unlink_at-answer-requires-clause-names : goal.unlink_at-answer-requires-clause-names
+unlink_at-answer-requires-clause-names c = has_names c.args.memory c.args.number c.args.settings c.choose-chosen.result c.choose-chosen.ensures c.requires.stands c.requires.back c.requires.original
+
+pub returns-clause-ok : goal.returns-clause-ok
+returns-clause-ok c = λ all entry fileset has.
+    let chosen = c.choose-chosen.result in
+    let after : Chosen = record chosen { set = c.unlink_at-answer.new.set } in
+    let calls : CallsChange chosen after = record { set = c.unlink_at-answer.ensures.rest; rest = refl } in
+    let was = names_were c.args.memory c.args.number c.args.settings chosen c.choose-chosen.ensures c.requires.stands c.requires.back c.requires.original all entry fileset has in
+    let stands = stands_with c.args.memory c.args.number c.args.settings chosen c.choose-chosen.ensures c.requires.stands c.requires.back c.requires.original c.requires.settings after c.back.result calls c.back.ensures refl all entry fileset has in
+    ok_by _ _ c.unlink_at-answer.result c.unlink_at-answer.ensures.ok (λ answer is.
+    let it = is fileset was in
+    record { allowed = it.allowed; was = it.was; last = it.last; staged = stands _ it.makes (path_left c.args.path.now fileset.tree) })
+
+pub returns-clause-err : goal.returns-clause-err
+returns-clause-err c = λ all entry fileset has.
+    let was = names_were c.args.memory c.args.number c.args.settings c.choose-chosen.result c.choose-chosen.ensures c.requires.stands c.requires.back c.requires.original all entry fileset has in
+    err_by _ _ c.unlink_at-answer.result c.unlink_at-answer.ensures.err (λ fault is. is_refused (unlink_checks c.args.path.now) _ _ _ _ fileset was fault is)
+
+pub returns-clause-kept : goal.returns-clause-kept
+returns-clause-kept c =
+    let chosen = c.choose-chosen.result in
+    let after : Chosen = record chosen { set = c.unlink_at-answer.new.set } in
+    kept c.args.memory c.args.number c.args.settings chosen c.choose-chosen.ensures c.requires.stands c.requires.back c.requires.original c.requires.settings after c.back.result (record { set = c.unlink_at-answer.ensures.rest; rest = refl }) c.back.ensures refl
+
+pub returns-clause-back : goal.returns-clause-back
+returns-clause-back c =
+    let chosen = c.choose-chosen.result in
+    let after : Chosen = record chosen { set = c.unlink_at-answer.new.set } in
+    back c.args.memory c.args.number c.args.settings chosen c.choose-chosen.ensures c.requires.stands c.requires.back c.requires.original c.requires.settings after c.back.result (record { set = c.unlink_at-answer.ensures.rest; rest = refl }) c.back.ensures refl

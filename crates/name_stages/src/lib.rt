@@ -1,0 +1,11 @@
+//! Changes of names, laid over a domain's memory: each lends the files of one fileset to a call on
+//! names, has them back, and says for which filesets the domain stands with it.
+#![tactic(auto)]
+
+mod making;
+mod moving;
+mod taking;
+
+pub use making::{create, link};
+pub use moving::rename;
+pub use taking::{remove_directory, unlink};

@@ -1,0 +1,3 @@
+pub mod WellFormed
+pub mod Bare
+pub mod AtHand
