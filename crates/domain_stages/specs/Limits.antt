@@ -1,0 +1,88 @@
+-- An owner's limits, set in the fileset of a slot of a domain's memory, step by step.
+use Rattle.std.specs.Prelude.{◌≡◌, ◌⊎◌, ℕ, false, List, Option, IfSome, slice_set}
+use Rattle.domain_base.specs.declared.place.CellAt.{CellAt}
+use Rattle.page_store.specs.declared.fault.StoreFault.{StoreFault}
+use Rattle.page_store.specs.declared.fault.StoreFault.TheVariants.{NoPage, OutOfMemory}
+use Rattle.bmt_mcells.specs.Chain.{PlacedCell}
+use Rattle.free_cells.specs.Cells.{Cells, can_take}
+use Rattle.free_space.specs.Spaces.{CanTake, Spaces}
+use Rattle.bitfile_cells.specs.Allocated.{AreAllocated}
+use Rattle.bitfile_cells.specs.FileChanges.{LeavesOtherCells}
+use Rattle.bitfile_cells.specs.MapChanges.{LeavesOffTables}
+use Rattle.fileset_model.specs.Usage.{with_limits}
+use Rattle.fileset_model.specs.declared.command.Owner.{Owner}
+use Rattle.fileset_model.specs.declared.command.Owner.TheVariants as owner
+use Rattle.fileset_model.specs.declared.fileset.Limits.{Limits}
+use Rattle.fileset_table.specs.declared.slot.FilesetEntry.{FilesetEntry}
+use Rattle.fileset_table.specs.declared.slot.SlotItem.TheVariants as slot
+use Rattle.quota_book.specs.QuotaCells.{touched}
+use Rattle.quota_chain.specs.QuotaChain.{IsQuotaChain, SetsLimits, TakesIfUntouched, said_in}
+use Rattle.staged_pages.specs.Store.{before_of, pages_of}
+use Rattle.standing_laws.specs.BoundedFileset.{entry_bounded}
+use Rattle.standing_laws.specs.SetsQuota.{entry_limited}
+use Rattle.domain_parts.specs.Slots.{ChangesSlot, slot_in}
+use Rattle.domain_parts.specs.declared.slots.SlotFiles.{SlotFiles}
+use Rattle.domain_memory.specs.declared.memory.DomainMemory.{DomainMemory}
+use Rattle.domain_stages.specs.Table.{HasOriginal, PutsSlot}
+
+-- those of the whole fileset are in its slot
+pub record BoundsInSlot (number : ℕ) (limits : Limits) (old new : DomainMemory) : Type 0 where
+  pub entry : FilesetEntry
+  pub has : HasOriginal old number entry
+  pub puts : PutsSlot number (slot.Original (entry_bounded limits entry)) old new
+
+-- those of a user or a group are in the chain of quota cells that the slot named, or in one that
+-- begins so, with all that the call says of pages, free space and cells
+pub record SetsInChain (number prefer : ℕ) (who : Owner) (limits : Limits) (entry : FilesetEntry)
+    (start : CellAt) (old mid : DomainMemory) : Type 0 where
+  pub begins : IfSome entry.quota (λ at. start ≡ at)
+  pub sets : (chain : List PlacedCell) → IsQuotaChain (pages_of old.pages) entry.quota chain
+      → SetsLimits number who limits start chain old.cells mid.cells (pages_of old.pages)
+      (pages_of mid.pages)
+  pub taken : (chain : List PlacedCell) → IsQuotaChain (pages_of old.pages) entry.quota chain
+      → TakesIfUntouched (touched (said_in chain) who) prefer old.space mid.space old.cells
+      mid.cells (pages_of old.pages)
+  pub others : (chain : List PlacedCell) → IsQuotaChain (pages_of old.pages) entry.quota chain
+      → LeavesOtherCells old.cells chain (pages_of old.pages) (pages_of mid.pages)
+  pub elsewhere : LeavesOffTables mid.cells (pages_of old.pages) (pages_of mid.pages)
+  pub allocated : AreAllocated mid.space mid.cells (pages_of mid.pages)
+  pub before : before_of mid.pages ≡ before_of old.pages
+  pub same : mid ≡ record old { pages = mid.pages; space = mid.space; cells = mid.cells }
+
+-- and the slot names it
+pub record SetsOwner (number prefer : ℕ) (who : Owner) (limits : Limits) (old new : DomainMemory)
+    : Type 0 where
+  pub entry : FilesetEntry
+  pub has : HasOriginal old number entry
+  pub start : CellAt
+  pub mid : DomainMemory
+  pub sets : SetsInChain number prefer who limits entry start old mid
+  pub puts : PutsSlot number (slot.Original (entry_limited start entry)) mid new
+
+-- so they are in the domain's pages
+abbrev pub SetsInPages : ℕ → ℕ → Owner → Limits → DomainMemory → DomainMemory → Type 0
+SetsInPages number prefer who limits old new =
+    ((who ≡ owner.Fileset) × BoundsInSlot number limits old new)
+    ⊎ ((¬ who ≡ owner.Fileset) × SetsOwner number prefer who limits old new)
+
+-- no cell can be taken, and no page for more of them; or memory was short
+abbrev pub LimitsNone : Spaces → Cells → StoreFault → Type 0
+LimitsNone space cells NoPage = ((at : CellAt) → can_take cells at ≡ false)
+    × ((vol p : ℕ) → ¬ CanTake space vol p)
+LimitsNone space cells OutOfMemory = Unit {0}
+
+-- a fileset's book has the limits, and all else of its slot is as it was
+pub record LimitsFiles (who : Owner) (limits : Limits) (old new : SlotFiles) : Type 0 where
+  pub files : new.files ≡ old.files
+  pub tag_pages : new.tag_pages ≡ old.tag_pages
+  pub kept : new.book.kept ≡ old.book.kept
+  pub book : new.book.book
+      ≡ record old.book.book { limits = with_limits old.book.book.limits who limits }
+
+-- so it is of the slot with a number, and nothing else changes
+pub record SetsInBook (number : ℕ) (who : Owner) (limits : Limits) (old new : DomainMemory)
+    : Type 0 where
+  pub slot : Option SlotFiles
+  pub limited : ChangesSlot (LimitsFiles who limits) (slot_in old.slots.items number) slot
+  pub slots : new.slots.items ≡ slice_set old.slots.items number slot
+  pub same : new ≡ record old { slots = new.slots }
