@@ -10,6 +10,7 @@ use Rattle.history_laws.proofs.GoesOn.{goes_on_from}
 use Rattle.domain_layout.specs.Reached.{Frame}
 use Rattle.quota_book.specs.Book.{Book}
 use Rattle.domain_standing.specs.Domain.{DomainNow}
+use Rattle.domain_standing.specs.Sources.{StandAlone}
 use Rattle.domain_standing.specs.Standing.{AreBooksOf, HaveParents, IsMarkedBut, StandsDomain}
 use Rattle.domain_memory.specs.Memory.{StandsFor, books_in, kept_in}
 use Rattle.domain_memory.specs.Staged.{IsStagedForSome, MayBeKept}
@@ -36,6 +37,7 @@ module _ (pages : Pages) (frame : Frame) (sizes : List ℕ) (old : DomainMemory)
 pub stands_still : (old new : DomainMemory) (all : FilesetMap) → kept_in new ≡ kept_in old → books_in new ≡ books_in old → StandsFor old all → StandsFor new all
 stands_still old new all kept books stands = record {
   stands = subst (λ (d : DomainNow). StandsDomain d all) (sym kept) stands.stands;
+  alone = subst StandAlone (sym kept) stands.alone;
   parents = subst HaveParents (sym kept) stands.parents;
   marked = subst IsMarkedBut (sym kept) stands.marked;
   books = subst (λ (b : ℕ → Book). AreBooksOf b (kept_in new) all) (sym books) (subst (λ (d : DomainNow). AreBooksOf (books_in old) d all) (sym kept) stands.books);

@@ -2,3 +2,4 @@ pub mod Beginning
 pub mod Committing
 pub mod NoClones
 pub mod Unmoved
+pub mod Stamping

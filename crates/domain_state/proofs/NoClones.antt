@@ -1,20 +1,17 @@
 -- A domain that stands has no clone among its filesets.
-use Rattle.std.proofs.Common.{◌≡◌, ◌∙◌, ℕ, true, false, Option, Some, None, IfSome, IsSome, IsSomeAnd, slice_get, refl, sym, ap, subst, true≢false}
-use Rattle.std.specs.FinMap.{get}
+use Rattle.std.proofs.Common.{◌≡◌, ◌∙◌, ℕ, Option, Some, None, IfSome, IsSome, IsSomeAnd, slice_get, refl, sym, ap, subst, true≢false}
 use Rattle.fileset_model.specs.Filesets.{FilesetMap}
 use Rattle.fileset_model.specs.Orders.{Name}
-use Rattle.fileset_model.specs.declared.fileset.FilesetSlot.{FilesetSlot}
 use Rattle.fileset_model.specs.declared.fileset.Role.{Role}
 use Rattle.fileset_model.specs.declared.fileset.Role.TheVariants as role
 use Rattle.fileset_table.specs.Table.{entry_of}
-use Rattle.fileset_table.specs.declared.slot.FilesetEntry.{FilesetEntry}
 use Rattle.fileset_table.specs.declared.slot.SlotItem.{SlotItem}
 use Rattle.fileset_table.specs.declared.slot.SlotItem.TheVariants as slot
 use Rattle.history_laws.specs.GoingOn.{HaveNoClone}
 use Rattle.domain_layout.specs.CellRules.{of_clone}
 use Rattle.domain_layout.specs.Filled.{FillsThere, IsRole}
-use Rattle.domain_layout.specs.Shape.{FilesetShape, HasFileset, IsOriginal, IsShapeOf}
-use Rattle.domain_standing.specs.Domain.{DomainNow, item_in}
+use Rattle.domain_layout.specs.Shape.{FilesetShape, IsOriginal, IsShapeOf}
+use Rattle.domain_standing.specs.Domain.{DomainNow}
 use Rattle.domain_standing.specs.Slots.{StandSlots}
 
 is_original : (name : Option Name) (r : Role) → IsRole name r → name ≡ None → r ≡ role.Original

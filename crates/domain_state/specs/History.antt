@@ -1,5 +1,5 @@
 -- The history of a domain since it was opened.
-use Rattle.std.specs.Prelude.{ℕ, List, Option}
+use Rattle.std.specs.Prelude.{ℕ, ◌-◌, ◌<◌, ◌≤◌, Bool, List, [], ◌∷◌, Option, get_or, if◌then◌else◌, length}
 use Rattle.page_store.specs.Pages.{Pages}
 use Rattle.fileset_model.specs.Filesets.{FilesetMap}
 use Rattle.fileset_model.specs.declared.command.Command.{Command}
@@ -9,7 +9,7 @@ use Rattle.history_model.specs.State.{State}
 use Rattle.domain_layout.specs.Reached.{Frame}
 use Rattle.domain_memory.specs.Memory.{StandsFor}
 use Rattle.domain_memory.specs.Staged.{MayBeKept}
-use Rattle.history_laws.specs.GoingOn.{MayGoOnFrom}
+use Rattle.history_laws.specs.GoingOn.{MayGoOnFrom, stamped}
 use Rattle.domain_memory.specs.declared.memory.DomainMemory.{DomainMemory}
 use Rattle.domain_state.specs.Opening.{IsStartOf}
 
@@ -41,3 +41,20 @@ pub record MayCommit (pages : Pages) (frame : Frame) (sizes : List ℕ) (memory 
   pub step : (start : State) → IsStartOf pages frame sizes start
       → MayGoOnFrom start entries job (record start { filesets = all }) e
       (record start { filesets = now })
+
+-- ** Stamps
+
+-- how many entries have their stamps: all but the one that an event has added
+abbrev pub stamped_count : Bool → List Entry → ℕ
+stamped_count added entries = if added then length entries - 1 else length entries
+
+-- none of these is greater than a number of calls
+abbrev pub AreStamped : Bool → ℕ → List Entry → Type 0
+AreStamped added calls entries = (k : ℕ) (e : Entry) → k < stamped_count added entries
+    → (get_or entries k e).stamp ≤ calls
+
+-- the last entry has this stamp
+abbrev pub with_last_stamped : ℕ → List Entry → List Entry
+with_last_stamped stamp [] = []
+with_last_stamped stamp (e ∷ []) = stamped stamp e ∷ []
+with_last_stamped stamp (e ∷ f ∷ more) = e ∷ with_last_stamped stamp (f ∷ more)

@@ -17,6 +17,18 @@ pub struct Attached<R: Rack> {
 }
 
 impl<R: Rack> Attached<R> {
+    /// The domain on a rack of which this is kept in memory: it stands for some filesets, with no
+    /// change laid over it.
+    pub fn of_memory(rack: R, memory: DomainMemory) -> Attached<R>
+        requires stands { ∥ StandsForSome memory ∥₁ }
+        requires settled { ∥ IsSettled memory ∥₁ }
+        requires back { ∥ MayGoBack memory ∥₁ }
+        ensures rack { result.rack ≡ rack }
+        ensures memory { result.memory ≡ memory }
+    {
+        Attached { rack, memory }
+    }
+
     /// The rack as it is. Nothing is written.
     pub fn into_rack(self) -> R
         ensures { result ≡ self.rack }

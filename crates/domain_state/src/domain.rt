@@ -1,5 +1,5 @@
 //! A domain with the history of its commands.
-ghost use Rattle.std.specs.Prelude.{◌≡◌, ◌+◌, ◌-◌, ◌≤◌, ◌∷◌, ◌++◌, ℕ, [], List, None, OnOk, length, vec_capacity};
+ghost use Rattle.std.specs.Prelude.{◌≡◌, ◌+◌, ◌-◌, ◌≤◌, ◌∷◌, ◌++◌, ℕ, [], All, List, None, OnOk, false, if◌then◌else◌, length, vec_capacity};
 ghost use Rattle.domain_base.specs.declared.version.Version.TheVariants.{Four};
 ghost use Rattle.page_store.specs.Pages.{Pages, no_pages};
 ghost use Rattle.domain_layout.specs.Reached.{Frame};
@@ -10,12 +10,13 @@ ghost use Rattle.fileset_model.specs.Filesets.{FilesetMap};
 ghost use Rattle.domain_memory.specs.Memory.{StandsFor, books_in, kept_in};
 ghost use Rattle.domain_memory.specs.Staged.{IsSettled, MayBeKept, MayGoBack};
 ghost use Rattle.history_laws.specs.GoingOn.{job_left};
-ghost use Rattle.domain_state.specs.History.{GoesOn, MayCommit};
+ghost use Rattle.domain_state.specs.History.{GoesOn, MayCommit, with_last_stamped};
 
 use crate::Attached;
+use crate::history::History;
 use domain_base::OutOfMemory;
 use domain_memory::DomainMemory;
-use fileset_model::{Actor, Command, Entry, Told};
+use fileset_model::{Entry, Told};
 use std::alloc::Global;
 use std::marker::{Brand, PhantomData};
 use volume_disk::Rack;
@@ -42,46 +43,33 @@ impl Opening for Brand {
 /// its pages meant then to the filesets for which it stands now.
 #[derive(Drop)]
 pub struct Domain<R: Rack, O: Opening> {
-    rack: R,
     memory: DomainMemory,
-    entries: Vec<Entry>,
-    durable: u64,
-    job: Option<Command>,
+    history: History<R>,
     of: PhantomData<O>,
-    ghost stands: { ∥ GoesOn O.pages O.frame O.sizes memory entries.items job ∥₁ },
+    ghost stands: { ∥ GoesOn O.pages O.frame O.sizes memory history.entries.items history.job ∥₁ },
     ghost back: { ∥ MayGoBack memory ∥₁ },
-    ghost lasts: { durable ≤ length entries.items },
 }
 
 impl<R: Rack, O: Opening> Told for Domain<R, O> {
-    ghost history = { λ domain. domain.entries.items };
+    ghost history = { λ domain. domain.history.entries.items };
 
-    ghost lasting = { λ domain. domain.durable };
+    ghost lasting = { λ domain. domain.history.durable };
 
-    ghost rests = { λ domain. Unit {0} };
+    ghost rests = { λ domain. domain.history.added ≡ false };
 
-    ghost room = { λ domain. vec_capacity domain.entries - length domain.entries.items };
+    ghost room = { λ domain. vec_capacity domain.history.entries - length domain.history.entries.items };
 
-    ghost begun = { λ domain. domain.job };
+    ghost begun = { λ domain. domain.history.job };
 
     fn committed(&self) -> u64 {
-        self.entries.len() as u64
+        self.history.entries.len() as u64
     }
 
     fn durable(&self) -> u64 {
-        self.durable
+        self.history.durable
     }
 
-    ghost bounded = { λ domain. domain.lasts };
-}
-
-/// Ends the mover's job with its own entry.
-fn end_job(job: &mut Option<Command>, actor: &Actor)
-    ensures { job.new ≡ job_left actor.now job.old }
-{
-    if let Actor::Mover = actor {
-        *job = None;
-    }
+    ghost bounded = { λ domain. domain.history.lasts };
 }
 
 impl<R: Rack, O: Opening> Domain<R, O> {
@@ -91,17 +79,15 @@ impl<R: Rack, O: Opening> Domain<R, O> {
         requires frame { O.frame ≡ frame_in attached.memory.frame }
         requires sizes { O.sizes ≡ (R.disk attached.rack).sizes }
         ensures history { ⟦<Domain<R, O> as Told>⟧.history result ≡ [] }
+        ensures rests { ⟦<Domain<R, O> as Told>⟧.rests result }
         ensures begun { ⟦<Domain<R, O> as Told>⟧.begun result ≡ None }
-        ensures rack { result.rack ≡ attached.rack }
+        ensures rack { result.history.rack ≡ attached.rack }
         ensures memory { result.memory ≡ attached.memory }
     {
         let Attached { rack, memory, .. } = attached;
         Domain {
-            rack,
             memory,
-            entries: Vec::new(alloc),
-            durable: 0,
-            job: None,
+            history: History::begin(alloc, rack),
             of: PhantomData,
         }
     }
@@ -113,18 +99,19 @@ impl<R: Rack, O: Opening> Domain<R, O> {
             ≡ ⟦<Domain<R, O> as Told>⟧.history self.old }
         ensures begun { ⟦<Domain<R, O> as Told>⟧.begun self.new
             ≡ ⟦<Domain<R, O> as Told>⟧.begun self.old }
-        ensures rack { self.new.rack ≡ self.old.rack }
+        ensures rack { self.new.history.rack ≡ self.old.history.rack }
         ensures memory { self.new.memory ≡ self.old.memory }
-        ensures durable { self.new.durable ≡ self.old.durable }
+        ensures durable { self.new.history.durable ≡ self.old.history.durable }
+        ensures added { self.new.history.added ≡ self.old.history.added }
     {
-        self.entries.reserve(more)?;
-        Ok(())
+        self.history.reserve(more)
     }
 
     /// Keeps the change that is laid over the domain, and adds the command whose change it is, with
-    /// its reply. The mover's own entry ends its job. It takes no memory, and the time of what the
-    /// change has changed.
+    /// its reply: one in each event, which gets its stamp where that ends. The mover's own entry
+    /// ends its job. It takes no memory, and the time of what the change has changed.
     pub fn commit(&mut self, entry: Entry)
+        requires first { ⟦<Domain<R, O> as Told>⟧.rests self.old }
         requires room { 1 ≤ ⟦<Domain<R, O> as Told>⟧.room self.old }
         requires step { (all : FilesetMap) → StandsFor self.old.memory all → MayCommit O.pages
             O.frame O.sizes self.old.memory (⟦<Domain<R, O> as Told>⟧.history self.old)
@@ -138,13 +125,12 @@ impl<R: Rack, O: Opening> Domain<R, O> {
         ensures settled { IsSettled self.new.memory }
         ensures room { ⟦<Domain<R, O> as Told>⟧.room self.old
             ≤ ⟦<Domain<R, O> as Told>⟧.room self.new + 1 }
-        ensures rack { self.new.rack ≡ self.old.rack }
+        ensures rack { self.new.history.rack ≡ self.old.history.rack }
         ensures frame { self.new.memory.frame ≡ self.old.memory.frame }
-        ensures durable { self.new.durable ≡ self.old.durable }
+        ensures durable { self.new.history.durable ≡ self.old.history.durable }
     {
         self.memory.keep();
-        end_job(&mut self.job, &entry.actor);
-        self.entries.push_reserved(entry);
+        self.history.add(entry);
     }
 
     /// Takes the change back that is laid over the domain. It takes no memory, and the time of what
@@ -159,25 +145,87 @@ impl<R: Rack, O: Opening> Domain<R, O> {
             ≡ ⟦<Domain<R, O> as Told>⟧.begun self.old }
         ensures room { ⟦<Domain<R, O> as Told>⟧.room self.new
             ≡ ⟦<Domain<R, O> as Told>⟧.room self.old }
-        ensures rack { self.new.rack ≡ self.old.rack }
+        ensures rack { self.new.history.rack ≡ self.old.history.rack }
         ensures frame { self.new.memory.frame ≡ self.old.memory.frame }
-        ensures durable { self.new.durable ≡ self.old.durable }
+        ensures durable { self.new.history.durable ≡ self.old.history.durable }
+        ensures added { self.new.history.added ≡ self.old.history.added }
     {
         self.memory.take_back();
+    }
+
+    /// Ends an event: the entry that it has added, if it has, gets as its stamp how many calls the
+    /// rack has had. It takes no memory.
+    pub fn end_event(&mut self)
+        requires settled { IsSettled self.old.memory }
+        ensures history { ⟦<Domain<R, O> as Told>⟧.history self.new ≡ if self.old.history.added
+            then with_last_stamped (R.disk self.old.history.rack).calls
+            (⟦<Domain<R, O> as Told>⟧.history self.old)
+            else ⟦<Domain<R, O> as Told>⟧.history self.old }
+        ensures rests { ⟦<Domain<R, O> as Told>⟧.rests self.new }
+        ensures begun { ⟦<Domain<R, O> as Told>⟧.begun self.new
+            ≡ ⟦<Domain<R, O> as Told>⟧.begun self.old }
+        ensures room { ⟦<Domain<R, O> as Told>⟧.room self.new
+            ≡ ⟦<Domain<R, O> as Told>⟧.room self.old }
+        ensures rack { self.new.history.rack ≡ self.old.history.rack }
+        ensures memory { self.new.memory ≡ self.old.memory }
+        ensures durable { self.new.history.durable ≡ self.old.history.durable }
+    {
+        self.history.end_event();
     }
 
     /// The commands since the domain was opened, with their replies.
     pub fn entries(&self) -> &[Entry]
         ensures { result.now ≡ ⟦<Domain<R, O> as Told>⟧.history self.now }
     {
-        self.entries.as_slice()
+        self.history.entries.as_slice()
+    }
+
+    /// How many calls the rack has had: no entry has a greater stamp, where no event goes on that has
+    /// added one.
+    pub fn calls(&self) -> u64
+        ensures stamps { ⟦<Domain<R, O> as Told>⟧.rests self.now
+            → All (λ before. before.stamp ≤ result) (⟦<Domain<R, O> as Told>⟧.history self.now) }
+    {
+        self.history.rack.calls()
     }
 
     /// The rack as it is. Nothing is written.
     pub fn into_rack(self) -> R
-        ensures { result ≡ self.rack }
+        ensures { result ≡ self.history.rack }
     {
-        let Domain { rack, .. } = self;
+        let Domain { history, .. } = self;
+        let History { rack, .. } = history;
         rack
+    }
+
+    /// Takes a domain apart, so that a change may be laid over its memory.
+    pub fn apart(self) -> (DomainMemory, History<R>)
+        ensures stands { ∥ GoesOn O.pages O.frame O.sizes result.0 result.1.entries.items
+            result.1.job ∥₁ }
+        ensures back { ∥ MayGoBack result.0 ∥₁ }
+        ensures memory { result.0 ≡ self.memory }
+        ensures history { result.1 ≡ self.history }
+    {
+        let Domain {
+            memory,
+            history,
+            ..
+        } = self;
+        (memory, history)
+    }
+
+    /// Puts a domain together again, with the change that is laid over its memory then.
+    pub fn together(memory: DomainMemory, history: History<R>) -> Domain<R, O>
+        requires stands { ∥ GoesOn O.pages O.frame O.sizes memory history.entries.items
+            history.job ∥₁ }
+        requires back { ∥ MayGoBack memory ∥₁ }
+        ensures memory { result.memory ≡ memory }
+        ensures history { result.history ≡ history }
+    {
+        Domain {
+            memory,
+            history,
+            of: PhantomData,
+        }
     }
 }

@@ -4,8 +4,12 @@
 
 mod attached;
 mod domain;
+mod history;
+mod laws;
 mod making;
 
 pub use attached::Attached;
 pub use domain::{Domain, Opening};
+pub use history::History;
+pub use laws::a_history_goes_on_over_changes;
 pub use making::make;

@@ -1,4 +1,5 @@
-use Rattle.std.proofs.Common.{sym, subst, arith, List, None}
+use Rattle.std.proofs.Common.{[], sym, subst, List, Option}
+use Rattle.fileset_model.specs.declared.command.Command.{Command}
 use Rattle.fileset_model.specs.declared.entry.Entry.{Entry}
 use Rattle.domain_state.specs.History.{GoesOn}
 use Rattle.domain_state.proofs.Beginning.{begun}
@@ -7,9 +8,10 @@ use Rattle.domain_state.proofs.domain.Domain.begin.Goals as goal
 pub invariant_of-result : goal.invariant_of-result
 invariant_of-result g c =
     let o = g.O.Opening in
+    let it = c.begin.result in
     record {
-      stands = subst (λ (entries : List Entry). ∥ GoesOn o.pages o.frame o.sizes c.args.attached.memory entries None ∥₁) (sym c.new.ensures.items)
-          (begun c.args.attached.memory o.sizes o.pages o.frame c.requires.pages c.requires.frame c.args.attached.stands);
+      stands = subst (λ (entries : List Entry). ∥ GoesOn o.pages o.frame o.sizes c.args.attached.memory entries it.job ∥₁) (sym c.begin.ensures.entries)
+          (subst (λ (job : Option Command). ∥ GoesOn o.pages o.frame o.sizes c.args.attached.memory [] job ∥₁) (sym c.begin.ensures.job)
+          (begun c.args.attached.memory o.sizes o.pages o.frame c.requires.pages c.requires.frame c.args.attached.stands));
       back = c.args.attached.back;
-      lasts = omega arith;
     }

@@ -1,0 +1,9 @@
+use Rattle.domain_memory.proofs.KeptStands.{stands_so}
+use Rattle.domain_state.proofs.laws.a_history_goes_on_over_changes.Goals as goal
+
+pub returns : goal.returns
+returns c = λ pages frame sizes old new entries job kept goes. record {
+  all = goes.all;
+  stands = stands_so old new kept goes.all goes.stands;
+  leads = goes.leads;
+}

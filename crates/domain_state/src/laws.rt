@@ -1,0 +1,17 @@
+//! Changes that are laid over a domain, and its history.
+ghost use Rattle.std.specs.Prelude.{ℕ, List, Option};
+ghost use Rattle.page_store.specs.Pages.{Pages};
+ghost use Rattle.domain_layout.specs.Reached.{Frame};
+ghost use Rattle.domain_memory.specs.Kept.{KeepsKept};
+ghost use Rattle.domain_memory.specs.declared.memory.DomainMemory.{DomainMemory};
+ghost use Rattle.fileset_model.specs.declared.command.Command.{Command};
+ghost use Rattle.fileset_model.specs.declared.entry.Entry.{Entry};
+ghost use Rattle.domain_state.specs.History.{GoesOn};
+
+/// The history of a domain leads to the filesets for which it stands, whatever change is laid over
+/// its memory, as long as what was kept of that stays.
+pub fn a_history_goes_on_over_changes()
+    ensures { (pages : Pages) (frame : Frame) (sizes : List ℕ) (old new : DomainMemory)
+        (entries : List Entry) (job : Option Command) → KeepsKept old new
+        → GoesOn pages frame sizes old entries job → GoesOn pages frame sizes new entries job }
+{}
