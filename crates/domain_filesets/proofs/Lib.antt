@@ -1,0 +1,4 @@
+pub mod Coming
+pub mod Means
+pub mod Removal
+pub mod Limits

@@ -1,0 +1,58 @@
+-- An entry of a client's that comes next.
+use Rattle.std.specs.Prelude.{◌≡◌, ◌≤◌, ◌++◌, ◌∷◌, ℕ, false, List, [], map, All, Contains}
+use Rattle.fileset_model.specs.Apply.{AnswersIfMemory}
+use Rattle.fileset_model.specs.Filesets.{FilesetMap}
+use Rattle.fileset_model.specs.declared.command.Actor.TheVariants.{Client}
+use Rattle.fileset_model.specs.declared.command.Command.{Command}
+use Rattle.fileset_model.specs.declared.entry.Entry.{Entry}
+use Rattle.fileset_model.specs.declared.reply.Refusal.TheVariants.{Panicked}
+use Rattle.fileset_model.specs.declared.reply.Reply.{Reply}
+use Rattle.fileset_model.specs.declared.reply.Reply.TheVariants.{Refused}
+use Rattle.history_model.specs.VolumeReply.{is_movers}
+use Rattle.domain_memory.specs.Memory.{StandsFor}
+use Rattle.domain_memory.specs.Staged.{IsSettled, MayBeKept}
+use Rattle.domain_memory.specs.declared.memory.DomainMemory.{DomainMemory}
+
+-- none of these was answered by panicked
+abbrev pub NonePanicked : List Entry → Type 0
+NonePanicked entries = (volume : ℕ)
+    → ¬ Contains (map (λ before. before.reply) entries) (Refused (Panicked volume))
+
+-- an entry of a client's may come after these: none has a greater stamp, and none panicked
+pub record ComesNext (entries : List Entry) (e : Entry) : Type 0 where
+  pub stamp : All (λ before. before.stamp ≤ e.stamp) entries
+  pub calm : NonePanicked entries
+  pub client : ℕ
+  pub actor : e.actor ≡ Client client
+  pub command : is_movers e.command ≡ false
+
+-- ** A command that is answered
+
+-- with the change that is laid over memory a command on these filesets has this answer, out-of-memory
+-- where nothing changes, and the change may be kept
+pub record IsAnswered (memory : DomainMemory) (all : FilesetMap) (command : Command) (reply : Reply)
+    : Type 0 where
+  pub now : FilesetMap
+  pub kept : MayBeKept memory now
+  pub means : AnswersIfMemory all command reply now
+
+-- a domain's history has one entry more, of a client's with this command; the domain stands for what
+-- its reply means
+pub record AddsOne (client : ℕ) (command : Command) (old new : DomainMemory)
+    (before after : List Entry) : Type 0 where
+  pub reply : Reply
+  pub stamp : ℕ
+  pub adds : after ≡ before ++ record {
+    actor = Client client;
+    command = command;
+    reply = reply;
+    stamp = stamp;
+  } ∷ []
+  pub means : (all : FilesetMap) → StandsFor old all
+      → (now : FilesetMap) × AnswersIfMemory all command reply now × StandsFor new now
+
+-- a domain's history has no entry more, and it stands for what it stood for, with no change over it
+pub record AddsNone (old new : DomainMemory) (before after : List Entry) : Type 0 where
+  pub settled : IsSettled new
+  pub same : after ≡ before
+  pub stands : (all : FilesetMap) → StandsFor old all → StandsFor new all
