@@ -17,7 +17,8 @@ use Rattle.domain_layout.specs.Faults.{HasNoTablesFault}
 use Rattle.domain_layout.specs.Layout.{IsLayout, Layout}
 use Rattle.domain_layout.specs.Owners.{IsOnTable, frame_of}
 use Rattle.attached_list.specs.Listing.{AddsLeft, AreAlone, AreOnce, IsLeftAt, SaysLeft, SaysThrough}
-use Rattle.attached_list.specs.ToDo.{HasSource, IsLeftToDo, Lists, ListsToDo}
+use Rattle.domain_standing.specs.Sources.{HasSource}
+use Rattle.attached_list.specs.ToDo.{IsLeftToDo, Lists, ListsToDo}
 use Rattle.attached_list.proofs.Listed.{at_place, not_in}
 use Rattle.attached_list.proofs.OnTables.{LinkOf, link_there, link_used}
 use Rattle.attached_list.proofs.Searched.{in_front}

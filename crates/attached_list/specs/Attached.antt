@@ -17,7 +17,8 @@ use Rattle.domain_layout.specs.TagRules.{IsQuotaOf, quota_of}
 use Rattle.domain_standing.specs.Chains.{IsRemoved}
 use Rattle.domain_standing.specs.Domain.{DomainNow, item_in, layout_of}
 use Rattle.domain_standing.specs.Tables.{StandTables}
-use Rattle.attached_list.specs.ToDo.{HaveNoSource, ListsToDo}
+use Rattle.domain_standing.specs.Sources.{HaveNoSource}
+use Rattle.attached_list.specs.ToDo.{ListsToDo}
 
 -- ** What no rule asks, beside that no file reads through another one
 

@@ -7,7 +7,8 @@ use Rattle.bmt_mcells.specs.Chain.{StandsAt}
 use Rattle.bmt_mcells.specs.declared.head.CellKind.TheVariants.{Primary}
 use Rattle.deferred_delete.specs.Listing.{Listing}
 use Rattle.deferred_delete.specs.declared.list.Entry.{Entry}
-use Rattle.attached_list.specs.ToDo.{SayLeft, SaySource}
+use Rattle.domain_standing.specs.Sources.{SaySource}
+use Rattle.attached_list.specs.ToDo.{SayLeft}
 
 -- the first cell of a file stands there, and says what is left to be done
 pub record SaysLeft (pages : Pages) (at : CellAt) : Type 0 where

@@ -8,7 +8,6 @@ use Rattle.bmt_mcells.specs.Cell.{Cell, record_of}
 use Rattle.bmt_mcells.specs.declared.head.CellKind.TheVariants.{Primary}
 use Rattle.deferred_delete.specs.Listed.{leftover_in}
 use Rattle.deferred_delete.specs.Listing.{Listing}
-use Rattle.deferred_delete.specs.Standing.{source_in}
 use Rattle.deferred_delete.specs.declared.list.Entry.{Entry}
 use Rattle.domain_layout.specs.Layout.{Layout}
 use Rattle.domain_layout.specs.Owners.{IsOnTable}
@@ -36,18 +35,3 @@ pub record ListsToDo (pages : Pages) (layout : Layout) (list : Listing) : Type 0
   pub once : (i j : ℕ) (e : Entry) → i < length list.entries → j < length list.entries
       → (get_or list.entries i e).at ≡ (get_or list.entries j e).at → i ≡ j
   pub no_tags : list.tag_pages ≡ []
-
--- records say through which file another one is read
-abbrev pub SaySource : List Record → Type 0
-SaySource records = IsSome (option_and_then source_in (record_of 2 records))
-
--- a first cell in use says so
-pub record HasSource (pages : Pages) (layout : Layout) (at : CellAt) : Type 0 where
-  pub cell : Cell
-  pub on : IsOnTable pages layout at cell
-  pub kind : cell.head.kind ≡ Primary
-  pub says : SaySource cell.records
-
--- no file reads through another one
-abbrev pub HaveNoSource : Pages → Layout → Type 0
-HaveNoSource pages layout = (at : CellAt) → ¬ HasSource pages layout at

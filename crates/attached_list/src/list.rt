@@ -7,7 +7,8 @@ ghost use Rattle.domain_layout.specs.Faults.{HasNoTablesFault};
 ghost use Rattle.domain_layout.specs.Layout.{IsLayout, Layout};
 ghost use Rattle.domain_layout.specs.Owners.{frame_of};
 ghost use Rattle.attached_list.specs.Listing.{AddsLeft, AreAlone, SaysLeft, SaysThrough};
-ghost use Rattle.attached_list.specs.ToDo.{HasSource, ListsToDo};
+ghost use Rattle.domain_standing.specs.Sources.{HasSource};
+ghost use Rattle.attached_list.specs.ToDo.{ListsToDo};
 
 use bmt_mcells::{CellKind, find_record, read_used};
 use cell_links::CellLinks;

@@ -9,7 +9,8 @@ use Rattle.domain_layout.specs.Layout.{IsCellTable, IsLayout, Layout}
 use Rattle.domain_layout.specs.Owners.{IsOnTable, frame_of}
 use Rattle.domain_layout.specs.Reached.{first_cells}
 use Rattle.fileset_shapes.specs.Files.{IsWhole}
-use Rattle.attached_list.specs.ToDo.{HaveNoSource, ListsToDo}
+use Rattle.domain_standing.specs.Sources.{HaveNoSource}
+use Rattle.attached_list.specs.ToDo.{ListsToDo}
 
 -- a layout with other lists of pages of cells
 abbrev pub with_cells : (ℕ → List ℕ) → Layout → Layout

@@ -18,6 +18,7 @@ use Rattle.domain_layout.specs.Owners.{frame_of}
 use Rattle.domain_layout.specs.Read.{contents_of}
 use Rattle.domain_layout.specs.Shape.{AreShapesOf, Shapes}
 use Rattle.domain_standing.specs.Domain.{DomainNow, layout_of}
+use Rattle.domain_standing.specs.Sources.{StandAlone}
 use Rattle.domain_standing.specs.Standing.{AreBooksOf, HaveParents, IsMarkedBut, StandsDomain}
 use Rattle.domain_parts.specs.Slots.{CanGoBack, book_in, kept_book, kept_places, places_in, slot_in}
 use Rattle.domain_parts.specs.declared.slots.SlotFiles.{SlotFiles}
@@ -106,6 +107,7 @@ module _ (m : DomainMemory) (layout : Layout) (is : IsReadMemory m layout) (may 
     pub stands_for : StandsFor m all
     stands_for = record {
       stands = subst (λ e. StandsDomain e all) same d_stands;
+      alone = subst StandAlone same read.sources;
       parents = subst HaveParents same (parents_are_right d laid may.whole.no_fault);
       marked = subst IsMarkedBut same (bits_are_right d laid may.whole.no_fault may.few may.bitmaps is.space);
       books = books;
@@ -151,6 +153,7 @@ module _ (m : DomainMemory) (layout : Layout) (is : IsReadMemory m layout) (may 
 
   pub goes_back : MayGoBack m
   goes_back = record {
+    has = record { count = is.count; numbered = is.numbered };
     table = subst (λ w. IsTable (with_was w m.table)) (sym is.was) is.good;
     slots = λ number. slot_back number (slot_in m.slots.items number) refl (is.settled number);
   }

@@ -8,9 +8,9 @@ use Rattle.tag_dirs.specs.declared.dir.TagPlace.{TagPlace}
 use Rattle.tag_dirs.proofs.Reading.{same_directory}
 use Rattle.fileset_table.specs.Table.{IsTable, Table}
 use Rattle.domain_layout.specs.Layout.{AreTagPlaces, IsLayout, Layout, first_tag_of}
-use Rattle.domain_parts.specs.Slots.{places_in, slot_in}
+use Rattle.domain_parts.specs.Slots.{HasNumber, places_in, slot_in}
 use Rattle.domain_parts.specs.declared.slots.SlotFiles.{SlotFiles}
-use Rattle.attached_memory.specs.Read.{HasNumber, IsSettledSlot}
+use Rattle.attached_memory.specs.Read.{IsSettledSlot}
 use Rattle.attached_memory.specs.Slots.{AreReadSlots, IsReadOf}
 
 same_places : (pages : Pages) (first : Option Home) (a b : List TagPlace) → AreTagPlaces pages first a → AreTagPlaces pages first b → a ≡ b

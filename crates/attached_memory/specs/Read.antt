@@ -19,11 +19,12 @@ use Rattle.domain_layout.specs.Reached.{Frame, IsWithin}
 use Rattle.fileset_shapes.specs.Files.{IsWhole}
 use Rattle.cell_links.specs.declared.links.CellLinks.{CellLinks}
 use Rattle.chain_faults.specs.Links.{AreLinks}
-use Rattle.domain_parts.specs.Slots.{places_in, slot_in}
+use Rattle.domain_parts.specs.Slots.{HasNumber, places_in, slot_in}
 use Rattle.domain_parts.specs.declared.slots.SlotFiles.{SlotFiles}
 use Rattle.domain_memory.specs.declared.memory.DomainMemory.{DomainMemory}
+use Rattle.domain_standing.specs.Sources.{HaveNoSource}
 use Rattle.attached_list.specs.Attached.{HaveQuotasToGo, TagsStay}
-use Rattle.attached_list.specs.ToDo.{HaveNoSource, ListsToDo}
+use Rattle.attached_list.specs.ToDo.{ListsToDo}
 
 -- pages of a layout without a fault, and what no rule asks of them
 pub record MayBeAttached (pages : Pages) (layout : Layout) : Type 0 where
@@ -43,10 +44,6 @@ pub record MayBeAttached (pages : Pages) (layout : Layout) : Type 0 where
 pub record IsSettledSlot (slot : SlotFiles) : Type 0 where
   pub pages : slot.tag_pages ≡ length slot.files.tags
   pub book : slot.book.kept ≡ slot.book.book
-
--- the files of what is in a slot are those of the fileset with this number
-abbrev pub HasNumber : ℕ → SlotFiles → Type 0
-HasNumber number slot = slot.files.fileset ≡ number
 
 -- memory has what the pages say in this layout, and no change is laid over it
 pub record IsReadMemory (memory : DomainMemory) (layout : Layout) : Type 0 where

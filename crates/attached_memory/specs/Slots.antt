@@ -5,9 +5,9 @@ use Rattle.fileset_table.specs.Table.{Table}
 use Rattle.fileset_table.specs.declared.slot.SlotItem.{SlotItem}
 use Rattle.quota_book.specs.Book.{empty_book}
 use Rattle.domain_layout.specs.Layout.{AreTagPlaces, first_tag_of}
-use Rattle.domain_parts.specs.Slots.{book_in, places_in}
+use Rattle.domain_parts.specs.Slots.{HasNumber, book_in, places_in}
 use Rattle.domain_parts.specs.declared.slots.SlotFiles.{SlotFiles}
-use Rattle.attached_memory.specs.Read.{HasNumber, IsSettledSlot}
+use Rattle.attached_memory.specs.Read.{IsSettledSlot}
 
 -- it has the tag directory that what is in the slot says, and an empty book
 pub record IsReadSlot (pages : Pages) (item : SlotItem) (slot : Option SlotFiles) : Type 0 where

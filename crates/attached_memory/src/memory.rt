@@ -40,6 +40,7 @@ pub fn read_memory(
         → IsReadAs (pages_of pages) (frame_in frame) table links.now slots.items layout
         → IsReadMemory memory layout) }
     ensures pages { IfOk result (λ memory. memory.pages ≡ pages) }
+    ensures slots { IfOk result (λ memory. memory.slots ≡ slots) }
 {
     let mut space = read_space(alloc, &pages, &frame)?;
     space.keep();

@@ -12,9 +12,9 @@ ghost use Rattle.domain_standing.specs.Standing.{AreBooksOf};
 ghost use Rattle.domain_memory.specs.Memory.{StandsFor, books_in, kept_in};
 ghost use Rattle.domain_memory.specs.Staged.{IsSettled, MayGoBack};
 ghost use Rattle.domain_memory.specs.declared.memory.DomainMemory.{DomainMemory};
-ghost use Rattle.domain_parts.specs.Slots.{places_in, slot_in};
+ghost use Rattle.domain_parts.specs.Slots.{HasNumber, places_in, slot_in};
 ghost use Rattle.domain_parts.specs.declared.slots.SlotFiles.{SlotFiles};
-ghost use Rattle.attached_memory.specs.Read.{HasNumber, IsReadMemory, IsSettledSlot, MayBeAttached};
+ghost use Rattle.attached_memory.specs.Read.{IsReadMemory, IsSettledSlot, MayBeAttached};
 ghost use Rattle.attached_memory.specs.Slots.{AreReadSlots};
 
 /// Memory that has what pages without a fault say, with the books of their filesets, stands for

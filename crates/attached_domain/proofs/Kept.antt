@@ -1,0 +1,69 @@
+-- Directories that are not to be cut keep all pages.
+use Rattle.std.proofs.Common.{◌≡◌, ◌∙◌, ℕ, Bool, true, false, cond, nat_eq, List, [], ◌∷◌, Option, Some, None, refl, sym, ap, subst}
+use Rattle.std.proofs.lemmas.Bool.{eqb-true}
+use Rattle.std.specs.Option.{option_and_then, option_map, option_map_or}
+use Rattle.std.specs.Prelude.{◌&&◌, not}
+use Rattle.domain_base.specs.Limits.{file_pages}
+use Rattle.domain_base.specs.declared.place.CellAt.{CellAt}
+use Rattle.domain_base.specs.declared.place.Kind.TheVariants.{Directory, File}
+use Rattle.page_store.specs.Pages.{Pages}
+use Rattle.record_table.specs.declared.record.Record.{Record}
+use Rattle.record_table.specs.declared.record.Record.TheVariants as written
+use Rattle.bmt_mcells.specs.Cell.{Cell, record_of}
+use Rattle.bmt_mcells.specs.Chain.{LinksFrom, PlacedCell, StandsAt}
+use Rattle.extent_maps.specs.Runs.{home_at}
+use Rattle.extent_records.specs.Writing.{places_before}
+use Rattle.bitfile_cells.specs.Files.{places_of}
+use Rattle.bitfile_core.specs.Files.{attributes_in, attributes_of, first_record, is_removed, keep_in, keep_of}
+use Rattle.bitfile_core.specs.declared.attributes.Attributes.{Attributes}
+use Rattle.domain_layout.specs.Seen.{SeenFile, kept_by, seen_in}
+use Rattle.layout_laws.proofs.OnePage.{some_same}
+use Rattle.attached_domain.specs.Signs.{say_cut, says_cut}
+
+none_some : {X : Type 0} {P : Type 0} (x : X) → None ≡ Some x → P
+none_some x is = absurd (let e : None ≡ Some x = is in cc)
+
+-- a record of attributes that says a directory, and no cut, says that all pages are kept
+by_kind : (b c : Bool) → cond b Directory File ≡ Directory → (b && not c) ≡ false → c ≡ true
+by_kind true true directory uncut = refl
+by_kind true false directory uncut = absurd (let e : true ≡ false = uncut in cc)
+by_kind false c directory uncut = absurd (let e : File ≡ Directory = directory in cc)
+
+-- what is seen of a file is what it is, and it keeps some pages
+record IsKeptAs (cells : List PlacedCell) (is : Attributes) (seen : SeenFile) : Type 0 where
+  keep : ℕ
+  keeps : keep_of cells ≡ Some keep
+  same : seen.is ≡ is
+
+kept_as : (cells : List PlacedCell) (is : Attributes) (seen : SeenFile) → kept_by cells is ≡ Some seen → IsKeptAs cells is seen
+kept_as cells is seen there = by_keep (keep_of cells) refl there
+  where
+    by_keep : (o : Option ℕ) → keep_of cells ≡ o → option_map (λ keep. record { is = is; homes = λ page. home_at (places_before keep (places_of cells) page) }) o ≡ Some seen → IsKeptAs cells is seen
+    by_keep None none seen_there = none_some seen seen_there
+    by_keep (Some keep) some seen_there = record { keep = keep; keeps = some; same = sym (ap (λ (s : SeenFile). s.is) (some_same _ seen seen_there)) }
+
+kept_in_record : (cells : List PlacedCell) (r : Record) (seen : SeenFile) → first_record 1 cells ≡ Some r → option_and_then (kept_by cells) (attributes_in r) ≡ Some seen
+    → seen.is.kind ≡ Directory → says_cut r ≡ false → keep_of cells ≡ Some file_pages
+kept_in_record cells (written.Attributes kind uid gid flags size keep links birth unsynced) seen at there directory uncut =
+    let is : IsKeptAs cells (record { kind = cond (nat_eq kind 2) Directory File; uid = uid; gid = gid; is_logged = nat_eq flags 1; size = size; links = links }) seen = kept_as cells _ seen there in
+    let all : nat_eq keep file_pages ≡ true = by_kind (nat_eq kind 2) (nat_eq keep file_pages) (sym (ap (λ (a : Attributes). a.kind) is.same) ∙ directory) uncut in
+    ap (option_and_then keep_in) at ∙ ap Some (eqb-true keep file_pages all)
+kept_in_record cells r seen at there directory uncut = none_some seen there
+
+-- a directory keeps all pages where its first cell says no cut
+pub keeps_all : (pages : Pages) (at : CellAt) (cells : List PlacedCell) (seen : SeenFile) → LinksFrom pages at cells → seen_in cells ≡ Some seen → seen.is.kind ≡ Directory
+    → ((cell : Cell) → StandsAt pages at cell → say_cut cell.records ≡ false) → keep_of cells ≡ Some file_pages
+keeps_all pages at [] seen links there directory uncut = absurd links
+keeps_all pages at (first ∷ rest) seen links there directory uncut = by_removed (is_removed (first ∷ rest)) there
+  where
+    said : say_cut first.cell.records ≡ false
+    said = uncut first.cell (subst (λ a. StandsAt pages a first.cell) links.0 links.1.stands)
+
+    by_record : (o : Option Record) → record_of 1 first.cell.records ≡ o → option_and_then (kept_by (first ∷ rest)) (option_and_then attributes_in o) ≡ Some seen → option_map_or says_cut o false ≡ false
+        → keep_of (first ∷ rest) ≡ Some file_pages
+    by_record None none seen_there cut = none_some seen seen_there
+    by_record (Some r) some seen_there cut = kept_in_record (first ∷ rest) r seen some seen_there directory cut
+
+    by_removed : (b : Bool) → cond b None (option_and_then (kept_by (first ∷ rest)) (attributes_of (first ∷ rest))) ≡ Some seen → keep_of (first ∷ rest) ≡ Some file_pages
+    by_removed true seen_there = none_some seen seen_there
+    by_removed false seen_there = by_record (record_of 1 first.cell.records) refl seen_there said

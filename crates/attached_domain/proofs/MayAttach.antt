@@ -1,0 +1,160 @@
+-- Pages in which all is found so that no rule asks may be attached.
+use Rattle.std.proofs.Common.{◌≡◌, ◌∙◌, ℕ, ◌<◌, ◌≤◌, Bool, true, false, List, [], Option, Some, None, length, slice_get, refl, sym, ap, subst, arith, ⊎_elim}
+use Rattle.std.proofs.lemmas.Option.{slice_get_cases}
+use Rattle.domain_base.specs.Limits.{file_pages}
+use Rattle.domain_base.specs.Version.{most_pages}
+use Rattle.domain_base.specs.declared.place.CellAt.{CellAt}
+use Rattle.domain_base.specs.declared.place.Home.{Home}
+use Rattle.domain_base.specs.declared.place.Kind.TheVariants.{Directory}
+use Rattle.domain_base.specs.declared.place.Tag.{Tag}
+use Rattle.page_store.specs.Pages.{Pages}
+use Rattle.bmt_mcells.specs.Cell.{Cell}
+use Rattle.bmt_mcells.specs.Chain.{LinksFrom, PlacedCell, StandsAt}
+use Rattle.tag_dirs.specs.Directory.{IsDirectoryAt, cell_of}
+use Rattle.tag_dirs.specs.declared.dir.TagPlace.{TagPlace}
+use Rattle.tag_dirs.proofs.Reading.{same_directory}
+use Rattle.bitfile_core.specs.Files.{keep_of}
+use Rattle.fileset_table.specs.declared.slot.FilesetEntry.{FilesetEntry}
+use Rattle.fileset_table.specs.declared.slot.SlotItem.{SlotItem}
+use Rattle.fileset_table.specs.declared.slot.SlotItem.TheVariants as slot
+use Rattle.log_recovery.specs.Range.{IsLogInside}
+use Rattle.log_ring.specs.Homes.{IsMember, member_of}
+use Rattle.attaching_laws.specs.Marks.{HasBitmaps}
+use Rattle.attaching_laws.specs.Keeping.{KeepDirectories}
+use Rattle.domain_layout.specs.CellRules.{of_clone}
+use Rattle.domain_layout.specs.DirectoryRules.{Has, IsInItem, IsInOriginal}
+use Rattle.domain_layout.specs.Layout.{AreTagPlaces, IsLayout, Layout, first_tag_of}
+use Rattle.domain_layout.specs.Reached.{Frame, IsWithin}
+use Rattle.domain_layout.specs.Seen.{SeenFile}
+use Rattle.layout_laws.proofs.OnePage.{one_of}
+use Rattle.filesets_reading.specs.Tables.{AreTablesOf}
+use Rattle.filesets_reading.specs.declared.tables.DomainTables.{DomainTables}
+use Rattle.fileset_shapes.specs.Files.{IsWhole}
+use Rattle.fileset_shapes.specs.Shapes.{IsDomain}
+use Rattle.fileset_shapes.proofs.SeenShapes.{whole}
+use Rattle.attached_list.specs.Attached.{TagsStay}
+use Rattle.attached_memory.specs.Read.{MayBeAttached}
+use Rattle.attached_domain.specs.Causes.{MayBeRead}
+use Rattle.attached_domain.specs.Fits.{Fits}
+use Rattle.attached_domain.specs.Signs.{SlotSays, say}
+use Rattle.attached_domain.specs.declared.signs.Sign.{Sign}
+use Rattle.attached_domain.specs.declared.signs.Sign.TheVariants.{Cut, Removed}
+use Rattle.attached_domain.proofs.Kept.{keeps_all}
+use Rattle.attached_domain.proofs.Looked.{good_table}
+
+none_some : {X : Type 0} {P : Type 0} (x : X) → None ≡ Some x → P
+none_some x is = absurd (let e : None ≡ Some x = is in cc)
+
+no_bool : {P : Type 0} → false ≡ true → P
+no_bool is = absurd (let e : false ≡ true = is in cc)
+
+-- the pages of a tag directory where something is in the slot, and none where the table has no such
+-- slot
+abbrev pub tags_if : Option SlotItem → List TagPlace → List TagPlace
+tags_if None places = []
+tags_if (Some item) places = places
+
+abbrev pub with_tags : Layout → Layout
+with_tags layout = record layout { tags = λ number. tags_if (slice_get layout.table.slots number) (layout.tags number) }
+
+pub laid_so : (pages : Pages) (layout : Layout) → IsLayout pages layout → IsLayout pages (with_tags layout)
+laid_so pages layout laid = record {
+  version = laid.version;
+  table = laid.table;
+  cells = laid.cells;
+  tags = λ number item there. subst (AreTagPlaces pages (first_tag_of item)) (sym (ap (λ o. tags_if o (layout.tags number)) there)) (laid.tags number item there);
+}
+
+pub none_so : (layout : Layout) (number : ℕ) → slice_get layout.table.slots number ≡ None → (with_tags layout).tags number ≡ []
+none_so layout number none = ap (λ o. tags_if o (layout.tags number)) none
+
+module _ (pages : Pages) (frame : Frame) (may : MayBeRead pages frame) (tables : DomainTables) (are : AreTablesOf pages frame tables) where
+  abbrev pub layout_so : Layout
+  layout_so = with_tags are.layout
+
+  abbrev pub domain_read : IsDomain pages frame tables
+  domain_read = record { tables_are = are; no_fault = may.no_fault; all = may.all }
+
+  module _ (fits : Fits pages layout_so tables) where
+    -- the directory of a slot of the table is one of those that were read
+    says_there : (sign : Sign) (number : ℕ) (item : SlotItem) → number < length are.layout.table.slots → slice_get are.layout.table.slots number ≡ Some item
+        → (tag : Tag) (at : CellAt) (cell : Cell) → cell_of pages (layout_so.tags number) tag ≡ Some at → StandsAt pages at cell → say sign cell.records ≡ true → SlotSays pages sign tables.tags.items
+    says_there sign number item within there tag at cell leads stands says =
+        let whole = (good_table pages are.layout are.laid).whole in
+        let below : number < 32 = omega (arith, within, whole) in
+        ⊎_elim (λ places.
+        let same : layout_so.tags number ≡ places.0 = ap (λ o. tags_if o (are.layout.tags number)) there ∙ are.tags number places.0 places.2 in
+        record {
+          number = number;
+          below = below;
+          places = places.0;
+          there = places.2;
+          tag = (tag, record { at = at; leads = subst (λ (ps : List TagPlace). cell_of pages ps tag ≡ Some at) same leads; says = record { cell = cell; stands = stands; says = says } });
+        })
+        (λ none. absurd (let all = are.all in omega (arith, none.0, all, below)))
+        (slice_get_cases tables.tags.items number).1
+
+    -- so where a tag of the layout leads to a cell that says so, one of those does
+    slot_says : (sign : Sign) (number : ℕ) (tag : Tag) (at : CellAt) (cell : Cell) → cell_of pages (layout_so.tags number) tag ≡ Some at → StandsAt pages at cell → say sign cell.records ≡ true
+        → SlotSays pages sign tables.tags.items
+    slot_says sign number tag at cell leads stands says =
+        ⊎_elim (λ item. says_there sign number item.0 item.1 item.2 tag at cell leads stands says)
+        (λ none. none_some at (sym (ap (λ (ps : List TagPlace). cell_of pages ps tag) (none_so are.layout number none.1)) ∙ leads))
+        (slice_get_cases are.layout.table.slots number).1
+
+    says_not : (sign : Sign) → (SlotSays pages sign tables.tags.items → ⊥) → (number : ℕ) (tag : Tag) (at : CellAt) (cell : Cell)
+        → cell_of pages (layout_so.tags number) tag ≡ Some at → StandsAt pages at cell → say sign cell.records ≡ false
+    says_not sign none number tag at cell leads stands = by_test (say sign cell.records) refl
+      where
+        by_test : (b : Bool) → say sign cell.records ≡ b → b ≡ false
+        by_test true is = absurd (none (slot_says sign number tag at cell leads stands is))
+        by_test false is = refl
+
+    stay : TagsStay pages layout_so.tags
+    stay = λ number tag at cell leads stands. says_not Removed fits.stay number tag at cell leads stands
+
+    -- ---- directories
+
+    kept_there : (number : ℕ) (entry : FilesetEntry) → slice_get are.layout.table.slots number ≡ Some (slot.Original entry) → (tag : Tag) (cells : List PlacedCell) (seen : SeenFile)
+        → IsInOriginal pages entry tag cells seen → seen.is.kind ≡ Directory → keep_of cells ≡ Some file_pages
+    kept_there number entry there tag cells seen is directory =
+        let leads = one_of (cell_of pages is.there.places tag) (λ at. LinksFrom pages at cells) is.there.leads in
+        let own : IsDirectoryAt pages entry.first_tag (are.layout.tags number) = are.laid.tags number (slot.Original entry) there in
+        let same : is.there.places ≡ layout_so.tags number = same_directory pages entry.first_tag is.there.places (are.layout.tags number) is.there.directory own ∙ sym (ap (λ o. tags_if o (are.layout.tags number)) there) in
+        keeps_all pages leads.value cells seen leads.is is.is directory
+        (λ cell stands. says_not Cut fits.keep number tag leads.value cell (subst (λ (ps : List TagPlace). cell_of pages ps tag ≡ Some leads.value) same leads.there) stands)
+
+    keep_at : (number : ℕ) (tag : Tag) (cells : List PlacedCell) (seen : SeenFile) → Has pages are.layout.table number tag cells seen → seen.is.kind ≡ Directory → keep_of cells ≡ Some file_pages
+    keep_at number tag cells seen has directory = by_item has.item has.there has.is
+      where
+        by_item : (item : SlotItem) → slice_get are.layout.table.slots number ≡ Some item → IsInItem pages are.layout.table item tag cells seen → keep_of cells ≡ Some file_pages
+        by_item slot.Free there is = absurd is
+        by_item (slot.Removed first_tag quota) there is = absurd is
+        by_item (slot.Original entry) there is = kept_there number entry there tag cells seen is directory
+        by_item (slot.Clone of clone entry) there is = no_bool (sym (fits.no_clone number) ∙ ap of_clone there)
+
+    keep : (number : ℕ) → KeepDirectories pages are.layout.table number
+    keep = keep_at
+
+    -- ---- all of it
+
+    whole_so : IsWhole pages layout_so
+    whole_so =
+        let is = whole pages frame tables domain_read in
+        record { laid = laid_so pages are.layout are.laid; no_fault = is.no_fault; small = is.small; all = is.all }
+
+    pub may_attach : MayBeAttached pages layout_so
+    may_attach =
+        let back = sym are.is in
+        record {
+          whole = whole_so;
+          log = subst (λ (f : Frame). IsLogInside f.version f.anchor) back may.log;
+          few = subst (λ (f : Frame). (vol : ℕ) → IsMember f.anchor vol → (member_of f.anchor vol).pages ≤ most_pages f.version) back may.few;
+          within = subst (λ (f : Frame). (home : Home) → f.anchor.table ≡ Some home → IsWithin f home) back may.within;
+          bitmaps = subst (HasBitmaps pages) back may.bitmaps;
+          sources = fits.sources;
+          stay = stay;
+          quotas = fits.quotas;
+          keep = keep;
+          no_clone = fits.no_clone;
+        }

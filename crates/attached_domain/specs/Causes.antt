@@ -1,0 +1,70 @@
+-- What a domain is read of, and why it is not attached.
+use Rattle.std.specs.Prelude.{◌≡◌, ◌≤◌, ℕ, true, Some, slice_get}
+use Rattle.domain_base.specs.Version.{most_pages}
+use Rattle.domain_base.specs.declared.place.CellAt.{CellAt}
+use Rattle.domain_base.specs.declared.place.Home.{Home}
+use Rattle.page_store.specs.Pages.{Pages}
+use Rattle.log_recovery.specs.Range.{IsLogInside}
+use Rattle.log_ring.specs.Homes.{IsMember, member_of}
+use Rattle.fileset_table.specs.declared.slot.SlotItem.{SlotItem}
+use Rattle.attaching_laws.specs.Marks.{HasBitmaps}
+use Rattle.domain_layout.specs.CellRules.{of_clone}
+use Rattle.domain_layout.specs.Faults.{HasNoFault}
+use Rattle.domain_layout.specs.Layout.{IsLayout, Layout}
+use Rattle.domain_layout.specs.Owners.{frame_of}
+use Rattle.domain_layout.specs.Reached.{Frame, IsWithin}
+use Rattle.filesets_reading.specs.Good.{IsNamed}
+use Rattle.fileset_shapes.specs.Found.{HasAllPages}
+use Rattle.attached_list.specs.Attached.{HaveQuotasToGo}
+use Rattle.domain_standing.specs.Sources.{HasSource}
+use Rattle.attached_domain.specs.Signs.{TagSays}
+use Rattle.attached_domain.specs.declared.signs.Sign.{Sign}
+use Rattle.attached_domain.specs.declared.signs.Sign.TheVariants.{Cut, Removed}
+use Rattle.attached_domain.specs.declared.unfit.Unfit.{Unfit}
+use Rattle.attached_domain.specs.declared.unfit.Unfit.TheVariants.{Cloned, CutDirectory, OutOfMemory, ReadThrough, RemovedFile, WrongQuotas}
+
+-- pages that break no rule, with each page of a file and of a bitmap that stands on a member, by an
+-- anchor whose log, table and members lie where they may
+pub record MayBeRead (pages : Pages) (frame : Frame) : Type 0 where
+  pub named : IsNamed frame.anchor frame.version
+  pub no_fault : HasNoFault pages frame
+  pub all : HasAllPages pages frame
+  pub log : IsLogInside frame.version frame.anchor
+  pub few : (vol : ℕ) → IsMember frame.anchor vol
+      → (member_of frame.anchor vol).pages ≤ most_pages frame.version
+  pub within : (home : Home) → frame.anchor.table ≡ Some home → IsWithin frame home
+  pub bitmaps : HasBitmaps pages frame
+
+-- ** What no rule asks
+
+-- a slot has a clone
+abbrev pub HasClone : Layout → Type 0
+HasClone layout = (number : ℕ) × (of_clone (slice_get layout.table.slots number) ≡ true)
+
+-- a tag of what is in a slot leads to a cell that says so
+pub record HasSign (pages : Pages) (sign : Sign) (layout : Layout) : Type 0 where
+  pub number : ℕ
+  pub item : SlotItem
+  pub there : slice_get layout.table.slots number ≡ Some item
+  pub tag : TagSays pages sign (layout.tags number)
+
+-- why a domain that is laid out so is not attached
+abbrev pub IsCause : Pages → Layout → Unfit → Type 0
+IsCause pages layout Cloned = HasClone layout
+IsCause pages layout ReadThrough = (at : CellAt) × HasSource pages layout at
+IsCause pages layout WrongQuotas = ¬ HaveQuotasToGo pages (frame_of layout) layout.table
+IsCause pages layout RemovedFile = HasSign pages Removed layout
+IsCause pages layout CutDirectory = HasSign pages Cut layout
+IsCause pages layout OutOfMemory = Unit {0}
+
+-- the pages are laid out so that there is that cause; where no memory could be had, nothing is told
+-- of them
+pub record HasCause (pages : Pages) (frame : Frame) (unfit : Unfit) : Type 0 where
+  pub layout : Layout
+  pub framed : frame_of layout ≡ frame
+  pub laid : IsLayout pages layout
+  pub cause : IsCause pages layout unfit
+
+abbrev pub IsUnfit : Pages → Frame → Unfit → Type 0
+IsUnfit pages frame OutOfMemory = Unit {0}
+IsUnfit pages frame unfit = HasCause pages frame unfit

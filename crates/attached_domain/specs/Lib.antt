@@ -1,0 +1,4 @@
+pub mod Signs
+pub mod Causes
+pub mod Fits
+pub mod Parts

@@ -1,0 +1,43 @@
+-- What is read of a domain beside its pages.
+use Rattle.std.specs.Prelude.{◌≡◌, ℕ, List, Option, Some, IfSome, IsSome, length, slice_get}
+use Rattle.page_store.specs.Pages.{Pages}
+use Rattle.fileset_table.specs.Table.{Table}
+use Rattle.fileset_table.specs.declared.slot.FilesetEntry.{FilesetEntry}
+use Rattle.fileset_table.specs.declared.slot.SlotItem.TheVariants as slot
+use Rattle.domain_layout.specs.Layout.{Layout}
+use Rattle.domain_layout.specs.Reached.{Frame}
+use Rattle.domain_parts.specs.Slots.{HasNumber, kept_book, places_in, slot_in}
+use Rattle.domain_parts.specs.declared.slots.SlotFiles.{SlotFiles}
+use Rattle.attached_books.specs.Books.{IsBookOfSlot}
+use Rattle.attached_memory.specs.Read.{IsReadAs, IsSettledSlot, MayBeAttached}
+use Rattle.attached_domain.specs.declared.parts.DomainParts.{DomainParts}
+
+-- an original's book is what its slot was last kept with
+abbrev pub HasItsBook : Pages → Table → ℕ → Option SlotFiles → Type 0
+HasItsBook pages table number there = (entry : FilesetEntry)
+    → slice_get table.slots number ≡ Some (slot.Original entry) → IsSome there
+    → IsBookOfSlot pages number entry (kept_book there)
+
+-- what is in a slot stays, but that an original gets its book
+pub record GetsItsBook (pages : Pages) (table : Table) (number : ℕ) (old new : Option SlotFiles)
+    : Type 0 where
+  pub there : IsSome old → IsSome new
+  pub places : places_in new ≡ places_in old
+  pub settled : IfSome old IsSettledSlot → IfSome new IsSettledSlot
+  pub numbered : IfSome old (HasNumber number) → IfSome new (HasNumber number)
+  pub book : HasItsBook pages table number new
+
+-- and so what is in each slot
+pub record GetTheirBooks (pages : Pages) (table : Table) (old new : List (Option SlotFiles))
+    : Type 0 where
+  pub count : length new ≡ length old
+  pub each : (number : ℕ) → GetsItsBook pages table number (slot_in old number) (slot_in new number)
+
+-- it is what pages say that may be attached, with the book of each original
+pub record AreParts (pages : Pages) (frame : Frame) (parts : DomainParts) : Type 0 where
+  pub layout : Layout
+  pub may : MayBeAttached pages layout
+  pub read : IsReadAs pages frame parts.table parts.links parts.slots.items layout
+  pub books : (number : ℕ) (entry : FilesetEntry)
+      → slice_get layout.table.slots number ≡ Some (slot.Original entry)
+      → IsBookOfSlot pages number entry (kept_book (slot_in parts.slots.items number))

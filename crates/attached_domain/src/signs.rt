@@ -1,0 +1,63 @@
+//! What is looked for in the first cells to which tags lead.
+ghost use Rattle.std.specs.Prelude.{◌≡◌, ◌↔◌, IfOk, IsTrue};
+ghost use Rattle.bmt_mcells.specs.Cell.{Cell};
+ghost use Rattle.bmt_mcells.specs.Chain.{StandsAt};
+ghost use Rattle.domain_layout.specs.CellRules.{say_removed};
+ghost use Rattle.attached_domain.specs.Signs.{SaysAt, say_cut};
+
+use bmt_mcells::{find_record, read_used};
+use domain_base::limits::FILE_PAGES;
+use domain_base::{CellAt, OutOfMemory};
+use page_store::MetaPages;
+use record_table::{Leftover, Record};
+use std::alloc::Global;
+
+/// What a first cell to which a tag leads may say of its file, though no rule is broken.
+#[derive(Clone, Copy)]
+pub(crate) enum Sign {
+    /// All of the file is to be removed.
+    Removed,
+    /// It is a directory that is to be cut.
+    Cut,
+}
+
+/// Whether the cell that stands at a place says that all of its file is to be removed.
+fn is_removed<M: MetaPages>(pages: &M, at: &CellAt) -> bool
+    ensures { (cell : Cell) → StandsAt (M.pages pages.now) at.now cell
+        → result ≡ say_removed cell.records }
+{
+    match find_record(pages, *at, 6) {
+        Some(Record::Pending { what }) => matches!(what, Leftover::Remove),
+        _ => false,
+    }
+}
+
+/// Whether the cell that stands at a place says a directory that keeps fewer pages than a file can
+/// have.
+fn is_cut<M: MetaPages>(pages: &M, at: &CellAt) -> bool
+    ensures { (cell : Cell) → StandsAt (M.pages pages.now) at.now cell
+        → result ≡ say_cut cell.records }
+{
+    match find_record(pages, *at, 1) {
+        Some(Record::Attributes { kind, keep, .. }) => kind == 2 && keep != FILE_PAGES,
+        _ => false,
+    }
+}
+
+/// Whether a cell in use stands at a place, and says so.
+pub(crate) fn says<M: MetaPages>(
+    alloc: Global,
+    pages: &M,
+    sign: Sign,
+    at: &CellAt,
+) -> Result<bool, OutOfMemory>
+    ensures { IfOk result (λ says. IsTrue says ↔ SaysAt (M.pages pages.now) sign at.now) }
+{
+    let Some(_used) = read_used(alloc, pages, *at)? else {
+        return Ok(false);
+    };
+    Ok(match sign {
+        Sign::Removed => is_removed(pages, at),
+        Sign::Cut => is_cut(pages, at),
+    })
+}
