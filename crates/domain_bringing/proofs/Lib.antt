@@ -1,0 +1,10 @@
+pub mod Laid
+pub mod Ranges
+pub mod Causes
+pub mod Rows
+pub mod FileHomes
+pub mod Looks
+pub mod Runs
+pub mod Held
+pub mod Means
+pub mod Recovered

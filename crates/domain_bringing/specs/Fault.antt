@@ -1,0 +1,61 @@
+-- Why the pages of a domain are not brought, and the first place at which a rule of it is broken.
+use Rattle.std.specs.Prelude.{◌≡◌, ◌⊎◌, ℕ, List, ◌∷◌}
+use Rattle.page_store.specs.Pages.{Pages}
+use Rattle.volume_disk.specs.Disk.{Disk, Tells, raised_at}
+use Rattle.volume_disk.specs.Image.{Image}
+use Rattle.log_ring.specs.Groups.{Group}
+use Rattle.log_recovery.specs.Outcome.{HasRecovered, IsFirstFault}
+use Rattle.log_recovery.specs.declared.redone.Redone.{Redone}
+use Rattle.log_recovery.specs.declared.fault.RecoverFault.{RecoverFault}
+use Rattle.log_recovery.specs.declared.fault.RecoverFault.TheVariants as recovery
+use Rattle.domain_layout.specs.Faults.{AreFaults, FaultRow}
+use Rattle.domain_layout.specs.Reached.{Frame}
+use Rattle.metadata_loading.specs.declared.fault.LoadFault.{LoadFault}
+use Rattle.metadata_loading.specs.declared.fault.LoadFault.TheVariants as loading
+use Rattle.image_meaning.specs.Meaning.{HasFaults}
+use Rattle.domain_bringing.specs.declared.fault.BringFault.{BringFault}
+use Rattle.domain_bringing.specs.declared.fault.BringFault.TheVariants.{Fault, NotADomain, OutOfMemory}
+
+-- a fault of loading, and one of recovery, as one of these
+abbrev pub same_fault : LoadFault → BringFault
+same_fault (loading.Fault vol) = Fault vol
+same_fault loading.OutOfMemory = OutOfMemory
+
+abbrev pub same_recovery : RecoverFault → BringFault
+same_recovery (recovery.Fault vol) = Fault vol
+same_recovery (recovery.NotADomain vol at) = NotADomain vol at
+same_recovery recovery.OutOfMemory = OutOfMemory
+
+-- a fault has raised the read count of the volume that it names, and no other count of reads
+abbrev pub HasCause : Disk → Disk → BringFault → Type 0
+HasCause old new (Fault vol) = new.read_faults ≡ raised_at old.read_faults vol
+HasCause old new (NotADomain vol at) = new.read_faults ≡ old.read_faults
+HasCause old new OutOfMemory = new.read_faults ≡ old.read_faults
+
+-- a fact of the place at which there is no domain
+abbrev pub IfNotADomain : BringFault → (ℕ → ℕ → Type 0) → Type 0
+IfNotADomain (Fault vol) P = Unit {0}
+IfNotADomain (NotADomain vol at) P = P vol at
+IfNotADomain OutOfMemory P = Unit {0}
+
+-- the first of these rows stands at that page
+abbrev pub BeginsAt : List FaultRow → ℕ → ℕ → Type 0
+BeginsAt rows vol at = (first : FaultRow) × (more : List FaultRow) × (rows ≡ first ∷ more)
+    × (first.home.vol ≡ vol) × (first.home.page ≡ at)
+
+-- the first fault of pages stands there
+pub record HasFirstRow (pages : Pages) (frame : Frame) (vol at : ℕ) : Type 0 where
+  pub rows : List FaultRow
+  pub faults : AreFaults pages frame rows
+  pub first : BeginsAt rows vol at
+
+-- an image has no domain, or one with faults: there it is seen first
+abbrev pub IsNoDomain : List ℕ → Image → ℕ → ℕ → Type 0
+IsNoDomain sizes image vol at = IsFirstFault sizes image vol at
+    ⊎ ((rows : List FaultRow) × HasFaults sizes image rows × BeginsAt rows vol at)
+
+-- a fault tells where no domain is seen first on what a rack has, if the log was recovered of that
+abbrev pub IsWrongOn : Disk → Redone → BringFault → Type 0
+IsWrongOn disk found fault = IfNotADomain fault (λ vol at. Tells disk → (groups : List Group)
+    → HasRecovered disk.sizes disk.now.contents groups found
+    → IsNoDomain disk.sizes disk.now.contents vol at)

@@ -1,0 +1,25 @@
+-- Pages of files that are there.
+use Rattle.std.specs.Prelude.{◌<◌, ℕ, List, IsSome, Contains}
+use Rattle.domain_base.specs.declared.place.Home.{Home}
+use Rattle.page_store.specs.Pages.{Pages}
+use Rattle.domain_layout.specs.Reached.{Frame, IsWithin}
+use Rattle.file_runs.specs.Runs.{IsPageOf, home_in}
+use Rattle.file_runs.specs.declared.run.FileRun.{FileRun}
+
+-- a page is there, where it is one of a member
+abbrev pub IsThereWithin : Pages → Frame → Home → Type 0
+IsThereWithin pages frame home = IsWithin frame home → IsSome (pages home)
+
+-- so are the first pages of a run, and all of them
+abbrev pub HasPagesBelow : ℕ → Pages → Frame → FileRun → Type 0
+HasPagesBelow n pages frame run = (page : ℕ) → IsPageOf run page → page < n
+    → IsThereWithin pages frame (home_in run page)
+
+abbrev pub HasPagesOf : Pages → Frame → FileRun → Type 0
+HasPagesOf pages frame run =
+    (page : ℕ) → IsPageOf run page → IsThereWithin pages frame (home_in run page)
+
+-- and those of all runs of a list
+abbrev pub HasPagesOfAll : Pages → Frame → List FileRun → Type 0
+HasPagesOfAll pages frame runs =
+    (run : FileRun) → Contains runs run → HasPagesOf pages frame run

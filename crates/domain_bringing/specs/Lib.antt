@@ -1,0 +1,4 @@
+pub mod Range
+pub mod Fault
+pub mod Files
+pub mod Brought
