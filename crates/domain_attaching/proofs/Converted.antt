@@ -1,0 +1,48 @@
+-- Faults of bringing, and why a domain is unfit, as faults of attaching.
+use Rattle.std.proofs.Common.{◌≡◌, ℕ}
+use Rattle.volume_disk.specs.Disk.{Disk}
+use Rattle.attached_domain.specs.declared.unfit.Unfit.{Unfit}
+use Rattle.attached_domain.specs.declared.unfit.Unfit.TheVariants as fitting
+use Rattle.domain_bringing.specs.Fault.{HasCause as HasCauseThere, IfNotADomain as IfNotADomainThere}
+use Rattle.domain_bringing.specs.declared.fault.BringFault.{BringFault}
+use Rattle.domain_bringing.specs.declared.fault.BringFault.TheVariants as bringing
+use Rattle.domain_attaching.specs.Attaching.{HasCause, IfNotADomain, IfNotFit, of_bringing, of_unfit}
+
+pub no_domain_too : (fault : BringFault) (P : ℕ → ℕ → Type 0) → IfNotADomainThere fault P → IfNotADomain (of_bringing fault) P
+no_domain_too (bringing.NotADomain vol at) P is = is
+no_domain_too (bringing.Fault vol) P is = tt
+no_domain_too bringing.OutOfMemory P is = tt
+
+pub cause_too : (old new : Disk) (fault : BringFault) → HasCauseThere old new fault → HasCause old new (of_bringing fault)
+cause_too old new (bringing.NotADomain vol at) is = is
+cause_too old new (bringing.Fault vol) is = is
+cause_too old new bringing.OutOfMemory is = is
+
+pub fits_too : (fault : BringFault) (P : Unfit → Type 0) → IfNotFit (of_bringing fault) P
+fits_too (bringing.NotADomain vol at) P = tt
+fits_too (bringing.Fault vol) P = tt
+fits_too bringing.OutOfMemory P = tt
+
+pub domain_of_unfit : (why : Unfit) (P : ℕ → ℕ → Type 0) → IfNotADomain (of_unfit why) P
+domain_of_unfit fitting.Cloned P = tt
+domain_of_unfit fitting.ReadThrough P = tt
+domain_of_unfit fitting.WrongQuotas P = tt
+domain_of_unfit fitting.RemovedFile P = tt
+domain_of_unfit fitting.CutDirectory P = tt
+domain_of_unfit fitting.OutOfMemory P = tt
+
+pub cause_of_unfit : (old new : Disk) (why : Unfit) → new.read_faults ≡ old.read_faults → HasCause old new (of_unfit why)
+cause_of_unfit old new fitting.Cloned is = is
+cause_of_unfit old new fitting.ReadThrough is = is
+cause_of_unfit old new fitting.WrongQuotas is = is
+cause_of_unfit old new fitting.RemovedFile is = is
+cause_of_unfit old new fitting.CutDirectory is = is
+cause_of_unfit old new fitting.OutOfMemory is = is
+
+pub why_of_unfit : (why : Unfit) (P : Unfit → Type 0) → P why → IfNotFit (of_unfit why) P
+why_of_unfit fitting.Cloned P is = is
+why_of_unfit fitting.ReadThrough P is = is
+why_of_unfit fitting.WrongQuotas P is = is
+why_of_unfit fitting.RemovedFile P is = is
+why_of_unfit fitting.CutDirectory P is = is
+why_of_unfit fitting.OutOfMemory P is = tt

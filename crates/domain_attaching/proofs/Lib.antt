@@ -1,0 +1,2 @@
+pub mod MayRead
+pub mod Converted

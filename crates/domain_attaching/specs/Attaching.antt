@@ -1,0 +1,86 @@
+-- The memory of a domain that is brought from a rack, and why it is not.
+use Rattle.std.specs.Prelude.{◌≡◌, ℕ, List, Some}
+use Rattle.domain_base.specs.declared.place.Home.{Home}
+use Rattle.page_store.specs.Pages.{Pages}
+use Rattle.volume_disk.specs.Disk.{Disk, raised_at}
+use Rattle.volume_disk.specs.Image.{Image}
+use Rattle.log_recovery.specs.Outcome.{IsSound}
+use Rattle.log_recovery.specs.declared.redone.Redone.{Redone}
+use Rattle.fileset_model.specs.Filesets.{FilesetMap}
+use Rattle.domain_layout.specs.Read.{ReadsFrom}
+use Rattle.domain_layout.specs.Reached.{Frame}
+use Rattle.staged_pages.specs.Store.{before_of}
+use Rattle.domain_memory.specs.Memory.{StandsFor}
+use Rattle.domain_memory.specs.Staged.{IsSettled, MayGoBack}
+use Rattle.domain_memory.specs.declared.memory.DomainMemory.{DomainMemory}
+use Rattle.domain_bringing.specs.Brought.{IsBroughtFrom, IsWholeDomain}
+use Rattle.domain_bringing.specs.declared.bringing.Brought.{Brought}
+use Rattle.domain_bringing.specs.declared.fault.BringFault.{BringFault}
+use Rattle.domain_bringing.specs.declared.fault.BringFault.TheVariants as bringing
+use Rattle.attached_domain.specs.Causes.{IsUnfit}
+use Rattle.attached_domain.specs.declared.unfit.Unfit.{Unfit}
+use Rattle.attached_domain.specs.declared.unfit.Unfit.TheVariants as fitting
+use Rattle.domain_attaching.specs.declared.bringing.BroughtMemory.{BroughtMemory}
+use Rattle.domain_attaching.specs.declared.fault.AttachFault.{AttachFault}
+use Rattle.domain_attaching.specs.declared.fault.AttachFault.TheVariants.{Fault, NotADomain, OutOfMemory, Unfit as NotFit}
+
+-- ** Why it is not
+
+-- why pages are not brought, and why a domain is not attached, as one of these faults
+abbrev pub of_bringing : BringFault → AttachFault
+of_bringing (bringing.NotADomain vol at) = NotADomain vol at
+of_bringing (bringing.Fault vol) = Fault vol
+of_bringing bringing.OutOfMemory = OutOfMemory
+
+abbrev pub of_unfit : Unfit → AttachFault
+of_unfit fitting.OutOfMemory = OutOfMemory
+of_unfit why = NotFit why
+
+-- a fault has raised the read count of the volume that it names, and no other count of reads
+abbrev pub HasCause : Disk → Disk → AttachFault → Type 0
+HasCause old new (Fault vol) = new.read_faults ≡ raised_at old.read_faults vol
+HasCause old new fault = new.read_faults ≡ old.read_faults
+
+-- a fact of the place at which there is no domain, and one of why a domain is not attached
+abbrev pub IfNotADomain : AttachFault → (ℕ → ℕ → Type 0) → Type 0
+IfNotADomain (NotADomain vol at) P = P vol at
+IfNotADomain fault P = Unit {0}
+
+abbrev pub IfNotFit : AttachFault → (Unfit → Type 0) → Type 0
+IfNotFit (NotFit why) P = P why
+IfNotFit fault P = Unit {0}
+
+-- an image has a domain, of whose pages, once its log is redone, those in memory are why it is not
+-- attached
+pub record IsUnfitDomain (sizes : List ℕ) (image : Image) (why : Unfit) : Type 0 where
+  pub pages : Pages
+  pub frame : Frame
+  pub found : Redone
+  pub whole : IsWholeDomain pages frame
+  pub anchor : frame.anchor ≡ found.anchor
+  pub same : IsBroughtFrom sizes image pages found
+  pub unfit : IsUnfit pages frame why
+
+-- ** What it is
+
+-- the pages that were brought have these filesets
+abbrev pub HaveFilesets : Brought → FilesetMap → Type 0
+HaveFilesets brought all = (home : Home) → brought.frame.anchor.table ≡ Some home
+    → ReadsFrom (before_of brought.pages) home all
+
+-- memory is that of a domain with some filesets; no change is laid over it, and one may be taken
+-- back; the log that was recovered with it may be settled
+pub record IsBroughtMemory (sizes : List ℕ) (found : BroughtMemory) : Type 0 where
+  pub all : FilesetMap
+  pub stands : StandsFor found.memory all
+  pub settled : IsSettled found.memory
+  pub back : MayGoBack found.memory
+  pub anchor : found.memory.frame.anchor ≡ found.redone.anchor
+  pub sound : IsSound sizes found.redone
+
+-- the pages in memory are those of an image once its log is redone, by the anchor with which the
+-- log was recovered
+pub record IsReadFrom (sizes : List ℕ) (image : Image) (memory : DomainMemory) : Type 0 where
+  pub found : Redone
+  pub anchor : memory.frame.anchor ≡ found.anchor
+  pub same : IsBroughtFrom sizes image (before_of memory.pages) found
