@@ -34,8 +34,9 @@ use Rattle.meta_log.specs.Checkpoint.{Checkpoints, HasCheckpointed, MayCheckpoin
 use Rattle.meta_log.specs.Force.{Forces, HasEither, HasForced, forced}
 use Rattle.meta_log.specs.Log.{IsFullFor, IsLog, Log, Stands, appended, group_of, groups_of, new_log, next_number, pending_groups, used}
 use Rattle.meta_log.proofs.Pending.{one_group}
-use Rattle.log_tests.specs.Opened.{Adds, AddsOrNot, ComesHome, IsAtRest, ReadsAs, ReadsAsBefore, StandsAtHome, StaysRead, with_change}
-use Rattle.log_tests.proofs.Meanings.{good_is, log_settled, only_read, pages_home, reads_from, slot_readied}
+use Rattle.log_settling.specs.Settling.{ReadsAs, StandsAtHome, StaysRead}
+use Rattle.log_tests.specs.Opened.{Adds, AddsOrNot, ComesHome, IsAtRest, ReadsAsBefore, with_change}
+use Rattle.log_settling.proofs.Meanings.{good_is, log_settled, only_read, pages_home, reads_from, slot_readied}
 
 -- what was told at the end was told at the start
 told_before : (old new : Disk) → new.told ≡ old.told → Tells new → Tells old

@@ -1,4 +1,3 @@
 pub mod AtRest
-pub mod Meanings
 pub mod Moving
 pub mod UntoldCalls

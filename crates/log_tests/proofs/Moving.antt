@@ -27,7 +27,7 @@ use Rattle.meta_log.specs.Log.{IsLog, Log, Stands, new_log, used}
 use Rattle.meta_log.proofs.Bodies.{written_closed}
 use Rattle.log_tests.specs.Moves.{IsMoving, MovesReadably}
 use Rattle.log_tests.specs.Opened.{IsAtRest}
-use Rattle.log_tests.proofs.Meanings.{good_is}
+use Rattle.log_settling.proofs.Meanings.{good_is}
 
 -- what each image since has, each image of now has
 has_after : (old new : Disk) (anchor : Anchor) → new.sizes ≡ old.sizes → LeavesOnly old new (λ image. IsAnchor old.sizes image (Some anchor)) → HasAnchor new (Some anchor)

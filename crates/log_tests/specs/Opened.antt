@@ -1,17 +1,14 @@
 -- A log at rest on a rack, between two calls, and what the calls of its order leave.
-use Rattle.std.specs.Prelude.{◌≡◌, ◌≢◌, ◌++◌, ℕ, List, [], ◌∷◌, Some}
-use Rattle.domain_base.specs.declared.place.Home.{Home}
-use Rattle.page_store.specs.Pages.{Pages}
+use Rattle.std.specs.Prelude.{◌≡◌, ◌++◌, ℕ, List, [], ◌∷◌, Some}
 use Rattle.volume_disk.specs.Disk.{Disk, MayLeave, Tells, raised_at}
 use Rattle.volume_disk.specs.Image.{Image}
 use Rattle.volume_disk.specs.Run.{LeavesOnly}
 use Rattle.disk_label.specs.Anchor.{IsNext}
 use Rattle.disk_label.specs.Fault.{HasSlotCause}
-use Rattle.disk_label.specs.FirstPages.{anchors_page}
 use Rattle.disk_label.specs.Slot.{IsReadyFor}
 use Rattle.disk_label.specs.declared.anchor.Anchor.{Anchor}
 use Rattle.page_change.specs.declared.image.PageImage.{PageImage}
-use Rattle.log_ring.specs.Groups.{Group, HasLog, pages_in, redone}
+use Rattle.log_ring.specs.Groups.{Group, redone}
 use Rattle.log_ring.specs.Settling.{IsRedoneAs}
 use Rattle.log_recovery.specs.Fault.{HasCause, IfNotADomain}
 use Rattle.log_recovery.specs.Outcome.{HasGoodAnchor, HasRecovered, IsFirstFault, IsUsable}
@@ -20,16 +17,9 @@ use Rattle.log_recovery.specs.Settled.{HasNumbersLeft, settled_anchor}
 use Rattle.log_recovery.specs.declared.redone.Redone.{Redone}
 use Rattle.meta_log.specs.Force.{HasEither}
 use Rattle.meta_log.specs.Log.{IsFullFor, Log, Stands, group_of, new_log, next_number}
+use Rattle.log_settling.specs.Settling.{ReadsAs}
 use Rattle.log_tests.specs.declared.openings.OpenFault.{OpenFault}
 use Rattle.log_tests.specs.declared.openings.OpenFault.TheVariants.{Recovering, NoNumbers, Readying, Settling, OutOfMemory}
-
--- recovery takes an image, and its pages once redone, those of anchors aside, are these
-pub record ReadsAs (sizes : List ℕ) (pages : Pages) (image : Image) : Type 0 where
-  pub anchor : Anchor
-  pub groups : List Group
-  pub good : HasGoodAnchor sizes image anchor
-  pub log : HasLog sizes anchor groups image
-  pub same : (home : Home) → home.page ≢ anchors_page → redone groups image home ≡ pages home
 
 -- the rack has the log and the members of its anchor, which is good on each image; its durable
 -- groups stand there with nothing pending behind them, and the next anchor on its volume finds its
@@ -43,19 +33,6 @@ pub record IsAtRest (disk : Disk) (log : Log) : Type 0 where
       → next.log_vol ≡ log.anchor.log_vol → IsReadyFor disk (Some log.anchor) next
 
 -- Opening.
-
--- what the contents of the start are read as, each image is that is left since
-abbrev pub StaysRead : Disk → Disk → Type 0
-StaysRead old new =
-    Tells old → (pages : Pages) → ReadsAs old.sizes pages old.now.contents
-    → LeavesOnly old new (ReadsAs old.sizes pages)
-
--- and in the end these pages stand at their homes on each
-abbrev pub StandsAtHome : Disk → Disk → Type 0
-StandsAtHome old new =
-    Tells old → (pages : Pages) → ReadsAs old.sizes pages old.now.contents
-    → (image : Image) → MayLeave new.now image
-    → (home : Home) → home.page ≢ anchors_page → pages_in image home ≡ pages home
 
 -- the log has no group, and the anchor that settling writes for what is recovered of the start
 abbrev pub GoesOnBehind : Disk → Log → Type 0

@@ -7,6 +7,7 @@ ghost use Rattle.volume_disk.specs.Run.{Touches};
 ghost use Rattle.log_ring.specs.Ring.{IsOnLog};
 ghost use Rattle.meta_log.specs.Checkpoint.{next_anchor};
 ghost use Rattle.meta_log.specs.Log.{new_log};
+ghost use Rattle.log_settling.specs.Settling.{StandsAtHome, StaysRead};
 ghost use Rattle.log_tests.specs.Calls.{MayAppend};
 ghost use Rattle.log_tests.specs.Opened.{
   Adds,
@@ -17,8 +18,6 @@ ghost use Rattle.log_tests.specs.Opened.{
   HasOpenCause,
   IsAtRest,
   ReadsAsBefore,
-  StandsAtHome,
-  StaysRead,
   WasFull,
 };
 

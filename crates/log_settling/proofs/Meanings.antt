@@ -1,4 +1,4 @@
--- What images are read as while a log is opened, brought home or moved.
+-- What images are read as while a log is settled.
 use Rattle.std.proofs.Common.{◌≡◌, ◌≢◌, ◌⊎◌, ◌-◌, ℕ, List, [], Some, inl, inr, sym, ◌∙◌, ap, subst}
 use Rattle.domain_base.specs.declared.place.Home.{Home}
 use Rattle.page_store.specs.Pages.{Pages}
@@ -20,7 +20,7 @@ use Rattle.log_recovery.specs.declared.redone.Redone.{Redone}
 use Rattle.log_recovery.proofs.OneOutcome.{has_one_log}
 use Rattle.log_recovery.proofs.Readied.{stays_recovered}
 use Rattle.log_recovery.proofs.SettledAnchors.{settles_as_moves}
-use Rattle.log_tests.specs.Opened.{ReadsAs}
+use Rattle.log_settling.specs.Settling.{ReadsAs}
 
 -- of an image that recovery takes, the anchor is good
 pub good_is : (sizes : List ℕ) (image : Image) (anchor : Anchor) → IsReadable sizes image → IsAnchor sizes image (Some anchor) → HasGoodAnchor sizes image anchor
@@ -48,7 +48,7 @@ reads_same sizes others one other image size same reads = record {
   same = λ home beside. reads.same home beside ∙ same home beside;
 }
 
--- A log that is opened where nothing was pending.
+-- A log that is settled where nothing was pending.
 module _ (d0 : Disk) (settled : IsSettled d0.now) (told : Tells d0) (pages : Pages) (was : ReadsAs d0.sizes pages d0.now.contents) where
   abbrev Still : Image → Type 0
   Still = ReadsAs d0.sizes pages

@@ -1,0 +1,50 @@
+use Rattle.std.proofs.Common.{ap}
+use Rattle.volume_disk.proofs.Laws.{only_reads-none}
+use Rattle.disk_label.specs.declared.anchor.Anchor.{Anchor}
+use Rattle.log_settling.proofs.Settled.{no_group, read_still, readied_still, settled_home, settled_still, still_counts}
+use Rattle.log_settling.proofs.settling.settle_log.Goals as goal
+
+pub returns-then-not-has_numbers_left-clause-any_moment : goal.returns-then-not-has_numbers_left-clause-any_moment
+returns-then-not-has_numbers_left-clause-any_moment g c = let disk = g.R.Rack.disk c.args.rack.now in read_still disk disk c.requires.pending (only_reads-none disk)
+
+pub settle-requires-clause-counts : goal.settle-requires-clause-counts
+settle-requires-clause-counts g c =
+    let disk = g.R.Rack.disk c.args.rack.now in
+    let ready = g.R.Rack.disk c.ready_slot.new.rack in
+    let slot_is = ap (λ (a : Anchor). a.slot) c.settled_anchor-next.ensures in
+    still_counts disk disk c.args.redone.now c.requires.sound (only_reads-none disk) c.requires.pending c.requires.recovered ready c.in-Some.vol c.settled_anchor-next.result.slot c.in-Some.ensures.value slot_is c.ready_slot.ensures.readies c.in-Ok.ensures.ready c.in-Ok.ensures.synced (g.met.R.Rack.holds_bytes c.ready_slot.new.rack)
+
+pub returns-in-Err-clause-any_moment : goal.returns-in-Err-clause-any_moment
+returns-in-Err-clause-any_moment g c =
+    let disk = g.R.Rack.disk c.args.rack.now in
+    let ready = g.R.Rack.disk c.ready_slot.new.rack in
+    let slot_is = ap (λ (a : Anchor). a.slot) c.settled_anchor-next.ensures in
+    readied_still disk disk c.args.redone.now c.requires.sound (only_reads-none disk) c.requires.pending c.requires.recovered ready c.in-Some.vol c.settled_anchor-next.result.slot c.in-Some.ensures.value slot_is c.ready_slot.ensures.readies
+
+pub returns-in-Err-settle-clause-any_moment : goal.returns-in-Err-settle-clause-any_moment
+returns-in-Err-settle-clause-any_moment g c =
+    let disk = g.R.Rack.disk c.args.rack.now in
+    let ready = g.R.Rack.disk c.ready_slot.new.rack in
+    let slot_is = ap (λ (a : Anchor). a.slot) c.settled_anchor-next.ensures in
+    settled_still disk disk c.args.redone.now c.requires.sound (only_reads-none disk) c.requires.pending c.requires.recovered ready c.in-Some.vol c.settled_anchor-next.result.slot c.in-Some.ensures.value slot_is c.ready_slot.ensures.readies c.in-Ok.ensures.ready c.in-Ok.ensures.synced (g.R.Rack.disk c.settle.new.rack) c.settle.ensures.brings c.settle.ensures.readable
+
+pub returns-in-Ok-settle-clause-any_moment : goal.returns-in-Ok-settle-clause-any_moment
+returns-in-Ok-settle-clause-any_moment g c =
+    let disk = g.R.Rack.disk c.args.rack.now in
+    let ready = g.R.Rack.disk c.ready_slot.new.rack in
+    let slot_is = ap (λ (a : Anchor). a.slot) c.settled_anchor-next.ensures in
+    settled_still disk disk c.args.redone.now c.requires.sound (only_reads-none disk) c.requires.pending c.requires.recovered ready c.in-Some.vol c.settled_anchor-next.result.slot c.in-Some.ensures.value slot_is c.ready_slot.ensures.readies c.in-Ok.ensures.ready c.in-Ok.ensures.synced (g.R.Rack.disk c.settle.new.rack) c.settle.ensures.brings c.settle.ensures.readable
+
+pub returns-in-Ok-settle-clause-home : goal.returns-in-Ok-settle-clause-home
+returns-in-Ok-settle-clause-home g c =
+    let disk = g.R.Rack.disk c.args.rack.now in
+    let ready = g.R.Rack.disk c.ready_slot.new.rack in
+    let slot_is = ap (λ (a : Anchor). a.slot) c.settled_anchor-next.ensures in
+    settled_home disk disk c.args.redone.now c.requires.sound (only_reads-none disk) c.requires.pending c.requires.recovered ready c.in-Some.vol c.settled_anchor-next.result.slot c.in-Some.ensures.value slot_is c.ready_slot.ensures.readies c.in-Ok.ensures.ready c.in-Ok.ensures.synced (g.R.Rack.disk c.settle.new.rack) c.settle.ensures.brings c.settle.ensures.readable c.in-Ok-settle.ensures.done
+
+pub returns-in-Ok-settle-clause-behind : goal.returns-in-Ok-settle-clause-behind
+returns-in-Ok-settle-clause-behind g c =
+    let disk = g.R.Rack.disk c.args.rack.now in
+    let ready = g.R.Rack.disk c.ready_slot.new.rack in
+    let slot_is = ap (λ (a : Anchor). a.slot) c.settled_anchor-next.ensures in
+    no_group disk disk c.args.redone.now c.requires.sound (only_reads-none disk) c.requires.pending c.requires.recovered ready c.in-Some.vol c.settled_anchor-next.result.slot c.in-Some.ensures.value slot_is c.ready_slot.ensures.readies c.in-Ok.ensures.ready c.in-Ok.ensures.synced (g.R.Rack.disk c.settle.new.rack) c.settled_anchor-next.result c.settle.ensures.brings c.in-Ok-settle.ensures.done c.settle.ensures.readable c.settled_anchor-next.ensures

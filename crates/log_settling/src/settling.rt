@@ -1,0 +1,49 @@
+//! A log that was recovered, settled.
+ghost use Rattle.std.specs.Prelude.{◌≡◌, [], IfErr, IfOk, List};
+ghost use Rattle.log_recovery.specs.Outcome.{HasRecovered, IsSound};
+ghost use Rattle.log_recovery.specs.Settled.{settled_anchor};
+ghost use Rattle.log_ring.specs.Groups.{Group};
+ghost use Rattle.volume_disk.specs.Disk.{IsSettled, Tells};
+ghost use Rattle.log_settling.specs.Settling.{HasCause, IsBehindAll, StandsAtHome, StaysRead};
+
+use crate::SettleFault;
+use disk_label::{Anchor, ready_slot};
+use domain_base::VolIx;
+use log_recovery::{Redone, settle};
+use volume_disk::Rack;
+
+/// Settles a log as it was recovered, on a rack on which nothing is pending: makes the slot of the
+/// next anchor ready, brings the images home, and writes that anchor, which it answers. The log has
+/// no group behind it then, and all pages stand at their homes. Whatever it answers, recovery takes
+/// each image that a stop may leave since, and each page but those of anchors is then as it was once
+/// the log was redone.
+///
+/// `NoNumbers` comes where the anchor or the next group has the last number that there is: then
+/// nothing was done. `Slot` and `Write` come where a call failed of the volume that they name.
+pub fn settle_log<R: Rack>(rack: &mut R, redone: &Redone) -> Result<Anchor, SettleFault>
+    requires pending { Tells (R.disk rack.old) → IsSettled (R.disk rack.old).now }
+    requires sound { IsSound (R.disk rack.old).sizes redone.now }
+    requires recovered { let old = R.disk rack.old in Tells old
+        → (groups : List Group) × HasRecovered old.sizes old.now.contents groups redone.now }
+    ensures anchor { IfOk result (λ anchor. anchor ≡ settled_anchor redone.now) }
+    ensures behind { IfOk result (IsBehindAll (R.disk rack.new)) }
+    ensures home { IfOk result (λ _. StandsAtHome (R.disk rack.old) (R.disk rack.new)) }
+    ensures any_moment { StaysRead (R.disk rack.old) (R.disk rack.new) }
+    ensures cause { IfErr result (HasCause (R.disk rack.old) (R.disk rack.new) redone.now) }
+{
+    if !redone.has_numbers_left() {
+        return Err(SettleFault::NoNumbers);
+    }
+    let Some(vol) = VolIx::new(redone.anchor.log_vol) else {
+        unreachable!()
+    };
+    let next = redone.settled_anchor();
+    match ready_slot(rack, vol, next.slot) {
+        Ok(()) => {}
+        Err(fault) => return Err(SettleFault::Slot(fault)),
+    }
+    match settle(rack, redone) {
+        Ok(()) => Ok(next),
+        Err(vol) => Err(SettleFault::Write { vol }),
+    }
+}
