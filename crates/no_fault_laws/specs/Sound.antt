@@ -1,0 +1,25 @@
+-- What rules of pages ask beside that a domain stands.
+use Rattle.std.specs.Prelude.{◌≡◌, true, Contains, IsSomeAnd}
+use Rattle.domain_base.specs.declared.place.CellAt.{CellAt}
+use Rattle.domain_base.specs.declared.place.Home.{Home}
+use Rattle.bmt_mcells.specs.Cell.{Cell}
+use Rattle.bmt_mcells.specs.declared.head.CellKind.TheVariants.{Chain}
+use Rattle.dir_index.specs.Index.{IsIndexPage}
+use Rattle.deferred_delete.specs.Standing.{Files}
+use Rattle.domain_layout.specs.CellRules.{is_chain_records}
+use Rattle.domain_layout.specs.Owners.{IsOnTable}
+use Rattle.domain_layout.specs.Reached.{IsWithin}
+use Rattle.domain_standing.specs.Chains.{IndexesAt}
+use Rattle.domain_standing.specs.Domain.{DomainNow, layout_of}
+use Rattle.domain_standing.specs.Holders.{Holder, Holds}
+
+-- each page that is held for something is one of a member's, where that is not the log, which other
+-- rules know; a cell behind the first of a file has a record that it may have; and each page of an
+-- index is well formed, whosever that is
+pub record StandsSound (d : DomainNow) (files : Files) (indexes : IndexesAt) : Type 0 where
+  pub within : (home : Home) (holder : Holder) → ¬ holder ≡ Holder.of_volume
+      → ¬ holder ≡ Holder.of_log → Holds d files indexes holder home → IsWithin d.frame home
+  pub laters : (at : CellAt) (cell : Cell) → IsOnTable d.pages (layout_of d) at cell
+      → cell.head.kind ≡ Chain → is_chain_records cell.records ≡ true
+  pub good : (at : CellAt) (home : Home) → Contains (indexes at) home
+      → IsSomeAnd (d.pages home) IsIndexPage
