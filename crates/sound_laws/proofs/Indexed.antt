@@ -1,0 +1,302 @@
+-- A domain is as rules ask beside where a page of an index is written or put in.
+use Rattle.std.proofs.Common.{◌≡◌, ◌∙◌, ⊎_elim, ℕ, zero, suc, ◌≤◌, Bool, true, false, cond, List, [], ◌∷◌, Option, Some, IfSome, IsSomeAnd, Contains, slice_get, refl, sym, ap, subst, arith}
+use Rattle.std.proofs.lemmas.Bool.{false_from_ne_true, true≢false}
+use Rattle.std.specs.List.{AllByRecursion, insert}
+use Rattle.std.specs.Option.{option_and_then, option_map, option_map_or}
+use Rattle.domain_base.specs.declared.place.CellAt.{CellAt}
+use Rattle.domain_base.specs.declared.place.Home.{Home}
+use Rattle.domain_base.specs.declared.place.Tag.{Tag}
+use Rattle.page_store.specs.Bitfiles.{shown_index}
+use Rattle.page_store.specs.Pages.{Pages, same_home}
+use Rattle.bmt_mcells.specs.Cell.{Cell}
+use Rattle.bmt_mcells.specs.CellPage.{cell_at, home_of}
+use Rattle.bmt_mcells.specs.Chain.{PlacedCell, StandsAt, is_at}
+use Rattle.bmt_mcells.specs.declared.head.CellKind.TheVariants.{Chain, Primary}
+use Rattle.bmt_mcells.proofs.Changed.{homes_same}
+use Rattle.bmt_mcells.proofs.Unique.{one_stands}
+use Rattle.extent_maps.specs.Runs.{place_of}
+use Rattle.extent_maps.specs.declared.run.PagePlace.TheVariants.{Absent}
+use Rattle.dir_index.specs.Index.{IsIndexPage}
+use Rattle.free_cells.specs.Cells.{table_of}
+use Rattle.free_space.specs.Spaces.{Spaces}
+use Rattle.bitfile_cells.specs.Files.{AreFile, places_of}
+use Rattle.bitfile_cells.proofs.ChainChanges.{at_same}
+use Rattle.bitfile_core.specs.Changes.{ChangesFirst, with_chain, with_first}
+use Rattle.bitfile_core.specs.Files.{Chains}
+use Rattle.bitfile_core.specs.Index.{index_record, says_index}
+use Rattle.bitfile_core.specs.Shown.{index_in, index_of}
+use Rattle.bitfile_core.proofs.Created.{stands_by_page}
+use Rattle.bitfile_core.proofs.FirstCell.{find_put}
+use Rattle.bitfile_core.proofs.FirstTogether.{runs_kept}
+use Rattle.bitfile_core.proofs.OneChain.{chain_same, same_tag_itself}
+use Rattle.stored_index.specs.Homes.{shown_at}
+use Rattle.stored_index.proofs.Dropped.{low_from}
+use Rattle.stored_index.proofs.Held.{in_inserted}
+use Rattle.stored_set.specs.Sets.{AddsIndexPage, SaysIndex, WritesIndexPage}
+use Rattle.fileset_table.specs.declared.slot.FilesetEntry.{FilesetEntry}
+use Rattle.fileset_table.specs.declared.slot.SlotItem.TheVariants as slot
+use Rattle.deferred_delete.specs.Standing.{Files, place_in, with_file}
+use Rattle.deferred_delete.proofs.Standings.{at_itself, file_other, file_there, place_by, same_or_not}
+use Rattle.deferred_laws.specs.Calls.{StandsWell}
+use Rattle.deferred_laws.proofs.FirstWell.{are_file, index_beside}
+use Rattle.domain_layout.specs.CellRules.{is_chain_records}
+use Rattle.domain_layout.specs.Filled.{Contents}
+use Rattle.domain_layout.specs.Owners.{IsOnTable}
+use Rattle.domain_layout.specs.Reached.{IsWithin}
+use Rattle.domain_standing.specs.Chains.{IndexesAt}
+use Rattle.domain_standing.specs.Domain.{DomainNow, item_in, layout_of}
+use Rattle.domain_standing.specs.Holders.{Holder, Holds, IsUnheld}
+use Rattle.domain_standing.specs.Holders.Holder.{of_cells, of_file, of_index, of_log, of_table, of_tags, of_volume}
+use Rattle.standing_laws.specs.IndexCalls.{KeepsTables, NamesFile, with_index_at, with_said}
+use Rattle.standing_laws.specs.Leads.{StandsBelow, fileset_now}
+use Rattle.standing_laws.proofs.HomeLists.{get_in}
+use Rattle.standing_laws.proofs.IndexSet.{IsChain, chain_at}
+use Rattle.standing_laws.proofs.IndexWas.{begins_low, file_was, member_on, off_cells, off_first, on_was, there_was}
+use Rattle.standing_laws.proofs.TablesTaken.{unheld_taken}
+use Rattle.no_fault_laws.specs.Sound.{StandsSound}
+use Rattle.no_fault_laws.proofs.Ways.{at_of, contains_of}
+use Rattle.sound_laws.proofs.Kept.{can_within}
+use Rattle.sound_laws.proofs.Shown.{all_entry, all_insert, good_shown, one_good, shown_good}
+
+pub same_start : (a b : CellAt) (j k : ℕ) → of_index a j ≡ of_index b k → a ≡ b
+same_start a b j k same = cc
+
+pub at_apart : (a b : CellAt) → ¬ a ≡ b → is_at a b ≡ false
+at_apart a b apart = false_from_ne_true (is_at a b) (λ same. apart (at_same a b same))
+
+-- ---- the first cell of a file says its index anew, and pages of that are others
+
+module _ (d : DomainNow) (files : Files) (indexes : IndexesAt) (below : StandsBelow d files indexes) (sound : StandsSound d files indexes) (number : ℕ) (entry : FilesetEntry) (original : item_in d number ≡ Some (slot.Original entry)) (tag : Tag) (chains : Chains)
+    (well : StandsWell number (fileset_now d number chains files)) (first : PlacedCell) (rest : List PlacedCell) (is : chains tag ≡ Some (first ∷ rest)) (between : Spaces) (said : Pages) (says : SaysIndex number (d.tags number) between d.cells tag chains d.pages said)
+  where
+    abbrev says_it : Cell → Cell
+    says_it = says_index (Some says.index)
+
+    abbrev after : List PlacedCell
+    after = with_first says_it (first ∷ rest)
+
+    changes : ChangesFirst (Some (first ∷ rest)) d.pages said
+    changes = subst (λ o. ChangesFirst o d.pages said) is says.first
+
+    tag_now : with_chain tag (with_first says_it) chains tag ≡ Some after
+    tag_now = chain_same tag (with_first says_it) chains tag (same_tag_itself tag) ∙ ap (option_map (with_first says_it)) is
+
+    pub file_said : AreFile said (record { at = first.at; cell = says_it first.cell }) rest
+    file_said = are_file number (d.tags number) said (with_chain tag (with_first says_it) chains) says.together.files tag (record { at = first.at; cell = says_it first.cell }) rest tag_now
+
+    -- a page of an index, but for what changes of that one, is as it was
+    pub said_same : (home : Home) → ¬ Contains (table_of d.cells home.vol) home.page → said home ≡ d.pages home
+    said_same home off = changes.1 home (off_first d files indexes below number entry original tag chains well first rest is home off)
+
+    pub its_said : (home : Home) → Contains (indexes first.at) home → IsSomeAnd (said home) IsIndexPage
+    its_said home inside =
+        subst (λ o. IsSomeAnd o IsIndexPage) (sym (said_same home (off_cells d files indexes below number entry original tag chains well first rest is home inside))) (sound.good first.at home inside)
+
+    module _ (pages : Pages) (comes : Home → Type 0) (fresh : (home : Home) → comes home → IsUnheld d files indexes home) (homes : List Home) (others : (home : Home) → ¬ Contains (indexes first.at) home → ¬ comes home → pages home ≡ said home)
+        (good : (home : Home) → Contains homes home → IsWithin d.frame home × IsSomeAnd (pages home) IsIndexPage) (space : Spaces) (contents : Contents)
+      where
+        abbrev now : DomainNow
+        now = record d { pages = pages; contents = contents; space = space }
+
+        abbrev files_then : Files
+        files_then = with_file first.at (Some after) files
+
+        abbrev indexes_then : IndexesAt
+        indexes_then = with_index_at first.at homes indexes
+
+        on_table : (home : Home) → Contains (table_of d.cells home.vol) home.page → pages home ≡ said home
+        on_table home on = others home (λ inside. off_cells d files indexes below number entry original tag chains well first rest is home inside on)
+            (λ come. fresh home come of_cells (member_on d files indexes below number entry original tag chains well first rest is home.vol home.page on, on))
+
+        stands_now : StandsAt pages first.at (says_it first.cell)
+        stands_now =
+            stands_by_page said pages first.at (says_it first.cell) (on_table (home_of first.at) (on_was d files indexes below number entry original tag chains well first rest is).0) file_said.links.stands
+
+        laters : (at : CellAt) (cell : Cell) → IsOnTable pages (layout_of now) at cell → cell.head.kind ≡ Chain → is_chain_records cell.records ≡ true
+        laters at cell on chain = ⊎_elim here elsewhere (same_or_not at first.at)
+          where
+            here : at ≡ first.at → is_chain_records cell.records ≡ true
+            here same =
+                let it : says_it first.cell ≡ cell = one_stands pages first.at (says_it first.cell) cell stands_now (subst (λ (a : CellAt). StandsAt pages a cell) same on.stands) in
+                let e : Primary ≡ Chain = sym file_said.primary ∙ ap (λ (c : Cell). c.head.kind) it ∙ chain in absurd (cc)
+
+            elsewhere : ¬ at ≡ first.at → is_chain_records cell.records ≡ true
+            elsewhere apart =
+                let stays : cell_at pages at ≡ cell_at d.pages at = ap (λ (o : Option (List ℕ)). cell_at (λ _. o) at) (on_table (home_of at) on.table) ∙ changes.0 at (at_apart first.at at (λ same. apart (sym same))) in
+                sound.laters at cell (record { member = on.member; table = on.table; stands = record { bytes = on.stands.bytes; there = sym stays ∙ on.stands.there; is = on.stands.is } }) chain
+
+        places_same : (a : CellAt) (p : ℕ) → place_in files_then a p ≡ place_in files a p
+        places_same a p = ⊎_elim
+            (λ here.
+            ap (λ (b : CellAt). place_in files_then b p) here ∙ place_by files_then first.at after p (file_there first.at (Some after) files)
+            ∙ ap (λ rs. place_of rs p) (runs_kept says_it first rest (index_beside d.pages first rest (file_was d files indexes below number entry original tag chains well first rest is) (Some says.index)).maps)
+            ∙ sym (place_by files first.at (first ∷ rest) p (there_was d files indexes below number entry original tag chains well first rest is)) ∙ sym (ap (λ (b : CellAt). place_in files b p) here))
+            (λ apart. ap (λ o. option_map_or (λ cs. places_of cs p) o Absent) (file_other first.at (Some after) files a apart))
+            (same_or_not a first.at)
+
+        -- ---- indexes
+
+        its_homes : (at : CellAt) → is_at at first.at ≡ true → indexes_then at ≡ homes
+        its_homes at same = ap (λ (b : Bool). cond b homes (indexes at)) same
+
+        other_homes : (at : CellAt) → is_at at first.at ≡ false → indexes_then at ≡ indexes at
+        other_homes at other = ap (λ (b : Bool). cond b homes (indexes at)) other
+
+        other_page : (at : CellAt) (k : ℕ) (home : Home) → is_at at first.at ≡ false → slice_get (indexes at) k ≡ Some home → pages home ≡ d.pages home
+        other_page at k home other held = others home not_in (λ come. fresh home come (of_index at k) held) ∙ said_same home off
+          where
+            not_in : ¬ Contains (indexes first.at) home
+            not_in inside =
+                let j = at_of (indexes first.at) home inside in
+                let same : at ≡ first.at = same_start at first.at k j.0 (below.owned.once home (of_index at k) (of_index first.at j.0) held j.1) in
+                true≢false (sym (at_itself first.at) ∙ sym (ap (λ (a : CellAt). is_at a first.at) same) ∙ other)
+
+            cells_apart : ¬ of_index at k ≡ of_cells
+            cells_apart e = cc
+
+            off : ¬ Contains (table_of d.cells home.vol) home.page
+            off on = cells_apart (below.owned.once home (of_index at k) of_cells held (member_on d files indexes below number entry original tag chains well first rest is home.vol home.page on, on))
+
+        good_then : (at : CellAt) (home : Home) → Contains (indexes_then at) home → IsSomeAnd (pages home) IsIndexPage
+        good_then at home inside = by_test (is_at at first.at) refl
+          where
+            by_test : (b : Bool) → is_at at first.at ≡ b → IsSomeAnd (pages home) IsIndexPage
+            by_test true same = (good home (subst (λ hs. Contains hs home) (its_homes at same) inside)).1
+            by_test false other =
+                let was : Contains (indexes at) home = subst (λ hs. Contains hs home) (other_homes at other) inside in
+                let k = at_of (indexes at) home was in
+                subst (λ o. IsSomeAnd o IsIndexPage) (sym (other_page at k.0 home other k.1)) (sound.good at home was)
+
+        index_within : (at : CellAt) (k : ℕ) (home : Home) → slice_get (indexes_then at) k ≡ Some home → IsWithin d.frame home
+        index_within at k home held = by_test (is_at at first.at) refl
+          where
+            by_test : (b : Bool) → is_at at first.at ≡ b → IsWithin d.frame home
+            by_test true same = (good home (contains_of homes k home (subst (λ hs. slice_get hs k ≡ Some home) (its_homes at same) held))).0
+            by_test false other = sound.within home (of_index at k) (λ e. cc) (λ e. cc) (subst (λ hs. slice_get hs k ≡ Some home) (other_homes at other) held)
+
+        within : (home : Home) (holder : Holder) → ¬ holder ≡ of_volume → ¬ holder ≡ of_log → Holds now files_then indexes_then holder home → IsWithin d.frame home
+        within home of_volume no_volume no_log held = absurd (no_volume refl)
+        within home of_log no_volume no_log held = absurd (no_log refl)
+        within home of_table no_volume no_log held = sound.within home of_table no_volume no_log held
+        within home of_cells no_volume no_log held = sound.within home of_cells no_volume no_log held
+        within home (of_tags n) no_volume no_log held = sound.within home (of_tags n) no_volume no_log held
+        within home (of_index at k) no_volume no_log held = index_within at k home held
+        within home (of_file at page) no_volume no_log held = sound.within home (of_file at page) no_volume no_log (sym (places_same at page) ∙ held)
+
+        pub said_sound : StandsSound now files_then indexes_then
+        said_sound = record { within = within; laters = laters; good = good_then }
+
+-- ---- a page is written in place
+
+module _ (number : ℕ) (tag : Tag) (d now : DomainNow) (chains : Chains) (files : Files) (indexes : IndexesAt) (page : ℕ) (bytes : List ℕ) (below : StandsBelow d files indexes) (sound : StandsSound d files indexes) (same : KeepsTables d now)
+    (well_formed : IsIndexPage bytes)
+  where
+    module _ (first : PlacedCell) (rest : List PlacedCell) (is : chains tag ≡ Some (first ∷ rest)) (names : NamesFile number tag first.at d chains files)
+        (writes : WritesIndexPage number (d.tags number) d.space d.cells tag page bytes chains (indexes first.at) d.pages now.pages)
+      where
+        abbrev says_one : Cell → Cell
+        says_one = says_index (Some writes.says.index)
+
+        good_one : (home : Home) → Contains (indexes first.at) home → IsWithin d.frame home × IsSomeAnd (now.pages home) IsIndexPage
+        good_one home inside =
+            let k = at_of (indexes first.at) home inside in (
+              sound.within home (of_index first.at k.0) (λ e. cc) (λ e. cc) k.1,
+              good_shown now.pages (Some writes.says.index.first) (indexes first.at) writes.puts.are
+                  (subst (AllByRecursion IsIndexPage) (sym writes.puts.shown)
+                  (all_entry IsIndexPage (shown_at writes.said (indexes first.at)) page (shown_index bytes)
+                  (shown_good writes.said (indexes first.at) (its_said d files indexes below sound number names.entry names.original tag chains names.well first rest is d.space writes.said writes.says))
+                  (one_good bytes well_formed))) home inside,
+            )
+
+        stands_one : StandsSound (record d { pages = now.pages; contents = now.contents; space = now.space }) (with_file first.at (Some (with_first says_one (first ∷ rest))) files) (with_index_at first.at (indexes first.at) indexes)
+        stands_one =
+            said_sound d files indexes below sound number names.entry names.original tag chains names.well first rest is d.space writes.said writes.says now.pages (λ home. ⊥) (λ home none. absurd none) (indexes first.at)
+            (λ home none no_come. writes.puts.others home (λ at. none (get_in (indexes first.at) page home at))) good_one now.space now.contents
+
+        same_indexes : with_index_at first.at (indexes first.at) indexes ≡ indexes
+        same_indexes = λ i at. by_test at (is_at at first.at) refl i
+          where
+            by_test : (at : CellAt) (b : Bool) → is_at at first.at ≡ b → with_index_at first.at (indexes first.at) indexes at ≡ indexes at
+            by_test at true here = ap (λ (b : Bool). cond b (indexes first.at) (indexes at)) here ∙ ap indexes (sym (at_same at first.at here))
+            by_test at false other = ap (λ (b : Bool). cond b (indexes first.at) (indexes at)) other
+
+        written_first : StandsSound now (with_said first.at says_one files) indexes
+        written_first =
+            subst (λ (x : DomainNow). StandsSound x (with_said first.at says_one files) indexes) (sym same)
+            (subst (StandsSound (record d { pages = now.pages; contents = now.contents; space = now.space }) (with_said first.at says_one files)) same_indexes
+            (subst (λ o. StandsSound (record d { pages = now.pages; contents = now.contents; space = now.space }) (with_file first.at (option_map (with_first says_one) o) files) (with_index_at first.at (indexes first.at) indexes))
+            (sym (there_was d files indexes below number names.entry names.original tag chains names.well first rest is)) stands_one))
+
+    pub sound_written : (start : CellAt) → NamesFile number tag start d chains files → (writes : WritesIndexPage number (d.tags number) d.space d.cells tag page bytes chains (indexes start) d.pages now.pages)
+        → StandsSound now (with_said start (says_index (Some writes.says.index)) files) indexes
+    sound_written start names = by_start (chain_at chains tag start names.begins)
+      where
+        by_start : IsChain chains tag start → (writes : WritesIndexPage number (d.tags number) d.space d.cells tag page bytes chains (indexes start) d.pages now.pages)
+            → StandsSound now (with_said start (says_index (Some writes.says.index)) files) indexes
+        by_start c = subst
+            (λ (a : CellAt). (writes : WritesIndexPage number (d.tags number) d.space d.cells tag page bytes chains (indexes a) d.pages now.pages) → StandsSound now (with_said a (says_index (Some writes.says.index)) files) indexes)
+            c.at (written_first c.first c.rest c.is (subst (λ (a : CellAt). NamesFile number tag a d chains files) (sym c.at) names))
+
+-- ---- a page is put in
+
+in_more : (homes : List Home) (place : ℕ) (onto : Home) → Contains (insert homes place onto) onto
+in_more [] zero onto = (zero, omega arith, refl)
+in_more [] (suc place) onto = (zero, omega arith, refl)
+in_more (x ∷ homes) zero onto = (zero, omega arith, refl)
+in_more (x ∷ homes) (suc place) onto = let later = in_more homes place onto in (suc later.0, omega (arith, later.1), later.2)
+
+module _ (number : ℕ) (tag : Tag) (d now : DomainNow) (chains : Chains) (files : Files) (indexes : IndexesAt) (place prefer : ℕ) (bytes : List ℕ) (below : StandsBelow d files indexes) (sound : StandsSound d files indexes) (same : KeepsTables d now)
+    (well_formed : IsIndexPage bytes)
+  where
+    module _ (first : PlacedCell) (rest : List PlacedCell) (is : chains tag ≡ Some (first ∷ rest)) (names : NamesFile number tag first.at d chains files)
+        (adds : AddsIndexPage number (d.tags number) d.cells tag place bytes prefer chains (indexes first.at) d.space now.space d.pages now.pages)
+      where
+        abbrev says_more : Cell → Cell
+        says_more = says_index (Some adds.says.index)
+
+        abbrev more : List Home
+        more = insert (indexes first.at) place adds.home
+
+        begins_more : index_of (with_first says_more (first ∷ rest)) ≡ Some adds.says.index.first
+        begins_more = ap (option_and_then index_in) (find_put 9 (Some (index_record adds.says.index)) first.cell.records refl)
+
+        low : 1 ≤ adds.home.vol
+        low = low_from now.pages (Some adds.says.index.first) more adds.inserts.are
+            (subst (λ o. IfSome o (λ (h : Home). 1 ≤ h.vol)) begins_more
+            (begins_low adds.said (record { at = first.at; cell = says_more first.cell }) rest (file_said d files indexes below sound number names.entry names.original tag chains names.well first rest is now.space adds.said adds.says)))
+            adds.home (in_more (indexes first.at) place adds.home)
+
+        good_more : (home : Home) → Contains more home → IsWithin d.frame home × IsSomeAnd (now.pages home) IsIndexPage
+        good_more home inside = (
+          ⊎_elim (λ here. subst (IsWithin d.frame) here (can_within d files indexes below.owned adds.home (low, adds.free)))
+              (λ was. let k = at_of (indexes first.at) home was in sound.within home (of_index first.at k.0) (λ e. cc) (λ e. cc) k.1)
+              (in_inserted (indexes first.at) place adds.home home inside),
+          good_shown now.pages (Some adds.says.index.first) more adds.inserts.are
+              (subst (AllByRecursion IsIndexPage) (sym adds.inserts.shown)
+              (all_insert IsIndexPage (shown_at adds.said (indexes first.at)) place (shown_index bytes)
+              (shown_good adds.said (indexes first.at) (its_said d files indexes below sound number names.entry names.original tag chains names.well first rest is now.space adds.said adds.says))
+              (one_good bytes well_formed))) home inside,
+        )
+
+        stands_more : StandsSound (record d { pages = now.pages; contents = now.contents; space = now.space }) (with_file first.at (Some (with_first says_more (first ∷ rest))) files) (with_index_at first.at more indexes)
+        stands_more =
+            said_sound d files indexes below sound number names.entry names.original tag chains names.well first rest is now.space adds.said adds.says now.pages (λ home. home ≡ adds.home)
+            (λ home here. subst (IsUnheld d files indexes) (sym here) (unheld_taken d files indexes below.owned adds.home low adds.free)) more
+            (λ home none no_come. adds.inserts.others home none (false_from_ne_true (same_home home adds.home) (λ here. no_come (homes_same home adds.home here)))) good_more now.space now.contents
+
+        added_first : StandsSound now (with_said first.at says_more files) (with_index_at first.at more indexes)
+        added_first =
+            subst (λ (x : DomainNow). StandsSound x (with_said first.at says_more files) (with_index_at first.at more indexes)) (sym same)
+            (subst (λ o. StandsSound (record d { pages = now.pages; contents = now.contents; space = now.space }) (with_file first.at (option_map (with_first says_more) o) files) (with_index_at first.at more indexes))
+            (sym (there_was d files indexes below number names.entry names.original tag chains names.well first rest is)) stands_more)
+
+    pub sound_added : (start : CellAt) → NamesFile number tag start d chains files → (adds : AddsIndexPage number (d.tags number) d.cells tag place bytes prefer chains (indexes start) d.space now.space d.pages now.pages)
+        → StandsSound now (with_said start (says_index (Some adds.says.index)) files) (with_index_at start (insert (indexes start) place adds.home) indexes)
+    sound_added start names = by_start (chain_at chains tag start names.begins)
+      where
+        by_start : IsChain chains tag start → (adds : AddsIndexPage number (d.tags number) d.cells tag place bytes prefer chains (indexes start) d.space now.space d.pages now.pages)
+            → StandsSound now (with_said start (says_index (Some adds.says.index)) files) (with_index_at start (insert (indexes start) place adds.home) indexes)
+        by_start c = subst
+            (λ (a : CellAt). (adds : AddsIndexPage number (d.tags number) d.cells tag place bytes prefer chains (indexes a) d.space now.space d.pages now.pages)
+            → StandsSound now (with_said a (says_index (Some adds.says.index)) files) (with_index_at a (insert (indexes a) place adds.home) indexes))
+            c.at (added_first c.first c.rest c.is (subst (λ (a : CellAt). NamesFile number tag a d chains files) (sym c.at) names))

@@ -1,0 +1,70 @@
+-- A domain is as rules ask beside where tables of cells and pages of indexes are as they were, and pages that tags get are members'.
+use Rattle.std.proofs.Common.{◌≡◌, ◌⊎◌, ℕ, ◌<◌, true, List, Option, Some, None, IsSomeAnd, Contains, refl, sym, subst, ⊎_elim}
+use Rattle.domain_base.specs.declared.place.CellAt.{CellAt}
+use Rattle.domain_base.specs.declared.place.Home.{Home}
+use Rattle.log_ring.specs.Homes.{IsMember}
+use Rattle.bmt_mcells.specs.Cell.{Cell}
+use Rattle.bmt_mcells.specs.CellPage.{home_of}
+use Rattle.bmt_mcells.specs.declared.head.CellKind.TheVariants.{Chain}
+use Rattle.tag_dirs.specs.Directory.{has_home}
+use Rattle.dir_index.specs.Index.{IsIndexPage}
+use Rattle.free_cells.specs.Cells.{table_of}
+use Rattle.free_space.specs.Spaces.{volume_of}
+use Rattle.free_space.specs.VolumeSpace.{IsFreePage, VolumeSpace}
+use Rattle.bitfile_core.proofs.Created.{stands_by_page}
+use Rattle.deferred_delete.specs.Standing.{Files}
+use Rattle.domain_layout.specs.CellRules.{is_chain_records}
+use Rattle.domain_layout.specs.Owners.{IsOnTable}
+use Rattle.domain_layout.specs.Reached.{Frame, IsWithin}
+use Rattle.domain_standing.specs.Chains.{IndexesAt}
+use Rattle.domain_standing.specs.Domain.{DomainNow, layout_of}
+use Rattle.domain_standing.specs.Holders.{AreHeldAt, Holder, Holds, HoldsOwned}
+use Rattle.domain_standing.specs.Holders.Holder.{of_cells, of_file, of_index, of_log, of_table, of_tags, of_volume}
+use Rattle.standing_laws.proofs.HeldHolders.{MayTake}
+use Rattle.no_fault_laws.specs.Sound.{StandsSound}
+use Rattle.no_fault_laws.proofs.Ways.{at_of}
+
+-- a page that may be taken is one of a member's
+pub can_within : (d : DomainNow) (files : Files) (indexes : IndexesAt) → HoldsOwned d files indexes → (home : Home) → MayTake d.space home → IsWithin d.frame home
+can_within d files indexes owned home can = by_volume (volume_of d.space home.vol) (owned.spaces home.vol can.0) can.1
+  where
+    by_volume : (o : Option VolumeSpace) → AreHeldAt d files indexes home.vol o → IsSomeAnd o (λ v. (v.is_open ≡ true) × IsFreePage v home.page) → IsWithin d.frame home
+    by_volume None at free = absurd free
+    by_volume (Some space) at free = (at.0, subst (λ n. home.page < n) at.1.count free.1.within)
+
+module _ (d now : DomainNow) (files : Files) (indexes : IndexesAt) (sound : StandsSound d files indexes) (frame : now.frame ≡ d.frame) (tables : (vol : ℕ) → table_of now.cells vol ≡ table_of d.cells vol)
+    (tags : (n : ℕ) (home : Home) → has_home (now.tags n) home ≡ true → (has_home (d.tags n) home ≡ true) ⊎ IsWithin d.frame home)
+    (on_cells : (home : Home) → Holds d files indexes of_cells home → now.pages home ≡ d.pages home)
+    (on_index : (at : CellAt) (k : ℕ) (home : Home) → Holds d files indexes (of_index at k) home → now.pages home ≡ d.pages home)
+  where
+    in_now : (home : Home) → IsWithin d.frame home → IsWithin now.frame home
+    in_now home is = subst (λ (f : Frame). IsWithin f home) (sym frame) is
+
+    member_was : (vol : ℕ) → IsMember now.frame.anchor vol → IsMember d.frame.anchor vol
+    member_was vol is = subst (λ (f : Frame). IsMember f.anchor vol) frame is
+
+    table_was : (vol page : ℕ) → Contains (table_of now.cells vol) page → Contains (table_of d.cells vol) page
+    table_was vol page on = subst (λ (t : List ℕ). Contains t page) (tables vol) on
+
+    within : (home : Home) (holder : Holder) → ¬ holder ≡ of_volume → ¬ holder ≡ of_log → Holds now files indexes holder home → IsWithin now.frame home
+    within home of_volume no_volume no_log held = absurd (no_volume refl)
+    within home of_log no_volume no_log held = absurd (no_log refl)
+    within home of_table no_volume no_log held = in_now home (sound.within home of_table no_volume no_log (subst (λ (f : Frame). f.anchor.table ≡ Some home) frame held))
+    within home of_cells no_volume no_log held = in_now home (sound.within home of_cells no_volume no_log (member_was home.vol held.0, table_was home.vol home.page held.1))
+    within home (of_tags n) no_volume no_log held = ⊎_elim (λ was. in_now home (sound.within home (of_tags n) no_volume no_log was)) (λ new. in_now home new) (tags n home held)
+    within home (of_index at k) no_volume no_log held = in_now home (sound.within home (of_index at k) no_volume no_log held)
+    within home (of_file at page) no_volume no_log held = in_now home (sound.within home (of_file at page) no_volume no_log held)
+
+    laters : (at : CellAt) (cell : Cell) → IsOnTable now.pages (layout_of now) at cell → cell.head.kind ≡ Chain → is_chain_records cell.records ≡ true
+    laters at cell on kind =
+        let member = member_was at.vol on.member in
+        let table = table_was at.vol at.page on.table in
+        sound.laters at cell (record { member = member; table = table; stands = stands_by_page now.pages d.pages at cell (sym (on_cells (home_of at) (member, table))) on.stands }) kind
+
+    good : (at : CellAt) (home : Home) → Contains (indexes at) home → IsSomeAnd (now.pages home) IsIndexPage
+    good at home among =
+        let k = at_of (indexes at) home among in
+        subst (λ o. IsSomeAnd o IsIndexPage) (sym (on_index at k.0 home k.1)) (sound.good at home among)
+
+    pub sound_kept : StandsSound now files indexes
+    sound_kept = record { within = within; laters = laters; good = good }

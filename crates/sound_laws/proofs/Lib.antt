@@ -1,0 +1,9 @@
+pub mod Kept
+pub mod InPlace
+pub mod Called
+pub mod Limited
+pub mod Shown
+pub mod Indexed
+pub mod Gone
+pub mod Started
+pub mod WholeDomain

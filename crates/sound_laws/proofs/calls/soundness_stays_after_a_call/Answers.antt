@@ -1,0 +1,5 @@
+use Rattle.sound_laws.proofs.Called.{sound_called}
+use Rattle.sound_laws.proofs.calls.soundness_stays_after_a_call.Goals as goal
+
+pub returns : goal.returns
+returns c = sound_called

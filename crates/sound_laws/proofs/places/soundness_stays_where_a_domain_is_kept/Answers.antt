@@ -1,0 +1,5 @@
+use Rattle.sound_laws.proofs.InPlace.{sound_memory}
+use Rattle.sound_laws.proofs.places.soundness_stays_where_a_domain_is_kept.Goals as goal
+
+pub returns : goal.returns
+returns c = sound_memory

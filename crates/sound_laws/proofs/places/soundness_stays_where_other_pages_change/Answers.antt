@@ -1,0 +1,5 @@
+use Rattle.sound_laws.proofs.InPlace.{sound_elsewhere}
+use Rattle.sound_laws.proofs.places.soundness_stays_where_other_pages_change.Goals as goal
+
+pub returns : goal.returns
+returns c = sound_elsewhere

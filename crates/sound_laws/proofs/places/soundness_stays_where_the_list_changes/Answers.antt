@@ -1,0 +1,5 @@
+use Rattle.sound_laws.proofs.InPlace.{sound_listed}
+use Rattle.sound_laws.proofs.places.soundness_stays_where_the_list_changes.Goals as goal
+
+pub returns : goal.returns
+returns c = sound_listed

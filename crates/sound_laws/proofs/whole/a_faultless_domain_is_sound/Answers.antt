@@ -1,0 +1,5 @@
+use Rattle.sound_laws.proofs.WholeDomain.{faultless_sound}
+use Rattle.sound_laws.proofs.whole.a_faultless_domain_is_sound.Goals as goal
+
+pub returns : goal.returns
+returns c = faultless_sound
