@@ -3,9 +3,13 @@
 #![tactic(auto)]
 
 #[cfg(test)]
+mod attached;
+#[cfg(test)]
 mod broken;
 #[cfg(test)]
 mod brought;
+#[cfg(test)]
+mod fetched;
 #[cfg(test)]
 mod image;
 #[cfg(test)]

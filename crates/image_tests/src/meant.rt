@@ -11,7 +11,7 @@ use std::test::Fail;
 
 /// An image, lines that change it, and what it means: its filesets, its faults, or the first page
 /// that is none of a domain.
-type Meant = (Whole, &'static str, &'static str);
+pub(crate) type Meant = (Whole, &'static str, &'static str);
 
 /// What a rack with an image means.
 fn meaning(alloc: Global, image: &mut Image) -> Result<String, Fail> {
@@ -75,19 +75,29 @@ bytes 4 528 01000000cc000000",
     ),
 ];
 
+/// Images of version 3 with their filesets.
+pub(crate) static THREE: [Meant; 7] = [
+    (Whole::Empty, "", ""),
+    (Whole::Files, "", FILES_TOLD),
+    (Whole::Indexed, "", INDEXED_TOLD),
+    (Whole::Limits, "", LIMITS_TOLD),
+    (Whole::Changed, "", CHANGED_TOLD),
+    (Whole::Pending, "", PENDING_TOLD),
+    (Whole::Removed, "", REMOVED_TOLD),
+];
+
+/// The same of version 4.
+pub(crate) static FOUR: [Meant; 4] = [
+    (Whole::Empty, "", ""),
+    (Whole::Dense, "", DENSE_TOLD),
+    (Whole::Cloned, "", CLONED_TOLD),
+    (Whole::Closed, "", CLOSED_TOLD),
+];
+
 #[test]
 fn images_of_version_3_mean_their_filesets(rt: HostRuntime) -> Result<(), Fail> {
     let alloc = rt.alloc();
-    let images = [
-        (Whole::Empty, "", ""),
-        (Whole::Files, "", FILES_TOLD),
-        (Whole::Indexed, "", INDEXED_TOLD),
-        (Whole::Limits, "", LIMITS_TOLD),
-        (Whole::Changed, "", CHANGED_TOLD),
-        (Whole::Pending, "", PENDING_TOLD),
-        (Whole::Removed, "", REMOVED_TOLD),
-    ];
-    let wrong = meant_otherwise(alloc, Version::Three, &images)?;
+    let wrong = meant_otherwise(alloc, Version::Three, &THREE)?;
     assert_eq!(rt; wrong.as_str(), "");
     Ok(())
 }
@@ -95,13 +105,7 @@ fn images_of_version_3_mean_their_filesets(rt: HostRuntime) -> Result<(), Fail> 
 #[test]
 fn images_of_version_4_mean_their_filesets(rt: HostRuntime) -> Result<(), Fail> {
     let alloc = rt.alloc();
-    let images = [
-        (Whole::Empty, "", ""),
-        (Whole::Dense, "", DENSE_TOLD),
-        (Whole::Cloned, "", CLONED_TOLD),
-        (Whole::Closed, "", CLOSED_TOLD),
-    ];
-    let wrong = meant_otherwise(alloc, Version::Four, &images)?;
+    let wrong = meant_otherwise(alloc, Version::Four, &FOUR)?;
     assert_eq!(rt; wrong.as_str(), "");
     Ok(())
 }
@@ -138,19 +142,19 @@ fn images_with_a_fault_mean_it(rt: HostRuntime) -> Result<(), Fail> {
     Ok(())
 }
 
-static FILES_TOLD: &str = "a
+pub(crate) const FILES_TOLD: &str = "a
 / directory of 0.0
 /d directory of 7.0
 /d/g file of 0.0 logged size 5: 0=inner
 /f file of 7.8 size 24581: 0=first 1=second 3=fourth
 ";
 
-static DENSE_TOLD: &str = "a
+const DENSE_TOLD: &str = "a
 / directory of 0.0
 /f file of 0.0 size 49152: 0=zero 1=one 2=two 3=three 4=four 5=five
 ";
 
-static INDEXED_TOLD: &str = "a
+const INDEXED_TOLD: &str = "a
 / directory of 0.0
 /d directory of 0.0
 /d/Aa file of 0.0 size 0:
@@ -160,11 +164,11 @@ static INDEXED_TOLD: &str = "a
 /d/c is /d/Aa
 ";
 
-static LIMITS_TOLD: &str = "a all: 5/100 user 7: 3/48 group 8: 0/16 user 9: 1/0
+const LIMITS_TOLD: &str = "a all: 5/100 user 7: 3/48 group 8: 0/16 user 9: 1/0
 / directory of 0.0
 ";
 
-static CLONED_TOLD: &str = "a
+const CLONED_TOLD: &str = "a
 / directory of 0.0
 /f file of 0.0 size 5: 0=hello
 b of a
@@ -172,7 +176,7 @@ b of a
 /f file of 0.0 size 5: 0=hello
 ";
 
-static CHANGED_TOLD: &str = "a
+const CHANGED_TOLD: &str = "a
 / directory of 0.0
 /f file of 0.0 size 24576: 0=new0 1=new1 2=old2
 /g file of 0.0 size 0:
@@ -184,16 +188,16 @@ b of a
 /k file of 0.0 size 5: 0=gone!
 ";
 
-static PENDING_TOLD: &str = "a
+const PENDING_TOLD: &str = "a
 / directory of 0.0
 /f file of 0.0 size 100: 0=kept
 ";
 
-static REMOVED_TOLD: &str = "a
+const REMOVED_TOLD: &str = "a
 / directory of 0.0
 ";
 
-static CLOSED_TOLD: &str = "a
+const CLOSED_TOLD: &str = "a
 / directory of 0.0
 /f file of 0.0 size 16384: 0=here 1=there
 ";

@@ -21,6 +21,7 @@ struct Seen<R: Rack> {
     entries: usize,
     committed: u64,
     durable: u64,
+    stamp: Option<u64>,
     rack: R,
 }
 
@@ -37,7 +38,7 @@ fn synced() -> Entry
 }
 
 /// Begins the history of a domain, makes room for some entries, discards a change of nothing,
-/// answers a sync, and gives the domain's rack back.
+/// answers a sync, ends that event, and gives the domain's rack back.
 fn opened<R: Rack + Drop, O: Opening>(
     alloc: Global,
     attached: Attached<R>,
@@ -52,10 +53,12 @@ fn opened<R: Rack + Drop, O: Opening>(
     domain.reserve_history(more)?;
     domain.discard();
     domain.commit(synced());
+    domain.end_event();
     Ok(Seen {
         entries: domain.entries().len(),
         committed: domain.committed(),
         durable: domain.durable(),
+        stamp: domain.entries().last().map(|entry| entry.stamp),
         rack: domain.into_rack(),
     })
 }
@@ -63,12 +66,14 @@ fn opened<R: Rack + Drop, O: Opening>(
 /// What comes of a domain that is made on a volume of zeros and opened.
 #[derive(Debug, PartialEq, Eq, Drop)]
 enum Outcome {
-    /// It has so many entries, as many are told, and so many of them last; and recovery finds a
-    /// domain with this table page on its rack.
+    /// It has so many entries, as many are told, and so many of them last; its last one has as its
+    /// stamp how many calls the rack has had, which are some; and recovery finds a domain with this
+    /// table page on its rack.
     Opened {
         entries: usize,
         committed: u64,
         durable: u64,
+        stamped: bool,
         table: u32,
     },
     /// No domain is found on its rack.
@@ -87,12 +92,14 @@ fn found_table(alloc: Global, rack: &mut MemoryRack) -> Option<u32> {
 }
 
 fn outcome_of(alloc: Global, mut seen: Seen<MemoryRack>) -> Outcome {
+    let calls = seen.rack.calls();
     match found_table(alloc, &mut seen.rack) {
         None => Outcome::Lost,
         Some(table) => Outcome::Opened {
             entries: seen.entries,
             committed: seen.committed,
             durable: seen.durable,
+            stamped: calls > 0 && seen.stamp == Some(calls),
             table,
         },
     }
@@ -126,6 +133,7 @@ fn a_domain_that_is_made_answers_a_sync(rt: HostRuntime) -> Result<(), Fail> {
         entries: 1,
         committed: 1,
         durable: 0,
+        stamped: true,
         table,
     };
     assert_eq!(rt; seen, [empty(132), empty(132)]);
