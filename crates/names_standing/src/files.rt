@@ -1,0 +1,39 @@
+//! Files that change, and names that stay.
+ghost use Rattle.std.specs.Prelude.{◌≡◌, ℕ, Some};
+ghost use Rattle.std.specs.FinMap.{get};
+ghost use Rattle.domain_base.specs.declared.place.Tag.{Tag};
+ghost use Rattle.page_store.specs.Bitfiles.{Bitfile};
+ghost use Rattle.bitfile_core.specs.Files.{AreFiles, Chains};
+ghost use Rattle.fileset_model.specs.Apply.{with_change};
+ghost use Rattle.fileset_model.specs.Orders.{Path};
+ghost use Rattle.fileset_model.specs.declared.fileset.FilesetSlot.{FilesetSlot};
+ghost use Rattle.fileset_model.specs.declared.node.Node.{Node};
+ghost use Rattle.fileset_table.specs.declared.slot.FilesetEntry.{FilesetEntry};
+ghost use Rattle.fileset_table.specs.declared.slot.SlotItem.TheVariants as slot;
+ghost use Rattle.name_space.specs.Names.{number_of};
+ghost use Rattle.stored_set.specs.Sets.{StandsAsSet};
+ghost use Rattle.domain_layout.specs.Shape.{AreLimits, FilesetShape};
+ghost use Rattle.domain_standing.specs.Domain.{DomainNow, item_in};
+ghost use Rattle.domain_standing.specs.Tables.{StandTables};
+ghost use Rattle.standing_laws.specs.Slots.{StandsSlot};
+ghost use Rattle.names_standing.specs.Nodes.{named_shape};
+ghost use Rattle.names_standing.specs.OneFile.{FileFollows, KeepsKind};
+
+/// Where an original is shown as the set that it was, its owners keep their limits, and one file is
+/// what a change makes of the node that it was, as which no other file is another one, it stands for
+/// the fileset with that change.
+pub fn a_fileset_of_one_changed_file_stands()
+    ensures { (number : ℕ) (entry : FilesetEntry) (tag : Tag) (path : Path)
+        (change : Node → Node) (d now : DomainNow) (shape : FilesetShape) (fileset : FilesetSlot)
+        (file : Bitfile) (chains : Chains) → StandTables d → StandTables now
+        → item_in d number ≡ Some (slot.Original entry)
+        → item_in now number ≡ Some (slot.Original entry)
+        → StandsSlot d number entry shape fileset
+        → (AreLimits d.pages entry shape.limits → AreLimits now.pages entry shape.limits)
+        → (set : StandsAsSet number (now.tags number) now.space now.cells now.pages shape.shown)
+        → AreFiles number (d.tags number) d.pages chains
+        → FileFollows tag change d.contents now.contents chains set.chains → KeepsKind change
+        → get fileset.tree.paths path ≡ Some (number_of tag) → shape.shown tag ≡ Some file
+        → StandsSlot now number entry (named_shape set.chains shape.shown shape.limits)
+        (record fileset { tree = with_change path change fileset.tree }) }
+{}
