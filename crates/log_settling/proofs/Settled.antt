@@ -1,9 +1,9 @@
 -- A log that was recovered is settled.
 use Rattle.std.proofs.Common.{◌≡◌, ℕ, ◌-◌, ◌≤◌, List, Some, refl, sym, ◌∙◌, subst, arith}
 use Rattle.volume_disk.specs.Disk.{Disk, HasVolume, IsSettled, MayLeave, Tells, volume_pages}
-use Rattle.volume_disk.specs.Image.{AreBytes}
-use Rattle.volume_disk.specs.Run.{OnlyReads}
-use Rattle.volume_disk.proofs.Laws.{leaves-now}
+use Rattle.volume_disk.specs.Image.{AreBytes, Places}
+use Rattle.volume_disk.specs.Run.{OnlyReads, Touches}
+use Rattle.volume_disk.proofs.Laws.{leaves-now, touches-then, touches-wider}
 use Rattle.disk_label.specs.Anchor.{IsAnchor}
 use Rattle.disk_label.specs.Slot.{HasReadied, ReadiesSlot, StaysSynced}
 use Rattle.disk_label.specs.declared.anchor.Anchor.{Anchor}
@@ -16,7 +16,7 @@ use Rattle.log_recovery.specs.Settled.{settled_anchor}
 use Rattle.log_recovery.specs.declared.redone.Redone.{Redone}
 use Rattle.log_recovery.proofs.Readied.{readies_to_settle}
 use Rattle.log_recovery.proofs.SettledAnchors.{settles_as_moves}
-use Rattle.log_settling.specs.Settling.{HasNoGroup, StandsAtHome, StaysRead}
+use Rattle.log_settling.specs.Settling.{Anywhere, HasNoGroup, StandsAtHome, StaysRead}
 use Rattle.log_settling.proofs.Meanings.{good_is, log_settled, only_read, pages_home, slot_readied}
 
 -- what was told at the end was told at the start
@@ -26,6 +26,13 @@ told_before old new same told = sym same ∙ told
 -- the contents are an image that may be left
 contents_left : (disk : Disk) → AreBytes disk.now.contents → MayLeave disk.now disk.now.contents
 contents_left disk bytes = record { synced = λ v k is. refl; bytes = bytes }
+
+-- places are somewhere
+pub anywhere : (old new : Disk) (places : Places) → Touches old new places → Touches old new Anywhere
+anywhere old new places touches = touches-wider old new places Anywhere (λ v k is. tt) touches
+
+pub anywhere_then : (old mid new : Disk) (places others : Places) → Touches old mid places → Touches mid new others → Touches old new Anywhere
+anywhere_then old mid new places others one other = touches-then old mid new Anywhere (anywhere old mid places one) (anywhere mid new others other)
 
 -- by reads alone nothing is changed
 pub read_still : (d0 d1 : Disk) → (Tells d0 → IsSettled d0.now) → OnlyReads d0 d1 → StaysRead d0 d1

@@ -3,7 +3,7 @@ use Rattle.std.specs.Prelude.{◌≡◌, ◌≢◌, ℕ, List, []}
 use Rattle.domain_base.specs.declared.place.Home.{Home}
 use Rattle.page_store.specs.Pages.{Pages}
 use Rattle.volume_disk.specs.Disk.{Disk, MayLeave, Tells, raised_at}
-use Rattle.volume_disk.specs.Image.{Image}
+use Rattle.volume_disk.specs.Image.{Image, Places}
 use Rattle.volume_disk.specs.Run.{LeavesOnly}
 use Rattle.disk_label.specs.Fault.{HasSlotCause}
 use Rattle.disk_label.specs.FirstPages.{anchors_page}
@@ -15,6 +15,10 @@ use Rattle.log_recovery.specs.Settled.{HasNumbersLeft}
 use Rattle.log_recovery.specs.declared.redone.Redone.{Redone}
 use Rattle.log_settling.specs.declared.fault.SettleFault.{SettleFault}
 use Rattle.log_settling.specs.declared.fault.SettleFault.TheVariants.{NoNumbers, Slot, Write}
+
+-- any place
+abbrev pub Anywhere : Places
+Anywhere v k = Unit {0}
 
 -- recovery takes an image, and its pages once redone, those of anchors aside, are these
 pub record ReadsAs (sizes : List ℕ) (pages : Pages) (image : Image) : Type 0 where

@@ -4,7 +4,8 @@ ghost use Rattle.log_recovery.specs.Outcome.{HasRecovered, IsSound};
 ghost use Rattle.log_recovery.specs.Settled.{settled_anchor};
 ghost use Rattle.log_ring.specs.Groups.{Group};
 ghost use Rattle.volume_disk.specs.Disk.{IsSettled, Tells};
-ghost use Rattle.log_settling.specs.Settling.{HasCause, IsBehindAll, StandsAtHome, StaysRead};
+ghost use Rattle.volume_disk.specs.Run.{Touches};
+ghost use Rattle.log_settling.specs.Settling.{Anywhere, HasCause, IsBehindAll, StandsAtHome, StaysRead};
 
 use crate::SettleFault;
 use disk_label::{Anchor, ready_slot};
@@ -29,6 +30,7 @@ pub fn settle_log<R: Rack>(rack: &mut R, redone: &Redone) -> Result<Anchor, Sett
     ensures behind { IfOk result (IsBehindAll (R.disk rack.new)) }
     ensures home { IfOk result (λ _. StandsAtHome (R.disk rack.old) (R.disk rack.new)) }
     ensures any_moment { StaysRead (R.disk rack.old) (R.disk rack.new) }
+    ensures touches { Touches (R.disk rack.old) (R.disk rack.new) Anywhere }
     ensures cause { IfErr result (HasCause (R.disk rack.old) (R.disk rack.new) redone.now) }
 {
     if !redone.has_numbers_left() {
