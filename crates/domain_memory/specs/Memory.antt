@@ -11,6 +11,7 @@ use Rattle.domain_layout.specs.Read.{contents_of}
 use Rattle.domain_standing.specs.Domain.{DomainNow}
 use Rattle.domain_standing.specs.Sources.{StandAlone}
 use Rattle.domain_standing.specs.Standing.{AreBooksOf, HaveParents, IsMarkedBut, StandsDomain}
+use Rattle.sound_laws.specs.Held.{IsSound}
 use Rattle.domain_parts.specs.Slots.{kept_book, kept_places, slot_in}
 use Rattle.domain_memory.specs.declared.memory.DomainMemory.{DomainMemory}
 use Rattle.domain_memory.specs.declared.memory.ReplacedSlot.{ReplacedSlot}
@@ -36,10 +37,12 @@ kept_in memory = record {
 abbrev pub books_in : DomainMemory → ℕ → Book
 books_in memory number = kept_book (slot_in memory.slots.items number)
 
--- memory is that of a domain with these filesets, in which no file is read through another one
+-- memory is that of a domain with these filesets, in which no file is read through another one, and
+-- which is as rules of pages ask beside
 pub record StandsFor (memory : DomainMemory) (all : FilesetMap) : Type 0 where
   pub stands : StandsDomain (kept_in memory) all
   pub alone : StandAlone (kept_in memory)
+  pub sound : IsSound (kept_in memory)
   pub parents : HaveParents (kept_in memory)
   pub marked : IsMarkedBut (kept_in memory)
   pub books : AreBooksOf (books_in memory) (kept_in memory) all

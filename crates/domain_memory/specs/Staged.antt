@@ -11,6 +11,7 @@ use Rattle.domain_layout.specs.Read.{contents_of}
 use Rattle.domain_standing.specs.Domain.{DomainNow}
 use Rattle.domain_standing.specs.Sources.{StandAlone}
 use Rattle.domain_standing.specs.Standing.{AreBooksOf, HaveParents, IsMarkedBut, StandsDomain}
+use Rattle.sound_laws.specs.Held.{IsSound}
 use Rattle.domain_parts.specs.Listing.{HaveOnce, list_with}
 use Rattle.domain_parts.specs.Slots.{CanGoBack, HasNumber, book_in, kept_book, kept_places, places_in, slot_in}
 use Rattle.domain_memory.specs.Memory.{with_was}
@@ -33,11 +34,12 @@ abbrev pub staged_books : DomainMemory → ℕ → Book
 staged_books memory number = book_in (slot_in memory.slots.items number)
 
 -- with the change, memory is that of a domain with these filesets, in which no file is read through
--- another one; bits of bitmaps still say what was used when it was last kept, and there is room on
--- the list for what comes on it
+-- another one, and which is as rules of pages ask beside; bits of bitmaps still say what was used
+-- when it was last kept, and there is room on the list for what comes on it
 pub record IsStaged (memory : DomainMemory) (all : FilesetMap) : Type 0 where
   pub stands : StandsDomain (staged_in memory) all
   pub alone : StandAlone (staged_in memory)
+  pub sound : IsSound (staged_in memory)
   pub marked : IsMarkedBut (record (staged_in memory) { space = kept_spaces memory.space })
   pub once : HaveOnce memory.list.list.entries
   pub room : length memory.listed.items ≤ memory.list.room
