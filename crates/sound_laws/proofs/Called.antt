@@ -1,5 +1,5 @@
 -- A domain is as rules ask beside after a call on a tag.
-use Rattle.std.proofs.Common.{◌≡◌, ◌∙◌, ◌==◌, ◌||◌, inl, ℕ, zero, suc, Bool, true, List, [], ◌∷◌, map, Some, IfSome, IsSomeAnd, Contains, refl, sym, ap, subst, arith, ⊎_elim}
+use Rattle.std.proofs.Common.{◌≡◌, ◌∙◌, ◌==◌, ◌||◌, ◌⊎◌, inl, ℕ, zero, suc, Bool, true, List, [], ◌∷◌, map, Some, IfSome, IsSomeAnd, Contains, refl, sym, ap, subst, arith, ⊎_elim}
 use Rattle.domain_base.specs.declared.place.CellAt.{CellAt}
 use Rattle.domain_base.specs.declared.place.Home.{Home}
 use Rattle.domain_base.specs.declared.place.Tag.{Tag}
@@ -42,7 +42,9 @@ use Rattle.standing_laws.proofs.TablesStand.{member_of_table, together_now, used
 use Rattle.standing_laws.proofs.TablesTaken.{page_stays}
 use Rattle.no_fault_laws.specs.Sound.{StandsSound}
 use Rattle.no_fault_laws.proofs.Ways.{at_of}
+use Rattle.sound_laws.specs.Held.{StandsSoundBut}
 use Rattle.sound_laws.proofs.Kept.{can_within}
+use Rattle.sound_laws.proofs.Parted.{NoFile, good_by, sound_but, sound_none}
 
 -- ---- a chain cell
 
@@ -83,7 +85,7 @@ record GoesOn (old new : FilesetNow) : Type 0 where
   cells : CellsGoOn old new after
   later : AreLater after
 
-module _ (number : ℕ) (tag : Tag) (d now : DomainNow) (chains chains_now : Chains) (files files_now : Files) (indexes : IndexesAt) (below : StandsBelow d files indexes) (sound : StandsSound d files indexes)
+module _ (number : ℕ) (tag : Tag) (d now : DomainNow) (chains chains_now : Chains) (files files_now : Files) (indexes : IndexesAt) (apart : CellAt → Type 0) (below : StandsBelow d files indexes) (sound : StandsSoundBut apart d files indexes)
     (s : LeadsOn number tag d now chains chains_now files files_now)
   where
     abbrev old : FilesetNow
@@ -220,7 +222,7 @@ module _ (number : ℕ) (tag : Tag) (d now : DomainNow) (chains chains_now : Cha
             (tags_back number d.frame.version tag old new s.well s.call d.table.made s.may home (subst (λ (m : ℕ). has_home (now.tags m) home ≡ true) same has))
 
         other : ¬ n ≡ number → IsWithin now.frame home
-        other apart = in_now home (sound.within home (of_tags n) (λ e. cc) (λ e. cc) (ap (λ (ps : List TagPlace). has_home ps home) (sym (s.tags n apart)) ∙ has))
+        other differ = in_now home (sound.within home (of_tags n) (λ e. cc) (λ e. cc) (ap (λ (ps : List TagPlace). has_home ps home) (sym (s.tags n differ)) ∙ has))
 
     within : (home : Home) (holder : Holder) → ¬ holder ≡ of_volume → ¬ holder ≡ of_log → Holds now files_now indexes holder home → IsWithin now.frame home
     within home of_volume no_volume no_log held = absurd (no_volume refl)
@@ -237,11 +239,15 @@ module _ (number : ℕ) (tag : Tag) (d now : DomainNow) (chains chains_now : Cha
         (λ can. taken home can)
         ((placed number d.frame.version tag old new s.well s.call d.table.made s.may).back at page home held)
 
-    good : (at : CellAt) (home : Home) → Contains (indexes at) home → IsSomeAnd (now.pages home) IsIndexPage
+    good : (at : CellAt) (home : Home) → Contains (indexes at) home → apart at ⊎ IsSomeAnd (now.pages home) IsIndexPage
     good at home among =
         let k = at_of (indexes at) home among in
-        subst (λ o. IsSomeAnd o IsIndexPage)
-        (sym (page_stays number tag d now chains chains_now files files_now indexes below s (of_index at k.0) home k.1 (λ e. cc) (λ e. cc))) (sound.good at home among)
+        good_by (apart at) (d.pages home) (now.pages home) (page_stays number tag d now chains chains_now files files_now indexes below s (of_index at k.0) home k.1 (λ e. cc) (λ e. cc)) (sound.good at home among)
 
-    pub sound_called : StandsSound now files_now indexes
-    sound_called = record { within = within; laters = laters; good = good }
+    pub but_called : StandsSoundBut apart now files_now indexes
+    but_called = record { within = within; laters = laters; good = good }
+
+pub sound_called : (number : ℕ) (tag : Tag) (d now : DomainNow) (chains chains_now : Chains) (files files_now : Files) (indexes : IndexesAt) → StandsBelow d files indexes → StandsSound d files indexes
+    → LeadsOn number tag d now chains chains_now files files_now → StandsSound now files_now indexes
+sound_called number tag d now chains chains_now files files_now indexes below sound s =
+    sound_none now files_now indexes (but_called number tag d now chains chains_now files files_now indexes NoFile below (sound_but d files indexes NoFile sound) s)

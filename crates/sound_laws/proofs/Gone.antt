@@ -1,5 +1,5 @@
 -- A domain is as rules ask beside where a file or directory is taken away with its index.
-use Rattle.std.proofs.Common.{◌≡◌, ◌∙◌, ⊎_elim, ℕ, Bool, true, false, cond, List, [], ◌∷◌, Option, Some, None, IsSomeAnd, Contains, slice_get, refl, sym, ap, subst, arith}
+use Rattle.std.proofs.Common.{◌≡◌, ◌∙◌, ◌⊎◌, ⊎_elim, ℕ, Bool, true, false, cond, List, [], ◌∷◌, Option, Some, None, IsSomeAnd, Contains, slice_get, refl, sym, ap, subst, arith}
 use Rattle.std.proofs.lemmas.Bool.{cases_Bool, true≢false}
 use Rattle.std.specs.Option.{option_and_then, option_map, option_map_or}
 use Rattle.domain_base.specs.declared.place.CellAt.{CellAt}
@@ -48,9 +48,11 @@ use Rattle.standing_laws.proofs.IndexSet.{IsChain, chain_at}
 use Rattle.standing_laws.proofs.IndexWas.{file_was, member_on, off_cells, off_first, there_was}
 use Rattle.no_fault_laws.specs.Sound.{StandsSound}
 use Rattle.no_fault_laws.proofs.Ways.{at_of, nothing}
+use Rattle.sound_laws.specs.Held.{StandsSoundBut}
 use Rattle.sound_laws.proofs.Indexed.{at_apart, same_start}
+use Rattle.sound_laws.proofs.Parted.{NoFile, good_by, sound_but, sound_none}
 
-module _ (d : DomainNow) (files : Files) (indexes : IndexesAt) (below : StandsBelow d files indexes) (sound : StandsSound d files indexes) (number : ℕ) (entry : FilesetEntry) (original : item_in d number ≡ Some (slot.Original entry)) (tag : Tag) (chains : Chains)
+module _ (d : DomainNow) (files : Files) (indexes : IndexesAt) (apart : CellAt → Type 0) (below : StandsBelow d files indexes) (sound : StandsSoundBut apart d files indexes) (number : ℕ) (entry : FilesetEntry) (original : item_in d number ≡ Some (slot.Original entry)) (tag : Tag) (chains : Chains)
     (well : StandsWell number (fileset_now d number chains files)) (first : PlacedCell) (rest : List PlacedCell) (is : chains tag ≡ Some (first ∷ rest)) (group : ℕ) (space : Spaces) (pages : Pages) (contents : Contents) (listed : Listing)
     (gives : GivesIndexBack group (d.tags number) (chains tag) (indexes first.at) d.space space d.pages pages)
   where
@@ -99,18 +101,18 @@ module _ (d : DomainNow) (files : Files) (indexes : IndexesAt) (below : StandsBe
         no_tags : has_home (d.tags number) home ≡ false
         no_tags = ⊎_elim (λ has. absurd (tags_apart (below.owned.once home (of_index at k) (of_tags number) held has))) (λ none. none) (cases_Bool (has_home (d.tags number) home))
 
-    good : (at : CellAt) (home : Home) → Contains (indexes_then at) home → IsSomeAnd (pages home) IsIndexPage
+    good : (at : CellAt) (home : Home) → Contains (indexes_then at) home → apart at ⊎ IsSomeAnd (pages home) IsIndexPage
     good at home inside = by_test (is_at at first.at) refl
       where
         none_in : ¬ Contains [] home
         none_in none = omega (arith, none.1)
 
-        by_test : (b : Bool) → is_at at first.at ≡ b → IsSomeAnd (pages home) IsIndexPage
+        by_test : (b : Bool) → is_at at first.at ≡ b → apart at ⊎ IsSomeAnd (pages home) IsIndexPage
         by_test true same = absurd (none_in (subst (λ hs. Contains hs home) (no_homes at same) inside))
         by_test false other =
             let was : Contains (indexes at) home = subst (λ hs. Contains hs home) (other_homes at other) inside in
             let k = at_of (indexes at) home was in
-            subst (λ o. IsSomeAnd o IsIndexPage) (sym (other_page at k.0 home other k.1)) (sound.good at home was)
+            good_by (apart at) (d.pages home) (pages home) (other_page at k.0 home other k.1) (sound.good at home was)
 
     index_within : (at : CellAt) (k : ℕ) (home : Home) → slice_get (indexes_then at) k ≡ Some home → IsWithin d.frame home
     index_within at k home held = by_test (is_at at first.at) refl
@@ -135,11 +137,11 @@ module _ (d : DomainNow) (files : Files) (indexes : IndexesAt) (below : StandsBe
               let e : Primary ≡ Chain = sym file.1.primary ∙ ap (λ (c : Cell). c.head.kind) it ∙ chain in absurd (cc)
 
           elsewhere : ¬ at ≡ first.at → is_chain_records cell.records ≡ true
-          elsewhere apart =
+          elsewhere differ =
               sound.laters at cell (record {
                 member = on.member;
                 table = on.table;
-                stands = record { bytes = on.stands.bytes; there = sym (cell_stays at on.table (at_apart first.at at (λ same. apart (sym same)))) ∙ on.stands.there; is = on.stands.is };
+                stands = record { bytes = on.stands.bytes; there = sym (cell_stays at on.table (at_apart first.at at (λ same. differ (sym same)))) ∙ on.stands.there; is = on.stands.is };
               }) chain
 
       places_same : (a : CellAt) (p : ℕ) → place_in files_then a p ≡ place_in files a p
@@ -147,7 +149,7 @@ module _ (d : DomainNow) (files : Files) (indexes : IndexesAt) (below : StandsBe
           (λ here.
           ap (λ (b : CellAt). place_in files_then b p) here ∙ place_by files_then first.at after p (file_there first.at (Some after) files) ∙ ap (λ rs. place_of rs p) (runs_kept says first rest maps)
           ∙ sym (place_by files first.at (first ∷ rest) p (there_was d files indexes below number entry original tag chains well first rest is)) ∙ sym (ap (λ (b : CellAt). place_in files b p) here))
-          (λ apart. ap (λ o. option_map_or (λ cs. places_of cs p) o Absent) (file_other first.at (Some after) files a apart))
+          (λ differ. ap (λ o. option_map_or (λ cs. places_of cs p) o Absent) (file_other first.at (Some after) files a differ))
           (same_or_not a first.at)
 
       within : (home : Home) (holder : Holder) → ¬ holder ≡ of_volume → ¬ holder ≡ of_log → Holds now files_then indexes_then holder home → IsWithin d.frame home
@@ -159,13 +161,13 @@ module _ (d : DomainNow) (files : Files) (indexes : IndexesAt) (below : StandsBe
       within home (of_index at k) no_volume no_log held = index_within at k home held
       within home (of_file at page) no_volume no_log held = sound.within home (of_file at page) no_volume no_log (sym (places_same at page) ∙ held)
 
-      gone_so : StandsSound now files_then indexes_then
+      gone_so : StandsSoundBut apart now files_then indexes_then
       gone_so = record { within = within; laters = laters; good = good }
 
     -- ---- by what the first cell said
 
     abbrev Going : Option (List PlacedCell) → Type 0
-    Going o = StandsSound now (with_file first.at (option_map (with_first says_removed) o) files) indexes_then
+    Going o = StandsSoundBut apart now (with_file first.at (option_map (with_first says_removed) o) files) indexes_then
 
     old_file : AreFile d.pages first rest
     old_file = file_was d files indexes below number entry original tag chains well first rest is
@@ -188,18 +190,25 @@ module _ (d : DomainNow) (files : Files) (indexes : IndexesAt) (below : StandsBe
     pub gone_sound : IsSomeAnd (without_index tag chains tag) (λ cells. IsFile pages first.at (with_first says_removed cells)) → Going (without_index tag chains tag)
     gone_sound pending = goes_by (option_and_then index_of (chains tag)) pending
 
-module _ (number : ℕ) (tag : Tag) (d now : DomainNow) (chains : Chains) (files : Files) (indexes : IndexesAt) (group : ℕ) (below : StandsBelow d files indexes) (sound : StandsSound d files indexes) (same : KeepsTables d now) (listed : Listing) where
+module _ (number : ℕ) (tag : Tag) (d now : DomainNow) (chains : Chains) (files : Files) (indexes : IndexesAt) (apart : CellAt → Type 0) (group : ℕ) (below : StandsBelow d files indexes) (sound : StandsSoundBut apart d files indexes) (same : KeepsTables d now) (listed : Listing) where
   abbrev GoesAt : CellAt → Type 0
   GoesAt a = Removes number (d.tags number) tag a (without_index tag chains) now.pages → GivesIndexBack group (d.tags number) (chains tag) (indexes a) d.space now.space d.pages now.pages
-      → StandsSound (record now { list = listed }) (with_removed a tag chains files) (with_index_at a [] indexes)
+      → StandsSoundBut apart (record now { list = listed }) (with_removed a tag chains files) (with_index_at a [] indexes)
 
   goes_first : (first : PlacedCell) (rest : List PlacedCell) → chains tag ≡ Some (first ∷ rest) → NamesFile number tag first.at d chains files → GoesAt first.at
   goes_first first rest is names removes gives =
-      subst (λ (x : DomainNow). StandsSound (record x { list = listed }) (with_removed first.at tag chains files) (with_index_at first.at [] indexes)) (sym same)
-      (gone_sound d files indexes below sound number names.entry names.original tag chains names.well first rest is group now.space now.pages now.contents listed gives removes.pending)
+      subst (λ (x : DomainNow). StandsSoundBut apart (record x { list = listed }) (with_removed first.at tag chains files) (with_index_at first.at [] indexes)) (sym same)
+      (gone_sound d files indexes apart below sound number names.entry names.original tag chains names.well first rest is group now.space now.pages now.contents listed gives removes.pending)
 
-  pub sound_gone : (start : CellAt) → NamesFile number tag start d chains files → GoesAt start
-  sound_gone start names = by_start (chain_at chains tag start names.begins)
+  pub but_gone : (start : CellAt) → NamesFile number tag start d chains files → GoesAt start
+  but_gone start names = by_start (chain_at chains tag start names.begins)
     where
       by_start : IsChain chains tag start → GoesAt start
       by_start c = subst GoesAt c.at (goes_first c.first c.rest c.is (subst (λ (a : CellAt). NamesFile number tag a d chains files) (sym c.at) names))
+
+pub sound_gone : (number : ℕ) (tag : Tag) (d now : DomainNow) (chains : Chains) (files : Files) (indexes : IndexesAt) (group : ℕ) → StandsBelow d files indexes → StandsSound d files indexes → KeepsTables d now → (listed : Listing)
+    → (start : CellAt) → NamesFile number tag start d chains files → Removes number (d.tags number) tag start (without_index tag chains) now.pages
+    → GivesIndexBack group (d.tags number) (chains tag) (indexes start) d.space now.space d.pages now.pages → StandsSound (record now { list = listed }) (with_removed start tag chains files) (with_index_at start [] indexes)
+sound_gone number tag d now chains files indexes group below sound same listed start names removes gives =
+    sound_none (record now { list = listed }) (with_removed start tag chains files) (with_index_at start [] indexes)
+    (but_gone number tag d now chains files indexes NoFile group below (sound_but d files indexes NoFile sound) same listed start names removes gives)

@@ -27,14 +27,19 @@ use Rattle.standing_laws.specs.NewFileset.{JoinsEmpty}
 use Rattle.standing_laws.specs.OtherPages.{KeepsPlaces, KeepsWhere}
 use Rattle.standing_laws.proofs.TablesTaken.{unheld_taken}
 use Rattle.no_fault_laws.specs.Sound.{StandsSound}
-use Rattle.sound_laws.proofs.Kept.{can_within, sound_kept}
+use Rattle.sound_laws.specs.Held.{StandsSoundBut}
+use Rattle.sound_laws.proofs.Kept.{but_kept, can_within, sound_kept}
+use Rattle.sound_laws.proofs.Parted.{NoFile, sound_but, sound_none}
 
-pub sound_elsewhere : (d now : DomainNow) (files : Files) (indexes : IndexesAt) → StandsSound d files indexes → KeepsPlaces d now → KeepsWhere d now files indexes → StandsSound now files indexes
-sound_elsewhere d now files indexes sound same keeps =
-    sound_kept d now files indexes sound (ap (λ (x : DomainNow). x.frame) same) (λ vol. ap (λ (x : DomainNow). table_of x.cells vol) same)
+pub but_elsewhere : (d now : DomainNow) (files : Files) (indexes : IndexesAt) (apart : CellAt → Type 0) → StandsSoundBut apart d files indexes → KeepsPlaces d now → KeepsWhere d now files indexes → StandsSoundBut apart now files indexes
+but_elsewhere d now files indexes apart sound same keeps =
+    but_kept d now files indexes apart sound (ap (λ (x : DomainNow). x.frame) same) (λ vol. ap (λ (x : DomainNow). table_of x.cells vol) same)
     (λ n home has. inl (subst (λ (x : DomainNow). has_home (x.tags n) home ≡ true) same has))
     (λ home held. keeps home of_cells held (λ e. cc) (λ e. cc) (λ at page e. cc))
     (λ at k home held. keeps home (of_index at k) held (λ e. cc) (λ e. cc) (λ a page e. cc))
+
+pub sound_elsewhere : (d now : DomainNow) (files : Files) (indexes : IndexesAt) → StandsSound d files indexes → KeepsPlaces d now → KeepsWhere d now files indexes → StandsSound now files indexes
+sound_elsewhere d now files indexes sound same keeps = sound_none now files indexes (but_elsewhere d now files indexes NoFile (sound_but d files indexes NoFile sound) same keeps)
 
 -- the table's page alone changes
 module _ (d now : DomainNow) (files : Files) (indexes : IndexesAt) (below : StandsBelow d files indexes) (sound : StandsSound d files indexes)

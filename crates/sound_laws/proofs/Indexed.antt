@@ -1,5 +1,5 @@
 -- A domain is as rules ask beside where a page of an index is written or put in.
-use Rattle.std.proofs.Common.{◌≡◌, ◌∙◌, ⊎_elim, ℕ, zero, suc, ◌≤◌, Bool, true, false, cond, List, [], ◌∷◌, Option, Some, IfSome, IsSomeAnd, Contains, slice_get, refl, sym, ap, subst, arith}
+use Rattle.std.proofs.Common.{◌≡◌, ◌∙◌, ◌⊎◌, inl, inr, ⊎_elim, ℕ, zero, suc, ◌≤◌, Bool, true, false, cond, List, [], ◌∷◌, Option, Some, IfSome, IsSomeAnd, Contains, slice_get, refl, sym, ap, subst, arith}
 use Rattle.std.proofs.lemmas.Bool.{false_from_ne_true, true≢false}
 use Rattle.std.specs.List.{AllByRecursion, insert}
 use Rattle.std.specs.Option.{option_and_then, option_map, option_map_or}
@@ -55,7 +55,9 @@ use Rattle.standing_laws.proofs.IndexWas.{begins_low, file_was, member_on, off_c
 use Rattle.standing_laws.proofs.TablesTaken.{unheld_taken}
 use Rattle.no_fault_laws.specs.Sound.{StandsSound}
 use Rattle.no_fault_laws.proofs.Ways.{at_of, contains_of}
+use Rattle.sound_laws.specs.Held.{StandsSoundBut}
 use Rattle.sound_laws.proofs.Kept.{can_within}
+use Rattle.sound_laws.proofs.Parted.{NoFile, good_by, sound_but, sound_none}
 use Rattle.sound_laws.proofs.Shown.{all_entry, all_insert, good_shown, one_good, shown_good}
 
 pub same_start : (a b : CellAt) (j k : ℕ) → of_index a j ≡ of_index b k → a ≡ b
@@ -66,7 +68,7 @@ at_apart a b apart = false_from_ne_true (is_at a b) (λ same. apart (at_same a b
 
 -- ---- the first cell of a file says its index anew, and pages of that are others
 
-module _ (d : DomainNow) (files : Files) (indexes : IndexesAt) (below : StandsBelow d files indexes) (sound : StandsSound d files indexes) (number : ℕ) (entry : FilesetEntry) (original : item_in d number ≡ Some (slot.Original entry)) (tag : Tag) (chains : Chains)
+module _ (d : DomainNow) (files : Files) (indexes : IndexesAt) (apart : CellAt → Type 0) (below : StandsBelow d files indexes) (sound : StandsSoundBut apart d files indexes) (number : ℕ) (entry : FilesetEntry) (original : item_in d number ≡ Some (slot.Original entry)) (tag : Tag) (chains : Chains)
     (well : StandsWell number (fileset_now d number chains files)) (first : PlacedCell) (rest : List PlacedCell) (is : chains tag ≡ Some (first ∷ rest)) (between : Spaces) (said : Pages) (says : SaysIndex number (d.tags number) between d.cells tag chains d.pages said)
   where
     abbrev says_it : Cell → Cell
@@ -88,12 +90,12 @@ module _ (d : DomainNow) (files : Files) (indexes : IndexesAt) (below : StandsBe
     pub said_same : (home : Home) → ¬ Contains (table_of d.cells home.vol) home.page → said home ≡ d.pages home
     said_same home off = changes.1 home (off_first d files indexes below number entry original tag chains well first rest is home off)
 
-    pub its_said : (home : Home) → Contains (indexes first.at) home → IsSomeAnd (said home) IsIndexPage
-    its_said home inside =
-        subst (λ o. IsSomeAnd o IsIndexPage) (sym (said_same home (off_cells d files indexes below number entry original tag chains well first rest is home inside))) (sound.good first.at home inside)
+    pub its_said : ((home : Home) → Contains (indexes first.at) home → IsSomeAnd (d.pages home) IsIndexPage) → (home : Home) → Contains (indexes first.at) home → IsSomeAnd (said home) IsIndexPage
+    its_said good home inside =
+        subst (λ o. IsSomeAnd o IsIndexPage) (sym (said_same home (off_cells d files indexes below number entry original tag chains well first rest is home inside))) (good home inside)
 
     module _ (pages : Pages) (comes : Home → Type 0) (fresh : (home : Home) → comes home → IsUnheld d files indexes home) (homes : List Home) (others : (home : Home) → ¬ Contains (indexes first.at) home → ¬ comes home → pages home ≡ said home)
-        (good : (home : Home) → Contains homes home → IsWithin d.frame home × IsSomeAnd (pages home) IsIndexPage) (space : Spaces) (contents : Contents)
+        (inside_frame : (home : Home) → Contains homes home → IsWithin d.frame home) (good : (home : Home) → Contains homes home → apart first.at ⊎ IsSomeAnd (pages home) IsIndexPage) (space : Spaces) (contents : Contents)
       where
         abbrev now : DomainNow
         now = record d { pages = pages; contents = contents; space = space }
@@ -121,8 +123,8 @@ module _ (d : DomainNow) (files : Files) (indexes : IndexesAt) (below : StandsBe
                 let e : Primary ≡ Chain = sym file_said.primary ∙ ap (λ (c : Cell). c.head.kind) it ∙ chain in absurd (cc)
 
             elsewhere : ¬ at ≡ first.at → is_chain_records cell.records ≡ true
-            elsewhere apart =
-                let stays : cell_at pages at ≡ cell_at d.pages at = ap (λ (o : Option (List ℕ)). cell_at (λ _. o) at) (on_table (home_of at) on.table) ∙ changes.0 at (at_apart first.at at (λ same. apart (sym same))) in
+            elsewhere differ =
+                let stays : cell_at pages at ≡ cell_at d.pages at = ap (λ (o : Option (List ℕ)). cell_at (λ _. o) at) (on_table (home_of at) on.table) ∙ changes.0 at (at_apart first.at at (λ same. differ (sym same))) in
                 sound.laters at cell (record { member = on.member; table = on.table; stands = record { bytes = on.stands.bytes; there = sym stays ∙ on.stands.there; is = on.stands.is } }) chain
 
         places_same : (a : CellAt) (p : ℕ) → place_in files_then a p ≡ place_in files a p
@@ -131,7 +133,7 @@ module _ (d : DomainNow) (files : Files) (indexes : IndexesAt) (below : StandsBe
             ap (λ (b : CellAt). place_in files_then b p) here ∙ place_by files_then first.at after p (file_there first.at (Some after) files)
             ∙ ap (λ rs. place_of rs p) (runs_kept says_it first rest (index_beside d.pages first rest (file_was d files indexes below number entry original tag chains well first rest is) (Some says.index)).maps)
             ∙ sym (place_by files first.at (first ∷ rest) p (there_was d files indexes below number entry original tag chains well first rest is)) ∙ sym (ap (λ (b : CellAt). place_in files b p) here))
-            (λ apart. ap (λ o. option_map_or (λ cs. places_of cs p) o Absent) (file_other first.at (Some after) files a apart))
+            (λ differ. ap (λ o. option_map_or (λ cs. places_of cs p) o Absent) (file_other first.at (Some after) files a differ))
             (same_or_not a first.at)
 
         -- ---- indexes
@@ -157,21 +159,21 @@ module _ (d : DomainNow) (files : Files) (indexes : IndexesAt) (below : StandsBe
             off : ¬ Contains (table_of d.cells home.vol) home.page
             off on = cells_apart (below.owned.once home (of_index at k) of_cells held (member_on d files indexes below number entry original tag chains well first rest is home.vol home.page on, on))
 
-        good_then : (at : CellAt) (home : Home) → Contains (indexes_then at) home → IsSomeAnd (pages home) IsIndexPage
+        good_then : (at : CellAt) (home : Home) → Contains (indexes_then at) home → apart at ⊎ IsSomeAnd (pages home) IsIndexPage
         good_then at home inside = by_test (is_at at first.at) refl
           where
-            by_test : (b : Bool) → is_at at first.at ≡ b → IsSomeAnd (pages home) IsIndexPage
-            by_test true same = (good home (subst (λ hs. Contains hs home) (its_homes at same) inside)).1
+            by_test : (b : Bool) → is_at at first.at ≡ b → apart at ⊎ IsSomeAnd (pages home) IsIndexPage
+            by_test true same = subst (λ (a : CellAt). apart a ⊎ IsSomeAnd (pages home) IsIndexPage) (sym (at_same at first.at same)) (good home (subst (λ hs. Contains hs home) (its_homes at same) inside))
             by_test false other =
                 let was : Contains (indexes at) home = subst (λ hs. Contains hs home) (other_homes at other) inside in
                 let k = at_of (indexes at) home was in
-                subst (λ o. IsSomeAnd o IsIndexPage) (sym (other_page at k.0 home other k.1)) (sound.good at home was)
+                good_by (apart at) (d.pages home) (pages home) (other_page at k.0 home other k.1) (sound.good at home was)
 
         index_within : (at : CellAt) (k : ℕ) (home : Home) → slice_get (indexes_then at) k ≡ Some home → IsWithin d.frame home
         index_within at k home held = by_test (is_at at first.at) refl
           where
             by_test : (b : Bool) → is_at at first.at ≡ b → IsWithin d.frame home
-            by_test true same = (good home (contains_of homes k home (subst (λ hs. slice_get hs k ≡ Some home) (its_homes at same) held))).0
+            by_test true same = inside_frame home (contains_of homes k home (subst (λ hs. slice_get hs k ≡ Some home) (its_homes at same) held))
             by_test false other = sound.within home (of_index at k) (λ e. cc) (λ e. cc) (subst (λ hs. slice_get hs k ≡ Some home) (other_homes at other) held)
 
         within : (home : Home) (holder : Holder) → ¬ holder ≡ of_volume → ¬ holder ≡ of_log → Holds now files_then indexes_then holder home → IsWithin d.frame home
@@ -183,35 +185,42 @@ module _ (d : DomainNow) (files : Files) (indexes : IndexesAt) (below : StandsBe
         within home (of_index at k) no_volume no_log held = index_within at k home held
         within home (of_file at page) no_volume no_log held = sound.within home (of_file at page) no_volume no_log (sym (places_same at page) ∙ held)
 
-        pub said_sound : StandsSound now files_then indexes_then
+        pub said_sound : StandsSoundBut apart now files_then indexes_then
         said_sound = record { within = within; laters = laters; good = good_then }
+
+-- a page of the index is well formed, and so were all of them; or that index is left out
+abbrev pub IsGoodOr : (apart : CellAt → Type 0) → DomainNow → IndexesAt → CellAt → List ℕ → Type 0
+IsGoodOr apart d indexes start bytes = apart start ⊎ (IsIndexPage bytes × ((home : Home) → Contains (indexes start) home → IsSomeAnd (d.pages home) IsIndexPage))
 
 -- ---- a page is written in place
 
-module _ (number : ℕ) (tag : Tag) (d now : DomainNow) (chains : Chains) (files : Files) (indexes : IndexesAt) (page : ℕ) (bytes : List ℕ) (below : StandsBelow d files indexes) (sound : StandsSound d files indexes) (same : KeepsTables d now)
-    (well_formed : IsIndexPage bytes)
+module _ (number : ℕ) (tag : Tag) (d now : DomainNow) (chains : Chains) (files : Files) (indexes : IndexesAt) (apart : CellAt → Type 0) (page : ℕ) (bytes : List ℕ) (below : StandsBelow d files indexes) (sound : StandsSoundBut apart d files indexes) (same : KeepsTables d now)
   where
     module _ (first : PlacedCell) (rest : List PlacedCell) (is : chains tag ≡ Some (first ∷ rest)) (names : NamesFile number tag first.at d chains files)
-        (writes : WritesIndexPage number (d.tags number) d.space d.cells tag page bytes chains (indexes first.at) d.pages now.pages)
+        (well_formed : IsGoodOr apart d indexes first.at bytes) (writes : WritesIndexPage number (d.tags number) d.space d.cells tag page bytes chains (indexes first.at) d.pages now.pages)
       where
         abbrev says_one : Cell → Cell
         says_one = says_index (Some writes.says.index)
 
-        good_one : (home : Home) → Contains (indexes first.at) home → IsWithin d.frame home × IsSomeAnd (now.pages home) IsIndexPage
-        good_one home inside =
-            let k = at_of (indexes first.at) home inside in (
-              sound.within home (of_index first.at k.0) (λ e. cc) (λ e. cc) k.1,
-              good_shown now.pages (Some writes.says.index.first) (indexes first.at) writes.puts.are
-                  (subst (AllByRecursion IsIndexPage) (sym writes.puts.shown)
-                  (all_entry IsIndexPage (shown_at writes.said (indexes first.at)) page (shown_index bytes)
-                  (shown_good writes.said (indexes first.at) (its_said d files indexes below sound number names.entry names.original tag chains names.well first rest is d.space writes.said writes.says))
-                  (one_good bytes well_formed))) home inside,
-            )
+        within_one : (home : Home) → Contains (indexes first.at) home → IsWithin d.frame home
+        within_one home inside = let k = at_of (indexes first.at) home inside in sound.within home (of_index first.at k.0) (λ e. cc) (λ e. cc) k.1
 
-        stands_one : StandsSound (record d { pages = now.pages; contents = now.contents; space = now.space }) (with_file first.at (Some (with_first says_one (first ∷ rest))) files) (with_index_at first.at (indexes first.at) indexes)
+        good_one : (home : Home) → Contains (indexes first.at) home → apart first.at ⊎ IsSomeAnd (now.pages home) IsIndexPage
+        good_one home inside = ⊎_elim
+            (λ out. inl out)
+            (λ is_good.
+            inr (good_shown now.pages (Some writes.says.index.first) (indexes first.at) writes.puts.are
+            (subst (AllByRecursion IsIndexPage) (sym writes.puts.shown)
+            (all_entry IsIndexPage (shown_at writes.said (indexes first.at)) page (shown_index bytes)
+            (shown_good writes.said (indexes first.at)
+            (its_said d files indexes apart below sound number names.entry names.original tag chains names.well first rest is d.space writes.said writes.says is_good.1))
+            (one_good bytes is_good.0))) home inside))
+            well_formed
+
+        stands_one : StandsSoundBut apart (record d { pages = now.pages; contents = now.contents; space = now.space }) (with_file first.at (Some (with_first says_one (first ∷ rest))) files) (with_index_at first.at (indexes first.at) indexes)
         stands_one =
-            said_sound d files indexes below sound number names.entry names.original tag chains names.well first rest is d.space writes.said writes.says now.pages (λ home. ⊥) (λ home none. absurd none) (indexes first.at)
-            (λ home none no_come. writes.puts.others home (λ at. none (get_in (indexes first.at) page home at))) good_one now.space now.contents
+            said_sound d files indexes apart below sound number names.entry names.original tag chains names.well first rest is d.space writes.said writes.says now.pages (λ home. ⊥) (λ home none. absurd none) (indexes first.at)
+            (λ home none no_come. writes.puts.others home (λ at. none (get_in (indexes first.at) page home at))) within_one good_one now.space now.contents
 
         same_indexes : with_index_at first.at (indexes first.at) indexes ≡ indexes
         same_indexes = λ i at. by_test at (is_at at first.at) refl i
@@ -220,22 +229,30 @@ module _ (number : ℕ) (tag : Tag) (d now : DomainNow) (chains : Chains) (files
             by_test at true here = ap (λ (b : Bool). cond b (indexes first.at) (indexes at)) here ∙ ap indexes (sym (at_same at first.at here))
             by_test at false other = ap (λ (b : Bool). cond b (indexes first.at) (indexes at)) other
 
-        written_first : StandsSound now (with_said first.at says_one files) indexes
+        written_first : StandsSoundBut apart now (with_said first.at says_one files) indexes
         written_first =
-            subst (λ (x : DomainNow). StandsSound x (with_said first.at says_one files) indexes) (sym same)
-            (subst (StandsSound (record d { pages = now.pages; contents = now.contents; space = now.space }) (with_said first.at says_one files)) same_indexes
-            (subst (λ o. StandsSound (record d { pages = now.pages; contents = now.contents; space = now.space }) (with_file first.at (option_map (with_first says_one) o) files) (with_index_at first.at (indexes first.at) indexes))
+            subst (λ (x : DomainNow). StandsSoundBut apart x (with_said first.at says_one files) indexes) (sym same)
+            (subst (StandsSoundBut apart (record d { pages = now.pages; contents = now.contents; space = now.space }) (with_said first.at says_one files)) same_indexes
+            (subst (λ o. StandsSoundBut apart (record d { pages = now.pages; contents = now.contents; space = now.space }) (with_file first.at (option_map (with_first says_one) o) files) (with_index_at first.at (indexes first.at) indexes))
             (sym (there_was d files indexes below number names.entry names.original tag chains names.well first rest is)) stands_one))
 
-    pub sound_written : (start : CellAt) → NamesFile number tag start d chains files → (writes : WritesIndexPage number (d.tags number) d.space d.cells tag page bytes chains (indexes start) d.pages now.pages)
-        → StandsSound now (with_said start (says_index (Some writes.says.index)) files) indexes
-    sound_written start names = by_start (chain_at chains tag start names.begins)
+    pub but_written : (start : CellAt) → NamesFile number tag start d chains files → IsGoodOr apart d indexes start bytes
+        → (writes : WritesIndexPage number (d.tags number) d.space d.cells tag page bytes chains (indexes start) d.pages now.pages) → StandsSoundBut apart now (with_said start (says_index (Some writes.says.index)) files) indexes
+    but_written start names well_formed = by_start (chain_at chains tag start names.begins)
       where
         by_start : IsChain chains tag start → (writes : WritesIndexPage number (d.tags number) d.space d.cells tag page bytes chains (indexes start) d.pages now.pages)
-            → StandsSound now (with_said start (says_index (Some writes.says.index)) files) indexes
+            → StandsSoundBut apart now (with_said start (says_index (Some writes.says.index)) files) indexes
         by_start c = subst
-            (λ (a : CellAt). (writes : WritesIndexPage number (d.tags number) d.space d.cells tag page bytes chains (indexes a) d.pages now.pages) → StandsSound now (with_said a (says_index (Some writes.says.index)) files) indexes)
-            c.at (written_first c.first c.rest c.is (subst (λ (a : CellAt). NamesFile number tag a d chains files) (sym c.at) names))
+            (λ (a : CellAt). (writes : WritesIndexPage number (d.tags number) d.space d.cells tag page bytes chains (indexes a) d.pages now.pages)
+            → StandsSoundBut apart now (with_said a (says_index (Some writes.says.index)) files) indexes)
+            c.at (written_first c.first c.rest c.is (subst (λ (a : CellAt). NamesFile number tag a d chains files) (sym c.at) names) (subst (λ (a : CellAt). IsGoodOr apart d indexes a bytes) (sym c.at) well_formed))
+
+pub sound_written : (number : ℕ) (tag : Tag) (d now : DomainNow) (chains : Chains) (files : Files) (indexes : IndexesAt) (page : ℕ) (bytes : List ℕ) → StandsBelow d files indexes → StandsSound d files indexes → KeepsTables d now → IsIndexPage bytes
+    → (start : CellAt) → NamesFile number tag start d chains files → (writes : WritesIndexPage number (d.tags number) d.space d.cells tag page bytes chains (indexes start) d.pages now.pages)
+    → StandsSound now (with_said start (says_index (Some writes.says.index)) files) indexes
+sound_written number tag d now chains files indexes page bytes below sound same good start names writes =
+    sound_none now (with_said start (says_index (Some writes.says.index)) files) indexes
+    (but_written number tag d now chains files indexes NoFile page bytes below (sound_but d files indexes NoFile sound) same start names (inr (good, sound.good start)) writes)
 
 -- ---- a page is put in
 
@@ -245,11 +262,10 @@ in_more [] (suc place) onto = (zero, omega arith, refl)
 in_more (x ∷ homes) zero onto = (zero, omega arith, refl)
 in_more (x ∷ homes) (suc place) onto = let later = in_more homes place onto in (suc later.0, omega (arith, later.1), later.2)
 
-module _ (number : ℕ) (tag : Tag) (d now : DomainNow) (chains : Chains) (files : Files) (indexes : IndexesAt) (place prefer : ℕ) (bytes : List ℕ) (below : StandsBelow d files indexes) (sound : StandsSound d files indexes) (same : KeepsTables d now)
-    (well_formed : IsIndexPage bytes)
+module _ (number : ℕ) (tag : Tag) (d now : DomainNow) (chains : Chains) (files : Files) (indexes : IndexesAt) (apart : CellAt → Type 0) (place prefer : ℕ) (bytes : List ℕ) (below : StandsBelow d files indexes) (sound : StandsSoundBut apart d files indexes) (same : KeepsTables d now)
   where
     module _ (first : PlacedCell) (rest : List PlacedCell) (is : chains tag ≡ Some (first ∷ rest)) (names : NamesFile number tag first.at d chains files)
-        (adds : AddsIndexPage number (d.tags number) d.cells tag place bytes prefer chains (indexes first.at) d.space now.space d.pages now.pages)
+        (well_formed : IsGoodOr apart d indexes first.at bytes) (adds : AddsIndexPage number (d.tags number) d.cells tag place bytes prefer chains (indexes first.at) d.space now.space d.pages now.pages)
       where
         abbrev says_more : Cell → Cell
         says_more = says_index (Some adds.says.index)
@@ -263,40 +279,54 @@ module _ (number : ℕ) (tag : Tag) (d now : DomainNow) (chains : Chains) (files
         low : 1 ≤ adds.home.vol
         low = low_from now.pages (Some adds.says.index.first) more adds.inserts.are
             (subst (λ o. IfSome o (λ (h : Home). 1 ≤ h.vol)) begins_more
-            (begins_low adds.said (record { at = first.at; cell = says_more first.cell }) rest (file_said d files indexes below sound number names.entry names.original tag chains names.well first rest is now.space adds.said adds.says)))
+            (begins_low adds.said (record { at = first.at; cell = says_more first.cell }) rest (file_said d files indexes apart below sound number names.entry names.original tag chains names.well first rest is now.space adds.said adds.says)))
             adds.home (in_more (indexes first.at) place adds.home)
 
-        good_more : (home : Home) → Contains more home → IsWithin d.frame home × IsSomeAnd (now.pages home) IsIndexPage
-        good_more home inside = (
-          ⊎_elim (λ here. subst (IsWithin d.frame) here (can_within d files indexes below.owned adds.home (low, adds.free)))
-              (λ was. let k = at_of (indexes first.at) home was in sound.within home (of_index first.at k.0) (λ e. cc) (λ e. cc) k.1)
-              (in_inserted (indexes first.at) place adds.home home inside),
-          good_shown now.pages (Some adds.says.index.first) more adds.inserts.are
-              (subst (AllByRecursion IsIndexPage) (sym adds.inserts.shown)
-              (all_insert IsIndexPage (shown_at adds.said (indexes first.at)) place (shown_index bytes)
-              (shown_good adds.said (indexes first.at) (its_said d files indexes below sound number names.entry names.original tag chains names.well first rest is now.space adds.said adds.says))
-              (one_good bytes well_formed))) home inside,
-        )
+        within_more : (home : Home) → Contains more home → IsWithin d.frame home
+        within_more home inside = ⊎_elim
+            (λ here. subst (IsWithin d.frame) here (can_within d files indexes below.owned adds.home (low, adds.free)))
+            (λ was. let k = at_of (indexes first.at) home was in sound.within home (of_index first.at k.0) (λ e. cc) (λ e. cc) k.1)
+            (in_inserted (indexes first.at) place adds.home home inside)
 
-        stands_more : StandsSound (record d { pages = now.pages; contents = now.contents; space = now.space }) (with_file first.at (Some (with_first says_more (first ∷ rest))) files) (with_index_at first.at more indexes)
+        good_more : (home : Home) → Contains more home → apart first.at ⊎ IsSomeAnd (now.pages home) IsIndexPage
+        good_more home inside = ⊎_elim
+            (λ out. inl out)
+            (λ is_good.
+            inr (good_shown now.pages (Some adds.says.index.first) more adds.inserts.are
+            (subst (AllByRecursion IsIndexPage) (sym adds.inserts.shown)
+            (all_insert IsIndexPage (shown_at adds.said (indexes first.at)) place (shown_index bytes)
+            (shown_good adds.said (indexes first.at)
+            (its_said d files indexes apart below sound number names.entry names.original tag chains names.well first rest is now.space adds.said adds.says is_good.1))
+            (one_good bytes is_good.0))) home inside))
+            well_formed
+
+        stands_more : StandsSoundBut apart (record d { pages = now.pages; contents = now.contents; space = now.space }) (with_file first.at (Some (with_first says_more (first ∷ rest))) files) (with_index_at first.at more indexes)
         stands_more =
-            said_sound d files indexes below sound number names.entry names.original tag chains names.well first rest is now.space adds.said adds.says now.pages (λ home. home ≡ adds.home)
+            said_sound d files indexes apart below sound number names.entry names.original tag chains names.well first rest is now.space adds.said adds.says now.pages (λ home. home ≡ adds.home)
             (λ home here. subst (IsUnheld d files indexes) (sym here) (unheld_taken d files indexes below.owned adds.home low adds.free)) more
-            (λ home none no_come. adds.inserts.others home none (false_from_ne_true (same_home home adds.home) (λ here. no_come (homes_same home adds.home here)))) good_more now.space now.contents
+            (λ home none no_come. adds.inserts.others home none (false_from_ne_true (same_home home adds.home) (λ here. no_come (homes_same home adds.home here)))) within_more good_more now.space now.contents
 
-        added_first : StandsSound now (with_said first.at says_more files) (with_index_at first.at more indexes)
+        added_first : StandsSoundBut apart now (with_said first.at says_more files) (with_index_at first.at more indexes)
         added_first =
-            subst (λ (x : DomainNow). StandsSound x (with_said first.at says_more files) (with_index_at first.at more indexes)) (sym same)
-            (subst (λ o. StandsSound (record d { pages = now.pages; contents = now.contents; space = now.space }) (with_file first.at (option_map (with_first says_more) o) files) (with_index_at first.at more indexes))
+            subst (λ (x : DomainNow). StandsSoundBut apart x (with_said first.at says_more files) (with_index_at first.at more indexes)) (sym same)
+            (subst (λ o. StandsSoundBut apart (record d { pages = now.pages; contents = now.contents; space = now.space }) (with_file first.at (option_map (with_first says_more) o) files) (with_index_at first.at more indexes))
             (sym (there_was d files indexes below number names.entry names.original tag chains names.well first rest is)) stands_more)
 
-    pub sound_added : (start : CellAt) → NamesFile number tag start d chains files → (adds : AddsIndexPage number (d.tags number) d.cells tag place bytes prefer chains (indexes start) d.space now.space d.pages now.pages)
-        → StandsSound now (with_said start (says_index (Some adds.says.index)) files) (with_index_at start (insert (indexes start) place adds.home) indexes)
-    sound_added start names = by_start (chain_at chains tag start names.begins)
+    pub but_added : (start : CellAt) → NamesFile number tag start d chains files → IsGoodOr apart d indexes start bytes
+        → (adds : AddsIndexPage number (d.tags number) d.cells tag place bytes prefer chains (indexes start) d.space now.space d.pages now.pages)
+        → StandsSoundBut apart now (with_said start (says_index (Some adds.says.index)) files) (with_index_at start (insert (indexes start) place adds.home) indexes)
+    but_added start names well_formed = by_start (chain_at chains tag start names.begins)
       where
         by_start : IsChain chains tag start → (adds : AddsIndexPage number (d.tags number) d.cells tag place bytes prefer chains (indexes start) d.space now.space d.pages now.pages)
-            → StandsSound now (with_said start (says_index (Some adds.says.index)) files) (with_index_at start (insert (indexes start) place adds.home) indexes)
+            → StandsSoundBut apart now (with_said start (says_index (Some adds.says.index)) files) (with_index_at start (insert (indexes start) place adds.home) indexes)
         by_start c = subst
             (λ (a : CellAt). (adds : AddsIndexPage number (d.tags number) d.cells tag place bytes prefer chains (indexes a) d.space now.space d.pages now.pages)
-            → StandsSound now (with_said a (says_index (Some adds.says.index)) files) (with_index_at a (insert (indexes a) place adds.home) indexes))
-            c.at (added_first c.first c.rest c.is (subst (λ (a : CellAt). NamesFile number tag a d chains files) (sym c.at) names))
+            → StandsSoundBut apart now (with_said a (says_index (Some adds.says.index)) files) (with_index_at a (insert (indexes a) place adds.home) indexes))
+            c.at (added_first c.first c.rest c.is (subst (λ (a : CellAt). NamesFile number tag a d chains files) (sym c.at) names) (subst (λ (a : CellAt). IsGoodOr apart d indexes a bytes) (sym c.at) well_formed))
+
+pub sound_added : (number : ℕ) (tag : Tag) (d now : DomainNow) (chains : Chains) (files : Files) (indexes : IndexesAt) (place prefer : ℕ) (bytes : List ℕ) → StandsBelow d files indexes → StandsSound d files indexes → KeepsTables d now → IsIndexPage bytes
+    → (start : CellAt) → NamesFile number tag start d chains files → (adds : AddsIndexPage number (d.tags number) d.cells tag place bytes prefer chains (indexes start) d.space now.space d.pages now.pages)
+    → StandsSound now (with_said start (says_index (Some adds.says.index)) files) (with_index_at start (insert (indexes start) place adds.home) indexes)
+sound_added number tag d now chains files indexes place prefer bytes below sound same good start names adds =
+    sound_none now (with_said start (says_index (Some adds.says.index)) files) (with_index_at start (insert (indexes start) place adds.home) indexes)
+    (but_added number tag d now chains files indexes NoFile place prefer bytes below (sound_but d files indexes NoFile sound) same start names (inr (good, sound.good start)) adds)

@@ -23,6 +23,8 @@ use Rattle.domain_standing.specs.Holders.Holder.{of_cells, of_file, of_index, of
 use Rattle.standing_laws.proofs.HeldHolders.{MayTake}
 use Rattle.no_fault_laws.specs.Sound.{StandsSound}
 use Rattle.no_fault_laws.proofs.Ways.{at_of}
+use Rattle.sound_laws.specs.Held.{StandsSoundBut}
+use Rattle.sound_laws.proofs.Parted.{NoFile, good_by, sound_but, sound_none}
 
 -- a page that may be taken is one of a member's
 pub can_within : (d : DomainNow) (files : Files) (indexes : IndexesAt) → HoldsOwned d files indexes → (home : Home) → MayTake d.space home → IsWithin d.frame home
@@ -32,7 +34,7 @@ can_within d files indexes owned home can = by_volume (volume_of d.space home.vo
     by_volume None at free = absurd free
     by_volume (Some space) at free = (at.0, subst (λ n. home.page < n) at.1.count free.1.within)
 
-module _ (d now : DomainNow) (files : Files) (indexes : IndexesAt) (sound : StandsSound d files indexes) (frame : now.frame ≡ d.frame) (tables : (vol : ℕ) → table_of now.cells vol ≡ table_of d.cells vol)
+module _ (d now : DomainNow) (files : Files) (indexes : IndexesAt) (apart : CellAt → Type 0) (sound : StandsSoundBut apart d files indexes) (frame : now.frame ≡ d.frame) (tables : (vol : ℕ) → table_of now.cells vol ≡ table_of d.cells vol)
     (tags : (n : ℕ) (home : Home) → has_home (now.tags n) home ≡ true → (has_home (d.tags n) home ≡ true) ⊎ IsWithin d.frame home)
     (on_cells : (home : Home) → Holds d files indexes of_cells home → now.pages home ≡ d.pages home)
     (on_index : (at : CellAt) (k : ℕ) (home : Home) → Holds d files indexes (of_index at k) home → now.pages home ≡ d.pages home)
@@ -61,10 +63,17 @@ module _ (d now : DomainNow) (files : Files) (indexes : IndexesAt) (sound : Stan
         let table = table_was at.vol at.page on.table in
         sound.laters at cell (record { member = member; table = table; stands = stands_by_page now.pages d.pages at cell (sym (on_cells (home_of at) (member, table))) on.stands }) kind
 
-    good : (at : CellAt) (home : Home) → Contains (indexes at) home → IsSomeAnd (now.pages home) IsIndexPage
+    good : (at : CellAt) (home : Home) → Contains (indexes at) home → apart at ⊎ IsSomeAnd (now.pages home) IsIndexPage
     good at home among =
         let k = at_of (indexes at) home among in
-        subst (λ o. IsSomeAnd o IsIndexPage) (sym (on_index at k.0 home k.1)) (sound.good at home among)
+        good_by (apart at) (d.pages home) (now.pages home) (on_index at k.0 home k.1) (sound.good at home among)
 
-    pub sound_kept : StandsSound now files indexes
-    sound_kept = record { within = within; laters = laters; good = good }
+    pub but_kept : StandsSoundBut apart now files indexes
+    but_kept = record { within = within; laters = laters; good = good }
+
+pub sound_kept : (d now : DomainNow) (files : Files) (indexes : IndexesAt) → StandsSound d files indexes → now.frame ≡ d.frame → ((vol : ℕ) → table_of now.cells vol ≡ table_of d.cells vol)
+    → ((n : ℕ) (home : Home) → has_home (now.tags n) home ≡ true → (has_home (d.tags n) home ≡ true) ⊎ IsWithin d.frame home)
+    → ((home : Home) → Holds d files indexes of_cells home → now.pages home ≡ d.pages home)
+    → ((at : CellAt) (k : ℕ) (home : Home) → Holds d files indexes (of_index at k) home → now.pages home ≡ d.pages home) → StandsSound now files indexes
+sound_kept d now files indexes sound frame tables tags on_cells on_index =
+    sound_none now files indexes (but_kept d now files indexes NoFile (sound_but d files indexes NoFile sound) frame tables tags on_cells on_index)

@@ -1,3 +1,4 @@
+pub mod Parted
 pub mod Kept
 pub mod InPlace
 pub mod Called

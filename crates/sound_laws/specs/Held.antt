@@ -1,7 +1,17 @@
 -- A domain that is as rules of pages ask beside that it stands.
+use Rattle.std.specs.Prelude.{◌≡◌, ◌⊎◌, true, Contains, IsSomeAnd}
+use Rattle.domain_base.specs.declared.place.CellAt.{CellAt}
+use Rattle.domain_base.specs.declared.place.Home.{Home}
+use Rattle.bmt_mcells.specs.Cell.{Cell}
+use Rattle.bmt_mcells.specs.declared.head.CellKind.TheVariants.{Chain}
+use Rattle.dir_index.specs.Index.{IsIndexPage}
 use Rattle.deferred_delete.specs.Standing.{Files}
+use Rattle.domain_layout.specs.CellRules.{is_chain_records}
+use Rattle.domain_layout.specs.Owners.{IsOnTable}
+use Rattle.domain_layout.specs.Reached.{IsWithin}
 use Rattle.domain_standing.specs.Chains.{IndexesAt}
-use Rattle.domain_standing.specs.Domain.{DomainNow}
+use Rattle.domain_standing.specs.Domain.{DomainNow, layout_of}
+use Rattle.domain_standing.specs.Holders.{Holder, Holds}
 use Rattle.standing_laws.specs.Leads.{StandsBelow}
 use Rattle.no_fault_laws.specs.Sound.{StandsSound}
 
@@ -11,3 +21,14 @@ pub record IsSound (d : DomainNow) : Type 0 where
   pub indexes : IndexesAt
   pub below : StandsBelow d files indexes
   pub sound : StandsSound d files indexes
+
+-- so it is, but of files that begin at some cells it is not asked that their indexes have pages that
+-- are well formed
+pub record StandsSoundBut (apart : CellAt → Type 0) (d : DomainNow) (files : Files)
+    (indexes : IndexesAt) : Type 0 where
+  pub within : (home : Home) (holder : Holder) → ¬ holder ≡ Holder.of_volume
+      → ¬ holder ≡ Holder.of_log → Holds d files indexes holder home → IsWithin d.frame home
+  pub laters : (at : CellAt) (cell : Cell) → IsOnTable d.pages (layout_of d) at cell
+      → cell.head.kind ≡ Chain → is_chain_records cell.records ≡ true
+  pub good : (at : CellAt) (home : Home) → Contains (indexes at) home
+      → apart at ⊎ IsSomeAnd (d.pages home) IsIndexPage
