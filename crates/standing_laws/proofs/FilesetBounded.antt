@@ -189,7 +189,7 @@ module _ (number : ℕ) (entry : FilesetEntry) (limits : Limits) (d now : Domain
   it_stands : StandsBelow it files indexes
   it_stands = below_on d files indexes below now.pages now.contents keeps table_now names_the_same says_now
 
-  after : StandsBelow now files indexes
+  pub after : StandsBelow now files indexes
   after = subst (λ (x : DomainNow). StandsBelow x files indexes) it_is it_stands
 
   slot_page : (n : ℕ) (home : Home) → IsPageOfSlot n d files indexes home → now.pages home ≡ d.pages home
