@@ -24,7 +24,7 @@ use Rattle.domain_layout.specs.DirectoryRules.{AreRowsTo, RowPlace}
 use Rattle.layout_laws.proofs.OnePage.{some_same}
 use Rattle.domain_standing.specs.Domain.{DomainNow, item_in}
 use Rattle.domain_standing.specs.Standing.{StandsDomain}
-use Rattle.no_fault_laws.specs.Sound.{StandsSound}
+use Rattle.standing_laws.specs.Sound.{StandsSound}
 use Rattle.no_fault_laws.proofs.Originals.{IsOriginalSlot, is_role}
 use Rattle.no_fault_laws.proofs.RowPaths.{IsDirRow, PathRow, dir_row, in_it, its_path, last_parted, leads_number, number_leads, one_path, pages_are, path_row, row_dir, row_on, same_row}
 use Rattle.filesets_reading.proofs.Ways.{get_map}

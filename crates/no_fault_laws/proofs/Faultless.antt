@@ -1,6 +1,5 @@
 -- Where a domain stands and its pages have no fault, pages that it holds are those of members, and chain cells and pages of indexes are well formed.
-use Rattle.std.proofs.Common.{◌≡◌, ◌∙◌, inl, inr, ℕ, zero, suc, true, List, [], ◌∷◌, ◌++◌, length, Option, Some, None, IsSomeAnd, Contains, slice_get, refl, sym, ap, subst, arith, ⊎_elim}
-use Rattle.std.proofs.lemmas.Bool.{cases_Bool}
+use Rattle.std.proofs.Common.{◌≡◌, ◌∙◌, inl, inr, ℕ, zero, suc, List, [], ◌∷◌, ◌++◌, length, Option, Some, None, IsSomeAnd, Contains, slice_get, refl, sym, ap, subst, arith}
 use Rattle.std.specs.Option.{option_and_then}
 use Rattle.domain_base.specs.declared.place.CellAt.{CellAt}
 use Rattle.domain_base.specs.declared.place.Home.{Home}
@@ -9,7 +8,6 @@ use Rattle.record_table.specs.declared.record.Record.{Record}
 use Rattle.bmt_mcells.specs.Cell.{Cell, record_of}
 use Rattle.bmt_mcells.specs.CellPage.{home_of}
 use Rattle.bmt_mcells.specs.Chain.{PlacedCell}
-use Rattle.bmt_mcells.specs.declared.head.CellKind.TheVariants.{Chain}
 use Rattle.tag_dirs.specs.TagPage.{next_of}
 use Rattle.bitfile_core.specs.Shown.{index_in, index_of}
 use Rattle.dir_index.specs.Index.{IsIndexPage as IsGoodPage}
@@ -17,20 +15,19 @@ use Rattle.stored_index.specs.Homes.{AreIndexHomes, IsIndexPage}
 use Rattle.attaching_laws.proofs.Showing.{good_by}
 use Rattle.fileset_model.specs.Filesets.{FilesetMap}
 use Rattle.domain_layout.proofs.NoTables.{none_of_tables}
-use Rattle.domain_layout.specs.CellRules.{is_chain_records}
 use Rattle.domain_layout.specs.DirectoryRules.{HasIndexAt}
 use Rattle.domain_layout.specs.Faults.{HasNoFault, HasNoTablesFault}
 use Rattle.domain_layout.specs.Owners.{IsOnTable}
 use Rattle.domain_layout.specs.Reached.{Frame, IsRead, IsUnread, IsWithin, Reaches, Way, begins, goes_on, index_way}
 use Rattle.filesets_reading.proofs.Ways.{pushed}
-use Rattle.layout_laws.proofs.Named.{no_cell}
 use Rattle.layout_laws.proofs.OnePage.{some_same}
-use Rattle.layout_laws.proofs.OwnedOnce.{cell_place, index_read, no_extent, no_index, tag_place, used_on}
+use Rattle.layout_laws.proofs.OwnedOnce.{index_read, no_extent, no_index, tag_place, used_on}
 use Rattle.layout_laws.proofs.Reached.{is_read, may_be_by}
 use Rattle.domain_standing.specs.Domain.{DomainNow, layout_of}
 use Rattle.domain_standing.specs.Holders.{Holder, Holds}
 use Rattle.domain_standing.specs.Standing.{StandsDomain}
-use Rattle.no_fault_laws.specs.Sound.{StandsSound}
+use Rattle.standing_laws.specs.Sound.{IsSound, StandsSound}
+use Rattle.standing_laws.proofs.SoundTables.{faultless_cells, faultless_laters}
 use Rattle.no_fault_laws.proofs.InChains.{chain_is}
 use Rattle.no_fault_laws.proofs.OfIndexes.{index_first, index_leads, on_it}
 use Rattle.no_fault_laws.proofs.Said.{said_by, tags_owned}
@@ -58,14 +55,6 @@ none_there pages (h ∷ hs) home are among = are
 module _ (d : DomainNow) (all : FilesetMap) (stands : StandsDomain d all) (no_fault : HasNoFault d.pages d.frame) where
   tables : HasNoTablesFault d.pages d.frame
   tables = none_of_tables d.pages d.frame no_fault
-
-  -- ---- chain cells
-
-  laters : (at : CellAt) (cell : Cell) → IsOnTable d.pages (layout_of d) at cell → cell.head.kind ≡ Chain → is_chain_records cell.records ≡ true
-  laters at cell on kind = ⊎_elim (λ right. right)
-      (λ wrong. absurd (no_cell d.pages (layout_of d) stands.tables.laid tables at
-      (inr (inr (inl (record { cell = cell; used = used_on d.pages (layout_of d) stands.tables.laid tables at cell on; wrong = inl (kind, wrong) }))))))
-      (cases_Bool (is_chain_records cell.records))
 
   -- ---- pages of indexes
 
@@ -122,7 +111,7 @@ module _ (d : DomainNow) (all : FilesetMap) (stands : StandsDomain d all) (no_fa
   within home Holder.of_volume no_volume no_log held = absurd (no_volume refl)
   within home Holder.of_log no_volume no_log held = absurd (no_log refl)
   within home Holder.of_table no_volume no_log held = (stands.tables.may home held).0
-  within home Holder.of_cells no_volume no_log held = (cell_place d.pages (layout_of d) stands.tables.laid tables home held.0 held.1).is.read.may.0
+  within home Holder.of_cells no_volume no_log held = faultless_cells d stands.tables.laid no_fault home held.0 held.1
   within home (Holder.of_tags number) no_volume no_log held = (tag_place d.pages (layout_of d) stands.tables.laid tables number home (tags_owned d all stands number home held)).is.read.may.0
   within home (Holder.of_index at k) no_volume no_log held = (index_good at home (contains_of (stands.indexes at) k home held)).0
   within home (Holder.of_file start page) no_volume no_log held =
@@ -131,4 +120,13 @@ module _ (d : DomainNow) (all : FilesetMap) (stands : StandsDomain d all) (no_fa
       (said.at, refl, record { page = page; home = home; has = said.extent; wrong = inl wrong }))).0
 
   pub faultless : StandsSound d stands.files stands.indexes
-  faultless = record { within = within; laters = laters; good = λ at home among. (index_good at home among).1 }
+  faultless = record { within = within; laters = faultless_laters d stands.tables.laid no_fault; good = λ at home among. (index_good at home among).1 }
+
+-- so it is with the files and indexes with which it stands
+pub faultless_sound : (d : DomainNow) (all : FilesetMap) → StandsDomain d all → HasNoFault d.pages d.frame → IsSound d
+faultless_sound d all stands none = record {
+  files = stands.files;
+  indexes = stands.indexes;
+  below = record { tables = stands.tables; chains = stands.chains; owned = stands.owned; rest = stands.rest };
+  sound = faultless d all stands none;
+}

@@ -16,7 +16,7 @@ use Rattle.domain_layout.specs.PageRules.{IsBitmapFault}
 use Rattle.domain_standing.specs.Domain.{DomainNow, layout_of}
 use Rattle.domain_standing.specs.Holders.{AreHeldAt, IsUnheld}
 use Rattle.domain_standing.specs.Standing.{IsMarkedBut, StandsDomain}
-use Rattle.no_fault_laws.specs.Sound.{StandsSound}
+use Rattle.standing_laws.specs.Sound.{StandsSound}
 use Rattle.no_fault_laws.proofs.OneLayout.{bitmap_here}
 use Rattle.no_fault_laws.proofs.Owners.{held_for, owned_as}
 

@@ -33,7 +33,7 @@ use Rattle.domain_standing.specs.Domain.{DomainNow, layout_of}
 use Rattle.domain_standing.specs.Rest.{HasNoHoles}
 use Rattle.domain_standing.specs.Standing.{StandsDomain}
 use Rattle.domain_standing.specs.Tables.{first_place}
-use Rattle.no_fault_laws.specs.Sound.{StandsSound}
+use Rattle.standing_laws.specs.Sound.{StandsSound}
 use Rattle.no_fault_laws.proofs.Following.{FollowsIn, IsHead, NextIn, comes_to, follows_in, head_is, next_in, next_there, not_passed}
 use Rattle.no_fault_laws.proofs.InChains.{BeginsFile, all_get, begins_file, chain_is, distinct_at, in_some_chain, is_found, leads_next, may_next, no_volume, of_quotas, one_chain}
 use Rattle.no_fault_laws.proofs.Named.{names_chain}

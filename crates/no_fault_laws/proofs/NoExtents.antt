@@ -15,7 +15,7 @@ use Rattle.layout_laws.proofs.OnePage.{some_same}
 use Rattle.domain_standing.specs.Domain.{DomainNow, layout_of}
 use Rattle.domain_standing.specs.Holders.{Holder, Holds}
 use Rattle.domain_standing.specs.Standing.{StandsDomain}
-use Rattle.no_fault_laws.specs.Sound.{StandsSound}
+use Rattle.standing_laws.specs.Sound.{StandsSound}
 use Rattle.no_fault_laws.proofs.OnTables.{may_be}
 use Rattle.no_fault_laws.proofs.OneLayout.{extent_here}
 use Rattle.no_fault_laws.proofs.Owners.{SaysPage, index_held, says_page}

@@ -7,7 +7,7 @@ use Rattle.domain_layout.specs.Faults.{FaultRow, HasNoFault, IsFilesFault, IsTab
 use Rattle.domain_layout.specs.TagRules.{IsTagsFault}
 use Rattle.domain_standing.specs.Domain.{DomainNow}
 use Rattle.domain_standing.specs.Standing.{HaveParents, IsMarkedBut, StandsDomain}
-use Rattle.no_fault_laws.specs.Sound.{StandsSound}
+use Rattle.standing_laws.specs.Sound.{StandsSound}
 use Rattle.no_fault_laws.proofs.NoBitmaps.{no_bitmaps}
 use Rattle.no_fault_laws.proofs.NoCells.{no_cells}
 use Rattle.no_fault_laws.proofs.NoExtents.{no_extents}

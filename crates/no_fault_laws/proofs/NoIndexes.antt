@@ -31,7 +31,7 @@ use Rattle.filesets_reading.proofs.Ways.{get_map}
 use Rattle.domain_standing.specs.Domain.{DomainNow}
 use Rattle.domain_standing.specs.Holders.{Holder}
 use Rattle.domain_standing.specs.Standing.{StandsDomain}
-use Rattle.no_fault_laws.specs.Sound.{StandsSound}
+use Rattle.standing_laws.specs.Sound.{StandsSound}
 use Rattle.no_fault_laws.proofs.InChains.{all_get}
 use Rattle.no_fault_laws.proofs.OfIndexes.{good_at, homes_are, index_is_way, index_named}
 use Rattle.no_fault_laws.proofs.OnTables.{on_table_of}

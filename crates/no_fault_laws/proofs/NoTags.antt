@@ -31,7 +31,7 @@ use Rattle.domain_standing.specs.Chains.{AreQuotasOf, IsQuotaOf}
 use Rattle.domain_standing.specs.Domain.{DomainNow, item_in, layout_of}
 use Rattle.domain_standing.specs.Holders.{Holder}
 use Rattle.domain_standing.specs.Standing.{StandsDomain}
-use Rattle.no_fault_laws.specs.Sound.{StandsSound}
+use Rattle.standing_laws.specs.Sound.{StandsSound}
 use Rattle.no_fault_laws.proofs.Following.{IsHead, head_is}
 use Rattle.no_fault_laws.proofs.InChains.{BeginsFile, begins_file, chain_is, in_some_chain}
 use Rattle.no_fault_laws.proofs.Named.{NamesChain, names_chain}

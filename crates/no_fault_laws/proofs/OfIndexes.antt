@@ -26,7 +26,7 @@ use Rattle.layout_laws.proofs.OwnedOnce.{on_a_volume}
 use Rattle.domain_standing.specs.Domain.{DomainNow, layout_of}
 use Rattle.domain_standing.specs.Holders.{Holder}
 use Rattle.domain_standing.specs.Standing.{StandsDomain}
-use Rattle.no_fault_laws.specs.Sound.{StandsSound}
+use Rattle.standing_laws.specs.Sound.{StandsSound}
 use Rattle.no_fault_laws.proofs.InChains.{BeginsFile, begins_file, first_says, in_some_chain, is_found, no_volume}
 use Rattle.no_fault_laws.proofs.NoCells.{limits_of}
 use Rattle.no_fault_laws.proofs.OnTables.{may_be}

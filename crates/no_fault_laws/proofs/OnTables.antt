@@ -28,7 +28,7 @@ use Rattle.domain_standing.specs.Domain.{DomainNow, layout_of}
 use Rattle.domain_standing.specs.Holders.{Holder, Holds}
 use Rattle.domain_standing.specs.Standing.{StandsDomain}
 use Rattle.attached_list.proofs.OnTables.{HasPlaceOf, some_kind, used_or_zeros}
-use Rattle.no_fault_laws.specs.Sound.{StandsSound}
+use Rattle.standing_laws.specs.Sound.{StandsSound}
 use Rattle.no_fault_laws.proofs.Ways.{AreWay, IsOnWay, at_of, contains_of, is_read, map_at, nothing}
 
 -- ---- addresses

@@ -15,7 +15,7 @@ use Rattle.domain_layout.specs.Reached.{IsWithin}
 use Rattle.domain_standing.specs.Domain.{DomainNow, layout_of}
 use Rattle.domain_standing.specs.Holders.{Holder, Holds}
 use Rattle.domain_standing.specs.Standing.{StandsDomain}
-use Rattle.no_fault_laws.specs.Sound.{StandsSound}
+use Rattle.standing_laws.specs.Sound.{StandsSound}
 use Rattle.no_fault_laws.proofs.InChains.{chain_is}
 use Rattle.no_fault_laws.proofs.OfIndexes.{homes_are, index_named}
 use Rattle.no_fault_laws.proofs.Owners.{says_page}

@@ -22,7 +22,7 @@ use Rattle.domain_layout.specs.Reached.{index_way}
 use Rattle.domain_standing.specs.Domain.{DomainNow, layout_of}
 use Rattle.domain_standing.specs.Holders.{Holder, Holds}
 use Rattle.domain_standing.specs.Standing.{StandsDomain}
-use Rattle.no_fault_laws.specs.Sound.{StandsSound}
+use Rattle.standing_laws.specs.Sound.{StandsSound}
 use Rattle.no_fault_laws.proofs.InChains.{Found, chain_is, first_says, is_found, kind_at}
 use Rattle.no_fault_laws.proofs.NoCells.{in_all, limits_of}
 use Rattle.no_fault_laws.proofs.OfIndexes.{NamesIndex, index_is_way, index_named}

@@ -29,7 +29,7 @@ use Rattle.domain_layout.specs.DirectoryRules.RowsLead.{one as leads_one, more a
 use Rattle.layout_laws.proofs.OnePage.{some_same}
 use Rattle.domain_standing.specs.Domain.{DomainNow, item_in}
 use Rattle.domain_standing.specs.Standing.{StandsDomain}
-use Rattle.no_fault_laws.specs.Sound.{StandsSound}
+use Rattle.standing_laws.specs.Sound.{StandsSound}
 use Rattle.no_fault_laws.proofs.InChains.{all_get}
 use Rattle.no_fault_laws.proofs.Originals.{IsOriginalSlot, is_role}
 use Rattle.no_fault_laws.proofs.RowPlaces.{in_place, one_place, place_in}

@@ -27,7 +27,7 @@ use Rattle.layout_laws.proofs.OnePage.{one_of, some_same}
 use Rattle.domain_standing.specs.Domain.{DomainNow, item_in}
 use Rattle.domain_standing.specs.Holders.{Holder}
 use Rattle.domain_standing.specs.Standing.{StandsDomain}
-use Rattle.no_fault_laws.specs.Sound.{StandsSound}
+use Rattle.standing_laws.specs.Sound.{StandsSound}
 use Rattle.no_fault_laws.proofs.Originals.{IsOriginalSlot}
 use Rattle.no_fault_laws.proofs.Shown.{AtHome, IsShown, at_home, is_shown, original_shown, page_is}
 use Rattle.no_fault_laws.proofs.Ways.{nothing}

@@ -25,7 +25,7 @@ use Rattle.filesets_reading.proofs.Ways.{get_map}
 use Rattle.domain_standing.specs.Domain.{DomainNow, item_in, named_by}
 use Rattle.domain_standing.specs.Holders.{Holder}
 use Rattle.domain_standing.specs.Standing.{StandsDomain}
-use Rattle.no_fault_laws.specs.Sound.{StandsSound}
+use Rattle.standing_laws.specs.Sound.{StandsSound}
 use Rattle.no_fault_laws.proofs.OnTables.{may_be}
 use Rattle.no_fault_laws.proofs.Ways.{AreWay, IsOnWay, is_read, map_at, nothing, read_at}
 

@@ -7,7 +7,7 @@ ghost use Rattle.domain_layout.specs.Owners.{frame_of};
 ghost use Rattle.domain_layout.specs.PageRules.{IsBitmapFault, IsExtentFault};
 ghost use Rattle.domain_standing.specs.Domain.{DomainNow};
 ghost use Rattle.domain_standing.specs.Standing.{IsMarkedBut, StandsDomain};
-ghost use Rattle.no_fault_laws.specs.Sound.{StandsSound};
+ghost use Rattle.standing_laws.specs.Sound.{StandsSound};
 
 /// Where a domain stands, each page that a cell says of a file stands where it may, and is that of
 /// no other owner, and of no other page.

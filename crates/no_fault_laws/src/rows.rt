@@ -4,7 +4,7 @@ ghost use Rattle.fileset_model.specs.Filesets.{FilesetMap};
 ghost use Rattle.domain_layout.specs.DirectoryRules.{IsDirectoryFault, IsIndexFault};
 ghost use Rattle.domain_standing.specs.Domain.{DomainNow};
 ghost use Rattle.domain_standing.specs.Standing.{HaveParents, StandsDomain};
-ghost use Rattle.no_fault_laws.specs.Sound.{StandsSound};
+ghost use Rattle.standing_laws.specs.Sound.{StandsSound};
 
 /// Where a domain stands, each index is one of a directory of more pages than one, whose entries
 /// are those of its rows, and as many as it says.

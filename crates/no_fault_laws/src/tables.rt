@@ -8,7 +8,7 @@ ghost use Rattle.domain_layout.specs.TagRules.{IsTagsFault};
 ghost use Rattle.domain_standing.specs.Domain.{DomainNow};
 ghost use Rattle.domain_standing.specs.Standing.{StandsDomain};
 ghost use Rattle.domain_standing.specs.Tables.{StandTables};
-ghost use Rattle.no_fault_laws.specs.Sound.{StandsSound};
+ghost use Rattle.standing_laws.specs.Sound.{StandsSound};
 
 /// Where a domain stands, the page of its fileset table says one, and stands where it may.
 pub fn no_table_fault()

@@ -3,7 +3,7 @@ ghost use Rattle.fileset_model.specs.Filesets.{FilesetMap};
 ghost use Rattle.domain_layout.specs.Faults.{HasNoFault};
 ghost use Rattle.domain_standing.specs.Domain.{DomainNow};
 ghost use Rattle.domain_standing.specs.Standing.{HaveParents, IsMarkedBut, StandsDomain};
-ghost use Rattle.no_fault_laws.specs.Sound.{StandsSound};
+ghost use Rattle.standing_laws.specs.Sound.{StandsSound};
 
 /// A domain that stands, in which each directory says the one in which its row stands, and of which
 /// the bits of bitmaps are kept, breaks no rule of pages: there is no fault in them.

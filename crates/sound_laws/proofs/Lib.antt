@@ -1,10 +1,2 @@
-pub mod Parted
-pub mod Kept
-pub mod InPlace
-pub mod Called
-pub mod Limited
-pub mod Shown
-pub mod Indexed
-pub mod Gone
 pub mod Started
 pub mod WholeDomain

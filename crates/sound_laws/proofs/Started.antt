@@ -5,7 +5,7 @@ use Rattle.layout_laws.proofs.NewDomain.{no_fault}
 use Rattle.domain_standing.specs.Domain.{DomainNow}
 use Rattle.domain_standing.specs.Standing.{StandsDomain}
 use Rattle.attached_list.specs.Attached.{IsReadFrom}
-use Rattle.no_fault_laws.specs.Sound.{StandsSound}
+use Rattle.standing_laws.specs.Sound.{StandsSound}
 use Rattle.no_fault_laws.proofs.Faultless.{faultless}
 
 pub sound_new : (d : DomainNow) (all : FilesetMap) (stands : StandsDomain d all) → IsNew d.pages d.frame → StandsSound d stands.files stands.indexes

@@ -6,7 +6,7 @@ ghost use Rattle.deferred_delete.specs.Standing.{Files};
 ghost use Rattle.domain_standing.specs.Chains.{IndexesAt};
 ghost use Rattle.domain_standing.specs.Domain.{DomainNow};
 ghost use Rattle.standing_laws.specs.Leads.{LeadsOn, StandsBelow};
-ghost use Rattle.no_fault_laws.specs.Sound.{StandsSound};
+ghost use Rattle.standing_laws.specs.Sound.{StandsSound};
 
 /// A page that a file, a table of cells or a tag directory gets by a call on a file is one of a
 /// member's, a cell that joins the file says one record of extents, and pages of indexes stay.

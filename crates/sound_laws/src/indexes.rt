@@ -13,7 +13,7 @@ ghost use Rattle.domain_standing.specs.Chains.{IndexesAt};
 ghost use Rattle.domain_standing.specs.Domain.{DomainNow};
 ghost use Rattle.standing_laws.specs.IndexCalls.{KeepsTables, NamesFile, with_index_at, with_removed, with_said};
 ghost use Rattle.standing_laws.specs.Leads.{StandsBelow};
-ghost use Rattle.no_fault_laws.specs.Sound.{StandsSound};
+ghost use Rattle.standing_laws.specs.Sound.{StandsSound};
 
 /// A page that is well formed is put in place of one of a directory's index.
 pub fn soundness_stays_where_an_index_page_is_written()

@@ -13,7 +13,7 @@ ghost use Rattle.standing_laws.specs.GoingFileset.{BeginsToGo};
 ghost use Rattle.standing_laws.specs.Leads.{StandsBelow};
 ghost use Rattle.standing_laws.specs.NewFileset.{JoinsEmpty};
 ghost use Rattle.standing_laws.specs.OtherPages.{KeepsPlaces, KeepsWhere};
-ghost use Rattle.no_fault_laws.specs.Sound.{StandsSound};
+ghost use Rattle.standing_laws.specs.Sound.{StandsSound};
 
 /// Pages of files and of bitmaps change, and those that are held for nothing.
 pub fn soundness_stays_where_other_pages_change()

@@ -3,7 +3,7 @@ ghost use Rattle.fileset_model.specs.Filesets.{FilesetMap};
 ghost use Rattle.domain_layout.specs.Faults.{HasNoFault};
 ghost use Rattle.domain_standing.specs.Domain.{DomainNow};
 ghost use Rattle.domain_standing.specs.Standing.{HaveParents, IsMarkedBut, StandsDomain};
-ghost use Rattle.sound_laws.specs.Held.{IsSound};
+ghost use Rattle.standing_laws.specs.Sound.{IsSound};
 
 /// A domain that stands for filesets and is so, in which directories say their parents and the bits
 /// of bitmaps are kept, has no fault.

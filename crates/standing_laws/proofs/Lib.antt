@@ -60,3 +60,12 @@ pub mod QuotaFilesets
 pub mod QuotaAlone
 pub mod QuotaBeside
 pub mod QuotaDomain
+pub mod SoundParted
+pub mod SoundKept
+pub mod SoundInPlace
+pub mod SoundCalled
+pub mod SoundLimited
+pub mod SoundShown
+pub mod SoundIndexed
+pub mod SoundGone
+pub mod SoundTables

@@ -39,6 +39,7 @@ use Rattle.domain_standing.specs.Rest.{IsOfOriginal, SaysTheRest}
 use Rattle.domain_standing.specs.Slots.{StandSlots}
 use Rattle.domain_standing.specs.Standing.{StandsDomain}
 use Rattle.domain_standing.specs.Tables.{HasVolumeCell, StandTables}
+use Rattle.standing_laws.specs.Leads.{StandsBelow}
 
 if_there : {X : Type 0} (P Q : X → Type 0) → ((x : X) → P x → Q x) → (o : Option X) → IfSome o P → IfSome o Q
 if_there P Q goes None is = tt
@@ -280,6 +281,14 @@ module _ (d : DomainNow) (t : Spaces) (e : Cells) (space : (vol : ℕ) → volum
     filled = is.filled;
     sets = λ number entry shape item named. set_still d.space t d.cells e space tables marks free d.pages number (d.tags number) shape.shown (is.sets number entry shape item named);
     no_clone = is.no_clone;
+  }
+
+  pub below_kept : (files : Files) (indexes : IndexesAt) → StandsBelow d files indexes → StandsBelow now files indexes
+  below_kept files indexes is = record {
+    tables = tables_kept is.tables;
+    chains = chains_kept files indexes is.chains;
+    owned = owned_kept files indexes is.owned;
+    rest = rest_kept files is.rest;
   }
 
   pub all_kept_stands : (all : FilesetMap) → StandsDomain d all → StandsDomain now all

@@ -9,3 +9,4 @@ pub mod SetsQuota
 pub mod SlotParents
 pub mod Slots
 pub mod SlotsStay
+pub mod Sound

@@ -17,7 +17,7 @@ use Rattle.extent_records.specs.Writing.{chain_kind}
 use Rattle.free_cells.specs.Cells.{table_of}
 use Rattle.bitfile_cells.specs.FileChanges.{AreOnTables, SameFirst, map_kinds}
 use Rattle.bitfile_cells.specs.Files.{AreFile, IsFile, IsMapCell, has_rows}
-use Rattle.bitfile_cells.proofs.ChainChanges.{stand_file}
+use Rattle.bitfile_cells.proofs.ChainChanges.{inside_places, stand_file}
 use Rattle.bitfile_cells.proofs.MapRecords.{value_has_rows}
 use Rattle.bitfile_cells.proofs.Replaced.{filter_true}
 use Rattle.bitfile_core.specs.Changes.{says_removed, with_first}
@@ -30,7 +30,6 @@ use Rattle.domain_layout.specs.CellRules.{is_chain_records}
 use Rattle.domain_layout.specs.Owners.{IsOnTable}
 use Rattle.domain_layout.specs.Reached.{Frame, IsWithin}
 use Rattle.layout_laws.proofs.Reached.{same_number}
-use Rattle.attached_list.proofs.Pages.{place_among}
 use Rattle.domain_standing.specs.Chains.{IndexesAt}
 use Rattle.domain_standing.specs.Domain.{DomainNow, layout_of}
 use Rattle.domain_standing.specs.Holders.{Holder, Holds}
@@ -40,11 +39,10 @@ use Rattle.standing_laws.proofs.CellsNow.{CellsGoOn, all_in, cell_was, dropped_c
 use Rattle.standing_laws.proofs.HeldHolders.{MayTake, placed, table_back, tags_back}
 use Rattle.standing_laws.proofs.TablesStand.{member_of_table, together_now, used}
 use Rattle.standing_laws.proofs.TablesTaken.{page_stays}
-use Rattle.no_fault_laws.specs.Sound.{StandsSound}
-use Rattle.no_fault_laws.proofs.Ways.{at_of}
-use Rattle.sound_laws.specs.Held.{StandsSoundBut}
-use Rattle.sound_laws.proofs.Kept.{can_within}
-use Rattle.sound_laws.proofs.Parted.{NoFile, good_by, sound_but, sound_none}
+use Rattle.standing_laws.specs.Sound.{StandsSound, StandsSoundBut}
+use Rattle.standing_laws.proofs.SoundKept.{can_within}
+use Rattle.standing_laws.proofs.SoundParted.{NoFile, good_by, sound_but, sound_none}
+use Rattle.standing_laws.proofs.HomeLists.{in_get}
 
 -- ---- a chain cell
 
@@ -149,7 +147,7 @@ module _ (number : ℕ) (tag : Tag) (d now : DomainNow) (chains chains_now : Cha
             by_place : (b : PlacedCell) → Contains (a ∷ xs) b → Contains t.chain b → b.at ≡ c.at → HasKind c.cell
             by_place b (zero, within, is) among at =
                 let first : f.at ≡ c.at = same.0 ∙ ap (λ (x : PlacedCell). x.at) is ∙ at in
-                absurd (file_now.links.distinct.0 (subst (Contains (places r)) (sym first) (place_among r c inside)))
+                absurd (file_now.links.distinct.0 (subst (Contains (places r)) (sym first) (inside_places r c inside)))
             by_place b (suc k, within, is) among at =
                 let was = was_kind b (k, omega (arith, within), is) in
                 record { kind = was.kind; only = t.puts.change.change.same_kinds b c among in_after (sym at) ∙ was.only; later = was.later }
@@ -241,7 +239,7 @@ module _ (number : ℕ) (tag : Tag) (d now : DomainNow) (chains chains_now : Cha
 
     good : (at : CellAt) (home : Home) → Contains (indexes at) home → apart at ⊎ IsSomeAnd (now.pages home) IsIndexPage
     good at home among =
-        let k = at_of (indexes at) home among in
+        let k = in_get (indexes at) home among in
         good_by (apart at) (d.pages home) (now.pages home) (page_stays number tag d now chains chains_now files files_now indexes below s (of_index at k.0) home k.1 (λ e. cc) (λ e. cc)) (sound.good at home among)
 
     pub but_called : StandsSoundBut apart now files_now indexes

@@ -31,9 +31,9 @@ use Rattle.standing_laws.proofs.HeldHolders.{MayTake}
 use Rattle.standing_laws.proofs.HeldSpaces.{one_new}
 use Rattle.standing_laws.proofs.QuotaCells.{after, are_used, goes, is, quota_in, was}
 use Rattle.standing_laws.proofs.QuotaSlots.{other, page_stays, there, was_quotas}
-use Rattle.no_fault_laws.specs.Sound.{StandsSound}
-use Rattle.no_fault_laws.proofs.Ways.{at_of}
-use Rattle.sound_laws.proofs.Kept.{can_within}
+use Rattle.standing_laws.specs.Sound.{StandsSound}
+use Rattle.standing_laws.proofs.SoundKept.{can_within}
+use Rattle.standing_laws.proofs.HomeLists.{in_get}
 
 module _ (number : ℕ) (d now : DomainNow) (files files_now : Files) (indexes : IndexesAt) (below : StandsBelow d files indexes) (sound : StandsSound d files indexes) (s : SetsQuota number d now files files_now) where
   in_now : (home : Home) → IsWithin d.frame home → IsWithin now.frame home
@@ -83,7 +83,7 @@ module _ (number : ℕ) (d now : DomainNow) (files files_now : Files) (indexes :
 
   good : (at : CellAt) (home : Home) → Contains (indexes at) home → IsSomeAnd (now.pages home) IsIndexPage
   good at home among =
-      let k = at_of (indexes at) home among in
+      let k = in_get (indexes at) home among in
       subst (λ o. IsSomeAnd o IsIndexPage) (sym (page_stays number d now files files_now indexes below s (of_index at k.0) home k.1 (λ e. cc) (λ e. cc))) (sound.good at home among)
 
   pub sound_limited : StandsSound now files_now indexes

@@ -26,10 +26,9 @@ use Rattle.standing_laws.specs.Leads.{StandsBelow}
 use Rattle.standing_laws.specs.NewFileset.{JoinsEmpty}
 use Rattle.standing_laws.specs.OtherPages.{KeepsPlaces, KeepsWhere}
 use Rattle.standing_laws.proofs.TablesTaken.{unheld_taken}
-use Rattle.no_fault_laws.specs.Sound.{StandsSound}
-use Rattle.sound_laws.specs.Held.{StandsSoundBut}
-use Rattle.sound_laws.proofs.Kept.{but_kept, can_within, sound_kept}
-use Rattle.sound_laws.proofs.Parted.{NoFile, sound_but, sound_none}
+use Rattle.standing_laws.specs.Sound.{StandsSound, StandsSoundBut}
+use Rattle.standing_laws.proofs.SoundKept.{but_kept, can_within, sound_kept}
+use Rattle.standing_laws.proofs.SoundParted.{NoFile, sound_but, sound_none}
 
 pub but_elsewhere : (d now : DomainNow) (files : Files) (indexes : IndexesAt) (apart : CellAt → Type 0) → StandsSoundBut apart d files indexes → KeepsPlaces d now → KeepsWhere d now files indexes → StandsSoundBut apart now files indexes
 but_elsewhere d now files indexes apart sound same keeps =

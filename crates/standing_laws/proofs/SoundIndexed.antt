@@ -49,16 +49,14 @@ use Rattle.domain_standing.specs.Holders.{Holder, Holds, IsUnheld}
 use Rattle.domain_standing.specs.Holders.Holder.{of_cells, of_file, of_index, of_log, of_table, of_tags, of_volume}
 use Rattle.standing_laws.specs.IndexCalls.{KeepsTables, NamesFile, with_index_at, with_said}
 use Rattle.standing_laws.specs.Leads.{StandsBelow, fileset_now}
-use Rattle.standing_laws.proofs.HomeLists.{get_in}
+use Rattle.standing_laws.proofs.HomeLists.{get_in, in_get}
 use Rattle.standing_laws.proofs.IndexSet.{IsChain, chain_at}
 use Rattle.standing_laws.proofs.IndexWas.{begins_low, file_was, member_on, off_cells, off_first, on_was, there_was}
 use Rattle.standing_laws.proofs.TablesTaken.{unheld_taken}
-use Rattle.no_fault_laws.specs.Sound.{StandsSound}
-use Rattle.no_fault_laws.proofs.Ways.{at_of, contains_of}
-use Rattle.sound_laws.specs.Held.{StandsSoundBut}
-use Rattle.sound_laws.proofs.Kept.{can_within}
-use Rattle.sound_laws.proofs.Parted.{NoFile, good_by, sound_but, sound_none}
-use Rattle.sound_laws.proofs.Shown.{all_entry, all_insert, good_shown, one_good, shown_good}
+use Rattle.standing_laws.specs.Sound.{StandsSound, StandsSoundBut}
+use Rattle.standing_laws.proofs.SoundKept.{can_within}
+use Rattle.standing_laws.proofs.SoundParted.{NoFile, good_by, sound_but, sound_none}
+use Rattle.standing_laws.proofs.SoundShown.{all_entry, all_insert, good_shown, one_good, shown_good}
 
 pub same_start : (a b : CellAt) (j k : ℕ) → of_index a j ≡ of_index b k → a ≡ b
 same_start a b j k same = cc
@@ -149,7 +147,7 @@ module _ (d : DomainNow) (files : Files) (indexes : IndexesAt) (apart : CellAt �
           where
             not_in : ¬ Contains (indexes first.at) home
             not_in inside =
-                let j = at_of (indexes first.at) home inside in
+                let j = in_get (indexes first.at) home inside in
                 let same : at ≡ first.at = same_start at first.at k j.0 (below.owned.once home (of_index at k) (of_index first.at j.0) held j.1) in
                 true≢false (sym (at_itself first.at) ∙ sym (ap (λ (a : CellAt). is_at a first.at) same) ∙ other)
 
@@ -166,14 +164,14 @@ module _ (d : DomainNow) (files : Files) (indexes : IndexesAt) (apart : CellAt �
             by_test true same = subst (λ (a : CellAt). apart a ⊎ IsSomeAnd (pages home) IsIndexPage) (sym (at_same at first.at same)) (good home (subst (λ hs. Contains hs home) (its_homes at same) inside))
             by_test false other =
                 let was : Contains (indexes at) home = subst (λ hs. Contains hs home) (other_homes at other) inside in
-                let k = at_of (indexes at) home was in
+                let k = in_get (indexes at) home was in
                 good_by (apart at) (d.pages home) (pages home) (other_page at k.0 home other k.1) (sound.good at home was)
 
         index_within : (at : CellAt) (k : ℕ) (home : Home) → slice_get (indexes_then at) k ≡ Some home → IsWithin d.frame home
         index_within at k home held = by_test (is_at at first.at) refl
           where
             by_test : (b : Bool) → is_at at first.at ≡ b → IsWithin d.frame home
-            by_test true same = inside_frame home (contains_of homes k home (subst (λ hs. slice_get hs k ≡ Some home) (its_homes at same) held))
+            by_test true same = inside_frame home (get_in homes k home (subst (λ hs. slice_get hs k ≡ Some home) (its_homes at same) held))
             by_test false other = sound.within home (of_index at k) (λ e. cc) (λ e. cc) (subst (λ hs. slice_get hs k ≡ Some home) (other_homes at other) held)
 
         within : (home : Home) (holder : Holder) → ¬ holder ≡ of_volume → ¬ holder ≡ of_log → Holds now files_then indexes_then holder home → IsWithin d.frame home
@@ -203,7 +201,7 @@ module _ (number : ℕ) (tag : Tag) (d now : DomainNow) (chains : Chains) (files
         says_one = says_index (Some writes.says.index)
 
         within_one : (home : Home) → Contains (indexes first.at) home → IsWithin d.frame home
-        within_one home inside = let k = at_of (indexes first.at) home inside in sound.within home (of_index first.at k.0) (λ e. cc) (λ e. cc) k.1
+        within_one home inside = let k = in_get (indexes first.at) home inside in sound.within home (of_index first.at k.0) (λ e. cc) (λ e. cc) k.1
 
         good_one : (home : Home) → Contains (indexes first.at) home → apart first.at ⊎ IsSomeAnd (now.pages home) IsIndexPage
         good_one home inside = ⊎_elim
@@ -285,7 +283,7 @@ module _ (number : ℕ) (tag : Tag) (d now : DomainNow) (chains : Chains) (files
         within_more : (home : Home) → Contains more home → IsWithin d.frame home
         within_more home inside = ⊎_elim
             (λ here. subst (IsWithin d.frame) here (can_within d files indexes below.owned adds.home (low, adds.free)))
-            (λ was. let k = at_of (indexes first.at) home was in sound.within home (of_index first.at k.0) (λ e. cc) (λ e. cc) k.1)
+            (λ was. let k = in_get (indexes first.at) home was in sound.within home (of_index first.at k.0) (λ e. cc) (λ e. cc) k.1)
             (in_inserted (indexes first.at) place adds.home home inside)
 
         good_more : (home : Home) → Contains more home → apart first.at ⊎ IsSomeAnd (now.pages home) IsIndexPage

@@ -46,11 +46,11 @@ use Rattle.standing_laws.specs.Leads.{StandsBelow, fileset_now}
 use Rattle.standing_laws.proofs.IndexSaid.{gone_beside, says_gone}
 use Rattle.standing_laws.proofs.IndexSet.{IsChain, chain_at}
 use Rattle.standing_laws.proofs.IndexWas.{file_was, member_on, off_cells, off_first, there_was}
-use Rattle.no_fault_laws.specs.Sound.{StandsSound}
-use Rattle.no_fault_laws.proofs.Ways.{at_of, nothing}
-use Rattle.sound_laws.specs.Held.{StandsSoundBut}
-use Rattle.sound_laws.proofs.Indexed.{at_apart, same_start}
-use Rattle.sound_laws.proofs.Parted.{NoFile, good_by, sound_but, sound_none}
+use Rattle.standing_laws.specs.Sound.{StandsSound, StandsSoundBut}
+use Rattle.standing_laws.proofs.SoundIndexed.{at_apart, same_start}
+use Rattle.standing_laws.proofs.SoundParted.{NoFile, good_by, sound_but, sound_none}
+use Rattle.standing_laws.proofs.HomeLists.{in_get}
+use Rattle.deferred_delete.proofs.Spread.{none_not}
 
 module _ (d : DomainNow) (files : Files) (indexes : IndexesAt) (apart : CellAt → Type 0) (below : StandsBelow d files indexes) (sound : StandsSoundBut apart d files indexes) (number : ℕ) (entry : FilesetEntry) (original : item_in d number ≡ Some (slot.Original entry)) (tag : Tag) (chains : Chains)
     (well : StandsWell number (fileset_now d number chains files)) (first : PlacedCell) (rest : List PlacedCell) (is : chains tag ≡ Some (first ∷ rest)) (group : ℕ) (space : Spaces) (pages : Pages) (contents : Contents) (listed : Listing)
@@ -85,7 +85,7 @@ module _ (d : DomainNow) (files : Files) (indexes : IndexesAt) (apart : CellAt �
       where
         not_in : ¬ Contains (indexes first.at) home
         not_in inside =
-            let j = at_of (indexes first.at) home inside in
+            let j = in_get (indexes first.at) home inside in
             let same : at ≡ first.at = same_start at first.at k j.0 (below.owned.once home (of_index at k) (of_index first.at j.0) held j.1) in
             true≢false (sym (at_itself first.at) ∙ sym (ap (λ (a : CellAt). is_at a first.at) same) ∙ other)
 
@@ -111,14 +111,14 @@ module _ (d : DomainNow) (files : Files) (indexes : IndexesAt) (apart : CellAt �
         by_test true same = absurd (none_in (subst (λ hs. Contains hs home) (no_homes at same) inside))
         by_test false other =
             let was : Contains (indexes at) home = subst (λ hs. Contains hs home) (other_homes at other) inside in
-            let k = at_of (indexes at) home was in
+            let k = in_get (indexes at) home was in
             good_by (apart at) (d.pages home) (pages home) (other_page at k.0 home other k.1) (sound.good at home was)
 
     index_within : (at : CellAt) (k : ℕ) (home : Home) → slice_get (indexes_then at) k ≡ Some home → IsWithin d.frame home
     index_within at k home held = by_test (is_at at first.at) refl
       where
         by_test : (b : Bool) → is_at at first.at ≡ b → IsWithin d.frame home
-        by_test true same = nothing home (subst (λ hs. slice_get hs k ≡ Some home) (no_homes at same) held)
+        by_test true same = absurd (none_not home (subst (λ hs. slice_get hs k ≡ Some home) (no_homes at same) held))
         by_test false other = sound.within home (of_index at k) (λ e. cc) (λ e. cc) (subst (λ hs. slice_get hs k ≡ Some home) (other_homes at other) held)
 
     module _ (says : Cell → Cell) (maps : map_records (says first.cell).records ≡ map_records first.cell.records) (file : IsFile pages first.at (with_first says (first ∷ rest))) where

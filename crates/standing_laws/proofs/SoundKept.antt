@@ -21,10 +21,9 @@ use Rattle.domain_standing.specs.Domain.{DomainNow, layout_of}
 use Rattle.domain_standing.specs.Holders.{AreHeldAt, Holder, Holds, HoldsOwned}
 use Rattle.domain_standing.specs.Holders.Holder.{of_cells, of_file, of_index, of_log, of_table, of_tags, of_volume}
 use Rattle.standing_laws.proofs.HeldHolders.{MayTake}
-use Rattle.no_fault_laws.specs.Sound.{StandsSound}
-use Rattle.no_fault_laws.proofs.Ways.{at_of}
-use Rattle.sound_laws.specs.Held.{StandsSoundBut}
-use Rattle.sound_laws.proofs.Parted.{NoFile, good_by, sound_but, sound_none}
+use Rattle.standing_laws.specs.Sound.{StandsSound, StandsSoundBut}
+use Rattle.standing_laws.proofs.SoundParted.{NoFile, good_by, sound_but, sound_none}
+use Rattle.standing_laws.proofs.HomeLists.{in_get}
 
 -- a page that may be taken is one of a member's
 pub can_within : (d : DomainNow) (files : Files) (indexes : IndexesAt) → HoldsOwned d files indexes → (home : Home) → MayTake d.space home → IsWithin d.frame home
@@ -65,7 +64,7 @@ module _ (d now : DomainNow) (files : Files) (indexes : IndexesAt) (apart : Cell
 
     good : (at : CellAt) (home : Home) → Contains (indexes at) home → apart at ⊎ IsSomeAnd (now.pages home) IsIndexPage
     good at home among =
-        let k = at_of (indexes at) home among in
+        let k = in_get (indexes at) home among in
         good_by (apart at) (d.pages home) (now.pages home) (on_index at k.0 home k.1) (sound.good at home among)
 
     pub but_kept : StandsSoundBut apart now files indexes

@@ -13,7 +13,7 @@ use Rattle.dir_index.specs.Index.{IsIndexPage}
 use Rattle.stored_index.specs.Homes.{AreIndexHomes, shown_at}
 use Rattle.stored_index.specs.Homes.{IsIndexPage as IsStoredPage}
 use Rattle.stored_index.proofs.Changed.{good_numbered}
-use Rattle.no_fault_laws.proofs.Ways.{at_of}
+use Rattle.standing_laws.proofs.HomeLists.{in_get}
 
 -- ---- one page
 
@@ -86,7 +86,7 @@ shown_good pages homes good = to_map IsIndexPage (λ home. shown_index (unwrap_o
 pub good_shown : (pages : Pages) (first : Option Home) (homes : List Home) → AreIndexHomes pages first homes → AllByRecursion IsIndexPage (shown_at pages homes) → (home : Home) → Contains homes home
     → IsSomeAnd (pages home) IsIndexPage
 good_shown pages first homes are all home inside =
-    let k = at_of homes home inside in
+    let k = in_get homes home inside in
     by_page (pages home) (good_numbered pages first homes k.0 home are k.1) (of_map IsIndexPage (λ h. shown_index (unwrap_or (pages h) [])) homes all home inside)
   where
     by_page : (o : Option (List ℕ)) → IsSomeAnd o IsStoredPage → IsIndexPage (shown_index (unwrap_or o [])) → IsSomeAnd o IsIndexPage

@@ -13,16 +13,19 @@ use Rattle.domain_standing.specs.Chains.{IndexesAt}
 use Rattle.domain_standing.specs.Domain.{DomainNow, layout_of}
 use Rattle.domain_standing.specs.Holders.{Holder, Holds}
 use Rattle.standing_laws.specs.Leads.{StandsBelow}
-use Rattle.no_fault_laws.specs.Sound.{StandsSound}
 
--- with some files and indexes it stands, but for its filesets, and is so
-pub record IsSound (d : DomainNow) : Type 0 where
-  pub files : Files
-  pub indexes : IndexesAt
-  pub below : StandsBelow d files indexes
-  pub sound : StandsSound d files indexes
+-- each page that is held for something is one of a member's, where that is not the log, which other
+-- rules know; a cell behind the first of a file has a record that it may have; and each page of an
+-- index is well formed, whosever that is
+pub record StandsSound (d : DomainNow) (files : Files) (indexes : IndexesAt) : Type 0 where
+  pub within : (home : Home) (holder : Holder) → ¬ holder ≡ Holder.of_volume
+      → ¬ holder ≡ Holder.of_log → Holds d files indexes holder home → IsWithin d.frame home
+  pub laters : (at : CellAt) (cell : Cell) → IsOnTable d.pages (layout_of d) at cell
+      → cell.head.kind ≡ Chain → is_chain_records cell.records ≡ true
+  pub good : (at : CellAt) (home : Home) → Contains (indexes at) home
+      → IsSomeAnd (d.pages home) IsIndexPage
 
--- so it is, but of files that begin at some cells it is not asked that their indexes have pages that
+-- the same, but of files that begin at some cells it is not asked that their indexes have pages that
 -- are well formed
 pub record StandsSoundBut (apart : CellAt → Type 0) (d : DomainNow) (files : Files)
     (indexes : IndexesAt) : Type 0 where
@@ -32,3 +35,10 @@ pub record StandsSoundBut (apart : CellAt → Type 0) (d : DomainNow) (files : F
       → cell.head.kind ≡ Chain → is_chain_records cell.records ≡ true
   pub good : (at : CellAt) (home : Home) → Contains (indexes at) home
       → apart at ⊎ IsSomeAnd (d.pages home) IsIndexPage
+
+-- with some files and indexes it stands, but for its filesets, and is so
+pub record IsSound (d : DomainNow) : Type 0 where
+  pub files : Files
+  pub indexes : IndexesAt
+  pub below : StandsBelow d files indexes
+  pub sound : StandsSound d files indexes

@@ -6,8 +6,7 @@ use Rattle.dir_index.specs.Index.{IsIndexPage}
 use Rattle.deferred_delete.specs.Standing.{Files}
 use Rattle.domain_standing.specs.Chains.{IndexesAt}
 use Rattle.domain_standing.specs.Domain.{DomainNow}
-use Rattle.no_fault_laws.specs.Sound.{StandsSound}
-use Rattle.sound_laws.specs.Held.{StandsSoundBut}
+use Rattle.standing_laws.specs.Sound.{StandsSound, StandsSoundBut}
 
 -- no file
 abbrev pub NoFile : CellAt → Type 0
