@@ -12,6 +12,7 @@ use Rattle.fileset_table.specs.Table.{IsTable}
 use Rattle.fileset_table.specs.declared.slot.SlotItem.{SlotItem}
 use Rattle.attaching_laws.proofs.Marked.{marked_space}
 use Rattle.attaching_laws.specs.Space.{AreCellsOf, IsSpaceOf}
+use Rattle.domain_layout.specs.Faults.{HasNoFault}
 use Rattle.domain_layout.specs.Filled.{AreFilled}
 use Rattle.domain_layout.specs.Layout.{AreTagPlaces, IsLayout, Layout, first_tag_of}
 use Rattle.domain_layout.specs.Owners.{frame_of}
@@ -20,6 +21,7 @@ use Rattle.domain_layout.specs.Shape.{AreShapesOf, Shapes}
 use Rattle.domain_standing.specs.Domain.{DomainNow, layout_of}
 use Rattle.domain_standing.specs.Sources.{StandAlone}
 use Rattle.domain_standing.specs.Standing.{AreBooksOf, HaveParents, IsMarkedBut, StandsDomain}
+use Rattle.no_fault_laws.proofs.Faultless.{faultless_sound}
 use Rattle.domain_parts.specs.Slots.{CanGoBack, book_in, kept_book, kept_places, places_in, slot_in}
 use Rattle.domain_parts.specs.declared.slots.SlotFiles.{SlotFiles}
 use Rattle.domain_memory.specs.Memory.{StandsFor, books_in, kept_in, with_was}
@@ -108,6 +110,7 @@ module _ (m : DomainMemory) (layout : Layout) (is : IsReadMemory m layout) (may 
     stands_for = record {
       stands = subst (λ e. StandsDomain e all) same d_stands;
       alone = subst StandAlone same read.sources;
+      sound = faultless_sound (kept_in m) all (subst (λ e. StandsDomain e all) same d_stands) (subst (λ (e : DomainNow). HasNoFault e.pages e.frame) same may.whole.no_fault);
       parents = subst HaveParents same (parents_are_right d laid may.whole.no_fault);
       marked = subst IsMarkedBut same (bits_are_right d laid may.whole.no_fault may.few may.bitmaps is.space);
       books = books;

@@ -21,7 +21,7 @@ use Rattle.domain_memory.specs.Staged.{IsSettled, IsStaged, staged_books, staged
 use Rattle.domain_memory.specs.declared.memory.DomainMemory.{DomainMemory}
 use Rattle.domain_memory.proofs.KeptStands.{stands_so}
 use Rattle.domain_memory.proofs.SettledKept.{settled_kept}
-use Rattle.domain_state.proofs.Committing.{stands_still}
+use Rattle.domain_memory.proofs.KeptStands.{stands_still}
 use Rattle.domain_stages.specs.Table.{HasOriginal}
 use Rattle.domain_filesets.specs.Coming.{IsAnswered}
 use Rattle.domain_filesets.proofs.Means.{limited, none_limited, there}

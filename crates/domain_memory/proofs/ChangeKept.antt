@@ -41,11 +41,13 @@ use Rattle.domain_memory.proofs.KeptSpace.{kept_is}
 use Rattle.domain_memory.proofs.SlotsKept.{book_kept, book_same, places_kept, places_same}
 use Rattle.domain_standing.proofs.SourcesStay.{sources_stay}
 use Rattle.standing_laws.specs.Leads.{StandsBelow}
-use Rattle.standing_laws.specs.OtherPages.{KeepsPages}
-use Rattle.standing_laws.proofs.MemoryKept.{all_kept_stands}
+use Rattle.standing_laws.specs.OtherPages.{KeepsPages, KeepsWhere}
+use Rattle.standing_laws.proofs.MemoryKept.{all_kept_stands, below_kept}
 use Rattle.standing_laws.proofs.OthersStand.{others_stand}
 use Rattle.standing_laws.proofs.ParentsKept.{parents_kept}
 use Rattle.standing_laws.proofs.SlotsKept.{slots_kept}
+use Rattle.standing_laws.specs.Sound.{IsSound, StandsSound}
+use Rattle.standing_laws.proofs.SoundInPlace.{sound_elsewhere, sound_memory}
 
 -- ---- pages of bitmaps
 
@@ -115,6 +117,17 @@ module _ (d : DomainNow) (all : FilesetMap) (stands : StandsDomain d all) where
           slots = slots_kept d marked files indexes all below refl keeps
               (λ home holder holds not_volume not_log. ap (λ o. unwrap_or o []) (other_pages home holder holds not_volume) ∙ sym (ap (λ (c : Contents). c home) same))
               stands.slots;
+        }
+
+    -- it is as rules of pages ask beside, if it was
+    pub marked_sound : StandsSound d files indexes → IsSound marked
+    marked_sound sound =
+        let keeps_where : KeepsWhere d marked files indexes = λ home holder holds not_volume not_log not_file. other_pages home holder holds not_volume in
+        record {
+          files = files;
+          indexes = indexes;
+          below = others_stand d marked files indexes below refl keeps_where;
+          sound = sound_elsewhere d marked files indexes sound refl keeps_where;
         }
 
     pub marked_parents : HaveParents d → HaveParents marked
@@ -192,10 +205,28 @@ module _ (old new : DomainMemory) (marks : StagedPages) (all : FilesetMap) (stag
       let bits = marked_bits (staged_in old) all staged.stands (pages_of marks) change staged.marked say in
       record { there = bits.there; bits = bits.bits; behind = bits.behind }
 
+  -- the domain with the files and indexes with which it is as rules of pages ask
+  abbrev its_stands : StandsDomain (staged_in old) all
+  its_stands =
+      let is = staged.sound in
+      record staged.stands { files = is.files; indexes = is.indexes; tables = is.below.tables; chains = is.below.chains; owned = is.below.owned; rest = is.below.rest }
+
+  target_sound : IsSound target
+  target_sound =
+      let it = marked (staged_in old) all staged.stands (pages_of marks) change in
+      let is = marked_sound (staged_in old) all its_stands (pages_of marks) change staged.sound.sound in
+      record {
+        files = is.files;
+        indexes = is.indexes;
+        below = below_kept it (change_volumes keeping old.space) new.cells (volume_changed keeping old.space) same.tables same.marks same.cells is.files is.indexes is.below;
+        sound = sound_memory it is.files is.indexes (change_volumes keeping old.space) new.cells is.sound same;
+      }
+
   pub kept_stands : MayBeKept old all → StandsFor new all
   kept_stands may = record {
     stands = subst (λ (d : DomainNow). StandsDomain d all) (sym is_target) target_stands;
     alone = subst StandAlone (sym is_target) target_alone;
+    sound = subst IsSound (sym is_target) target_sound;
     parents = subst HaveParents (sym is_target) (marked_parents (staged_in old) all staged.stands (pages_of marks) change may.parents);
     marked = subst IsMarkedBut (sym is_target) target_marked;
     books = λ number entry item. subst (λ (b : Book). IsSomeAnd (get all entry.name) (λ fileset. IsBookOf b fileset.tree)) (sym (book_kept (slot_in old.slots.items number) (slot_in new.slots.items number) (slots.each number)))

@@ -19,7 +19,9 @@ use Rattle.domain_standing.specs.Domain.{DomainNow}
 use Rattle.domain_standing.specs.Sources.{StandAlone}
 use Rattle.domain_standing.specs.Standing.{AreBooksOf, HaveParents, IsMarkedBut, StandsDomain}
 use Rattle.domain_standing.proofs.SourcesStay.{sources_stay}
-use Rattle.standing_laws.proofs.MemoryKept.{all_kept_stands}
+use Rattle.standing_laws.proofs.MemoryKept.{all_kept_stands, below_kept}
+use Rattle.standing_laws.specs.Sound.{IsSound}
+use Rattle.standing_laws.proofs.SoundInPlace.{sound_memory}
 use Rattle.domain_memory.specs.Memory.{StandsFor, books_in, kept_in}
 use Rattle.domain_memory.specs.declared.memory.DomainMemory.{DomainMemory}
 use Rattle.domain_memory.specs.Kept.{KeepsKept}
@@ -63,6 +65,16 @@ module _ (old new : DomainMemory) (kept : KeepsKept old new) where
     behind = is.behind;
   }
 
+  target_sound : IsSound d → IsSound target
+  target_sound is =
+      let same = back_same old.cells new.cells kept.cells kept.marks in
+      record {
+        files = is.files;
+        indexes = is.indexes;
+        below = below_kept d (kept_spaces new.space) (taken_back new.cells) space_is same.tables same.marks same.cells is.files is.indexes is.below;
+        sound = sound_memory d is.files is.indexes (kept_spaces new.space) (taken_back new.cells) is.sound (record { tables = same.tables; marks = same.marks; cells = same.cells; keeps = λ vol. refl });
+      }
+
   books_are : (all : FilesetMap) → AreBooksOf (books_in old) d all → AreBooksOf (books_in new) target all
   books_are all are number entry there = subst (λ (b : Book). IsSomeAnd (get all entry.name) (λ fileset. IsBookOf b fileset.tree)) (sym (kept.books number entry there)) (are number entry there)
 
@@ -71,6 +83,7 @@ module _ (old new : DomainMemory) (kept : KeepsKept old new) where
     stands = subst (λ (t : DomainNow). StandsDomain t all) (sym is_target) (target_stands all is.stands);
     alone = subst StandAlone (sym is_target)
         (sources_stay d target refl (λ vol member. (back_same old.cells new.cells kept.cells kept.marks).tables vol) (λ home member on. refl) is.alone);
+    sound = subst IsSound (sym is_target) (target_sound is.sound);
     parents = subst HaveParents (sym is_target) is.parents;
     marked = subst IsMarkedBut (sym is_target) (target_marked is.marked);
     books = subst (λ (t : DomainNow). AreBooksOf (books_in new) t all) (sym is_target) (books_are all is.books);
@@ -100,4 +113,15 @@ none_kept memory = record {
   cells = λ vol. refl;
   marks = λ vol. refl;
   list = refl;
+}
+
+-- memory stands for what it stood for where it is as it was kept
+pub stands_still : (old new : DomainMemory) (all : FilesetMap) → kept_in new ≡ kept_in old → books_in new ≡ books_in old → StandsFor old all → StandsFor new all
+stands_still old new all kept books stands = record {
+  stands = subst (λ (d : DomainNow). StandsDomain d all) (sym kept) stands.stands;
+  alone = subst StandAlone (sym kept) stands.alone;
+  sound = subst IsSound (sym kept) stands.sound;
+  parents = subst HaveParents (sym kept) stands.parents;
+  marked = subst IsMarkedBut (sym kept) stands.marked;
+  books = subst (λ (b : ℕ → Book). AreBooksOf b (kept_in new) all) (sym books) (subst (λ (d : DomainNow). AreBooksOf (books_in old) d all) (sym kept) stands.books);
 }

@@ -4,6 +4,7 @@ pub mod KeptCells
 pub mod KeptSpace
 pub mod NewLayout
 pub mod NewMarks
+pub mod NewSound
 pub mod NewMemory
 pub mod SettledKept
 pub mod SlotsKept

@@ -31,6 +31,7 @@ use Rattle.domain_standing.specs.Domain.{DomainNow, layout_of}
 use Rattle.domain_standing.specs.Sources.{StandAlone}
 use Rattle.domain_standing.specs.Standing.{AreBooksOf, HaveParents, IsMarkedBut, StandsDomain}
 use Rattle.domain_standing.proofs.NewDomain.{new_alone, new_stands}
+use Rattle.standing_laws.specs.Sound.{IsSound}
 use Rattle.domain_making.specs.Making.{new_frame}
 use Rattle.page_ways.specs.Frame.{frame_in}
 use Rattle.staged_pages.specs.Store.{before_of}
@@ -40,6 +41,7 @@ use Rattle.domain_memory.specs.declared.memory.DomainMemory.{DomainMemory}
 use Rattle.domain_memory.proofs.KeptCells.{cells_of_other}
 use Rattle.domain_memory.proofs.KeptSpace.{kept_is, marked_kept}
 use Rattle.domain_memory.proofs.NewLayout.{laid_with, layout_with}
+use Rattle.domain_memory.proofs.NewSound.{new_sound}
 use Rattle.domain_memory.proofs.NewMarks.{has_bitmaps, marked_behind, marked_held}
 use Rattle.domain_memory.proofs.SlotsKept.{nothing_in}
 
@@ -102,6 +104,9 @@ module _ (d : DomainNow) (new : IsNew d.pages d.frame) (version : d.frame.anchor
   pub alone : StandAlone d
   alone = new_alone d new is_laid log few space cells untagged nothing
 
+  pub sound : IsSound d
+  sound = new_sound d empty stands (no_fault d.pages d.frame new) untagged (all_free d.table fresh) nothing
+
   pub parents : HaveParents d
   parents = λ number tag cells seen has. absurd (has_none d.table fresh d.pages number tag cells seen has)
 
@@ -163,6 +168,7 @@ module _ (m : DomainMemory) (version : Version) (pages : ℕ) (room : (first_pag
   stands_for = record {
     stands = stands (kept_in m) is_new says few_pages log fresh_kept kept_marks kept_are untagged (entries, tag_pages);
     alone = alone (kept_in m) is_new says few_pages log fresh_kept kept_marks kept_are untagged (entries, tag_pages);
+    sound = sound (kept_in m) is_new says few_pages log fresh_kept kept_marks kept_are untagged (entries, tag_pages);
     parents = parents (kept_in m) is_new says few_pages log fresh_kept kept_marks kept_are untagged (entries, tag_pages);
     marked = marks (kept_in m) is_new says few_pages log fresh_kept kept_marks kept_are untagged (entries, tag_pages);
     books = books (kept_in m) is_new says few_pages log fresh_kept kept_marks kept_are untagged (entries, tag_pages) (books_in m);

@@ -7,6 +7,7 @@ use Rattle.domain_layout.specs.Read.{contents_of}
 use Rattle.domain_standing.specs.Domain.{DomainNow}
 use Rattle.domain_standing.specs.Sources.{StandAlone}
 use Rattle.domain_standing.specs.Standing.{AreBooksOf, HaveParents, IsMarkedBut, StandsDomain}
+use Rattle.standing_laws.specs.Sound.{IsSound}
 use Rattle.domain_parts.specs.Listing.{list_with}
 use Rattle.domain_memory.specs.Memory.{StandsFor, books_in, kept_in, with_was}
 use Rattle.domain_memory.specs.Staged.{IsSettled, MayBeKept, staged_books, staged_in}
@@ -33,6 +34,7 @@ settled_kept memory all settled stands = record {
   staged = record {
     stands = subst (λ (d : DomainNow). StandsDomain d all) (is_kept memory settled) stands.stands;
     alone = subst StandAlone (is_kept memory settled) stands.alone;
+    sound = subst IsSound (is_kept memory settled) stands.sound;
     marked = subst (λ s. IsMarkedBut (record (staged_in memory) { space = s })) (sym settled.space) (subst IsMarkedBut (is_kept memory settled) stands.marked);
     once = stands.stands.chains.well.listed.once;
     room = omega (arith, ap length settled.listed);

@@ -11,7 +11,7 @@ use Rattle.domain_layout.specs.Read.{contents_of}
 use Rattle.domain_standing.specs.Domain.{DomainNow}
 use Rattle.domain_standing.specs.Sources.{StandAlone}
 use Rattle.domain_standing.specs.Standing.{AreBooksOf, HaveParents, IsMarkedBut, StandsDomain}
-use Rattle.sound_laws.specs.Held.{IsSound}
+use Rattle.standing_laws.specs.Sound.{IsSound}
 use Rattle.domain_parts.specs.Slots.{kept_book, kept_places, slot_in}
 use Rattle.domain_memory.specs.declared.memory.DomainMemory.{DomainMemory}
 use Rattle.domain_memory.specs.declared.memory.ReplacedSlot.{ReplacedSlot}

@@ -11,7 +11,7 @@ use Rattle.domain_layout.specs.Read.{contents_of}
 use Rattle.domain_standing.specs.Domain.{DomainNow}
 use Rattle.domain_standing.specs.Sources.{StandAlone}
 use Rattle.domain_standing.specs.Standing.{AreBooksOf, HaveParents, IsMarkedBut, StandsDomain}
-use Rattle.sound_laws.specs.Held.{IsSound}
+use Rattle.standing_laws.specs.Sound.{IsSound}
 use Rattle.domain_parts.specs.Listing.{HaveOnce, list_with}
 use Rattle.domain_parts.specs.Slots.{CanGoBack, HasNumber, book_in, kept_book, kept_places, places_in, slot_in}
 use Rattle.domain_memory.specs.Memory.{with_was}

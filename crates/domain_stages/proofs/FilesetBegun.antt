@@ -43,6 +43,9 @@ use Rattle.standing_laws.proofs.RootMade.{root_leads, root_made}
 use Rattle.standing_laws.proofs.RootParents.{parents_made}
 use Rattle.standing_laws.proofs.SourcesSaid.{alone_by_files, files_alone}
 use Rattle.standing_laws.proofs.TablesTaken.{page_stays}
+use Rattle.standing_laws.specs.Sound.{IsSound, StandsSound}
+use Rattle.standing_laws.proofs.SoundCalled.{sound_called}
+use Rattle.standing_laws.proofs.SoundInPlace.{sound_begun}
 use Rattle.domain_memory.specs.Staged.{IsStaged, staged_books, staged_in}
 use Rattle.domain_memory.specs.declared.memory.DomainMemory.{DomainMemory}
 use Rattle.domain_stages.specs.Beginning.{BeginsTags, MakesRoot, new_entry}
@@ -168,6 +171,14 @@ module _ (number prefer : ℕ) (name : List ℕ) (home : Home) (files files_now 
       alone_then alone = alone_by_files now files_then indexes after
           (λ at. sources_stay number joined.frame.version root_tag was is (one_more was is no_call (made root_makes)) begins.1 at ∙ files_alone d of indexes below alone at)
 
+      sound_then : StandsSound d of indexes → IsSound now
+      sound_then sound = record {
+        files = files_then;
+        indexes = indexes;
+        below = after;
+        sound = sound_called number root_tag joined now no_chains chains_now of files_then indexes begins.0 (sound_begun number entry d joined of indexes below sound joins) leads;
+      }
+
       puts_it : PutsFileset number entry d now
       puts_it = record {
         has = now_item number entry d joined of indexes below joins;
@@ -190,6 +201,7 @@ module _ (number prefer : ℕ) (name : List ℕ) (home : Home) (files files_now 
         stands = domain_begun number entry d joined now (chains_now of indexes below) (files_then of indexes below) all staged.stands (joins of indexes below) (root_makes of indexes below) (early of indexes below) refl refl (λ other differ. refl) (refl, refl, refl) (refl, refl)
             (bytes of indexes below) (stay of indexes below);
         alone = alone_then of indexes below staged.alone;
+        sound = sound_then staged.sound.files staged.sound.indexes staged.sound.below staged.sound.sound;
         marked = subst (λ (s : Spaces). IsMarkedBut (record now { space = s })) (sym kept_space)
             (bits_made number entry d joined now (chains_now of indexes below) of (files_then of indexes below) indexes below (joins of indexes below) (root_makes of indexes below) (early of indexes below) refl refl (λ other differ. refl) (kept_spaces old.space) staged.marked);
         once = subst (λ (m : DomainMemory). HaveOnce m.list.list.entries) (sym (puts.same ∙ ap (λ (m : DomainMemory). record m { pages = new.pages; table = new.table; was = new.was }) begun.same)) staged.once;

@@ -19,8 +19,10 @@ use Rattle.domain_parts.specs.Listing.{HaveOnce}
 use Rattle.standing_laws.specs.GoingFileset.{BeginsToGo}
 use Rattle.standing_laws.specs.Leads.{StandsBelow}
 use Rattle.standing_laws.proofs.BitsStay.{bits_went}
-use Rattle.standing_laws.proofs.FilesetGoes.{books_went, domain_went}
+use Rattle.standing_laws.proofs.FilesetGoes.{books_went, domain_went, went}
 use Rattle.standing_laws.proofs.ParentsBegin.{parents_went}
+use Rattle.standing_laws.specs.Sound.{IsSound}
+use Rattle.standing_laws.proofs.SoundInPlace.{sound_going}
 use Rattle.domain_memory.specs.Staged.{IsStaged, staged_books, staged_in}
 use Rattle.domain_memory.specs.declared.memory.DomainMemory.{DomainMemory}
 use Rattle.domain_stages.specs.Table.{HasOriginal, PutsSlot}
@@ -62,10 +64,19 @@ module _ (number : ℕ) (entry : FilesetEntry) (old new : DomainMemory) (fresh :
   alone_still : StandAlone now
   alone_still = sources_stay d now anchor_same (λ vol member. ap (λ (x : DomainNow). table_of x.cells vol) begins.same) cells_same is.alone
 
+  sound_still : IsSound now
+  sound_still = record {
+    files = is.sound.files;
+    indexes = is.sound.indexes;
+    below = went number entry d now is.sound.files is.sound.indexes is.sound.below begins;
+    sound = sound_going number entry d now is.sound.files is.sound.indexes is.sound.below is.sound.sound begins;
+  }
+
   pub staged_went : IsStaged new (remove all entry.name)
   staged_went = record {
     stands = domain_went number entry d now begins bytes all is.stands;
     alone = alone_still;
+    sound = sound_still;
     marked = subst (λ (s : Spaces). IsMarkedBut (record now { space = kept_spaces s })) (sym (ap (λ (m : DomainMemory). m.space) puts.same))
         (bits_went number entry d now is.stands.files is.stands.indexes below begins (kept_spaces old.space) is.marked);
     once = subst (λ (m : DomainMemory). HaveOnce m.list.list.entries) (sym puts.same) is.once;

@@ -15,7 +15,9 @@ use Rattle.domain_standing.specs.Standing.{IsMarkedBut}
 use Rattle.domain_parts.specs.Listing.{HaveOnce}
 use Rattle.standing_laws.specs.BoundedFileset.{BoundsFileset, entry_bounded}
 use Rattle.standing_laws.specs.Leads.{StandsBelow}
-use Rattle.standing_laws.proofs.FilesetBounded.{alone_bounded, bits_bounded, books_bounded, domain_bounded, parents_bounded}
+use Rattle.standing_laws.proofs.FilesetBounded.{after, alone_bounded, bits_bounded, books_bounded, domain_bounded, parents_bounded}
+use Rattle.standing_laws.specs.Sound.{IsSound}
+use Rattle.standing_laws.proofs.SoundInPlace.{sound_bounded}
 use Rattle.domain_memory.specs.Staged.{IsStaged, staged_books, staged_in}
 use Rattle.domain_memory.specs.declared.memory.DomainMemory.{DomainMemory}
 use Rattle.domain_stages.specs.Table.{HasOriginal, PutsSlot}
@@ -46,11 +48,20 @@ module _ (number : ℕ) (entry : FilesetEntry) (limits : Limits) (old new : Doma
     below : StandsBelow d is.stands.files is.stands.indexes
     below = record { tables = is.stands.tables; chains = is.stands.chains; owned = is.stands.owned; rest = is.stands.rest }
 
+    sound_still : IsSound now
+    sound_still = record {
+      files = is.sound.files;
+      indexes = is.sound.indexes;
+      below = after number entry limits d now is.sound.files is.sound.indexes is.sound.below bounds;
+      sound = sound_bounded number entry limits d now is.sound.files is.sound.indexes is.sound.below is.sound.sound bounds;
+    }
+
     pub bounded_so : IsLimited number owner.Fileset limits entry all fileset old new
     bounded_so = record {
       staged = record {
         stands = domain_bounded number entry limits d now bounds bytes all is.stands fileset there;
         alone = alone_bounded number entry limits d now is.stands.files is.stands.indexes below bounds is.alone;
+        sound = sound_still;
         marked = subst (λ (s : Spaces). IsMarkedBut (record now { space = kept_spaces s })) (sym (ap (λ (m : DomainMemory). m.space) puts.same))
             (bits_bounded number entry limits d now is.stands.files is.stands.indexes below bounds (kept_spaces old.space) is.marked);
         once = subst (λ (m : DomainMemory). HaveOnce m.list.list.entries) (sym puts.same) is.once;

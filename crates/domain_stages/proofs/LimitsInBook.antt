@@ -19,6 +19,7 @@ use Rattle.domain_standing.specs.Domain.{DomainNow}
 use Rattle.domain_standing.specs.Sources.{StandAlone}
 use Rattle.domain_standing.specs.Standing.{AreBooksOf, HaveParents, IsMarkedBut, StandsDomain}
 use Rattle.standing_laws.specs.SetsQuota.{fileset_limited}
+use Rattle.standing_laws.specs.Sound.{IsSound}
 use Rattle.domain_parts.specs.Listing.{HaveOnce}
 use Rattle.domain_parts.specs.Slots.{CanGoBack, ChangesSlot, HasNumber, book_in, kept_book, kept_places, places_in, slot_in}
 use Rattle.domain_parts.specs.declared.slots.SlotFiles.{SlotFiles}
@@ -87,6 +88,7 @@ module _ (number : ℕ) (who : Owner) (limits : Limits) (new last : DomainMemory
   still_staged all is = record {
     stands = subst (λ (d : DomainNow). StandsDomain d all) (sym staged_same) is.stands;
     alone = subst StandAlone (sym staged_same) is.alone;
+    sound = subst IsSound (sym staged_same) is.sound;
     marked = subst (λ (d : DomainNow). IsMarkedBut (record d { space = kept_spaces last.space })) (sym staged_same)
         (subst (λ (s : Spaces). IsMarkedBut (record (staged_in new) { space = kept_spaces s })) (sym (ap (λ (m : DomainMemory). m.space) b.same)) is.marked);
     once = subst (λ (m : DomainMemory). HaveOnce m.list.list.entries) (sym b.same) is.once;

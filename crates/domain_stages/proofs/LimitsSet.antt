@@ -46,6 +46,8 @@ use Rattle.standing_laws.proofs.QuotaSlots.{page_stays}
 use Rattle.standing_laws.proofs.QuotaTables.{tables_stand}
 use Rattle.standing_laws.proofs.SlotsKept.{agree}
 use Rattle.standing_laws.proofs.TablesTaken.{low_table, unheld_taken}
+use Rattle.standing_laws.specs.Sound.{IsSound, StandsSound}
+use Rattle.standing_laws.proofs.SoundLimited.{sound_limited}
 use Rattle.domain_memory.specs.Staged.{IsStaged, staged_books, staged_in}
 use Rattle.domain_memory.specs.declared.memory.DomainMemory.{DomainMemory}
 use Rattle.domain_stages.specs.Limits.{SetsInChain}
@@ -202,6 +204,14 @@ module _ (number prefer : ℕ) (who : Owner) (limits : Limits) (entry : FilesetE
         rest = rest_stands number d now of files_now indexes below quota;
       }
 
+      sound_then : StandsSound d of indexes → IsSound now
+      sound_then sound = record {
+        files = files_now;
+        indexes = indexes;
+        below = after;
+        sound = sound_limited number d now of files_now indexes below sound quota;
+      }
+
       agreed : AgreeOn d.contents now.contents staged.stands.slots.shapes
       agreed = agree d of indexes below d.pages now.contents (λ holder home is held. refl)
           (λ at page home held. ap (λ (o : Option (List ℕ)). unwrap_or o []) (page_stays number d now of files_now indexes below quota (of_file at page) home held (λ e. cc) (λ e. cc))) all staged.stands.slots
@@ -209,12 +219,13 @@ module _ (number prefer : ℕ) (who : Owner) (limits : Limits) (entry : FilesetE
       kept_space : kept_spaces mid.space ≡ kept_spaces old.space
       kept_space = (untouched_kept (touched (said_in chain) who) prefer old.space mid.space old.cells mid.cells (pages_of old.pages) (sets.taken chain found.is)).spaces
 
-      module _ (fileset : FilesetSlot) (there : get all entry.name ≡ Some fileset) where
+      module _ (fileset : FilesetSlot) (there : get all entry.name ≡ Some fileset) (sound : IsSound now) where
         end_limited : IsLimited number who limits entry all fileset old end
         end_limited = record {
           staged = record {
             stands = domain_limited number d now files_now all staged.stands quota agreed fileset there;
             alone = alone_limited number d now of files_now indexes below after quota staged.alone;
+            sound = sound;
             marked = subst (λ (s : Spaces). IsMarkedBut (record now { space = s })) (sym kept_space) (bits_limited number d now of files_now indexes below quota (kept_spaces old.space) staged.marked);
             once = staged.once;
             room = staged.room;
@@ -223,5 +234,12 @@ module _ (number prefer : ℕ) (who : Owner) (limits : Limits) (entry : FilesetE
           books = λ books others limited are. books_limited number d now of files_now indexes below after.tables quota (staged_books old) books others limited all fileset there are;
         }
 
-        pub set_so : IsLimited number who limits entry all fileset old new
-        set_so = subst (IsLimited number who limits entry all fileset old) (sym is_end) end_limited
+        set_by : IsLimited number who limits entry all fileset old new
+        set_by = subst (IsLimited number who limits entry all fileset old) (sym is_end) end_limited
+
+    -- as rules of pages ask it is with the files and indexes with which it was so
+    pub set_so : (all : FilesetMap) → IsStaged old all → (fileset : FilesetSlot) → get all entry.name ≡ Some fileset → IsLimited number who limits entry all fileset old new
+    set_so all staged fileset there =
+        let is = staged.sound in
+        let so : IsStaged old all = record staged { stands = record staged.stands { files = is.files; indexes = is.indexes; tables = is.below.tables; chains = is.below.chains; owned = is.below.owned; rest = is.below.rest } } in
+        set_by all staged fileset there (sound_then all so is.sound)

@@ -1,5 +1,5 @@
 -- A history goes on by an entry whose change is kept.
-use Rattle.std.proofs.Common.{◌≡◌, ◌++◌, ◌∷◌, [], ℕ, List, Option, sym, subst}
+use Rattle.std.proofs.Common.{◌≡◌, ◌++◌, ◌∷◌, [], ℕ, List, Option}
 use Rattle.std.proofs.Math.Logic.{∥∥₁_map}
 use Rattle.page_store.specs.Pages.{Pages}
 use Rattle.fileset_model.specs.Filesets.{FilesetMap}
@@ -8,15 +8,12 @@ use Rattle.fileset_model.specs.declared.entry.Entry.{Entry}
 use Rattle.history_laws.specs.GoingOn.{job_left}
 use Rattle.history_laws.proofs.GoesOn.{goes_on_from}
 use Rattle.domain_layout.specs.Reached.{Frame}
-use Rattle.quota_book.specs.Book.{Book}
-use Rattle.domain_standing.specs.Domain.{DomainNow}
-use Rattle.domain_standing.specs.Sources.{StandAlone}
-use Rattle.domain_standing.specs.Standing.{AreBooksOf, HaveParents, IsMarkedBut, StandsDomain}
 use Rattle.domain_memory.specs.Memory.{StandsFor, books_in, kept_in}
 use Rattle.domain_memory.specs.Staged.{IsStagedForSome, MayBeKept}
 use Rattle.domain_memory.specs.declared.memory.DomainMemory.{DomainMemory}
 use Rattle.domain_state.specs.History.{GoesOn, MayCommit}
 use Rattle.domain_state.proofs.NoClones.{have_no_clone}
+use Rattle.domain_memory.proofs.KeptStands.{stands_still}
 
 module _ (pages : Pages) (frame : Frame) (sizes : List ℕ) (old : DomainMemory) (entries : List Entry) (job : Option Command) (e : Entry) (held : ∥ GoesOn pages frame sizes old entries job ∥₁)
     (may : (all : FilesetMap) → StandsFor old all → MayCommit pages frame sizes old entries job e all) where
@@ -32,16 +29,6 @@ module _ (pages : Pages) (frame : Frame) (sizes : List ℕ) (old : DomainMemory)
         leads = λ start is. ∥∥₁_map (goes.leads start is) (λ legal.
             goes_on_from start (record start { filesets = goes.all }) (record start { filesets = m.now }) entries job e (have_no_clone (kept_in old) goes.all goes.stands.stands.slots) legal (m.step start is));
       })
-
--- memory stands for what it stood for where it is as it was kept
-pub stands_still : (old new : DomainMemory) (all : FilesetMap) → kept_in new ≡ kept_in old → books_in new ≡ books_in old → StandsFor old all → StandsFor new all
-stands_still old new all kept books stands = record {
-  stands = subst (λ (d : DomainNow). StandsDomain d all) (sym kept) stands.stands;
-  alone = subst StandAlone (sym kept) stands.alone;
-  parents = subst HaveParents (sym kept) stands.parents;
-  marked = subst IsMarkedBut (sym kept) stands.marked;
-  books = subst (λ (b : ℕ → Book). AreBooksOf b (kept_in new) all) (sym books) (subst (λ (d : DomainNow). AreBooksOf (books_in old) d all) (sym kept) stands.books);
-}
 
 pub discarded : (pages : Pages) (frame : Frame) (sizes : List ℕ) (old new : DomainMemory) (entries : List Entry) (job : Option Command) → ∥ GoesOn pages frame sizes old entries job ∥₁
     → kept_in new ≡ kept_in old → books_in new ≡ books_in old → ∥ GoesOn pages frame sizes new entries job ∥₁
