@@ -25,15 +25,16 @@ use Rattle.domain_layout.specs.Read.{contents_of}
 use Rattle.domain_layout.specs.Shape.{FilesetShape}
 use Rattle.domain_standing.specs.Domain.{DomainNow, item_in}
 use Rattle.domain_standing.specs.Standing.{IsMarkedBut, StandsDomain}
-use Rattle.standing_laws.specs.Leads.{StandsBelow}
 use Rattle.standing_laws.specs.Slots.{StandsSlot}
 use Rattle.standing_laws.specs.SlotsStay.{PutsFileset}
 use Rattle.standing_laws.proofs.BitsStay.{bits_stay}
 use Rattle.standing_laws.proofs.FilesetPut.{fileset_put, stood_in}
 use Rattle.standing_laws.proofs.SourcesSaid.{alone_by_files, files_alone}
-use Rattle.set_standing.specs.Around.{GoesOnAround, StandsAround, StaysAround}
+use Rattle.standing_laws.proofs.SoundParted.{sound_but}
+use Rattle.set_standing.specs.Around.{GoesOnAround, IsNamedIn, StandsAround, StaysAround}
 use Rattle.set_standing.specs.Parts.{AddsFiles, Surroundings, TagsOf, domain_of}
 use Rattle.set_standing.proofs.Again.{around_of}
+use Rattle.set_standing.proofs.OwnIndexes.{around_sound}
 use Rattle.domain_parts.specs.Listing.{HaveOnce, list_with}
 use Rattle.domain_parts.specs.Slots.{CanGoBack, HasNumber, kept_book, kept_places, places_in, slot_in}
 use Rattle.domain_parts.specs.declared.slots.SlotFiles.{SlotFiles}
@@ -50,9 +51,10 @@ use Rattle.chosen_files.proofs.Listing.{behind_added}
 pub stands_around : (memory : DomainMemory) (all : FilesetMap) → IsStaged memory all → (number : ℕ) (entry : FilesetEntry) → item_in (staged_in memory) number ≡ Some (slot.Original entry) → StandsAround number (staged_in memory)
 stands_around memory all is number entry item =
     let d = staged_in memory in
-    let below : StandsBelow d is.stands.files is.stands.indexes = record { tables = is.stands.tables; chains = is.stands.chains; owned = is.stands.owned; rest = is.stands.rest } in
+    let sound = is.sound in
     let it = stood_in d all is.stands.slots number entry item in
-    around_of number d entry item is.stands.files is.stands.indexes below it.stood.set.chains it.stood.set.stands.together (files_alone d is.stands.files is.stands.indexes below is.alone)
+    around_of number d entry item sound.files sound.indexes sound.below it.stood.set.chains it.stood.set.stands.together (files_alone d sound.files sound.indexes sound.below is.alone)
+    (sound_but d sound.files sound.indexes (IsNamedIn it.stood.set.chains) sound.sound)
 
 module _ (old now : DomainMemory) (number : ℕ) (settings settings_now : CallSettings) (chosen after : Chosen) (entry : FilesetEntry) (all : FilesetMap) (is : IsStaged old all) (may : MayGoBack old) (item : item_in (staged_in old) number ≡ Some (slot.Original entry))
     (right : AreSettingsOf old settings) (lends : Lends old number settings chosen) (calls : CallsChange chosen after) (lends_now : Lends now number settings_now after) where
@@ -274,6 +276,7 @@ module _ (old now : DomainMemory) (number : ℕ) (settings settings_now : CallSe
     now_staged = record {
       stands = domain_stands;
       alone = alone_by_files (staged_in now) go.0.files go.0.indexes go.0.below go.0.alone;
+      sound = around_sound number (staged_in now) go.0 entry shape fileset own;
       marked = bits;
       once = subst (λ (l : Listing). HaveOnce l.entries) (sym (ap (λ l. l.list) same_list)) is.once;
       room = room;

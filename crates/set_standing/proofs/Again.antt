@@ -24,7 +24,8 @@ use Rattle.domain_standing.specs.Domain.{DomainNow, all_of}
 use Rattle.standing_laws.specs.IndexCalls.{NamesFile}
 use Rattle.standing_laws.specs.Leads.{StandsBelow}
 use Rattle.standing_laws.proofs.IndexWas.{there_was}
-use Rattle.set_standing.specs.Around.{StandsAround}
+use Rattle.standing_laws.specs.Sound.{StandsSoundBut}
+use Rattle.set_standing.specs.Around.{IsNamedIn, StandsAround}
 
 pub its_number : (number : ℕ) (tag : Tag) (cs : List PlacedCell) → IsOf number tag cs → IsOfFileset number cs
 its_number number tag [] of = of
@@ -44,8 +45,8 @@ module _ (number : ℕ) (d : DomainNow) (entry : FilesetEntry) (original : slice
   among : AreAmong (all_of d files) (d.tags number) chains
   among = subst (AreAmong (all_of d files) (d.tags number)) (λ k t. one_chains d.pages number (d.tags number) has.chains chains has.are together.files t k) has.among
 
-  pub around_of : ((at : CellAt) → source_at files at ≡ None) → StandsAround number d
-  around_of alone = record {
+  pub around_of : ((at : CellAt) → source_at files at ≡ None) → StandsSoundBut (IsNamedIn chains) d files indexes → StandsAround number d
+  around_of alone sound = record {
     entry = entry;
     original = original;
     files = files;
@@ -54,6 +55,7 @@ module _ (number : ℕ) (d : DomainNow) (entry : FilesetEntry) (original : slice
     chains = chains;
     well = record { well = below.chains.well; together = together; among = among };
     alone = alone;
+    sound = sound;
   }
 
 -- the file that a tag of the slot names

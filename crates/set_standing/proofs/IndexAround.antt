@@ -1,5 +1,5 @@
 -- A domain stands on around a slot where a page of a directory's index is written, or put in.
-use Rattle.std.proofs.Common.{◌≡◌, ◌∙◌, ℕ, ◌≤◌, true, false, List, [], ◌∷◌, Option, Some, None, Contains, refl, sym, ap, subst, arith}
+use Rattle.std.proofs.Common.{◌≡◌, ◌∙◌, inl, ℕ, ◌≤◌, true, false, List, [], ◌∷◌, Option, Some, None, Contains, refl, sym, ap, subst, arith}
 use Rattle.std.proofs.lemmas.Bool.{false_from_ne_true}
 use Rattle.std.proofs.lemmas.List.{append-nil}
 use Rattle.std.specs.List.{insert}
@@ -46,12 +46,16 @@ use Rattle.standing_laws.proofs.IndexSaid.{index_other}
 use Rattle.standing_laws.proofs.IndexSet.{IsChain, added, chain_at, written}
 use Rattle.standing_laws.proofs.IndexWas.{member_on, off_cells, off_first, off_tags}
 use Rattle.standing_laws.proofs.TablesTaken.{low_table, unheld_taken}
-use Rattle.set_standing.specs.Around.{BytesFollow, GoesOnAround, StandsAround}
+use Rattle.standing_laws.specs.Sound.{StandsSoundBut}
+use Rattle.standing_laws.proofs.SoundIndexed.{but_added, but_written}
+use Rattle.standing_laws.proofs.SoundParted.{sound_more}
+use Rattle.set_standing.specs.Around.{BytesFollow, GoesOnAround, IsNamedIn, StandsAround}
 use Rattle.set_standing.specs.Follow.{FilesFollow}
 use Rattle.set_standing.proofs.Again.{alone_said, around_of, names_first, number_first, says_first, there_first}
 use Rattle.set_standing.proofs.Aside.{stays_aside}
 use Rattle.set_standing.proofs.FilesKept.{comes_changed, files_by}
 use Rattle.set_standing.proofs.Following.{chain_changed, kept_sequences, same_sequences}
+use Rattle.set_standing.proofs.NamesStay.{said_starts, still_named}
 use Rattle.set_standing.proofs.OwnPages.{held_for, not_in_index, page_bytes}
 
 module _ (number : ℕ) (tag : Tag) (d : DomainNow) (around : StandsAround number d) (first : PlacedCell) (rest : List PlacedCell) (is : around.chains tag ≡ Some (first ∷ rest)) where
@@ -63,6 +67,14 @@ module _ (number : ℕ) (tag : Tag) (d : DomainNow) (around : StandsAround numbe
 
   off_its_first : (home : Home) → ¬ Contains (table_of d.cells home.vol) home.page → same_home home (home_of first.at) ≡ false
   off_its_first = off_first d around.files around.indexes around.below number around.entry around.original tag around.chains around.well first rest is
+
+  -- the tag names the file, whatever the first cell says
+  named_first : IsNamedIn around.chains first.at
+  named_first = (tag, ap (option_and_then start_of) is)
+
+  named_said : (says : Cell → Cell) (now : DomainNow) (files : Files) (indexes : IndexesAt) → StandsSoundBut (IsNamedIn around.chains) now files indexes → StandsSoundBut (IsNamedIn (with_chain tag (with_first says) around.chains)) now files indexes
+  named_said says now files indexes = sound_more now files indexes (IsNamedIn around.chains) (IsNamedIn (with_chain tag (with_first says) around.chains))
+      (still_named around.chains (with_chain tag (with_first says) around.chains) (said_starts tag around.chains says))
 
   -- where its first cell says an index
   said_files : (says : Cell → Cell) → with_said first.at says around.files ≡ with_file first.at (Some (with_first says (first ∷ rest))) around.files
@@ -117,9 +129,13 @@ module _ (number : ℕ) (tag : Tag) (d : DomainNow) (around : StandsAround numbe
     file_stays : (t : Tag) (k : ℕ) (home : Home) → place_at around.chains t k ≡ At home → pages home ≡ d.pages home
     file_stays t k home at = put_apart home (not_in_index number d around first t k home at) ∙ changes.1 home (off_its_first home (around.well.together.file_pages t k home at).apart.off_table)
 
+    sound_then : StandsSoundBut (IsNamedIn (with_chain tag (with_first says) around.chains)) then (with_said first.at says around.files) around.indexes
+    sound_then = named_said says then (with_said first.at says around.files) around.indexes
+        (but_written number tag d then around.chains around.files around.indexes (IsNamedIn around.chains) page bytes around.below around.sound refl first.at (names_first number tag d around first rest is) (inl named_first) writes)
+
     page_written : BytesFollow d then → GoesOnAround number d then
     page_written follow = (
-      around_of number then around.entry around.original (with_said first.at says around.files) around.indexes below_then (with_chain tag (with_first says) around.chains) together_then (alone_now (Some writes.says.index)),
+      around_of number then around.entry around.original (with_said first.at says around.files) around.indexes below_then (with_chain tag (with_first says) around.chains) together_then (alone_now (Some writes.says.index)) sound_then,
       stays_aside number first.at d then around.files around.indexes around.below (first ∷ rest) (there_first number tag d around first rest is) (number_first number tag d around first rest is) (says_first number tag d around first rest is) (λ n differ. refl) refl below_then.chains.well.together.allocated
           (λ at on other. ap (λ (o : Option (List ℕ)). cell_at (λ _. o) at) (on_table (home_of at) on) ∙ changes.0 at other)
           (λ home off. put_apart home off.no_index ∙ changes.1 home (off_its_first home off.off_table))
@@ -176,9 +192,13 @@ module _ (number : ℕ) (tag : Tag) (d : DomainNow) (around : StandsAround numbe
         put_beside home (low_home d.space d.cells d.pages around.files around.below.chains.well.together h.name.at k home h.placed) (not_in_index number d around first t k home at) (λ none. none (of_file h.name.at k) h.placed)
         ∙ changes_more.1 home (off_its_first home (around.well.together.file_pages t k home at).apart.off_table)
 
+    sound_then_more : StandsSoundBut (IsNamedIn (with_chain tag (with_first says_more) around.chains)) more (with_said first.at says_more around.files) indexes_more
+    sound_then_more = named_said says_more more (with_said first.at says_more around.files) indexes_more
+        (but_added number tag d more around.chains around.files around.indexes (IsNamedIn around.chains) place prefer bytes around.below around.sound refl first.at (names_first number tag d around first rest is) (inl named_first) adds)
+
     page_put : BytesFollow d more → GoesOnAround number d more
     page_put follow = (
-      around_of number more around.entry around.original (with_said first.at says_more around.files) indexes_more below_more (with_chain tag (with_first says_more) around.chains) together_more (alone_now (Some adds.says.index)),
+      around_of number more around.entry around.original (with_said first.at says_more around.files) indexes_more below_more (with_chain tag (with_first says_more) around.chains) together_more (alone_now (Some adds.says.index)) sound_then_more,
       stays_aside number first.at d more around.files around.indexes around.below (first ∷ rest) (there_first number tag d around first rest is) (number_first number tag d around first rest is) (says_first number tag d around first rest is) (λ n differ. refl) refl below_more.chains.well.together.allocated
           (λ at on other. ap (λ (o : Option (List ℕ)). cell_at (λ _. o) at) (on_table_more (home_of at) on) ∙ changes_more.0 at other)
           (λ home off. put_beside home off.low off.no_index off.held ∙ changes_more.1 home (off_its_first home off.off_table))

@@ -26,9 +26,13 @@ use Rattle.standing_laws.proofs.OtherSlots.{bytes_same, links_of, seen_place, sl
 use Rattle.standing_laws.proofs.ParentsElsewhere.{parents_elsewhere}
 use Rattle.standing_laws.proofs.SlotsStand.{quotas_stay}
 use Rattle.standing_laws.proofs.TablesTaken.{page_stays}
-use Rattle.set_standing.specs.Around.{BytesFollow, ChangesSlot, GoesOnAround, StandsAround, StaysAround}
+use Rattle.standing_laws.specs.Sound.{StandsSoundBut}
+use Rattle.standing_laws.proofs.SoundCalled.{but_called}
+use Rattle.standing_laws.proofs.SoundParted.{sound_more}
+use Rattle.set_standing.specs.Around.{BytesFollow, ChangesSlot, GoesOnAround, IsNamedIn, StandsAround, StaysAround}
 use Rattle.set_standing.specs.Follow.{FilesFollow, TagsFollow}
 use Rattle.set_standing.proofs.FilesKept.{KeepsBytesOf, files_by}
+use Rattle.set_standing.proofs.NamesStay.{called_starts, still_named}
 use Rattle.set_standing.proofs.OwnLimits.{limits_still}
 
 module _ (number : ℕ) (tag : Tag) (d now : DomainNow) (around : StandsAround number d) (changes : ChangesSlot number d now) (chains_now : Chains) (files_now : Files)
@@ -54,6 +58,11 @@ module _ (number : ℕ) (tag : Tag) (d now : DomainNow) (around : StandsAround n
       tags = changes.tags;
     }
 
+    pub sound_now : StandsSoundBut (IsNamedIn chains_now) now files_now around.indexes
+    sound_now = sound_more now files_now around.indexes (IsNamedIn around.chains) (IsNamedIn chains_now)
+        (still_named around.chains chains_now (called_starts number d.table.made d.frame.version tag was is call may nothing))
+        (but_called number tag d now around.chains chains_now around.files files_now around.indexes (IsNamedIn around.chains) around.below around.sound leads)
+
     abbrev pub around_now : StandsAround number now
     around_now = record {
       entry = around.entry;
@@ -64,6 +73,7 @@ module _ (number : ℕ) (tag : Tag) (d now : DomainNow) (around : StandsAround n
       chains = chains_now;
       well = stands_call number d.frame.version tag was is around.well call;
       alone = λ at. sources_stay number d.frame.version tag was is (one_more was is no_call call) around.well at ∙ around.alone at;
+      sound = sound_now;
     }
 
     -- a page of another file is the one that it was

@@ -9,6 +9,8 @@ pub mod CallsAround
 pub mod IndexAround
 pub mod Joined
 pub mod Led
+pub mod NamesStay
+pub mod OwnIndexes
 pub mod OwnLimits
 pub mod OwnPages
 pub mod PartsCalls

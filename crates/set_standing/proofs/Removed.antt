@@ -28,6 +28,7 @@ use Rattle.deferred_delete.specs.Listing.{Adds, Listing}
 use Rattle.deferred_delete.specs.Standing.{Files, ReadsThrough, source_at, with_file}
 use Rattle.deferred_delete.proofs.Spread.{none_not}
 use Rattle.deferred_delete.proofs.Standings.{file_there}
+use Rattle.deferred_laws.specs.Tags.{start_of}
 use Rattle.deferred_laws.proofs.FirstWell.{removed_beside}
 use Rattle.domain_layout.specs.Filled.{Contents}
 use Rattle.domain_standing.specs.Domain.{DomainNow}
@@ -38,12 +39,15 @@ use Rattle.standing_laws.proofs.IndexSaid.{gone_beside, gone_there, says_gone}
 use Rattle.standing_laws.proofs.IndexSet.{IsChain}
 use Rattle.standing_laws.proofs.IndexSpaces.{Among, NoHome, SpacesMove, held_still, moves_away}
 use Rattle.standing_laws.proofs.IndexWas.{file_was, index_low_was, off_cells, off_first}
-use Rattle.set_standing.specs.Around.{BytesFollow, GoesOnAround, StandsAround}
+use Rattle.standing_laws.specs.Sound.{StandsSoundBut}
+use Rattle.standing_laws.proofs.SoundGone.{but_gone}
+use Rattle.set_standing.specs.Around.{BytesFollow, GoesOnAround, IsNamedIn, StandsAround}
 use Rattle.set_standing.specs.Follow.{FilesFollow}
 use Rattle.set_standing.proofs.Again.{alone_said, around_of, names_first, number_first, says_first, there_first}
 use Rattle.set_standing.proofs.Aside.{stays_aside}
 use Rattle.set_standing.proofs.FilesKept.{files_by}
 use Rattle.set_standing.proofs.Following.{chain_gone, same_sequences}
+use Rattle.set_standing.proofs.NamesStay.{gone_named}
 use Rattle.set_standing.proofs.OwnPages.{not_in_index, page_bytes}
 
 -- where the chain begins of a file that was taken away
@@ -136,6 +140,10 @@ module _ (number : ℕ) (tag : Tag) (group : ℕ) (d : DomainNow) (around : Stan
       below_then : StandsBelow then files_then (with_index_at first.at [] around.indexes)
       below_then = (gone number tag d now around.chains around.files around.indexes group around.below refl together first.at (names_first number tag d around first rest is) removes gives None listed entry adds same_pages).0
 
+      sound_then : StandsSoundBut (IsNamedIn (without_chain tag around.chains)) then files_then (with_index_at first.at [] around.indexes)
+      sound_then = gone_named tag first.at around.chains then files_then around.indexes (ap (option_and_then start_of) is)
+          (but_gone number tag d now around.chains around.files around.indexes (IsNamedIn around.chains) group around.below around.sound refl listed first.at (names_first number tag d around first rest is) removes gives)
+
       off_its_cells : (home : Home) → Contains (around.indexes first.at) home → ¬ Contains (table_of d.cells home.vol) home.page
       off_its_cells = off_cells d around.files around.indexes around.below number around.entry around.original tag around.chains around.well first rest is
 
@@ -159,7 +167,7 @@ module _ (number : ℕ) (tag : Tag) (group : ℕ) (d : DomainNow) (around : Stan
 
       pub file_gone : GoesOnAround number d then
       file_gone = (
-        around_of number then around.entry around.original files_then (with_index_at first.at [] around.indexes) below_then (without_chain tag around.chains) together alone_then,
+        around_of number then around.entry around.original files_then (with_index_at first.at [] around.indexes) below_then (without_chain tag around.chains) together alone_then sound_then,
         stays_aside number first.at d then around.files around.indexes around.below (first ∷ rest) (there_first number tag d around first rest is) (number_first number tag d around first rest is) (says_first number tag d around first rest is) (λ n differ. refl) refl below_then.chains.well.together.allocated
             (λ at on other.
             ap (λ (o : Option (List ℕ)). cell_at (λ _. o) at) (gives.drops.others (home_of at) (λ inside. off_its_cells (home_of at) inside on))

@@ -27,7 +27,8 @@ use Rattle.domain_standing.specs.Holders.Holder.{of_file}
 use Rattle.standing_laws.specs.Leads.{IsLiveOf, StandsBelow}
 use Rattle.standing_laws.specs.OtherPages.{KeepsPlaces, KeepsWhere}
 use Rattle.standing_laws.proofs.OthersStand.{others_stand}
-use Rattle.set_standing.specs.Around.{BytesFollow, GoesOnAround, StandsAround}
+use Rattle.standing_laws.proofs.SoundInPlace.{but_elsewhere}
+use Rattle.set_standing.specs.Around.{BytesFollow, GoesOnAround, IsNamedIn, StandsAround}
 use Rattle.set_standing.specs.Follow.{FilesFollow, TagFollows}
 use Rattle.set_standing.proofs.Again.{its_number, says_some}
 use Rattle.set_standing.proofs.Aside.{stays_aside}
@@ -82,6 +83,7 @@ module _ (number : ℕ) (tag : Tag) (page : ℕ) (d : DomainNow) (around : Stand
               among = record { same = among.same; live = among.live; trimmed = among.trimmed; low = among.low; no_tags = among.no_tags; not_listed = among.not_listed };
             };
             alone = around.alone;
+            sound = but_elsewhere d now around.files around.indexes (IsNamedIn around.chains) around.sound refl keeps_where;
           }
 
       leads : LeadsToFile number (d.tags number) d.pages tag cs

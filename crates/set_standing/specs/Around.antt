@@ -1,7 +1,9 @@
 -- A domain that stands around the fileset in one of its slots, while calls change that.
 use Rattle.std.specs.Prelude.{◌≡◌, ℕ, Some, None}
+use Rattle.std.specs.Option.{option_and_then}
 use Rattle.domain_base.specs.declared.place.CellAt.{CellAt}
 use Rattle.domain_base.specs.declared.place.Home.{Home}
+use Rattle.domain_base.specs.declared.place.Tag.{Tag}
 use Rattle.bitfile_core.specs.Files.{Chains}
 use Rattle.fileset_model.specs.declared.command.Owner.{Owner}
 use Rattle.fileset_model.specs.declared.fileset.FilesetSlot.{FilesetSlot}
@@ -10,6 +12,7 @@ use Rattle.fileset_table.specs.declared.slot.FilesetEntry.{FilesetEntry}
 use Rattle.fileset_table.specs.declared.slot.SlotItem.TheVariants as slot
 use Rattle.deferred_delete.specs.Standing.{Files, source_at}
 use Rattle.deferred_laws.specs.Calls.{StandsWell}
+use Rattle.deferred_laws.specs.Tags.{start_of}
 use Rattle.domain_layout.specs.Shape.{AreLimits, FilesetShape}
 use Rattle.domain_standing.specs.Chains.{IndexesAt, no_files, no_indexes}
 use Rattle.domain_standing.specs.Domain.{DomainNow, item_in}
@@ -17,10 +20,16 @@ use Rattle.domain_standing.specs.Holders.{Holder, Holds}
 use Rattle.standing_laws.specs.Leads.{StandsBelow, fileset_now}
 use Rattle.standing_laws.specs.SlotParents.{HaveParentsIn, StandsForSome}
 use Rattle.standing_laws.specs.Slots.{StandsSlot}
+use Rattle.standing_laws.specs.Sound.{StandsSoundBut}
 use Rattle.set_standing.specs.Follow.{FilesFollow}
 
+-- a tag names the file that begins there
+abbrev pub IsNamedIn : Chains → CellAt → Type 0
+IsNamedIn chains at = (tag : Tag) × (option_and_then start_of (chains tag) ≡ Some at)
+
 -- an original is in the slot of a domain that stands but for its filesets, its files are among the
--- domain's, and no file of the domain is read through another
+-- domain's, no file of the domain is read through another, and it is as rules of pages ask beside;
+-- but while calls change the indexes of the slot's own files, it is not asked what is in their pages
 pub record StandsAround (number : ℕ) (d : DomainNow) : Type 0 where
   pub entry : FilesetEntry
   pub original : item_in d number ≡ Some (slot.Original entry)
@@ -30,6 +39,7 @@ pub record StandsAround (number : ℕ) (d : DomainNow) : Type 0 where
   pub chains : Chains
   pub well : StandsWell number (fileset_now d number chains files)
   pub alone : (at : CellAt) → source_at files at ≡ None
+  pub sound : StandsSoundBut (IsNamedIn chains) d files indexes
 
 -- the page is one of the first pages of a volume
 abbrev pub IsOfVolume : DomainNow → Home → Type 0

@@ -1,6 +1,11 @@
 //! One change after another.
 ghost use Rattle.std.specs.Prelude.{ℕ};
+ghost use Rattle.fileset_model.specs.declared.fileset.FilesetSlot.{FilesetSlot};
+ghost use Rattle.fileset_table.specs.declared.slot.FilesetEntry.{FilesetEntry};
+ghost use Rattle.domain_layout.specs.Shape.{FilesetShape};
 ghost use Rattle.domain_standing.specs.Domain.{DomainNow};
+ghost use Rattle.standing_laws.specs.Slots.{StandsSlot};
+ghost use Rattle.standing_laws.specs.Sound.{IsSound};
 ghost use Rattle.set_standing.specs.Around.{GoesOnAround, StandsAround};
 
 /// Where nothing is changed, the domain stands on around a slot.
@@ -12,4 +17,12 @@ pub fn all_stays_around()
 pub fn changes_around_join()
     ensures { (number : ℕ) (d between now : DomainNow) → GoesOnAround number d between
         → GoesOnAround number between now → GoesOnAround number d now }
+{}
+
+/// Where the original in the slot stands for a fileset, the domain around it is wholly as rules of
+/// pages ask: what rows say of indexes is all that was left out.
+pub fn a_domain_around_a_fileset_is_sound()
+    ensures { (number : ℕ) (d : DomainNow) → StandsAround number d → (entry : FilesetEntry)
+        (shape : FilesetShape) (fileset : FilesetSlot) → StandsSlot d number entry shape fileset
+        → IsSound d }
 {}

@@ -9,7 +9,7 @@ mod pages;
 mod parts;
 mod removing;
 
-pub use around::{all_stays_around, changes_around_join};
+pub use around::{a_domain_around_a_fileset_is_sound, all_stays_around, changes_around_join};
 pub use calls::{
     all_stands_around_a_call_that_does_nothing, all_stands_around_a_file_that_is_made,
     all_stands_around_a_parent_that_is_said, all_stands_around_links_that_are_set,
