@@ -62,30 +62,30 @@ module _ (number : ℕ) (version : Version) (born : ℕ) (p q : Parts) where
   pub make_around : (kind : Kind) (uid gid prefer : ℕ) (r : Result Tag StoreFault)
       → ((chains : Chains) → AreTogether number p.tags p.space p.cells p.pages chains → IfOk r (λ tag. Creates number q.tags tag version (new_file kind uid gid born) chains q.space p.cells q.cells p.pages q.pages))
       → OnOk r (TakesForFile prefer p.tags q.tags p.space q.space p.cells q.cells p.pages) → LeavesOtherCells p.cells [] p.pages q.pages → LeavesBeside q.cells q.tags p.pages q.pages → IfOk r (λ tag. TakesNext tag p.tags q.tags p.pages q.pages)
-      → IfErr r (CreatesNone p.tags p.space q.space p.cells p.pages) → OnErr r (q.tags ≡ p.tags) → OnErr r (q.cells ≡ p.cells) → OnErr r (q.pages ≡ p.pages) → KeepsAround number version born [] p q
+      → IfErr r (CreatesNone p.tags p.space q.space p.cells p.pages) → OnErr r (q.tags ≡ p.tags) → OnErr r (q.cells ≡ p.cells) → OnErr r (q.pages ≡ p.pages) → KeepsAround None number version born [] p q
   make_around kind uid gid prefer (Ok tag) creates takes others elsewhere next none same cells pages = made_kept number version born p q tag (new_file kind uid gid born) prefer refl creates takes others elsewhere next
   make_around kind uid gid prefer (Err fault) creates takes others elsewhere next none same cells pages = refused_kept number version born p q same cells pages (none_made p.tags p.space q.space p.cells p.pages fault none)
 
   pub add_around : {X : Type 0} (tag : Tag) (page : ℕ) (bytes : List ℕ) (prefer : ℕ) (set : SetOf) (stood : StandsAsSet number p.tags p.space p.cells p.pages set) → IsDirectory set tag → page ≡ count_pages set tag → page < file_pages → (r : Result X StoreFault) → q.tags ≡ p.tags
       → ((chains : Chains) → AreTogether number p.tags p.space p.cells p.pages chains → OnOk r (IsSomeAnd (attributes_at chains tag) (AddsPage number p.tags tag page bytes prefer version chains p.space q.space p.cells q.cells p.pages q.pages)))
-      → ((chains : Chains) → AreTogether number p.tags p.space p.cells p.pages chains → IfErr r (AddsNone tag page chains p.space q.space p.cells)) → OnErr r (q.cells ≡ p.cells) → OnErr r (q.pages ≡ p.pages) → KeepsAround number version born [] p q
+      → ((chains : Chains) → AreTogether number p.tags p.space p.cells p.pages chains → IfErr r (AddsNone tag page chains p.space q.space p.cells)) → OnErr r (q.cells ≡ p.cells) → OnErr r (q.pages ≡ p.pages) → KeepsAround None number version born [] p q
   add_around tag page bytes prefer set stood directory last small (Ok x) same adds none cells pages = added_kept number version born p q tag page bytes prefer set stood directory last small same adds
   add_around tag page bytes prefer set stood directory last small (Err fault) same adds none cells pages =
       refused_kept number version born p q same cells pages (none_added tag page stood.chains p.space q.space p.cells fault (none stood.chains stood.stands.together))
 
 module _ (number : ℕ) (version : Version) (born : ℕ) (p : Parts) (pages : Pages) where
   -- nothing has changed
-  pub still_around : pages ≡ p.pages → KeepsAround number version born [] p (record p { pages = pages })
+  pub still_around : pages ≡ p.pages → KeepsAround None number version born [] p (record p { pages = pages })
   still_around same = refused_kept number version born p (record p { pages = pages }) refl refl same (inl refl)
 
   pub parent_around : {X E : Type 0} (tag parent : Tag) (set : SetOf) → StandsAsSet number p.tags p.space p.cells p.pages set → IsDirectory set tag → (r : Result X E) → ((chains : Chains) → AreFiles number p.tags p.pages chains → ChangesFirst (chains tag) p.pages pages)
-      → ((chains : Chains) → AreTogether number p.tags p.space p.cells p.pages chains → OnOk r (AreTogether number p.tags p.space p.cells pages (with_chain tag (with_first (says_parent parent)) chains))) → OnErr r (pages ≡ p.pages) → KeepsAround number version born [] p (record p { pages = pages })
-  parent_around tag parent set stood directory (Ok x) changes says same = put_in_kept number version born p pages tag parent set stood directory changes says
-  parent_around tag parent set stood directory (Err e) changes says same = still_around same
+      → ((chains : Chains) → AreTogether number p.tags p.space p.cells p.pages chains → OnOk r (AreTogether number p.tags p.space p.cells pages (with_chain tag (with_first (says_parent parent)) chains))) → OnOk r (KeepsAround (Some (tag, parent)) number version born [] p (record p { pages = pages }))
+  parent_around tag parent set stood directory (Ok x) changes says = put_in_kept number version born p pages tag parent set stood directory changes says
+  parent_around tag parent set stood directory (Err e) changes says = tt
 
   pub insert_around : {X : Type 0} (space : Spaces) (tag : Tag) (place prefer : ℕ) (bytes : List ℕ) (set : SetOf) → StandsAsSet number p.tags p.space p.cells p.pages set → IsDirectory set tag → (r : Result X StoreFault)
       → ((chains : Chains) (homes : List Home) → AreTogether number p.tags p.space p.cells p.pages chains → AreIndexHomes p.pages (option_and_then index_of (chains tag)) homes
-      → OnOk r (AddsIndexPage number p.tags p.cells tag place bytes prefer chains homes p.space space p.pages pages)) → IfErr r (FindsNoPage p.space space) → OnErr r (pages ≡ p.pages) → KeepsAround number version born [] p (record p { pages = pages; space = space })
+      → OnOk r (AddsIndexPage number p.tags p.cells tag place bytes prefer chains homes p.space space p.pages pages)) → IfErr r (FindsNoPage p.space space) → OnErr r (pages ≡ p.pages) → KeepsAround None number version born [] p (record p { pages = pages; space = space })
   insert_around space tag place prefer bytes set stood directory (Ok x) adds none same = inserted_kept number version born p pages space tag place prefer bytes set stood directory adds
   insert_around space tag place prefer bytes set stood directory (Err fault) adds none same =
       refused_kept number version born p (record p { pages = pages; space = space }) refl refl same (none_found p.space space fault none)
@@ -99,8 +99,8 @@ module _ (number : ℕ) (version : Version) (born : ℕ) (p : Parts) (pages : Pa
 
   pub gone_around : ((chains : Chains) → AreFiles number p.tags p.pages chains → Removes number p.tags tag at (without_index tag chains) pages)
       → ((chains : Chains) (homes : List Home) → AreFiles number p.tags p.pages chains → AreIndexHomes p.pages (option_and_then index_of (chains tag)) homes → GivesIndexBack group p.tags (chains tag) homes p.space space p.pages pages) → KeepsSequences p.tags p.pages pages
-      → KeepsAround number version born (at ∷ []) p (record { tags = files_now.tags; pages = pages; space = space; cells = p.cells })
+      → KeepsAround None number version born (at ∷ []) p (record { tags = files_now.tags; pages = pages; space = space; cells = p.cells })
   gone_around removes gives sequences =
-      subst (λ (f : FilesOf). KeepsAround number version born (at ∷ []) p (record { tags = f.tags; pages = pages; space = space; cells = p.cells })) (sym same)
-      (subst (λ (ts : List TagPlace). KeepsAround number version born (at ∷ []) p (record { tags = ts; pages = pages; space = space; cells = p.cells })) (sym its_tags)
+      subst (λ (f : FilesOf). KeepsAround None number version born (at ∷ []) p (record { tags = f.tags; pages = pages; space = space; cells = p.cells })) (sym same)
+      (subst (λ (ts : List TagPlace). KeepsAround None number version born (at ∷ []) p (record { tags = ts; pages = pages; space = space; cells = p.cells })) (sym its_tags)
       (gone_kept number version born p pages space tag at group set files_are removes gives sequences))

@@ -1,5 +1,5 @@
 -- What stays of a set of files that calls change, and what is listed of files that are taken away.
-use Rattle.std.specs.Prelude.{◌≡◌, ◌++◌, ◌∷◌, ℕ, List, [], Option}
+use Rattle.std.specs.Prelude.{◌≡◌, ◌++◌, ◌∷◌, ℕ, List, [], Option, None}
 use Rattle.std.proofs.Common.{◌∙◌, append_assoc, refl, sym, ap, subst}
 use Rattle.std.proofs.lemmas.List.{append-nil}
 use Rattle.domain_base.specs.declared.place.CellAt.{CellAt}
@@ -12,6 +12,7 @@ use Rattle.stored_set.specs.Sets.{without_index}
 use Rattle.free_cells.specs.Cells.{Cells, is_closed, kept_of}
 use Rattle.free_space.specs.Spaces.{Spaces, kept_spaces}
 use Rattle.free_space.specs.VolumeSpace.{VolumeSpace}
+use Rattle.set_standing.specs.Follow.{Said}
 use Rattle.set_standing.specs.Parts.{KeepsAround, Parts}
 use Rattle.set_standing.proofs.PartsKept.{both_kept, none_kept}
 use Rattle.bitfile_store.specs.declared.parts.CallSettings.{CallSettings}
@@ -39,8 +40,8 @@ pub record KeepsKept (parts parts_now : Parts) : Type 0 where
 -- the fileset's number, what calls are given and the pages that a change is taken back to are as
 -- they were, and so are the cells that were listed, behind which more may be, and what is kept of
 -- free space and free cells; and whatever domain stood around the fileset does still, once those
--- cells are on its list
-pub record LeavesRest (fileset fileset_now : ℕ) (settings settings_now : CallSettings)
+-- cells are on its list, with directories that say what they said or what was said of them
+pub record LeavesRest (said : Said) (fileset fileset_now : ℕ) (settings settings_now : CallSettings)
     (before before_now : Pages) (removed removed_now : List CellAt) (parts parts_now : Parts)
     : Type 0 where
   pub same_number : fileset_now ≡ fileset
@@ -48,12 +49,12 @@ pub record LeavesRest (fileset fileset_now : ℕ) (settings settings_now : CallS
   pub same_before : before_now ≡ before
   pub lists : Lists removed removed_now
   pub kept : KeepsKept parts parts_now
-  pub around : KeepsAround fileset settings.version settings.born lists.0 parts parts_now
+  pub around : KeepsAround said fileset settings.version settings.born lists.0 parts parts_now
 
 -- where nothing is changed, all is so
 pub rest_is : (fileset : ℕ) (settings : CallSettings) (before : Pages) (removed : List CellAt)
     (parts : Parts)
-    → LeavesRest fileset fileset settings settings before before removed removed parts parts
+    → LeavesRest None fileset fileset settings settings before before removed removed parts parts
 rest_is fileset settings before removed parts = record {
   same_number = refl;
   same_settings = refl;
@@ -69,11 +70,11 @@ lists_joined a b c first then = (
   sym (append_assoc a first.0 then.0) ∙ ap (λ xs. xs ++ then.0) first.1 ∙ then.1,
 )
 
--- and after two changes, if it is after each
-pub rest_joined : (f g h : ℕ) (s t u : CallSettings) (p q r : Pages) (a b c : List CellAt)
-    (x y z : Parts) → LeavesRest f g s t p q a b x y → LeavesRest g h t u q r b c y z
-    → LeavesRest f h s u p r a c x z
-rest_joined f g h s t u p q r a b c x y z first then = record {
+-- and after two changes, if it is after each, and the first says nothing of a directory
+pub rest_joined : (said : Said) (f g h : ℕ) (s t u : CallSettings) (p q r : Pages)
+    (a b c : List CellAt) (x y z : Parts) → LeavesRest None f g s t p q a b x y → LeavesRest said g h t u q r b c y z
+    → LeavesRest said f h s u p r a c x z
+rest_joined said f g h s t u p q r a b c x y z first then = record {
   same_number = then.same_number ∙ first.same_number;
   same_settings = then.same_settings ∙ first.same_settings;
   same_before = then.same_before ∙ first.same_before;
@@ -83,9 +84,9 @@ rest_joined f g h s t u p q r a b c x y z first then = record {
     cells = λ vol. then.kept.cells vol ∙ first.kept.cells vol;
     marks = λ vol. then.kept.marks vol ∙ first.kept.marks vol;
   };
-  around = both_kept f s.version s.born first.lists.0 then.lists.0 x y z first.around
-      (subst (λ (n : ℕ). KeepsAround n s.version s.born then.lists.0 y z) first.same_number
-      (subst (λ (w : CallSettings). KeepsAround g w.version w.born then.lists.0 y z)
+  around = both_kept f s.version s.born said first.lists.0 then.lists.0 x y z first.around
+      (subst (λ (n : ℕ). KeepsAround said n s.version s.born then.lists.0 y z) first.same_number
+      (subst (λ (w : CallSettings). KeepsAround said g w.version w.born then.lists.0 y z)
       first.same_settings then.around));
 }
 

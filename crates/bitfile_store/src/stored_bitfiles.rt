@@ -1,5 +1,5 @@
 //! The files of a fileset as a set of files and directories.
-ghost use Rattle.std.specs.Prelude.{◌≡◌, ◌≤◌, false, true, IsSome, OnErr, OnOk};
+ghost use Rattle.std.specs.Prelude.{◌≡◌, ◌≤◌, false, true, IsSome, None, OnErr, OnOk, Some};
 ghost use Rattle.page_store.specs.Bitfiles.{Bitfiles as SetOf, IsDirectory, without_file};
 ghost use Rattle.bitfile_core.specs.Changes.{says_parent, with_chain, with_first};
 ghost use Rattle.bitfile_core.specs.Files.{AreFiles, Chains};
@@ -69,7 +69,16 @@ impl<M: MetaPages> StoredBitfiles<M> {
         ensures err { OnErr result (M.pages self.new.parts.pages ≡ M.pages self.old.parts.pages) }
         ensures missed { ⟦<StoredBitfiles<M> as BitfileSet>⟧.missed self.new
             ≡ ⟦<StoredBitfiles<M> as BitfileSet>⟧.missed self.old }
-        ensures rest { ⟦<StoredBitfiles<M> as BitfileSet>⟧.leaves_rest self.old self.new }
+        ensures rest { OnOk result (LeavesRest (Some (tag, parent)) self.old.parts.files.fileset
+            self.new.parts.files.fileset self.old.settings self.new.settings
+            (M.before self.old.parts.pages) (M.before self.new.parts.pages)
+            self.old.parts.removed.items self.new.parts.removed.items
+            (parts_of self.old.parts.files.tags (M.pages self.old.parts.pages)
+            self.old.parts.space self.old.parts.cells)
+            (parts_of self.new.parts.files.tags (M.pages self.new.parts.pages)
+            self.new.parts.space self.new.parts.cells)) }
+        ensures rest_err { OnErr result
+            (⟦<StoredBitfiles<M> as BitfileSet>⟧.leaves_rest self.old self.new) }
     {
         self.parts
             .files
@@ -141,7 +150,7 @@ impl<M: MetaPages> BitfileSet for StoredBitfiles<M> {
 
     ghost writes_in_place = { λ _. Unit {0} };
 
-    ghost leaves_rest = { λ old new. LeavesRest old.parts.files.fileset new.parts.files.fileset
+    ghost leaves_rest = { λ old new. LeavesRest None old.parts.files.fileset new.parts.files.fileset
         old.settings new.settings (M.before old.parts.pages) (M.before new.parts.pages)
         old.parts.removed.items new.parts.removed.items
         (parts_of old.parts.files.tags (M.pages old.parts.pages) old.parts.space old.parts.cells)
@@ -157,7 +166,8 @@ impl<M: MetaPages> BitfileSet for StoredBitfiles<M> {
         (M.before set.parts.pages) set.parts.removed.items
         (parts_of set.parts.files.tags (M.pages set.parts.pages) set.parts.space set.parts.cells) };
 
-    ghost rest_joins = { λ _ _ _ first then. rest_joined _ _ _ _ _ _ _ _ _ _ _ _ _ _ _ first then };
+    ghost rest_joins = { λ _ _ _ first then.
+        rest_joined None _ _ _ _ _ _ _ _ _ _ _ _ _ _ _ first then };
 
     ghost rest_spends = { λ _ _ _ _. (λ none. none, λ none. none) };
 

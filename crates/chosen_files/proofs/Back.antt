@@ -32,6 +32,7 @@ use Rattle.standing_laws.proofs.FilesetPut.{fileset_put, stood_in}
 use Rattle.standing_laws.proofs.SourcesSaid.{alone_by_files, files_alone}
 use Rattle.standing_laws.proofs.SoundParted.{sound_but}
 use Rattle.set_standing.specs.Around.{GoesOnAround, IsNamedIn, StandsAround, StaysAround}
+use Rattle.set_standing.specs.Follow.{Said}
 use Rattle.set_standing.specs.Parts.{AddsFiles, Surroundings, TagsOf, domain_of}
 use Rattle.set_standing.proofs.Again.{around_of}
 use Rattle.set_standing.proofs.OwnIndexes.{around_sound}
@@ -56,8 +57,8 @@ stands_around memory all is number entry item =
     around_of number d entry item sound.files sound.indexes sound.below it.stood.set.chains it.stood.set.stands.together (files_alone d sound.files sound.indexes sound.below is.alone)
     (sound_but d sound.files sound.indexes (IsNamedIn it.stood.set.chains) sound.sound)
 
-module _ (old now : DomainMemory) (number : ℕ) (settings settings_now : CallSettings) (chosen after : Chosen) (entry : FilesetEntry) (all : FilesetMap) (is : IsStaged old all) (may : MayGoBack old) (item : item_in (staged_in old) number ≡ Some (slot.Original entry))
-    (right : AreSettingsOf old settings) (lends : Lends old number settings chosen) (calls : CallsChange chosen after) (lends_now : Lends now number settings_now after) where
+module _ {said : Said} (old now : DomainMemory) (number : ℕ) (settings settings_now : CallSettings) (chosen after : Chosen) (entry : FilesetEntry) (all : FilesetMap) (is : IsStaged old all) (may : MayGoBack old) (item : item_in (staged_in old) number ≡ Some (slot.Original entry))
+    (right : AreSettingsOf old settings) (lends : Lends old number settings chosen) (calls : CallsChange said chosen after) (lends_now : Lends now number settings_now after) where
   abbrev d : DomainNow
   d = staged_in old
 
@@ -141,16 +142,16 @@ module _ (old now : DomainMemory) (number : ℕ) (settings settings_now : CallSe
       lists_are : list_with (old.listed.items ++ calls.set.lists.0) old.list.list ≡ list_now
       lists_are = λ i. list_with (listed_now i) (sym same_list i).list
 
-  pub go : GoesOnAround number d (staged_in now)
-  go = subst (GoesOnAround number d) is_there
-      (subst (λ (x : DomainNow). GoesOnAround number x (domain_of beside tags_now (parts_in after) list_now)) was_there
-      (subst (λ (n : ℕ). GoesOnAround n (domain_of beside tags (parts_in chosen) list) (domain_of beside tags_now (parts_in after) list_now)) number_is
+  pub go : GoesOnAround said number d (staged_in now)
+  go = subst (GoesOnAround said number d) is_there
+      (subst (λ (x : DomainNow). GoesOnAround said number x (domain_of beside tags_now (parts_in after) list_now)) was_there
+      (subst (λ (n : ℕ). GoesOnAround said n (domain_of beside tags (parts_in chosen) list) (domain_of beside tags_now (parts_in after) list_now)) number_is
       (calls.set.around beside tags tags_now list list_now (sym right.version ∙ sym (ap (λ (s : CallSettings). s.version) lends.same_settings))
       (subst (λ (s : CallSettings). s.born ≤ old.table.made) (sym lends.same_settings) right.born)
       (subst (λ (n : ℕ). TagsOf n (parts_in chosen) (parts_in after) tags tags_now) (sym number_is) of_tags) adds
       (subst (λ (n : ℕ). StandsAround n (domain_of beside tags (parts_in chosen) list)) (sym number_is) (subst (StandsAround number) (sym was_there) (stands_around old all is number entry item))))))
 
-  pub stays : StaysAround number d (staged_in now)
+  pub stays : StaysAround said number d (staged_in now)
   stays = go.1
 
   -- ---- what was kept

@@ -22,6 +22,7 @@ use Rattle.domain_layout.specs.Filled.{IsRole}
 use Rattle.domain_standing.specs.Domain.{item_in}
 use Rattle.standing_laws.proofs.FilesetPut.{stood_in}
 use Rattle.set_standing.specs.Around.{GoesOnAround}
+use Rattle.set_standing.specs.Follow.{Said}
 use Rattle.names_standing.specs.Nodes.{NodesFollow, named_shape}
 use Rattle.names_standing.proofs.Filled.{new_stands}
 use Rattle.domain_parts.specs.Slots.{HasNumber, places_in, slot_in}
@@ -44,10 +45,10 @@ set_of memory number settings chosen lends is =
     (subst (λ (s : _). StandsAsSet p.files.fileset p.files.tags p.space p.cells (pages_of s) (files_in chosen)) lends.pages
     (shown_stands p.files.fileset p.files.tags p.space p.cells (pages_of p.pages) chosen.set.held)))))
 
-module _ (old now : DomainMemory) (number : ℕ) (settings settings_now : CallSettings) (chosen after : Chosen) (entry : FilesetEntry) (all : FilesetMap) (is : IsStaged old all) (may : MayGoBack old) (item : item_in (staged_in old) number ≡ Some (slot.Original entry))
-    (right : AreSettingsOf old settings) (lends : Lends old number settings chosen) (calls : CallsChange chosen after) (lends_now : Lends now number settings_now after)
+module _ {said : Said} (old now : DomainMemory) (number : ℕ) (settings settings_now : CallSettings) (chosen after : Chosen) (entry : FilesetEntry) (all : FilesetMap) (is : IsStaged old all) (may : MayGoBack old) (item : item_in (staged_in old) number ≡ Some (slot.Original entry))
+    (right : AreSettingsOf old settings) (lends : Lends old number settings chosen) (calls : CallsChange said chosen after) (lends_now : Lends now number settings_now after)
   where
-    around : GoesOnAround number (staged_in old) (staged_in now)
+    around : GoesOnAround said number (staged_in old) (staged_in now)
     around = go old now number settings settings_now chosen after entry all is may item right lends calls lends_now
 
     module _ (room : length now.listed.items ≤ now.list.room) (fileset fileset_now : FilesetSlot) (there : get all entry.name ≡ Some fileset) (makes : IsOriginal (files_in after) fileset_now) (follow : NodesFollow fileset.tree fileset_now.tree) where

@@ -4,6 +4,7 @@ use Rattle.page_store.specs.Bitfiles.{Bitfiles}
 use Rattle.bitfile_store.specs.Rest.{LeavesRest, parts_of}
 use Rattle.bitfile_store.specs.Shown.{shown}
 use Rattle.bitfile_store.specs.declared.parts.CallSettings.{CallSettings}
+use Rattle.set_standing.specs.Follow.{Said}
 use Rattle.set_standing.specs.Parts.{Parts}
 use Rattle.staged_pages.specs.Store.{before_of, pages_of}
 use Rattle.domain_parts.specs.Slots.{slot_in}
@@ -43,9 +44,9 @@ abbrev pub files_in : Chosen → Bitfiles
 files_in chosen = shown chosen.set.parts.files.fileset chosen.set.parts.files.tags
     chosen.set.parts.space chosen.set.parts.cells (pages_of chosen.set.parts.pages) chosen.set.held
 
--- calls have changed the set, and nothing else
-pub record CallsChange (chosen after : Chosen) : Type 0 where
-  pub set : LeavesRest chosen.set.parts.files.fileset after.set.parts.files.fileset
+-- calls have changed the set, and nothing else; and this was said of a directory, if anything was
+pub record CallsChange (said : Said) (chosen after : Chosen) : Type 0 where
+  pub set : LeavesRest said chosen.set.parts.files.fileset after.set.parts.files.fileset
       chosen.set.settings after.set.settings (before_of chosen.set.parts.pages)
       (before_of after.set.parts.pages) chosen.set.parts.removed.items
       after.set.parts.removed.items (parts_in chosen) (parts_in after)

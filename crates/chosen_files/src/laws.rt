@@ -14,6 +14,7 @@ ghost use Rattle.fileset_table.specs.declared.slot.SlotItem.TheVariants as slot;
 ghost use Rattle.name_space.specs.Changes.{IsOriginal};
 ghost use Rattle.names_standing.specs.Nodes.{NodesFollow};
 ghost use Rattle.set_standing.specs.Around.{StaysAround};
+ghost use Rattle.set_standing.specs.Follow.{Said};
 ghost use Rattle.standing_laws.specs.Slots.{StandsSlot};
 ghost use Rattle.chosen_files.specs.Chosen.{AreSettingsOf, CallsChange, Lends, files_in};
 ghost use Rattle.chosen_files.specs.declared.chosen.Chosen.{Chosen as ChosenOf};
@@ -24,27 +25,31 @@ ghost use Rattle.chosen_files.specs.declared.chosen.Chosen.{Chosen as ChosenOf};
 /// change can be taken back. Where the original stands for a fileset then, and there is room on the
 /// list for what was taken away, memory is that of a domain with this one beside the others.
 pub fn a_lent_set_is_staged()
-    ensures around { (old now : DomainMemory) (number : ℕ) (settings settings_now : CallSettings)
-        (chosen after : ChosenOf) (entry : FilesetEntry) (all : FilesetMap) → IsStaged old all
-        → MayGoBack old → item_in (staged_in old) number ≡ Some (slot.Original entry)
+    ensures around { (said : Said) (old now : DomainMemory) (number : ℕ)
+        (settings settings_now : CallSettings) (chosen after : ChosenOf) (entry : FilesetEntry)
+        (all : FilesetMap) → IsStaged old all → MayGoBack old
+        → item_in (staged_in old) number ≡ Some (slot.Original entry)
         → AreSettingsOf old settings → Lends old number settings chosen
-        → CallsChange chosen after → Lends now number settings_now after
-        → StaysAround number (staged_in old) (staged_in now) }
-    ensures kept { (old now : DomainMemory) (number : ℕ) (settings settings_now : CallSettings)
-        (chosen after : ChosenOf) (entry : FilesetEntry) (all : FilesetMap) → IsStaged old all
-        → MayGoBack old → item_in (staged_in old) number ≡ Some (slot.Original entry)
+        → CallsChange said chosen after → Lends now number settings_now after
+        → StaysAround said number (staged_in old) (staged_in now) }
+    ensures kept { (said : Said) (old now : DomainMemory) (number : ℕ)
+        (settings settings_now : CallSettings) (chosen after : ChosenOf) (entry : FilesetEntry)
+        (all : FilesetMap) → IsStaged old all → MayGoBack old
+        → item_in (staged_in old) number ≡ Some (slot.Original entry)
         → AreSettingsOf old settings → Lends old number settings chosen
-        → CallsChange chosen after → Lends now number settings_now after → KeepsKept old now }
-    ensures back { (old now : DomainMemory) (number : ℕ) (settings settings_now : CallSettings)
-        (chosen after : ChosenOf) (entry : FilesetEntry) (all : FilesetMap) → IsStaged old all
-        → MayGoBack old → item_in (staged_in old) number ≡ Some (slot.Original entry)
+        → CallsChange said chosen after → Lends now number settings_now after → KeepsKept old now }
+    ensures back { (said : Said) (old now : DomainMemory) (number : ℕ)
+        (settings settings_now : CallSettings) (chosen after : ChosenOf) (entry : FilesetEntry)
+        (all : FilesetMap) → IsStaged old all → MayGoBack old
+        → item_in (staged_in old) number ≡ Some (slot.Original entry)
         → AreSettingsOf old settings → Lends old number settings chosen
-        → CallsChange chosen after → Lends now number settings_now after → MayGoBack now }
-    ensures staged { (old now : DomainMemory) (number : ℕ) (settings settings_now : CallSettings)
-        (chosen after : ChosenOf) (entry : FilesetEntry) (all : FilesetMap) → IsStaged old all
-        → MayGoBack old → item_in (staged_in old) number ≡ Some (slot.Original entry)
+        → CallsChange said chosen after → Lends now number settings_now after → MayGoBack now }
+    ensures staged { (said : Said) (old now : DomainMemory) (number : ℕ)
+        (settings settings_now : CallSettings) (chosen after : ChosenOf) (entry : FilesetEntry)
+        (all : FilesetMap) → IsStaged old all → MayGoBack old
+        → item_in (staged_in old) number ≡ Some (slot.Original entry)
         → AreSettingsOf old settings → Lends old number settings chosen
-        → CallsChange chosen after → Lends now number settings_now after
+        → CallsChange said chosen after → Lends now number settings_now after
         → length now.listed.items ≤ now.list.room → (shape : FilesetShape)
         (fileset : FilesetSlot) → StandsSlot (staged_in now) number entry shape fileset
         → IsStaged now (insert all entry.name fileset) }
@@ -59,11 +64,12 @@ pub fn a_lent_set_of_new_names_is_staged()
         → MayGoBack memory → item_in (staged_in memory) number ≡ Some (slot.Original entry)
         → Lends memory number settings chosen → (fileset : FilesetSlot)
         → get all entry.name ≡ Some fileset → IsOriginal (files_in chosen) fileset }
-    ensures staged { (old now : DomainMemory) (number : ℕ) (settings settings_now : CallSettings)
-        (chosen after : ChosenOf) (entry : FilesetEntry) (all : FilesetMap) → IsStaged old all
-        → MayGoBack old → item_in (staged_in old) number ≡ Some (slot.Original entry)
+    ensures staged { (said : Said) (old now : DomainMemory) (number : ℕ)
+        (settings settings_now : CallSettings) (chosen after : ChosenOf) (entry : FilesetEntry)
+        (all : FilesetMap) → IsStaged old all → MayGoBack old
+        → item_in (staged_in old) number ≡ Some (slot.Original entry)
         → AreSettingsOf old settings → Lends old number settings chosen
-        → CallsChange chosen after → Lends now number settings_now after
+        → CallsChange said chosen after → Lends now number settings_now after
         → length now.listed.items ≤ now.list.room → (fileset fileset_now : FilesetSlot)
         → get all entry.name ≡ Some fileset → IsOriginal (files_in after) fileset_now
         → NodesFollow fileset.tree fileset_now.tree

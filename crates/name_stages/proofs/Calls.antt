@@ -24,6 +24,7 @@ use Rattle.domain_memory.specs.Staged.{IsStagedForSome, MayGoBack, staged_in}
 use Rattle.domain_memory.specs.declared.memory.DomainMemory.{DomainMemory}
 use Rattle.chosen_files.specs.Chosen.{AreSettingsOf, CallsChange, Lends, files_in}
 use Rattle.chosen_files.specs.declared.chosen.Chosen.{Chosen}
+use Rattle.set_standing.specs.Follow.{Said}
 use Rattle.chosen_files.proofs.Back.{goes_back, kept_still}
 use Rattle.chosen_files.proofs.Named.{lent_names, new_names_staged}
 use Rattle.name_stages.specs.Stages.{HasFileset, IsRefused, StandsWith}
@@ -71,7 +72,7 @@ module _ (memory : DomainMemory) (number : ℕ) (settings : CallSettings) (chose
   pub names_were : (all : FilesetMap) (entry : FilesetEntry) (fileset : FilesetSlot) → HasFileset memory number all entry fileset → IsOriginal (files_in chosen) fileset
   names_were all entry fileset h = lent_names memory number settings chosen entry all h.staged h.may h.original lends fileset h.there
 
-  module _ (right : AreSettingsOf memory settings) (after : Chosen) (now : DomainMemory) (calls : CallsChange chosen after) (lends_now : Lends now after.rest.number after.set.settings after) (same : after.rest.number ≡ chosen.rest.number) where
+  module _ {said : Said} (right : AreSettingsOf memory settings) (after : Chosen) (now : DomainMemory) (calls : CallsChange said chosen after) (lends_now : Lends now after.rest.number after.set.settings after) (same : after.rest.number ≡ chosen.rest.number) where
     lends_here : Lends now number after.set.settings after
     lends_here = subst (λ (n : ℕ). Lends now n after.set.settings after) (same ∙ lends.same_number) lends_now
 

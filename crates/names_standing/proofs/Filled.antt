@@ -39,7 +39,7 @@ use Rattle.domain_standing.specs.Domain.{DomainNow, item_in}
 use Rattle.domain_standing.specs.Tables.{StandTables}
 use Rattle.standing_laws.specs.Slots.{StandsSlot}
 use Rattle.set_standing.specs.Around.{StaysAround}
-use Rattle.set_standing.specs.Follow.{ComesFrom, IsEmptyFile, IsStill, TagsFollow}
+use Rattle.set_standing.specs.Follow.{ComesFrom, IsEmptyFile, IsStill, Said, TagsFollow}
 use Rattle.names_standing.specs.Nodes.{IsNewNode, NodesFollow, named_shape}
 
 -- ---- a file that is seen is shown
@@ -65,8 +65,8 @@ same_bytes : (old new : Home → List ℕ) (o : Option Home) → ((home : Home) 
 same_bytes old new None same = refl
 same_bytes old new (Some home) same = ap (λ (bytes : List ℕ). Some bytes) (sym (same home refl))
 
-module _ (number : ℕ) (entry : FilesetEntry) (d now : DomainNow) (shape : FilesetShape) (fileset fileset_now : FilesetSlot) (shown : Bitfiles) (tables : StandTables d) (tables_now : StandTables now) (there : item_in d number ≡ Some (slot.Original entry))
-    (stood : StandsSlot d number entry shape fileset) (stays : StaysAround number d now) (set : StandsAsSet number (now.tags number) now.space now.cells now.pages shown) (makes : MakesOriginal shown fileset_now)
+module _ {said : Said} (number : ℕ) (entry : FilesetEntry) (d now : DomainNow) (shape : FilesetShape) (fileset fileset_now : FilesetSlot) (shown : Bitfiles) (tables : StandTables d) (tables_now : StandTables now) (there : item_in d number ≡ Some (slot.Original entry))
+    (stood : StandsSlot d number entry shape fileset) (stays : StaysAround said number d now) (set : StandsAsSet number (now.tags number) now.space now.cells now.pages shown) (makes : MakesOriginal shown fileset_now)
     (follow : NodesFollow fileset.tree fileset_now.tree)
   where
     abbrev new_shape : FilesetShape
@@ -99,7 +99,7 @@ module _ (number : ℕ) (entry : FilesetEntry) (d now : DomainNow) (shape : File
         subst (λ (places : List TagPlace). AreFiles number places d.pages stood.is.chains)
         (same_directory d.pages entry.first_tag h.places (d.tags number) h.directory (tables.laid.tags number (slot.Original entry) there)) h.files
 
-    tags_follow : TagsFollow number d now stood.is.chains set.chains
+    tags_follow : TagsFollow said number d now stood.is.chains set.chains
     tags_follow = stays.files.files stood.is.chains set.chains files_were set.stands.together.files
 
     comes : (tag : Tag) (seen : SeenFile) → option_and_then seen_in (set.chains tag) ≡ Some seen → ComesFrom d now (stood.is.chains tag) seen

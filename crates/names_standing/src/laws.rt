@@ -16,6 +16,7 @@ ghost use Rattle.domain_standing.specs.Domain.{DomainNow, item_in};
 ghost use Rattle.domain_standing.specs.Tables.{StandTables};
 ghost use Rattle.standing_laws.specs.Slots.{StandsSlot};
 ghost use Rattle.set_standing.specs.Around.{StaysAround};
+ghost use Rattle.set_standing.specs.Follow.{Said};
 ghost use Rattle.names_standing.specs.Nodes.{IsNewNode, NodesFollow, named_shape};
 
 /// Each file and directory of a fileset is what it was, or new, where one is made under a number
@@ -35,10 +36,11 @@ pub fn names_keep_files()
 /// then, and the rows of this make another fileset of which each file is what it was, or new: the
 /// original stands for that fileset, with the bytes that its files had.
 pub fn a_fileset_of_new_names_stands()
-    ensures { (number : ℕ) (entry : FilesetEntry) (d now : DomainNow) (shape : FilesetShape)
-        (fileset fileset_now : FilesetSlot) (shown : Bitfiles) → StandTables d → StandTables now
+    ensures { (said : Said) (number : ℕ) (entry : FilesetEntry) (d now : DomainNow)
+        (shape : FilesetShape) (fileset fileset_now : FilesetSlot) (shown : Bitfiles)
+        → StandTables d → StandTables now
         → item_in d number ≡ Some (slot.Original entry) → StandsSlot d number entry shape fileset
-        → StaysAround number d now
+        → StaysAround said number d now
         → (set : StandsAsSet number (now.tags number) now.space now.cells now.pages shown)
         → IsOriginal shown fileset_now
         → NodesFollow fileset.tree fileset_now.tree

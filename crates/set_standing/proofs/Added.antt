@@ -50,7 +50,7 @@ use Rattle.set_standing.specs.Around.{BytesFollow, ChangesSlot, GoesOnAround, St
 use Rattle.set_standing.specs.Follow.{ComesFrom, FilesFollow}
 use Rattle.set_standing.proofs.CallsAround.{HasFirst, first_of, sets}
 use Rattle.set_standing.proofs.Directories.{is_live, live_said, live_still}
-use Rattle.set_standing.proofs.FilesKept.{IsSameDirectory, KeepsBytesOf, comes_directory_changed, seen_directory, seen_says}
+use Rattle.set_standing.proofs.FilesKept.{IsSameDirectory, KeepsBytesOf, comes_directory_changed, parent_kept, seen_directory, seen_says}
 use Rattle.set_standing.proofs.Following.{chain_changed, kept_sequences, other_begins, same_sequences}
 use Rattle.set_standing.proofs.Joined.{joined}
 use Rattle.set_standing.proofs.Led.{KeepsOthers, around_now, follow as files_of_call, led, led_as, other_page}
@@ -145,12 +145,12 @@ module _ (number : ℕ) (tag : Tag) (page : ℕ) (bytes : List ℕ) (prefer : �
       changes_first : ChangesFirst (Some (h.first ∷ h.rest)) d.pages adds.said
       changes_first = subst (λ o. ChangesFirst o d.pages adds.said) h.is adds.first
 
-  is_longer : GoesOnAround number d mid
+  is_longer : GoesOnAround None number d mid
   is_longer = led number tag d mid around changes_mid chains_mid files_mid says_longer can tt (λ home same. refl)
       (files_of_call number tag d mid around changes_mid chains_mid files_mid says_longer can tt [] (sym (append-nil (d.tags number)))
       (same_sequences number d mid refl (kept_sequences d.pages adds.said (d.tags number) around.well.together.files.directory off_first_cell))
       (chain_changed number d mid around.chains tag (with_first (says_attributes value)) (h.first ∷ h.rest) h.is
-      (λ t cells differ there seen is file page home at. refl) stays_directory))
+      (λ t cells differ there seen is file page home at. refl) stays_directory (parent_kept tag (h.first ∷ h.rest) chain_mid (described_state value) (λ s. refl) (λ s. refl) said_mid)))
 
   is_mid : chains_mid tag ≡ Some chain_mid
   is_mid = chain_same tag (with_first (says_attributes value)) around.chains tag (same_tag_itself tag) ∙ ap (option_map (with_first (says_attributes value))) h.is
@@ -270,14 +270,15 @@ module _ (number : ℕ) (tag : Tag) (page : ℕ) (bytes : List ℕ) (prefer : �
     live_after = live_still chain_mid after (placed page (At gets.home)) (live_said number (d.tags number) adds.said chains_mid adds.together.files tag chain_mid is_mid)
         (live_said number (d.tags number) gets.between chains_held gets.given.together.files tag after (tag_after tag after chains_mid chain_mid is_mid tag (same_tag_itself tag))) (λ s. refl) (λ s live_was kind_was. refl) after_is live_mid
 
-    follow_held : FilesFollow number mid held
+    follow_held : FilesFollow None number mid held
     follow_held = files_of_call number tag mid held around_mid changes_held chains_held files_held is_given absent tt [] (sym (append-nil (d.tags number)))
         (same_sequences number mid held refl (kept_sequences adds.said gets.between (d.tags number) adds.together.files.directory tag_stays))
         (chain_changed number mid held chains_mid tag (λ _. after) chain_mid is_mid other_bytes
         (comes_directory_changed mid held chain_mid after (placed page (At gets.home)) (λ s. refl)
-        (λ state seen. record { directory = seen_directory chain_mid (seen_of state) live_mid seen; kind = refl; uid = refl; gid = refl }) after_is))
+        (λ state seen. record { directory = seen_directory chain_mid (seen_of state) live_mid seen; kind = refl; uid = refl; gid = refl }) after_is)
+        (parent_kept tag chain_mid after (placed page (At gets.home)) (λ s. refl) (λ s. refl) after_is))
 
-    has_home : GoesOnAround number mid held
+    has_home : GoesOnAround None number mid held
     has_home = led_as number tag mid held around_mid changes_held chains_held files_held is_given absent tt kept follow_held
 
     abbrev around_held : StandsAround number held
@@ -294,24 +295,24 @@ module _ (number : ℕ) (tag : Tag) (page : ℕ) (bytes : List ℕ) (prefer : �
     place_of_it : (home : Home) → ¬ place_at chains_held tag page ≡ At home → same_home home gets.home ≡ false
     place_of_it home none = false_from_ne_true (same_home home gets.home) (λ here. none (its_place ∙ ap At (sym (homes_same home gets.home here))))
 
-    is_put : GoesOnAround number held now
+    is_put : GoesOnAround None number held now
     is_put = is_written number tag page held now around_held refl (λ home same. refl) live_there (λ home none. put_apart home (place_of_it home none))
       where
         live_there : IsLiveOf Directory (chains_held tag)
         live_there = subst (IsLiveOf Directory) (sym (tag_after tag after chains_mid chain_mid is_mid tag (same_tag_itself tag))) live_after
 
-    pub page_added : GoesOnAround number d now
-    page_added = joined number d mid now is_longer (joined number mid held now has_home is_put)
+    pub page_added : GoesOnAround None number d now
+    page_added = joined None number d mid now is_longer (joined None number mid held now has_home is_put)
 
 pub is_added : (number : ℕ) (tag : Tag) (page : ℕ) (bytes : List ℕ) (prefer : ℕ) (d now : DomainNow) (around : StandsAround number d) → ChangesSlot number d now → BytesFollow d now → now.tags number ≡ d.tags number
     → (set : SetOf) → StandsAsSet number (d.tags number) d.space d.cells d.pages set → IsDirectory set tag → page ≡ count_pages set tag → page < file_pages
-    → IsSomeAnd (attributes_at around.chains tag) (AddsPage number (d.tags number) tag page bytes prefer d.frame.version around.chains d.space now.space d.cells now.cells d.pages now.pages) → GoesOnAround number d now
+    → IsSomeAnd (attributes_at around.chains tag) (AddsPage number (d.tags number) tag page bytes prefer d.frame.version around.chains d.space now.space d.cells now.cells d.pages now.pages) → GoesOnAround None number d now
 is_added number tag page bytes prefer d now around changes follow same_tags set stood directory last small adds = by_attributes (attributes_at around.chains tag) refl adds
   where
     same : now ≡ record d { pages = now.pages; contents = now.contents; space = now.space; cells = now.cells }
     same = same_rest number d now changes same_tags
 
-    by_attributes : (o : Option Attributes) → attributes_at around.chains tag ≡ o → IsSomeAnd o (AddsPage number (d.tags number) tag page bytes prefer d.frame.version around.chains d.space now.space d.cells now.cells d.pages now.pages) → GoesOnAround number d now
+    by_attributes : (o : Option Attributes) → attributes_at around.chains tag ≡ o → IsSomeAnd o (AddsPage number (d.tags number) tag page bytes prefer d.frame.version around.chains d.space now.space d.cells now.cells d.pages now.pages) → GoesOnAround None number d now
     by_attributes None is adds = absurd adds
-    by_attributes (Some a) is adds = subst (GoesOnAround number d) (sym same)
+    by_attributes (Some a) is adds = subst (GoesOnAround None number d) (sym same)
         (page_added number tag page bytes prefer d around now.pages now.contents now.space now.cells set stood directory last small a is adds follow)

@@ -55,7 +55,7 @@ use Rattle.standing_laws.proofs.IndexWas.{index_low_was}
 use Rattle.standing_laws.proofs.OtherSlots.{seen_place}
 use Rattle.standing_laws.proofs.ParentsElsewhere.{FilesStay, slot_parents}
 use Rattle.set_standing.specs.Around.{BytesFollow, StaysAround}
-use Rattle.set_standing.specs.Follow.{FilesFollow}
+use Rattle.set_standing.specs.Follow.{FilesFollow, Said}
 use Rattle.set_standing.proofs.Besides.{IsBeside, IsOff, is_off}
 use Rattle.set_standing.proofs.OwnLimits.{limits_still}
 
@@ -313,7 +313,7 @@ module _ (number : ℕ) (start : CellAt) (d now : DomainNow) (files : Files) (in
           says (ap (first_record 1) (some_same mine cs (sym there ∙ ap files (sym same) ∙ some)) ∙ quota_first d.pages at cs quotas.quotas 1 (λ e. omega (arith, e)) (λ e. omega (arith, e)))
 
   -- all that is not of the slot
-  pub stays_aside : now.frame ≡ d.frame → now.table ≡ d.table → FilesFollow number d now → StaysAround number d now
+  pub stays_aside : {said : Said} → now.frame ≡ d.frame → now.table ≡ d.table → FilesFollow said number d now → StaysAround said number d now
   stays_aside same_frame same_table files_too = record {
     frame = same_frame;
     table = same_table;

@@ -1,5 +1,5 @@
 -- A domain stands on around a slot where a call was refused, a file is made, or its first cell says something else.
-use Rattle.std.proofs.Common.{◌≡◌, ◌∙◌, ◌⊎◌, ◌==◌, ◌++◌, ℕ, ◌≤◌, Bool, true, cond, List, [], ◌∷◌, Option, Some, None, IfSome, IsSomeAnd, refl, sym, ap, subst, arith, eqb-true, ⊎_elim}
+use Rattle.std.proofs.Common.{◌≡◌, ◌∙◌, ◌⊎◌, ◌==◌, ◌++◌, true≢false, ℕ, ◌≤◌, Bool, true, cond, List, [], ◌∷◌, Option, Some, None, IfSome, IsSomeAnd, refl, sym, ap, subst, arith, eqb-true, ⊎_elim}
 use Rattle.std.proofs.lemmas.Bool.{eq-eqb, false_from_ne_true}
 use Rattle.std.proofs.lemmas.List.{append-nil}
 use Rattle.std.specs.Option.{option_and_then}
@@ -13,6 +13,7 @@ use Rattle.bmt_mcells.specs.Chain.{PlacedCell}
 use Rattle.tag_dirs.specs.Directory.{has_home, sequence_of}
 use Rattle.tag_dirs.specs.declared.dir.TagPlace.{TagPlace}
 use Rattle.free_space.specs.Spaces.{missed}
+use Rattle.page_store.specs.Bitfiles.{same_tag}
 use Rattle.bitfile_cells.specs.FileChanges.{LeavesOtherCells}
 use Rattle.bitfile_cells.specs.Files.{AreFile}
 use Rattle.bitfile_core.specs.declared.attributes.Attributes.{Attributes}
@@ -40,15 +41,15 @@ use Rattle.standing_laws.specs.Left.{LeavesNothing}
 use Rattle.standing_laws.specs.OtherPages.{KeepsPlaces}
 use Rattle.standing_laws.proofs.IndexWas.{off_first}
 use Rattle.set_standing.specs.Around.{BytesFollow, ChangesSlot, GoesOnAround, StandsAround}
-use Rattle.set_standing.specs.Follow.{ComesFrom}
-use Rattle.set_standing.proofs.FilesKept.{IsAlike, KeepsBytesOf, comes_changed, new_comes, seen_says, tag_same}
-use Rattle.set_standing.proofs.Following.{chain_changed, chain_made, kept_sequences, same_sequences}
+use Rattle.set_standing.specs.Follow.{ComesFrom, Said, SaysParent}
+use Rattle.set_standing.proofs.FilesKept.{IsAlike, KeepsBytesOf, comes_changed, new_comes, none_unsaid, parent_kept, parent_told, seen_says, tag_same}
+use Rattle.set_standing.proofs.Following.{SaysNoOther, chain_made, chain_said, kept_sequences, same_sequences}
 use Rattle.set_standing.proofs.Led.{bytes_kept, follow, led}
 
 -- ---- nothing is done
 
 pub is_refused : (number : ℕ) (d now : DomainNow) → StandsAround number d → ChangesSlot number d now → BytesFollow d now → now.tags number ≡ d.tags number → now.cells ≡ d.cells → now.pages ≡ d.pages
-    → (now.space ≡ d.space) ⊎ (now.space ≡ missed d.space) → GoesOnAround number d now
+    → (now.space ≡ d.space) ⊎ (now.space ≡ missed d.space) → GoesOnAround None number d now
 is_refused number d now around changes bytes same_tags same_cells same_pages space =
     let call : Call number d.frame.version root_tag (fileset_now d number around.chains around.files) (fileset_now now number around.chains around.files) =
     refused (record { places = same_tags; chains = refl; list = changes.list; files = refl; space = space; cells = same_cells; pages = same_pages })
@@ -107,7 +108,7 @@ module _ (number : ℕ) (tag : Tag) (what : NewFile) (prefer : ℕ) (d now : Dom
         ∙ ap (λ (s : States). s tag) (states_made d.frame.version what tag creates.first creates.says creates.no_page around.chains)
         ∙ ap (λ (b : Bool). cond b (Some (new_state what tag)) (option_and_then state_of (around.chains tag))) (same_tag_itself tag)
 
-    pub is_made : GoesOnAround number d now
+    pub is_made : GoesOnAround None number d now
     is_made = led number tag d now around changes chains_with files_with call born tt bytes
         (follow number tag d now around changes chains_with files_with call born tt more.0 more.1 rises
         (chain_made number d now around.chains tag (creates.first ∷ []) creates.fresh (omega (arith, next.next))
@@ -175,23 +176,25 @@ module _ (number : ℕ) (tag : Tag) (d now : DomainNow) (around : StandsAround n
       file_bytes : (t : Tag) (cells : List PlacedCell) → around.chains t ≡ Some cells → KeepsBytesOf d now cells
       file_bytes = bytes_kept number tag d now around (slot_of_places number d now same) chains_said files_said call may nothing bytes
 
-      is_said : ((is : SeenFile) → seen_in (with_first says (h.first ∷ h.rest)) ≡ Some is → ComesFrom d now (Some (h.first ∷ h.rest)) is) → GoesOnAround number d now
-      is_said comes =
+      is_said : (said : Said) → SaysNoOther number d now around.chains tag said → ((is : SeenFile) → seen_in (with_first says (h.first ∷ h.rest)) ≡ Some is → ComesFrom d now (Some (h.first ∷ h.rest)) is)
+          → ((is : SeenFile) → seen_in (with_first says (h.first ∷ h.rest)) ≡ Some is → SaysParent said tag (Some (h.first ∷ h.rest)) (with_first says (h.first ∷ h.rest))) → GoesOnAround said number d now
+      is_said said unsaid comes parents =
           let same_tags = ap (λ (x : DomainNow). x.tags number) same in
           led number tag d now around (slot_of_places number d now same) chains_said files_said call may nothing bytes
           (follow number tag d now around (slot_of_places number d now same) chains_said files_said call may nothing [] (same_tags ∙ sym (append-nil (d.tags number)))
           (same_sequences number d now same_tags (kept_sequences d.pages now.pages (d.tags number) around.well.together.files.directory off_first_cell))
-          (chain_changed number d now around.chains tag (with_first says) (h.first ∷ h.rest) h.is (λ t cells differ there. file_bytes t cells there) comes))
+          (chain_said number d now around.chains tag said unsaid (with_first says) (h.first ∷ h.rest) h.is (λ t cells differ there. file_bytes t cells there) comes parents))
 
   its_file : (h : HasFirst around.chains tag) → AreFile d.pages h.first h.rest
   its_file h = (file_at number (d.tags number) d.pages around.chains around.well.together.files tag (h.first ∷ h.rest) h.is).is_file.1
 
   pub is_linked : (was : Attributes) (links : ℕ) → attributes_at around.chains tag ≡ Some was → 1 ≤ links → links ≤ max_links
-      → AreTogether number (d.tags number) d.space d.cells now.pages (with_chain tag (with_first (says_attributes (record was { links = links }))) around.chains) → GoesOnAround number d now
+      → AreTogether number (d.tags number) d.space d.cells now.pages (with_chain tag (with_first (says_attributes (record was { links = links }))) around.chains) → GoesOnAround None number d now
   is_linked was links is named most together =
-      is_said (says_attributes value) h (described value (sets (says_attributes value) h together)) can tt
+      is_said (says_attributes value) h (described value (sets (says_attributes value) h together)) can tt None (λ t differ. none_unsaid t)
       (comes_changed d now (h.first ∷ h.rest) (with_first (says_attributes value) (h.first ∷ h.rest)) (described_state value) (λ s. refl) alike (attributes_said d.pages h.first h.rest (its_file h) value)
       (file_bytes (says_attributes value) h (described value (sets (says_attributes value) h together)) can tt tag (h.first ∷ h.rest) h.is))
+      (parent_kept tag (h.first ∷ h.rest) (with_first (says_attributes value) (h.first ∷ h.rest)) (described_state value) (λ s. refl) (λ s. refl) (attributes_said d.pages h.first h.rest (its_file h) value))
     where
       value : Attributes
       value = record was { links = links }
@@ -214,11 +217,17 @@ module _ (number : ℕ) (tag : Tag) (d now : DomainNow) (around : StandsAround n
             homes = λ page. refl;
           }
 
-  pub is_put_in : (parent : Tag) → IsLiveOf Directory (around.chains tag) → AreTogether number (d.tags number) d.space d.cells now.pages (with_chain tag (with_first (says_parent parent)) around.chains) → GoesOnAround number d now
+  pub is_put_in : (parent : Tag) → IsLiveOf Directory (around.chains tag) → AreTogether number (d.tags number) d.space d.cells now.pages (with_chain tag (with_first (says_parent parent)) around.chains) → GoesOnAround (Some (tag, parent)) number d now
   is_put_in parent directory together =
-      is_said (says_parent parent) h (put_in parent (sets (says_parent parent) h together)) directory tt
+      is_said (says_parent parent) h (put_in parent (sets (says_parent parent) h together)) directory tt (Some (tag, parent)) no_other
       (comes_changed d now (h.first ∷ h.rest) (with_first (says_parent parent) (h.first ∷ h.rest)) (put_in_state parent) (λ s. refl) (λ state seen. record { kind = refl; uid = refl; gid = refl; size = refl; logged = refl; homes = λ page. refl })
       (parent_said d.pages h.first h.rest (its_file h) parent) (file_bytes (says_parent parent) h (put_in parent (sets (says_parent parent) h together)) directory tt tag (h.first ∷ h.rest) h.is))
+      (parent_told tag parent (h.first ∷ h.rest) (with_first (says_parent parent) (h.first ∷ h.rest)) (put_in_state parent) (λ s. refl) (λ s. refl) (parent_said d.pages h.first h.rest (its_file h) parent))
     where
+      no_other : SaysNoOther number d now around.chains tag (Some (tag, parent))
+      no_other t differ other same =
+          let one : tag ≡ t = ap (λ (s : Tag × Tag). s.0) (some_same (tag, parent) (t, other) same) in
+          true≢false (sym (same_tag_itself t) ∙ ap (same_tag t) (sym one) ∙ differ)
+
       h : HasFirst around.chains tag
       h = first_of number d around tag (λ (w : Attributes). w.kind ≡ Directory) directory

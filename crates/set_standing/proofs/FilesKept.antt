@@ -5,6 +5,8 @@ use Rattle.domain_base.specs.declared.place.Home.{Home}
 use Rattle.domain_base.specs.declared.place.Kind.TheVariants.{Directory, File}
 use Rattle.domain_base.specs.declared.place.Tag.{Tag}
 use Rattle.page_store.specs.Pages.{Pages}
+use Rattle.record_table.specs.declared.record.Record.{Record}
+use Rattle.record_table.specs.declared.record.Record.TheVariants as written
 use Rattle.bmt_mcells.specs.Chain.{PlacedCell}
 use Rattle.tag_dirs.specs.Directory.{cell_of}
 use Rattle.tag_dirs.specs.declared.dir.TagPlace.{TagPlace}
@@ -13,9 +15,9 @@ use Rattle.extent_maps.specs.declared.run.PagePlace.TheVariants.{Absent}
 use Rattle.bitfile_cells.specs.Files.{IsFile, places_of}
 use Rattle.domain_base.specs.declared.place.CellAt.{CellAt}
 use Rattle.bitfile_core.specs.Creation.{last_sequence}
-use Rattle.bitfile_core.specs.Files.{AreFiles, Chains, LeadsToFile, attributes_of, is_removed, keep_of, of_live}
+use Rattle.bitfile_core.specs.Files.{AreFiles, Chains, LeadsToFile, attributes_of, first_record, is_removed, keep_of, of_live}
 use Rattle.bitfile_core.specs.declared.attributes.Attributes.{Attributes}
-use Rattle.bitfile_core.specs.State.{FileState, state_of}
+use Rattle.bitfile_core.specs.State.{FileState, parent_of, state_of, state_with}
 use Rattle.bitfile_core.specs.declared.new_cells.NewFile.{NewFile}
 use Rattle.bitfile_core.proofs.Created.{one_chains}
 use Rattle.bitfile_core.proofs.Tags.{used_sequence}
@@ -26,7 +28,7 @@ use Rattle.standing_laws.specs.Leads.{IsLiveOf}
 use Rattle.node_laws.specs.Nodes.{seen_of}
 use Rattle.node_laws.proofs.Seen.{live_seen}
 use Rattle.domain_standing.specs.Domain.{DomainNow}
-use Rattle.set_standing.specs.Follow.{ComesFrom, FilesFollow, IsEmptyFile, IsStill, TagFollows, TagsFollow}
+use Rattle.set_standing.specs.Follow.{ComesFrom, FilesFollow, IsEmptyFile, IsStill, IsUnsaid, Said, SaysParent, TagFollows, TagsFollow}
 
 -- ---- what is seen of a chain
 
@@ -104,6 +106,46 @@ seen_says cells seen is = by_removed (is_removed cells) is
 pub seen_directory : (cells : List PlacedCell) (seen : SeenFile) → IsLiveOf Directory (Some cells) → seen_in cells ≡ Some seen → seen.is.kind ≡ Directory
 seen_directory cells seen live is = subst (λ o. IsSomeAnd o (λ (a : Attributes). a.kind ≡ Directory)) (seen_says cells seen is) live
 
+-- ---- what a directory says of its parent
+
+-- cells say the parent that their state has
+says_state : (cells : List PlacedCell) (state : FileState) → state_of cells ≡ Some state → parent_of cells ≡ state.parent
+says_state cells state is = by_record (first_record 1 cells) is
+  where
+    by_record : (o : Option Record) → option_and_then (state_with cells) o ≡ Some state → parent_of cells ≡ state.parent
+    by_record None none = absurd (none_not state none)
+    by_record (Some (written.Attributes kind uid gid flags size keep links birth unsynced)) same = ap (λ (s : FileState). s.parent) (some_same _ state same)
+    by_record (Some r) none = absurd (none_not state none)
+
+pub none_unsaid : (tag : Tag) → IsUnsaid None tag
+none_unsaid tag parent none = none_not (tag, parent) none
+
+-- where nothing is said of a tag, it says what it said
+pub says_still : (said : Said) (tag : Tag) → IsUnsaid said tag → (was cells : List PlacedCell) → parent_of cells ≡ parent_of was → SaysParent said tag (Some was) cells
+says_still said tag unsaid was cells same = record {
+  told = λ parent says. absurd (unsaid parent says);
+  kept = λ w some none. same ∙ ap parent_of (some_same was w some);
+}
+
+-- so it does where its state has the same
+pub parent_kept : (tag : Tag) (cells cells_now : List PlacedCell) (how : FileState → FileState) → ((state : FileState) → (how state).pending ≡ state.pending) → ((state : FileState) → (how state).parent ≡ state.parent) → state_of cells_now ≡ option_map how (state_of cells)
+    → (is : SeenFile) → seen_in cells_now ≡ Some is → SaysParent None tag (Some cells) cells_now
+parent_kept tag cells cells_now how pending parent changed is there =
+    let both = both_seen cells cells_now how pending changed is there in
+    says_still None tag (none_unsaid tag) cells cells_now
+    (says_state cells_now (how both.state) (changed ∙ ap (option_map how) both.there) ∙ parent both.state ∙ sym (says_state cells both.state both.there))
+
+-- and where another is said of it, it says that
+pub parent_told : (tag parent : Tag) (cells cells_now : List PlacedCell) (how : FileState → FileState) → ((state : FileState) → (how state).pending ≡ state.pending) → ((state : FileState) → (how state).parent ≡ Some parent) → state_of cells_now ≡ option_map how (state_of cells)
+    → (is : SeenFile) → seen_in cells_now ≡ Some is → SaysParent (Some (tag, parent)) tag (Some cells) cells_now
+parent_told tag parent cells cells_now how pending says changed is there =
+    let both = both_seen cells cells_now how pending changed is there in
+    record {
+      told = λ other same.
+          says_state cells_now (how both.state) (changed ∙ ap (option_map how) both.there) ∙ says both.state ∙ ap (λ (o : Option (Tag × Tag)). option_map (λ (s : Tag × Tag). s.1) o) same;
+      kept = λ was some unsaid. absurd (unsaid parent refl);
+    }
+
 -- ---- from one domain to another
 
 module _ (d now : DomainNow) where
@@ -174,24 +216,32 @@ module _ (d now : DomainNow) where
   -- ---- tag by tag
 
   -- a tag that names what it named
-  pub tag_same : (last : ℕ) (tag : Tag) (o : Option (List PlacedCell)) → ((cells : List PlacedCell) → o ≡ Some cells → KeepsBytesOf cells) → TagFollows d now last tag o o
-  tag_same last tag o bytes = record {
+  pub tag_unsaid : (said : Said) (last : ℕ) (tag : Tag) → IsUnsaid said tag → (o : Option (List PlacedCell)) → ((cells : List PlacedCell) → o ≡ Some cells → KeepsBytesOf cells) → TagFollows said d now last tag o o
+  tag_unsaid said last tag unsaid o bytes = record {
     fresh = λ none some. absurd (true≢false (sym some ∙ ap is_some none));
     from = λ cells is there seen. subst (λ (p : Option (List PlacedCell)). ComesFrom d now p is) (sym there) (comes_same cells is (bytes cells there) seen);
+    parent = λ cells is there seen. subst (λ (p : Option (List PlacedCell)). SaysParent said tag p cells) (sym there) (says_still said tag unsaid cells cells refl);
   }
 
+  pub tag_same : (last : ℕ) (tag : Tag) (o : Option (List PlacedCell)) → ((cells : List PlacedCell) → o ≡ Some cells → KeepsBytesOf cells) → TagFollows None d now last tag o o
+  tag_same last tag o bytes = tag_unsaid None last tag (none_unsaid tag) o bytes
+
   -- one that names a changed chain
-  pub tag_changed : (last : ℕ) (tag : Tag) (cells cells_now : List PlacedCell) → ((is : SeenFile) → seen_in cells_now ≡ Some is → ComesFrom d now (Some cells) is) → TagFollows d now last tag (Some cells) (Some cells_now)
-  tag_changed last tag cells cells_now comes = record {
+  pub tag_changed : (said : Said) (last : ℕ) (tag : Tag) (cells cells_now : List PlacedCell) → ((is : SeenFile) → seen_in cells_now ≡ Some is → ComesFrom d now (Some cells) is) → ((is : SeenFile) → seen_in cells_now ≡ Some is → SaysParent said tag (Some cells) cells_now) → TagFollows said d now last tag (Some cells) (Some cells_now)
+  tag_changed said last tag cells cells_now comes says = record {
     fresh = λ none some. absurd (none_not cells (sym none));
     from = λ other is there seen. comes is (ap seen_in (some_same cells_now other there) ∙ seen);
+    parent = λ other is there seen.
+        let same = some_same cells_now other there in
+        subst (SaysParent said tag (Some cells)) same (says is (ap seen_in same ∙ seen));
   }
 
   -- one that names nothing any more
-  pub tag_gone : (last : ℕ) (tag : Tag) (o : Option (List PlacedCell)) → TagFollows d now last tag o None
+  pub tag_gone : (last : ℕ) (tag : Tag) (o : Option (List PlacedCell)) → TagFollows None d now last tag o None
   tag_gone last tag o = record {
     fresh = λ none some. absurd (true≢false (sym some));
     from = λ cells is there seen. absurd (none_not cells there);
+    parent = λ cells is there seen. absurd (none_not cells there);
   }
 
 -- ---- one change after another
@@ -233,11 +283,11 @@ used_last number places pages chains tag cells are there = ap (λ o. unwrap_or o
         by_cell None none = absurd none
         by_cell (Some at) file = refl
 
-module _ (number : ℕ) (d between now : DomainNow) (one : FilesFollow number d between) (two : FilesFollow number between now) (mids : Chains) (are_mid : AreFiles number (between.tags number) between.pages mids) (chains chains_now : Chains) (are : AreFiles number (d.tags number) d.pages chains) (are_now : AreFiles number (now.tags number) now.pages chains_now) (tag : Tag) where
-  first : TagFollows d between (last_sequence d.pages (d.tags number) tag.slot) tag (chains tag) (mids tag)
+module _ (said : Said) (number : ℕ) (d between now : DomainNow) (one : FilesFollow None number d between) (two : FilesFollow said number between now) (mids : Chains) (are_mid : AreFiles number (between.tags number) between.pages mids) (chains chains_now : Chains) (are : AreFiles number (d.tags number) d.pages chains) (are_now : AreFiles number (now.tags number) now.pages chains_now) (tag : Tag) where
+  first : TagFollows None d between (last_sequence d.pages (d.tags number) tag.slot) tag (chains tag) (mids tag)
   first = one.files chains mids are are_mid tag
 
-  then : TagFollows between now (last_sequence between.pages (between.tags number) tag.slot) tag (mids tag) (chains_now tag)
+  then : TagFollows said between now (last_sequence between.pages (between.tags number) tag.slot) tag (mids tag) (chains_now tag)
   then = two.files mids chains_now are_mid are_now tag
 
   -- what named nothing between had named nothing before
@@ -278,27 +328,43 @@ module _ (number : ℕ) (d between now : DomainNow) (one : FilesFollow number d 
       by_mid None named empty = by_none named (chains tag) refl empty
       by_mid (Some cs) named comes = by_seen cs named (seen_in cs) refl comes
 
-  tag_joined : TagFollows d now (last_sequence d.pages (d.tags number) tag.slot) tag (chains tag) (chains_now tag)
-  tag_joined = record { fresh = fresh_joined; from = from_joined }
+  -- what a tag names says what was said of it then, or says what was said before all along
+  kept_joined : (cells : List PlacedCell) (is : SeenFile) → chains_now tag ≡ Some cells → seen_in cells ≡ Some is → (was : List PlacedCell) → chains tag ≡ Some was → IsUnsaid said tag → parent_of cells ≡ parent_of was
+  kept_joined cells is there seen was some unsaid = by_mid (mids tag) refl (then.from cells is there seen)
+    where
+      by_seen : (cs : List PlacedCell) → mids tag ≡ Some cs → (o : Option SeenFile) → seen_in cs ≡ o → IsSomeAnd o (λ mid. IsStill between now mid is) → parent_of cells ≡ parent_of was
+      by_seen cs named None seen_mid none = absurd none
+      by_seen cs named (Some mid) seen_mid still = (then.parent cells is there seen).kept cs named unsaid ∙ (first.parent cs mid named seen_mid).kept was some (none_unsaid tag)
 
-pub files_joined : (number : ℕ) (d between now : DomainNow) → FilesFollow number d between → FilesFollow number between now → (mids : Chains) → AreFiles number (between.tags number) between.pages mids → FilesFollow number d now
-files_joined number d between now one two mids are_mid = record {
+      by_mid : (o : Option (List PlacedCell)) → mids tag ≡ o → ComesFrom between now o is → parent_of cells ≡ parent_of was
+      by_mid None named empty = absurd (none_twice named (ap is_some there) was some)
+      by_mid (Some cs) named comes = by_seen cs named (seen_in cs) refl comes
+
+  tag_joined : TagFollows said d now (last_sequence d.pages (d.tags number) tag.slot) tag (chains tag) (chains_now tag)
+  tag_joined = record {
+    fresh = fresh_joined;
+    from = from_joined;
+    parent = λ cells is there seen. record { told = (then.parent cells is there seen).told; kept = kept_joined cells is there seen };
+  }
+
+pub files_joined : (said : Said) (number : ℕ) (d between now : DomainNow) → FilesFollow None number d between → FilesFollow said number between now → (mids : Chains) → AreFiles number (between.tags number) between.pages mids → FilesFollow said number d now
+files_joined said number d between now one two mids are_mid = record {
   more = one.more ++ two.more;
   grows = two.grows ∙ ap (λ (l : List TagPlace). l ++ two.more) one.grows ∙ append_assoc (d.tags number) one.more two.more;
   sequences = λ slot. let a = one.sequences slot in let b = two.sequences slot in omega (arith, a, b);
-  files = λ chains chains_now are are_now tag. tag_joined number d between now one two mids are_mid chains chains_now are are_now tag;
+  files = λ chains chains_now are are_now tag. tag_joined said number d between now one two mids are_mid chains chains_now are are_now tag;
 }
 
 -- ---- by the chains that there are
 
-pub files_by : (number : ℕ) (d now : DomainNow) (more : List TagPlace) → now.tags number ≡ d.tags number ++ more
+pub files_by : {said : Said} (number : ℕ) (d now : DomainNow) (more : List TagPlace) → now.tags number ≡ d.tags number ++ more
     → ((slot : ℕ) → last_sequence d.pages (d.tags number) slot ≤ last_sequence now.pages (now.tags number) slot)
-    → (its its_now : Chains) → AreFiles number (d.tags number) d.pages its → AreFiles number (now.tags number) now.pages its_now → TagsFollow number d now its its_now → FilesFollow number d now
-files_by number d now more grows sequences its its_now are are_now each = record {
+    → (its its_now : Chains) → AreFiles number (d.tags number) d.pages its → AreFiles number (now.tags number) now.pages its_now → TagsFollow said number d now its its_now → FilesFollow said number d now
+files_by {said} number d now more grows sequences its its_now are are_now each = record {
   more = more;
   grows = grows;
   sequences = sequences;
   files = λ chains chains_now was is tag.
-      subst (λ o. TagFollows d now (last_sequence d.pages (d.tags number) tag.slot) tag o (chains_now tag)) (one_chains d.pages number (d.tags number) its chains are was tag)
-      (subst (λ o. TagFollows d now (last_sequence d.pages (d.tags number) tag.slot) tag (its tag) o) (one_chains now.pages number (now.tags number) its_now chains_now are_now is tag) (each tag));
+      subst (λ o. TagFollows said d now (last_sequence d.pages (d.tags number) tag.slot) tag o (chains_now tag)) (one_chains d.pages number (d.tags number) its chains are was tag)
+      (subst (λ o. TagFollows said d now (last_sequence d.pages (d.tags number) tag.slot) tag (its tag) o) (one_chains now.pages number (now.tags number) its_now chains_now are_now is tag) (each tag));
 }

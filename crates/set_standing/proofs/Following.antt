@@ -22,8 +22,8 @@ use Rattle.deferred_delete.proofs.Spread.{none_not, some_same}
 use Rattle.deferred_laws.proofs.Tags.{IsNamed}
 use Rattle.domain_layout.specs.Seen.{SeenFile, seen_in}
 use Rattle.domain_standing.specs.Domain.{DomainNow}
-use Rattle.set_standing.specs.Follow.{ComesFrom, TagFollows, TagsFollow}
-use Rattle.set_standing.proofs.FilesKept.{KeepsBytesOf, tag_changed, tag_gone, tag_same}
+use Rattle.set_standing.specs.Follow.{ComesFrom, IsUnsaid, Said, SaysParent, TagFollows, TagsFollow}
+use Rattle.set_standing.proofs.FilesKept.{KeepsBytesOf, none_unsaid, tag_changed, tag_gone, tag_same, tag_unsaid}
 
 module _ (number : ℕ) (d now : DomainNow) (chains : Chains) (tag : Tag) where
   abbrev last : Tag → ℕ
@@ -33,51 +33,67 @@ module _ (number : ℕ) (d now : DomainNow) (chains : Chains) (tag : Tag) where
   abbrev pub KeepsOtherBytes : Type 0
   KeepsOtherBytes = (t : Tag) (cells : List PlacedCell) → same_tag t tag ≡ false → chains t ≡ Some cells → KeepsBytesOf d now cells
 
-  other_follows : KeepsOtherBytes → (t : Tag) → same_tag t tag ≡ false → TagFollows d now (last t) t (chains t) (chains t)
-  other_follows bytes t differ = tag_same d now (last t) t (chains t) (λ cells there. bytes t cells differ there)
+  -- nothing is said of them
+  abbrev pub SaysNoOther : Said → Type 0
+  SaysNoOther said = (t : Tag) → same_tag t tag ≡ false → IsUnsaid said t
 
-  pub chain_changed : (change : List PlacedCell → List PlacedCell) (cells : List PlacedCell) → chains tag ≡ Some cells → KeepsOtherBytes → ((is : SeenFile) → seen_in (change cells) ≡ Some is → ComesFrom d now (Some cells) is)
-      → TagsFollow number d now chains (with_chain tag change chains)
-  chain_changed change cells there bytes comes t = ⊎_elim here elsewhere (cases_Bool (same_tag t tag))
+  other_follows : (said : Said) → SaysNoOther said → KeepsOtherBytes → (t : Tag) → same_tag t tag ≡ false → TagFollows said d now (last t) t (chains t) (chains t)
+  other_follows said unsaid bytes t differ = tag_unsaid d now said (last t) t (unsaid t differ) (chains t) (λ cells there. bytes t cells differ there)
+
+  pub chain_said : (said : Said) → SaysNoOther said → (change : List PlacedCell → List PlacedCell) (cells : List PlacedCell) → chains tag ≡ Some cells → KeepsOtherBytes → ((is : SeenFile) → seen_in (change cells) ≡ Some is → ComesFrom d now (Some cells) is)
+      → ((is : SeenFile) → seen_in (change cells) ≡ Some is → SaysParent said tag (Some cells) (change cells)) → TagsFollow said number d now chains (with_chain tag change chains)
+  chain_said said unsaid change cells there bytes comes says t = ⊎_elim here elsewhere (cases_Bool (same_tag t tag))
     where
-      here : same_tag t tag ≡ true → TagFollows d now (last t) t (chains t) (with_chain tag change chains t)
+      here : same_tag t tag ≡ true → TagFollows said d now (last t) t (chains t) (with_chain tag change chains t)
       here same =
           let was : chains t ≡ Some cells = ap chains (tags_same t tag same) ∙ there in
           let is : with_chain tag change chains t ≡ Some (change cells) = ap (λ (b : Bool). cond b (option_map change (chains t)) (chains t)) same ∙ ap (option_map change) was in
-          subst (λ o. TagFollows d now (last t) t o (with_chain tag change chains t)) (sym was)
-          (subst (λ o. TagFollows d now (last t) t (Some cells) o) (sym is) (tag_changed d now (last t) t cells (change cells) comes))
+          subst (λ o. TagFollows said d now (last t) t o (with_chain tag change chains t)) (sym was)
+          (subst (λ o. TagFollows said d now (last t) t (Some cells) o) (sym is)
+          (tag_changed d now said (last t) t cells (change cells) comes (λ i seen. subst (λ (x : Tag). SaysParent said x (Some cells) (change cells)) (sym (tags_same t tag same)) (says i seen))))
 
-      elsewhere : same_tag t tag ≡ false → TagFollows d now (last t) t (chains t) (with_chain tag change chains t)
-      elsewhere differ = subst (λ o. TagFollows d now (last t) t (chains t) o) (sym (ap (λ (b : Bool). cond b (option_map change (chains t)) (chains t)) differ)) (other_follows bytes t differ)
+      elsewhere : same_tag t tag ≡ false → TagFollows said d now (last t) t (chains t) (with_chain tag change chains t)
+      elsewhere differ = subst (λ o. TagFollows said d now (last t) t (chains t) o) (sym (ap (λ (b : Bool). cond b (option_map change (chains t)) (chains t)) differ)) (other_follows said unsaid bytes t differ)
+
+  nothing_said : SaysNoOther None
+  nothing_said t differ = none_unsaid t
+
+  pub chain_changed : (change : List PlacedCell → List PlacedCell) (cells : List PlacedCell) → chains tag ≡ Some cells → KeepsOtherBytes → ((is : SeenFile) → seen_in (change cells) ≡ Some is → ComesFrom d now (Some cells) is)
+      → ((is : SeenFile) → seen_in (change cells) ≡ Some is → SaysParent None tag (Some cells) (change cells)) → TagsFollow None number d now chains (with_chain tag change chains)
+  chain_changed = chain_said None nothing_said
 
   pub chain_made : (cells : List PlacedCell) → chains tag ≡ None → last tag < tag.seq → KeepsOtherBytes → ((is : SeenFile) → seen_in cells ≡ Some is → ComesFrom d now None is)
-      → TagsFollow number d now chains (with_new tag cells chains)
+      → TagsFollow None number d now chains (with_new tag cells chains)
   chain_made cells none behind bytes comes t = ⊎_elim here elsewhere (cases_Bool (same_tag t tag))
     where
-      made : TagFollows d now (last tag) tag None (Some cells)
-      made = record { fresh = λ was some. behind; from = λ other is there seen. comes is (ap seen_in (some_same cells other there) ∙ seen) }
+      made : TagFollows None d now (last tag) tag None (Some cells)
+      made = record {
+        fresh = λ was some. behind;
+        from = λ other is there seen. comes is (ap seen_in (some_same cells other there) ∙ seen);
+        parent = λ other is there seen. record { told = λ parent says. absurd (none_not (tag, parent) says); kept = λ was some unsaid. absurd (none_not was some) };
+      }
 
-      here : same_tag t tag ≡ true → TagFollows d now (last t) t (chains t) (with_new tag cells chains t)
+      here : same_tag t tag ≡ true → TagFollows None d now (last t) t (chains t) (with_new tag cells chains t)
       here same =
           let was : chains t ≡ None = ap chains (tags_same t tag same) ∙ none in
           let is : with_new tag cells chains t ≡ Some cells = ap (λ (b : Bool). cond b (Some cells) (chains t)) same in
-          subst (λ o. TagFollows d now (last t) t o (with_new tag cells chains t)) (sym was)
-          (subst (λ o. TagFollows d now (last t) t None o) (sym is) (subst (λ (x : Tag). TagFollows d now (last x) x None (Some cells)) (sym (tags_same t tag same)) made))
+          subst (λ o. TagFollows None d now (last t) t o (with_new tag cells chains t)) (sym was)
+          (subst (λ o. TagFollows None d now (last t) t None o) (sym is) (subst (λ (x : Tag). TagFollows None d now (last x) x None (Some cells)) (sym (tags_same t tag same)) made))
 
-      elsewhere : same_tag t tag ≡ false → TagFollows d now (last t) t (chains t) (with_new tag cells chains t)
-      elsewhere differ = subst (λ o. TagFollows d now (last t) t (chains t) o) (sym (ap (λ (b : Bool). cond b (Some cells) (chains t)) differ)) (other_follows bytes t differ)
+      elsewhere : same_tag t tag ≡ false → TagFollows None d now (last t) t (chains t) (with_new tag cells chains t)
+      elsewhere differ = subst (λ o. TagFollows None d now (last t) t (chains t) o) (sym (ap (λ (b : Bool). cond b (Some cells) (chains t)) differ)) (other_follows None nothing_said bytes t differ)
 
-  pub chain_gone : KeepsOtherBytes → TagsFollow number d now chains (without_chain tag chains)
+  pub chain_gone : KeepsOtherBytes → TagsFollow None number d now chains (without_chain tag chains)
   chain_gone bytes t = ⊎_elim here elsewhere (cases_Bool (same_tag t tag))
     where
       nothing : Option (List PlacedCell)
       nothing = None
 
-      here : same_tag t tag ≡ true → TagFollows d now (last t) t (chains t) (without_chain tag chains t)
-      here same = subst (λ o. TagFollows d now (last t) t (chains t) o) (sym (ap (λ (b : Bool). cond b nothing (chains t)) same)) (tag_gone d now (last t) t (chains t))
+      here : same_tag t tag ≡ true → TagFollows None d now (last t) t (chains t) (without_chain tag chains t)
+      here same = subst (λ o. TagFollows None d now (last t) t (chains t) o) (sym (ap (λ (b : Bool). cond b nothing (chains t)) same)) (tag_gone d now (last t) t (chains t))
 
-      elsewhere : same_tag t tag ≡ false → TagFollows d now (last t) t (chains t) (without_chain tag chains t)
-      elsewhere differ = subst (λ o. TagFollows d now (last t) t (chains t) o) (sym (ap (λ (b : Bool). cond b nothing (chains t)) differ)) (other_follows bytes t differ)
+      elsewhere : same_tag t tag ≡ false → TagFollows None d now (last t) t (chains t) (without_chain tag chains t)
+      elsewhere differ = subst (λ o. TagFollows None d now (last t) t (chains t) o) (sym (ap (λ (b : Bool). cond b nothing (chains t)) differ)) (other_follows None nothing_said bytes t differ)
 
 -- a chain has the place where it begins
 start_in : (cells : List PlacedCell) (at : CellAt) → start_of cells ≡ Some at → Contains (places cells) at

@@ -53,7 +53,7 @@ use Rattle.set_standing.specs.Around.{BytesFollow, GoesOnAround, IsNamedIn, Stan
 use Rattle.set_standing.specs.Follow.{FilesFollow}
 use Rattle.set_standing.proofs.Again.{alone_said, around_of, names_first, number_first, says_first, there_first}
 use Rattle.set_standing.proofs.Aside.{stays_aside}
-use Rattle.set_standing.proofs.FilesKept.{comes_changed, files_by}
+use Rattle.set_standing.proofs.FilesKept.{comes_changed, files_by, parent_kept}
 use Rattle.set_standing.proofs.Following.{chain_changed, kept_sequences, same_sequences}
 use Rattle.set_standing.proofs.NamesStay.{said_starts, still_named}
 use Rattle.set_standing.proofs.OwnPages.{held_for, not_in_index, page_bytes}
@@ -86,17 +86,21 @@ module _ (number : ℕ) (tag : Tag) (d : DomainNow) (around : StandsAround numbe
 
   -- what tags name follows where only its first cell says something of its index
   index_follows : (now : DomainNow) (says : Cell → Cell) (index : Option IndexPlace) → says ≡ says_index index → now.tags number ≡ d.tags number → AreFiles number (d.tags number) now.pages (with_chain tag (with_first says) around.chains) → ((home : Home) → has_home (d.tags number) home ≡ true → now.pages home ≡ d.pages home)
-      → BytesFollow d now → ((t : Tag) (k : ℕ) (home : Home) → place_at around.chains t k ≡ At home → now.pages home ≡ d.pages home) → FilesFollow number d now
+      → BytesFollow d now → ((t : Tag) (k : ℕ) (home : Home) → place_at around.chains t k ≡ At home → now.pages home ≡ d.pages home) → FilesFollow None number d now
   index_follows now says index said same_tags are tag_pages bytes stays =
       files_by number d now [] (same_tags ∙ sym (append-nil (d.tags number))) (same_sequences number d now same_tags (kept_sequences d.pages now.pages (d.tags number) around.well.together.files.directory tag_pages))
       around.chains (with_chain tag (with_first says) around.chains) around.well.together.files (subst (λ (ps : List TagPlace). AreFiles number ps now.pages (with_chain tag (with_first says) around.chains)) (sym same_tags) are)
       (chain_changed number d now around.chains tag (with_first says) (first ∷ rest) is (λ t cells differ there. page_bytes number d around now bytes t cells there (stays t))
       (comes_changed d now (first ∷ rest) (with_first says (first ∷ rest)) (indexed index) (λ s. refl) (λ state seen. record { kind = refl; uid = refl; gid = refl; size = refl; logged = refl; homes = λ page. refl })
-      (ap (λ (f : Cell → Cell). state_of (with_first f (first ∷ rest))) said ∙ index_said d.pages first rest its_file index)
-      (page_bytes number d around now bytes tag (first ∷ rest) is (stays tag))))
+      its_state
+      (page_bytes number d around now bytes tag (first ∷ rest) is (stays tag)))
+      (parent_kept tag (first ∷ rest) (with_first says (first ∷ rest)) (indexed index) (λ s. refl) (λ s. refl) its_state))
     where
       its_file : AreFile d.pages first rest
       its_file = (file_at number (d.tags number) d.pages around.chains around.well.together.files tag (first ∷ rest) is).is_file.1
+
+      its_state : state_of (with_first says (first ∷ rest)) ≡ option_map (indexed index) (state_of (first ∷ rest))
+      its_state = ap (λ (f : Cell → Cell). state_of (with_first f (first ∷ rest))) said ∙ index_said d.pages first rest its_file index
 
   -- ---- a page is written
 
@@ -133,7 +137,7 @@ module _ (number : ℕ) (tag : Tag) (d : DomainNow) (around : StandsAround numbe
     sound_then = named_said says then (with_said first.at says around.files) around.indexes
         (but_written number tag d then around.chains around.files around.indexes (IsNamedIn around.chains) page bytes around.below around.sound refl first.at (names_first number tag d around first rest is) (inl named_first) writes)
 
-    page_written : BytesFollow d then → GoesOnAround number d then
+    page_written : BytesFollow d then → GoesOnAround None number d then
     page_written follow = (
       around_of number then around.entry around.original (with_said first.at says around.files) around.indexes below_then (with_chain tag (with_first says) around.chains) together_then (alone_now (Some writes.says.index)) sound_then,
       stays_aside number first.at d then around.files around.indexes around.below (first ∷ rest) (there_first number tag d around first rest is) (number_first number tag d around first rest is) (says_first number tag d around first rest is) (λ n differ. refl) refl below_then.chains.well.together.allocated
@@ -196,7 +200,7 @@ module _ (number : ℕ) (tag : Tag) (d : DomainNow) (around : StandsAround numbe
     sound_then_more = named_said says_more more (with_said first.at says_more around.files) indexes_more
         (but_added number tag d more around.chains around.files around.indexes (IsNamedIn around.chains) place prefer bytes around.below around.sound refl first.at (names_first number tag d around first rest is) (inl named_first) adds)
 
-    page_put : BytesFollow d more → GoesOnAround number d more
+    page_put : BytesFollow d more → GoesOnAround None number d more
     page_put follow = (
       around_of number more around.entry around.original (with_said first.at says_more around.files) indexes_more below_more (with_chain tag (with_first says_more) around.chains) together_more (alone_now (Some adds.says.index)) sound_then_more,
       stays_aside number first.at d more around.files around.indexes around.below (first ∷ rest) (there_first number tag d around first rest is) (number_first number tag d around first rest is) (says_first number tag d around first rest is) (λ n differ. refl) refl below_more.chains.well.together.allocated
@@ -206,19 +210,19 @@ module _ (number : ℕ) (tag : Tag) (d : DomainNow) (around : StandsAround numbe
     )
 
 pub is_written : (number : ℕ) (tag : Tag) (start : CellAt) (page : ℕ) (bytes : List ℕ) (d now : DomainNow) (around : StandsAround number d) → KeepsPlaces d now → BytesFollow d now → option_and_then start_of (around.chains tag) ≡ Some start
-    → WritesIndexPage number (d.tags number) d.space d.cells tag page bytes around.chains (around.indexes start) d.pages now.pages → GoesOnAround number d now
+    → WritesIndexPage number (d.tags number) d.space d.cells tag page bytes around.chains (around.indexes start) d.pages now.pages → GoesOnAround None number d now
 is_written number tag start page bytes d now around same follow begins = by_chain (chain_at around.chains tag start begins)
   where
-    by_chain : IsChain around.chains tag start → WritesIndexPage number (d.tags number) d.space d.cells tag page bytes around.chains (around.indexes start) d.pages now.pages → GoesOnAround number d now
-    by_chain c writes = subst (GoesOnAround number d) (sym same)
+    by_chain : IsChain around.chains tag start → WritesIndexPage number (d.tags number) d.space d.cells tag page bytes around.chains (around.indexes start) d.pages now.pages → GoesOnAround None number d now
+    by_chain c writes = subst (GoesOnAround None number d) (sym same)
         (page_written number tag d around c.first c.rest c.is page bytes now.pages now.contents
         (subst (λ (a : CellAt). WritesIndexPage number (d.tags number) d.space d.cells tag page bytes around.chains (around.indexes a) d.pages now.pages) (sym c.at) writes) follow)
 
 pub is_put_in : (number : ℕ) (tag : Tag) (start : CellAt) (place prefer : ℕ) (bytes : List ℕ) (d now : DomainNow) (around : StandsAround number d) → KeepsTables d now → BytesFollow d now → option_and_then start_of (around.chains tag) ≡ Some start
-    → AddsIndexPage number (d.tags number) d.cells tag place bytes prefer around.chains (around.indexes start) d.space now.space d.pages now.pages → GoesOnAround number d now
+    → AddsIndexPage number (d.tags number) d.cells tag place bytes prefer around.chains (around.indexes start) d.space now.space d.pages now.pages → GoesOnAround None number d now
 is_put_in number tag start place prefer bytes d now around same follow begins = by_chain (chain_at around.chains tag start begins)
   where
-    by_chain : IsChain around.chains tag start → AddsIndexPage number (d.tags number) d.cells tag place bytes prefer around.chains (around.indexes start) d.space now.space d.pages now.pages → GoesOnAround number d now
-    by_chain c adds = subst (GoesOnAround number d) (sym same)
+    by_chain : IsChain around.chains tag start → AddsIndexPage number (d.tags number) d.cells tag place bytes prefer around.chains (around.indexes start) d.space now.space d.pages now.pages → GoesOnAround None number d now
+    by_chain c adds = subst (GoesOnAround None number d) (sym same)
         (page_put number tag d around c.first c.rest c.is place prefer bytes now.pages now.contents now.space
         (subst (λ (a : CellAt). AddsIndexPage number (d.tags number) d.cells tag place bytes prefer around.chains (around.indexes a) d.space now.space d.pages now.pages) (sym c.at) adds) follow)

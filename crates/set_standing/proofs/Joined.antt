@@ -1,5 +1,5 @@
 -- One change around a slot after another, and none.
-use Rattle.std.proofs.Common.{◌∙◌, ◌<◌, ℕ, [], slice_get, refl, sym, ap, subst, arith}
+use Rattle.std.proofs.Common.{◌∙◌, ◌<◌, ℕ, [], None, slice_get, refl, sym, ap, subst, arith}
 use Rattle.std.proofs.lemmas.List.{append-nil}
 use Rattle.bitfile_core.specs.Creation.{last_sequence}
 use Rattle.log_ring.specs.Homes.{IsMember}
@@ -8,9 +8,10 @@ use Rattle.domain_layout.specs.CellRules.{of_clone}
 use Rattle.domain_layout.specs.Reached.{Frame, first_cells}
 use Rattle.domain_standing.specs.Domain.{DomainNow}
 use Rattle.set_standing.specs.Around.{GoesOnAround, StandsAround, StaysAround}
+use Rattle.set_standing.specs.Follow.{Said}
 use Rattle.set_standing.proofs.FilesKept.{files_by, files_joined, tag_same}
 
-pub all_stay : (number : ℕ) (d : DomainNow) → StandsAround number d → GoesOnAround number d d
+pub all_stay : (number : ℕ) (d : DomainNow) → StandsAround number d → GoesOnAround None number d d
 all_stay number d around = (
   around,
   record {
@@ -26,8 +27,8 @@ all_stay number d around = (
   },
 )
 
-stays_joined : (number : ℕ) (d between now : DomainNow) → StandsAround number between → StaysAround number d between → StaysAround number between now → StaysAround number d now
-stays_joined number d between now around one two = record {
+stays_joined : (said : Said) (number : ℕ) (d between now : DomainNow) → StandsAround number between → StaysAround None number d between → StaysAround said number between now → StaysAround said number d now
+stays_joined said number d between now around one two = record {
   frame = two.frame ∙ one.frame;
   table = two.table ∙ one.table;
   tags = λ other differ. two.tags other differ ∙ one.tags other differ;
@@ -42,10 +43,10 @@ stays_joined number d between now around one two = record {
             (was.0, was.1, one.slots other entry was.0 was.1 differ there was.2);
       }) (one.parents other differ stands had);
   limits = λ entry limits at are. two.limits entry limits (ap (λ (t : Table). slice_get t.slots number) one.table ∙ at) (one.limits entry limits at are);
-  files = files_joined number d between now one.files two.files around.chains around.well.together.files;
+  files = files_joined said number d between now one.files two.files around.chains around.well.together.files;
   volumes = λ home of.
       two.volumes home (subst (λ (f : Frame). IsMember f.anchor home.vol × (home.page < first_cells f home.vol)) (sym one.frame) of) ∙ one.volumes home of;
 }
 
-pub joined : (number : ℕ) (d between now : DomainNow) → GoesOnAround number d between → GoesOnAround number between now → GoesOnAround number d now
-joined number d between now one two = (two.0, stays_joined number d between now one.0 one.1 two.1)
+pub joined : (said : Said) (number : ℕ) (d between now : DomainNow) → GoesOnAround None number d between → GoesOnAround said number between now → GoesOnAround said number d now
+joined said number d between now one two = (two.0, stays_joined said number d between now one.0 one.1 two.1)

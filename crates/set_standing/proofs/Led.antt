@@ -30,7 +30,7 @@ use Rattle.standing_laws.specs.Sound.{StandsSoundBut}
 use Rattle.standing_laws.proofs.SoundCalled.{but_called}
 use Rattle.standing_laws.proofs.SoundParted.{sound_more}
 use Rattle.set_standing.specs.Around.{BytesFollow, ChangesSlot, GoesOnAround, IsNamedIn, StandsAround, StaysAround}
-use Rattle.set_standing.specs.Follow.{FilesFollow, TagsFollow}
+use Rattle.set_standing.specs.Follow.{FilesFollow, Said, TagsFollow}
 use Rattle.set_standing.proofs.FilesKept.{KeepsBytesOf, files_by}
 use Rattle.set_standing.proofs.NamesStay.{called_starts, still_named}
 use Rattle.set_standing.proofs.OwnLimits.{limits_still}
@@ -90,11 +90,11 @@ module _ (number : ℕ) (tag : Tag) (d now : DomainNow) (around : StandsAround n
         bytes home (other_page m.at page home (ap (λ o. option_map_or (λ cs. places_of cs page) o Absent) m.is ∙ seen_place cells seen page home at is))
 
     -- what tags name follows, by the chains that there are
-    pub follow : (more : List TagPlace) → now.tags number ≡ d.tags number ++ more → ((slot : ℕ) → last_sequence d.pages (d.tags number) slot ≤ last_sequence now.pages (now.tags number) slot)
-        → TagsFollow number d now around.chains chains_now → FilesFollow number d now
+    pub follow : {said : Said} (more : List TagPlace) → now.tags number ≡ d.tags number ++ more → ((slot : ℕ) → last_sequence d.pages (d.tags number) slot ≤ last_sequence now.pages (now.tags number) slot)
+        → TagsFollow said number d now around.chains chains_now → FilesFollow said number d now
     follow more grows sequences each = files_by number d now more grows sequences around.chains chains_now around.well.together.files around_now.well.together.files each
 
-    stays : KeepsOthers → FilesFollow number d now → StaysAround number d now
+    stays : {said : Said} → KeepsOthers → FilesFollow said number d now → StaysAround said number d now
     stays kept files = record {
       frame = changes.frame;
       table = changes.table;
@@ -111,8 +111,8 @@ module _ (number : ℕ) (tag : Tag) (d now : DomainNow) (around : StandsAround n
       volumes = λ home of. page_stays number tag d now around.chains chains_now around.files files_now around.indexes around.below leads of_volume home of (λ e. cc) (λ e. cc);
     }
 
-    pub led_as : KeepsOthers → FilesFollow number d now → GoesOnAround number d now
+    pub led_as : {said : Said} → KeepsOthers → FilesFollow said number d now → GoesOnAround said number d now
     led_as kept files = (around_now, stays kept files)
 
-    pub led : BytesFollow d now → FilesFollow number d now → GoesOnAround number d now
+    pub led : {said : Said} → BytesFollow d now → FilesFollow said number d now → GoesOnAround said number d now
     led bytes files = led_as (λ at page home none there. sym (bytes home (other_page at page home there))) files

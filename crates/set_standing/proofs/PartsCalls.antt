@@ -43,13 +43,13 @@ module _ (number : ℕ) (version : Version) (born : ℕ) (p q : Parts) where
   together_was : (s : Surroundings) (tags tags_now : ℕ → List TagPlace) (list : Listing) → TagsOf number p q tags tags_now → (around : StandsAround number (domain_of s tags p list)) → AreTogether number p.tags p.space p.cells p.pages around.chains
   together_was s tags tags_now list of around = subst (λ (ts : List TagPlace). AreTogether number ts p.space p.cells p.pages around.chains) of.was around.well.together
 
-  pub refused_kept : q.tags ≡ p.tags → q.cells ≡ p.cells → q.pages ≡ p.pages → (q.space ≡ p.space) ⊎ (q.space ≡ missed p.space) → KeepsAround number version born [] p q
+  pub refused_kept : q.tags ≡ p.tags → q.cells ≡ p.cells → q.pages ≡ p.pages → (q.space ≡ p.space) ⊎ (q.space ≡ missed p.space) → KeepsAround None number version born [] p q
   refused_kept same cells pages space s tags tags_now list list_now v b of adds around =
       is_refused number (domain_of s tags p list) (domain_of s tags_now q list_now) around (slot_changes s tags tags_now list list_now of adds) (follows s tags tags_now list list_now) (of.is ∙ same ∙ sym of.was) cells pages space
 
   pub made_kept : (tag : Tag) (what : NewFile) (prefer : ℕ) → what.birth ≡ born
       → ((chains : Chains) → AreTogether number p.tags p.space p.cells p.pages chains → Creates number q.tags tag version what chains q.space p.cells q.cells p.pages q.pages)
-      → TakesForFile prefer p.tags q.tags p.space q.space p.cells q.cells p.pages → LeavesOtherCells p.cells [] p.pages q.pages → LeavesBeside q.cells q.tags p.pages q.pages → TakesNext tag p.tags q.tags p.pages q.pages → KeepsAround number version born [] p q
+      → TakesForFile prefer p.tags q.tags p.space q.space p.cells q.cells p.pages → LeavesOtherCells p.cells [] p.pages q.pages → LeavesBeside q.cells q.tags p.pages q.pages → TakesNext tag p.tags q.tags p.pages q.pages → KeepsAround None number version born [] p q
   made_kept tag what prefer birth creates takes others elsewhere next s tags tags_now list list_now v b of adds around =
       is_made number tag what prefer (domain_of s tags p list) (domain_of s tags_now q list_now) around (slot_changes s tags tags_now list list_now of adds) (follows s tags tags_now list list_now) (subst (λ (n : ℕ). n ≤ s.table.made) (sym birth) b)
       (subst (λ (w : Version). Creates number (tags_now number) tag w what around.chains q.space p.cells q.cells p.pages q.pages) (sym v)
@@ -61,7 +61,7 @@ module _ (number : ℕ) (version : Version) (born : ℕ) (p q : Parts) where
       (subst (λ (ts : List TagPlace). TakesNext tag ts (tags_now number) p.pages q.pages) (sym of.was) (subst (λ (ts : List TagPlace). TakesNext tag p.tags ts p.pages q.pages) (sym of.is) next))
 
   pub added_kept : (tag : Tag) (page : ℕ) (bytes : List ℕ) (prefer : ℕ) (set : SetOf) → StandsAsSet number p.tags p.space p.cells p.pages set → IsDirectory set tag → page ≡ count_pages set tag → page < file_pages → q.tags ≡ p.tags
-      → ((chains : Chains) → AreTogether number p.tags p.space p.cells p.pages chains → IsSomeAnd (attributes_at chains tag) (AddsPage number p.tags tag page bytes prefer version chains p.space q.space p.cells q.cells p.pages q.pages)) → KeepsAround number version born [] p q
+      → ((chains : Chains) → AreTogether number p.tags p.space p.cells p.pages chains → IsSomeAnd (attributes_at chains tag) (AddsPage number p.tags tag page bytes prefer version chains p.space q.space p.cells q.cells p.pages q.pages)) → KeepsAround None number version born [] p q
   added_kept tag page bytes prefer set stood directory last small same added s tags tags_now list list_now v b of adds around =
       is_added number tag page bytes prefer (domain_of s tags p list) (domain_of s tags_now q list_now) around (slot_changes s tags tags_now list list_now of adds) (follows s tags tags_now list list_now) (of.is ∙ same ∙ sym of.was) set
       (subst (λ (ts : List TagPlace). StandsAsSet number ts p.space p.cells p.pages set) (sym of.was) stood) directory last small
@@ -83,28 +83,28 @@ module _ (number : ℕ) (version : Version) (born : ℕ) (p : Parts) (pages : Pa
 
   pub linked_kept : (tag : Tag) (links : ℕ) → 1 ≤ links → links ≤ max_links → ((chains : Chains) → AreFiles number p.tags p.pages chains → ChangesFirst (chains tag) p.pages pages)
       → ((chains : Chains) → AreTogether number p.tags p.space p.cells p.pages chains
-      → IsSomeAnd (option_and_then (of_live attributes_of) (chains tag)) (λ was. AreTogether number p.tags p.space p.cells pages (with_chain tag (with_first (says_attributes (record was { links = links }))) chains))) → KeepsAround number version born [] p with_pages
+      → IsSomeAnd (option_and_then (of_live attributes_of) (chains tag)) (λ was. AreTogether number p.tags p.space p.cells pages (with_chain tag (with_first (says_attributes (record was { links = links }))) chains))) → KeepsAround None number version born [] p with_pages
   linked_kept tag links named most changes says s tags tags_now list list_now v b of adds around = by_attributes (attributes_at around.chains tag) refl (says around.chains was)
     where
       was : AreTogether number p.tags p.space p.cells p.pages around.chains
       was = files_was s tags tags_now list of around
 
       by_attributes : (o : Option Attributes) → attributes_at around.chains tag ≡ o → IsSomeAnd o (λ a. AreTogether number p.tags p.space p.cells pages (with_chain tag (with_first (says_attributes (record a { links = links }))) around.chains))
-          → GoesOnAround number (domain_of s tags p list) (domain_of s tags_now with_pages list_now)
+          → GoesOnAround None number (domain_of s tags p list) (domain_of s tags_now with_pages list_now)
       by_attributes None is together = absurd together
       by_attributes (Some a) is together =
           is_linked number tag (domain_of s tags p list) (domain_of s tags_now with_pages list_now) around (keeps_places s tags tags_now list list_now of adds) (λ home same. s.alone pages p.pages home same) (changes around.chains was.files) a links is named most
           (subst (λ (ts : List TagPlace). AreTogether number ts p.space p.cells pages (with_chain tag (with_first (says_attributes (record a { links = links }))) around.chains)) (sym of.was) together)
 
   pub put_in_kept : (tag parent : Tag) (set : SetOf) → StandsAsSet number p.tags p.space p.cells p.pages set → IsDirectory set tag → ((chains : Chains) → AreFiles number p.tags p.pages chains → ChangesFirst (chains tag) p.pages pages)
-      → ((chains : Chains) → AreTogether number p.tags p.space p.cells p.pages chains → AreTogether number p.tags p.space p.cells pages (with_chain tag (with_first (says_parent parent)) chains)) → KeepsAround number version born [] p with_pages
+      → ((chains : Chains) → AreTogether number p.tags p.space p.cells p.pages chains → AreTogether number p.tags p.space p.cells pages (with_chain tag (with_first (says_parent parent)) chains)) → KeepsAround (Some (tag, parent)) number version born [] p with_pages
   put_in_kept tag parent set stood directory changes says s tags tags_now list list_now v b of adds around =
       let was = files_was s tags tags_now list of around in
       is_put_in number tag (domain_of s tags p list) (domain_of s tags_now with_pages list_now) around (keeps_places s tags tags_now list list_now of adds) (λ home same. s.alone pages p.pages home same) (changes around.chains was.files) parent
       (is_live number (domain_of s tags p list) around set (subst (λ (ts : List TagPlace). StandsAsSet number ts p.space p.cells p.pages set) (sym of.was) stood) tag directory)
       (subst (λ (ts : List TagPlace). AreTogether number ts p.space p.cells pages (with_chain tag (with_first (says_parent parent)) around.chains)) (sym of.was) (says around.chains was))
 
-  pub written_kept : (tag : Tag) (page : ℕ) (set : SetOf) → StandsAsSet number p.tags p.space p.cells p.pages set → IsDirectory set tag → ((chains : Chains) → AreFiles number p.tags p.pages chains → (home : Home) → ¬ place_at chains tag page ≡ At home → pages home ≡ p.pages home) → KeepsAround number version born [] p with_pages
+  pub written_kept : (tag : Tag) (page : ℕ) (set : SetOf) → StandsAsSet number p.tags p.space p.cells p.pages set → IsDirectory set tag → ((chains : Chains) → AreFiles number p.tags p.pages chains → (home : Home) → ¬ place_at chains tag page ≡ At home → pages home ≡ p.pages home) → KeepsAround None number version born [] p with_pages
   written_kept tag page set stood directory elsewhere s tags tags_now list list_now v b of adds around =
       is_written number tag page (domain_of s tags p list) (domain_of s tags_now with_pages list_now) around (keeps_places s tags tags_now list list_now of adds) (λ home same. s.alone pages p.pages home same)
       (is_live number (domain_of s tags p list) around set (subst (λ (ts : List TagPlace). StandsAsSet number ts p.space p.cells p.pages set) (sym of.was) stood) tag directory)
@@ -112,7 +112,7 @@ module _ (number : ℕ) (version : Version) (born : ℕ) (p : Parts) (pages : Pa
 
   pub reindexed_kept : (tag : Tag) (page : ℕ) (bytes : List ℕ) (set : SetOf) → StandsAsSet number p.tags p.space p.cells p.pages set → IsDirectory set tag
       → ((chains : Chains) (homes : List Home) → AreTogether number p.tags p.space p.cells p.pages chains → AreIndexHomes p.pages (option_and_then index_of (chains tag)) homes → WritesIndexPage number p.tags p.space p.cells tag page bytes chains homes p.pages pages)
-      → KeepsAround number version born [] p with_pages
+      → KeepsAround None number version born [] p with_pages
   reindexed_kept tag page bytes set stood directory writes s tags tags_now list list_now v b of adds around =
       let d = domain_of s tags p list in
       let stood_there = subst (λ (ts : List TagPlace). StandsAsSet number ts p.space p.cells p.pages set) (sym of.was) stood in
@@ -130,7 +130,7 @@ module _ (number : ℕ) (version : Version) (born : ℕ) (p : Parts) (pages : Pa
 
     pub inserted_kept : (tag : Tag) (place prefer : ℕ) (bytes : List ℕ) (set : SetOf) → StandsAsSet number p.tags p.space p.cells p.pages set → IsDirectory set tag
         → ((chains : Chains) (homes : List Home) → AreTogether number p.tags p.space p.cells p.pages chains → AreIndexHomes p.pages (option_and_then index_of (chains tag)) homes
-        → AddsIndexPage number p.tags p.cells tag place bytes prefer chains homes p.space space p.pages pages) → KeepsAround number version born [] p with_space
+        → AddsIndexPage number p.tags p.cells tag place bytes prefer chains homes p.space space p.pages pages) → KeepsAround None number version born [] p with_space
     inserted_kept tag place prefer bytes set stood directory added s tags tags_now list list_now v b of adds around =
         let d = domain_of s tags p list in
         let stood_there = subst (λ (ts : List TagPlace). StandsAsSet number ts p.space p.cells p.pages set) (sym of.was) stood in

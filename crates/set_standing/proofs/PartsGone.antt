@@ -82,9 +82,9 @@ module _ (number : ℕ) (version : Version) (born : ℕ) (p : Parts) (pages : Pa
       gives_there : GivesIndexBack group (tags number) (around.chains tag) (around.indexes at) p.space space p.pages pages
       gives_there = subst (λ (ts : List TagPlace). GivesIndexBack group ts (around.chains tag) (around.indexes at) p.space space p.pages pages) (sym of.was) (gives around.chains (around.indexes at) are indexed)
 
-      gone_there : GoesOnAround number d (domain_of s tags_now left list_now)
-      gone_there = subst (GoesOnAround number d) (sym now_is)
+      gone_there : GoesOnAround None number d (domain_of s tags_now left list_now)
+      gone_there = subst (GoesOnAround None number d) (sym now_is)
           (is_gone number tag at group d now around refl (λ home same. s.alone pages p.pages home same) together removes_there gives_there (subst (λ (ts : List TagPlace). KeepsSequences ts p.pages pages) (sym of.was) sequences) adds.0 adds.1.entries adds.1.tag_pages)
 
-    pub gone_kept : KeepsAround number version born (at ∷ []) p left
+    pub gone_kept : KeepsAround None number version born (at ∷ []) p left
     gone_kept s tags tags_now list list_now v b of adds around = gone_there s tags tags_now list list_now of adds around

@@ -1,5 +1,5 @@
 -- A domain stands on around a slot where nothing of its parts changes, and after one change and another.
-use Rattle.std.proofs.Common.{◌≡◌, ◌∙◌, ◌==◌, ◌++◌, ℕ, cond, List, [], ◌∷◌, refl, sym, ap, subst, eqb-true, ⊎_elim}
+use Rattle.std.proofs.Common.{◌≡◌, ◌∙◌, ◌==◌, ◌++◌, ℕ, cond, List, [], ◌∷◌, None, refl, sym, ap, subst, eqb-true, ⊎_elim}
 use Rattle.std.proofs.lemmas.Bool.{eq-eqb, false_from_ne_true}
 use Rattle.domain_base.specs.declared.place.CellAt.{CellAt}
 use Rattle.domain_base.specs.declared.version.Version.{Version}
@@ -7,6 +7,7 @@ use Rattle.tag_dirs.specs.declared.dir.TagPlace.{TagPlace}
 use Rattle.deferred_delete.specs.Listing.{Listing}
 use Rattle.layout_laws.proofs.Reached.{same_number}
 use Rattle.set_standing.specs.Around.{GoesOnAround}
+use Rattle.set_standing.specs.Follow.{Said}
 use Rattle.set_standing.specs.Parts.{AddsFiles, KeepsAround, Parts, TagsOf, domain_of}
 use Rattle.set_standing.proofs.Joined.{all_stay, joined}
 
@@ -21,21 +22,21 @@ same_tags number p q tags tags_now of same = λ i n. each n i
         (same_number n number)
 
 module _ (number : ℕ) (version : Version) (born : ℕ) where
-  pub none_kept : (p : Parts) → KeepsAround number version born [] p p
+  pub none_kept : (p : Parts) → KeepsAround None number version born [] p p
   none_kept p s tags tags_now list list_now v b of adds around =
-      subst (λ (ts : ℕ → List TagPlace). GoesOnAround number (domain_of s tags p list) (domain_of s ts p list_now)) (sym (same_tags number p p tags tags_now of refl))
-      (subst (λ (l : Listing). GoesOnAround number (domain_of s tags p list) (domain_of s tags p l)) (sym adds) (all_stay number (domain_of s tags p list) around))
+      subst (λ (ts : ℕ → List TagPlace). GoesOnAround None number (domain_of s tags p list) (domain_of s ts p list_now)) (sym (same_tags number p p tags tags_now of refl))
+      (subst (λ (l : Listing). GoesOnAround None number (domain_of s tags p list) (domain_of s tags p l)) (sym adds) (all_stay number (domain_of s tags p list) around))
 
   split : (a b : List CellAt) (list list_now : Listing) → AddsFiles (a ++ b) list list_now → (m : Listing) × AddsFiles a list m × AddsFiles b m list_now
   split [] b list list_now adds = (list, refl, adds)
   split (x ∷ a) b list list_now adds = let later = split a b adds.0 list_now adds.2 in (later.0, (adds.0, adds.1, later.1), later.2)
 
-  module _ (a b : List CellAt) (p q r : Parts) (one : KeepsAround number version born a p q) (two : KeepsAround number version born b q r) where
-    pub both_kept : KeepsAround number version born (a ++ b) p r
+  module _ (said : Said) (a b : List CellAt) (p q r : Parts) (one : KeepsAround None number version born a p q) (two : KeepsAround said number version born b q r) where
+    pub both_kept : KeepsAround said number version born (a ++ b) p r
     both_kept s tags tags_now list list_now v w of adds around =
         let m = split a b list list_now adds in
         let go_one = one s tags tags_mid list m.0 v w of_one m.1 around in
-        joined number (domain_of s tags p list) (domain_of s tags_mid q m.0) (domain_of s tags_now r list_now) go_one (two s tags_mid tags_now m.0 list_now v w of_two m.2 go_one.0)
+        joined said number (domain_of s tags p list) (domain_of s tags_mid q m.0) (domain_of s tags_now r list_now) go_one (two s tags_mid tags_now m.0 list_now v w of_two m.2 go_one.0)
       where
         tags_mid : ℕ → List TagPlace
         tags_mid n = cond (n == number) q.tags (tags n)

@@ -161,11 +161,11 @@ module _ (number : ℕ) (tag : Tag) (group : ℕ) (d : DomainNow) (around : Stan
           gives.drops.others home (not_in_index number d around first t k home placed)
           ∙ beside.pages home (off_slot (d.tags number) first.cell.head.slot home apart.no_tags) (off_its_first home apart.apart.off_table)
 
-      files_follow : FilesFollow number d then
+      files_follow : FilesFollow None number d then
       files_follow = files_by number d then [] (sym (append-nil (d.tags number))) (same_sequences number d then refl sequences) around.chains (without_chain tag around.chains) around.well.together.files together.files
           (chain_gone number d then around.chains tag (λ t cells differ there. page_bytes number d around then follow t cells there (λ k home placed. page_stays t k home placed)))
 
-      pub file_gone : GoesOnAround number d then
+      pub file_gone : GoesOnAround None number d then
       file_gone = (
         around_of number then around.entry around.original files_then (with_index_at first.at [] around.indexes) below_then (without_chain tag around.chains) together alone_then sound_then,
         stays_aside number first.at d then around.files around.indexes around.below (first ∷ rest) (there_first number tag d around first rest is) (number_first number tag d around first rest is) (says_first number tag d around first rest is) (λ n differ. refl) refl below_then.chains.well.together.allocated
@@ -179,10 +179,10 @@ module _ (number : ℕ) (tag : Tag) (group : ℕ) (d : DomainNow) (around : Stan
       )
 
   pub begun_at : (start : CellAt) → Removes number (d.tags number) tag start (without_index tag around.chains) pages → GivesIndexBack group (d.tags number) (around.chains tag) (around.indexes start) d.space space d.pages pages
-      → KeepsSequences (d.tags number) d.pages pages → (listed : Listing) → Adds start None d.list.entries listed.entries → listed.tag_pages ≡ d.list.tag_pages → BytesFollow d now → GoesOnAround number d (record now { list = listed })
+      → KeepsSequences (d.tags number) d.pages pages → (listed : Listing) → Adds start None d.list.entries listed.entries → listed.tag_pages ≡ d.list.tag_pages → BytesFollow d now → GoesOnAround None number d (record now { list = listed })
   begun_at start removes gives sequences listed adds same_pages follow = from (removed_chain number tag d around pages start removes)
     where
-      from : IsChain around.chains tag start → GoesOnAround number d (record now { list = listed })
+      from : IsChain around.chains tag start → GoesOnAround None number d (record now { list = listed })
       from c = file_gone c.first c.rest c.is
           (subst (λ (a : CellAt). Removes number (d.tags number) tag a (without_index tag around.chains) pages) (sym c.at) removes)
           (subst (λ (a : CellAt). GivesIndexBack group (d.tags number) (around.chains tag) (around.indexes a) d.space space d.pages pages) (sym c.at) gives)
@@ -190,7 +190,7 @@ module _ (number : ℕ) (tag : Tag) (group : ℕ) (d : DomainNow) (around : Stan
 
 pub is_gone : (number : ℕ) (tag : Tag) (start : CellAt) (group : ℕ) (d now : DomainNow) (around : StandsAround number d) → KeepsTables d now → BytesFollow d now → AreTogether number (d.tags number) now.space d.cells now.pages (without_chain tag around.chains)
     → Removes number (d.tags number) tag start (without_index tag around.chains) now.pages → GivesIndexBack group (d.tags number) (around.chains tag) (around.indexes start) d.space now.space d.pages now.pages
-    → KeepsSequences (d.tags number) d.pages now.pages → (listed : Listing) → Adds start None d.list.entries listed.entries → listed.tag_pages ≡ d.list.tag_pages → GoesOnAround number d (record now { list = listed })
+    → KeepsSequences (d.tags number) d.pages now.pages → (listed : Listing) → Adds start None d.list.entries listed.entries → listed.tag_pages ≡ d.list.tag_pages → GoesOnAround None number d (record now { list = listed })
 is_gone number tag start group d now around same follow together removes gives sequences listed adds same_pages =
-    subst (λ (x : DomainNow). GoesOnAround number d (record x { list = listed })) (sym same)
+    subst (λ (x : DomainNow). GoesOnAround None number d (record x { list = listed })) (sym same)
     (begun_at number tag group d around now.pages now.contents now.space together start removes gives sequences listed adds same_pages follow)

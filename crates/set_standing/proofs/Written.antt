@@ -99,12 +99,12 @@ module _ (number : ℕ) (tag : Tag) (page : ℕ) (d : DomainNow) (around : Stand
           one_start : (a : CellAt) (j : ℕ) (b : CellAt) (k : ℕ) → of_file a j ≡ of_file b k → a ≡ b
           one_start a j b k e = cc
 
-      files_follow : FilesFollow number d now
+      files_follow : FilesFollow None number d now
       files_follow = files_by number d now [] (sym (append-nil (d.tags number)))
           (same_sequences number d now refl (kept_sequences d.pages pages (d.tags number) around.well.together.files.directory on_tag)) around.chains around.chains around.well.together.files together_now.files
           each
         where
-          each : (t : Tag) → TagFollows d now (last_sequence d.pages (d.tags number) t.slot) t (around.chains t) (around.chains t)
+          each : (t : Tag) → TagFollows None d now (last_sequence d.pages (d.tags number) t.slot) t (around.chains t) (around.chains t)
           each t = tag_same d now (last_sequence d.pages (d.tags number) t.slot) t (around.chains t) (λ cells there. by_tag cells there (same_tag t tag) refl)
             where
               by_tag : (cells : List PlacedCell) → around.chains t ≡ Some cells → (b : Bool) → same_tag t tag ≡ b → KeepsBytesOf d now cells
@@ -114,7 +114,7 @@ module _ (number : ℕ) (tag : Tag) (page : ℕ) (d : DomainNow) (around : Stand
                   absurd (cc)
               by_tag cells there false differ = page_bytes number d around now bytes t cells there (λ k home placed. page_elsewhere t k home differ placed)
 
-      file_written : GoesOnAround number d now
+      file_written : GoesOnAround None number d now
       file_written = (
         around_now,
         stays_aside number m.at d now around.files around.indexes around.below cs m.is (its_number number tag cs leads.is_of) (says_some d.pages (cell_of d.pages (d.tags number) tag) cs leads.leads) (λ n differ. refl) refl below_now.chains.well.together.allocated
@@ -123,13 +123,13 @@ module _ (number : ℕ) (tag : Tag) (page : ℕ) (d : DomainNow) (around : Stand
             (λ home off held. held) bytes refl refl files_follow,
       )
 
-    pub page_written : GoesOnAround number d now
+    pub page_written : GoesOnAround None number d now
     page_written = by_chain (around.chains tag) refl
       where
-        by_chain : (o : Option (List PlacedCell)) → around.chains tag ≡ o → GoesOnAround number d now
+        by_chain : (o : Option (List PlacedCell)) → around.chains tag ≡ o → GoesOnAround None number d now
         by_chain None none = absurd (subst (IsLiveOf Directory) none directory)
         by_chain (Some cs) some = file_written cs some
 
-pub is_written : (number : ℕ) (tag : Tag) (page : ℕ) (d now : DomainNow) (around : StandsAround number d) → KeepsPlaces d now → BytesFollow d now → IsLiveOf Directory (around.chains tag) → ((home : Home) → ¬ place_at around.chains tag page ≡ At home → now.pages home ≡ d.pages home) → GoesOnAround number d now
+pub is_written : (number : ℕ) (tag : Tag) (page : ℕ) (d now : DomainNow) (around : StandsAround number d) → KeepsPlaces d now → BytesFollow d now → IsLiveOf Directory (around.chains tag) → ((home : Home) → ¬ place_at around.chains tag page ≡ At home → now.pages home ≡ d.pages home) → GoesOnAround None number d now
 is_written number tag page d now around same bytes directory elsewhere =
-    subst (GoesOnAround number d) (sym same) (page_written number tag page d around now.pages now.contents directory elsewhere bytes)
+    subst (GoesOnAround None number d) (sym same) (page_written number tag page d around now.pages now.contents directory elsewhere bytes)

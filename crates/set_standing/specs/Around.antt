@@ -21,7 +21,7 @@ use Rattle.standing_laws.specs.Leads.{StandsBelow, fileset_now}
 use Rattle.standing_laws.specs.SlotParents.{HaveParentsIn, StandsForSome}
 use Rattle.standing_laws.specs.Slots.{StandsSlot}
 use Rattle.standing_laws.specs.Sound.{StandsSoundBut}
-use Rattle.set_standing.specs.Follow.{FilesFollow}
+use Rattle.set_standing.specs.Follow.{FilesFollow, Said}
 
 -- a tag names the file that begins there
 abbrev pub IsNamedIn : Chains → CellAt → Type 0
@@ -47,8 +47,9 @@ IsOfVolume d home = Holds d no_files no_indexes Holder.of_volume home
 
 -- all that is not of the slot is as it was: the frame and the table, the tags of other slots, what
 -- they stand for and what their directories say of parents, and the first pages of volumes; and the
--- slot's own files keep what they have, and its owners their limits
-pub record StaysAround (number : ℕ) (d now : DomainNow) : Type 0 where
+-- slot's own files keep what they have, its owners their limits, and its directories say what they
+-- said or what was said of them
+pub record StaysAround (said : Said) (number : ℕ) (d now : DomainNow) : Type 0 where
   pub frame : now.frame ≡ d.frame
   pub table : now.table ≡ d.table
   pub tags : (other : ℕ) → ¬ other ≡ number → now.tags other ≡ d.tags other
@@ -58,14 +59,14 @@ pub record StaysAround (number : ℕ) (d now : DomainNow) : Type 0 where
   pub parents : (other : ℕ) → ¬ other ≡ number → StandsForSome other d → HaveParentsIn other d
       → HaveParentsIn other now
   pub volumes : (home : Home) → IsOfVolume d home → now.pages home ≡ d.pages home
-  pub files : FilesFollow number d now
+  pub files : FilesFollow said number d now
   pub limits : (entry : FilesetEntry) (limits : Owner → Limits)
       → item_in d number ≡ Some (slot.Original entry) → AreLimits d.pages entry limits
       → AreLimits now.pages entry limits
 
 -- and the domain stands around the slot
-abbrev pub GoesOnAround : ℕ → DomainNow → DomainNow → Type 0
-GoesOnAround number d now = StandsAround number now × StaysAround number d now
+abbrev pub GoesOnAround : Said → ℕ → DomainNow → DomainNow → Type 0
+GoesOnAround said number d now = StandsAround number now × StaysAround said number d now
 
 -- a page of which nothing is changed has the bytes that it had
 abbrev pub BytesFollow : DomainNow → DomainNow → Type 0

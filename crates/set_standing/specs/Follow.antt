@@ -1,5 +1,5 @@
--- What the files of the fileset in one slot keep, while calls change its set of files and
--- directories.
+-- What the files of the fileset in one slot keep, and its directories say, while calls change its
+-- set of files and directories.
 use Rattle.std.specs.Prelude.{◌≡◌, ◌<◌, ◌≤◌, ◌++◌, ℕ, false, List, Option, None, Some, IsSome, IsSomeAnd}
 use Rattle.domain_base.specs.declared.place.Home.{Home}
 use Rattle.domain_base.specs.declared.place.Kind.TheVariants.{File}
@@ -8,6 +8,7 @@ use Rattle.bmt_mcells.specs.Chain.{PlacedCell}
 use Rattle.tag_dirs.specs.declared.dir.TagPlace.{TagPlace}
 use Rattle.bitfile_core.specs.Creation.{last_sequence}
 use Rattle.bitfile_core.specs.Files.{AreFiles, Chains}
+use Rattle.bitfile_core.specs.State.{parent_of}
 use Rattle.domain_layout.specs.Seen.{SeenFile, seen_in}
 use Rattle.domain_standing.specs.Domain.{DomainNow}
 
@@ -37,25 +38,42 @@ abbrev pub ComesFrom : DomainNow → DomainNow → Option (List PlacedCell) → 
 ComesFrom d now None is = is.is.kind ≡ File → IsEmptyFile is
 ComesFrom d now (Some cells) is = IsSomeAnd (seen_in cells) (λ was. IsStill d now was is)
 
+-- of which directory it was said in which one it stands, if of one
+abbrev pub Said : Type 0
+Said = Option (Tag × Tag)
+
+-- nothing was said of a tag
+abbrev pub IsUnsaid : Said → Tag → Type 0
+IsUnsaid said tag = (parent : Tag) → ¬ said ≡ Some (tag, parent)
+
+-- the cells that a tag names say what was said of it, and else what those said that it named
+pub record SaysParent (said : Said) (tag : Tag) (chain : Option (List PlacedCell))
+    (cells : List PlacedCell) : Type 0 where
+  pub told : (parent : Tag) → said ≡ Some (tag, parent) → parent_of cells ≡ Some parent
+  pub kept : (was : List PlacedCell) → chain ≡ Some was → IsUnsaid said tag
+      → parent_of cells ≡ parent_of was
+
 -- so of a tag, and where it named nothing its sequence is behind the last one that its slot had
-pub record TagFollows (d now : DomainNow) (last : ℕ) (tag : Tag)
+pub record TagFollows (said : Said) (d now : DomainNow) (last : ℕ) (tag : Tag)
     (chain chain_now : Option (List PlacedCell)) : Type 0 where
   pub fresh : chain ≡ None → IsSome chain_now → last < tag.seq
   pub from : (cells : List PlacedCell) (is : SeenFile) → chain_now ≡ Some cells
       → seen_in cells ≡ Some is → ComesFrom d now chain is
+  pub parent : (cells : List PlacedCell) (is : SeenFile) → chain_now ≡ Some cells
+      → seen_in cells ≡ Some is → SaysParent said tag chain cells
 
 -- of each tag of the slot
-abbrev pub TagsFollow : ℕ → DomainNow → DomainNow → Chains → Chains → Type 0
-TagsFollow number d now chains chains_now = (tag : Tag)
-    → TagFollows d now (last_sequence d.pages (d.tags number) tag.slot) tag (chains tag)
+abbrev pub TagsFollow : Said → ℕ → DomainNow → DomainNow → Chains → Chains → Type 0
+TagsFollow said number d now chains chains_now = (tag : Tag)
+    → TagFollows said d now (last_sequence d.pages (d.tags number) tag.slot) tag (chains tag)
     (chains_now tag)
 
 -- and the tag directory has the pages that it had and more behind them, with no lower sequence
-pub record FilesFollow (number : ℕ) (d now : DomainNow) : Type 0 where
+pub record FilesFollow (said : Said) (number : ℕ) (d now : DomainNow) : Type 0 where
   pub more : List TagPlace
   pub grows : now.tags number ≡ d.tags number ++ more
   pub sequences : (slot : ℕ) → last_sequence d.pages (d.tags number) slot
       ≤ last_sequence now.pages (now.tags number) slot
   pub files : (chains chains_now : Chains) → AreFiles number (d.tags number) d.pages chains
       → AreFiles number (now.tags number) now.pages chains_now
-      → TagsFollow number d now chains chains_now
+      → TagsFollow said number d now chains chains_now

@@ -13,6 +13,7 @@ use Rattle.domain_layout.specs.Filled.{Contents}
 use Rattle.domain_layout.specs.Reached.{Frame}
 use Rattle.domain_standing.specs.Domain.{DomainNow}
 use Rattle.set_standing.specs.Around.{GoesOnAround, StandsAround}
+use Rattle.set_standing.specs.Follow.{Said}
 
 -- what a domain has beside them: its anchor and table, and how the bytes of its pages are read,
 -- each by the page alone
@@ -64,12 +65,12 @@ pub record TagsOf (number : ℕ) (parts parts_now : Parts) (tags tags_now : ℕ 
 
 -- whatever domain stood around the slot with the old parts stands around it with the new ones, once
 -- these files are on the list; new files are of no clone that was not made
-abbrev pub KeepsAround : (number : ℕ) (version : Version) (born : ℕ) (removed : List CellAt)
-    → (parts parts_now : Parts) → Type 0
-KeepsAround number version born removed parts parts_now =
+abbrev pub KeepsAround : (said : Said) (number : ℕ) (version : Version) (born : ℕ)
+    (removed : List CellAt) → (parts parts_now : Parts) → Type 0
+KeepsAround said number version born removed parts parts_now =
     (beside : Surroundings) (tags tags_now : ℕ → List TagPlace) (list list_now : Listing)
     → beside.frame.version ≡ version → born ≤ beside.table.made
     → TagsOf number parts parts_now tags tags_now → AddsFiles removed list list_now
     → StandsAround number (domain_of beside tags parts list)
-    → GoesOnAround number (domain_of beside tags parts list)
+    → GoesOnAround said number (domain_of beside tags parts list)
     (domain_of beside tags_now parts_now list_now)

@@ -1,5 +1,5 @@
 //! One change after another.
-ghost use Rattle.std.specs.Prelude.{ℕ};
+ghost use Rattle.std.specs.Prelude.{None, ℕ};
 ghost use Rattle.fileset_model.specs.declared.fileset.FilesetSlot.{FilesetSlot};
 ghost use Rattle.fileset_table.specs.declared.slot.FilesetEntry.{FilesetEntry};
 ghost use Rattle.domain_layout.specs.Shape.{FilesetShape};
@@ -7,16 +7,19 @@ ghost use Rattle.domain_standing.specs.Domain.{DomainNow};
 ghost use Rattle.standing_laws.specs.Slots.{StandsSlot};
 ghost use Rattle.standing_laws.specs.Sound.{IsSound};
 ghost use Rattle.set_standing.specs.Around.{GoesOnAround, StandsAround};
+ghost use Rattle.set_standing.specs.Follow.{Said};
 
 /// Where nothing is changed, the domain stands on around a slot.
 pub fn all_stays_around()
-    ensures { (number : ℕ) (d : DomainNow) → StandsAround number d → GoesOnAround number d d }
+    ensures { (number : ℕ) (d : DomainNow) → StandsAround number d → GoesOnAround None number d d }
 {}
 
-/// And after two changes, if it does after each.
+/// And after two changes, if it does after each: what the second says of a directory is said then,
+/// where the first says nothing.
 pub fn changes_around_join()
-    ensures { (number : ℕ) (d between now : DomainNow) → GoesOnAround number d between
-        → GoesOnAround number between now → GoesOnAround number d now }
+    ensures { (said : Said) (number : ℕ) (d between now : DomainNow)
+        → GoesOnAround None number d between → GoesOnAround said number between now
+        → GoesOnAround said number d now }
 {}
 
 /// Where the original in the slot stands for a fileset, the domain around it is wholly as rules of

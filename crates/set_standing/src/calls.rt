@@ -1,5 +1,5 @@
 //! Calls on files that are made, and on what is said of them.
-ghost use Rattle.std.specs.Prelude.{◌≡◌, ◌≤◌, ◌⊎◌, [], ℕ, Some};
+ghost use Rattle.std.specs.Prelude.{◌≡◌, ◌≤◌, ◌⊎◌, [], None, ℕ, Some};
 ghost use Rattle.domain_base.specs.Limits.{max_links};
 ghost use Rattle.domain_base.specs.declared.place.Kind.TheVariants.{Directory};
 ghost use Rattle.domain_base.specs.declared.place.Tag.{Tag};
@@ -21,7 +21,7 @@ pub fn all_stands_around_a_call_that_does_nothing()
     ensures { (number : ℕ) (d now : DomainNow) → StandsAround number d → ChangesSlot number d now
         → BytesFollow d now → now.tags number ≡ d.tags number → now.cells ≡ d.cells
         → now.pages ≡ d.pages → (now.space ≡ d.space) ⊎ (now.space ≡ missed d.space)
-        → GoesOnAround number d now }
+        → GoesOnAround None number d now }
 {}
 
 /// So it does where a file or directory is made, which is of no clone that was not made.
@@ -36,7 +36,7 @@ pub fn all_stands_around_a_file_that_is_made()
         → LeavesOtherCells d.cells [] d.pages now.pages
         → LeavesBeside now.cells (now.tags number) d.pages now.pages
         → TakesNext tag (d.tags number) (now.tags number) d.pages now.pages
-        → GoesOnAround number d now }
+        → GoesOnAround None number d now }
 {}
 
 /// Where the first cell of a file or directory says another number of links, from 1 to 1,000.
@@ -47,7 +47,7 @@ pub fn all_stands_around_links_that_are_set()
         → ChangesFirst (around.chains tag) d.pages now.pages
         → AreTogether number (d.tags number) d.space d.cells now.pages (with_chain tag
         (with_first (says_attributes (record was { links = links }))) around.chains)
-        → GoesOnAround number d now }
+        → GoesOnAround None number d now }
 {}
 
 /// Where that of a directory says another one, in which it stands.
@@ -58,5 +58,5 @@ pub fn all_stands_around_a_parent_that_is_said()
         → ChangesFirst (around.chains tag) d.pages now.pages
         → AreTogether number (d.tags number) d.space d.cells now.pages
         (with_chain tag (with_first (says_parent parent)) around.chains)
-        → GoesOnAround number d now }
+        → GoesOnAround (Some (tag, parent)) number d now }
 {}

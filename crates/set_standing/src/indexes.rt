@@ -1,6 +1,6 @@
 //! Pages of the indexes of directories.
 ghost use Rattle.std.specs.Option.{option_and_then};
-ghost use Rattle.std.specs.Prelude.{◌≡◌, ℕ, List, Some};
+ghost use Rattle.std.specs.Prelude.{◌≡◌, None, ℕ, List, Some};
 ghost use Rattle.domain_base.specs.declared.place.CellAt.{CellAt};
 ghost use Rattle.domain_base.specs.declared.place.Tag.{Tag};
 ghost use Rattle.stored_set.specs.Sets.{AddsIndexPage, WritesIndexPage};
@@ -16,7 +16,7 @@ pub fn all_stands_around_an_index_page_that_is_written()
         (d now : DomainNow) → (around : StandsAround number d) → KeepsPlaces d now
         → BytesFollow d now → option_and_then start_of (around.chains tag) ≡ Some start
         → WritesIndexPage number (d.tags number) d.space d.cells tag page bytes around.chains
-        (around.indexes start) d.pages now.pages → GoesOnAround number d now }
+        (around.indexes start) d.pages now.pages → GoesOnAround None number d now }
 {}
 
 /// Where a free page is put into it.
@@ -25,5 +25,6 @@ pub fn all_stands_around_an_index_page_that_is_put_in()
         (d now : DomainNow) → (around : StandsAround number d) → KeepsTables d now
         → BytesFollow d now → option_and_then start_of (around.chains tag) ≡ Some start
         → AddsIndexPage number (d.tags number) d.cells tag place bytes prefer around.chains
-        (around.indexes start) d.space now.space d.pages now.pages → GoesOnAround number d now }
+        (around.indexes start) d.space now.space d.pages now.pages
+        → GoesOnAround None number d now }
 {}

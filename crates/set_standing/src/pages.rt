@@ -1,5 +1,5 @@
 //! Pages of directories.
-ghost use Rattle.std.specs.Prelude.{◌≡◌, ◌<◌, ℕ, IsSomeAnd, List};
+ghost use Rattle.std.specs.Prelude.{◌≡◌, ◌<◌, None, ℕ, IsSomeAnd, List};
 ghost use Rattle.domain_base.specs.Limits.{file_pages};
 ghost use Rattle.domain_base.specs.declared.place.Home.{Home};
 ghost use Rattle.domain_base.specs.declared.place.Kind.TheVariants.{Directory};
@@ -20,7 +20,7 @@ pub fn all_stands_around_a_page_that_is_written()
         → IsLiveOf Directory (around.chains tag)
         → ((home : Home) → ¬ place_at around.chains tag page ≡ At home
         → now.pages home ≡ d.pages home)
-        → GoesOnAround number d now }
+        → GoesOnAround None number d now }
 {}
 
 /// Where a directory gets a page behind its last one.
@@ -32,5 +32,5 @@ pub fn all_stands_around_a_directory_that_gets_a_page()
         → IsDirectory set tag → page ≡ count_pages set tag → page < file_pages
         → IsSomeAnd (attributes_at around.chains tag) (AddsPage number (d.tags number) tag page
         bytes prefer d.frame.version around.chains d.space now.space d.cells now.cells d.pages
-        now.pages) → GoesOnAround number d now }
+        now.pages) → GoesOnAround None number d now }
 {}

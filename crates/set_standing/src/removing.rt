@@ -22,5 +22,5 @@ pub fn all_stands_around_a_file_that_is_taken_away()
         now.space d.pages now.pages → KeepsSequences (d.tags number) d.pages now.pages
         → (listed : Listing)
         → Adds start None d.list.entries listed.entries → listed.tag_pages ≡ d.list.tag_pages
-        → GoesOnAround number d (record now { list = listed }) }
+        → GoesOnAround None number d (record now { list = listed }) }
 {}

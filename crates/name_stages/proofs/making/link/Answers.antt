@@ -1,4 +1,4 @@
-use Rattle.std.proofs.Common.{refl}
+use Rattle.std.proofs.Common.{None, refl}
 use Rattle.fileset_model.specs.Apply.{link_checks}
 use Rattle.chosen_files.specs.Chosen.{CallsChange}
 use Rattle.chosen_files.specs.declared.chosen.Chosen.{Chosen}
@@ -13,7 +13,7 @@ pub returns-clause-ok : goal.returns-clause-ok
 returns-clause-ok c = λ all entry fileset has.
     let chosen = c.choose-chosen.result in
     let after : Chosen = record chosen { set = c.link_at-answer.new.set } in
-    let calls : CallsChange chosen after = record { set = c.link_at-answer.ensures.rest; rest = refl } in
+    let calls : CallsChange None chosen after = record { set = c.link_at-answer.ensures.rest; rest = refl } in
     let was = names_were c.args.memory c.args.number c.args.settings chosen c.choose-chosen.ensures c.requires.stands c.requires.back c.requires.original all entry fileset has in
     let stands = stands_with c.args.memory c.args.number c.args.settings chosen c.choose-chosen.ensures c.requires.stands c.requires.back c.requires.original c.requires.settings after c.back.result calls c.back.ensures refl all entry fileset has in
     ok_by _ _ c.link_at-answer.result c.link_at-answer.ensures.ok (λ answer is.

@@ -1,11 +1,12 @@
 use Rattle.std.proofs.Common.{refl}
+use Rattle.std.proofs.lemmas.Result.{on_err_weaker, on_ok_weaker}
 use Rattle.stored_set.proofs.Live.{live_any}
 use Rattle.bitfile_store.specs.Shown.{shown, shown_is, shown_stands}
 use Rattle.bitfile_store.proofs.Held.{both_ends, is_there, still}
 use Rattle.bitfile_store.proofs.ParentSaid.{put_in_stands}
 use Rattle.bitfile_store.proofs.Rests.{kept}
 use Rattle.bitfile_store.specs.Rest.{parts_of}
-use Rattle.bitfile_store.proofs.Arounds.{parent_around}
+use Rattle.bitfile_store.proofs.Arounds.{parent_around, still_around}
 use Rattle.bitfile_store.proofs.KeptParts.{same_kept}
 use Rattle.bitfile_store.proofs.stored_bitfiles.StoredBitfiles.set_parent.Goals as goal
 
@@ -55,4 +56,15 @@ returns-clause-rest g c =
     let pages = g.M.MetaPages.pages set.parts.pages in
     let was = (shown_stands set.parts.files.fileset set.parts.files.tags set.parts.space set.parts.cells pages set.held) in
     let p = parts_of set.parts.files.tags pages set.parts.space set.parts.cells in
-    kept _ _ _ _ _ _ _ _ refl c.set_parent.ensures.before (same_kept p (parts_of set.parts.files.tags (g.M.MetaPages.pages c.set_parent.new.pages) set.parts.space set.parts.cells) refl refl) (parent_around set.parts.files.fileset set.settings.version set.settings.born p (g.M.MetaPages.pages c.set_parent.new.pages) c.args.tag c.args.parent _ was c.requires c.set_parent.result c.set_parent.ensures.beside (c.set_parent.ensures.together set.parts.space set.parts.cells) c.set_parent.ensures.err)
+    on_ok_weaker c.set_parent.result
+    (λ around. kept _ _ _ _ _ _ _ _ refl c.set_parent.ensures.before (same_kept p (parts_of set.parts.files.tags (g.M.MetaPages.pages c.set_parent.new.pages) set.parts.space set.parts.cells) refl refl) around)
+    (parent_around set.parts.files.fileset set.settings.version set.settings.born p (g.M.MetaPages.pages c.set_parent.new.pages) c.args.tag c.args.parent _ was c.requires c.set_parent.result c.set_parent.ensures.beside (c.set_parent.ensures.together set.parts.space set.parts.cells))
+
+pub returns-clause-rest_err : goal.returns-clause-rest_err
+returns-clause-rest_err g c =
+    let set = c.args.self.now in
+    let pages = g.M.MetaPages.pages set.parts.pages in
+    let p = parts_of set.parts.files.tags pages set.parts.space set.parts.cells in
+    on_err_weaker c.set_parent.result
+    (λ err. kept _ _ _ _ _ _ _ _ refl c.set_parent.ensures.before (same_kept p (parts_of set.parts.files.tags (g.M.MetaPages.pages c.set_parent.new.pages) set.parts.space set.parts.cells) refl refl) (still_around set.parts.files.fileset set.settings.version set.settings.born p (g.M.MetaPages.pages c.set_parent.new.pages) err))
+    c.set_parent.ensures.err
