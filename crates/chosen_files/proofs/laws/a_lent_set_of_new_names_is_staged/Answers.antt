@@ -5,4 +5,4 @@ pub returns-clause-names : goal.returns-clause-names
 returns-clause-names c = lent_names
 
 pub returns-clause-staged : goal.returns-clause-staged
-returns-clause-staged c = λ said. new_names_staged {said}
+returns-clause-staged c = λ said. new_names_staged {said = said}
