@@ -301,11 +301,11 @@ module _ (number : ℕ) (start : CellAt) (d now : DomainNow) (files : Files) (in
         files_here : AreFiles n (d.tags n) now.pages was.2.set.chains
         files_here = (shown_now n entry was.0 was.1 differ it was.2).together.files
 
-    parents_aside : now.frame ≡ d.frame → HaveParentsIn n d → HaveParentsIn n now
+    pub parents_aside : now.frame ≡ d.frame → HaveParentsIn n d → HaveParentsIn n now
     parents_aside same_frame = slot_parents d now n same_frame (ap of_clone item_same ∙ stands.no_clone) files_stay
 
   -- its own quota cells begin elsewhere
-  own_quotas : (at : CellAt) (cs : List PlacedCell) → files at ≡ Some cs → AreQuotasOf d number at cs → LinksFrom now.pages at cs
+  pub own_quotas : (at : CellAt) (cs : List PlacedCell) → files at ≡ Some cs → AreQuotasOf d number at cs → LinksFrom now.pages at cs
   own_quotas at cs some quotas = links_from now.pages at cs (chain_now at cs other some)
     where
       other : ¬ at ≡ start

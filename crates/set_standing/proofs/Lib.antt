@@ -18,3 +18,10 @@ pub mod PartsGone
 pub mod PartsKept
 pub mod Removed
 pub mod Written
+pub mod FileShown
+pub mod LedBeside
+pub mod FileSaid
+pub mod FilePage
+pub mod FileGiven
+pub mod FileCut
+pub mod FileCalls

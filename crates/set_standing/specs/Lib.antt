@@ -1,3 +1,4 @@
 pub mod Follow
 pub mod Around
 pub mod Parts
+pub mod Beside

@@ -4,6 +4,7 @@
 
 mod around;
 mod calls;
+mod files;
 mod indexes;
 mod pages;
 mod parts;
@@ -13,6 +14,10 @@ pub use around::{a_domain_around_a_fileset_is_sound, all_stays_around, changes_a
 pub use calls::{
     all_stands_around_a_call_that_does_nothing, all_stands_around_a_file_that_is_made,
     all_stands_around_a_parent_that_is_said, all_stands_around_links_that_are_set,
+};
+pub use files::{
+    all_stands_around_a_file_that_gets_a_page, all_stands_around_a_file_that_is_cut,
+    all_stands_around_a_file_that_is_described, all_stands_around_a_page_of_a_file_that_is_put,
 };
 pub use indexes::{
     all_stands_around_an_index_page_that_is_put_in, all_stands_around_an_index_page_that_is_written,

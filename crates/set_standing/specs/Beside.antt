@@ -1,0 +1,64 @@
+-- A domain in which one file of a slot changes, and no name.
+use Rattle.std.specs.Prelude.{◌≡◌, ℕ, false, Some}
+use Rattle.std.specs.Option.{option_and_then, option_map}
+use Rattle.domain_base.specs.declared.place.Home.{Home}
+use Rattle.domain_base.specs.declared.place.Tag.{Tag}
+use Rattle.page_store.specs.Bitfiles.{Bitfiles, same_tag}
+use Rattle.extent_maps.specs.declared.run.PagePlace.TheVariants.{At}
+use Rattle.bitfile_core.specs.Files.{AreFiles, Chains, place_at}
+use Rattle.bitfile_core.specs.State.{FileState, state_of}
+use Rattle.stored_set.specs.Sets.{StandsAsSet}
+use Rattle.fileset_model.specs.declared.command.Owner.{Owner}
+use Rattle.fileset_model.specs.declared.fileset.FilesetSlot.{FilesetSlot}
+use Rattle.fileset_model.specs.declared.fileset.Limits.{Limits}
+use Rattle.fileset_table.specs.declared.slot.FilesetEntry.{FilesetEntry}
+use Rattle.fileset_table.specs.declared.slot.SlotItem.TheVariants as slot
+use Rattle.domain_layout.specs.Shape.{AreLimits, FilesetShape}
+use Rattle.domain_standing.specs.Domain.{DomainNow, item_in}
+use Rattle.standing_laws.specs.SlotParents.{HaveParentsIn, StandsForSome}
+use Rattle.standing_laws.specs.Slots.{StandsSlot}
+use Rattle.set_standing.specs.Around.{IsOfVolume, StandsAround}
+
+-- all that is not of the slot is as it was, and so are its tag directory's pages and its owners'
+-- limits
+pub record StaysBeside (number : ℕ) (d now : DomainNow) : Type 0 where
+  pub frame : now.frame ≡ d.frame
+  pub table : now.table ≡ d.table
+  pub tags : (n : ℕ) → now.tags n ≡ d.tags n
+  pub slots : (other : ℕ) (entry : FilesetEntry) (shape : FilesetShape) (fileset : FilesetSlot)
+      → ¬ other ≡ number → item_in d other ≡ Some (slot.Original entry)
+      → StandsSlot d other entry shape fileset → StandsSlot now other entry shape fileset
+  pub parents : (other : ℕ) → ¬ other ≡ number → StandsForSome other d → HaveParentsIn other d
+      → HaveParentsIn other now
+  pub volumes : (home : Home) → IsOfVolume d home → now.pages home ≡ d.pages home
+  pub limits : (entry : FilesetEntry) (limits : Owner → Limits)
+      → item_in d number ≡ Some (slot.Original entry) → AreLimits d.pages entry limits
+      → AreLimits now.pages entry limits
+
+-- each other tag names what it named, and the tag what the change makes of what it was
+pub record ChangesState (tag : Tag) (how : FileState → FileState) (chains chains_now : Chains)
+    : Type 0 where
+  pub others : (t : Tag) → same_tag t tag ≡ false → chains_now t ≡ chains t
+  pub own : option_and_then state_of (chains_now tag)
+      ≡ option_map how (option_and_then state_of (chains tag))
+
+-- the slot's files keep their bytes, but for these pages of a tag's
+pub record KeepsBytesBut (tag : Tag) (may : ℕ → Type 0) (chains : Chains) (d now : DomainNow)
+    : Type 0 where
+  pub others : (t : Tag) (page : ℕ) (home : Home) → same_tag t tag ≡ false
+      → place_at chains t page ≡ At home → now.contents home ≡ d.contents home
+  pub own : (page : ℕ) (home : Home) → ¬ may page → place_at chains tag page ≡ At home
+      → now.contents home ≡ d.contents home
+
+-- the file that a tag of the slot names has changed so, with the bytes of these pages, and no name:
+-- the domain stands around the slot, beside which all stays, and the set that it shows is the same
+pub record ChangesOneFile (number : ℕ) (tag : Tag) (how : FileState → FileState) (may : ℕ → Type 0)
+    (chains : Chains) (d now : DomainNow) : Type 0 where
+  pub around : StandsAround number now
+  pub beside : StaysBeside number d now
+  pub chains_now : Chains
+  pub are : AreFiles number (now.tags number) now.pages chains_now
+  pub state : ChangesState tag how chains chains_now
+  pub bytes : KeepsBytesBut tag may chains d now
+  pub set : (shown : Bitfiles) → StandsAsSet number (d.tags number) d.space d.cells d.pages shown
+      → StandsAsSet number (now.tags number) now.space now.cells now.pages shown
