@@ -1,0 +1,11 @@
+pub mod Changed
+pub mod Turns
+pub mod Asks
+pub mod Calls
+pub mod Kept
+pub mod Seen
+pub mod Stood
+pub mod Given
+pub mod Put
+pub mod Sized
+pub mod Cut

@@ -1,0 +1,79 @@
+-- Memory in which other bytes stand on a page of a file.
+use Rattle.std.proofs.Common.{◌≡◌, ◌∙◌, ◌<◌, ℕ, List, [], Option, Some, IfSome, length, refl, sym, ap, subst}
+use Rattle.std.specs.Option.{option_and_then, unwrap_or}
+use Rattle.domain_base.specs.Limits.{file_pages, page_bytes}
+use Rattle.domain_base.specs.declared.place.Home.{Home}
+use Rattle.domain_base.specs.declared.place.Kind.TheVariants.{File}
+use Rattle.domain_base.specs.declared.place.Tag.{Tag}
+use Rattle.page_store.specs.Pages.{with_page as page_put}
+use Rattle.extent_maps.specs.declared.run.PagePlace.TheVariants.{At}
+use Rattle.free_space.specs.Spaces.{kept_spaces, volume_of}
+use Rattle.bitfile_core.specs.Files.{Chains, place_at}
+use Rattle.bitfile_core.specs.State.{FileState, state_of}
+use Rattle.set_laws.proofs.Written.{at_home, away}
+use Rattle.fileset_model.specs.Filesets.{FilesetMap}
+use Rattle.fileset_model.specs.Orders.{Path}
+use Rattle.fileset_model.specs.declared.fileset.FilesetSlot.{FilesetSlot}
+use Rattle.fileset_model.specs.declared.node.Node.{Node}
+use Rattle.fileset_table.specs.declared.slot.FilesetEntry.{FilesetEntry}
+use Rattle.staged_pages.specs.Store.{pages_of}
+use Rattle.domain_layout.specs.Filled.{IsFilled}
+use Rattle.node_laws.specs.Nodes.{AgreeBut, seen_of, with_page}
+use Rattle.node_laws.proofs.Changed.{written}
+use Rattle.domain_standing.specs.Domain.{DomainNow}
+use Rattle.standing_laws.specs.Leads.{IsLiveOf}
+use Rattle.set_standing.specs.Around.{StandsAround}
+use Rattle.set_standing.specs.Beside.{ChangesOneFile}
+use Rattle.set_standing.proofs.FileCalls.{put_again}
+use Rattle.domain_memory.specs.Staged.{staged_in}
+use Rattle.domain_memory.specs.declared.memory.DomainMemory.{DomainMemory}
+use Rattle.page_stages.proofs.Changed.{around_file, changed_staged, placed_seen, still_fits}
+use Rattle.page_stages.proofs.Seen.{bytes_follow, kept_live, pages_whole, place_live, seen_live, with_pages}
+use Rattle.page_stages.proofs.Turns.{kept_home, page_keeps}
+use Rattle.page_stages.specs.Stages.{AreFilesIn, HasFile, HasPage, IsFileIn, StandsChanged}
+
+module _ (old new : DomainMemory) (same : new ≡ record old { pages = new.pages }) (number : ℕ) (tag : Tag) (page : ℕ) (bytes : List ℕ) (file : IsFileIn old number tag) (page_there : HasPage old number tag page) (small : page < file_pages)
+    (home : Home) (is_home : (chains : Chains) → AreFilesIn old number chains → place_at chains tag page ≡ At home) (put : pages_of new.pages ≡ page_put home bytes (pages_of old.pages))
+    (path : Path) (all : FilesetMap) (entry : FilesetEntry) (fileset : FilesetSlot) (has : HasFile old number tag path all entry fileset)
+  where
+    abbrev d : DomainNow
+    d = staged_in old
+
+    abbrev now : DomainNow
+    now = staged_in new
+
+    abbrev around : StandsAround number d
+    around = around_file old number tag path all entry fileset has
+
+    abbrev chains : Chains
+    chains = around.chains
+
+    live : IsLiveOf File (chains tag)
+    live = file chains around.well.together.files
+
+    at : place_at chains tag page ≡ At home
+    at = is_home chains around.well.together.files
+
+    changes : ChangesOneFile number tag (λ (s : FileState). s) (λ k. k ≡ page) chains d now
+    changes = put_again number tag page d now around (ap staged_in same) (bytes_follow old new) live (λ h other. away d.pages now.pages home bytes put h (λ e. other (at ∙ ap At (sym e))))
+
+    stands : now.pages home ≡ Some bytes
+    stands = at_home d.pages now.pages home bytes put
+
+    bytes_there : now.contents home ≡ bytes
+    bytes_there = ap (λ (o : Option (List ℕ)). unwrap_or o []) stands
+
+    whole : length bytes ≡ page_bytes
+    whole = subst (λ o. IfSome o (λ page. length page ≡ page_bytes)) stands (pages_whole new home)
+
+    turns : (state : FileState) → option_and_then state_of (chains tag) ≡ Some state → (node : Node) → IsFilled d.contents (seen_of state) node → IsFilled now.contents (seen_of state) (with_page page bytes node)
+    turns state is_state node filled =
+        subst (λ (b : List ℕ). IsFilled now.contents (seen_of state) (with_page page b node)) bytes_there
+        (written d.contents now.contents (seen_of state) page home node
+        (kept_home state page home (kept_live chains tag live state is_state page (page_there chains around.well.together.files).kept) (place_live chains tag live state is_state page ∙ at)) agree filled)
+      where
+        agree : AgreeBut page d.contents now.contents (seen_of state)
+        agree q h other there = sym (changes.bytes.own q h other (placed_seen chains tag (seen_of state) (seen_live chains tag live state is_state) q h there))
+
+    pub page_put_there : StandsChanged path (with_page page bytes) all entry fileset new
+    page_put_there = changed_staged old number tag path all entry fileset has new (ap (λ (m : DomainMemory). m.list) same) (still_fits old number tag path all entry fileset has new (with_pages old new same)) (λ vol. ap (λ (m : DomainMemory). volume_of (kept_spaces m.space) vol) same) (λ (s : FileState). s) (λ k. k ≡ page) changes (with_page page bytes) (page_keeps page bytes small whole) live (λ state is_state. refl) turns

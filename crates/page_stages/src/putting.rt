@@ -1,0 +1,39 @@
+//! Other bytes on a page that a file has.
+ghost use Rattle.std.specs.Prelude.{◌≡◌, ◌<◌, true, slice_get};
+ghost use Rattle.fileset_model.specs.Filesets.{FilesetMap};
+ghost use Rattle.fileset_model.specs.Orders.{Path};
+ghost use Rattle.fileset_model.specs.declared.fileset.FilesetSlot.{FilesetSlot};
+ghost use Rattle.fileset_table.specs.declared.slot.FilesetEntry.{FilesetEntry};
+ghost use Rattle.domain_layout.specs.CellRules.{of_original};
+ghost use Rattle.node_laws.specs.Nodes.{with_page};
+ghost use Rattle.domain_memory.specs.Kept.{KeepsKept};
+ghost use Rattle.domain_memory.specs.Staged.{IsStagedForSome, MayGoBack};
+ghost use Rattle.page_stages.specs.Stages.{HasFile, HasPage, IsFileIn, StandsChanged};
+
+use crate::slots::files_in;
+use domain_base::limits::FILE_PAGES;
+use domain_base::{FilesetNo, Page, Tag};
+use domain_memory::DomainMemory;
+use page_store::MetaPages;
+
+/// Puts bytes on a page that a file of the fileset in a slot, an original, keeps and has, in place of
+/// what stood there. It takes no memory.
+pub fn put_page(memory: &mut DomainMemory, number: FilesetNo, tag: Tag, page: u32, bytes: Page)
+    requires stands { ∥ IsStagedForSome memory.old ∥₁ }
+    requires back { ∥ MayGoBack memory.old ∥₁ }
+    requires original { of_original (slice_get memory.old.table.slots number) ≡ true }
+    requires file { IsFileIn memory.old number tag }
+    requires has { HasPage memory.old number tag page }
+    requires small { page < FILE_PAGES }
+    ensures stands { (path : Path) (all : FilesetMap) (entry : FilesetEntry)
+        (fileset : FilesetSlot) → HasFile memory.old number tag path all entry fileset
+        → StandsChanged path (with_page page bytes) all entry fileset memory.new }
+    ensures kept { KeepsKept memory.old memory.new }
+    ensures back { ∥ MayGoBack memory.new ∥₁ }
+{
+    let slot = files_in(&memory.slots, number);
+    let Some(home) = slot.files.page_home(&memory.pages, tag, page).home() else {
+        unreachable!()
+    };
+    memory.pages.put(home, bytes);
+}

@@ -1,0 +1,62 @@
+//! The size of a file, and whether its data is logged.
+ghost use Rattle.std.specs.Prelude.{◌≡◌, true, OnErr, OnOk, slice_get};
+ghost use Rattle.fileset_model.specs.Filesets.{FilesetMap};
+ghost use Rattle.fileset_model.specs.Orders.{Path};
+ghost use Rattle.fileset_model.specs.declared.fileset.FilesetSlot.{FilesetSlot};
+ghost use Rattle.fileset_table.specs.declared.slot.FilesetEntry.{FilesetEntry};
+ghost use Rattle.domain_layout.specs.CellRules.{of_original};
+ghost use Rattle.node_laws.specs.Nodes.{with_size};
+ghost use Rattle.domain_memory.specs.Kept.{KeepsKept};
+ghost use Rattle.domain_memory.specs.Staged.{IsStagedForSome, MayGoBack, staged_in};
+ghost use Rattle.page_stages.specs.Stages.{HasFile, IsFileIn, StandsChanged};
+
+use crate::slots::files_in;
+use bitfile_core::Attributes;
+use domain_base::{FilesetNo, OutOfMemory, Tag};
+use domain_memory::DomainMemory;
+use std::alloc::Global;
+
+/// The same with another size, and another flag.
+fn with_length(was: &Attributes, size: u64, is_logged: bool) -> Attributes
+    ensures { result ≡ record was.now { size = size; is_logged = is_logged } }
+{
+    Attributes {
+        kind: was.kind,
+        uid: was.uid,
+        gid: was.gid,
+        is_logged,
+        size,
+        links: was.links,
+    }
+}
+
+/// Sets the size in bytes of a file of the fileset in a slot, an original, and whether its data is
+/// logged. Each page that it has it has still. There may only be no memory, and then the domain is
+/// as it was.
+pub fn set_size(
+    memory: &mut DomainMemory,
+    alloc: Global,
+    number: FilesetNo,
+    tag: Tag,
+    size: u64,
+    is_logged: bool,
+) -> Result<(), OutOfMemory>
+    requires stands { ∥ IsStagedForSome memory.old ∥₁ }
+    requires back { ∥ MayGoBack memory.old ∥₁ }
+    requires original { of_original (slice_get memory.old.table.slots number) ≡ true }
+    requires file { IsFileIn memory.old number tag }
+    ensures ok { (path : Path) (all : FilesetMap) (entry : FilesetEntry) (fileset : FilesetSlot)
+        → HasFile memory.old number tag path all entry fileset → OnOk result
+        (StandsChanged path (with_size size is_logged) all entry fileset memory.new) }
+    ensures kept { KeepsKept memory.old memory.new }
+    ensures back { ∥ MayGoBack memory.new ∥₁ }
+    ensures err { OnErr result (staged_in memory.new ≡ staged_in memory.old) }
+{
+    let slot = files_in(&memory.slots, number);
+    let Some(was) = slot.files.attributes(&memory.pages, tag) else {
+        unreachable!()
+    };
+    let value = with_length(&was, size, is_logged);
+    slot.files
+        .set_attributes(alloc, &mut memory.pages, tag, &value)
+}

@@ -1,0 +1,54 @@
+//! Files that are cut.
+ghost use Rattle.std.specs.Prelude.{◌≡◌, ◌≤◌, true, OnErr, OnOk, length, slice_get};
+ghost use Rattle.fileset_model.specs.Filesets.{FilesetMap};
+ghost use Rattle.fileset_model.specs.Orders.{Path};
+ghost use Rattle.fileset_model.specs.declared.fileset.FilesetSlot.{FilesetSlot};
+ghost use Rattle.fileset_table.specs.declared.slot.FilesetEntry.{FilesetEntry};
+ghost use Rattle.domain_layout.specs.CellRules.{of_original};
+ghost use Rattle.node_laws.specs.Nodes.{cut_to};
+ghost use Rattle.domain_memory.specs.Kept.{KeepsKept};
+ghost use Rattle.domain_memory.specs.Staged.{IsStagedForSome, MayGoBack};
+ghost use Rattle.page_stages.specs.Stages.{HasFile, IsFileIn, ListsLeft, StandsChanged};
+
+use crate::slots::files_in;
+use domain_base::{CellAt, FilesetNo, OutOfMemory, Tag};
+use domain_memory::DomainMemory;
+use std::alloc::Global;
+
+/// Lists a file of which something is left to be done, if there is one.
+fn list_left(listed: &mut Vec<CellAt>, left: Option<CellAt>) -> Result<(), OutOfMemory>
+    ensures ok { OnOk result (ListsLeft left listed.old.items listed.new.items) }
+    ensures err { OnErr result (listed.new.items ≡ listed.old.items) }
+{
+    if let Some(at) = left {
+        listed.push(at)?;
+    }
+    Ok(())
+}
+
+/// Cuts a file of the fileset in a slot, an original, to a size in bytes: of its pages it has those
+/// that begin in front of its end. Where pages lie behind it, its first cell says that they are to
+/// be let go of, and is listed, for which there has to be room once the change is kept. There may
+/// only be no memory. After an Err the change may be half made: it is to be taken back.
+pub fn truncate(
+    memory: &mut DomainMemory,
+    alloc: Global,
+    number: FilesetNo,
+    tag: Tag,
+    size: u64,
+) -> Result<(), OutOfMemory>
+    requires stands { ∥ IsStagedForSome memory.old ∥₁ }
+    requires back { ∥ MayGoBack memory.old ∥₁ }
+    requires original { of_original (slice_get memory.old.table.slots number) ≡ true }
+    requires file { IsFileIn memory.old number tag }
+    ensures ok { (path : Path) (all : FilesetMap) (entry : FilesetEntry) (fileset : FilesetSlot)
+        → HasFile memory.old number tag path all entry fileset → OnOk result
+        (length memory.new.listed.items ≤ memory.new.list.room
+        → StandsChanged path (cut_to size) all entry fileset memory.new) }
+    ensures kept { KeepsKept memory.old memory.new }
+    ensures back { ∥ MayGoBack memory.new ∥₁ }
+{
+    let slot = files_in(&memory.slots, number);
+    let left = slot.files.truncate(alloc, &mut memory.pages, tag, size)?;
+    list_left(&mut memory.listed, left)
+}
