@@ -2,10 +2,6 @@
 //! what no clause says, and a caller of the anchors whose contract shows that theirs fit together.
 #![tactic(auto)]
 
-mod renewals;
-
-pub use renewals::{RenewalFault, is_whole, next_of, renew_twice};
-
 #[cfg(test)]
 mod anchors;
 #[cfg(test)]
@@ -20,3 +16,5 @@ mod images;
 mod labels;
 #[cfg(test)]
 mod racks;
+#[cfg(test)]
+mod renewals;

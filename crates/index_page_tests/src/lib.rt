@@ -3,4 +3,5 @@
 
 #[cfg(test)]
 mod changes;
-pub mod world;
+#[cfg(test)]
+mod world;

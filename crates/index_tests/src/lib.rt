@@ -3,4 +3,5 @@
 
 #[cfg(test)]
 mod indexes;
+#[cfg(test)]
 mod steps;

@@ -17,7 +17,7 @@ use Rattle.deferred_delete.specs.Listing.{Listing}
 use Rattle.deferred_delete.specs.Standing.{Files, source_in}
 use Rattle.deferred_delete.specs.Steps.{IsWell, now_of}
 use Rattle.file_tests.specs.declared.world.World.{World}
-use Rattle.release_tests.specs.declared.clones.Pair.{Pair}
+use Rattle.release_tests.specs.declared.pair.Pair.{Pair}
 use Rattle.release_tests.specs.Going.{IsGoing}
 
 -- the chains of both share no cell and no home, and the second's first cell has room

@@ -6,6 +6,7 @@ ghost use Rattle.release_tests.specs.Pairs.{HasPair, HasTwo, IsCloneOf};
 
 use crate::going::{counts, may_go, release, release_all};
 use crate::making::{first_pages, give_pages, make, second_pages};
+use crate::pair::Pair;
 use bitfile_cells::set_record;
 use bmt_mcells::find_record;
 use deferred_delete::{Deferred, Entry};
@@ -15,13 +16,6 @@ use page_store::StoreFault;
 use record_table::{ExtentField, Record};
 use std::alloc::Global;
 use std::test::Fail;
-
-/// The first cells of two files that no tag names.
-#[derive(Clone, Copy)]
-pub struct Pair {
-    pub at: CellAt,
-    pub clone: CellAt,
-}
 
 /// Takes the names of two files.
 fn remove_two(alloc: Global, world: &mut World, file: Tag, clone: Tag) -> Result<Pair, Fail>

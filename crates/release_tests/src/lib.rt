@@ -1,16 +1,28 @@
 //! Tests of pages, cells and files that are let go of little by little.
 #![tactic(auto)]
 
-pub mod again;
-pub mod beside;
-pub mod clones;
-pub mod cost;
-pub mod going;
-pub mod looks;
-pub mod making;
-pub mod onward;
-pub mod removing;
-pub mod room;
-pub mod seen;
+#[cfg(test)]
+mod again;
+#[cfg(test)]
+mod beside;
+#[cfg(test)]
+mod clones;
+#[cfg(test)]
+mod cost;
+#[cfg(test)]
+mod going;
+#[cfg(test)]
+mod looks;
+#[cfg(test)]
+mod making;
+#[cfg(test)]
+mod onward;
+pub mod pair;
+#[cfg(test)]
+mod removing;
+#[cfg(test)]
+mod room;
+#[cfg(test)]
+mod seen;
 #[cfg(test)]
 mod steps;

@@ -1,0 +1,9 @@
+//! Two files of which the second may read through the first.
+use domain_base::CellAt;
+
+/// The first cells of two files that no tag names.
+#[derive(Clone, Copy)]
+pub struct Pair {
+    pub at: CellAt,
+    pub clone: CellAt,
+}
