@@ -87,7 +87,7 @@ may_commit pages frame sizes memory entries job e all now kept next means = reco
 -- ---- over what was kept
 
 -- what was kept of one memory is what was kept of the other
-kept_turned : (old new : DomainMemory) → KeepsKept old new → KeepsKept new old
+pub kept_turned : (old new : DomainMemory) → KeepsKept old new → KeepsKept new old
 kept_turned old new kept = record {
   frame = sym kept.frame;
   table = sym kept.table;

@@ -58,9 +58,3 @@ limits_done old new number name who limits h settled staged parents books all st
       };
       means = inl (subst (λ (n : List ℕ). Answers all (Setquota n who limits.files limits.blocks) Done now) h.named (limited (staged_in old) all number h.entry at.0 who limits kept.staged.stands.slots h.has at.1));
     }
-
--- a change was laid over memory, and is taken back
-pub back_stands : (old apart changed laid new : DomainMemory) → apart ≡ old → KeepsKept apart changed → laid ≡ changed → kept_in new ≡ kept_in laid → books_in new ≡ books_in laid → (all : FilesetMap) → StandsFor old all → StandsFor new all
-back_stands old apart changed laid new is_apart kept is_laid back books all stands =
-    stands_still laid new all back books
-    (subst (λ (m : DomainMemory). StandsFor m all) (sym is_laid) (stands_so apart changed kept all (subst (λ (m : DomainMemory). StandsFor m all) (sym is_apart) stands)))

@@ -110,7 +110,7 @@ accepted : (all : FilesetMap) (c : Command) (reply : Reply) (now : FilesetMap) �
 accepted all c reply now none answer changes =
     subst (λ (o : Option Refusal). MatchOption o ((reply ≡ answer_of all c) × Changes all c now) (λ refusal. (reply ≡ Refused refusal) × (now ≡ all))) (sym none) (answer, changes)
 
-refused : (all : FilesetMap) (c : Command) (refusal : Refusal) → refusal_of all c ≡ Some refusal → Answers all c (Refused refusal) all
+pub refused : (all : FilesetMap) (c : Command) (refusal : Refusal) → refusal_of all c ≡ Some refusal → Answers all c (Refused refusal) all
 refused all c refusal is =
     subst (λ (o : Option Refusal). MatchOption o ((Refused refusal ≡ answer_of all c) × Changes all c all) (λ r. (Refused refusal ≡ Refused r) × (all ≡ all))) (sym is) (refl, refl)
 

@@ -10,11 +10,12 @@ ghost use Rattle.domain_stages.specs.Limits.{LimitsNone};
 ghost use Rattle.domain_state.specs.History.{StandsForSome};
 ghost use Rattle.domain_filesets.specs.Coming.{AddsNone, AddsOne, IsAnswered, NonePanicked};
 
+use crate::answering::answer;
 use domain_base::VolIx;
 use domain_memory::DomainMemory;
 use domain_stages::set_limits;
 use domain_state::{Domain, Opening};
-use fileset_model::{Actor, Command, Entry, FilesetName, Limits, Owner, Refusal, Reply, Told};
+use fileset_model::{Command, FilesetName, Limits, Owner, Refusal, Reply, Told};
 use page_store::StoreFault;
 use std::alloc::Global;
 use volume_disk::Rack;
@@ -80,43 +81,14 @@ pub fn limit_fileset<R: Rack, O: Opening>(
     ensures cause { IfErr result (λ now. LimitsNone domain.memory.space domain.memory.cells
         NoPage) }
 {
-    let stamp = domain.calls();
     let (mut memory, history) = domain.apart();
     let staged = stage_limits(&mut memory, alloc, &fileset, who, limits, prefer);
-    let mut domain: Domain<R, O> = Domain::together(memory, history);
-    match staged {
-        Ok(reply) => {
-            domain.commit(Entry {
-                actor: Actor::Client(client),
-                command: Command::Setquota {
-                    fileset,
-                    who,
-                    files: limits.files,
-                    blocks: limits.blocks,
-                },
-                reply,
-                stamp,
-            });
-            Ok(domain)
-        }
-        Err(StoreFault::NoPage) => {
-            domain.discard();
-            Err(domain)
-        }
-        Err(StoreFault::OutOfMemory) => {
-            domain.discard();
-            domain.commit(Entry {
-                actor: Actor::Client(client),
-                command: Command::Setquota {
-                    fileset,
-                    who,
-                    files: limits.files,
-                    blocks: limits.blocks,
-                },
-                reply: Reply::Refused(Refusal::OutOfMemory),
-                stamp,
-            });
-            Ok(domain)
-        }
-    }
+    let domain: Domain<R, O> = Domain::together(memory, history);
+    let command = Command::Setquota {
+        fileset,
+        who,
+        files: limits.files,
+        blocks: limits.blocks,
+    };
+    answer(domain, client, command, staged)
 }

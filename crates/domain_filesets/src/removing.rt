@@ -8,11 +8,12 @@ ghost use Rattle.domain_memory.specs.Staged.{IsSettled, MayGoBack};
 ghost use Rattle.domain_state.specs.History.{StandsForSome};
 ghost use Rattle.domain_filesets.specs.Coming.{AddsOne, IsAnswered, NonePanicked};
 
+use crate::answering::add_answer;
 use domain_base::OutOfMemory;
 use domain_memory::DomainMemory;
 use domain_stages::begin_to_go;
 use domain_state::{Domain, Opening};
-use fileset_model::{Actor, Command, Entry, FilesetName, Refusal, Reply, Told};
+use fileset_model::{Command, FilesetName, Refusal, Reply, Told};
 use std::alloc::Global;
 use volume_disk::Rack;
 
@@ -58,15 +59,8 @@ pub fn remove_fileset<R: Rack, O: Opening>(
     ensures rack { result.history.rack ≡ domain.history.rack }
     ensures durable { result.history.durable ≡ domain.history.durable }
 {
-    let stamp = domain.calls();
     let (mut memory, history) = domain.apart();
     let reply = stage_removal(&mut memory, alloc, &fileset);
-    let mut domain: Domain<R, O> = Domain::together(memory, history);
-    domain.commit(Entry {
-        actor: Actor::Client(client),
-        command: Command::Rmfset { fileset },
-        reply,
-        stamp,
-    });
-    domain
+    let domain: Domain<R, O> = Domain::together(memory, history);
+    add_answer(domain, client, Command::Rmfset { fileset }, reply)
 }

@@ -1,3 +1,4 @@
+use Rattle.domain_filesets.proofs.Counted.{full}
 use Rattle.domain_filesets.proofs.Means.{begun, taken}
 use Rattle.domain_filesets.proofs.laws.what_beginnings_mean.Goals as goal
 
@@ -6,3 +7,6 @@ returns-clause-begun c = begun
 
 pub returns-clause-taken : goal.returns-clause-taken
 returns-clause-taken c = taken
+
+pub returns-clause-full : goal.returns-clause-full
+returns-clause-full c = λ d all name stands none many. full d all stands name none many

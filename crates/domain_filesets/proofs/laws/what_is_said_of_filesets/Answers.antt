@@ -1,4 +1,5 @@
 use Rattle.domain_filesets.proofs.Means.{missing, there}
+use Rattle.domain_filesets.proofs.Counted.{filesets_counted}
 use Rattle.domain_filesets.proofs.laws.what_is_said_of_filesets.Goals as goal
 
 pub returns-clause-there : goal.returns-clause-there
@@ -6,3 +7,6 @@ returns-clause-there c = λ d all number entry stand has. there d all stand numb
 
 pub returns-clause-missing : goal.returns-clause-missing
 returns-clause-missing c = λ d all name stand none. missing d all stand name none
+
+pub returns-clause-counted : goal.returns-clause-counted
+returns-clause-counted c = filesets_counted
