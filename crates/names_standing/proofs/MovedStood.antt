@@ -1,5 +1,5 @@
 -- Directories stand where they stood once a path has moved, but for the one that moved.
-use Rattle.std.proofs.Common.{◌≡◌, ◌∙◌, ◌≢◌, ◌⊎◌, ◌+◌, ◌-◌, ◌≤◌, ◌||◌, ◌==◌, inl, inr, ℕ, Bool, true, false, cond, is_some, List, [], ◌∷◌, ◌++◌, append_assoc, append-nil, drop, length, length-append, take, Option, Some, None, IsSomeAnd, refl, sym, ap, subst, ⊎_elim, arith, eqb-true, true≢false}
+use Rattle.std.proofs.Common.{◌≡◌, ◌∙◌, ◌≢◌, ◌⊎◌, ◌+◌, ◌-◌, ◌≤◌, ◌||◌, ◌==◌, inl, inr, ℕ, Bool, true, false, cond, is_some, [], ◌∷◌, ◌++◌, append_assoc, append-nil, drop, length, length-append, take, Option, Some, None, IsSomeAnd, refl, sym, ap, subst, ⊎_elim, arith, eqb-true, true≢false}
 use Rattle.std.proofs.lemmas.Bool.{cases_Bool}
 use Rattle.std.specs.Cmp.{Equal-is}
 use Rattle.std.specs.Cmp.Lexicographic.{lists_ties, texts_ties}
@@ -17,7 +17,7 @@ use Rattle.fileset_model.specs.declared.fileset.FilesetSlot.{FilesetSlot}
 use Rattle.fileset_model.specs.declared.node.Node.{Node}
 use Rattle.fileset_model.specs.declared.reply.Refusal.{Refusal}
 use Rattle.fileset_model.specs.declared.reply.Refusal.TheVariants.{IntoItself, ReadOnly}
-use Rattle.fileset_laws.specs.Valid.{IsDirectoryAt, IsValidFileset}
+use Rattle.fileset_laws.specs.Valid.{IsValidFileset}
 use Rattle.fileset_laws.proofs.ValidCheckLemmas.{IsLeaf, leaf_empty, leaf_file}
 use Rattle.fileset_laws.proofs.ValidLemmas.{passed, passed_test, some_inj}
 use Rattle.fileset_laws.proofs.ValidMoveLemmas.{begins, begins_of}

@@ -1,5 +1,5 @@
 -- Directories of a fileset of new names say those in which they stand.
-use Rattle.std.proofs.Common.{◌≡◌, ◌∙◌, ◌<◌, ◌^◌, ◌++◌, ℕ, true, List, [], ◌∷◌, Option, Some, None, IfSome, IsSomeAnd, slice_get, refl, inl, inr, sym, ap, subst, ⊎_elim}
+use Rattle.std.proofs.Common.{◌≡◌, ◌∙◌, ◌<◌, ◌^◌, ◌++◌, ℕ, true, List, [], ◌∷◌, Option, Some, None, IsSomeAnd, slice_get, refl, inl, inr, sym, ap, subst, ⊎_elim}
 use Rattle.std.specs.FinMap.{get}
 use Rattle.std.specs.Option.{option_and_then, option_map}
 use Rattle.domain_base.specs.declared.place.Home.{Home}
@@ -12,7 +12,6 @@ use Rattle.dir_pages.specs.declared.row.Row.{Row}
 use Rattle.bitfile_core.specs.Creation.{last_sequence}
 use Rattle.bitfile_core.specs.State.{parent_of}
 use Rattle.fileset_model.specs.Filesets.{FilesetMap}
-use Rattle.fileset_model.specs.Fileset.{Fileset}
 use Rattle.fileset_model.specs.Orders.{Path}
 use Rattle.fileset_model.specs.Paths.{is_directory}
 use Rattle.fileset_model.specs.declared.fileset.FilesetSlot.{FilesetSlot}
@@ -22,8 +21,8 @@ use Rattle.fileset_table.specs.declared.slot.SlotItem.TheVariants as slot
 use Rattle.name_space.specs.Names.{led_to, number_of, root_tag}
 use Rattle.name_space.proofs.Originals.{directory_at, number_at, one_tag, path_at}
 use Rattle.deferred_delete.proofs.Spread.{none_not, some_same}
-use Rattle.domain_layout.specs.DirectoryRules.{Has, HasWrongParent, IsRow, RowPlace}
-use Rattle.domain_layout.specs.Seen.{SeenFile, seen_in}
+use Rattle.domain_layout.specs.DirectoryRules.{Has, IsRow, RowPlace}
+use Rattle.domain_layout.specs.Seen.{SeenFile}
 use Rattle.layout_laws.proofs.Reached.{same_number}
 use Rattle.domain_standing.specs.Domain.{DomainNow, item_in}
 use Rattle.domain_standing.specs.Standing.{HaveParents, StandsDomain}
@@ -32,7 +31,7 @@ use Rattle.standing_laws.proofs.FilesetPut.{StoodIn, stood_in}
 use Rattle.standing_laws.specs.Sound.{IsSound, StandsSound}
 use Rattle.no_fault_laws.proofs.Originals.{IsOriginalSlot, is_role}
 use Rattle.no_fault_laws.proofs.RowPaths.{PathRow, RowWay, dir_row, in_it, path_row, row_dir, row_way}
-use Rattle.no_fault_laws.proofs.Seen.{HasSeen, has_seen, shown_in}
+use Rattle.no_fault_laws.proofs.Seen.{has_seen, shown_in}
 use Rattle.no_fault_laws.proofs.Shown.{IsShown}
 use Rattle.set_standing.specs.Around.{StaysAround}
 use Rattle.set_standing.specs.Follow.{ComesFrom, IsStill, IsUnsaid, Said, TagFollows}

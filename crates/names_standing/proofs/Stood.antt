@@ -1,10 +1,10 @@
 -- Directories stand where they stood, or where it is said, once names have changed.
-use Rattle.std.proofs.Common.{◌≡◌, ◌∙◌, ◌≢◌, ◌⊎◌, ◌+◌, ◌-◌, inl, inr, ℕ, Bool, true, false, cond, is_some, List, [], ◌∷◌, ◌++◌, append_assoc, append-nil, length, length-append, take, Option, Some, None, IsSomeAnd, refl, sym, ap, subst, ⊎_elim, arith, true≢false}
+use Rattle.std.proofs.Common.{◌≡◌, ◌∙◌, ◌≢◌, ◌⊎◌, ◌+◌, ◌-◌, inl, inr, ℕ, Bool, true, false, cond, is_some, [], ◌∷◌, ◌++◌, length, length-append, take, Option, Some, None, IsSomeAnd, refl, sym, ap, subst, ⊎_elim, arith, true≢false}
 use Rattle.std.proofs.Math.Seq.{take-append_seam}
 use Rattle.std.specs.Cmp.{nat_cmp_total}
 use Rattle.std.specs.FinMap as map
 use Rattle.std.specs.FinMap.{get}
-use Rattle.std.specs.Option.{option_and_then, option_map, option_map_or}
+use Rattle.std.specs.Option.{option_map_or}
 use Rattle.domain_base.specs.declared.place.Kind.{Kind}
 use Rattle.domain_base.specs.declared.place.Kind.TheVariants as kind
 use Rattle.fileset_model.specs.Apply.{is_named_elsewhere, linked, with_node, without}
@@ -13,7 +13,7 @@ use Rattle.fileset_model.specs.Orders.{Name, Path, path_cmp-total, path_cmp-IsAn
 use Rattle.fileset_model.specs.Paths.{is_directory}
 use Rattle.fileset_model.specs.declared.node.Node.{Node}
 use Rattle.fileset_model.proofs.MapLemmas.{got-insert, got-remove, get-insert_same}
-use Rattle.fileset_laws.specs.Valid.{IsDirectoryAt, IsValidFileset}
+use Rattle.fileset_laws.specs.Valid.{IsValidFileset}
 use Rattle.fileset_laws.proofs.ValidLemmas.{some_inj}
 use Rattle.fileset_laws.proofs.ValidTreeLemmas.{directory_of}
 use Rattle.name_space.specs.Changes.{new_node}

@@ -23,7 +23,7 @@ use Rattle.deferred_laws.proofs.Tags.{IsNamed}
 use Rattle.domain_layout.specs.Seen.{SeenFile, seen_in}
 use Rattle.domain_standing.specs.Domain.{DomainNow}
 use Rattle.set_standing.specs.Follow.{ComesFrom, IsUnsaid, Said, SaysParent, TagFollows, TagsFollow}
-use Rattle.set_standing.proofs.FilesKept.{KeepsBytesOf, none_unsaid, tag_changed, tag_gone, tag_same, tag_unsaid}
+use Rattle.set_standing.proofs.FilesKept.{KeepsBytesOf, none_unsaid, tag_changed, tag_gone, tag_unsaid}
 
 module _ (number : ℕ) (d now : DomainNow) (chains : Chains) (tag : Tag) where
   abbrev last : Tag → ℕ
