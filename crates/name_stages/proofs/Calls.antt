@@ -15,6 +15,7 @@ use Rattle.name_space.specs.declared.fault.NameFault.{NameFault}
 use Rattle.name_space.specs.declared.fault.NameFault.TheVariants.{NoPage, OutOfMemory, Refused}
 use Rattle.names_at_hand.proofs.AtHand.{at_hand}
 use Rattle.names_standing.specs.Nodes.{IsNewNode, NodesFollow}
+use Rattle.bitfile_store.specs.Rest.{rest_is, rest_joined}
 use Rattle.bitfile_store.specs.declared.parts.CallSettings.{CallSettings}
 use Rattle.domain_layout.specs.CellRules.{of_original}
 use Rattle.domain_standing.specs.Domain.{item_in}
@@ -35,6 +36,10 @@ pub ok_by : {A E : Type 0} (P Q : A → Type 0) (r : Result A E) → IfOk r P �
 ok_by P Q (Ok a) is by = by a is
 ok_by P Q (Err e) is by = is
 
+pub ok_both : {A E : Type 0} (P Q : A → Type 0) (r : Result A E) → IfOk r P → IfOk r Q → IfOk r (λ a. P a × Q a)
+ok_both P Q (Ok a) one two = (one, two)
+ok_both P Q (Err e) one two = one
+
 pub err_by : {A : Type 0} (P Q : NameFault → Type 0) (r : Result A NameFault) → IfErr r P → ((e : NameFault) → P e → Q e) → IfErr r Q
 err_by P Q (Ok a) is by = is
 err_by P Q (Err e) is by = by e is
@@ -48,9 +53,17 @@ pub new_is : (of : Kind) (uid gid : ℕ) → IsNewNode (new_node of uid gid)
 new_is kind.File uid gid = (refl, refl, refl)
 new_is kind.Directory uid gid = tt
 
+-- ---- one call after another
+
+pub no_calls : (chosen : Chosen) → CallsChange None chosen chosen
+no_calls chosen = record { set = rest_is _ _ _ _ _; rest = refl }
+
+pub calls_joined : {said : Said} (chosen between after : Chosen) → CallsChange None chosen between → CallsChange said between after → CallsChange said chosen after
+calls_joined {said} chosen between after one two = record { set = rest_joined said _ _ _ _ _ _ _ _ _ _ _ _ _ _ _ one.set two.set; rest = two.rest ∙ one.rest }
+
 -- ---- what memory has lent
 
-abbrev HasEntry : Option SlotItem → Type 0
+abbrev pub HasEntry : Option SlotItem → Type 0
 HasEntry o = (entry : FilesetEntry) × (o ≡ Some (slot.Original entry))
 
 has_entry : (o : Option SlotItem) → of_original o ≡ true → HasEntry o
@@ -61,7 +74,7 @@ has_entry (Some (slot.Clone of clone entry)) is = absurd (true≢false (sym is))
 has_entry (Some (slot.Removed first_tag quota)) is = absurd (true≢false (sym is))
 
 module _ (memory : DomainMemory) (number : ℕ) (settings : CallSettings) (chosen : Chosen) (lends : Lends memory number settings chosen) (staged : ∥ IsStagedForSome memory ∥₁) (may : ∥ MayGoBack memory ∥₁) (original : of_original (item_in (staged_in memory) number) ≡ true) where
-  its : HasEntry (item_in (staged_in memory) number)
+  pub its : HasEntry (item_in (staged_in memory) number)
   its = has_entry (item_in (staged_in memory) number) original
 
   pub has_names : HasOriginal (files_in chosen)
@@ -73,7 +86,7 @@ module _ (memory : DomainMemory) (number : ℕ) (settings : CallSettings) (chose
   names_were all entry fileset h = lent_names memory number settings chosen entry all h.staged h.may h.original lends fileset h.there
 
   module _ {said : Said} (right : AreSettingsOf memory settings) (after : Chosen) (now : DomainMemory) (calls : CallsChange said chosen after) (lends_now : Lends now after.rest.number after.set.settings after) (same : after.rest.number ≡ chosen.rest.number) where
-    lends_here : Lends now number after.set.settings after
+    pub lends_here : Lends now number after.set.settings after
     lends_here = subst (λ (n : ℕ). Lends now n after.set.settings after) (same ∙ lends.same_number) lends_now
 
     pub kept : ∥ KeepsKept memory now ∥₁

@@ -19,7 +19,8 @@ use Rattle.name_space.specs.declared.fault.NameFault.{NameFault}
 use Rattle.name_space.specs.declared.fault.NameFault.TheVariants.{NoPage, OutOfMemory, Refused}
 use Rattle.name_space.specs.declared.rename.Renamed.{Renamed}
 use Rattle.domain_standing.specs.Domain.{item_in}
-use Rattle.domain_memory.specs.Staged.{IsStaged, MayGoBack, staged_in}
+use Rattle.domain_standing.specs.Standing.{AreBooksOf, HaveParents}
+use Rattle.domain_memory.specs.Staged.{IsStaged, MayGoBack, staged_books, staged_in}
 use Rattle.domain_memory.specs.declared.memory.DomainMemory.{DomainMemory}
 
 -- memory stands for these filesets, with the change that is laid over it, and an original in a slot
@@ -36,6 +37,19 @@ pub record HasFileset (memory : DomainMemory) (number : ℕ) (all : FilesetMap)
 abbrev pub StandsWith : FilesetMap → FilesetEntry → FilesetSlot → DomainMemory → Fileset → Type 0
 StandsWith all entry fileset now tree = length now.listed.items ≤ now.list.room
     → IsStaged now (insert all entry.name (record fileset { tree = tree }))
+
+-- where there is that room directories say those in which they stand, if they did
+abbrev pub KeepsParents : DomainMemory → DomainMemory → Type 0
+KeepsParents memory now = length now.listed.items ≤ now.list.room
+    → HaveParents (staged_in memory) → HaveParents (staged_in now)
+
+-- books are those of filesets with this one beside the others, if they were those of all
+abbrev pub KeepsBooks : DomainMemory → DomainMemory → FilesetMap → FilesetEntry → FilesetSlot
+    → Fileset → Type 0
+KeepsBooks memory now all entry fileset tree =
+    AreBooksOf (staged_books memory) (staged_in memory) all
+    → AreBooksOf (staged_books now) (staged_in now)
+    (insert all entry.name (record fileset { tree = tree }))
 
 -- a new file or directory stands at a path, under a number that none had
 pub record Creates (path : Path) (node : Node) (all : FilesetMap) (entry : FilesetEntry)

@@ -4,6 +4,7 @@
 
 mod making;
 mod moving;
+mod saying;
 mod taking;
 
 pub use making::{create, link};

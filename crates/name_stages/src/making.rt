@@ -1,27 +1,62 @@
 //! A file or directory that is made (create, mkdir), and a second path of a file (link).
-ghost use Rattle.std.specs.Prelude.{◌≡◌, ◌≤◌, true, IfErr, IfOk, length, slice_get};
+ghost use Rattle.std.specs.Prelude.{◌≡◌, ◌≤◌, true, IfErr, IfOk, None, OnErr, OnOk, length, slice_get};
 ghost use Rattle.dir_pages.specs.Rows.{is_row_name};
 ghost use Rattle.domain_layout.specs.CellRules.{of_original};
 ghost use Rattle.domain_memory.specs.Kept.{KeepsKept};
 ghost use Rattle.domain_memory.specs.Staged.{IsStagedForSome, MayGoBack};
-ghost use Rattle.fileset_model.specs.Apply.{link_checks};
+ghost use Rattle.fileset_model.specs.Apply.{link_checks, linked};
 ghost use Rattle.fileset_model.specs.Filesets.{FilesetMap};
 ghost use Rattle.fileset_model.specs.declared.fileset.FilesetSlot.{FilesetSlot};
 ghost use Rattle.fileset_table.specs.declared.slot.FilesetEntry.{FilesetEntry};
-ghost use Rattle.chosen_files.specs.Chosen.{AreSettingsOf};
-ghost use Rattle.name_space.specs.Changes.{free_checks, last_name, new_node};
-ghost use Rattle.name_stages.specs.Stages.{Creates, HasFileset, IsRefused, Links};
+ghost use Rattle.chosen_files.specs.Chosen.{AreSettingsOf, CallsChange, files_in};
+ghost use Rattle.name_space.specs.Changes.{Creates as CreatesIn, HasOriginal, IsOriginal, free_checks, last_name, new_node};
+ghost use Rattle.names_standing.specs.Directories.{AreTags, said_of};
+ghost use Rattle.name_stages.specs.Stages.{Creates, HasFileset, IsRefused, KeepsBooks, KeepsParents, Links};
 
+use crate::saying::say_parent;
 use bitfile_store::CallSettings;
-use chosen_files::choose;
+use chosen_files::{Chosen, choose};
 use domain_base::{FilesetNo, Kind, Tag};
 use domain_memory::DomainMemory;
 use fileset_model::Path;
 use name_space::{Created, NameFault, create_at, link_at};
 use std::alloc::Global;
 
-/// Makes a file or a directory at a path. That a directory stands in the one that the answer tells is
-/// to be said of it then. After an Err the change may be half made: it is to be taken back.
+/// Makes a file or a directory at a path of files that are lent, and says of a directory in which
+/// one it stands.
+fn make_in(
+    chosen: &mut Chosen,
+    alloc: Global,
+    path: &Path,
+    of: Kind,
+    uid: u32,
+    gid: u32,
+) -> Result<Created, NameFault>
+    requires names { HasOriginal (files_in chosen.old) }
+    requires some { 1 ≤ length path.now }
+    requires name { is_row_name (last_name path.now) ≡ true }
+    ensures ok { IfOk result (λ made. (slot : FilesetSlot) → IsOriginal (files_in chosen.old) slot
+        → CreatesIn path.now (new_node of uid gid) slot (files_in chosen.old)
+        (files_in chosen.new) made) }
+    ensures says { IfOk result (λ made.
+        CallsChange (said_of of made.tag made.dir) chosen.old chosen.new) }
+    ensures tags { IfOk result (λ made. AreTags (said_of of made.tag made.dir)) }
+    ensures err { IfErr result (λ fault. (slot : FilesetSlot)
+        → IsOriginal (files_in chosen.old) slot → IsRefused (free_checks path.now) slot fault) }
+    ensures err_says { OnErr result (CallsChange None chosen.old chosen.new) }
+{
+    let made = match create_at(&mut chosen.set, alloc, path, of, uid, gid) {
+        Ok(made) => made,
+        Err(fault) => return Err(fault),
+    };
+    match say_parent(chosen, alloc, of, made.tag, made.dir) {
+        Ok(()) => Ok(made),
+        Err(fault) => Err(fault),
+    }
+}
+
+/// Makes a file or a directory at a path; a directory says in which one it stands. After an Err the
+/// change may be half made: it is to be taken back.
 pub fn create(
     memory: DomainMemory,
     alloc: Global,
@@ -45,11 +80,12 @@ pub fn create(
     ensures err { (all : FilesetMap) (entry : FilesetEntry) (fileset : FilesetSlot)
         → HasFileset memory number all entry fileset
         → IfErr result.1 (IsRefused (free_checks path.now) fileset) }
+    ensures parents { OnOk result.1 (KeepsParents memory result.0) }
     ensures kept { ∥ KeepsKept memory result.0 ∥₁ }
     ensures back { ∥ MayGoBack result.0 ∥₁ }
 {
     let mut chosen = choose(memory, number, settings);
-    let answer = create_at(&mut chosen.set, alloc, path, kind, uid, gid);
+    let answer = make_in(&mut chosen, alloc, path, kind, uid, gid);
     (chosen.back(), answer)
 }
 
@@ -75,6 +111,11 @@ pub fn link(
     ensures err { (all : FilesetMap) (entry : FilesetEntry) (fileset : FilesetSlot)
         → HasFileset memory number all entry fileset
         → IfErr result.1 (IsRefused (link_checks path.now to.now) fileset) }
+    ensures parents { OnOk result.1 (KeepsParents memory result.0) }
+    ensures books { (all : FilesetMap) (entry : FilesetEntry) (fileset : FilesetSlot)
+        → HasFileset memory number all entry fileset
+        → OnOk result.1 (KeepsBooks memory result.0 all entry fileset
+        (linked path.now to.now fileset.tree)) }
     ensures kept { ∥ KeepsKept memory result.0 ∥₁ }
     ensures back { ∥ MayGoBack result.0 ∥₁ }
 {

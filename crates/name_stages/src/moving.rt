@@ -1,28 +1,58 @@
 //! What stands at a path, moved to another (rename).
-ghost use Rattle.std.specs.Prelude.{◌≡◌, ◌≤◌, true, IfErr, IfOk, length, slice_get};
+ghost use Rattle.std.specs.Prelude.{◌≡◌, ◌≤◌, true, IfErr, IfOk, None, OnErr, OnOk, length, slice_get};
 ghost use Rattle.dir_pages.specs.Rows.{is_row_name};
 ghost use Rattle.domain_layout.specs.CellRules.{of_original};
 ghost use Rattle.domain_memory.specs.Kept.{KeepsKept};
 ghost use Rattle.domain_memory.specs.Staged.{IsStagedForSome, MayGoBack};
-ghost use Rattle.fileset_model.specs.Apply.{rename_checks};
+ghost use Rattle.fileset_model.specs.Apply.{rename_checks, renamed};
 ghost use Rattle.fileset_model.specs.Filesets.{FilesetMap};
 ghost use Rattle.fileset_model.specs.declared.fileset.FilesetSlot.{FilesetSlot};
 ghost use Rattle.fileset_table.specs.declared.slot.FilesetEntry.{FilesetEntry};
-ghost use Rattle.chosen_files.specs.Chosen.{AreSettingsOf};
-ghost use Rattle.name_space.specs.Changes.{last_name};
-ghost use Rattle.name_stages.specs.Stages.{HasFileset, IsRefused, Renames};
+ghost use Rattle.chosen_files.specs.Chosen.{AreSettingsOf, CallsChange, files_in};
+ghost use Rattle.name_space.specs.Changes.{HasOriginal, IsOriginal, Renames as RenamesIn, last_name};
+ghost use Rattle.names_standing.specs.Directories.{AreTags, said_of};
+ghost use Rattle.name_stages.specs.Stages.{HasFileset, IsRefused, KeepsBooks, KeepsParents, Renames};
 
+use crate::saying::say_parent;
 use bitfile_store::CallSettings;
-use chosen_files::choose;
+use chosen_files::{Chosen, choose};
 use domain_base::FilesetNo;
 use domain_memory::DomainMemory;
 use fileset_model::Path;
 use name_space::{NameFault, Renamed, rename_at};
 use std::alloc::Global;
 
-/// Moves what stands at a path, with all below it, to a second one, in place of what stands there.
-/// That a directory stands in the one that the answer tells is to be said of it then. After an Err
-/// the change may be half made: it is to be taken back.
+/// Moves what stands at a path of files that are lent to a second one, and says of a directory in
+/// which one it stands.
+fn move_in(chosen: &mut Chosen, alloc: Global, path: &Path, to: &Path) -> Result<Renamed, NameFault>
+    requires names { HasOriginal (files_in chosen.old) }
+    requires some { 1 ≤ length path.now }
+    requires some_to { 1 ≤ length to.now }
+    requires name { is_row_name (last_name to.now) ≡ true }
+    ensures ok { IfOk result (λ answer. (slot : FilesetSlot)
+        → IsOriginal (files_in chosen.old) slot
+        → RenamesIn path.now to.now slot (files_in chosen.old) (files_in chosen.new) answer) }
+    ensures says { IfOk result (λ answer.
+        CallsChange (said_of answer.kind answer.moved answer.dir) chosen.old chosen.new) }
+    ensures tags { IfOk result (λ answer. AreTags (said_of answer.kind answer.moved answer.dir)) }
+    ensures err { IfErr result (λ fault. (slot : FilesetSlot)
+        → IsOriginal (files_in chosen.old) slot
+        → IsRefused (rename_checks path.now to.now) slot fault) }
+    ensures err_says { OnErr result (CallsChange None chosen.old chosen.new) }
+{
+    let answer = match rename_at(&mut chosen.set, alloc, path, to) {
+        Ok(answer) => answer,
+        Err(fault) => return Err(fault),
+    };
+    match say_parent(chosen, alloc, answer.kind, answer.moved, answer.dir) {
+        Ok(()) => Ok(answer),
+        Err(fault) => Err(fault),
+    }
+}
+
+/// Moves what stands at a path, with all below it, to a second one, in place of what stands there:
+/// a directory says in which one it stands then. After an Err the change may be half made: it is to
+/// be taken back.
 pub fn rename(
     memory: DomainMemory,
     alloc: Global,
@@ -45,10 +75,16 @@ pub fn rename(
     ensures err { (all : FilesetMap) (entry : FilesetEntry) (fileset : FilesetSlot)
         → HasFileset memory number all entry fileset
         → IfErr result.1 (IsRefused (rename_checks path.now to.now) fileset) }
+    ensures parents { OnOk result.1 (KeepsParents memory result.0) }
+    ensures books { (all : FilesetMap) (entry : FilesetEntry) (fileset : FilesetSlot)
+        → HasFileset memory number all entry fileset
+        → IfOk result.1 (λ answer. answer.replaced ≡ None
+        → KeepsBooks memory result.0 all entry fileset
+        (renamed path.now to.now fileset.tree)) }
     ensures kept { ∥ KeepsKept memory result.0 ∥₁ }
     ensures back { ∥ MayGoBack result.0 ∥₁ }
 {
     let mut chosen = choose(memory, number, settings);
-    let answer = rename_at(&mut chosen.set, alloc, path, to);
+    let answer = move_in(&mut chosen, alloc, path, to);
     (chosen.back(), answer)
 }

@@ -1,15 +1,16 @@
 //! A path that is taken away (unlink, rmdir).
-ghost use Rattle.std.specs.Prelude.{◌≡◌, ◌≤◌, true, IfErr, IfOk, length, slice_get};
+ghost use Rattle.std.specs.Prelude.{◌≡◌, ◌≤◌, false, true, IfErr, IfOk, OnOk, length, slice_get};
 ghost use Rattle.dir_pages.specs.Rows.{is_row_name};
 ghost use Rattle.domain_layout.specs.CellRules.{of_original};
 ghost use Rattle.domain_memory.specs.Kept.{KeepsKept};
 ghost use Rattle.domain_memory.specs.Staged.{IsStagedForSome, MayGoBack};
+ghost use Rattle.fileset_model.specs.Apply.{without};
 ghost use Rattle.fileset_model.specs.Filesets.{FilesetMap};
 ghost use Rattle.fileset_model.specs.declared.fileset.FilesetSlot.{FilesetSlot};
 ghost use Rattle.fileset_table.specs.declared.slot.FilesetEntry.{FilesetEntry};
 ghost use Rattle.chosen_files.specs.Chosen.{AreSettingsOf};
 ghost use Rattle.name_space.specs.Changes.{rmdir_checks, unlink_checks};
-ghost use Rattle.name_stages.specs.Stages.{HasFileset, IsRefused, Removes};
+ghost use Rattle.name_stages.specs.Stages.{HasFileset, IsRefused, KeepsBooks, KeepsParents, Removes};
 
 use bitfile_store::CallSettings;
 use chosen_files::choose;
@@ -40,6 +41,11 @@ pub fn unlink(
     ensures err { (all : FilesetMap) (entry : FilesetEntry) (fileset : FilesetSlot)
         → HasFileset memory number all entry fileset
         → IfErr result.1 (IsRefused (unlink_checks path.now) fileset) }
+    ensures parents { OnOk result.1 (KeepsParents memory result.0) }
+    ensures books { (all : FilesetMap) (entry : FilesetEntry) (fileset : FilesetSlot)
+        → HasFileset memory number all entry fileset
+        → IfOk result.1 (λ answer. answer.gone ≡ false
+        → KeepsBooks memory result.0 all entry fileset (without path.now fileset.tree)) }
     ensures kept { ∥ KeepsKept memory result.0 ∥₁ }
     ensures back { ∥ MayGoBack result.0 ∥₁ }
 {
@@ -69,6 +75,7 @@ pub fn remove_directory(
     ensures err { (all : FilesetMap) (entry : FilesetEntry) (fileset : FilesetSlot)
         → HasFileset memory number all entry fileset
         → IfErr result.1 (IsRefused (rmdir_checks path.now) fileset) }
+    ensures parents { OnOk result.1 (KeepsParents memory result.0) }
     ensures kept { ∥ KeepsKept memory result.0 ∥₁ }
     ensures back { ∥ MayGoBack result.0 ∥₁ }
 {

@@ -3,6 +3,9 @@ use Rattle.name_space.specs.Changes.{rmdir_checks}
 use Rattle.chosen_files.specs.Chosen.{CallsChange}
 use Rattle.chosen_files.specs.declared.chosen.Chosen.{Chosen}
 use Rattle.names_standing.proofs.Nodes.{path_left}
+use Rattle.names_standing.proofs.Stood.{left_stand}
+use Rattle.fileset_model.specs.Apply.{without}
+use Rattle.name_stages.proofs.Parents.{on_ok_by, parents_kept}
 use Rattle.name_stages.proofs.Calls.{back, err_by, has_names, is_refused, kept, names_were, ok_by, stands_with}
 use Rattle.name_stages.proofs.taking.remove_directory.Goals as goal
 
@@ -36,3 +39,12 @@ returns-clause-back c =
     let chosen = c.choose-chosen.result in
     let after : Chosen = record chosen { set = c.rmdir_at-answer.new.set } in
     back c.args.memory c.args.number c.args.settings chosen c.choose-chosen.ensures c.requires.stands c.requires.back c.requires.original c.requires.settings after c.back.result (record { set = c.rmdir_at-answer.ensures.rest; rest = refl }) c.back.ensures refl
+
+pub returns-clause-parents : goal.returns-clause-parents
+returns-clause-parents c =
+    let chosen = c.choose-chosen.result in
+    let after : Chosen = record chosen { set = c.rmdir_at-answer.new.set } in
+    let calls : CallsChange None chosen after = record { set = c.rmdir_at-answer.ensures.rest; rest = refl } in
+    on_ok_by _ _ c.rmdir_at-answer.result c.rmdir_at-answer.ensures.ok (λ answer is.
+    parents_kept c.args.memory c.args.number c.args.settings chosen c.choose-chosen.ensures c.requires.stands c.requires.back c.requires.original c.requires.settings None after c.back.result calls c.back.ensures refl tt
+    (λ fileset was. let it = is fileset was in record { tree = without c.args.path.now fileset.tree; makes = it.makes; nodes = path_left c.args.path.now fileset.tree; directories = left_stand c.args.path.now fileset.tree }))
