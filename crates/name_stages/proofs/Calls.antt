@@ -1,5 +1,5 @@
 -- A call on names over the files that memory has lent.
-use Rattle.std.proofs.Common.{◌≡◌, ◌∙◌, true, true≢false, Option, Some, None, Result, Ok, Err, IfOk, IfErr, refl, sym, subst, ℕ}
+use Rattle.std.proofs.Common.{◌≡◌, ◌∙◌, ◌≤◌, length, true, true≢false, Option, Some, None, Result, Ok, Err, IfOk, IfErr, refl, sym, subst, ℕ}
 use Rattle.std.proofs.Math.Logic.{∥∥₁_map₂}
 use Rattle.domain_base.specs.declared.place.Kind.{Kind}
 use Rattle.domain_base.specs.declared.place.Kind.TheVariants as kind
@@ -95,6 +95,6 @@ module _ (memory : DomainMemory) (number : ℕ) (settings : CallSettings) (chose
     pub back : ∥ MayGoBack now ∥₁
     back = ∥∥₁_map₂ staged may (λ s m. goes_back memory now number settings after.set.settings chosen after its.0 s.0 s.1 m its.1 right lends calls lends_here)
 
-    pub stands_with : (all : FilesetMap) (entry : FilesetEntry) (fileset : FilesetSlot) → HasFileset memory number all entry fileset → (tree : Fileset) → IsOriginal (files_in after) (record fileset { tree = tree }) → NodesFollow fileset.tree tree → StandsWith all entry fileset now tree
-    stands_with all entry fileset h tree makes follow = λ room.
+    pub stands_with : (all : FilesetMap) (entry : FilesetEntry) (fileset : FilesetSlot) → HasFileset memory number all entry fileset → (tree : Fileset) → IsOriginal (files_in after) (record fileset { tree = tree }) → NodesFollow fileset.tree tree → length now.listed.items ≤ now.list.room → StandsWith all entry fileset now tree
+    stands_with all entry fileset h tree makes follow room =
         new_names_staged memory now number settings after.set.settings chosen after entry all h.staged h.may h.original right lends calls lends_here room fileset (record fileset { tree = tree }) h.there makes follow

@@ -164,7 +164,7 @@ module _ (memory : DomainMemory) (number : ℕ) (settings : CallSettings) (chose
     (right : AreSettingsOf memory settings) (said : Said) (after : Chosen) (now : DomainMemory) (calls : CallsChange said chosen after) (lends_now : Lends now after.rest.number after.set.settings after) (same : after.rest.number ≡ chosen.rest.number) (tags : AreTags said)
     (names : (fileset : FilesetSlot) → IsOriginal (files_in chosen) fileset → NewNames said (files_in after) fileset)
   where
-    pub parents_kept : KeepsParents memory now
+    pub parents_kept : length now.listed.items ≤ now.list.room → KeepsParents memory now
     parents_kept room parents = λ n tag cells seen has directory wrong.
         ∥∥₁_elim staged (λ x y. absurd x) (λ s. ∥∥₁_elim may (λ x y. absurd x) (λ m. keeps s m n tag cells seen has directory wrong))
       where

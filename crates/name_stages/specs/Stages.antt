@@ -1,5 +1,5 @@
 -- Changes of names that are laid over a domain's memory.
-use Rattle.std.specs.Prelude.{◌≡◌, ◌-◌, ◌≤◌, ℕ, Bool, not, None, Some, length, take}
+use Rattle.std.specs.Prelude.{◌≡◌, ◌-◌, ℕ, Bool, not, None, Some, length, take}
 use Rattle.std.specs.FinMap.{get, insert}
 use Rattle.std.specs.Option.{option_map}
 use Rattle.domain_base.specs.declared.place.Tag.{Tag}
@@ -32,16 +32,14 @@ pub record HasFileset (memory : DomainMemory) (number : ℕ) (all : FilesetMap)
   pub original : item_in (staged_in memory) number ≡ Some (slot.Original entry)
   pub there : get all entry.name ≡ Some fileset
 
--- it stands for the original with these files beside the others, where there is room on the list
--- for what was taken away
+-- it stands for the original with these files beside the others
 abbrev pub StandsWith : FilesetMap → FilesetEntry → FilesetSlot → DomainMemory → Fileset → Type 0
-StandsWith all entry fileset now tree = length now.listed.items ≤ now.list.room
-    → IsStaged now (insert all entry.name (record fileset { tree = tree }))
+StandsWith all entry fileset now tree =
+    IsStaged now (insert all entry.name (record fileset { tree = tree }))
 
--- where there is that room directories say those in which they stand, if they did
+-- directories say those in which they stand, if they did
 abbrev pub KeepsParents : DomainMemory → DomainMemory → Type 0
-KeepsParents memory now = length now.listed.items ≤ now.list.room
-    → HaveParents (staged_in memory) → HaveParents (staged_in now)
+KeepsParents memory now = HaveParents (staged_in memory) → HaveParents (staged_in now)
 
 -- books are those of filesets with this one beside the others, if they were those of all
 abbrev pub KeepsBooks : DomainMemory → DomainMemory → FilesetMap → FilesetEntry → FilesetSlot

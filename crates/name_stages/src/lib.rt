@@ -4,6 +4,7 @@
 
 mod making;
 mod moving;
+mod room;
 mod saying;
 mod taking;
 

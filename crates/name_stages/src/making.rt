@@ -13,6 +13,7 @@ ghost use Rattle.name_space.specs.Changes.{Creates as CreatesIn, HasOriginal, Is
 ghost use Rattle.names_standing.specs.Directories.{AreTags, said_of};
 ghost use Rattle.name_stages.specs.Stages.{Creates, HasFileset, IsRefused, KeepsBooks, KeepsParents, Links};
 
+use crate::room::{hand_back, if_room};
 use crate::saying::say_parent;
 use bitfile_store::CallSettings;
 use chosen_files::{Chosen, choose};
@@ -86,7 +87,8 @@ pub fn create(
 {
     let mut chosen = choose(memory, number, settings);
     let answer = make_in(&mut chosen, alloc, path, kind, uid, gid);
-    (chosen.back(), answer)
+    let (memory, room) = hand_back(chosen);
+    (memory, if_room(answer, room))
 }
 
 /// Gives a file a second path. After an Err the change may be half made: it is to be taken back.
@@ -121,5 +123,6 @@ pub fn link(
 {
     let mut chosen = choose(memory, number, settings);
     let answer = link_at(&mut chosen.set, alloc, path, to);
-    (chosen.back(), answer)
+    let (memory, room) = hand_back(chosen);
+    (memory, if_room(answer, room))
 }

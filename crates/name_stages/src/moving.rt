@@ -13,6 +13,7 @@ ghost use Rattle.name_space.specs.Changes.{HasOriginal, IsOriginal, Renames as R
 ghost use Rattle.names_standing.specs.Directories.{AreTags, said_of};
 ghost use Rattle.name_stages.specs.Stages.{HasFileset, IsRefused, KeepsBooks, KeepsParents, Renames};
 
+use crate::room::{hand_back, if_room};
 use crate::saying::say_parent;
 use bitfile_store::CallSettings;
 use chosen_files::{Chosen, choose};
@@ -86,5 +87,6 @@ pub fn rename(
 {
     let mut chosen = choose(memory, number, settings);
     let answer = move_in(&mut chosen, alloc, path, to);
-    (chosen.back(), answer)
+    let (memory, room) = hand_back(chosen);
+    (memory, if_room(answer, room))
 }

@@ -1,6 +1,5 @@
 //! A path that is taken away (unlink, rmdir).
 ghost use Rattle.std.specs.Prelude.{◌≡◌, ◌≤◌, false, true, IfErr, IfOk, OnOk, length, slice_get};
-ghost use Rattle.dir_pages.specs.Rows.{is_row_name};
 ghost use Rattle.domain_layout.specs.CellRules.{of_original};
 ghost use Rattle.domain_memory.specs.Kept.{KeepsKept};
 ghost use Rattle.domain_memory.specs.Staged.{IsStagedForSome, MayGoBack};
@@ -12,6 +11,7 @@ ghost use Rattle.chosen_files.specs.Chosen.{AreSettingsOf};
 ghost use Rattle.name_space.specs.Changes.{rmdir_checks, unlink_checks};
 ghost use Rattle.name_stages.specs.Stages.{HasFileset, IsRefused, KeepsBooks, KeepsParents, Removes};
 
+use crate::room::{hand_back, if_room};
 use bitfile_store::CallSettings;
 use chosen_files::choose;
 use domain_base::{FilesetNo, Tag};
@@ -51,7 +51,8 @@ pub fn unlink(
 {
     let mut chosen = choose(memory, number, settings);
     let answer = unlink_at(&mut chosen.set, alloc, path);
-    (chosen.back(), answer)
+    let (memory, room) = hand_back(chosen);
+    (memory, if_room(answer, room))
 }
 
 /// Removes a directory without rows. After an Err the change may be half made: it is to be taken
@@ -81,5 +82,6 @@ pub fn remove_directory(
 {
     let mut chosen = choose(memory, number, settings);
     let answer = rmdir_at(&mut chosen.set, alloc, path);
-    (chosen.back(), answer)
+    let (memory, room) = hand_back(chosen);
+    (memory, if_room(answer, room))
 }

@@ -5,9 +5,10 @@ use Rattle.chosen_files.specs.declared.chosen.Chosen.{Chosen}
 use Rattle.names_standing.proofs.Nodes.{path_left}
 use Rattle.names_standing.proofs.Stood.{left_stand}
 use Rattle.fileset_model.specs.Apply.{without}
-use Rattle.name_stages.proofs.Books.{book_left, books_kept, named_path}
-use Rattle.name_stages.proofs.Parents.{on_ok_by, parents_kept}
-use Rattle.name_stages.proofs.Calls.{back, err_by, has_names, is_refused, kept, names_were, ok_by, stands_with}
+use Rattle.name_stages.proofs.Books.{book_left, named_path}
+use Rattle.name_stages.proofs.Parents.{on_ok_by}
+use Rattle.name_stages.proofs.Calls.{err_by, has_names, is_refused, names_were, ok_by}
+use Rattle.name_stages.proofs.Roomy.{err_still, has_room, ok_still, room_back, room_books, room_kept, room_parents, room_stands, with_both}
 use Rattle.name_stages.proofs.taking.unlink.Goals as goal
 
 pub unlink_at-answer-requires-clause-names : goal.unlink_at-answer-requires-clause-names
@@ -19,36 +20,36 @@ returns-clause-ok c = λ all entry fileset has.
     let after : Chosen = record chosen { set = c.unlink_at-answer.new.set } in
     let calls : CallsChange None chosen after = record { set = c.unlink_at-answer.ensures.rest; rest = refl } in
     let was = names_were c.args.memory c.args.number c.args.settings chosen c.choose-chosen.ensures c.requires.stands c.requires.back c.requires.original all entry fileset has in
-    let stands = stands_with c.args.memory c.args.number c.args.settings chosen c.choose-chosen.ensures c.requires.stands c.requires.back c.requires.original c.requires.settings after c.back.result calls c.back.ensures refl all entry fileset has in
-    ok_by _ _ c.unlink_at-answer.result c.unlink_at-answer.ensures.ok (λ answer is.
-    let it = is fileset was in
-    record { allowed = it.allowed; was = it.was; last = it.last; staged = stands _ it.makes (path_left c.args.path.now fileset.tree) })
+    let stands = room_stands c.args.memory c.args.number c.args.settings chosen c.choose-chosen.ensures c.requires.settings after c.hand_back-memory.result.0 calls c.hand_back-memory.ensures.back c.requires.stands c.requires.back c.requires.original all entry fileset has in
+    ok_by _ _ c.if_room.result (with_both _ _ c.if_room.result (ok_still _ c.if_room.result c.unlink_at-answer.result c.hand_back-memory.result.1 c.if_room.ensures.ok c.unlink_at-answer.ensures.ok) (has_room _ c.if_room.result c.unlink_at-answer.result c.hand_back-memory.result.1 c.if_room.ensures.ok c.hand_back-memory.ensures.ok)) (λ answer is.
+    let it = is.0 fileset was in
+    record { allowed = it.allowed; was = it.was; last = it.last; staged = stands _ it.makes (path_left c.args.path.now fileset.tree) is.1 })
 
 pub returns-clause-err : goal.returns-clause-err
 returns-clause-err c = λ all entry fileset has.
     let was = names_were c.args.memory c.args.number c.args.settings c.choose-chosen.result c.choose-chosen.ensures c.requires.stands c.requires.back c.requires.original all entry fileset has in
-    err_by _ _ c.unlink_at-answer.result c.unlink_at-answer.ensures.err (λ fault is. is_refused (unlink_checks c.args.path.now) _ _ _ _ fileset was fault is)
+    err_still _ c.if_room.result c.unlink_at-answer.result c.if_room.ensures.err tt (err_by _ _ c.unlink_at-answer.result c.unlink_at-answer.ensures.err (λ fault is. is_refused (unlink_checks c.args.path.now) _ _ _ _ fileset was fault is))
 
 pub returns-clause-kept : goal.returns-clause-kept
 returns-clause-kept c =
     let chosen = c.choose-chosen.result in
     let after : Chosen = record chosen { set = c.unlink_at-answer.new.set } in
-    kept c.args.memory c.args.number c.args.settings chosen c.choose-chosen.ensures c.requires.stands c.requires.back c.requires.original c.requires.settings after c.back.result (record { set = c.unlink_at-answer.ensures.rest; rest = refl }) c.back.ensures refl
+    room_kept c.args.memory c.args.number c.args.settings chosen c.choose-chosen.ensures c.requires.settings {said = None} after c.hand_back-memory.result.0 (record { set = c.unlink_at-answer.ensures.rest; rest = refl }) c.hand_back-memory.ensures.back c.requires.stands c.requires.back c.requires.original
 
 pub returns-clause-back : goal.returns-clause-back
 returns-clause-back c =
     let chosen = c.choose-chosen.result in
     let after : Chosen = record chosen { set = c.unlink_at-answer.new.set } in
-    back c.args.memory c.args.number c.args.settings chosen c.choose-chosen.ensures c.requires.stands c.requires.back c.requires.original c.requires.settings after c.back.result (record { set = c.unlink_at-answer.ensures.rest; rest = refl }) c.back.ensures refl
+    room_back c.args.memory c.args.number c.args.settings chosen c.choose-chosen.ensures c.requires.settings {said = None} after c.hand_back-memory.result.0 (record { set = c.unlink_at-answer.ensures.rest; rest = refl }) c.hand_back-memory.ensures.back c.requires.stands c.requires.back c.requires.original
 
 pub returns-clause-parents : goal.returns-clause-parents
 returns-clause-parents c =
     let chosen = c.choose-chosen.result in
     let after : Chosen = record chosen { set = c.unlink_at-answer.new.set } in
     let calls : CallsChange None chosen after = record { set = c.unlink_at-answer.ensures.rest; rest = refl } in
-    on_ok_by _ _ c.unlink_at-answer.result c.unlink_at-answer.ensures.ok (λ answer is.
-    parents_kept c.args.memory c.args.number c.args.settings chosen c.choose-chosen.ensures c.requires.stands c.requires.back c.requires.original c.requires.settings None after c.back.result calls c.back.ensures refl tt
-    (λ fileset was. let it = is fileset was in record { tree = without c.args.path.now fileset.tree; makes = it.makes; nodes = path_left c.args.path.now fileset.tree; directories = left_stand c.args.path.now fileset.tree }))
+    on_ok_by _ _ c.if_room.result (with_both _ _ c.if_room.result (ok_still _ c.if_room.result c.unlink_at-answer.result c.hand_back-memory.result.1 c.if_room.ensures.ok c.unlink_at-answer.ensures.ok) (has_room _ c.if_room.result c.unlink_at-answer.result c.hand_back-memory.result.1 c.if_room.ensures.ok c.hand_back-memory.ensures.ok)) (λ answer is.
+    room_parents c.args.memory c.args.number c.args.settings chosen c.choose-chosen.ensures c.requires.settings after c.hand_back-memory.result.0 calls c.hand_back-memory.ensures.back c.requires.stands c.requires.back c.requires.original tt
+    (λ fileset was. let it = is.0 fileset was in record { tree = without c.args.path.now fileset.tree; makes = it.makes; nodes = path_left c.args.path.now fileset.tree; directories = left_stand c.args.path.now fileset.tree }) is.1)
 
 pub returns-clause-books : goal.returns-clause-books
 returns-clause-books c = λ all entry fileset has.
@@ -56,7 +57,7 @@ returns-clause-books c = λ all entry fileset has.
     let after : Chosen = record chosen { set = c.unlink_at-answer.new.set } in
     let calls : CallsChange None chosen after = record { set = c.unlink_at-answer.ensures.rest; rest = refl } in
     let was = names_were c.args.memory c.args.number c.args.settings chosen c.choose-chosen.ensures c.requires.stands c.requires.back c.requires.original all entry fileset has in
-    ok_by _ _ c.unlink_at-answer.result c.unlink_at-answer.ensures.ok (λ answer is stays.
+    ok_by _ _ c.if_room.result (ok_still _ c.if_room.result c.unlink_at-answer.result c.hand_back-memory.result.1 c.if_room.ensures.ok c.unlink_at-answer.ensures.ok) (λ answer is stays.
     let it = is fileset was in
-    books_kept c.args.memory c.args.number c.args.settings chosen c.choose-chosen.ensures c.requires.settings after c.back.result calls c.back.ensures refl all entry fileset has (without c.args.path.now fileset.tree)
+    room_books c.args.memory c.args.number c.args.settings chosen c.choose-chosen.ensures c.requires.settings after c.hand_back-memory.result.0 calls c.hand_back-memory.ensures.back all entry fileset has (without c.args.path.now fileset.tree)
     (book_left c.args.path.now _ answer.gone fileset.tree (named_path c.args.path.now c.requires.some) it.was it.last stays))
