@@ -41,7 +41,7 @@ use Rattle.standing_laws.proofs.TablesTaken.{unheld_taken}
 use Rattle.set_standing.specs.Around.{BytesFollow, ChangesSlot, StandsAround}
 use Rattle.set_standing.specs.Beside.{ChangesOneFile, StaysBeside}
 use Rattle.set_standing.proofs.FilePage.{around_put, beside_put}
-use Rattle.set_standing.proofs.FileShown.{HasState, shown_again, state_there}
+use Rattle.set_standing.proofs.FileShown.{HasState, live_alike, shown_again, state_there}
 use Rattle.set_standing.proofs.Led.{KeepsOthers, around_now, leads, other_page}
 use Rattle.set_standing.proofs.LedBeside.{beside_as}
 use Rattle.set_standing.proofs.OwnPages.{held_for}
@@ -207,6 +207,10 @@ module _ (number : ℕ) (tag : Tag) (page : ℕ) (bytes : List ℕ) (prefer : �
           others = chain_other tag (λ _. after) around.chains;
           own = ap (option_and_then state_of) held_tag ∙ after_state ∙ sym (ap (λ o. option_map (placed page (At gets.home)) (option_and_then state_of o)) is);
         };
+        live = subst (IsLiveOf File) (sym held_tag)
+            (live_alike File mine after had.state (placed page (At gets.home) had.state) had.is (after_state ∙ ap (option_map (placed page (At gets.home))) had.is)
+            (record { kind = refl; uid = refl; gid = refl; links = refl; removing = refl; index = refl }) live);
+        pages = λ t k home differ at. own_same t k home at;
         bytes = record {
           others = λ t k home differ at. follow home (own_same t k home at);
           own = λ k home no at. follow home (own_same tag k home at);

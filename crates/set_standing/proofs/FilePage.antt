@@ -149,6 +149,8 @@ module _ (number : ℕ) (tag : Tag) (page : ℕ) (d : DomainNow) (around : Stand
         chains_now = around.chains;
         are = together_now.files;
         state = record { others = λ t differ. refl; own = same_map (option_and_then state_of (around.chains tag)) };
+        live = subst (IsLiveOf File) (sym some) live;
+        pages = page_elsewhere;
         bytes = record {
           others = λ t k home differ at. bytes home (page_elsewhere t k home differ at);
           own = λ k home other at. bytes home (elsewhere home (λ mine. other (around.well.together.once tag tag k page home at mine).1));

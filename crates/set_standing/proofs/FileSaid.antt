@@ -32,7 +32,7 @@ use Rattle.standing_laws.specs.Leads.{IsLiveOf, fileset_now}
 use Rattle.set_standing.specs.Around.{BytesFollow, ChangesSlot, StandsAround}
 use Rattle.set_standing.specs.Beside.{ChangesOneFile, StaysBeside}
 use Rattle.set_standing.proofs.CallsAround.{HasFirst, first_of, sets}
-use Rattle.set_standing.proofs.FileShown.{HasState, IsShownAlike, says_state, shown_again, state_there}
+use Rattle.set_standing.proofs.FileShown.{HasState, IsShownAlike, live_alike, says_state, shown_again, state_there}
 use Rattle.set_standing.proofs.Led.{around_now, leads}
 use Rattle.set_standing.proofs.LedBeside.{beside_led, own_page}
 
@@ -115,6 +115,8 @@ module _ (number : ℕ) (tag : Tag) (d : DomainNow) (around : StandsAround numbe
           others = chain_other tag (with_first says) around.chains;
           own = ap (option_and_then state_of) said_tag ∙ said ∙ sym (ap (λ o. option_map how (option_and_then state_of o)) h.is);
         };
+        live = subst (IsLiveOf File) (sym said_tag) (live_alike File mine (with_first says mine) had.state (how had.state) had.is now_state (alike had.state had.is) (subst (IsLiveOf File) h.is live));
+        pages = λ t page home differ at. own_pages t page home at;
         bytes = record {
           others = λ t page home differ at. bytes home (own_pages t page home at);
           own = λ page home no at. bytes home (own_pages tag page home at);

@@ -25,3 +25,4 @@ pub mod FilePage
 pub mod FileGiven
 pub mod FileCut
 pub mod FileCalls
+pub mod FileParents

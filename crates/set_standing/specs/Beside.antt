@@ -2,6 +2,7 @@
 use Rattle.std.specs.Prelude.{◌≡◌, ℕ, false, Some}
 use Rattle.std.specs.Option.{option_and_then, option_map}
 use Rattle.domain_base.specs.declared.place.Home.{Home}
+use Rattle.domain_base.specs.declared.place.Kind.TheVariants.{File}
 use Rattle.domain_base.specs.declared.place.Tag.{Tag}
 use Rattle.page_store.specs.Bitfiles.{Bitfiles, same_tag}
 use Rattle.extent_maps.specs.declared.run.PagePlace.TheVariants.{At}
@@ -15,6 +16,7 @@ use Rattle.fileset_table.specs.declared.slot.FilesetEntry.{FilesetEntry}
 use Rattle.fileset_table.specs.declared.slot.SlotItem.TheVariants as slot
 use Rattle.domain_layout.specs.Shape.{AreLimits, FilesetShape}
 use Rattle.domain_standing.specs.Domain.{DomainNow, item_in}
+use Rattle.standing_laws.specs.Leads.{IsLiveOf}
 use Rattle.standing_laws.specs.SlotParents.{HaveParentsIn, StandsForSome}
 use Rattle.standing_laws.specs.Slots.{StandsSlot}
 use Rattle.set_standing.specs.Around.{IsOfVolume, StandsAround}
@@ -51,7 +53,8 @@ pub record KeepsBytesBut (tag : Tag) (may : ℕ → Type 0) (chains : Chains) (d
       → now.contents home ≡ d.contents home
 
 -- the file that a tag of the slot names has changed so, with the bytes of these pages, and no name:
--- the domain stands around the slot, beside which all stays, and the set that it shows is the same
+-- the domain stands around the slot, beside which all stays, no other file's page is another one, and
+-- the set that it shows is the same
 pub record ChangesOneFile (number : ℕ) (tag : Tag) (how : FileState → FileState) (may : ℕ → Type 0)
     (chains : Chains) (d now : DomainNow) : Type 0 where
   pub around : StandsAround number now
@@ -59,6 +62,9 @@ pub record ChangesOneFile (number : ℕ) (tag : Tag) (how : FileState → FileSt
   pub chains_now : Chains
   pub are : AreFiles number (now.tags number) now.pages chains_now
   pub state : ChangesState tag how chains chains_now
+  pub live : IsLiveOf File (chains_now tag)
+  pub pages : (t : Tag) (page : ℕ) (home : Home) → same_tag t tag ≡ false
+      → place_at chains t page ≡ At home → now.pages home ≡ d.pages home
   pub bytes : KeepsBytesBut tag may chains d now
   pub set : (shown : Bitfiles) → StandsAsSet number (d.tags number) d.space d.cells d.pages shown
       → StandsAsSet number (now.tags number) now.space now.cells now.pages shown
