@@ -9,12 +9,14 @@ use Rattle.domain_base.specs.declared.place.Kind.TheVariants.{File}
 use Rattle.domain_base.specs.declared.place.Tag.{Tag}
 use Rattle.page_store.specs.Bitfiles.{Bitfile}
 use Rattle.bmt_mcells.specs.Chain.{PlacedCell}
+use Rattle.tag_dirs.specs.Directory.{IsDirectoryAt}
+use Rattle.tag_dirs.specs.declared.dir.TagPlace.{TagPlace}
 use Rattle.extent_maps.specs.declared.run.PagePlace.TheVariants.{Absent, At}
 use Rattle.free_space.specs.Spaces.{kept_spaces, volume_of}
 use Rattle.free_space.specs.VolumeSpace.{VolumeSpace, is_waiting}
 use Rattle.bitfile_cells.specs.Files.{places_of}
 use Rattle.bitfile_core.specs.declared.attributes.Attributes.{Attributes}
-use Rattle.bitfile_core.specs.Files.{Chains, attributes_of, of_live, place_at}
+use Rattle.bitfile_core.specs.Files.{AreFiles, Chains, attributes_of, of_live, place_at}
 use Rattle.bitfile_core.specs.State.{FileState, state_of}
 use Rattle.bitfile_core.proofs.Created.{one_chains}
 use Rattle.bitfile_laws.specs.States.{if_live, is_removing}
@@ -37,7 +39,7 @@ use Rattle.node_laws.specs.Nodes.{seen_of}
 use Rattle.node_laws.proofs.Seen.{live_seen}
 use Rattle.staged_pages.specs.Store.{pages_of}
 use Rattle.domain_standing.specs.Domain.{DomainNow, item_in}
-use Rattle.domain_standing.specs.Standing.{IsMarkedBut, StandsDomain}
+use Rattle.domain_standing.specs.Standing.{HaveParents, IsMarkedBut, StandsDomain}
 use Rattle.standing_laws.specs.Leads.{IsLiveOf}
 use Rattle.standing_laws.specs.Slots.{StandsSlot}
 use Rattle.standing_laws.specs.SlotsStay.{PutsFileset}
@@ -47,6 +49,7 @@ use Rattle.standing_laws.proofs.OtherSlots.{seen_place}
 use Rattle.standing_laws.proofs.SourcesSaid.{alone_by_files, files_alone}
 use Rattle.standing_laws.proofs.SoundParted.{sound_but}
 use Rattle.set_standing.proofs.Again.{around_of}
+use Rattle.set_standing.proofs.FileParents.{file_parents}
 use Rattle.set_standing.proofs.OwnIndexes.{around_sound}
 use Rattle.set_standing.specs.Around.{IsNamedIn, StandsAround}
 use Rattle.set_standing.specs.Beside.{ChangesOneFile}
@@ -214,3 +217,16 @@ module _ (old : DomainMemory) (number : ℕ) (tag : Tag) (path : Path) (all : Fi
   -- what the change has listed has room still
   pub still_fits : (new : DomainMemory) → new ≡ record old { pages = new.pages; space = new.space; cells = new.cells } → length new.listed.items ≤ new.list.room
   still_fits new same = subst (λ (m : DomainMemory). length m.listed.items ≤ m.list.room) (sym same) has.staged.room
+
+  -- and what directories say of their parents
+  pub parents_stay : (new : DomainMemory) (how : FileState → FileState) (may : ℕ → Type 0) → ChangesOneFile number tag how may (around_file old number tag path all entry fileset has).chains d (staged_in new) → HaveParents d → HaveParents (staged_in new)
+  parents_stay new how may changes =
+      let now = staged_in new in
+      let item_is : item_in now number ≡ Some (slot.Original entry) = ap (λ (t : Table). slice_get t.slots number) changes.beside.table ∙ has.original in
+      file_parents number entry tag d now changes.beside has.original (has.staged.stands.tables.laid.tags number (slot.Original entry) has.original)
+      (subst (IsDirectoryAt now.pages entry.first_tag) (changes.beside.tags number) (changes.around.below.tables.laid.tags number (slot.Original entry) item_is)) around.chains changes.chains_now around.well.together.files
+      (subst (λ (ps : List TagPlace). AreFiles number ps now.pages changes.chains_now) (changes.beside.tags number) changes.are) changes.state.others changes.live changes.pages
+      (λ other differ. record {
+        no_clone = has.staged.stands.slots.no_clone other;
+        each = λ its at. let it = stood_in d all has.staged.stands.slots other its at in (it.shape_was, it.fileset_was, it.stood);
+      })

@@ -26,6 +26,7 @@ use Rattle.domain_layout.specs.Filled.{IsFilled}
 use Rattle.node_laws.specs.Nodes.{AgreeBut, seen_of, with_page}
 use Rattle.node_laws.proofs.Changed.{joined}
 use Rattle.domain_standing.specs.Domain.{DomainNow}
+use Rattle.domain_standing.specs.Standing.{HaveParents}
 use Rattle.standing_laws.specs.Leads.{IsLiveOf}
 use Rattle.set_standing.specs.Around.{StandsAround}
 use Rattle.set_standing.specs.Beside.{ChangesOneFile}
@@ -34,7 +35,7 @@ use Rattle.domain_parts.specs.Slots.{places_in, slot_in}
 use Rattle.domain_parts.specs.declared.slots.SlotFiles.{SlotFiles}
 use Rattle.domain_memory.specs.Staged.{staged_in}
 use Rattle.domain_memory.specs.declared.memory.DomainMemory.{DomainMemory}
-use Rattle.page_stages.proofs.Changed.{around_file, changed_staged, placed_seen, still_fits}
+use Rattle.page_stages.proofs.Changed.{around_file, changed_staged, parents_stay, placed_seen, still_fits}
 use Rattle.page_stages.proofs.Seen.{bytes_follow, kept_live, pages_whole, seen_live, slot_changes, tags_same}
 use Rattle.page_stages.proofs.Turns.{page_keeps}
 use Rattle.page_stages.specs.Stages.{HasFile, IsFileIn, LacksPage, StandsChanged}
@@ -104,6 +105,16 @@ module _ (old new : DomainMemory) (same : new ≡ record old { pages = new.pages
       staged : StandsChanged path (with_page page bytes) all entry fileset new
       staged = changed_staged old number tag path all entry fileset has new (ap (λ (m : DomainMemory). m.list) same) (still_fits old number tag path all entry fileset has new same) spaces (placed page (At g.home)) (λ k. ⊥) changes (with_page page bytes) (page_keeps page bytes small whole) live (λ state is_state. refl) turns
 
+      parents : HaveParents d → HaveParents now
+      parents = parents_stay old number tag path all entry fileset has new (placed page (At g.home)) (λ k. ⊥) changes
+
+    pub page_parents : HaveParents d → HaveParents now
+    page_parents = by_parents (chains tag) refl got
+      where
+        by_parents : (o : Option (List PlacedCell)) → chains tag ≡ o → IsSomeAnd o (GetsPage number (d.tags number) tag page bytes prefer d.frame.version chains d.space now.space d.cells now.cells d.pages now.pages) → HaveParents d → HaveParents now
+        by_parents None there g = absurd g
+        by_parents (Some chain) there g = parents chain there g
+
     by_chain : (o : Option (List PlacedCell)) → chains tag ≡ o → IsSomeAnd o (GetsPage number (d.tags number) tag page bytes prefer d.frame.version chains d.space now.space d.cells now.cells d.pages now.pages) → StandsChanged path (with_page page bytes) all entry fileset new
     by_chain None there g = absurd g
     by_chain (Some chain) there g = staged chain there g
@@ -120,3 +131,12 @@ pub given_end : {X E : Type 0} (old new : DomainMemory) → new ≡ record old {
 given_end old new same spaces number tag page bytes prefer files is number_is file lacks small (Ok x) gets path all entry fileset has =
     page_given old new same spaces number tag page bytes prefer files is number_is file lacks small gets path all entry fileset has
 given_end old new same spaces number tag page bytes prefer files is number_is file lacks small (Err e) gets path all entry fileset has = tt
+
+pub parents_end : {X E : Type 0} (old new : DomainMemory) → new ≡ record old { pages = new.pages; space = new.space; cells = new.cells } → ((vol : ℕ) → volume_of (kept_spaces new.space) vol ≡ volume_of (kept_spaces old.space) vol)
+    → (number : ℕ) (tag : Tag) (page : ℕ) (bytes : List ℕ) (prefer : ℕ) (files : SlotFiles) → slot_in old.slots.items number ≡ Some files → files.files.fileset ≡ number → IsFileIn old number tag → LacksPage old number tag page → page < file_pages → (r : Result X E)
+    → ((chains : Chains) → AreTogether files.files.fileset files.files.tags old.space old.cells (pages_of old.pages) chains
+    → OnOk r (IsSomeAnd (chains tag) (GetsPage files.files.fileset files.files.tags tag page bytes prefer old.frame.version chains old.space new.space old.cells new.cells (pages_of old.pages) (pages_of new.pages))))
+    → (path : Path) (all : FilesetMap) (entry : FilesetEntry) (fileset : FilesetSlot) → HasFile old number tag path all entry fileset → HaveParents (staged_in old) → OnOk r (HaveParents (staged_in new))
+parents_end old new same spaces number tag page bytes prefer files is number_is file lacks small (Ok x) gets path all entry fileset has had =
+    page_parents old new same spaces number tag page bytes prefer files is number_is file lacks small gets path all entry fileset has had
+parents_end old new same spaces number tag page bytes prefer files is number_is file lacks small (Err e) gets path all entry fileset has had = tt

@@ -21,13 +21,14 @@ use Rattle.domain_layout.specs.Filled.{IsFilled}
 use Rattle.node_laws.specs.Nodes.{AgreeBut, seen_of, with_page}
 use Rattle.node_laws.proofs.Changed.{written}
 use Rattle.domain_standing.specs.Domain.{DomainNow}
+use Rattle.domain_standing.specs.Standing.{HaveParents}
 use Rattle.standing_laws.specs.Leads.{IsLiveOf}
 use Rattle.set_standing.specs.Around.{StandsAround}
 use Rattle.set_standing.specs.Beside.{ChangesOneFile}
 use Rattle.set_standing.proofs.FileCalls.{put_again}
 use Rattle.domain_memory.specs.Staged.{staged_in}
 use Rattle.domain_memory.specs.declared.memory.DomainMemory.{DomainMemory}
-use Rattle.page_stages.proofs.Changed.{around_file, changed_staged, placed_seen, still_fits}
+use Rattle.page_stages.proofs.Changed.{around_file, changed_staged, parents_stay, placed_seen, still_fits}
 use Rattle.page_stages.proofs.Seen.{bytes_follow, kept_live, pages_whole, place_live, seen_live, with_pages}
 use Rattle.page_stages.proofs.Turns.{kept_home, page_keeps}
 use Rattle.page_stages.specs.Stages.{AreFilesIn, HasFile, HasPage, IsFileIn, StandsChanged}
@@ -77,3 +78,6 @@ module _ (old new : DomainMemory) (same : new ≡ record old { pages = new.pages
 
     pub page_put_there : StandsChanged path (with_page page bytes) all entry fileset new
     page_put_there = changed_staged old number tag path all entry fileset has new (ap (λ (m : DomainMemory). m.list) same) (still_fits old number tag path all entry fileset has new (with_pages old new same)) (λ vol. ap (λ (m : DomainMemory). volume_of (kept_spaces m.space) vol) same) (λ (s : FileState). s) (λ k. k ≡ page) changes (with_page page bytes) (page_keeps page bytes small whole) live (λ state is_state. refl) turns
+
+    pub put_parents : HaveParents d → HaveParents now
+    put_parents = parents_stay old number tag path all entry fileset has new (λ (s : FileState). s) (λ k. k ≡ page) changes

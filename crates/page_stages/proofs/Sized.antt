@@ -23,6 +23,7 @@ use Rattle.domain_layout.specs.Filled.{IsFilled}
 use Rattle.node_laws.specs.Nodes.{seen_of, with_size}
 use Rattle.node_laws.proofs.Changed.{agree_on, described_as}
 use Rattle.domain_standing.specs.Domain.{DomainNow}
+use Rattle.domain_standing.specs.Standing.{HaveParents}
 use Rattle.standing_laws.specs.Leads.{IsLiveOf}
 use Rattle.set_standing.specs.Around.{StandsAround}
 use Rattle.set_standing.specs.Beside.{ChangesOneFile}
@@ -31,7 +32,7 @@ use Rattle.domain_parts.specs.Slots.{places_in, slot_in}
 use Rattle.domain_parts.specs.declared.slots.SlotFiles.{SlotFiles}
 use Rattle.domain_memory.specs.Staged.{staged_in}
 use Rattle.domain_memory.specs.declared.memory.DomainMemory.{DomainMemory}
-use Rattle.page_stages.proofs.Changed.{around_file, changed_staged, placed_seen, still_fits}
+use Rattle.page_stages.proofs.Changed.{around_file, changed_staged, parents_stay, placed_seen, still_fits}
 use Rattle.page_stages.proofs.Seen.{attributes_live, bytes_follow, seen_live, with_pages}
 use Rattle.page_stages.proofs.Turns.{size_keeps}
 use Rattle.page_stages.specs.Stages.{HasFile, IsFileIn, StandsChanged}
@@ -99,6 +100,9 @@ module _ (old new : DomainMemory) (same : new ≡ record old { pages = new.pages
     pub size_set : StandsChanged path (with_size size flag) all entry fileset new
     size_set = changed_staged old number tag path all entry fileset has new (ap (λ (m : DomainMemory). m.list) same) (still_fits old number tag path all entry fileset has new (with_pages old new same)) (λ vol. ap (λ (m : DomainMemory). volume_of (kept_spaces m.space) vol) same) (described value) (λ k. ⊥) changes (with_size size flag) (size_keeps size flag) live (λ state is_state. refl) turns
 
+    pub size_parents : HaveParents d → HaveParents now
+    size_parents = parents_stay old number tag path all entry fileset has new (described value) (λ k. ⊥) changes
+
 -- whichever end the call has
 pub size_end : {X E : Type 0} (old new : DomainMemory) → new ≡ record old { pages = new.pages } → (number : ℕ) (tag : Tag) (size : ℕ) (flag : Bool) (files : SlotFiles) → slot_in old.slots.items number ≡ Some files → files.files.fileset ≡ number → IsFileIn old number tag → (was value : Attributes)
     → ((chains : Chains) → AreFiles files.files.fileset files.files.tags (pages_of old.pages) chains → attributes_at chains tag ≡ Some was) → value ≡ record was { size = size; is_logged = flag }
@@ -111,3 +115,15 @@ size_end old new same number tag size flag files is number_is file was value tol
     (λ chains are. subst (λ (v : Attributes). AreTogether files.files.fileset files.files.tags old.space old.cells (pages_of new.pages) (with_chain tag (with_first (says_attributes v)) chains)) value_is (together chains are))
     path all entry fileset has
 size_end old new same number tag size flag files is number_is file was value told value_is beside (Err e) together path all entry fileset has = tt
+
+pub parents_end : {X E : Type 0} (old new : DomainMemory) → new ≡ record old { pages = new.pages } → (number : ℕ) (tag : Tag) (size : ℕ) (flag : Bool) (files : SlotFiles) → slot_in old.slots.items number ≡ Some files → files.files.fileset ≡ number → IsFileIn old number tag → (was value : Attributes)
+    → ((chains : Chains) → AreFiles files.files.fileset files.files.tags (pages_of old.pages) chains → attributes_at chains tag ≡ Some was) → value ≡ record was { size = size; is_logged = flag }
+    → ((chains : Chains) → AreFiles files.files.fileset files.files.tags (pages_of old.pages) chains → ChangesFirst (chains tag) (pages_of old.pages) (pages_of new.pages)) → (r : Result X E)
+    → ((chains : Chains) → AreTogether files.files.fileset files.files.tags old.space old.cells (pages_of old.pages) chains
+    → OnOk r (AreTogether files.files.fileset files.files.tags old.space old.cells (pages_of new.pages) (with_chain tag (with_first (says_attributes value)) chains)))
+    → (path : Path) (all : FilesetMap) (entry : FilesetEntry) (fileset : FilesetSlot) → HasFile old number tag path all entry fileset → HaveParents (staged_in old) → OnOk r (HaveParents (staged_in new))
+parents_end old new same number tag size flag files is number_is file was value told value_is beside (Ok x) together path all entry fileset has had =
+    size_parents old new same number tag size flag files is number_is file was told beside
+    (λ chains are. subst (λ (v : Attributes). AreTogether files.files.fileset files.files.tags old.space old.cells (pages_of new.pages) (with_chain tag (with_first (says_attributes v)) chains)) value_is (together chains are))
+    path all entry fileset has had
+parents_end old new same number tag size flag files is number_is file was value told value_is beside (Err e) together path all entry fileset has had = tt

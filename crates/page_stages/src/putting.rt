@@ -5,9 +5,10 @@ ghost use Rattle.fileset_model.specs.Orders.{Path};
 ghost use Rattle.fileset_model.specs.declared.fileset.FilesetSlot.{FilesetSlot};
 ghost use Rattle.fileset_table.specs.declared.slot.FilesetEntry.{FilesetEntry};
 ghost use Rattle.domain_layout.specs.CellRules.{of_original};
+ghost use Rattle.domain_standing.specs.Standing.{HaveParents};
 ghost use Rattle.node_laws.specs.Nodes.{with_page};
 ghost use Rattle.domain_memory.specs.Kept.{KeepsKept};
-ghost use Rattle.domain_memory.specs.Staged.{IsStagedForSome, MayGoBack};
+ghost use Rattle.domain_memory.specs.Staged.{IsStagedForSome, MayGoBack, staged_in};
 ghost use Rattle.page_stages.specs.Stages.{HasFile, HasPage, IsFileIn, StandsChanged};
 
 use crate::slots::files_in;
@@ -28,6 +29,9 @@ pub fn put_page(memory: &mut DomainMemory, number: FilesetNo, tag: Tag, page: u3
     ensures stands { (path : Path) (all : FilesetMap) (entry : FilesetEntry)
         (fileset : FilesetSlot) → HasFile memory.old number tag path all entry fileset
         → StandsChanged path (with_page page bytes) all entry fileset memory.new }
+    ensures parents { (path : Path) (all : FilesetMap) (entry : FilesetEntry)
+        (fileset : FilesetSlot) → HasFile memory.old number tag path all entry fileset
+        → HaveParents (staged_in memory.old) → HaveParents (staged_in memory.new) }
     ensures kept { KeepsKept memory.old memory.new }
     ensures back { ∥ MayGoBack memory.new ∥₁ }
 {

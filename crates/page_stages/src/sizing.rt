@@ -5,6 +5,7 @@ ghost use Rattle.fileset_model.specs.Orders.{Path};
 ghost use Rattle.fileset_model.specs.declared.fileset.FilesetSlot.{FilesetSlot};
 ghost use Rattle.fileset_table.specs.declared.slot.FilesetEntry.{FilesetEntry};
 ghost use Rattle.domain_layout.specs.CellRules.{of_original};
+ghost use Rattle.domain_standing.specs.Standing.{HaveParents};
 ghost use Rattle.node_laws.specs.Nodes.{with_size};
 ghost use Rattle.domain_memory.specs.Kept.{KeepsKept};
 ghost use Rattle.domain_memory.specs.Staged.{IsStagedForSome, MayGoBack, staged_in};
@@ -48,6 +49,9 @@ pub fn set_size(
     ensures ok { (path : Path) (all : FilesetMap) (entry : FilesetEntry) (fileset : FilesetSlot)
         → HasFile memory.old number tag path all entry fileset → OnOk result
         (StandsChanged path (with_size size is_logged) all entry fileset memory.new) }
+    ensures parents { (path : Path) (all : FilesetMap) (entry : FilesetEntry)
+        (fileset : FilesetSlot) → HasFile memory.old number tag path all entry fileset
+        → HaveParents (staged_in memory.old) → OnOk result (HaveParents (staged_in memory.new)) }
     ensures kept { KeepsKept memory.old memory.new }
     ensures back { ∥ MayGoBack memory.new ∥₁ }
     ensures err { OnErr result (staged_in memory.new ≡ staged_in memory.old) }

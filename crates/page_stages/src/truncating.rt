@@ -5,9 +5,10 @@ ghost use Rattle.fileset_model.specs.Orders.{Path};
 ghost use Rattle.fileset_model.specs.declared.fileset.FilesetSlot.{FilesetSlot};
 ghost use Rattle.fileset_table.specs.declared.slot.FilesetEntry.{FilesetEntry};
 ghost use Rattle.domain_layout.specs.CellRules.{of_original};
+ghost use Rattle.domain_standing.specs.Standing.{HaveParents};
 ghost use Rattle.node_laws.specs.Nodes.{cut_to};
 ghost use Rattle.domain_memory.specs.Kept.{KeepsKept};
-ghost use Rattle.domain_memory.specs.Staged.{IsStagedForSome, MayGoBack};
+ghost use Rattle.domain_memory.specs.Staged.{IsStagedForSome, MayGoBack, staged_in};
 ghost use Rattle.page_stages.specs.Stages.{HasFile, IsFileIn, ListsLeft, StandsChanged};
 
 use crate::slots::files_in;
@@ -45,6 +46,9 @@ pub fn truncate(
         → HasFile memory.old number tag path all entry fileset → OnOk result
         (length memory.new.listed.items ≤ memory.new.list.room
         → StandsChanged path (cut_to size) all entry fileset memory.new) }
+    ensures parents { (path : Path) (all : FilesetMap) (entry : FilesetEntry)
+        (fileset : FilesetSlot) → HasFile memory.old number tag path all entry fileset
+        → HaveParents (staged_in memory.old) → OnOk result (HaveParents (staged_in memory.new)) }
     ensures kept { KeepsKept memory.old memory.new }
     ensures back { ∥ MayGoBack memory.new ∥₁ }
 {

@@ -10,7 +10,7 @@ use Rattle.domain_parts.specs.Slots.{slot_in}
 use Rattle.domain_parts.specs.declared.slots.SlotFiles.{SlotFiles}
 use Rattle.page_stages.proofs.Asks.{files_in, has_files, its_number, there}
 use Rattle.page_stages.proofs.Kept.{back_kept}
-use Rattle.page_stages.proofs.Sized.{size_end}
+use Rattle.page_stages.proofs.Sized.{parents_end, size_end}
 use Rattle.page_stages.proofs.sizing.set_size.Goals as goal
 
 pub files_in-slot-requires : goal.files_in-slot-requires
@@ -56,6 +56,15 @@ returns-clause-ok c = λ path all entry fileset has.
     size_end memory _ refl c.args.number c.args.tag c.args.size c.args.is_logged slot is (its_number memory c.args.number c.requires.stands c.requires.back c.requires.original slot is) c.requires.file c.in-Some.was c.with_length-value.result
     (λ chains are. sym (c.attributes.ensures chains are) ∙ c.in-Some.is) c.with_length-value.ensures c.set_attributes.ensures.beside c.set_attributes.result (λ chains are. c.set_attributes.ensures.together memory.space memory.cells chains are)
     path all entry fileset has
+
+pub returns-clause-parents : goal.returns-clause-parents
+returns-clause-parents c = λ path all entry fileset has had.
+    let memory = c.args.memory.now in
+    let slot = c.files_in-slot.result.now in
+    let is = ap (λ (slots : List (Option SlotFiles)). slot_in slots c.args.number) (sym c.deref.ensures.value) ∙ c.files_in-slot.ensures in
+    parents_end memory (record memory { pages = c.set_attributes.new.pages }) refl c.args.number c.args.tag c.args.size c.args.is_logged slot is (its_number memory c.args.number c.requires.stands c.requires.back c.requires.original slot is) c.requires.file c.in-Some.was c.with_length-value.result
+    (λ chains are. sym (c.attributes.ensures chains are) ∙ c.in-Some.is) c.with_length-value.ensures c.set_attributes.ensures.beside c.set_attributes.result (λ chains are. c.set_attributes.ensures.together memory.space memory.cells chains are)
+    path all entry fileset has had
 
 pub returns-clause-back : goal.returns-clause-back
 returns-clause-back c = back_kept c.args.memory.now _ refl c.requires.back
