@@ -19,9 +19,9 @@ ghost use Rattle.standing_laws.specs.Slots.{StandsSlot};
 ghost use Rattle.names_standing.specs.Nodes.{named_shape};
 ghost use Rattle.names_standing.specs.OneFile.{FileFollows, KeepsKind};
 
-/// Where an original is shown as the set that it was, its owners keep their limits, and one file is
-/// what a change makes of the node that it was, as which no other file is another one, it stands for
-/// the fileset with that change.
+/// Where an original is shown as the set that it was, its owners keep their limits, one file is what
+/// a change makes of the node that it was, and each other file is what it was, it stands for the
+/// fileset with that change.
 pub fn a_fileset_of_one_changed_file_stands()
     ensures { (number : ℕ) (entry : FilesetEntry) (tag : Tag) (path : Path)
         (change : Node → Node) (d now : DomainNow) (shape : FilesetShape) (fileset : FilesetSlot)

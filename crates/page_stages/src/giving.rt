@@ -25,8 +25,8 @@ use free_space::FreeSpace;
 use page_store::{MetaPages, StoreFault};
 use std::alloc::Global;
 
-/// Gives a page to a file which keeps it and does not have it, and puts these bytes there. At an Err
-/// nothing but room and the count of misses has changed.
+/// Gives a page to a file which keeps it and does not have it, and puts these bytes there. At an
+/// Err nothing but room and the count of misses has changed.
 fn give_in<M: MetaPages>(
     alloc: Global,
     pages: &mut M,

@@ -17,8 +17,8 @@ use domain_base::{FilesetNo, Page, Tag};
 use domain_memory::DomainMemory;
 use page_store::MetaPages;
 
-/// Puts bytes on a page that a file of the fileset in a slot, an original, keeps and has, in place of
-/// what stood there. It takes no memory.
+/// Puts bytes on a page that a file of the fileset in a slot, an original, keeps and has, in place
+/// of what stood there. It takes no memory.
 pub fn put_page(memory: &mut DomainMemory, number: FilesetNo, tag: Tag, page: u32, bytes: Page)
     requires stands { ∥ IsStagedForSome memory.old ∥₁ }
     requires back { ∥ MayGoBack memory.old ∥₁ }

@@ -53,8 +53,8 @@ pub record KeepsBytesBut (tag : Tag) (may : ℕ → Type 0) (chains : Chains) (d
       → now.contents home ≡ d.contents home
 
 -- the file that a tag of the slot names has changed so, with the bytes of these pages, and no name:
--- the domain stands around the slot, beside which all stays, no other file's page is another one, and
--- the set that it shows is the same
+-- the domain stands around the slot, beside which all stays, each page of another file is as it was,
+-- and the set that it shows is the same
 pub record ChangesOneFile (number : ℕ) (tag : Tag) (how : FileState → FileState) (may : ℕ → Type 0)
     (chains : Chains) (d now : DomainNow) : Type 0 where
   pub around : StandsAround number now

@@ -59,9 +59,9 @@ pub fn all_stands_around_a_file_that_gets_a_page()
         → ChangesOneFile number tag (placed page (At gets.home)) (λ k. ⊥) around.chains d now }
 {}
 
-/// And where a file is cut: it has that size, and pages behind it may be stale, which are to be let go
-/// of then. Where nothing of the file is left to be done, nothing is listed; where something is, it
-/// is on the list then.
+/// And where a file is cut: it has that size, and pages behind it may be stale, which are to be let
+/// go of then. Where nothing of the file is left to be done, nothing is listed; where something is,
+/// it is on the list then.
 pub fn all_stands_around_a_file_that_is_cut()
     ensures none { (number : ℕ) (tag : Tag) (size : ℕ) (d now : DomainNow)
         → (around : StandsAround number d) → KeepsPlaces d now → BytesFollow d now
