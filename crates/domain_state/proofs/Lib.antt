@@ -3,3 +3,4 @@ pub mod Committing
 pub mod NoClones
 pub mod Unmoved
 pub mod Stamping
+pub mod Resting

@@ -2,11 +2,12 @@
 ghost use Rattle.std.specs.Prelude.{◌≡◌};
 ghost use Rattle.domain_memory.specs.Staged.{IsSettled, MayGoBack};
 ghost use Rattle.domain_state.specs.History.{StandsForSome};
+ghost use Rattle.domain_state.specs.Rest.{IsAtRest};
 
 use domain_memory::DomainMemory;
 use volume_disk::Rack;
 
-/// A domain that was made or attached: its rack, and what is kept in memory of it.
+/// A domain that was made or attached: its rack, which is at rest, and what is kept in memory of it.
 #[derive(Drop)]
 pub struct Attached<R: Rack> {
     pub(crate) rack: R,
@@ -14,15 +15,17 @@ pub struct Attached<R: Rack> {
     ghost stands: { ∥ StandsForSome memory ∥₁ },
     ghost settled: { ∥ IsSettled memory ∥₁ },
     ghost back: { ∥ MayGoBack memory ∥₁ },
+    ghost rest: { ∥ IsAtRest (R.disk rack) memory.frame.anchor ∥₁ },
 }
 
 impl<R: Rack> Attached<R> {
-    /// The domain on a rack of which this is kept in memory: it stands for some filesets, with no
-    /// change laid over it.
+    /// The domain on a rack at rest of which this is kept in memory: it stands for some filesets, with
+    /// no change laid over it.
     pub fn of_memory(rack: R, memory: DomainMemory) -> Attached<R>
         requires stands { ∥ StandsForSome memory ∥₁ }
         requires settled { ∥ IsSettled memory ∥₁ }
         requires back { ∥ MayGoBack memory ∥₁ }
+        requires rest { ∥ IsAtRest (R.disk rack) memory.frame.anchor ∥₁ }
         ensures rack { result.rack ≡ rack }
         ensures memory { result.memory ≡ memory }
     {

@@ -11,6 +11,7 @@ ghost use Rattle.domain_memory.specs.Memory.{StandsFor, books_in, kept_in};
 ghost use Rattle.domain_memory.specs.Staged.{IsSettled, MayBeKept, MayGoBack};
 ghost use Rattle.history_laws.specs.GoingOn.{job_left};
 ghost use Rattle.domain_state.specs.History.{GoesOn, MayCommit, with_last_stamped};
+ghost use Rattle.domain_state.specs.Rest.{IsAtRest};
 
 use crate::Attached;
 use crate::history::History;
@@ -40,7 +41,8 @@ impl Opening for Brand {
 }
 
 /// A domain that was opened. The commands since then, with their replies, lead from each state that
-/// its pages meant then to the filesets for which it stands now.
+/// its pages meant then to the filesets for which it stands now. Its rack is at rest: no change has
+/// been written yet.
 #[derive(Drop)]
 pub struct Domain<R: Rack, O: Opening> {
     memory: DomainMemory,
@@ -48,6 +50,7 @@ pub struct Domain<R: Rack, O: Opening> {
     of: PhantomData<O>,
     ghost stands: { ∥ GoesOn O.pages O.frame O.sizes memory history.entries.items history.job ∥₁ },
     ghost back: { ∥ MayGoBack memory ∥₁ },
+    ghost rest: { ∥ IsAtRest (R.disk history.rack) memory.frame.anchor ∥₁ },
 }
 
 impl<R: Rack, O: Opening> Told for Domain<R, O> {
@@ -203,6 +206,7 @@ impl<R: Rack, O: Opening> Domain<R, O> {
         ensures stands { ∥ GoesOn O.pages O.frame O.sizes result.0 result.1.entries.items
             result.1.job ∥₁ }
         ensures back { ∥ MayGoBack result.0 ∥₁ }
+        ensures rest { ∥ IsAtRest (R.disk result.1.rack) result.0.frame.anchor ∥₁ }
         ensures memory { result.0 ≡ self.memory }
         ensures history { result.1 ≡ self.history }
     {
@@ -219,6 +223,7 @@ impl<R: Rack, O: Opening> Domain<R, O> {
         requires stands { ∥ GoesOn O.pages O.frame O.sizes memory history.entries.items
             history.job ∥₁ }
         requires back { ∥ MayGoBack memory ∥₁ }
+        requires rest { ∥ IsAtRest (R.disk history.rack) memory.frame.anchor ∥₁ }
         ensures memory { result.memory ≡ memory }
         ensures history { result.history ≡ history }
     {

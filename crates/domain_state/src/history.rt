@@ -60,6 +60,14 @@ impl<R: Rack> History<R> {
         }
     }
 
+    /// The rack as it is. Nothing is written.
+    pub fn into_rack(self) -> R
+        ensures { result ≡ self.rack }
+    {
+        let History { rack, .. } = self;
+        rack
+    }
+
     /// Makes room for so many entries more. Nothing else changes, at an error either.
     pub(crate) fn reserve(&mut self, more: usize) -> Result<(), OutOfMemory>
         ensures room { OnOk result (more

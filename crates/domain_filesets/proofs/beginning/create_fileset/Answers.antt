@@ -2,6 +2,7 @@ use Rattle.std.proofs.Common.{◌∙◌, IfErr, ap, sym, subst}
 use Rattle.std.proofs.Math.Logic.{∥∥₁_map}
 use Rattle.fileset_model.specs.declared.command.Command.TheVariants.{Mkfset}
 use Rattle.domain_memory.proofs.KeptStands.{stands_so}
+use Rattle.domain_state.proofs.Resting.{rests_kept}
 use Rattle.domain_memory.specs.declared.memory.DomainMemory.{DomainMemory}
 use Rattle.domain_filesets.specs.Coming.{LacksRoom, NonePanicked}
 use Rattle.domain_filesets.proofs.Laid.{answered_laid, err_cause, err_none, ok_adds}
@@ -9,6 +10,9 @@ use Rattle.domain_filesets.proofs.beginning.create_fileset.Goals as goal
 
 pub stage_fileset-staged-requires-clause-stands : goal.stage_fileset-staged-requires-clause-stands
 stage_fileset-staged-requires-clause-stands g c = ∥∥₁_map c.apart-memory.ensures.stands (λ goes. (goes.all, goes.stands))
+
+pub together-domain-requires-clause-rest : goal.together-domain-requires-clause-rest
+together-domain-requires-clause-rest g c = rests_kept (g.R.Rack.disk c.apart-memory.result.1.rack) c.apart-memory.result.0 c.stage_fileset-staged.new.memory c.stage_fileset-staged.ensures.kept c.apart-memory.ensures.rest
 
 pub together-domain-requires-clause-stands : goal.together-domain-requires-clause-stands
 together-domain-requires-clause-stands g c = ∥∥₁_map c.apart-memory.ensures.stands (λ goes. record {

@@ -2,12 +2,16 @@ use Rattle.std.proofs.Common.{◌∙◌, ap, sym, subst}
 use Rattle.std.proofs.Math.Logic.{∥∥₁_map}
 use Rattle.fileset_model.specs.declared.command.Command.TheVariants.{Setquota}
 use Rattle.domain_memory.proofs.KeptStands.{stands_so}
+use Rattle.domain_state.proofs.Resting.{rests_kept}
 use Rattle.domain_filesets.specs.Coming.{NonePanicked}
 use Rattle.domain_filesets.proofs.Laid.{answered_laid, err_none, ok_adds}
 use Rattle.domain_filesets.proofs.limiting.limit_fileset.Goals as goal
 
 pub stage_limits-staged-requires-clause-stands : goal.stage_limits-staged-requires-clause-stands
 stage_limits-staged-requires-clause-stands g c = ∥∥₁_map c.apart-memory.ensures.stands (λ goes. (goes.all, goes.stands))
+
+pub together-domain-requires-clause-rest : goal.together-domain-requires-clause-rest
+together-domain-requires-clause-rest g c = rests_kept (g.R.Rack.disk c.apart-memory.result.1.rack) c.apart-memory.result.0 c.stage_limits-staged.new.memory c.stage_limits-staged.ensures.kept c.apart-memory.ensures.rest
 
 pub together-domain-requires-clause-stands : goal.together-domain-requires-clause-stands
 together-domain-requires-clause-stands g c = ∥∥₁_map c.apart-memory.ensures.stands (λ goes. record {

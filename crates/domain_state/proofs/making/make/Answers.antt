@@ -1,5 +1,8 @@
+use Rattle.std.proofs.Common.{◌∙◌, sym, ap, subst}
 use Rattle.std.specs.FinMap.{empty}
-use Rattle.domain_making.specs.Making.{pages_in_use}
+use Rattle.domain_layout.specs.Reached.{Frame}
+use Rattle.domain_making.specs.Making.{IsMade, pages_in_use}
+use Rattle.domain_state.proofs.Resting.{made_rests}
 use Rattle.domain_state.proofs.Unmoved.{none_yet}
 use Rattle.domain_state.proofs.making.make.Goals as goal
 
@@ -13,4 +16,7 @@ invariant_of-result g c = record {
   stands = ∣ (empty, c.in-Ok-new_memory.ensures.stands) ∣₁;
   settled = ∣ c.in-Ok-new_memory.ensures.settled ∣₁;
   back = ∣ c.in-Ok-new_memory.ensures.back ∣₁;
+  rest = ∣ made_rests c.args.version (g.R.Rack.disk c.args.rack) (g.R.Rack.disk c.write.new.rack) c.in-Ok-new_memory.memory.frame.anchor c.requires.there c.in-Ok.ensures.large c.write.ensures.touches.sizes c.write.ensures.touches.told
+      (ap (λ (f : Frame). f.anchor) c.in-Ok-new_memory.ensures.frame)
+      (λ tells. subst (IsMade (g.R.Rack.disk c.write.new.rack)) (c.in-Ok-write.ensures.anchor ∙ sym (ap (λ (f : Frame). f.anchor) c.in-Ok-new_memory.ensures.frame)) (c.in-Ok-write.ensures.made tells)) ∣₁;
 }

@@ -1,8 +1,9 @@
-use Rattle.std.proofs.Common.{[], sym, subst, List, Option}
+use Rattle.std.proofs.Common.{[], refl, sym, ap, subst, List, Option}
 use Rattle.fileset_model.specs.declared.command.Command.{Command}
 use Rattle.fileset_model.specs.declared.entry.Entry.{Entry}
 use Rattle.domain_state.specs.History.{GoesOn}
 use Rattle.domain_state.proofs.Beginning.{begun}
+use Rattle.domain_state.proofs.Resting.{rests_still}
 use Rattle.domain_state.proofs.domain.Domain.begin.Goals as goal
 
 pub invariant_of-result : goal.invariant_of-result
@@ -14,4 +15,5 @@ invariant_of-result g c =
           (subst (λ (job : Option Command). ∥ GoesOn o.pages o.frame o.sizes c.args.attached.memory [] job ∥₁) (sym c.begin.ensures.job)
           (begun c.args.attached.memory o.sizes o.pages o.frame c.requires.pages c.requires.frame c.args.attached.stands));
       back = c.args.attached.back;
+      rest = rests_still (g.R.Rack.disk c.args.attached.rack) (g.R.Rack.disk it.rack) c.args.attached.memory.frame.anchor c.args.attached.memory.frame.anchor (ap g.R.Rack.disk c.begin.ensures.rack) refl c.args.attached.rest;
     }

@@ -1,8 +1,10 @@
-use Rattle.std.proofs.Common.{◌++◌, ◌∷◌, [], List, Option, sym, subst}
+use Rattle.std.proofs.Common.{◌++◌, ◌∷◌, [], List, Option, sym, ap, subst}
 use Rattle.fileset_model.specs.declared.command.Command.{Command}
 use Rattle.fileset_model.specs.declared.entry.Entry.{Entry}
+use Rattle.page_ways.specs.declared.frame.DomainFrame.{DomainFrame}
 use Rattle.domain_state.specs.History.{GoesOn}
 use Rattle.domain_state.proofs.Committing.{committed, is_staged}
+use Rattle.domain_state.proofs.Resting.{rests_still}
 use Rattle.domain_state.proofs.domain.Domain.commit.Goals as goal
 
 pub keep-requires-clause-staged : goal.keep-requires-clause-staged
@@ -25,4 +27,5 @@ invariant_of-self g c =
           (subst (λ (job : Option Command). ∥ GoesOn o.pages o.frame o.sizes new (it.history.entries.items ++ c.args.entry ∷ []) job ∥₁) (sym c.add.ensures.job)
           (committed o.pages o.frame o.sizes it.memory it.history.entries.items it.history.job c.args.entry it.stands c.requires.step new c.keep.ensures.stands));
       back = c.keep.ensures.back;
+      rest = rests_still (g.R.Rack.disk it.history.rack) (g.R.Rack.disk c.add.new.self.rack) it.memory.frame.anchor new.frame.anchor (ap g.R.Rack.disk c.add.ensures.rack) (ap (λ (f : DomainFrame). f.anchor) c.keep.ensures.frame) it.rest;
     }

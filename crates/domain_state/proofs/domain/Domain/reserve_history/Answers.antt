@@ -1,7 +1,8 @@
-use Rattle.std.proofs.Common.{List, Option, sym, subst}
+use Rattle.std.proofs.Common.{List, Option, refl, sym, ap, subst}
 use Rattle.fileset_model.specs.declared.command.Command.{Command}
 use Rattle.fileset_model.specs.declared.entry.Entry.{Entry}
 use Rattle.domain_state.specs.History.{GoesOn}
+use Rattle.domain_state.proofs.Resting.{rests_still}
 use Rattle.domain_state.proofs.domain.Domain.reserve_history.Goals as goal
 
 pub invariant_of-self : goal.invariant_of-self
@@ -12,4 +13,5 @@ invariant_of-self g c =
       stands = subst (λ (entries : List Entry). ∥ GoesOn o.pages o.frame o.sizes it.memory entries c.reserve.new.self.job ∥₁) (sym c.reserve.ensures.entries)
           (subst (λ (job : Option Command). ∥ GoesOn o.pages o.frame o.sizes it.memory it.history.entries.items job ∥₁) (sym c.reserve.ensures.job) it.stands);
       back = it.back;
+      rest = rests_still (g.R.Rack.disk it.history.rack) (g.R.Rack.disk c.reserve.new.self.rack) it.memory.frame.anchor it.memory.frame.anchor (ap g.R.Rack.disk c.reserve.ensures.rack) refl it.rest;
     }

@@ -1,0 +1,25 @@
+-- A rack at rest, between the changes of its domain.
+use Rattle.std.specs.Prelude.{◌≡◌, ◌≢◌}
+use Rattle.domain_base.specs.declared.place.Home.{Home}
+use Rattle.volume_disk.specs.Disk.{Disk, MayLeave, Tells}
+use Rattle.volume_disk.specs.Image.{Image}
+use Rattle.disk_label.specs.FirstPages.{anchors_page}
+use Rattle.disk_label.specs.declared.anchor.Anchor.{Anchor}
+use Rattle.log_ring.specs.Groups.{pages_in}
+use Rattle.log_ring.specs.Homes.{HasMembers, IsMember}
+use Rattle.log_settling.specs.Settling.{IsBehindAll}
+
+-- each image that a stop might leave has each page of a member, that of anchors aside, as a read
+-- gives it
+abbrev pub ArePagesSynced : Disk → Anchor → Type 0
+ArePagesSynced disk anchor =
+    (image : Image) → MayLeave disk.now image
+    → (home : Home) → IsMember anchor home.vol → home.page ≢ anchors_page
+    → pages_in image home ≡ pages_in disk.now.contents home
+
+-- a rack has the members of an anchor; if it tells what it holds, this is its anchor, its log has no
+-- group behind that, and nothing is pending on pages of members
+pub record IsAtRest (disk : Disk) (anchor : Anchor) : Type 0 where
+  pub members : HasMembers disk.sizes anchor
+  pub none : IsBehindAll disk anchor
+  pub synced : Tells disk → ArePagesSynced disk anchor
