@@ -6,5 +6,6 @@ pub mod FileHomes
 pub mod Looks
 pub mod Runs
 pub mod Held
+pub mod Loggable
 pub mod Means
 pub mod Recovered

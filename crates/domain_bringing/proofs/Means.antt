@@ -11,6 +11,7 @@ use Rattle.volume_disk.specs.Disk.{Disk, Tells}
 use Rattle.volume_disk.specs.Image.{Image}
 use Rattle.disk_label.specs.declared.anchor.Anchor.{Anchor}
 use Rattle.log_ring.specs.Groups.{Group, HasLog, images_of, pages_in, redone}
+use Rattle.log_ring.specs.Homes.{IsLoggable}
 use Rattle.log_recovery.specs.Outcome.{HasRecovered}
 use Rattle.log_recovery.specs.declared.redone.Redone.{Redone}
 use Rattle.log_recovery.proofs.OneOutcome.{has_no_fault, has_one_log}
@@ -40,6 +41,7 @@ use Rattle.metadata_loading.specs.Loading.{Brings, HasWhereRulesLook}
 use Rattle.image_meaning.specs.Meaning.{HasFaults}
 use Rattle.domain_bringing.specs.Brought.{ArePagesOf, HasDomainPages, IsBroughtFrom, IsGoodFrame, images_alone}
 use Rattle.domain_bringing.specs.Fault.{BeginsAt, HasFirstRow, IsNoDomain}
+use Rattle.domain_bringing.proofs.Loggable.{looks_loggable, may_loggable}
 use Rattle.domain_bringing.proofs.Looks.{looked_too, said_table}
 
 -- ---- pages of an image
@@ -88,31 +90,36 @@ no_domain sizes image groups found pages frame has anchor named agree vol at row
 
 -- ---- an image without one
 
-module _ (pages : Pages) (groups : List Group) (image : Image) (layout : Layout) (laid : IsLayout pages layout) (has : HasDomainPages pages (frame_of layout)) (same : ArePagesOf pages groups image) where
+-- the pages that a log may have, where they are there, are those of an image once groups are redone
+abbrev pub AreThoseOf : Pages → Frame → List Group → Image → Type 0
+AreThoseOf pages frame groups image = (home : Home) → IsLoggable frame.anchor home → IsSome (pages home) → pages home ≡ redone groups image home
+
+module _ (pages : Pages) (groups : List Group) (image : Image) (layout : Layout) (laid : IsLayout pages layout) (good : IsGoodFrame (frame_of layout)) (has : HasDomainPages pages (frame_of layout)) (same : AreThoseOf pages (frame_of layout) groups image) where
   ahead : AgreeWhereRulesLook pages (redone groups image) (frame_of layout)
-  ahead = agree_by pages (frame_of layout) groups image has.looked same
+  ahead home looks = same home (looks_loggable pages layout laid good has.no_fault home looks) (has.looked home looks)
 
   both : AreSides pages (redone groups image) layout
   both = sides pages (redone groups image) layout ahead (none_of_tables pages (frame_of layout) has.no_fault) laid
 
   behind : AgreeWhereRulesLook (redone groups image) pages (frame_of layout)
-  behind home looks = sym (same home (has.looked home (looked_too (redone groups image) pages layout (flipped pages (redone groups image) layout both) home looks)))
+  behind home looks = sym (ahead home (looked_too (redone groups image) pages layout (flipped pages (redone groups image) layout both) home looks))
 
   pub no_fault_there : HasNoFault (redone groups image) (frame_of layout)
   no_fault_there row fault = has.no_fault row ((same_faults pages (redone groups image) (frame_of layout) row ahead).1 fault)
 
-  -- a page is there where a shape has one of a file
+  -- a page is there, and such as a log may have, where a shape has one of a file
   page_there : (home : Home) → layout.anchor.table ≡ Some home → (shapes : Shapes) (shaped : HaveShapes pages home shapes) → (name : Name) (shape : FilesetShape) → shapes name ≡ Some shape
-      → (tag : Tag) (seen : SeenFile) → shape.files tag ≡ Some seen → (page : ℕ) (at : Home) → seen.homes page ≡ Some at → IsSome (pages at)
+      → (tag : Tag) (seen : SeenFile) → shape.files tag ≡ Some seen → (page : ℕ) (at : Home) → seen.homes page ≡ Some at → IsLoggable layout.anchor at × IsSome (pages at)
   page_there home table shapes shaped name shape there tag seen sees page at is =
       let says : SaysTable pages (frame_of layout) shaped.table = record { home = home; at = table; there = shaped.there } in
       let some : HasSome pages shaped.table tag seen = in_shapes pages shaped.table tag seen shapes shaped.are name shape there sees in
       let here : Has pages layout.table some.number tag some.cells seen = subst (λ (t : Table). Has pages t some.number tag some.cells seen) (said_table pages (redone groups image) layout both shaped.table says) some.has in
       let may = has_may pages layout laid (none_of_extents pages (frame_of layout) has.no_fault) some.number tag some.cells seen here page at is in
-      has.all shaped.table says some.number tag some.cells seen some.has page at is may.0
+      (may_loggable (frame_of layout) at may, has.all shaped.table says some.number tag some.cells seen some.has page at is may.0)
 
   alike : (home : Home) → layout.anchor.table ≡ Some home → (shapes : Shapes) → HaveShapes pages home shapes → AgreeOn (contents_of pages) (contents_of (redone groups image)) shapes
-  alike home table shapes shaped name shape there tag seen sees page at is = ap (λ o. unwrap_or o []) (same at (page_there home table shapes shaped name shape there tag seen sees page at is))
+  alike home table shapes shaped name shape there tag seen sees page at is =
+      let of = page_there home table shapes shaped name shape there tag seen sees page at is in ap (λ o. unwrap_or o []) (same at of.0 of.1)
 
   pub reads_there : (home : Home) → layout.anchor.table ≡ Some home → (all : FilesetMap) → ReadsFrom pages home all → ReadsFrom (redone groups image) home all
   reads_there home table all from = record {
@@ -138,45 +145,52 @@ value_of : (o : Option Home) → IsSome o → (home : Home) × (o ≡ Some home)
 value_of None some = some_none Home None refl some
 value_of (Some home) some = (home, refl)
 
-module _ (sizes : List ℕ) (image : Image) (pages : Pages) (found : Redone) (frame : Frame) (good : IsGoodFrame frame) (has : HasDomainPages pages frame) (anchor : frame.anchor ≡ found.anchor)
-    (from : IsBroughtFrom sizes image pages found) where
-  log : HasLog sizes frame.anchor from.groups image
-  log = subst (λ (a : Anchor). HasLog sizes a from.groups image) (sym anchor) from.recovered.log
+module _ (sizes : List ℕ) (image : Image) (pages : Pages) (groups : List Group) (found : Redone) (frame : Frame) (good : IsGoodFrame frame) (has : HasDomainPages pages frame) (anchor : frame.anchor ≡ found.anchor)
+    (recovered : HasRecovered sizes image groups found) (same : AreThoseOf pages frame groups image) where
+  log : HasLog sizes frame.anchor groups image
+  log = subst (λ (a : Anchor). HasLog sizes a groups image) (sym anchor) recovered.log
 
   -- of each table
-  to_image : (home : Home) → frame.anchor.table ≡ Some home → (all : FilesetMap) → ReadsFrom pages home all → ReadsFrom (redone from.groups image) home all
+  to_image : (home : Home) → frame.anchor.table ≡ Some home → (all : FilesetMap) → ReadsFrom pages home all → ReadsFrom (redone groups image) home all
   to_image home =
-      subst (λ f. HasDomainPages pages f → f.anchor.table ≡ Some home → (all : FilesetMap) → ReadsFrom pages home all → ReadsFrom (redone from.groups image) home all) has.laid_out.is
-      (λ pages_of table all reads. reads_there pages from.groups image has.laid_out.layout has.laid_out.laid pages_of from.same home table all reads) has
+      subst (λ f. IsGoodFrame f → HasDomainPages pages f → AreThoseOf pages f groups image → f.anchor.table ≡ Some home → (all : FilesetMap) → ReadsFrom pages home all → ReadsFrom (redone groups image) home all) has.laid_out.is
+      (λ range pages_of those table all reads. reads_there pages groups image has.laid_out.layout has.laid_out.laid range pages_of those home table all reads) good has same
 
-  to_pages : (home : Home) → frame.anchor.table ≡ Some home → (all : FilesetMap) → ReadsFrom (redone from.groups image) home all → ReadsFrom pages home all
+  to_pages : (home : Home) → frame.anchor.table ≡ Some home → (all : FilesetMap) → ReadsFrom (redone groups image) home all → ReadsFrom pages home all
   to_pages home =
-      subst (λ f. HasDomainPages pages f → f.anchor.table ≡ Some home → (all : FilesetMap) → ReadsFrom (redone from.groups image) home all → ReadsFrom pages home all) has.laid_out.is
-      (λ pages_of table all reads. reads_here pages from.groups image has.laid_out.layout has.laid_out.laid pages_of from.same home table all reads) has
+      subst (λ f. IsGoodFrame f → HasDomainPages pages f → AreThoseOf pages f groups image → f.anchor.table ≡ Some home → (all : FilesetMap) → ReadsFrom (redone groups image) home all → ReadsFrom pages home all) has.laid_out.is
+      (λ range pages_of those table all reads. reads_here pages groups image has.laid_out.layout has.laid_out.laid range pages_of those home table all reads) good has same
 
-  no_fault : HasNoFault (redone from.groups image) frame
-  no_fault row fault = has.no_fault row ((same_faults pages (redone from.groups image) frame row (agree_by pages frame from.groups image has.looked from.same)).1 fault)
+  no_fault : HasNoFault (redone groups image) frame
+  no_fault =
+      subst (λ f. IsGoodFrame f → HasDomainPages pages f → AreThoseOf pages f groups image → HasNoFault (redone groups image) f) has.laid_out.is
+      (λ range pages_of those. no_fault_there pages groups image has.laid_out.layout has.laid_out.laid range pages_of those) good has same
 
   means : (all : FilesetMap) → ((home : Home) → frame.anchor.table ≡ Some home → ReadsFrom pages home all) → Means sizes image all
   means all reads =
       let table = value_of frame.anchor.table good.named.1 in
       record {
         anchor = frame.anchor;
-        groups = from.groups;
+        groups = groups;
         version = frame.version;
         log = log;
         is_version = good.named.0;
-        no_first = λ vol at. has_no_fault sizes image found.anchor from.groups vol at from.recovered.good from.recovered.log;
+        no_first = λ vol at. has_no_fault sizes image found.anchor groups vol at recovered.good recovered.log;
         no_fault = no_fault;
-        reads = record { anchor = frame.anchor; groups = from.groups; log = log; home = table.0; table = table.1; reads = to_image table.0 table.1 all (reads table.0 table.1) };
+        reads = record { anchor = frame.anchor; groups = groups; log = log; home = table.0; table = table.1; reads = to_image table.0 table.1 all (reads table.0 table.1) };
       }
 
   meant : (all : FilesetMap) → Means sizes image all → (home : Home) → frame.anchor.table ≡ Some home → ReadsFrom pages home all
   meant all is home table =
-      let one = has_one_log sizes image is.reads.anchor is.reads.groups from.groups found is.reads.log from.recovered in
+      let one = has_one_log sizes image is.reads.anchor is.reads.groups groups found is.reads.log recovered in
       let there : is.reads.home ≡ home = some_same is.reads.home home (sym is.reads.table ∙ ap (λ (a : Anchor). a.table) (one.0 ∙ sym anchor) ∙ table) in
       to_pages home table all
-      (subst (λ (h : Home). ReadsFrom (redone from.groups image) h all) there (subst (λ (g : List Group). ReadsFrom (redone g image) is.reads.home all) one.1 is.reads.reads))
+      (subst (λ (h : Home). ReadsFrom (redone groups image) h all) there (subst (λ (g : List Group). ReadsFrom (redone g image) is.reads.home all) one.1 is.reads.reads))
 
-  pub mean_same : (all : FilesetMap) → Means sizes image all ↔ ((home : Home) → frame.anchor.table ≡ Some home → ReadsFrom pages home all)
-  mean_same all = (meant all, means all)
+  pub those_mean : (all : FilesetMap) → Means sizes image all ↔ ((home : Home) → frame.anchor.table ≡ Some home → ReadsFrom pages home all)
+  those_mean all = (meant all, means all)
+
+-- of pages that were brought
+pub mean_same : (sizes : List ℕ) (image : Image) (pages : Pages) (found : Redone) (frame : Frame) → IsGoodFrame frame → HasDomainPages pages frame → frame.anchor ≡ found.anchor → IsBroughtFrom sizes image pages found
+    → (all : FilesetMap) → Means sizes image all ↔ ((home : Home) → frame.anchor.table ≡ Some home → ReadsFrom pages home all)
+mean_same sizes image pages found frame good has anchor from = those_mean sizes image pages from.groups found frame good has anchor from.recovered (λ home loggable some. from.same home some)
