@@ -1,2 +1,9 @@
+pub mod Anew
+pub mod Rested
+pub mod Since
+pub mod Mapped
+pub mod HomeKept
+pub mod ItsPages
+pub mod Closed
 pub mod MayRead
 pub mod Converted

@@ -4,7 +4,8 @@ use Rattle.domain_base.specs.declared.place.Home.{Home}
 use Rattle.page_store.specs.Pages.{Pages}
 use Rattle.volume_disk.specs.Disk.{Disk, raised_at}
 use Rattle.volume_disk.specs.Image.{Image}
-use Rattle.log_recovery.specs.Outcome.{IsSound}
+use Rattle.log_ring.specs.Groups.{Group}
+use Rattle.log_recovery.specs.Outcome.{HasRecovered, IsSound}
 use Rattle.log_recovery.specs.declared.redone.Redone.{Redone}
 use Rattle.fileset_model.specs.Filesets.{FilesetMap}
 use Rattle.domain_layout.specs.Read.{ReadsFrom}
@@ -22,7 +23,8 @@ use Rattle.attached_domain.specs.declared.unfit.Unfit.{Unfit}
 use Rattle.attached_domain.specs.declared.unfit.Unfit.TheVariants as fitting
 use Rattle.domain_attaching.specs.declared.bringing.BroughtMemory.{BroughtMemory}
 use Rattle.domain_attaching.specs.declared.fault.AttachFault.{AttachFault}
-use Rattle.domain_attaching.specs.declared.fault.AttachFault.TheVariants.{Fault, NotADomain, OutOfMemory, Unfit as NotFit}
+use Rattle.domain_attaching.specs.declared.fault.AttachFault.TheVariants.{Fault, NotADomain, NotSettled, OutOfMemory, Unfit as NotFit}
+use Rattle.domain_attaching.specs.Settling.{HasSettleCause, rested_anchor}
 
 -- ** Why it is not
 
@@ -36,9 +38,11 @@ abbrev pub of_unfit : Unfit → AttachFault
 of_unfit fitting.OutOfMemory = OutOfMemory
 of_unfit why = NotFit why
 
--- a fault has raised the read count of the volume that it names, and no other count of reads
+-- a fault has raised the read count of the volume that it names, and no other count of reads; or it
+-- has its cause as the log was settled
 abbrev pub HasCause : Disk → Disk → AttachFault → Type 0
 HasCause old new (Fault vol) = new.read_faults ≡ raised_at old.read_faults vol
+HasCause old new (NotSettled why) = HasSettleCause old new why
 HasCause old new fault = new.read_faults ≡ old.read_faults
 
 -- a fact of the place at which there is no domain, and one of why a domain is not attached
@@ -78,9 +82,13 @@ pub record IsBroughtMemory (sizes : List ℕ) (found : BroughtMemory) : Type 0 w
   pub anchor : found.memory.frame.anchor ≡ found.redone.anchor
   pub sound : IsSound sizes found.redone
 
--- the pages in memory are those of an image once its log is redone, by the anchor with which the
--- log was recovered
+-- a log was recovered of an image
+abbrev pub IsRecovered : List ℕ → Image → Redone → Type 0
+IsRecovered sizes image found = (groups : List Group) × HasRecovered sizes image groups found
+
+-- the pages in memory are those of an image once its log is redone, and its anchor is the one with
+-- which that log is at rest
 pub record IsReadFrom (sizes : List ℕ) (image : Image) (memory : DomainMemory) : Type 0 where
   pub found : Redone
-  pub anchor : memory.frame.anchor ≡ found.anchor
+  pub anchor : memory.frame.anchor ≡ rested_anchor found
   pub same : IsBroughtFrom sizes image (before_of memory.pages) found

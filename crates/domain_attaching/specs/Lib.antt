@@ -1,1 +1,3 @@
+pub mod Settling
 pub mod Attaching
+pub mod Closing

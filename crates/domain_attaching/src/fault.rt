@@ -5,6 +5,7 @@ ghost use Rattle.domain_attaching.specs.Attaching.{of_bringing, of_unfit};
 use attached_domain::Unfit;
 use domain_base::VolIx;
 use domain_bringing::BringFault;
+use log_settling::SettleFault;
 use std::error::Error;
 use std::fmt;
 
@@ -17,6 +18,8 @@ pub enum AttachFault {
     Fault { vol: VolIx },
     /// There is a domain, but one that is not attached.
     Unfit { why: Unfit },
+    /// Its log was not settled.
+    NotSettled { why: SettleFault },
     /// No memory could be had.
     OutOfMemory,
 }
@@ -29,6 +32,7 @@ impl fmt::Display for AttachFault {
             }
             AttachFault::Fault { vol } => write!(f, "a read of volume {} failed", vol.number()),
             AttachFault::Unfit { why } => write!(f, "the domain is not attached: {why}"),
+            AttachFault::NotSettled { why } => write!(f, "the log is not settled: {why}"),
             AttachFault::OutOfMemory => f.write_str("out of memory"),
         }
     }

@@ -1,23 +1,120 @@
-use Rattle.std.proofs.Common.{sym, subst}
+use Rattle.std.proofs.Common.{◌≡◌, refl, sym, subst}
+use Rattle.fileset_model.specs.Filesets.{FilesetMap}
+use Rattle.volume_disk.specs.Disk.{Tells}
+use Rattle.volume_disk.specs.Image.{NoPlace}
+use Rattle.volume_disk.specs.Run.{OnlyReads, Touches}
+use Rattle.staged_pages.specs.Store.{before_of}
+use Rattle.log_settling.specs.Settling.{StandsAtHome}
+use Rattle.domain_layout.specs.Read.{Means}
 use Rattle.domain_memory.specs.Memory.{StandsFor}
 use Rattle.domain_memory.specs.declared.memory.DomainMemory.{DomainMemory}
-use Rattle.domain_attaching.specs.Attaching.{IsReadFrom}
+use Rattle.domain_bringing.specs.Fault.{IsNoDomain}
+use Rattle.domain_attaching.specs.Attaching.{HasCause, IfNotADomain, IfNotFit, IsBroughtMemory, IsReadFrom, IsUnfitDomain}
+use Rattle.domain_attaching.specs.Settling.{HasNoGroups, IfRefused, IsNotSettled, StandHome, StaysReadSince, WritesNone, rested_anchor, with_anchor}
+use Rattle.domain_attaching.proofs.Anew.{stands_anew}
+use Rattle.domain_attaching.proofs.Mapped.{err_too, ok_both, ok_too}
+use Rattle.domain_attaching.proofs.Rested.{home_since, recovered_synced, stand_home, still_since}
+use Rattle.domain_attaching.proofs.Since.{not_refused, not_unfit, not_wrong, refused_if, settle_cause, since_read, writes_none}
 use Rattle.domain_attaching.proofs.attaching.attach.Goals as goal
 
-pub of_memory-requires-clause-stands : goal.of_memory-requires-clause-stands
-of_memory-requires-clause-stands g c = ∣ (c.in-Ok.ensures.memory.all, c.in-Ok.ensures.memory.stands) ∣₁
+pub attach_brought-requires-clause-memory : goal.attach_brought-requires-clause-memory
+attach_brought-requires-clause-memory g c = subst (λ sizes. IsBroughtMemory sizes c.in-Ok.found) (sym c.bring_memory.ensures.reads.touches.sizes) c.in-Ok.ensures.memory
 
-pub of_memory-requires-clause-settled : goal.of_memory-requires-clause-settled
-of_memory-requires-clause-settled g c = ∣ c.in-Ok.ensures.memory.settled ∣₁
-
-pub of_memory-requires-clause-back : goal.of_memory-requires-clause-back
-of_memory-requires-clause-back g c = ∣ c.in-Ok.ensures.memory.back ∣₁
+pub attach_brought-requires-clause-recovered : goal.attach_brought-requires-clause-recovered
+attach_brought-requires-clause-recovered g c =
+    recovered_synced (g.R.Rack.disk c.args.rack) (g.R.Rack.disk c.bring_memory.new.rack) c.bring_memory.ensures.reads.touches c.in-Ok.found.redone
+    (λ told. let from = c.in-Ok.ensures.same told in (from.groups, from.recovered))
 
 pub returns-in-Ok-clause-means : goal.returns-in-Ok-clause-means
-returns-in-Ok-clause-means g c = λ tells all means. subst (λ (m : DomainMemory). StandsFor m all) (sym c.of_memory.ensures.memory) (c.in-Ok.ensures.means tells all means)
+returns-in-Ok-clause-means g c =
+    let old = g.R.Rack.disk c.args.rack in
+    let found = c.in-Ok.found in
+    ok_too c.attach_brought.result (λ attached. attached.memory ≡ with_anchor (rested_anchor found.redone) found.memory) (λ attached. Tells old → (all : FilesetMap) → Means old.sizes old.now.contents all → StandsFor attached.memory all)
+    (λ attached is told all means. subst (λ (m : DomainMemory). StandsFor m all) (sym is) (stands_anew found.memory found.redone c.in-Ok.ensures.memory.anchor all (c.in-Ok.ensures.means told all means))) c.attach_brought.ensures.memory
 
 pub returns-in-Ok-clause-from : goal.returns-in-Ok-clause-from
-returns-in-Ok-clause-from g c = λ tells.
+returns-in-Ok-clause-from g c =
     let old = g.R.Rack.disk c.args.rack in
-    subst (λ (m : DomainMemory). IsReadFrom old.sizes old.now.contents m) (sym c.of_memory.ensures.memory)
-    (record { found = c.in-Ok.found.redone; anchor = c.in-Ok.ensures.memory.anchor; same = c.in-Ok.ensures.same tells })
+    let found = c.in-Ok.found in
+    ok_too c.attach_brought.result (λ attached. attached.memory ≡ with_anchor (rested_anchor found.redone) found.memory) (λ attached. Tells old → IsReadFrom old.sizes old.now.contents attached.memory)
+    (λ attached is told. subst (λ (m : DomainMemory). IsReadFrom old.sizes old.now.contents m) (sym is) (record { found = found.redone; anchor = refl; same = c.in-Ok.ensures.same told })) c.attach_brought.ensures.memory
+
+pub returns-in-Ok-clause-home : goal.returns-in-Ok-clause-home
+returns-in-Ok-clause-home g c =
+    let old = g.R.Rack.disk c.args.rack in
+    let mid = g.R.Rack.disk c.bring_memory.new.rack in
+    let found = c.in-Ok.found in
+    ok_both c.attach_brought.result (λ attached. StandsAtHome mid (g.R.Rack.disk attached.rack)) (λ attached. attached.memory ≡ with_anchor (rested_anchor found.redone) found.memory)
+    (λ attached. Tells old → StandHome (g.R.Rack.disk attached.rack) (before_of attached.memory.pages))
+    (λ attached home is told.
+    let new = g.R.Rack.disk attached.rack in
+    subst (λ (m : DomainMemory). StandHome new (before_of m.pages)) (sym is)
+    (stand_home old new (before_of found.memory.pages) found.redone (home_since old mid c.bring_memory.ensures.reads.touches new home) told (c.in-Ok.ensures.same told)))
+    c.attach_brought.ensures.home c.attach_brought.ensures.memory
+
+pub returns-in-Ok-clause-any_moment : goal.returns-in-Ok-clause-any_moment
+returns-in-Ok-clause-any_moment g c =
+    let old = g.R.Rack.disk c.args.rack in
+    let mid = g.R.Rack.disk c.bring_memory.new.rack in
+    ok_too c.attach_brought.result (λ attached. StaysReadSince mid (g.R.Rack.disk attached.rack)) (λ attached. StaysReadSince old (g.R.Rack.disk attached.rack))
+    (λ attached stays. since_read old mid (g.R.Rack.disk attached.rack) c.bring_memory.ensures.reads stays) c.attach_brought.ensures.any_moment
+
+pub returns-in-Ok-clause-any_moment_of_fault : goal.returns-in-Ok-clause-any_moment_of_fault
+returns-in-Ok-clause-any_moment_of_fault g c =
+    let old = g.R.Rack.disk c.args.rack in
+    let mid = g.R.Rack.disk c.bring_memory.new.rack in
+    err_too c.attach_brought.result (λ back. StaysReadSince mid (g.R.Rack.disk back.0)) (λ back. StaysReadSince old (g.R.Rack.disk back.0))
+    (λ back stays. since_read old mid (g.R.Rack.disk back.0) c.bring_memory.ensures.reads stays) c.attach_brought.ensures.any_moment_of_fault
+
+pub returns-in-Ok-clause-refused : goal.returns-in-Ok-clause-refused
+returns-in-Ok-clause-refused g c =
+    let old = g.R.Rack.disk c.args.rack in
+    let mid = g.R.Rack.disk c.bring_memory.new.rack in
+    err_too c.attach_brought.result (λ back. IsNotSettled mid (g.R.Rack.disk back.0) back.1) (λ back. IfRefused back.1 (OnlyReads old (g.R.Rack.disk back.0)))
+    (λ back is. not_refused mid (g.R.Rack.disk back.0) back.1 (OnlyReads old (g.R.Rack.disk back.0)) is) c.attach_brought.ensures.cause
+
+pub returns-in-Ok-clause-wrong : goal.returns-in-Ok-clause-wrong
+returns-in-Ok-clause-wrong g c =
+    let old = g.R.Rack.disk c.args.rack in
+    let mid = g.R.Rack.disk c.bring_memory.new.rack in
+    err_too c.attach_brought.result (λ back. IsNotSettled mid (g.R.Rack.disk back.0) back.1) (λ back. IfNotADomain back.1 (λ vol at. Tells old → IsNoDomain old.sizes old.now.contents vol at))
+    (λ back is. not_wrong mid (g.R.Rack.disk back.0) back.1 (λ vol at. Tells old → IsNoDomain old.sizes old.now.contents vol at) is) c.attach_brought.ensures.cause
+
+pub returns-in-Ok-clause-unfit : goal.returns-in-Ok-clause-unfit
+returns-in-Ok-clause-unfit g c =
+    let old = g.R.Rack.disk c.args.rack in
+    let mid = g.R.Rack.disk c.bring_memory.new.rack in
+    err_too c.attach_brought.result (λ back. IsNotSettled mid (g.R.Rack.disk back.0) back.1) (λ back. IfNotFit back.1 (λ why. Tells old → IsUnfitDomain old.sizes old.now.contents why))
+    (λ back is. not_unfit mid (g.R.Rack.disk back.0) back.1 (λ why. Tells old → IsUnfitDomain old.sizes old.now.contents why) is) c.attach_brought.ensures.cause
+
+pub returns-in-Ok-clause-cause : goal.returns-in-Ok-clause-cause
+returns-in-Ok-clause-cause g c =
+    let old = g.R.Rack.disk c.args.rack in
+    let mid = g.R.Rack.disk c.bring_memory.new.rack in
+    err_too c.attach_brought.result (λ back. IsNotSettled mid (g.R.Rack.disk back.0) back.1) (λ back. HasCause old (g.R.Rack.disk back.0) back.1)
+    (λ back is. settle_cause old mid (g.R.Rack.disk back.0) back.1 c.bring_memory.ensures.reads c.in-Ok.ensures.passed is) c.attach_brought.ensures.cause
+
+pub returns-in-Err-clause-any_moment_of_fault : goal.returns-in-Err-clause-any_moment_of_fault
+returns-in-Err-clause-any_moment_of_fault g c = still_since (g.R.Rack.disk c.args.rack) (g.R.Rack.disk c.bring_memory.new.rack) c.bring_memory.ensures.reads.touches
+
+pub returns-in-Err-clause-refused : goal.returns-in-Err-clause-refused
+returns-in-Err-clause-refused g c = refused_if c.in-Err.fault (OnlyReads (g.R.Rack.disk c.args.rack) (g.R.Rack.disk c.bring_memory.new.rack)) c.bring_memory.ensures.reads
+
+pub returns-in-Ok-clause-none : goal.returns-in-Ok-clause-none
+returns-in-Ok-clause-none g c =
+    let old = g.R.Rack.disk c.args.rack in
+    let mid = g.R.Rack.disk c.bring_memory.new.rack in
+    let found = c.in-Ok.found in
+    ok_too c.attach_brought.result (λ attached. HasNoGroups found.redone → Touches mid (g.R.Rack.disk attached.rack) NoPlace) (λ attached. WritesNone old (g.R.Rack.disk attached.rack))
+    (λ attached none. writes_none old mid (g.R.Rack.disk attached.rack) found.redone c.bring_memory.ensures.reads (λ told. let from = c.in-Ok.ensures.same told in (from.groups, from.recovered)) none) c.attach_brought.ensures.none
+
+pub returns-in-Ok-clause-none_at_fault : goal.returns-in-Ok-clause-none_at_fault
+returns-in-Ok-clause-none_at_fault g c =
+    let old = g.R.Rack.disk c.args.rack in
+    let mid = g.R.Rack.disk c.bring_memory.new.rack in
+    let found = c.in-Ok.found in
+    err_too c.attach_brought.result (λ back. HasNoGroups found.redone → Touches mid (g.R.Rack.disk back.0) NoPlace) (λ back. WritesNone old (g.R.Rack.disk back.0))
+    (λ back none. writes_none old mid (g.R.Rack.disk back.0) found.redone c.bring_memory.ensures.reads (λ told. let from = c.in-Ok.ensures.same told in (from.groups, from.recovered)) none) c.attach_brought.ensures.none_at_fault
+
+pub returns-in-Err-clause-none_at_fault : goal.returns-in-Err-clause-none_at_fault
+returns-in-Err-clause-none_at_fault g c = λ told anchor log. c.bring_memory.ensures.reads.touches

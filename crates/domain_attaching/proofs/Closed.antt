@@ -1,0 +1,134 @@
+-- A domain that is closed.
+use Rattle.std.proofs.Common.{◌≡◌, ◌∙◌, ℕ, ◌+◌, ◌%◌, ◌≤◌, List, [], length, Option, Some, None, IfSome, IsSome, refl, sym, ap, subst, arith, ⊎_elim}
+use Rattle.std.proofs.Math.Logic.{∥∥₁_elim, ∥∥₁_map, ∥∥₁_map₂}
+use Rattle.std.proofs.lemmas.Bool.{cases_lt}
+use Rattle.page_store.specs.Pages.{Pages}
+use Rattle.volume_disk.specs.Disk.{Disk, IsSettled, MayLeave, Tells, volume_pages}
+use Rattle.volume_disk.specs.Image.{Image, page_at}
+use Rattle.volume_disk.specs.Run.{Touches}
+use Rattle.volume_disk.proofs.Laws.{leaves-now, touches-wider}
+use Rattle.disk_label.specs.declared.anchor.Anchor.{Anchor}
+use Rattle.log_ring.specs.Groups.{HasLog, redone}
+use Rattle.log_ring.specs.Homes.{HasMembers, member_of}
+use Rattle.log_ring.specs.Laws.{IsElsewhere}
+use Rattle.log_ring.proofs.Staying.{log_stays}
+use Rattle.log_recovery.specs.Outcome.{HasGoodAnchor, HasRecovered}
+use Rattle.log_recovery.specs.Readable.{IsBehindAnchors}
+use Rattle.log_recovery.specs.declared.redone.Redone.{Redone}
+use Rattle.log_recovery.proofs.GoodAnchors.{keeps_good_anchor}
+use Rattle.fileset_model.specs.Filesets.{FilesetMap}
+use Rattle.page_ways.specs.Frame.{frame_in}
+use Rattle.staged_pages.specs.Store.{before_of, pages_of}
+use Rattle.domain_layout.specs.Read.{Means}
+use Rattle.domain_standing.specs.Domain.{DomainNow, layout_of}
+use Rattle.domain_standing.proofs.OneMeaning.{reads_so}
+use Rattle.sound_laws.proofs.WholeDomain.{sound_faultless}
+use Rattle.domain_memory.specs.Memory.{StandsFor, kept_in}
+use Rattle.domain_memory.specs.Staged.{IsSettled as IsSettledMemory}
+use Rattle.domain_memory.specs.declared.memory.DomainMemory.{DomainMemory}
+use Rattle.domain_bringing.proofs.Means.{AreThoseOf, those_mean}
+use Rattle.domain_bringing.proofs.Ranges.{good_frame, in_range}
+use Rattle.domain_state.specs.Rest.{IsAtRest}
+use Rattle.domain_attaching.proofs.ItsPages.{all_there, looked_there}
+use Rattle.domain_attaching.specs.Closing.{AreHome, IsClosed, IsOnLoggable, MeansKept}
+
+-- ---- where the pages lie
+
+on_page_behind : (anchor : Anchor) (v k : ℕ) → IsOnLoggable anchor v k → IsBehindAnchors v k
+on_page_behind anchor v k on = let behind = on.1.behind in let low = on.2.1 in omega (arith, behind, low)
+
+on_page_elsewhere : (anchor : Anchor) (v k : ℕ) → IsOnLoggable anchor v k → IsElsewhere anchor v k
+on_page_elsewhere anchor v k on = (
+  (λ at. let behind = on.1.behind in let low = on.2.1 in let high = at.1 in omega (arith, behind, low, high)),
+  (λ log.
+      let low = on.2.1 in let high = on.2.2 in let from = log.1 in let to = log.2 in
+      on.1.outside (sym on.2.0 ∙ log.0, omega (arith, high, from), omega (arith, low, to))),
+)
+
+-- ---- the rack
+
+pub closed : (old new : Disk) (memory : DomainMemory) → Tells old → IsAtRest old memory.frame.anchor → Touches old new (IsOnLoggable memory.frame.anchor) → AreHome (pages_of memory.pages) memory.frame.anchor new.now.contents → IsSettled new.now
+    → pages_of memory.pages ≡ before_of memory.pages → IsClosed new memory
+closed old new memory told rest touches home synced kept =
+    let anchor = memory.frame.anchor in
+    let none = rest.none told in
+    let good = keeps_good_anchor old new anchor told none.good (touches-wider old new (IsOnLoggable anchor) IsBehindAnchors (on_page_behind anchor) touches) in
+    record {
+      none = record {
+        stands = (log_stays old new anchor [] told none.stands (touches-wider old new (IsOnLoggable anchor) (IsElsewhere anchor) (on_page_elsewhere anchor) touches)).now;
+        good = λ image left. subst (λ (l : List ℕ). HasGoodAnchor l image anchor) (sym touches.sizes) (leaves-now old new (λ image. HasGoodAnchor old.sizes image anchor) good image left);
+      };
+      home = λ image left.
+          subst (λ (i : Image). AreHome (before_of memory.pages) anchor i) (sym (λ i v k. left.synced v k (synced v k) i)) (subst (λ (p : Pages). AreHome p anchor new.now.contents) kept home);
+      synced = synced;
+    }
+
+-- ---- what it means
+
+abbrev found_of : Anchor → Redone
+found_of anchor = record { anchor = anchor; images = []; next_group = anchor.group; next_place = anchor.start % 128 }
+
+recovered_none : (sizes : List ℕ) (image : Image) (anchor : Anchor) → HasGoodAnchor sizes image anchor → HasLog sizes anchor [] image → HasRecovered sizes image [] (found_of anchor)
+recovered_none sizes image anchor good log = record {
+  good = good;
+  log = log;
+  images = refl;
+  next_group = omega arith;
+  next_place = let same : anchor.start ≡ anchor.start + 0 = omega arith in ap (λ (n : ℕ). n % 128) same;
+}
+
+those_home : (memory : DomainMemory) (image : Image) → AreHome (before_of memory.pages) memory.frame.anchor image → AreThoseOf (before_of memory.pages) (frame_in memory.frame) [] image
+those_home memory image home at loggable some = by_page (before_of memory.pages at) some (home at loggable)
+  where
+    by_page : (o : Option (List ℕ)) → IsSome o → IfSome o (λ page. page_at image at.vol at.page ≡ page) → o ≡ redone [] image at
+    by_page None none is = absurd (let e : IsSome {T = List ℕ} None = none in absurd (cc))
+    by_page (Some page) some is = ap Some (sym is)
+
+pub means_kept : (disk : Disk) (memory : DomainMemory) → IsClosed disk memory → (all : FilesetMap) → StandsFor memory all → (image : Image) → MayLeave disk.now image → Means disk.sizes image all
+means_kept disk memory is all stands image left =
+    let d : DomainNow = kept_in memory in
+    let good = is.none.good image left in
+    let version = stands.stands.tables.laid.version in
+    let range = good_frame memory.frame.anchor memory.frame.version good.in_range.whole version (in_range disk.sizes image memory.frame.anchor memory.frame.version version good) in
+    let none = sound_faultless d all stands.stands stands.sound stands.parents stands.marked in
+    (those_mean disk.sizes image d.pages [] (found_of memory.frame.anchor) (frame_in memory.frame)
+    range
+    (record {
+      laid_out = record { layout = layout_of d; is = refl; laid = stands.stands.tables.laid };
+      no_fault = none;
+      looked = looked_there d all stands.stands range stands.marked none;
+      all = all_there d all stands.stands range stands.marked none (λ home. refl);
+    }) refl (recovered_none disk.sizes image memory.frame.anchor good (is.none.stands image left)) (those_home memory image (is.home image left)) all).1
+    (λ home at. reads_so d all home stands.stands at (λ place. refl))
+
+-- ---- what is asked, where it is known that the rack is at rest
+
+nothing : {A : Type 0} → ∥ A ∥₁ → (A → ⊥) → ⊥
+nothing t none = ∥∥₁_elim t (λ x y. absurd x) none
+
+asks_most : {A : Type 0} → ∥ A ∥₁ → (a b : ℕ) → (A → a ≤ b) → a ≤ b
+asks_most t a b is = ⊎_elim (λ more. absurd (nothing t (λ x. let most = is x in omega (arith, more, most)))) (λ fits. fits) (cases_lt b a)
+
+pub asks_members : (disk : Disk) (anchor : Anchor) → ∥ IsAtRest disk anchor ∥₁ → HasMembers disk.sizes anchor
+asks_members disk anchor rest vol first last there whole = (
+  asks_most rest vol (length disk.sizes) (λ r. (r.members vol first last there whole).0),
+  asks_most rest (member_of anchor vol).pages (volume_pages disk.sizes vol) (λ r. (r.members vol first last there whole).1),
+  asks_most rest (member_of anchor vol).pages 1048576 (λ r. (r.members vol first last there whole).2),
+)
+
+-- ---- all of it
+
+-- `old` and `memory` are what the domain was, `same` and `kept` what it was taken apart into
+module _ (old same new : Disk) (memory kept : DomainMemory) (disk_is : same ≡ old) (memory_is : kept ≡ memory) (rest : ∥ IsAtRest old memory.frame.anchor ∥₁) (settled : ∥ IsSettledMemory memory ∥₁) (touches : Touches same new (IsOnLoggable kept.frame.anchor))
+    (home : Tells same → AreHome (pages_of kept.pages) kept.frame.anchor new.now.contents) (synced : Tells same → IsSettled new.now) where
+  pub closed_then : Tells old → ∥ IsClosed new memory ∥₁
+  closed_then told = ∥∥₁_map₂ rest settled (λ r s. closed old new memory told r (touches_there memory_is) (home_there memory_is) (synced (subst Tells (sym disk_is) told)) s.pages)
+    where
+      touches_there : kept ≡ memory → Touches old new (IsOnLoggable memory.frame.anchor)
+      touches_there is = subst (λ (d : Disk). Touches d new (IsOnLoggable memory.frame.anchor)) disk_is (subst (λ (m : DomainMemory). Touches same new (IsOnLoggable m.frame.anchor)) is touches)
+
+      home_there : kept ≡ memory → AreHome (pages_of memory.pages) memory.frame.anchor new.now.contents
+      home_there is = subst (λ (m : DomainMemory). AreHome (pages_of m.pages) m.frame.anchor new.now.contents) is (home (subst Tells (sym disk_is) told))
+
+  pub means_then : Tells old → MeansKept new memory
+  means_then told all stands image left = ∥∥₁_map (closed_then told) (λ is. means_kept new memory is all stands image left)

@@ -1,0 +1,98 @@
+//! The log of a domain whose memory was brought, settled.
+ghost use Rattle.std.specs.Prelude.{◌≡◌, IfErr, IfOk};
+ghost use Rattle.log_recovery.specs.Outcome.{IsSound};
+ghost use Rattle.log_settling.specs.Settling.{Anywhere, IsBehindAll, StandsAtHome, StaysRead};
+ghost use Rattle.volume_disk.specs.Disk.{IsSettled, Tells};
+ghost use Rattle.volume_disk.specs.Image.{NoPlace};
+ghost use Rattle.volume_disk.specs.Run.{Touches};
+ghost use Rattle.domain_state.specs.Rest.{IsAtRest};
+ghost use Rattle.domain_attaching.specs.Attaching.{IsBroughtMemory, IsRecovered};
+ghost use Rattle.domain_attaching.specs.Settling.{
+  HasNoGroups,
+  HasSettleCause,
+  IsNotSettled,
+  StaysReadSince,
+  rested_anchor,
+  with_anchor,
+};
+
+use crate::bringing::BroughtMemory;
+use crate::fault::AttachFault;
+use disk_label::Anchor;
+use domain_state::Attached;
+use log_recovery::Redone;
+use log_settling::{SettleFault, settle_log};
+use volume_disk::{Rack, sync_volumes};
+
+/// Settles the log of a rack as it was recovered, on which nothing is pending, where it has a group;
+/// else nothing is done. It answers the anchor that counts then.
+fn settle_groups<R: Rack>(rack: &mut R, redone: &Redone) -> Result<Anchor, SettleFault>
+    requires pending { Tells (R.disk rack.old) → IsSettled (R.disk rack.old).now }
+    requires sound { IsSound (R.disk rack.old).sizes redone.now }
+    requires recovered { let old = R.disk rack.old in
+        Tells old → IsRecovered old.sizes old.now.contents redone.now }
+    ensures anchor { IfOk result (λ anchor. anchor ≡ rested_anchor redone.now) }
+    ensures behind { IfOk result (IsBehindAll (R.disk rack.new)) }
+    ensures home { IfOk result (λ _. StandsAtHome (R.disk rack.old) (R.disk rack.new)) }
+    ensures any_moment { StaysRead (R.disk rack.old) (R.disk rack.new) }
+    ensures touches { Touches (R.disk rack.old) (R.disk rack.new) Anywhere }
+    ensures none { HasNoGroups redone.now → R.disk rack.new ≡ R.disk rack.old }
+    ensures cause { IfErr result (HasSettleCause (R.disk rack.old) (R.disk rack.new)) }
+{
+    if redone.next_group == redone.anchor.group {
+        return Ok(redone.anchor);
+    }
+    settle_log(rack, redone)
+}
+
+/// The same once each volume was synced, so that nothing is pending.
+fn settle_synced<R: Rack>(rack: &mut R, redone: &Redone) -> Result<Anchor, SettleFault>
+    requires sound { IsSound (R.disk rack.old).sizes redone.now }
+    requires recovered { let old = R.disk rack.old in
+        Tells old → IsRecovered old.sizes old.now.contents redone.now }
+    ensures anchor { IfOk result (λ anchor. anchor ≡ rested_anchor redone.now) }
+    ensures rest { IfOk result (IsAtRest (R.disk rack.new)) }
+    ensures home { IfOk result (λ _. StandsAtHome (R.disk rack.old) (R.disk rack.new)) }
+    ensures any_moment { StaysReadSince (R.disk rack.old) (R.disk rack.new) }
+    ensures none { HasNoGroups redone.now → Touches (R.disk rack.old) (R.disk rack.new) NoPlace }
+    ensures cause { IfErr result (HasSettleCause (R.disk rack.old) (R.disk rack.new)) }
+{
+    match sync_volumes(rack) {
+        Ok(()) => settle_groups(rack, redone),
+        Err(vol) => Err(SettleFault::Write { vol }),
+    }
+}
+
+/// Attaches a domain whose memory was brought: its log is settled, and its memory has the anchor
+/// then with which it was.
+pub(crate) fn attach_brought<R: Rack>(
+    rack: R,
+    found: BroughtMemory,
+) -> Result<Attached<R>, (R, AttachFault)>
+    requires memory { IsBroughtMemory (R.disk rack).sizes found }
+    requires recovered { let old = R.disk rack in
+        Tells old → IsRecovered old.sizes old.now.contents found.redone }
+    ensures memory { IfOk result (λ attached. attached.memory
+        ≡ with_anchor (rested_anchor found.redone) found.memory) }
+    ensures home { IfOk result (λ attached. StandsAtHome (R.disk rack) (R.disk attached.rack)) }
+    ensures any_moment { IfOk result (λ attached.
+        StaysReadSince (R.disk rack) (R.disk attached.rack)) }
+    ensures any_moment_of_fault { IfErr result (λ back.
+        StaysReadSince (R.disk rack) (R.disk back.0)) }
+    ensures none { IfOk result (λ attached. HasNoGroups found.redone
+        → Touches (R.disk rack) (R.disk attached.rack) NoPlace) }
+    ensures none_at_fault { IfErr result (λ back. HasNoGroups found.redone
+        → Touches (R.disk rack) (R.disk back.0) NoPlace) }
+    ensures cause { IfErr result (λ back. IsNotSettled (R.disk rack) (R.disk back.0) back.1) }
+{
+    let mut rack = rack;
+    let BroughtMemory { memory, redone } = found;
+    match settle_synced(&mut rack, &redone) {
+        Ok(anchor) => {
+            let mut memory = memory;
+            memory.frame.anchor = anchor;
+            Ok(Attached::of_memory(rack, memory))
+        }
+        Err(why) => Err((rack, AttachFault::NotSettled { why })),
+    }
+}
