@@ -9,3 +9,4 @@ pub mod Given
 pub mod Put
 pub mod Sized
 pub mod Cut
+pub mod Looked

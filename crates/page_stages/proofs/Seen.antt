@@ -1,5 +1,5 @@
 -- What is seen of a live file, by its state; and what of a domain stays where pages, free space and free cells change.
-use Rattle.std.proofs.Common.{◌≡◌, ◌∙◌, ◌<◌, ℕ, Bool, true, false, cond, List, [], Option, Some, None, IsSomeAnd, refl, sym, ap, subst}
+use Rattle.std.proofs.Common.{◌≡◌, ◌∙◌, ◌<◌, ℕ, Bool, true, false, cond, List, [], Option, Some, None, IfNone, IsSomeAnd, refl, sym, ap, subst}
 use Rattle.std.specs.Option.{option_and_then, option_map, option_map_or, unwrap_or}
 use Rattle.domain_base.specs.declared.place.Kind.TheVariants.{File}
 use Rattle.domain_base.specs.declared.place.Tag.{Tag}
@@ -94,6 +94,12 @@ module _ (chains : Chains) (tag : Tag) (live : IsLiveOf File (chains tag)) (stat
       ∙ ap (λ b. cond b None (attributes_of its_chain.cells)) (says.removed ∙ stays)
       ∙ says.attributes
 
+  pub keep_live : option_and_then (of_live keep_of) (chains tag) ≡ Some state.keep
+  keep_live =
+      ap (option_and_then (of_live keep_of)) its_chain.there
+      ∙ ap (λ b. cond b None (keep_of its_chain.cells)) (says.removed ∙ stays)
+      ∙ keep_said its_chain.cells state its_chain.state_is
+
   pub kept_live : (page : ℕ) → IsSomeAnd (option_and_then (of_live keep_of) (chains tag)) (λ keep. page < keep) → page < state.keep
   kept_live page kept = by_removed (is_removed its_chain.cells) (subst (λ o. IsSomeAnd (cond (is_removed its_chain.cells) None o) (λ keep. page < keep)) (keep_said its_chain.cells state its_chain.state_is) (subst (λ o. IsSomeAnd (option_and_then (of_live keep_of) o) (λ keep. page < keep)) its_chain.there kept))
     where
@@ -103,6 +109,16 @@ module _ (chains : Chains) (tag : Tag) (live : IsLiveOf File (chains tag)) (stat
 
   pub place_live : (page : ℕ) → state.places page ≡ place_at chains tag page
   place_live page = sym (says.places page) ∙ sym (ap (λ o. option_map_or (λ cs. places_of cs page) o Absent) its_chain.there)
+
+-- a live file keeps some pages
+pub keep_none : (chains : Chains) (tag : Tag) (r : Option ℕ) → r ≡ option_and_then (of_live keep_of) (chains tag) → IfNone r (¬ IsLiveOf File (chains tag))
+keep_none chains tag None none = λ live.
+    let s = state_of_live chains tag live in
+    wrong s.state.keep (none ∙ keep_live chains tag live s.state s.is)
+  where
+    wrong : (keep : ℕ) → None ≡ Some keep → ⊥
+    wrong keep e = cc
+keep_none chains tag (Some keep) is = tt
 
 -- ---- memory
 

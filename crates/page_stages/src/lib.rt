@@ -2,12 +2,14 @@
 #![tactic(auto)]
 
 mod giving;
+mod looking;
 mod putting;
 mod sizing;
 mod slots;
 mod truncating;
 
 pub use giving::give_page;
+pub use looking::{FilePage, look_at_page};
 pub use putting::put_page;
 pub use sizing::set_size;
 pub use truncating::truncate;
