@@ -28,8 +28,8 @@ use volume_disk::Rack;
 /// anchors and its log come first, as `recover` has them, and then its pages in the order of the
 /// list of faults. `Fault` comes where a read of that volume failed, and `Unfit` where no rule is
 /// broken and the domain is not attached all the same. Nothing is written or synced then, nor at
-/// `OutOfMemory`. `NotSettled` comes where the log has no numbers left, or a call failed while it was
-/// settled.
+/// `OutOfMemory`. `NotSettled` comes where the log has no numbers left, or a call failed while it
+/// was settled.
 pub fn attach<R: Rack>(alloc: Global, rack: R) -> Result<Attached<R>, (R, AttachFault)>
     ensures means { let old = R.disk rack in IfOk result (λ attached. Tells old
         → (all : FilesetMap) → Means old.sizes old.now.contents all

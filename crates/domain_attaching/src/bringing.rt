@@ -47,8 +47,8 @@ fn memory_of(alloc: Global, brought: Brought) -> Result<BroughtMemory, Unfit>
     Ok(BroughtMemory { memory, redone })
 }
 
-/// Brings the memory of a domain from a rack: recovers its log, brings its pages, and reads them. It
-/// writes nothing. The memory stands for the filesets that the volumes mean.
+/// Brings the memory of a domain from a rack: recovers its log, brings its pages, and reads them.
+/// It writes nothing. The memory stands for the filesets that the volumes mean.
 ///
 /// `NotADomain` comes with the first place at which a rule of a domain is broken: its label, its
 /// anchors and its log come first, as `recover` has them, and then its pages in the order of the

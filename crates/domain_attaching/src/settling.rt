@@ -24,8 +24,8 @@ use log_recovery::Redone;
 use log_settling::{SettleFault, settle_log};
 use volume_disk::{Rack, sync_volumes};
 
-/// Settles the log of a rack as it was recovered, on which nothing is pending, where it has a group;
-/// else nothing is done. It answers the anchor that counts then.
+/// Settles the log of a rack as it was recovered, on which nothing is pending, where it has a
+/// group; else nothing is done. It answers the anchor that counts then.
 fn settle_groups<R: Rack>(rack: &mut R, redone: &Redone) -> Result<Anchor, SettleFault>
     requires pending { Tells (R.disk rack.old) → IsSettled (R.disk rack.old).now }
     requires sound { IsSound (R.disk rack.old).sizes redone.now }

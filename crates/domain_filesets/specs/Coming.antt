@@ -35,16 +35,16 @@ pub record ComesNext (entries : List Entry) (e : Entry) : Type 0 where
 
 -- ** A command that is answered
 
--- with the change that is laid over memory a command on these filesets has this answer, out-of-memory
--- where nothing changes, and the change may be kept
+-- with the change that is laid over memory a command on these filesets has this answer,
+-- out-of-memory where nothing changes, and the change may be kept
 pub record IsAnswered (memory : DomainMemory) (all : FilesetMap) (command : Command) (reply : Reply)
     : Type 0 where
   pub now : FilesetMap
   pub kept : MayBeKept memory now
   pub means : AnswersIfMemory all command reply now
 
--- a domain's history has one entry more, of a client's with this command; the domain stands for what
--- its reply means
+-- a domain's history has one entry more, of a client's with this command; the domain stands for
+-- what its reply means
 pub record AddsOne (client : ℕ) (command : Command) (old new : DomainMemory)
     (before after : List Entry) : Type 0 where
   pub reply : Reply

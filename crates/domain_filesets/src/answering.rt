@@ -62,9 +62,9 @@ fn take_back<R: Rack, O: Opening>(domain: Domain<R, O>) -> Domain<R, O>
     domain
 }
 
-/// Adds a client's command to a domain's history with the change that is laid over the domain, where
-/// that has an answer; with no change where memory was short, which is answered then. Where no page
-/// was free nothing is added, and the change is taken back.
+/// Adds a client's command to a domain's history with the change that is laid over the domain,
+/// where that has an answer; with no change where memory was short, which is answered then. Where
+/// no page was free nothing is added, and the change is taken back.
 pub(crate) fn answer<R: Rack, O: Opening>(
     domain: Domain<R, O>,
     client: u8,

@@ -21,8 +21,8 @@ use page_store::StoreFault;
 use std::alloc::Global;
 use volume_disk::Rack;
 
-/// Lays a new fileset over a domain's memory, and answers that; or answers why there can be none. At
-/// an error the change may be half made.
+/// Lays a new fileset over a domain's memory, and answers that; or answers why there can be none.
+/// At an error the change may be half made.
 fn stage_fileset(
     memory: &mut DomainMemory,
     alloc: Global,

@@ -20,8 +20,8 @@ use page_store::StoreFault;
 use std::alloc::Global;
 use volume_disk::Rack;
 
-/// Lays an owner's limits in a fileset over a domain's memory, and answers that; or answers that the
-/// domain has no such fileset. At an error the change may be half made.
+/// Lays an owner's limits in a fileset over a domain's memory, and answers that; or answers that
+/// the domain has no such fileset. At an error the change may be half made.
 fn stage_limits(
     memory: &mut DomainMemory,
     alloc: Global,
@@ -49,9 +49,10 @@ fn stage_limits(
     }
 }
 
-/// Answers a client who asks that an owner's limits be set in a fileset, and adds the command to the
-/// history with its change: no-fileset where the domain has none of this name, and out-of-memory,
-/// where nothing changes. Where neither a cell nor a page is free nothing is added, nor changes.
+/// Answers a client who asks that an owner's limits be set in a fileset, and adds the command to
+/// the history with its change: no-fileset where the domain has none of this name, and
+/// out-of-memory, where nothing changes. Where neither a cell nor a page is free nothing is added,
+/// nor changes.
 pub fn limit_fileset<R: Rack, O: Opening>(
     domain: Domain<R, O>,
     alloc: Global,

@@ -37,8 +37,8 @@ fn stage_removal(memory: &mut DomainMemory, alloc: Global, fileset: &FilesetName
     }
 }
 
-/// Answers a client who asks that a fileset be removed, and adds the command to the history with its
-/// change: no-fileset where the domain has none of this name, and out-of-memory, where nothing
+/// Answers a client who asks that a fileset be removed, and adds the command to the history with
+/// its change: no-fileset where the domain has none of this name, and out-of-memory, where nothing
 /// changes.
 pub fn remove_fileset<R: Rack, O: Opening>(
     domain: Domain<R, O>,

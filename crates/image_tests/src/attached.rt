@@ -53,8 +53,8 @@ fn push_memory(alloc: Global, memory: &DomainMemory, told: &mut String) -> Resul
     Ok(())
 }
 
-/// What is kept in memory of the domain of an image that is attached, by its rack that is given back
-/// unchanged; or why none is.
+/// What is kept in memory of the domain of an image that is attached, by its rack that is given
+/// back unchanged; or why none is.
 fn told_attached(alloc: Global, version: Version, text: &str) -> Result<String, Fail> {
     let mut image = Image::new(alloc, version, text)?;
     let rack = rack_of(alloc, &mut image)?;
