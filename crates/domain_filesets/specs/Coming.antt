@@ -64,7 +64,7 @@ pub record AddsNone (old new : DomainMemory) (before after : List Entry) : Type 
   pub same : after ≡ before
   pub stands : (all : FilesetMap) → StandsFor old all → StandsFor new all
 
--- no slot of the table is free; or no page, or no cell, for what a fileset begins with
+-- no slot of the table is free; or no page, or one alone and no cell
 abbrev pub LacksRoom : Table → Spaces → Cells → StoreFault → Type 0
 LacksRoom table space cells NoPage =
     (list_any is_free table.slots ≡ false) ⊎ BeginsNone space cells NoPage

@@ -55,9 +55,9 @@ fn stage_fileset(
 
 /// Answers a client who asks that a fileset be made, and adds the command to the history with its
 /// change: fileset-exists where the domain has one of this name, filesets-full where it has 16, and
-/// out-of-memory, where nothing changes. Pages are taken of the preferred volume if that has free
-/// ones. Where no slot is free, as filesets are still being removed, or neither a cell nor a page,
-/// nothing is added, nor changes.
+/// out-of-memory, where nothing changes. The preferred volume is the one that is first looked at for
+/// free pages. Nothing is added, nor changes, only where no slot is free, as filesets are still being
+/// removed, or no page, or one alone and no cell.
 pub fn create_fileset<R: Rack, O: Opening>(
     domain: Domain<R, O>,
     alloc: Global,
@@ -80,6 +80,12 @@ pub fn create_fileset<R: Rack, O: Opening>(
     ensures rack { IfOk result (λ now. now.history.rack ≡ domain.history.rack) }
     ensures durable { IfOk result (λ now. now.history.durable ≡ domain.history.durable) }
     ensures rests { IfErr result ⟦<Domain<R, O> as Told>⟧.rests }
+    ensures begun_none { IfErr result (λ now. ⟦<Domain<R, O> as Told>⟧.begun now
+        ≡ ⟦<Domain<R, O> as Told>⟧.begun domain) }
+    ensures room_none { IfErr result (λ now. ⟦<Domain<R, O> as Told>⟧.room now
+        ≡ ⟦<Domain<R, O> as Told>⟧.room domain) }
+    ensures rack_none { IfErr result (λ now. now.history.rack ≡ domain.history.rack) }
+    ensures durable_none { IfErr result (λ now. now.history.durable ≡ domain.history.durable) }
     ensures none { IfErr result (λ now. AddsNone domain.memory now.memory
         (⟦<Domain<R, O> as Told>⟧.history domain) (⟦<Domain<R, O> as Told>⟧.history now)) }
     ensures cause { IfErr result (λ now. LacksRoom domain.memory.table domain.memory.space

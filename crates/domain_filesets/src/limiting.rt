@@ -77,6 +77,12 @@ pub fn limit_fileset<R: Rack, O: Opening>(
     ensures rack { IfOk result (λ now. now.history.rack ≡ domain.history.rack) }
     ensures durable { IfOk result (λ now. now.history.durable ≡ domain.history.durable) }
     ensures rests { IfErr result ⟦<Domain<R, O> as Told>⟧.rests }
+    ensures begun_none { IfErr result (λ now. ⟦<Domain<R, O> as Told>⟧.begun now
+        ≡ ⟦<Domain<R, O> as Told>⟧.begun domain) }
+    ensures room_none { IfErr result (λ now. ⟦<Domain<R, O> as Told>⟧.room now
+        ≡ ⟦<Domain<R, O> as Told>⟧.room domain) }
+    ensures rack_none { IfErr result (λ now. now.history.rack ≡ domain.history.rack) }
+    ensures durable_none { IfErr result (λ now. now.history.durable ≡ domain.history.durable) }
     ensures none { IfErr result (λ now. AddsNone domain.memory now.memory
         (⟦<Domain<R, O> as Told>⟧.history domain) (⟦<Domain<R, O> as Told>⟧.history now)) }
     ensures cause { IfErr result (λ now. LimitsNone domain.memory.space domain.memory.cells
