@@ -2,4 +2,6 @@
 #![tactic(auto)]
 
 #[cfg(test)]
+mod filesets;
+#[cfg(test)]
 mod opened;
