@@ -13,7 +13,7 @@ use Rattle.disk_label.specs.declared.anchor.Anchor.{Anchor}
 use Rattle.log_ring.specs.Homes.{HasMembers, IsHomeOf, IsLoggable, member_of}
 use Rattle.log_ring.specs.Settling.{IsOnPage}
 use Rattle.log_ring.proofs.HomePages.{one_page, page-same}
-use Rattle.domain_attaching.specs.Closing.{AreHome, AreHomeBelow, AreHomeOn, HasCloseCause, IsHome, IsOnLoggable, StayHome}
+use Rattle.domain_attaching.specs.Closing.{AreHome, AreHomeBelow, AreHomeOn, HasCloseCause, HasFailed, IsHome, IsOnLoggable, StayHome}
 use Rattle.domain_attaching.specs.declared.closing_fault.CloseFault.{CloseFault}
 use Rattle.domain_attaching.specs.declared.closing_fault.CloseFault.TheVariants.{OutOfMemory, Read, Write}
 
@@ -124,7 +124,12 @@ stay_then pages anchor old mid new places touches one other told home was = othe
 pub passed_then : (old mid new : Disk) → HasPassed old mid → HasPassed mid new → HasPassed old new
 passed_then old mid new one other = (other.0 ∙ one.0, other.1 ∙ one.1)
 
-pub close_cause_then : (old mid new : Disk) (fault : CloseFault) → HasPassed old mid → HasCloseCause mid new fault → HasCloseCause old new fault
-close_cause_then old mid new (Read vol) passed cause = (cause.0 ∙ ap (λ (c : ℕ → ℕ). raised_at c vol) passed.0, cause.1 ∙ passed.1)
-close_cause_then old mid new (Write vol) passed cause = (cause.0 ∙ passed.0, cause.1 ∙ ap (λ (c : ℕ → ℕ). raised_at c vol) passed.1)
-close_cause_then old mid new OutOfMemory passed cause = passed_then old mid new passed cause
+pub failed_then : (old mid new : Disk) (fault : CloseFault) → HasPassed old mid → HasFailed mid new fault → HasFailed old new fault
+failed_then old mid new (Read vol) passed cause = (cause.0 ∙ ap (λ (c : ℕ → ℕ). raised_at c vol) passed.0, cause.1 ∙ passed.1)
+failed_then old mid new (Write vol) passed cause = (cause.0 ∙ passed.0, cause.1 ∙ ap (λ (c : ℕ → ℕ). raised_at c vol) passed.1)
+failed_then old mid new OutOfMemory passed cause = cause
+
+pub failed_so : (old new : Disk) (fault : CloseFault) → HasFailed old new fault → HasCloseCause old new fault
+failed_so old new (Read vol) cause = cause
+failed_so old new (Write vol) cause = cause
+failed_so old new OutOfMemory cause = absurd cause

@@ -4,7 +4,6 @@ use Rattle.domain_base.specs.declared.place.Home.{Home}
 use Rattle.page_store.specs.Pages.{Pages}
 use Rattle.domain_layout.specs.Reached.{Frame}
 use Rattle.attached_domain.specs.Causes.{MayBeRead}
-use Rattle.attached_domain.specs.declared.unfit.Unfit.TheVariants as fitting
 use Rattle.domain_bringing.specs.Brought.{IsWholeDomain}
 use Rattle.domain_bringing.proofs.Held.{has_bitmaps}
 

@@ -18,8 +18,7 @@ use Rattle.log_settling.specs.declared.fault.SettleFault.{SettleFault}
 use Rattle.log_settling.specs.declared.fault.SettleFault.TheVariants.{NoNumbers, Slot, Write}
 use Rattle.domain_bringing.specs.Brought.{IsBroughtFrom}
 use Rattle.domain_state.specs.Rest.{IsAtRest}
-use Rattle.domain_attaching.specs.Attaching.{IsRecovered}
-use Rattle.domain_attaching.specs.Settling.{HasNoGroups, HasSettleCause, StandHome, StaysReadSince, rested_anchor}
+use Rattle.domain_attaching.specs.Settling.{HasNoGroups, HasSettleCause, IsRecovered, LacksNumbers, StandHome, StaysReadSince, rested_anchor}
 
 -- what was recovered is read as the pages once redone
 pub read_as : (sizes : List ℕ) (image : Image) (found : Redone) (is : IsRecovered sizes image found) → ReadsAs sizes (redone is.0 image) image
@@ -142,17 +141,22 @@ module _ (old mid : Disk) (writes : Touches old mid NoPlace) where
 raised_too : (one other new : ℕ → ℕ) (vol : ℕ) → other ≡ one → new ≡ raised_at other vol → new ≡ raised_at one vol
 raised_too one other new vol same is = is ∙ ap (λ (c : ℕ → ℕ). raised_at c vol) same
 
-pub cause_since : (old mid new : Disk) (found : Redone) (why : SettleFault) → mid.read_faults ≡ old.read_faults → mid.write_faults ≡ old.write_faults → HasCause mid new found why → HasSettleCause old new why
-cause_since old mid new found NoNumbers reads writes is = (ap (λ (d : Disk). d.read_faults) is.1 ∙ reads, ap (λ (d : Disk). d.write_faults) is.1 ∙ writes)
-cause_since old mid new found (Slot (Read vol)) reads writes is = (raised_too old.read_faults mid.read_faults new.read_faults vol reads is.0, is.1 ∙ writes)
-cause_since old mid new found (Slot (SlotWrite vol)) reads writes is = (is.0 ∙ reads, raised_too old.write_faults mid.write_faults new.write_faults vol writes is.1)
-cause_since old mid new found (Write vol) reads writes is = raised_too old.write_faults mid.write_faults new.write_faults vol writes is
+-- what was recovered of the rack of before has no numbers left
+lacks_since : (old mid : Disk) → Touches old mid NoPlace → LacksNumbers mid → LacksNumbers old
+lacks_since old mid touches lacks told =
+    let l = lacks (touches.told ∙ told) in
+    (l.0, subst (λ (s : List ℕ). IsRecovered s old.now.contents l.0) touches.sizes (subst (λ (c : Image). IsRecovered mid.sizes c l.0) (same_contents old mid touches told) l.1), l.2)
 
-pub settle_cause_since : (old mid new : Disk) (why : SettleFault) → mid.read_faults ≡ old.read_faults → mid.write_faults ≡ old.write_faults → HasSettleCause mid new why → HasSettleCause old new why
-settle_cause_since old mid new NoNumbers reads writes is = (is.0 ∙ reads, is.1 ∙ writes)
-settle_cause_since old mid new (Slot (Read vol)) reads writes is = (raised_too old.read_faults mid.read_faults new.read_faults vol reads is.0, is.1 ∙ writes)
-settle_cause_since old mid new (Slot (SlotWrite vol)) reads writes is = (is.0 ∙ reads, raised_too old.write_faults mid.write_faults new.write_faults vol writes is.1)
-settle_cause_since old mid new (Write vol) reads writes is = raised_too old.write_faults mid.write_faults new.write_faults vol writes is
+pub cause_now : (old new : Disk) (found : Redone) (why : SettleFault) → (Tells old → IsRecovered old.sizes old.now.contents found) → HasCause old new found why → HasSettleCause old new why
+cause_now old new found NoNumbers recovered is = ((ap (λ (d : Disk). d.read_faults) is.1, ap (λ (d : Disk). d.write_faults) is.1), λ told. (found, recovered told, is.0))
+cause_now old new found (Slot fault) recovered is = is
+cause_now old new found (Write vol) recovered is = is
+
+pub settle_cause_since : (old mid new : Disk) (why : SettleFault) → Touches old mid NoPlace → mid.read_faults ≡ old.read_faults → mid.write_faults ≡ old.write_faults → HasSettleCause mid new why → HasSettleCause old new why
+settle_cause_since old mid new NoNumbers touches reads writes is = ((is.0.0 ∙ reads, is.0.1 ∙ writes), lacks_since old mid touches is.1)
+settle_cause_since old mid new (Slot (Read vol)) touches reads writes is = (raised_too old.read_faults mid.read_faults new.read_faults vol reads is.0, is.1 ∙ writes)
+settle_cause_since old mid new (Slot (SlotWrite vol)) touches reads writes is = (is.0 ∙ reads, raised_too old.write_faults mid.write_faults new.write_faults vol writes is.1)
+settle_cause_since old mid new (Write vol) touches reads writes is = raised_too old.write_faults mid.write_faults new.write_faults vol writes is
 
 -- ---- pages at home
 

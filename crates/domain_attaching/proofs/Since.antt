@@ -7,8 +7,8 @@ use Rattle.volume_disk.proofs.Laws.{only_reads-leaves, then_on, touches-then, we
 use Rattle.log_recovery.specs.declared.redone.Redone.{Redone}
 use Rattle.log_settling.specs.Settling.{ReadsAs}
 use Rattle.attached_domain.specs.declared.unfit.Unfit.{Unfit}
-use Rattle.domain_attaching.specs.Attaching.{HasCause, IfNotADomain, IfNotFit, IsRecovered}
-use Rattle.domain_attaching.specs.Settling.{HasNoGroups, IfRefused, IsNotSettled, StaysReadSince, WritesNone}
+use Rattle.domain_attaching.specs.Attaching.{HasCause, IfNotADomain, IfNotFit}
+use Rattle.domain_attaching.specs.Settling.{HasNoGroups, IfRefused, IsNotSettled, IsRecovered, StaysReadSince, WritesNone}
 use Rattle.domain_attaching.specs.declared.fault.AttachFault.{AttachFault}
 use Rattle.domain_attaching.specs.declared.fault.AttachFault.TheVariants.{Fault, NotADomain, NotSettled, OutOfMemory, Unfit as NotFit}
 use Rattle.domain_attaching.proofs.Rested.{had_none, settle_cause_since}
@@ -46,4 +46,4 @@ pub not_unfit : (old new : Disk) (fault : AttachFault) (P : Unfit → Type 0) �
 not_unfit old new fault P is = subst (λ (f : AttachFault). IfNotFit f P) (sym is.1) tt
 
 pub settle_cause : (old mid new : Disk) (fault : AttachFault) → OnlyReads old mid → mid.read_faults ≡ old.read_faults → IsNotSettled mid new fault → HasCause old new fault
-settle_cause old mid new fault reads passed is = subst (HasCause old new) (sym is.1) (settle_cause_since old mid new is.0 passed reads.write_faults is.2)
+settle_cause old mid new fault reads passed is = subst (HasCause old new) (sym is.1) (settle_cause_since old mid new is.0 reads.touches passed reads.write_faults is.2)

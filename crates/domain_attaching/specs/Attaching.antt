@@ -4,8 +4,7 @@ use Rattle.domain_base.specs.declared.place.Home.{Home}
 use Rattle.page_store.specs.Pages.{Pages}
 use Rattle.volume_disk.specs.Disk.{Disk, raised_at}
 use Rattle.volume_disk.specs.Image.{Image}
-use Rattle.log_ring.specs.Groups.{Group}
-use Rattle.log_recovery.specs.Outcome.{HasRecovered, IsSound}
+use Rattle.log_recovery.specs.Outcome.{IsSound}
 use Rattle.log_recovery.specs.declared.redone.Redone.{Redone}
 use Rattle.fileset_model.specs.Filesets.{FilesetMap}
 use Rattle.domain_layout.specs.Read.{ReadsFrom}
@@ -81,10 +80,6 @@ pub record IsBroughtMemory (sizes : List ℕ) (found : BroughtMemory) : Type 0 w
   pub back : MayGoBack found.memory
   pub anchor : found.memory.frame.anchor ≡ found.redone.anchor
   pub sound : IsSound sizes found.redone
-
--- a log was recovered of an image
-abbrev pub IsRecovered : List ℕ → Image → Redone → Type 0
-IsRecovered sizes image found = (groups : List Group) × HasRecovered sizes image groups found
 
 -- the pages in memory are those of an image once its log is redone, and its anchor is the one with
 -- which that log is at rest

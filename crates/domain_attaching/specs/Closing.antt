@@ -4,7 +4,6 @@ use Rattle.domain_base.specs.declared.place.Home.{Home}
 use Rattle.page_store.specs.Pages.{Pages}
 use Rattle.volume_disk.specs.Disk.{Disk, IsSettled, MayLeave, Tells, raised_at}
 use Rattle.volume_disk.specs.Image.{Image, Places, page_at}
-use Rattle.disk_label.specs.Fault.{HasPassed}
 use Rattle.disk_label.specs.declared.anchor.Anchor.{Anchor}
 use Rattle.log_ring.specs.Homes.{IsLoggable}
 use Rattle.log_ring.specs.Settling.{IsOnPage}
@@ -43,14 +42,18 @@ abbrev pub StayHome : Pages → Anchor → Disk → Disk → Type 0
 StayHome pages anchor old new = Tells old → (home : Home)
     → IsHome pages anchor old.now.contents home → IsHome pages anchor new.now.contents home
 
--- why pages were not brought home: a call failed of the volume that is named, and the count of that
--- has risen, and no other; or no memory could be had
-abbrev pub HasCloseCause : Disk → Disk → CloseFault → Type 0
-HasCloseCause old new (Read vol) = (new.read_faults ≡ raised_at old.read_faults vol)
+-- a call failed of the volume that is named, and the count of that has risen, and no other
+abbrev pub HasFailed : Disk → Disk → CloseFault → Type 0
+HasFailed old new (Read vol) = (new.read_faults ≡ raised_at old.read_faults vol)
     × (new.write_faults ≡ old.write_faults)
-HasCloseCause old new (Write vol) = (new.read_faults ≡ old.read_faults)
+HasFailed old new (Write vol) = (new.read_faults ≡ old.read_faults)
     × (new.write_faults ≡ raised_at old.write_faults vol)
-HasCloseCause old new OutOfMemory = HasPassed old new
+HasFailed old new OutOfMemory = ⊥
+
+-- why pages were not brought home: that; or no memory could be had, and nothing was done
+abbrev pub HasCloseCause : Disk → Disk → CloseFault → Type 0
+HasCloseCause old new OutOfMemory = new ≡ old
+HasCloseCause old new fault = HasFailed old new fault
 
 -- ** A domain that is closed
 

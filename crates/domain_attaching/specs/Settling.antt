@@ -1,5 +1,5 @@
 -- What is left of a rack on which a domain is attached.
-use Rattle.std.specs.Prelude.{◌≡◌, ◌≢◌, ◌⊎◌, ◌==◌, [], IsSome, if◌then◌else◌}
+use Rattle.std.specs.Prelude.{ℕ, List, ◌≡◌, ◌≢◌, ◌⊎◌, ◌==◌, [], IsSome, if◌then◌else◌}
 use Rattle.domain_base.specs.declared.place.Home.{Home}
 use Rattle.page_store.specs.Pages.{Pages}
 use Rattle.volume_disk.specs.Disk.{Disk, MayLeave, Tells, raised_at}
@@ -8,8 +8,9 @@ use Rattle.volume_disk.specs.Run.{LeavesOnly, Touches}
 use Rattle.disk_label.specs.Fault.{HasPassed, HasSlotCause}
 use Rattle.disk_label.specs.FirstPages.{anchors_page}
 use Rattle.disk_label.specs.declared.anchor.Anchor.{Anchor}
-use Rattle.log_ring.specs.Groups.{HasLog, pages_in}
-use Rattle.log_recovery.specs.Settled.{settled_anchor}
+use Rattle.log_ring.specs.Groups.{Group, HasLog, pages_in}
+use Rattle.log_recovery.specs.Outcome.{HasRecovered}
+use Rattle.log_recovery.specs.Settled.{HasNumbersLeft, settled_anchor}
 use Rattle.log_recovery.specs.declared.redone.Redone.{Redone}
 use Rattle.log_settling.specs.Settling.{ReadsAs}
 use Rattle.log_settling.specs.declared.fault.SettleFault.{SettleFault}
@@ -17,6 +18,10 @@ use Rattle.log_settling.specs.declared.fault.SettleFault.TheVariants.{NoNumbers,
 use Rattle.domain_memory.specs.declared.memory.DomainMemory.{DomainMemory}
 use Rattle.domain_attaching.specs.declared.fault.AttachFault.{AttachFault}
 use Rattle.domain_attaching.specs.declared.fault.AttachFault.TheVariants.{NotSettled}
+
+-- a log was recovered of an image
+abbrev pub IsRecovered : List ℕ → Image → Redone → Type 0
+IsRecovered sizes image found = (groups : List Group) × HasRecovered sizes image groups found
 
 -- no group was redone
 abbrev pub HasNoGroups : Redone → Type 0
@@ -39,7 +44,7 @@ StaysReadSince old new =
     Tells old → (pages : Pages) → ReadsAs old.sizes pages old.now.contents
     → LeavesOnly old new (λ image. MayLeave old.now image ⊎ ReadsAs old.sizes pages image)
 
--- on each image that a stop might leave these pages stand at their homes
+-- on each image that a stop might leave these pages, those of anchors aside, stand at their homes
 abbrev pub StandHome : Disk → Pages → Type 0
 StandHome disk pages = (image : Image) → MayLeave disk.now image
     → (home : Home) → IsSome (pages home) → home.page ≢ anchors_page
@@ -50,10 +55,15 @@ abbrev pub WritesNone : Disk → Disk → Type 0
 WritesNone old new = Tells old → (anchor : Anchor)
     → HasLog old.sizes anchor [] old.now.contents → Touches old new NoPlace
 
+-- the log that a rack has, if it tells that, was recovered and has no numbers left
+abbrev pub LacksNumbers : Disk → Type 0
+LacksNumbers disk = Tells disk → (found : Redone)
+    × IsRecovered disk.sizes disk.now.contents found × (¬ HasNumbersLeft found)
+
 -- why a log was not settled: it has no numbers left, and then no call has failed; or a call failed
 -- of the volume that is named, and the count of that has risen
 abbrev pub HasSettleCause : Disk → Disk → SettleFault → Type 0
-HasSettleCause old new NoNumbers = HasPassed old new
+HasSettleCause old new NoNumbers = HasPassed old new × LacksNumbers old
 HasSettleCause old new (Slot fault) = HasSlotCause old new fault
 HasSettleCause old new (Write vol) = new.write_faults ≡ raised_at old.write_faults vol
 

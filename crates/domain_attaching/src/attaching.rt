@@ -3,7 +3,8 @@ ghost use Rattle.std.specs.Prelude.{◌≡◌, IfErr, IfOk};
 ghost use Rattle.domain_layout.specs.Read.{Means};
 ghost use Rattle.fileset_model.specs.Filesets.{FilesetMap};
 ghost use Rattle.volume_disk.specs.Disk.{Tells};
-ghost use Rattle.volume_disk.specs.Run.{OnlyReads};
+ghost use Rattle.volume_disk.specs.Run.{OnlyReads, Touches};
+ghost use Rattle.log_settling.specs.Settling.{Anywhere};
 ghost use Rattle.staged_pages.specs.Store.{before_of};
 ghost use Rattle.domain_memory.specs.Memory.{StandsFor};
 ghost use Rattle.domain_bringing.specs.Fault.{IsNoDomain};
@@ -19,7 +20,8 @@ use volume_disk::Rack;
 
 /// Attaches the domain that a rack has, which then stands for the filesets that its volumes mean:
 /// brings its memory, syncs each volume, and settles the log where that has a group. The rack is at
-/// rest then: its log has no group, and the pages in memory stand at their homes. Whatever it
+/// rest then: its log has no group, and the pages in memory, those of anchors aside, stand at their
+/// homes; its volumes have the sizes that they had, and it tells what it holds if it did. Whatever it
 /// answers, recovery takes each image that a stop may leave since the volumes are synced, with the
 /// pages that the rack's had at the start; and where the log had no group nothing is written. The
 /// rack comes back with a fault.
@@ -42,6 +44,10 @@ pub fn attach<R: Rack>(alloc: Global, rack: R) -> Result<Attached<R>, (R, Attach
         StaysReadSince (R.disk rack) (R.disk attached.rack)) }
     ensures any_moment_of_fault { IfErr result (λ back.
         StaysReadSince (R.disk rack) (R.disk back.0)) }
+    ensures touches { IfOk result (λ attached.
+        Touches (R.disk rack) (R.disk attached.rack) Anywhere) }
+    ensures touches_at_fault { IfErr result (λ back.
+        Touches (R.disk rack) (R.disk back.0) Anywhere) }
     ensures none { IfOk result (λ attached.
         WritesNone (R.disk rack) (R.disk attached.rack)) }
     ensures none_at_fault { IfErr result (λ back. WritesNone (R.disk rack) (R.disk back.0)) }

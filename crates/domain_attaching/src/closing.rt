@@ -39,12 +39,11 @@ fn write_back<R: Rack>(alloc: Global, rack: &mut R, memory: &DomainMemory) -> Re
 }
 
 /// Closes a domain over which no change is laid, and gives its rack back: each page in memory that
-/// the rack has otherwise is written to its home, once, and each volume is synced. The log has no
-/// group, before and after, so the volumes mean then what the domain stood for.
+/// the rack has otherwise is written to its home, and each volume is synced. The log has no group,
+/// before and after, so the volumes mean then what the domain stood for.
 ///
 /// `Read` and `Write` come where a call failed of the volume that they name; then some of the pages
-/// may have been written, and what the volumes mean is not told. At `OutOfMemory` nothing was
-/// written.
+/// may have been written, and what the volumes mean is not told. At `OutOfMemory` no call was made.
 pub fn close<R: Rack, O: Opening>(alloc: Global, domain: Domain<R, O>) -> Result<R, (R, CloseFault)>
     requires settled { ∥ IsSettled domain.memory ∥₁ }
     ensures closed { IfOk result (λ rack. Tells (R.disk domain.history.rack)

@@ -10,7 +10,7 @@ pub enum CloseFault {
     Read { vol: VolIx },
     /// A write or a sync of this volume failed.
     Write { vol: VolIx },
-    /// No memory could be had: nothing was written.
+    /// No memory could be had: no call was made.
     OutOfMemory,
 }
 

@@ -8,7 +8,7 @@ ghost use Rattle.staged_pages.specs.Store.{pages_of};
 ghost use Rattle.volume_disk.specs.Disk.{Tells};
 ghost use Rattle.volume_disk.specs.Image.{page_at};
 ghost use Rattle.volume_disk.specs.Run.{NamesWriteFault, OnlyWrites, Touches};
-ghost use Rattle.domain_attaching.specs.Closing.{AreHome, AreHomeBelow, AreHomeOn, HasCloseCause, IsHome, IsOnLoggable, StayHome};
+ghost use Rattle.domain_attaching.specs.Closing.{AreHome, AreHomeBelow, AreHomeOn, HasFailed, IsHome, IsOnLoggable, StayHome};
 
 use crate::closing_fault::CloseFault;
 use disk_label::ANCHORS_PAGE;
@@ -52,7 +52,7 @@ fn bring_page_home<R: Rack>(
     ensures there { OnOk result (Tells (R.disk rack.old)
         → page_at (R.disk rack.new).now.contents home.now.vol home.now.page ≡ page.now) }
     ensures passed { OnOk result (HasPassed (R.disk rack.old) (R.disk rack.new)) }
-    ensures cause { IfErr result (HasCloseCause (R.disk rack.old) (R.disk rack.new)) }
+    ensures cause { IfErr result (HasFailed (R.disk rack.old) (R.disk rack.new)) }
 {
     match read_blocks(rack, home.vol, BLOCKS_PER_PAGE * home.page, found) {
         Ok(()) => {}
@@ -85,7 +85,7 @@ fn bring_home_at<R: Rack>(
     ensures there { OnOk result (Tells (R.disk rack.old) → IsHome (pages_of pages.now)
         frame.now.anchor (R.disk rack.new).now.contents home.now) }
     ensures passed { OnOk result (HasPassed (R.disk rack.old) (R.disk rack.new)) }
-    ensures cause { IfErr result (HasCloseCause (R.disk rack.old) (R.disk rack.new)) }
+    ensures cause { IfErr result (HasFailed (R.disk rack.old) (R.disk rack.new)) }
 {
     if !is_loggable(frame, home) {
         return Ok(());
@@ -114,7 +114,7 @@ fn bring_home_on<R: Rack>(
         → AreHomeBelow vol (pages_of pages.now) frame.now.anchor old.now.contents
         → AreHomeBelow (vol + 1) (pages_of pages.now) frame.now.anchor new.now.contents) }
     ensures passed { OnOk result (HasPassed (R.disk rack.old) (R.disk rack.new)) }
-    ensures cause { IfErr result (HasCloseCause (R.disk rack.old) (R.disk rack.new)) }
+    ensures cause { IfErr result (HasFailed (R.disk rack.old) (R.disk rack.new)) }
 {
     for page in 0..frame.member(vol).pages {
         bring_home_at(rack, frame, pages, &Home { vol, page }, found)?;
@@ -137,7 +137,7 @@ pub(crate) fn bring_pages_home<R: Rack>(
     ensures home { OnOk result (Tells (R.disk rack.old)
         → AreHome (pages_of pages.now) frame.now.anchor (R.disk rack.new).now.contents) }
     ensures passed { OnOk result (HasPassed (R.disk rack.old) (R.disk rack.new)) }
-    ensures cause { IfErr result (HasCloseCause (R.disk rack.old) (R.disk rack.new)) }
+    ensures cause { IfErr result (HasFailed (R.disk rack.old) (R.disk rack.new)) }
 {
     for number in 1..MAX_VOLUMES + 1 {
         let Some(vol) = VolIx::new(number) else {

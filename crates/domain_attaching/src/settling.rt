@@ -6,11 +6,12 @@ ghost use Rattle.volume_disk.specs.Disk.{IsSettled, Tells};
 ghost use Rattle.volume_disk.specs.Image.{NoPlace};
 ghost use Rattle.volume_disk.specs.Run.{Touches};
 ghost use Rattle.domain_state.specs.Rest.{IsAtRest};
-ghost use Rattle.domain_attaching.specs.Attaching.{IsBroughtMemory, IsRecovered};
+ghost use Rattle.domain_attaching.specs.Attaching.{IsBroughtMemory};
 ghost use Rattle.domain_attaching.specs.Settling.{
   HasNoGroups,
   HasSettleCause,
   IsNotSettled,
+  IsRecovered,
   StaysReadSince,
   rested_anchor,
   with_anchor,
@@ -55,6 +56,7 @@ fn settle_synced<R: Rack>(rack: &mut R, redone: &Redone) -> Result<Anchor, Settl
     ensures home { IfOk result (λ _. StandsAtHome (R.disk rack.old) (R.disk rack.new)) }
     ensures any_moment { StaysReadSince (R.disk rack.old) (R.disk rack.new) }
     ensures none { HasNoGroups redone.now → Touches (R.disk rack.old) (R.disk rack.new) NoPlace }
+    ensures touches { Touches (R.disk rack.old) (R.disk rack.new) Anywhere }
     ensures cause { IfErr result (HasSettleCause (R.disk rack.old) (R.disk rack.new)) }
 {
     match sync_volumes(rack) {
@@ -79,6 +81,10 @@ pub(crate) fn attach_brought<R: Rack>(
         StaysReadSince (R.disk rack) (R.disk attached.rack)) }
     ensures any_moment_of_fault { IfErr result (λ back.
         StaysReadSince (R.disk rack) (R.disk back.0)) }
+    ensures touches { IfOk result (λ attached.
+        Touches (R.disk rack) (R.disk attached.rack) Anywhere) }
+    ensures touches_at_fault { IfErr result (λ back.
+        Touches (R.disk rack) (R.disk back.0) Anywhere) }
     ensures none { IfOk result (λ attached. HasNoGroups found.redone
         → Touches (R.disk rack) (R.disk attached.rack) NoPlace) }
     ensures none_at_fault { IfErr result (λ back. HasNoGroups found.redone

@@ -4,7 +4,8 @@ use Rattle.volume_disk.specs.Disk.{Tells}
 use Rattle.volume_disk.specs.Image.{NoPlace}
 use Rattle.volume_disk.specs.Run.{OnlyReads, Touches}
 use Rattle.staged_pages.specs.Store.{before_of}
-use Rattle.log_settling.specs.Settling.{StandsAtHome}
+use Rattle.log_settling.specs.Settling.{Anywhere, StandsAtHome}
+use Rattle.log_settling.proofs.Settled.{anywhere, anywhere_then}
 use Rattle.domain_layout.specs.Read.{Means}
 use Rattle.domain_memory.specs.Memory.{StandsFor}
 use Rattle.domain_memory.specs.declared.memory.DomainMemory.{DomainMemory}
@@ -118,3 +119,20 @@ returns-in-Ok-clause-none_at_fault g c =
 
 pub returns-in-Err-clause-none_at_fault : goal.returns-in-Err-clause-none_at_fault
 returns-in-Err-clause-none_at_fault g c = λ told anchor log. c.bring_memory.ensures.reads.touches
+
+pub returns-in-Ok-clause-touches : goal.returns-in-Ok-clause-touches
+returns-in-Ok-clause-touches g c =
+    let old = g.R.Rack.disk c.args.rack in
+    let mid = g.R.Rack.disk c.bring_memory.new.rack in
+    ok_too c.attach_brought.result (λ attached. Touches mid (g.R.Rack.disk attached.rack) Anywhere) (λ attached. Touches old (g.R.Rack.disk attached.rack) Anywhere)
+    (λ attached is. anywhere_then old mid (g.R.Rack.disk attached.rack) NoPlace Anywhere c.bring_memory.ensures.reads.touches is) c.attach_brought.ensures.touches
+
+pub returns-in-Ok-clause-touches_at_fault : goal.returns-in-Ok-clause-touches_at_fault
+returns-in-Ok-clause-touches_at_fault g c =
+    let old = g.R.Rack.disk c.args.rack in
+    let mid = g.R.Rack.disk c.bring_memory.new.rack in
+    err_too c.attach_brought.result (λ back. Touches mid (g.R.Rack.disk back.0) Anywhere) (λ back. Touches old (g.R.Rack.disk back.0) Anywhere)
+    (λ back is. anywhere_then old mid (g.R.Rack.disk back.0) NoPlace Anywhere c.bring_memory.ensures.reads.touches is) c.attach_brought.ensures.touches_at_fault
+
+pub returns-in-Err-clause-touches_at_fault : goal.returns-in-Err-clause-touches_at_fault
+returns-in-Err-clause-touches_at_fault g c = anywhere (g.R.Rack.disk c.args.rack) (g.R.Rack.disk c.bring_memory.new.rack) NoPlace c.bring_memory.ensures.reads.touches

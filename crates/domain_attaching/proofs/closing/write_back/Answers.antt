@@ -2,7 +2,7 @@ use Rattle.std.proofs.Common.{◌∙◌}
 use Rattle.volume_disk.proofs.Laws.{touches-then}
 use Rattle.staged_pages.specs.Store.{pages_of}
 use Rattle.domain_attaching.specs.Closing.{IsOnLoggable}
-use Rattle.domain_attaching.proofs.HomeKept.{none_wider, stay_untouched}
+use Rattle.domain_attaching.proofs.HomeKept.{failed_so, none_wider, stay_untouched}
 use Rattle.domain_attaching.proofs.closing.write_back.Goals as goal
 
 pub returns-in-Ok-sync_volumes-clause-touches : goal.returns-in-Ok-sync_volumes-clause-touches
@@ -26,3 +26,6 @@ returns-clause-touches g c =
     let new = g.R.Rack.disk c.sync_volumes.new.rack in
     let places = IsOnLoggable c.args.memory.now.frame.anchor in
     touches-then old mid new places c.bring_pages_home.ensures.touches (none_wider mid new places c.sync_volumes.ensures.writes.touches)
+
+pub returns-in-Err-clause-cause : goal.returns-in-Err-clause-cause
+returns-in-Err-clause-cause g c = failed_so (g.R.Rack.disk c.args.rack.now) (g.R.Rack.disk c.bring_pages_home.new.rack) c.in-Err.fault c.in-Err.ensures.cause

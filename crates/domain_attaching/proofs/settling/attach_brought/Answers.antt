@@ -2,7 +2,7 @@ use Rattle.std.proofs.Common.{◌∙◌, sym, ap, subst}
 use Rattle.volume_disk.specs.Disk.{Disk}
 use Rattle.volume_disk.specs.Image.{NoPlace}
 use Rattle.volume_disk.specs.Run.{Touches}
-use Rattle.log_settling.specs.Settling.{StandsAtHome}
+use Rattle.log_settling.specs.Settling.{Anywhere, StandsAtHome}
 use Rattle.disk_label.specs.declared.anchor.Anchor.{Anchor}
 use Rattle.domain_attaching.specs.Settling.{HasNoGroups, StaysReadSince, with_anchor}
 use Rattle.domain_attaching.proofs.Anew.{back_new, settled_new, stands_new}
@@ -33,3 +33,6 @@ returns-in-Ok-clause-any_moment g c = subst (λ (d : Disk). StaysReadSince (g.R.
 
 pub returns-in-Ok-clause-none : goal.returns-in-Ok-clause-none
 returns-in-Ok-clause-none g c = subst (λ (d : Disk). HasNoGroups c.args.found.redone → Touches (g.R.Rack.disk c.args.rack) d NoPlace) (sym (ap g.R.Rack.disk c.of_memory.ensures.rack)) c.settle_synced.ensures.none
+
+pub returns-in-Ok-clause-touches : goal.returns-in-Ok-clause-touches
+returns-in-Ok-clause-touches g c = subst (λ (d : Disk). Touches (g.R.Rack.disk c.args.rack) d Anywhere) (sym (ap g.R.Rack.disk c.of_memory.ensures.rack)) c.settle_synced.ensures.touches

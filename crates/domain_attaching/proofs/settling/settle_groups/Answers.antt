@@ -1,6 +1,9 @@
 use Rattle.volume_disk.proofs.Laws.{only_reads-none}
 use Rattle.log_settling.proofs.Settled.{read_still}
-use Rattle.domain_attaching.proofs.Rested.{none_behind, none_home}
+use Rattle.log_settling.specs.Settling.{HasCause}
+use Rattle.domain_attaching.specs.Settling.{HasSettleCause}
+use Rattle.domain_attaching.proofs.Mapped.{err_too}
+use Rattle.domain_attaching.proofs.Rested.{cause_now, none_behind, none_home}
 use Rattle.domain_attaching.proofs.settling.settle_groups.Goals as goal
 
 pub returns-then-redone-clause-behind : goal.returns-then-redone-clause-behind
@@ -11,3 +14,9 @@ returns-then-redone-clause-home g c = none_home (g.R.Rack.disk c.args.rack.now) 
 
 pub returns-then-redone-clause-any_moment : goal.returns-then-redone-clause-any_moment
 returns-then-redone-clause-any_moment g c = let disk = g.R.Rack.disk c.args.rack.now in read_still disk disk c.requires.pending (only_reads-none disk)
+
+pub returns-clause-cause : goal.returns-clause-cause
+returns-clause-cause g c =
+    let old = g.R.Rack.disk c.args.rack.now in
+    let new = g.R.Rack.disk c.settle_log.new.rack in
+    err_too c.settle_log.result (HasCause old new c.args.redone.now) (HasSettleCause old new) (λ why is. cause_now old new c.args.redone.now why c.requires.recovered is) c.settle_log.ensures.cause

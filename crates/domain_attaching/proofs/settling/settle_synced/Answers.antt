@@ -2,7 +2,8 @@ use Rattle.std.proofs.Common.{sym, subst}
 use Rattle.volume_disk.specs.Disk.{Disk}
 use Rattle.volume_disk.specs.Image.{NoPlace}
 use Rattle.volume_disk.specs.Run.{Touches}
-use Rattle.log_settling.specs.Settling.{StandsAtHome}
+use Rattle.log_settling.specs.Settling.{Anywhere, StandsAtHome}
+use Rattle.log_settling.proofs.Settled.{anywhere, anywhere_then}
 use Rattle.domain_attaching.specs.Settling.{HasSettleCause}
 use Rattle.domain_attaching.proofs.Mapped.{err_too, ok_too}
 use Rattle.domain_attaching.proofs.Rested.{home_since, read_since, recovered_synced, rests_if, settle_cause_since, sound_synced, still_since, told_synced}
@@ -37,10 +38,17 @@ returns-in-Ok-clause-cause g c =
     let old = g.R.Rack.disk c.args.rack.now in
     let mid = g.R.Rack.disk c.sync_volumes.new.rack in
     let new = g.R.Rack.disk c.settle_groups.new.rack in
-    err_too c.settle_groups.result (HasSettleCause mid new) (HasSettleCause old new) (λ why is. settle_cause_since old mid new why c.sync_volumes.ensures.writes.read_faults c.in-Ok.ensures.fault is) c.settle_groups.ensures.cause
+    err_too c.settle_groups.result (HasSettleCause mid new) (HasSettleCause old new) (λ why is. settle_cause_since old mid new why c.sync_volumes.ensures.writes.touches c.sync_volumes.ensures.writes.read_faults c.in-Ok.ensures.fault is) c.settle_groups.ensures.cause
 
 pub returns-in-Err-clause-any_moment : goal.returns-in-Err-clause-any_moment
 returns-in-Err-clause-any_moment g c = still_since (g.R.Rack.disk c.args.rack.now) (g.R.Rack.disk c.sync_volumes.new.rack) c.sync_volumes.ensures.writes.touches
 
 pub returns-in-Ok-clause-none : goal.returns-in-Ok-clause-none
 returns-in-Ok-clause-none g c = λ none. subst (λ (d : Disk). Touches (g.R.Rack.disk c.args.rack.now) d NoPlace) (sym (c.settle_groups.ensures.none none)) c.sync_volumes.ensures.writes.touches
+
+pub returns-in-Ok-clause-touches : goal.returns-in-Ok-clause-touches
+returns-in-Ok-clause-touches g c =
+    anywhere_then (g.R.Rack.disk c.args.rack.now) (g.R.Rack.disk c.sync_volumes.new.rack) (g.R.Rack.disk c.settle_groups.new.rack) NoPlace Anywhere c.sync_volumes.ensures.writes.touches c.settle_groups.ensures.touches
+
+pub returns-in-Err-clause-touches : goal.returns-in-Err-clause-touches
+returns-in-Err-clause-touches g c = anywhere (g.R.Rack.disk c.args.rack.now) (g.R.Rack.disk c.sync_volumes.new.rack) NoPlace c.sync_volumes.ensures.writes.touches
