@@ -53,6 +53,7 @@ use Rattle.domain_memory.specs.Staged.{staged_in}
 use Rattle.domain_memory.specs.declared.memory.DomainMemory.{DomainMemory}
 use Rattle.domain_parts.proofs.Listed.{once_all, put_adds, put_both}
 use Rattle.page_stages.proofs.Changed.{around_file, changed_staged, parents_stay}
+use Rattle.page_stages.proofs.Roomy.{roomy, roomy_has, roomy_parents}
 use Rattle.page_stages.proofs.Seen.{bytes_follow, its_chain, keep_said, place_live, stays}
 use Rattle.page_stages.specs.Stages.{HasFile, IsFileIn, ListsLeft, StandsChanged}
 
@@ -225,30 +226,34 @@ module _ (old new : DomainMemory) (same : new ≡ record old { pages = new.pages
         (λ page home at. sym (changes.bytes.own page home (λ none. none) (sym (place_live chains tag live state is_state page) ∙ cut_home size t.lowered state page home at)))
         (cut_is d.contents state size t.lowered node from filled)
 
-    pub cut_parents : HaveParents d → HaveParents now
+    cut_parents : HaveParents d → HaveParents now
     cut_parents = parents_stay old number tag path all entry fileset has new (cut size t.lowered) (λ k. ⊥) changes
 
-    pub file_cut : length new.listed.items ≤ new.list.room → StandsChanged path (cut_to size) all entry fileset new
+    file_cut : length new.listed.items ≤ new.list.room → StandsChanged path (cut_to size) all entry fileset new
     file_cut room = changed_staged old number tag path all entry fileset has new (ap (λ (m : DomainMemory). m.list) same) room (λ vol. ap (λ (m : DomainMemory). volume_of (kept_spaces m.space) vol) same) (cut size t.lowered) (λ k. ⊥) changes (cut_to size) (cut_keeps size) live
         (λ state is_state. removing_same size t.lowered state (stays chains tag live state is_state)) turns
 
--- whichever end the call has
-pub cut_end : {E : Type 0} (old new : DomainMemory) → new ≡ record old { pages = new.pages; listed = new.listed } → (number : ℕ) (tag : Tag) (size : ℕ) (files : SlotFiles) → slot_in old.slots.items number ≡ Some files → files.files.fileset ≡ number → IsFileIn old number tag → (left : Option CellAt)
+-- where room is made on the list for it, whichever end that has
+pub cut_end : {X E : Type 0} (old new : DomainMemory) → new ≡ record old { pages = new.pages; list = new.list; listed = new.listed } → new.list.list ≡ old.list.list → old.list.room ≤ new.list.room
+    → (number : ℕ) (tag : Tag) (size : ℕ) (files : SlotFiles) → slot_in old.slots.items number ≡ Some files → files.files.fileset ≡ number → IsFileIn old number tag → (left : Option CellAt) → ListsLeft left old.listed.items new.listed.items
     → ((chains : Chains) → AreFiles files.files.fileset files.files.tags (pages_of old.pages) chains → Truncates files.files.fileset files.files.tags tag size left chains (pages_of new.pages))
     → ((chains : Chains) → AreTogether files.files.fileset files.files.tags old.space old.cells (pages_of old.pages) chains → TruncatesTogether files.files.fileset files.files.tags tag size old.space old.cells chains (pages_of new.pages))
     → ((chains : Chains) → AreFiles files.files.fileset files.files.tags (pages_of old.pages) chains → ChangesFirst (chains tag) (pages_of old.pages) (pages_of new.pages))
-    → {X : Type 0} (r : Result X E) → OnOk r (ListsLeft left old.listed.items new.listed.items) → (path : Path) (all : FilesetMap) (entry : FilesetEntry) (fileset : FilesetSlot) → HasFile old number tag path all entry fileset
-    → OnOk r (length new.listed.items ≤ new.list.room → StandsChanged path (cut_to size) all entry fileset new)
-cut_end old new same number tag size files is number_is file left truncates together beside (Ok x) lists path all entry fileset has =
-    file_cut old new same number tag size files is number_is file left lists truncates together beside path all entry fileset has
-cut_end old new same number tag size files is number_is file left truncates together beside (Err e) lists path all entry fileset has = tt
+    → (r : Result X E) → OnOk r (length new.listed.items ≤ new.list.room) → (path : Path) (all : FilesetMap) (entry : FilesetEntry) (fileset : FilesetSlot) → HasFile old number tag path all entry fileset
+    → OnOk r (StandsChanged path (cut_to size) all entry fileset new)
+cut_end old new same list more number tag size files is number_is file left lists truncates together beside (Ok x) room path all entry fileset has =
+    file_cut (roomy old new list more) new same number tag size files is number_is file left lists truncates together beside path all entry fileset
+    (roomy_has old new list more number tag path all entry fileset has) room
+cut_end old new same list more number tag size files is number_is file left lists truncates together beside (Err e) room path all entry fileset has = tt
 
-pub parents_end : {E : Type 0} (old new : DomainMemory) → new ≡ record old { pages = new.pages; listed = new.listed } → (number : ℕ) (tag : Tag) (size : ℕ) (files : SlotFiles) → slot_in old.slots.items number ≡ Some files → files.files.fileset ≡ number → IsFileIn old number tag → (left : Option CellAt)
+pub parents_end : {X E : Type 0} (old new : DomainMemory) → new ≡ record old { pages = new.pages; list = new.list; listed = new.listed } → new.list.list ≡ old.list.list → old.list.room ≤ new.list.room
+    → (number : ℕ) (tag : Tag) (size : ℕ) (files : SlotFiles) → slot_in old.slots.items number ≡ Some files → files.files.fileset ≡ number → IsFileIn old number tag → (left : Option CellAt) → ListsLeft left old.listed.items new.listed.items
     → ((chains : Chains) → AreFiles files.files.fileset files.files.tags (pages_of old.pages) chains → Truncates files.files.fileset files.files.tags tag size left chains (pages_of new.pages))
     → ((chains : Chains) → AreTogether files.files.fileset files.files.tags old.space old.cells (pages_of old.pages) chains → TruncatesTogether files.files.fileset files.files.tags tag size old.space old.cells chains (pages_of new.pages))
     → ((chains : Chains) → AreFiles files.files.fileset files.files.tags (pages_of old.pages) chains → ChangesFirst (chains tag) (pages_of old.pages) (pages_of new.pages))
-    → {X : Type 0} (r : Result X E) → OnOk r (ListsLeft left old.listed.items new.listed.items) → (path : Path) (all : FilesetMap) (entry : FilesetEntry) (fileset : FilesetSlot) → HasFile old number tag path all entry fileset
+    → (r : Result X E) → (path : Path) (all : FilesetMap) (entry : FilesetEntry) (fileset : FilesetSlot) → HasFile old number tag path all entry fileset
     → HaveParents (staged_in old) → OnOk r (HaveParents (staged_in new))
-parents_end old new same number tag size files is number_is file left truncates together beside (Ok x) lists path all entry fileset has had =
-    cut_parents old new same number tag size files is number_is file left lists truncates together beside path all entry fileset has had
-parents_end old new same number tag size files is number_is file left truncates together beside (Err e) lists path all entry fileset has had = tt
+parents_end old new same list more number tag size files is number_is file left lists truncates together beside (Ok x) path all entry fileset has had =
+    cut_parents (roomy old new list more) new same number tag size files is number_is file left lists truncates together beside path all entry fileset
+    (roomy_has old new list more number tag path all entry fileset has) (roomy_parents old new list more had)
+parents_end old new same list more number tag size files is number_is file left lists truncates together beside (Err e) path all entry fileset has had = tt

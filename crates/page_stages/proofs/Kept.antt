@@ -113,6 +113,8 @@ module _ (old new : DomainMemory) (same : new ≡ record old { pages = new.pages
     list = ap (λ (m : DomainMemory). m.list.list) same;
   }
 
+-- where there is more room on the list too
+module _ (old new : DomainMemory) (same : new ≡ record old { pages = new.pages; space = new.space; cells = new.cells; list = new.list; listed = new.listed }) where
   pub back_kept : ∥ MayGoBack old ∥₁ → ∥ MayGoBack new ∥₁
   back_kept may = ∥∥₁_map may (λ m. record {
     has = record {

@@ -7,6 +7,7 @@ pub mod Seen
 pub mod Stood
 pub mod Given
 pub mod Put
+pub mod Roomy
 pub mod Sized
 pub mod Cut
 pub mod Looked

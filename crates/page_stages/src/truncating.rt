@@ -1,5 +1,5 @@
 //! Files that are cut.
-ghost use Rattle.std.specs.Prelude.{◌≡◌, ◌≤◌, true, OnErr, OnOk, length, slice_get};
+ghost use Rattle.std.specs.Prelude.{◌≡◌, true, OnErr, OnOk, slice_get};
 ghost use Rattle.fileset_model.specs.Filesets.{FilesetMap};
 ghost use Rattle.fileset_model.specs.Orders.{Path};
 ghost use Rattle.fileset_model.specs.declared.fileset.FilesetSlot.{FilesetSlot};
@@ -29,8 +29,9 @@ fn list_left(listed: &mut Vec<CellAt>, left: Option<CellAt>) -> Result<(), OutOf
 
 /// Cuts a file of the fileset in a slot, an original, to a size in bytes: of its pages it has those
 /// that begin in front of its end. Where pages lie behind it, its first cell says that they are to
-/// be let go of, and is listed, for which there has to be room once the change is kept. There may
-/// only be no memory. After an Err the change may be half made: it is to be taken back.
+/// be let go of, and is listed; there is room on the list then for what the change has listed.
+/// There may only be no memory. After an Err the change may be half made: it is to be taken back;
+/// what was kept stays.
 pub fn truncate(
     memory: &mut DomainMemory,
     alloc: Global,
@@ -44,8 +45,7 @@ pub fn truncate(
     requires file { IsFileIn memory.old number tag }
     ensures ok { (path : Path) (all : FilesetMap) (entry : FilesetEntry) (fileset : FilesetSlot)
         → HasFile memory.old number tag path all entry fileset → OnOk result
-        (length memory.new.listed.items ≤ memory.new.list.room
-        → StandsChanged path (cut_to size) all entry fileset memory.new) }
+        (StandsChanged path (cut_to size) all entry fileset memory.new) }
     ensures parents { (path : Path) (all : FilesetMap) (entry : FilesetEntry)
         (fileset : FilesetSlot) → HasFile memory.old number tag path all entry fileset
         → HaveParents (staged_in memory.old) → OnOk result (HaveParents (staged_in memory.new)) }
@@ -54,5 +54,6 @@ pub fn truncate(
 {
     let slot = files_in(&memory.slots, number);
     let left = slot.files.truncate(alloc, &mut memory.pages, tag, size)?;
-    list_left(&mut memory.listed, left)
+    list_left(&mut memory.listed, left)?;
+    memory.list.reserve(memory.listed.len())
 }

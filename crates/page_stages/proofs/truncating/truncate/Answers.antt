@@ -1,4 +1,4 @@
-use Rattle.std.proofs.Common.{◌≡◌, ◌∙◌, IsSome, IsSomeAnd, List, Option, Some, None, ap, refl, subst, sym}
+use Rattle.std.proofs.Common.{◌≡◌, ◌∙◌, ◌≤◌, ℕ, IsSome, IsSomeAnd, List, OnOk, Option, Some, None, length, rules, vec_len, ap, refl, subst, sym}
 use Rattle.std.specs.Option.{option_and_then}
 use Rattle.domain_base.specs.declared.place.Kind.TheVariants.{File}
 use Rattle.bitfile_core.specs.declared.attributes.Attributes.{Attributes}
@@ -32,21 +32,25 @@ truncate-requires-clause-live c = λ chains are.
 pub returns-in_err-left-clause-back : goal.returns-in_err-left-clause-back
 returns-in_err-left-clause-back c = back_kept c.args.memory.now _ refl c.requires.back
 
+pub returns-in_err-list_left-clause-back : goal.returns-in_err-list_left-clause-back
+returns-in_err-list_left-clause-back c = back_kept c.args.memory.now _ refl c.requires.back
+
 pub returns-clause-ok : goal.returns-clause-ok
 returns-clause-ok c = λ path all entry fileset has.
     let memory = c.args.memory.now in
     let slot = c.files_in-slot.result.now in
     let is = ap (λ (slots : List (Option SlotFiles)). slot_in slots c.args.number) (sym c.deref.ensures.value) ∙ c.files_in-slot.ensures in
-    cut_end memory _ refl c.args.number c.args.tag c.args.size slot is (its_number memory c.args.number c.requires.stands c.requires.back c.requires.original slot is) c.requires.file c.in_ok-left.left
-    c.in_ok-left.ensures.ok (λ chains are. c.in_ok-left.ensures.together memory.space memory.cells chains are) c.truncate.ensures.beside c.list_left.result c.list_left.ensures.ok path all entry fileset has
+    let whole : vec_len c.list_left.new.listed ≡ length c.list_left.new.listed.items = search rules in
+    cut_end memory (record memory { pages = c.truncate.new.pages; list = c.reserve.new.self; listed = c.list_left.new.listed }) refl c.reserve.ensures.list c.reserve.ensures.room c.args.number c.args.tag c.args.size slot is (its_number memory c.args.number c.requires.stands c.requires.back c.requires.original slot is) c.requires.file
+    c.in_ok-left.left c.in_ok-list_left.ensures.ok c.in_ok-left.ensures.ok (λ chains are. c.in_ok-left.ensures.together memory.space memory.cells chains are) c.truncate.ensures.beside c.reserve.result (subst (λ (n : ℕ). OnOk c.reserve.result (n ≤ c.reserve.new.self.room)) (c.len.ensures ∙ whole) c.reserve.ensures.ok) path all entry fileset has
 
 pub returns-clause-parents : goal.returns-clause-parents
 returns-clause-parents c = λ path all entry fileset has had.
     let memory = c.args.memory.now in
     let slot = c.files_in-slot.result.now in
     let is = ap (λ (slots : List (Option SlotFiles)). slot_in slots c.args.number) (sym c.deref.ensures.value) ∙ c.files_in-slot.ensures in
-    parents_end memory (record memory { pages = c.truncate.new.pages; listed = c.list_left.new.listed }) refl c.args.number c.args.tag c.args.size slot is (its_number memory c.args.number c.requires.stands c.requires.back c.requires.original slot is) c.requires.file c.in_ok-left.left
-    c.in_ok-left.ensures.ok (λ chains are. c.in_ok-left.ensures.together memory.space memory.cells chains are) c.truncate.ensures.beside c.list_left.result c.list_left.ensures.ok path all entry fileset has had
+    parents_end memory (record memory { pages = c.truncate.new.pages; list = c.reserve.new.self; listed = c.list_left.new.listed }) refl c.reserve.ensures.list c.reserve.ensures.room c.args.number c.args.tag c.args.size slot is (its_number memory c.args.number c.requires.stands c.requires.back c.requires.original slot is) c.requires.file
+    c.in_ok-left.left c.in_ok-list_left.ensures.ok c.in_ok-left.ensures.ok (λ chains are. c.in_ok-left.ensures.together memory.space memory.cells chains are) c.truncate.ensures.beside c.reserve.result path all entry fileset has had
 
 pub returns-clause-back : goal.returns-clause-back
 returns-clause-back c = back_kept c.args.memory.now _ refl c.requires.back
