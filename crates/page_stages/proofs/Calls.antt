@@ -1,29 +1,46 @@
 -- What a file tells that gets no page.
-use Rattle.std.proofs.Common.{◌<◌, ℕ, List, Option, Some, None, IfErr, IsSomeAnd, Result, Ok, Err, inl, inr, ⊎_elim}
+use Rattle.std.proofs.Common.{◌≡◌, ◌∙◌, ◌<◌, ℕ, List, Option, Some, None, IfErr, IsSomeAnd, Result, Ok, Err, inl, inr, refl, sym, subst, ⊎_elim}
 use Rattle.std.specs.Option.{option_and_then}
 use Rattle.std.specs.Result.{IsErrAnd}
 use Rattle.domain_base.specs.declared.place.Tag.{Tag}
 use Rattle.page_store.specs.declared.fault.StoreFault.{StoreFault}
 use Rattle.page_store.specs.declared.fault.StoreFault.TheVariants.{NoPage, OutOfMemory}
 use Rattle.bmt_mcells.specs.Chain.{PlacedCell}
-use Rattle.free_cells.specs.Cells.{Cells}
+use Rattle.extent_maps.specs.declared.run.PagePlace.TheVariants.{At}
 use Rattle.free_space.specs.Spaces.{Spaces}
+use Rattle.bitfile_cells.specs.MapChanges.{NoneTakes}
 use Rattle.bitfile_core.specs.Files.{Chains, keep_of, of_live}
 use Rattle.bitfile_core.specs.Pages.{GetsNone, MayGrow}
-use Rattle.page_stages.specs.Stages.{GivesNone}
+use Rattle.bitfile_core.proofs.Created.{one_chains}
+use Rattle.staged_pages.specs.Store.{pages_of}
+use Rattle.domain_parts.specs.Slots.{places_in, slot_in}
+use Rattle.domain_memory.specs.declared.memory.DomainMemory.{DomainMemory}
+use Rattle.page_stages.specs.Stages.{AreFilesIn, GivesNone}
 
--- what was asked of free space and of free cells, and is not there
-none_given : (page : ℕ) (chain : List PlacedCell) (space space_now : Spaces) (cells : Cells) (fault : StoreFault) → GetsNone page chain space space_now cells fault → GivesNone space cells fault
-none_given page chain space space_now cells NoPage none = ⊎_elim
+-- what was asked of free space and of free cells, and is not there: a cell is asked by each chain that the file has
+none_given : (memory : DomainMemory) (number : ℕ) (tag : Tag) (page : ℕ) (chains : Chains) (are : AreFilesIn memory number chains) (chain : List PlacedCell) (its : chains tag ≡ Some chain) (space_now : Spaces) (fault : StoreFault) → GetsNone page chain memory.space space_now memory.cells fault → GivesNone memory number tag page fault
+none_given memory number tag page chains are chain its space_now NoPage none = ⊎_elim
     (λ empty. inl empty)
-    (λ l. inr (record { home = l.home; free = l.free; no_cell = l.no_cell; no_other = l.no_other }))
+    (λ l. inr (record {
+      home = l.home;
+      free = l.free;
+      none_takes = λ others are_too.
+          subst (λ o. IsSomeAnd o (NoneTakes page (At l.home)))
+          (sym its ∙ one_chains (pages_of memory.pages) number (places_in (slot_in memory.slots.items number)) chains others are are_too tag) l.none_takes;
+      no_cell = l.no_cell;
+      no_other = l.no_other;
+    }))
     none.0
-none_given page chain space space_now cells OutOfMemory none = tt
+none_given memory number tag page chains are chain its space_now OutOfMemory none = tt
 
-pub give_none : {X : Type 0} (page : ℕ) (o : Option (List PlacedCell)) (space space_now : Spaces) (cells : Cells) (r : Result X StoreFault) → IfErr r (λ fault. IsSomeAnd o (λ chain. GetsNone page chain space space_now cells fault)) → IfErr r (GivesNone space cells)
-give_none page o space space_now cells (Ok x) none = tt
-give_none page None space space_now cells (Err fault) none = absurd none
-give_none page (Some chain) space space_now cells (Err fault) none = none_given page chain space space_now cells fault none
+pub give_none : {X : Type 0} (memory : DomainMemory) (number : ℕ) (tag : Tag) (page : ℕ) (chains : Chains) → AreFilesIn memory number chains → (space_now : Spaces) (r : Result X StoreFault) → IfErr r (λ fault. IsSomeAnd (chains tag) (λ chain. GetsNone page chain memory.space space_now memory.cells fault))
+    → IfErr r (GivesNone memory number tag page)
+give_none memory number tag page chains are space_now (Ok x) none = tt
+give_none memory number tag page chains are space_now (Err fault) none = by_chain (chains tag) refl none
+  where
+    by_chain : (o : Option (List PlacedCell)) → chains tag ≡ o → IsSomeAnd o (λ chain. GetsNone page chain memory.space space_now memory.cells fault) → GivesNone memory number tag page fault
+    by_chain None its none = absurd none
+    by_chain (Some chain) its none = none_given memory number tag page chains are chain its space_now fault none
 
 -- a file that may grow has a chain
 pub grown : (chains : Chains) (tag : Tag) (page : ℕ) → MayGrow tag page chains → (P : List PlacedCell → Type 0) → ((chain : List PlacedCell) → P chain) → IsSomeAnd (chains tag) P

@@ -9,9 +9,10 @@ use Rattle.domain_base.specs.declared.place.Tag.{Tag}
 use Rattle.page_store.specs.declared.fault.StoreFault.{StoreFault}
 use Rattle.page_store.specs.declared.fault.StoreFault.TheVariants.{NoPage, OutOfMemory}
 use Rattle.extent_maps.specs.declared.run.PagePlace.TheVariants.{At}
-use Rattle.free_cells.specs.Cells.{Cells, can_take}
-use Rattle.free_space.specs.Spaces.{CanTake, Spaces, change_volume}
+use Rattle.free_cells.specs.Cells.{can_take}
+use Rattle.free_space.specs.Spaces.{CanTake, change_volume}
 use Rattle.free_space.specs.VolumeSpace.{with_page}
+use Rattle.bitfile_cells.specs.MapChanges.{NoneTakes}
 use Rattle.bitfile_core.specs.Files.{AreFiles, Chains, keep_of, of_live, place_at}
 use Rattle.bitfile_core.specs.Pages.{MayGrow}
 use Rattle.fileset_model.specs.Apply.{with_change}
@@ -73,18 +74,22 @@ abbrev pub StandsChanged : Path → (Node → Node) → FilesetMap → FilesetEn
 StandsChanged path change all entry fileset now = IsStaged now
     (insert all entry.name (record fileset { tree = with_change path change fileset.tree }))
 
--- a page is free, but no cell, and no other page for more cells
-pub record LacksCell (space : Spaces) (cells : Cells) : Type 0 where
+-- a page is free that no record of the tag's file can take, so that a cell is asked too; and no
+-- cell is free, nor another page
+pub record LacksCell (memory : DomainMemory) (number : ℕ) (tag : Tag) (page : ℕ) : Type 0 where
   pub home : Home
-  pub free : CanTake space home.vol home.page
-  pub no_cell : (at : CellAt) → can_take cells at ≡ false
+  pub free : CanTake memory.space home.vol home.page
+  pub none_takes : (chains : Chains) → AreFilesIn memory number chains
+      → IsSomeAnd (chains tag) (NoneTakes page (At home))
+  pub no_cell : (at : CellAt) → can_take memory.cells at ≡ false
   pub no_other : (vol p : ℕ)
-      → ¬ CanTake (change_volume (with_page home.page) space home.vol) vol p
+      → ¬ CanTake (change_volume (with_page home.page) memory.space home.vol) vol p
 
 -- no page is given: none is free, or one alone and a cell is asked too; or memory was short
-abbrev pub GivesNone : Spaces → Cells → StoreFault → Type 0
-GivesNone space cells NoPage = ((vol p : ℕ) → ¬ CanTake space vol p) ⊎ LacksCell space cells
-GivesNone space cells OutOfMemory = Unit {0}
+abbrev pub GivesNone : DomainMemory → ℕ → Tag → ℕ → StoreFault → Type 0
+GivesNone memory number tag page NoPage =
+    ((vol p : ℕ) → ¬ CanTake memory.space vol p) ⊎ LacksCell memory number tag page
+GivesNone memory number tag page OutOfMemory = Unit {0}
 
 -- what is left to be done is listed behind the rest
 abbrev pub ListsLeft : Option CellAt → List CellAt → List CellAt → Type 0

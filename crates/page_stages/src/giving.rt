@@ -52,6 +52,7 @@ fn give_in<M: MetaPages>(
         cells.old (M.pages pages.old) chains → IfErr result (λ fault. IsSomeAnd (chains tag)
         (λ chain. GetsNone page chain space.old space.new cells.old fault)) }
     ensures cells { OnErr result (cells.new ≡ cells.old) }
+    ensures pages { OnErr result (M.pages pages.new ≡ M.pages pages.old) }
     ensures before { M.before pages.new ≡ M.before pages.old }
 {
     pages.reserve(alloc, 2)?;
@@ -61,8 +62,10 @@ fn give_in<M: MetaPages>(
 }
 
 /// Gives a page to a file of the fileset in a slot, an original, which keeps it and does not have
-/// it, and puts these bytes there: a free page, of the preferred volume if that has one. NoPage
-/// comes only where no page is free, or one alone and beside it no cell, of which one is asked too.
+/// it, and puts these bytes there: a free page, which is looked for on the preferred volume first.
+/// NoPage comes only where no page is free, or one alone and beside it no cell, of which one is
+/// asked too. After an Err the change may be half made: it is to be taken back; what was kept
+/// stays.
 pub fn give_page(
     memory: &mut DomainMemory,
     alloc: Global,
@@ -86,7 +89,7 @@ pub fn give_page(
         → HaveParents (staged_in memory.old) → OnOk result (HaveParents (staged_in memory.new)) }
     ensures kept { KeepsKept memory.old memory.new }
     ensures back { ∥ MayGoBack memory.new ∥₁ }
-    ensures cause { IfErr result (GivesNone memory.old.space memory.old.cells) }
+    ensures cause { IfErr result (GivesNone memory.old number tag page) }
 {
     let slot = files_in(&memory.slots, number);
     give_in(

@@ -64,4 +64,4 @@ returns-clause-cause c =
     let slot = c.files_in-slot.result.now in
     let is = ap (λ (slots : List (Option SlotFiles)). slot_in slots c.args.number) (sym c.deref.ensures.value) ∙ c.files_in-slot.ensures in
     let t = has_together memory c.args.number c.requires.stands c.requires.back c.requires.original slot is in
-    give_none c.args.page (t.0 c.args.tag) memory.space c.give_in.new.space memory.cells c.give_in.result (c.give_in.ensures.none t.0 t.1)
+    give_none memory c.args.number c.args.tag c.args.page t.0 (files_in memory c.args.number c.requires.stands c.requires.back c.requires.original slot is t.0 t.1.files) c.give_in.new.space c.give_in.result (c.give_in.ensures.none t.0 t.1)
