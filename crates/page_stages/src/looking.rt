@@ -20,7 +20,8 @@ use page_store::MetaPages;
 pub enum FilePage {
     /// No file, or one that is to be removed.
     NoFile,
-    /// A file that can have no such page now: it keeps fewer, until those behind are let go of.
+    /// A file that neither has the page nor can get it now: it keeps fewer, until those behind are
+    /// let go of, or has a hole there.
     Closed,
     /// A file that may get the page.
     Lacking,

@@ -8,7 +8,7 @@ ghost use Rattle.domain_layout.specs.CellRules.{of_original};
 ghost use Rattle.domain_standing.specs.Standing.{HaveParents};
 ghost use Rattle.node_laws.specs.Nodes.{with_page};
 ghost use Rattle.domain_memory.specs.Kept.{KeepsKept};
-ghost use Rattle.domain_memory.specs.Staged.{IsStagedForSome, MayGoBack, staged_in};
+ghost use Rattle.domain_memory.specs.Staged.{IsStagedForSome, MayGoBack, staged_books, staged_in};
 ghost use Rattle.page_stages.specs.Stages.{HasFile, HasPage, IsFileIn, StandsChanged};
 
 use crate::slots::files_in;
@@ -34,6 +34,7 @@ pub fn put_page(memory: &mut DomainMemory, number: FilesetNo, tag: Tag, page: u3
         → HaveParents (staged_in memory.old) → HaveParents (staged_in memory.new) }
     ensures kept { KeepsKept memory.old memory.new }
     ensures back { ∥ MayGoBack memory.new ∥₁ }
+    ensures books { staged_books memory.new ≡ staged_books memory.old }
 {
     let slot = files_in(&memory.slots, number);
     let Some(home) = slot.files.page_home(&memory.pages, tag, page).home() else {

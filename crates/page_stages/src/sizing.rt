@@ -8,7 +8,7 @@ ghost use Rattle.domain_layout.specs.CellRules.{of_original};
 ghost use Rattle.domain_standing.specs.Standing.{HaveParents};
 ghost use Rattle.node_laws.specs.Nodes.{with_size};
 ghost use Rattle.domain_memory.specs.Kept.{KeepsKept};
-ghost use Rattle.domain_memory.specs.Staged.{IsStagedForSome, MayGoBack, staged_in};
+ghost use Rattle.domain_memory.specs.Staged.{IsStagedForSome, MayGoBack, staged_books, staged_in};
 ghost use Rattle.page_stages.specs.Stages.{HasFile, IsFileIn, StandsChanged};
 
 use crate::slots::files_in;
@@ -54,6 +54,7 @@ pub fn set_size(
         → HaveParents (staged_in memory.old) → OnOk result (HaveParents (staged_in memory.new)) }
     ensures kept { KeepsKept memory.old memory.new }
     ensures back { ∥ MayGoBack memory.new ∥₁ }
+    ensures books { staged_books memory.new ≡ staged_books memory.old }
     ensures err { OnErr result (staged_in memory.new ≡ staged_in memory.old) }
 {
     let slot = files_in(&memory.slots, number);
