@@ -5,7 +5,7 @@ ghost use Rattle.volume_disk.specs.Run.{OnlyReads};
 ghost use Rattle.disk_label.specs.Anchor.{IsAnchor, IsNext};
 
 use crate::calls::{full, get, image, look, put};
-use crate::{is_whole, renew_twice};
+use crate::renewals::{is_whole, renew_twice};
 use disk_label::{Anchor, AnchorFault, Member, close_gates, read_anchor, ready_slot, write_anchor};
 use domain_base::{Home, OutOfMemory, VolIx};
 use memory_disk::MemoryRack;

@@ -1,6 +1,6 @@
 //! What errors of racks, anchors and slots say.
 
-use crate::RenewalFault;
+use crate::renewals::RenewalFault;
 use disk_label::{AnchorFault, SlotFault};
 use domain_base::{Failed, VolIx};
 use std::test::Fail;
