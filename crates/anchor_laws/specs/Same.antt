@@ -4,8 +4,8 @@ use Rattle.log_recovery.specs.Readable.{restarted}
 use Rattle.domain_layout.specs.Reached.{Frame}
 use Rattle.domain_standing.specs.Domain.{DomainNow}
 
--- the other frame has the same version, members and table, and its log on the same pages: its anchor
--- may have another number, stand in the other slot, and have its log start at another group
+-- the other frame has the same version, members and table, and its log on the same pages: its
+-- anchor may have another number, stand in the other slot, and have its log start at another group
 abbrev pub SameDomain : Frame → Frame → Type 0
 SameDomain one other = other ≡ record one {
   anchor = restarted one.anchor other.anchor.number other.anchor.slot other.anchor.start

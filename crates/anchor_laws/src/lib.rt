@@ -1,5 +1,5 @@
-//! Laws by which nothing of a domain hangs on the number and the slot of its anchor, nor on where its
-//! log starts: each the contract of a function without a body.
+//! Laws by which nothing of a domain hangs on the number and the slot of its anchor, nor on where
+//! its log starts: each the contract of a function without a body.
 #![tactic(auto)]
 
 mod standing;

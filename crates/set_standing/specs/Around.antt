@@ -29,7 +29,8 @@ IsNamedIn chains at = (tag : Tag) × (option_and_then start_of (chains tag) ≡ 
 
 -- an original is in the slot of a domain that stands but for its filesets, its files are among the
 -- domain's, no file of the domain is read through another, and it is as rules of pages ask beside;
--- but while calls change the indexes of the slot's own files, it is not asked what is in their pages
+-- but of the indexes of the slot's own files, which calls change, it is not asked what is in their
+-- pages
 pub record StandsAround (number : ℕ) (d : DomainNow) : Type 0 where
   pub entry : FilesetEntry
   pub original : item_in d number ≡ Some (slot.Original entry)

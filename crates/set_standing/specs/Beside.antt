@@ -21,8 +21,8 @@ use Rattle.standing_laws.specs.SlotParents.{HaveParentsIn, StandsForSome}
 use Rattle.standing_laws.specs.Slots.{StandsSlot}
 use Rattle.set_standing.specs.Around.{IsOfVolume, StandsAround}
 
--- all that is not of the slot is as it was, and so are its tag directory's pages and its owners'
--- limits
+-- all that is not of the slot is as it was, and so is where the pages of tag directories stand, and
+-- its owners' limits
 pub record StaysBeside (number : ℕ) (d now : DomainNow) : Type 0 where
   pub frame : now.frame ≡ d.frame
   pub table : now.table ≡ d.table

@@ -23,7 +23,7 @@ pub fn changes_around_join()
 {}
 
 /// Where the original in the slot stands for a fileset, the domain around it is wholly as rules of
-/// pages ask: what rows say of indexes is all that was left out.
+/// pages ask: that pages of its own files' indexes are well formed is all that was left out.
 pub fn a_domain_around_a_fileset_is_sound()
     ensures { (number : ℕ) (d : DomainNow) → StandsAround number d → (entry : FilesetEntry)
         (shape : FilesetShape) (fileset : FilesetSlot) → StandsSlot d number entry shape fileset

@@ -14,9 +14,9 @@ use Rattle.domain_standing.specs.Domain.{DomainNow, layout_of}
 use Rattle.domain_standing.specs.Holders.{Holder, Holds}
 use Rattle.standing_laws.specs.Leads.{StandsBelow}
 
--- each page that is held for something is one of a member's, where that is not the log, which other
--- rules know; a cell behind the first of a file has a record that it may have; and each page of an
--- index is well formed, whosever that is
+-- each page that is held for something is one of a member's, where that is neither the log nor the
+-- first pages of volumes, which other rules know; a cell behind the first of a file has a record that
+-- it may have; and each page of an index is well formed, whosever that is
 pub record StandsSound (d : DomainNow) (files : Files) (indexes : IndexesAt) : Type 0 where
   pub within : (home : Home) (holder : Holder) → ¬ holder ≡ Holder.of_volume
       → ¬ holder ≡ Holder.of_log → Holds d files indexes holder home → IsWithin d.frame home
@@ -25,7 +25,7 @@ pub record StandsSound (d : DomainNow) (files : Files) (indexes : IndexesAt) : T
   pub good : (at : CellAt) (home : Home) → Contains (indexes at) home
       → IsSomeAnd (d.pages home) IsIndexPage
 
--- the same, but of files that begin at some cells it is not asked that their indexes have pages that
+-- the same, but of files that begin at some cells it is not asked that the pages of their indexes
 -- are well formed
 pub record StandsSoundBut (apart : CellAt → Type 0) (d : DomainNow) (files : Files)
     (indexes : IndexesAt) : Type 0 where
