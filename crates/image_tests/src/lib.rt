@@ -9,6 +9,8 @@ mod broken;
 #[cfg(test)]
 mod brought;
 #[cfg(test)]
+mod closed;
+#[cfg(test)]
 mod fetched;
 #[cfg(test)]
 mod image;
