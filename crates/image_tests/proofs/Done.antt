@@ -3,7 +3,7 @@ use Rattle.std.proofs.Common.{◌≡◌, ◌∙◌, ◌&&◌, zero, suc, Bool, t
 use Rattle.std.proofs.lemmas.Bool.{true≢false}
 use Rattle.std.specs.List.{list_all}
 use Rattle.fileset_model.specs.declared.entry.Entry.{Entry}
-use Rattle.domain_filesets.specs.Coming.{NonePanicked}
+use Rattle.command_core.specs.Coming.{NonePanicked}
 use Rattle.image_tests.specs.Done.{is_done}
 
 both : (a b : Bool) → a && b ≡ true → (a ≡ true) × (b ≡ true)

@@ -5,13 +5,13 @@ ghost use Rattle.page_ways.specs.Frame.{frame_in};
 ghost use Rattle.staged_pages.specs.Store.{before_of};
 ghost use Rattle.word_forms.specs.Forms.{is_fileset_name as is_name};
 ghost use Rattle.domain_memory.specs.Staged.{IsSettled};
-ghost use Rattle.domain_filesets.specs.Coming.{NonePanicked};
+ghost use Rattle.command_core.specs.Coming.{NonePanicked};
 ghost use Rattle.image_tests.specs.Done.{is_done};
 
+use command_core::{create_fileset, remove_fileset};
 use domain_attaching::{attach, close};
 use domain_base::limits::FILESET_SLOTS;
 use domain_base::{FilesetNo, Version, VolIx};
-use domain_filesets::{create_fileset, remove_fileset};
 use domain_state::{Attached, Domain, Opening, make};
 use fileset_model::{Entry, FilesetName, Reply, Told};
 use fileset_table::{FilesetTable, SlotItem};

@@ -6,7 +6,7 @@ use Rattle.fileset_model.specs.declared.entry.Entry.{Entry}
 use Rattle.fileset_model.specs.declared.reply.Refusal.TheVariants.{Panicked}
 use Rattle.fileset_model.specs.declared.reply.Reply.{Reply}
 use Rattle.fileset_model.specs.declared.reply.Reply.TheVariants.{Refused}
-use Rattle.domain_filesets.specs.Coming.{NonePanicked}
+use Rattle.command_core.specs.Coming.{NonePanicked}
 use Rattle.state_tests.specs.Calm.{is_panicked}
 
 neither : (a b : Bool) → a || b ≡ false → (a ≡ false) × (b ≡ false)

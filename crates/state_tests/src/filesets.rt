@@ -5,11 +5,11 @@ ghost use Rattle.page_ways.specs.Frame.{frame_in};
 ghost use Rattle.staged_pages.specs.Store.{before_of};
 ghost use Rattle.word_forms.specs.Forms.{is_fileset_name as is_name};
 ghost use Rattle.domain_memory.specs.Staged.{IsSettled};
-ghost use Rattle.domain_filesets.specs.Coming.{NonePanicked};
+ghost use Rattle.command_core.specs.Coming.{NonePanicked};
 ghost use Rattle.state_tests.specs.Calm.{is_panicked};
 
+use command_core::{create_fileset, limit_fileset, remove_fileset};
 use domain_base::{OutOfMemory, Version, VolIx};
-use domain_filesets::{create_fileset, limit_fileset, remove_fileset};
 use domain_state::{Attached, Domain, Opening, make};
 use fileset_model::{Entry, FilesetName, Limits, Owner, Refusal, Reply, Told};
 use memory_disk::MemoryRack;

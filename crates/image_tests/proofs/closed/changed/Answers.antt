@@ -1,7 +1,7 @@
 use Rattle.std.proofs.Common.{◌∙◌, sym, ap, subst}
 use Rattle.std.specs.List.{list_all}
 use Rattle.fileset_model.specs.declared.entry.Entry.{Entry}
-use Rattle.domain_filesets.specs.Coming.{NonePanicked}
+use Rattle.command_core.specs.Coming.{NonePanicked}
 use Rattle.image_tests.specs.Done.{is_done}
 use Rattle.image_tests.proofs.Done.{none_panicked}
 use Rattle.image_tests.proofs.closed.changed.Goals as goal

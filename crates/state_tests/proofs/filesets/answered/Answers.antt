@@ -1,7 +1,7 @@
 use Rattle.std.proofs.Common.{◌∙◌, sym, ap, subst}
 use Rattle.std.specs.List.{list_any}
 use Rattle.fileset_model.specs.declared.entry.Entry.{Entry}
-use Rattle.domain_filesets.specs.Coming.{NonePanicked}
+use Rattle.command_core.specs.Coming.{NonePanicked}
 use Rattle.state_tests.specs.Calm.{is_panicked}
 use Rattle.state_tests.proofs.Calm.{none_panicked}
 use Rattle.state_tests.proofs.filesets.answered.Goals as goal

@@ -1,0 +1,25 @@
+use Rattle.std.proofs.Common.{refl, subst}
+use Rattle.fileset_model.specs.declared.command.Actor.TheVariants.{Client}
+use Rattle.fileset_model.specs.declared.entry.Entry.{Entry}
+use Rattle.command_core.proofs.Coming.{may_commit}
+use Rattle.command_core.proofs.answering.add_answer.Goals as goal
+
+pub commit-requires-clause-step : goal.commit-requires-clause-step
+commit-requires-clause-step g c = λ all stands.
+    let o = g.O.Opening in
+    let it = c.args.domain in
+    let e : Entry = record { actor = Client c.args.client; command = c.args.command; reply = c.args.reply; stamp = c.calls-stamp.result } in
+    let a = c.requires.answered all stands in
+    may_commit o.pages o.frame o.sizes it.memory it.history.entries.items it.history.job e all a.now a.kept
+    (record { stamp = c.calls-stamp.ensures.stamps c.requires.first; calm = c.requires.calm; client = c.args.client; actor = refl; command = c.requires.clients })
+    a.means
+
+pub returns-clause-adds : goal.returns-clause-adds
+returns-clause-adds g c = record {
+  reply = c.args.reply;
+  stamp = c.calls-stamp.result;
+  adds = c.commit.ensures.history;
+  means = λ all stands.
+      let a = c.requires.answered all stands in
+      (a.now, a.means, c.commit.ensures.stands a.now a.kept);
+}

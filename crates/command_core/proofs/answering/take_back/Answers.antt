@@ -1,0 +1,9 @@
+use Rattle.domain_memory.proofs.KeptStands.{stands_still}
+use Rattle.command_core.proofs.answering.take_back.Goals as goal
+
+pub returns-clause-none : goal.returns-clause-none
+returns-clause-none g c = record {
+  settled = c.discard.ensures.settled;
+  same = c.discard.ensures.history;
+  stands = λ all stands. stands_still c.args.domain.memory c.discard.new.self.memory all c.discard.ensures.kept c.discard.ensures.books stands;
+}

@@ -1,0 +1,41 @@
+use Rattle.std.proofs.Common.{◌∙◌, ap, sym, subst}
+use Rattle.std.proofs.Math.Logic.{∥∥₁_map}
+use Rattle.fileset_model.specs.declared.command.Command.TheVariants.{Setquota}
+use Rattle.domain_memory.proofs.KeptStands.{stands_so}
+use Rattle.domain_state.proofs.Resting.{rests_kept}
+use Rattle.command_core.specs.Coming.{NonePanicked}
+use Rattle.command_core.proofs.Laid.{answered_laid, err_none, ok_adds}
+use Rattle.command_core.proofs.limiting.limit_fileset.Goals as goal
+
+pub stage_limits-staged-requires-clause-stands : goal.stage_limits-staged-requires-clause-stands
+stage_limits-staged-requires-clause-stands g c = ∥∥₁_map c.apart-memory.ensures.stands (λ goes. (goes.all, goes.stands))
+
+pub together-domain-requires-clause-rest : goal.together-domain-requires-clause-rest
+together-domain-requires-clause-rest g c = rests_kept (g.R.Rack.disk c.apart-memory.result.1.rack) c.apart-memory.result.0 c.stage_limits-staged.new.memory c.stage_limits-staged.ensures.kept c.apart-memory.ensures.rest
+
+pub together-domain-requires-clause-stands : goal.together-domain-requires-clause-stands
+together-domain-requires-clause-stands g c = ∥∥₁_map c.apart-memory.ensures.stands (λ goes. record {
+  all = goes.all;
+  stands = stands_so c.apart-memory.result.0 c.stage_limits-staged.new.memory c.stage_limits-staged.ensures.kept goes.all goes.stands;
+  leads = goes.leads;
+})
+
+pub answer-requires-clause-answered : goal.answer-requires-clause-answered
+answer-requires-clause-answered g c =
+    answered_laid c.args.domain.memory c.apart-memory.result.0 c.stage_limits-staged.new.memory c.together-domain.result.memory c.apart-memory.ensures.memory c.stage_limits-staged.ensures.kept c.together-domain.ensures.memory
+    (Setquota c.args.fileset c.args.who c.args.limits.files c.args.limits.blocks) c.stage_limits-staged.result c.stage_limits-staged.ensures.answered
+
+pub returns-clause-adds : goal.returns-clause-adds
+returns-clause-adds g c =
+    ok_adds c.args.domain.memory c.apart-memory.result.0 c.stage_limits-staged.new.memory c.together-domain.result.memory c.apart-memory.ensures.memory c.stage_limits-staged.ensures.kept c.together-domain.ensures.memory
+    (λ now. now.memory) (λ now. now.history.entries.items) c.args.client (Setquota c.args.fileset c.args.who c.args.limits.files c.args.limits.blocks) c.args.domain.history.entries.items c.together-domain.result.history.entries.items
+    (ap (λ h. h.entries.items) (c.together-domain.ensures.history ∙ c.apart-memory.ensures.history)) c.answer.result c.answer.ensures.adds
+
+pub returns-clause-none : goal.returns-clause-none
+returns-clause-none g c =
+    err_none c.args.domain.memory c.apart-memory.result.0 c.stage_limits-staged.new.memory c.together-domain.result.memory c.apart-memory.ensures.memory c.stage_limits-staged.ensures.kept c.together-domain.ensures.memory
+    (λ now. now.memory) (λ now. now.history.entries.items) c.args.domain.history.entries.items c.together-domain.result.history.entries.items
+    (ap (λ h. h.entries.items) (c.together-domain.ensures.history ∙ c.apart-memory.ensures.history)) c.answer.result c.answer.ensures.none
+
+pub answer-requires-clause-calm : goal.answer-requires-clause-calm
+answer-requires-clause-calm g c = subst NonePanicked (ap (λ h. h.entries.items) (sym (c.together-domain.ensures.history ∙ c.apart-memory.ensures.history))) c.requires.calm

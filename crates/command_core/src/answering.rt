@@ -1,0 +1,108 @@
+//! What a client is answered, with the change that is laid over a domain.
+ghost use Rattle.std.specs.Prelude.{◌≡◌, ◌≤◌, ◌+◌, false, Err, IfErr, IfOk};
+ghost use Rattle.page_store.specs.declared.fault.StoreFault.TheVariants.{NoPage};
+ghost use Rattle.fileset_model.specs.Filesets.{FilesetMap};
+ghost use Rattle.history_model.specs.VolumeReply.{is_movers};
+ghost use Rattle.domain_memory.specs.Memory.{StandsFor};
+ghost use Rattle.domain_memory.specs.Staged.{IsSettled};
+ghost use Rattle.command_core.specs.Coming.{AddsNone, AddsOne, IsAnswered, NonePanicked};
+
+use domain_state::{Domain, Opening};
+use fileset_model::{Actor, Command, Entry, Refusal, Reply, Told};
+use page_store::StoreFault;
+use volume_disk::Rack;
+
+/// Adds a client's command with its answer to a domain's history, with the change that is laid over
+/// the domain.
+pub(crate) fn add_answer<R: Rack, O: Opening>(
+    domain: Domain<R, O>,
+    client: u8,
+    command: Command,
+    reply: Reply,
+) -> Domain<R, O>
+    requires first { ⟦<Domain<R, O> as Told>⟧.rests domain }
+    requires room { 1 ≤ ⟦<Domain<R, O> as Told>⟧.room domain }
+    requires calm { NonePanicked (⟦<Domain<R, O> as Told>⟧.history domain) }
+    requires clients { is_movers command ≡ false }
+    requires answered { (all : FilesetMap) → StandsFor domain.memory all
+        → IsAnswered domain.memory all command reply }
+    ensures adds { AddsOne client command domain.memory result.memory
+        (⟦<Domain<R, O> as Told>⟧.history domain) (⟦<Domain<R, O> as Told>⟧.history result) }
+    ensures settled { IsSettled result.memory }
+    ensures begun { ⟦<Domain<R, O> as Told>⟧.begun result ≡ ⟦<Domain<R, O> as Told>⟧.begun domain }
+    ensures room { ⟦<Domain<R, O> as Told>⟧.room domain
+        ≤ ⟦<Domain<R, O> as Told>⟧.room result + 1 }
+    ensures rack { result.history.rack ≡ domain.history.rack }
+    ensures durable { result.history.durable ≡ domain.history.durable }
+{
+    let stamp = domain.calls();
+    let mut domain = domain;
+    domain.commit(Entry {
+        actor: Actor::Client(client),
+        command,
+        reply,
+        stamp,
+    });
+    domain
+}
+
+/// Takes the change back that is laid over a domain.
+fn take_back<R: Rack, O: Opening>(domain: Domain<R, O>) -> Domain<R, O>
+    ensures none { AddsNone domain.memory result.memory
+        (⟦<Domain<R, O> as Told>⟧.history domain) (⟦<Domain<R, O> as Told>⟧.history result) }
+    ensures rests { ⟦<Domain<R, O> as Told>⟧.rests domain
+        → ⟦<Domain<R, O> as Told>⟧.rests result }
+    ensures begun { ⟦<Domain<R, O> as Told>⟧.begun result ≡ ⟦<Domain<R, O> as Told>⟧.begun domain }
+    ensures room { ⟦<Domain<R, O> as Told>⟧.room result ≡ ⟦<Domain<R, O> as Told>⟧.room domain }
+    ensures rack { result.history.rack ≡ domain.history.rack }
+    ensures durable { result.history.durable ≡ domain.history.durable }
+{
+    let mut domain = domain;
+    domain.discard();
+    domain
+}
+
+/// Adds a client's command to a domain's history with the change that is laid over the domain,
+/// where that has an answer; with no change where memory was short, which is answered then. Where
+/// no page was free nothing is added, and the change is taken back.
+pub(crate) fn answer<R: Rack, O: Opening>(
+    domain: Domain<R, O>,
+    client: u8,
+    command: Command,
+    staged: Result<Reply, StoreFault>,
+) -> Result<Domain<R, O>, Domain<R, O>>
+    requires first { ⟦<Domain<R, O> as Told>⟧.rests domain }
+    requires room { 1 ≤ ⟦<Domain<R, O> as Told>⟧.room domain }
+    requires calm { NonePanicked (⟦<Domain<R, O> as Told>⟧.history domain) }
+    requires clients { is_movers command ≡ false }
+    requires answered { (all : FilesetMap) → StandsFor domain.memory all
+        → IfOk staged (IsAnswered domain.memory all command) }
+    ensures adds { IfOk result (λ now. AddsOne client command domain.memory now.memory
+        (⟦<Domain<R, O> as Told>⟧.history domain) (⟦<Domain<R, O> as Told>⟧.history now)) }
+    ensures settled { IfOk result (λ now. IsSettled now.memory) }
+    ensures begun { IfOk result (λ now. ⟦<Domain<R, O> as Told>⟧.begun now
+        ≡ ⟦<Domain<R, O> as Told>⟧.begun domain) }
+    ensures room { IfOk result (λ now. ⟦<Domain<R, O> as Told>⟧.room domain
+        ≤ ⟦<Domain<R, O> as Told>⟧.room now + 1) }
+    ensures rack { IfOk result (λ now. now.history.rack ≡ domain.history.rack) }
+    ensures durable { IfOk result (λ now. now.history.durable ≡ domain.history.durable) }
+    ensures rests { IfErr result ⟦<Domain<R, O> as Told>⟧.rests }
+    ensures begun_none { IfErr result (λ now. ⟦<Domain<R, O> as Told>⟧.begun now
+        ≡ ⟦<Domain<R, O> as Told>⟧.begun domain) }
+    ensures room_none { IfErr result (λ now. ⟦<Domain<R, O> as Told>⟧.room now
+        ≡ ⟦<Domain<R, O> as Told>⟧.room domain) }
+    ensures rack_none { IfErr result (λ now. now.history.rack ≡ domain.history.rack) }
+    ensures durable_none { IfErr result (λ now. now.history.durable ≡ domain.history.durable) }
+    ensures none { IfErr result (λ now. AddsNone domain.memory now.memory
+        (⟦<Domain<R, O> as Told>⟧.history domain) (⟦<Domain<R, O> as Told>⟧.history now)) }
+    ensures cause { IfErr result (λ now. staged ≡ Err NoPage) }
+{
+    match staged {
+        Ok(reply) => Ok(add_answer(domain, client, command, reply)),
+        Err(StoreFault::NoPage) => Err(take_back(domain)),
+        Err(StoreFault::OutOfMemory) => {
+            let short = Reply::Refused(Refusal::OutOfMemory);
+            Ok(add_answer(take_back(domain), client, command, short))
+        }
+    }
+}

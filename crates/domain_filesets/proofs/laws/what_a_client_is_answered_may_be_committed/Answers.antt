@@ -1,5 +1,0 @@
-use Rattle.domain_filesets.proofs.Coming.{may_commit}
-use Rattle.domain_filesets.proofs.laws.what_a_client_is_answered_may_be_committed.Goals as goal
-
-pub returns : goal.returns
-returns c = may_commit

@@ -1,8 +1,0 @@
-use Rattle.domain_filesets.proofs.Means.{limited, none_limited}
-use Rattle.domain_filesets.proofs.laws.what_limits_mean.Goals as goal
-
-pub returns-clause-there : goal.returns-clause-there
-returns-clause-there c = limited
-
-pub returns-clause-missing : goal.returns-clause-missing
-returns-clause-missing c = none_limited
