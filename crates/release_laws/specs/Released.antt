@@ -1,0 +1,30 @@
+-- Steps in which things on the list of a domain are let go of, as a change of the domain.
+use Rattle.std.specs.Prelude.{◌≡◌, ℕ, List, [], Some, None, is_some, if◌then◌else◌}
+use Rattle.domain_base.specs.declared.place.CellAt.{CellAt}
+use Rattle.domain_base.specs.declared.place.Home.{Home}
+use Rattle.bmt_mcells.specs.Chain.{PlacedCell}
+use Rattle.bitfile_core.specs.Shown.{index_of}
+use Rattle.deferred_delete.specs.Standing.{Files}
+use Rattle.deferred_delete.specs.Steps.{Steps}
+use Rattle.deferred_laws.specs.Kept.{HasNoEntry}
+use Rattle.domain_standing.specs.Chains.{IndexesAt, IsQuotaOf}
+use Rattle.domain_standing.specs.Domain.{DomainNow, all_of}
+
+-- so many steps lead from one domain to another, and the pages of which nothing is changed have the
+-- bytes that they had. No page of a tag directory goes, no quota cells that a slot names are on the
+-- list, and a file that is gone named no index: that goes with the tag
+pub record Releases (group count : ℕ) (d now : DomainNow) (files files_now : Files) : Type 0 where
+  pub steps : Steps group d.frame.version (all_of d files) count (all_of now files_now)
+  pub frame : now.frame ≡ d.frame
+  pub table : now.table ≡ d.table
+  pub tags : now.tags ≡ d.tags
+  pub bytes : (home : Home) → now.pages home ≡ d.pages home
+      → now.contents home ≡ d.contents home
+  pub tag_pages : now.list.tag_pages ≡ d.list.tag_pages
+  pub quotas : (number : ℕ) (at : CellAt) → IsQuotaOf d number at → HasNoEntry d.list at
+  pub gone : (at : CellAt) (chain : List PlacedCell) → files at ≡ Some chain
+      → files_now at ≡ None → index_of chain ≡ None
+
+-- where the pages of indexes stand, of the files that are left
+abbrev pub indexes_left : Files → IndexesAt → IndexesAt
+indexes_left files indexes = λ at. if is_some (files at) then indexes at else []

@@ -1,0 +1,7 @@
+//! Laws of a domain that stands, over steps in which things on its list are let go of, each the
+//! contract of a function without a body.
+#![tactic(auto)]
+
+mod tables;
+
+pub use tables::tables_stand_on_over_steps;

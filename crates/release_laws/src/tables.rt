@@ -1,0 +1,15 @@
+//! The tables of a domain.
+ghost use Rattle.std.specs.Prelude.{ℕ};
+ghost use Rattle.deferred_delete.specs.Standing.{Files};
+ghost use Rattle.domain_standing.specs.Chains.{IndexesAt};
+ghost use Rattle.domain_standing.specs.Domain.{DomainNow};
+ghost use Rattle.domain_standing.specs.Tables.{StandTables};
+ghost use Rattle.standing_laws.specs.Leads.{StandsBelow};
+ghost use Rattle.release_laws.specs.Released.{Releases};
+
+/// Where a domain stands, its tables do once things on its list were let go of.
+pub fn tables_stand_on_over_steps()
+    ensures { (group count : ℕ) (d now : DomainNow) (files files_now : Files)
+        (indexes : IndexesAt) → StandsBelow d files indexes
+        → Releases group count d now files files_now → StandTables now }
+{}
