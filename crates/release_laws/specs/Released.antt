@@ -1,5 +1,5 @@
 -- Steps in which things on the list of a domain are let go of, as a change of the domain.
-use Rattle.std.specs.Prelude.{◌≡◌, ℕ, List, [], Some, None, is_some, if◌then◌else◌}
+use Rattle.std.specs.Prelude.{◌≡◌, ℕ, List, None, Some}
 use Rattle.domain_base.specs.declared.place.CellAt.{CellAt}
 use Rattle.domain_base.specs.declared.place.Home.{Home}
 use Rattle.bmt_mcells.specs.Chain.{PlacedCell}
@@ -7,7 +7,7 @@ use Rattle.bitfile_core.specs.Shown.{index_of}
 use Rattle.deferred_delete.specs.Standing.{Files}
 use Rattle.deferred_delete.specs.Steps.{Steps}
 use Rattle.deferred_laws.specs.Kept.{HasNoEntry}
-use Rattle.domain_standing.specs.Chains.{IndexesAt, IsQuotaOf}
+use Rattle.domain_standing.specs.Chains.{IsQuotaOf}
 use Rattle.domain_standing.specs.Domain.{DomainNow, all_of}
 
 -- so many steps lead from one domain to another, and the pages of which nothing is changed have the
@@ -24,7 +24,3 @@ pub record Releases (group count : ℕ) (d now : DomainNow) (files files_now : F
   pub quotas : (number : ℕ) (at : CellAt) → IsQuotaOf d number at → HasNoEntry d.list at
   pub gone : (at : CellAt) (chain : List PlacedCell) → files at ≡ Some chain
       → files_now at ≡ None → index_of chain ≡ None
-
--- where the pages of indexes stand, of the files that are left
-abbrev pub indexes_left : Files → IndexesAt → IndexesAt
-indexes_left files indexes = λ at. if is_some (files at) then indexes at else []
