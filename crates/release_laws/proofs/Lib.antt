@@ -1,0 +1,10 @@
+pub mod CellsLeft
+pub mod SpaceWaits
+pub mod OneStep
+pub mod Going
+pub mod Led
+pub mod TablesGo
+pub mod HeldGo
+pub mod ListGo
+pub mod SlotsGo
+pub mod ChainsGo

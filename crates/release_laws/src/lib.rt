@@ -2,6 +2,10 @@
 //! contract of a function without a body.
 #![tactic(auto)]
 
+mod chains;
+mod held;
 mod tables;
 
+pub use chains::chains_stand_on_over_steps;
+pub use held::held_pages_stand_on_over_steps;
 pub use tables::tables_stand_on_over_steps;

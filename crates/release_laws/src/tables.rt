@@ -3,6 +3,7 @@ ghost use Rattle.std.specs.Prelude.{ℕ};
 ghost use Rattle.deferred_delete.specs.Standing.{Files};
 ghost use Rattle.domain_standing.specs.Chains.{IndexesAt};
 ghost use Rattle.domain_standing.specs.Domain.{DomainNow};
+ghost use Rattle.domain_standing.specs.Sources.{StandAlone};
 ghost use Rattle.domain_standing.specs.Tables.{StandTables};
 ghost use Rattle.standing_laws.specs.Leads.{StandsBelow};
 ghost use Rattle.release_laws.specs.Released.{Releases};
@@ -10,6 +11,6 @@ ghost use Rattle.release_laws.specs.Released.{Releases};
 /// Where a domain stands, its tables do once things on its list were let go of.
 pub fn tables_stand_on_over_steps()
     ensures { (group count : ℕ) (d now : DomainNow) (files files_now : Files)
-        (indexes : IndexesAt) → StandsBelow d files indexes
+        (indexes : IndexesAt) → StandsBelow d files indexes → StandAlone d
         → Releases group count d now files files_now → StandTables now }
 {}
