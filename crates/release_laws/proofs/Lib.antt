@@ -1,10 +1,6 @@
-pub mod CellsLeft
-pub mod SpaceWaits
-pub mod OneStep
-pub mod Going
-pub mod Led
-pub mod TablesGo
-pub mod HeldGo
-pub mod ListGo
-pub mod SlotsGo
-pub mod ChainsGo
+mod SeenTrimmed
+mod SeenOver
+mod PagesOver
+mod SlotOver
+mod SlotsOver
+mod ParentsOver

@@ -2,10 +2,8 @@
 //! contract of a function without a body.
 #![tactic(auto)]
 
-mod chains;
-mod held;
+mod slots;
 mod tables;
 
-pub use chains::chains_stand_on_over_steps;
-pub use held::held_pages_stand_on_over_steps;
+pub use slots::{filesets_stand_over_steps, parents_stay_over_steps};
 pub use tables::tables_stand_on_over_steps;
