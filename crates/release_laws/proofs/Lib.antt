@@ -1,6 +1,9 @@
 mod SeenTrimmed
+mod Entries
 mod SeenOver
 mod PagesOver
 mod SlotOver
 mod SlotsOver
 mod ParentsOver
+mod BitsOver
+mod SpacesOver

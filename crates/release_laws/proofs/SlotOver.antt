@@ -71,9 +71,9 @@ use Rattle.standing_laws.proofs.HomeLists.{in_get}
 use Rattle.standing_laws.proofs.OtherSlots.{links_of, seen_place}
 use Rattle.standing_laws.proofs.RestRecords.{good_kinds}
 use Rattle.standing_laws.proofs.SlotStays.{file_index_low}
-use Rattle.standing_laws.proofs.SourcesSaid.{files_alone}
 use Rattle.release_laws.specs.Released.{Releases}
 use Rattle.release_laws.specs.Trimmed.{TrimsFiles}
+use Rattle.release_laws.proofs.Entries.{gives_none}
 use Rattle.release_laws.proofs.PagesOver.{held_same, not_listed}
 use Rattle.release_laws.proofs.SeenOver.{IsOn, seen_over}
 use Rattle.release_laws.proofs.SeenTrimmed.{GiveNone}
@@ -102,12 +102,8 @@ keep_within (written.DenseExtents rows) is pending well = absurd (omega (arith, 
 keep_within (written.ShortDense rows) is pending well = absurd (omega (arith, is))
 
 module _ (group count : ℕ) (d now : DomainNow) (files files_now : Files) (indexes : IndexesAt) (below : StandsBelow d files indexes) (after : StandsBelow now files_now indexes) (alone : StandAlone d) (r : Releases group count d now files files_now) (trims : TrimsFiles d files) where
-  pub gives_none : GiveNone (all_of d files)
-  gives_none e inside = by_clone e.clone refl
-    where
-      by_clone : (o : Option CellAt) → e.clone ≡ o → o ≡ None
-      by_clone None none = refl
-      by_clone (Some c) some = absurd (subst (λ o. IsSomeAnd o (λ source. source.at ≡ e.at)) (files_alone d files indexes below alone c) ((below.chains.well.listed.each e inside).given c some))
+  alone_on_list : GiveNone (all_of d files)
+  alone_on_list = gives_none d files indexes below alone
 
   its_member : (vol p : ℕ) → Contains (table_of d.cells vol) p → IsMember d.frame.anchor vol
   its_member vol p on = ⊎_elim
@@ -211,7 +207,7 @@ module _ (group count : ℕ) (d now : DomainNow) (files files_now : Files) (inde
     pub seen_same : (t : Tag) (cs : List PlacedCell) (some : its t ≡ Some cs) → seen_in (over t cs some).chain ≡ seen_in cs
     seen_same t cs some =
         let o = over t cs some in
-        seen_over group d.frame.version (all_of d files) count (all_of now files_now) below.chains.well r.steps gives_none o.at cs o.chain o.was o.is (live t cs some) (live_now t o.chain o.now_is) (listed t cs some) (kept t cs some)
+        seen_over group d.frame.version (all_of d files) count (all_of now files_now) below.chains.well r.steps alone_on_list o.at cs o.chain o.was o.is (live t cs some) (live_now t o.chain o.now_is) (listed t cs some) (kept t cs some)
         (trimmed t cs some o.at o.start)
 
     pub seen_at : (t : Tag) → option_and_then seen_in (its_now t) ≡ option_and_then seen_in (its t)
@@ -226,7 +222,7 @@ module _ (group count : ℕ) (d now : DomainNow) (files files_now : Files) (inde
     pub directory_same : (t : Tag) (cs : List PlacedCell) (some : its t ≡ Some cs) → IsSomeAnd (attributes_of cs) (λ is. is.kind ≡ Directory) → (over t cs some).chain ≡ cs
     directory_same t cs some is =
         let o = over t cs some in
-        some_same o.chain cs (sym o.is ∙ others_stay group d.frame.version (all_of d files) count (all_of now files_now) r.steps o.at (λ e inside. (nobody e inside, λ clone. none_not o.at (sym (gives_none e inside) ∙ clone))) ∙ o.was)
+        some_same o.chain cs (sym o.is ∙ others_stay group d.frame.version (all_of d files) count (all_of now files_now) r.steps o.at (λ e inside. (nobody e inside, λ clone. none_not o.at (sym (alone_on_list e inside) ∙ clone))) ∙ o.was)
       where
         apart : (a : Option Attributes) → IsSomeAnd a (λ is. is.kind ≡ Directory) → IsSomeAnd a (λ is. is.kind ≡ File) → ⊥
         apart None directory file = directory
@@ -409,7 +405,7 @@ module _ (group count : ℕ) (d now : DomainNow) (files files_now : Files) (inde
         named_it = ap (option_and_then quota_of) there ∙ quota
 
         stays : files_now at ≡ files at
-        stays = others_stay group d.frame.version (all_of d files) count (all_of now files_now) r.steps at (λ e inside. (r.quotas n at named_it e inside, λ clone. none_not at (sym (gives_none e inside) ∙ clone)))
+        stays = others_stay group d.frame.version (all_of d files) count (all_of now files_now) r.steps at (λ e inside. (r.quotas n at named_it e inside, λ clone. none_not at (sym (alone_on_list e inside) ∙ clone)))
 
         by_chain : (o : Option (List PlacedCell)) → files at ≡ o → IsSomeAnd o (AreQuotasOf d n at) → IsSomeAnd (files_now at) (AreQuotasOf now n at) → AreQuotas now.pages (Some at) records
         by_chain None none quotas quotas_then = absurd quotas

@@ -2,8 +2,10 @@
 //! contract of a function without a body.
 #![tactic(auto)]
 
+mod bits;
 mod slots;
 mod tables;
 
+pub use bits::{bits_stay_over_steps, kept_space_stays_over_steps};
 pub use slots::{filesets_stand_over_steps, parents_stay_over_steps};
 pub use tables::tables_stand_on_over_steps;

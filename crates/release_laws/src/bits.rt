@@ -1,0 +1,28 @@
+//! Bits of bitmaps, and what was kept of free space.
+ghost use Rattle.std.specs.Prelude.{◌≡◌, ℕ};
+ghost use Rattle.deferred_delete.specs.Standing.{Files};
+ghost use Rattle.domain_standing.specs.Chains.{IndexesAt};
+ghost use Rattle.domain_standing.specs.Domain.{DomainNow};
+ghost use Rattle.domain_standing.specs.Sources.{StandAlone};
+ghost use Rattle.domain_standing.specs.Standing.{IsMarkedBut};
+ghost use Rattle.free_space.specs.Spaces.{Spaces, kept_spaces};
+ghost use Rattle.standing_laws.specs.Leads.{StandsBelow};
+ghost use Rattle.release_laws.specs.Released.{Releases};
+
+/// Bits of bitmaps say of free space what they said, once things on the list of a domain were let go
+/// of.
+pub fn bits_stay_over_steps()
+    ensures { (group count : ℕ) (d now : DomainNow) (files files_now : Files)
+        (indexes : IndexesAt) → StandsBelow d files indexes
+        → StandsBelow now files_now indexes → Releases group count d now files files_now
+        → (space : Spaces) → IsMarkedBut (record d { space = space })
+        → IsMarkedBut (record now { space = space }) }
+{}
+
+/// And what was kept of free space is what it was.
+pub fn kept_space_stays_over_steps()
+    ensures { (group count : ℕ) (d now : DomainNow) (files files_now : Files)
+        (indexes : IndexesAt) → StandsBelow d files indexes → StandAlone d
+        → Releases group count d now files files_now
+        → kept_spaces now.space ≡ kept_spaces d.space }
+{}
