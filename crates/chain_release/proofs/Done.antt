@@ -205,6 +205,7 @@ module _ (from : ℕ) (start : CellAt) (reader : Option Reader) (plan : Plan) (s
           };
           first = s.stays.first;
           one = s.one;
+          kinds = s.kinds;
           few = ⊎_elim
               (λ same. inl (subst (λ (pages : Pages). ChangesAtMost 2 pages new) same edit_changes))
               (λ hands. inr (hands.0, then_changes 3 2 old mid new hands.1 edit_changes))

@@ -1,5 +1,5 @@
 -- The chain once a cell was written again, or left out.
-use Rattle.std.proofs.Common.{◌≡◌, ◌∙◌, ℕ, zero, suc, ◌<◌, ◌≤◌, ◌||◌, Bool, true, false, cond, nat_lt, List, [], ◌∷◌, ◌++◌, length, Option, Some, None, IfSome, Contains, refl, sym, ap, subst, arith, append_assoc, length-append, ⊎_elim, ◌⊎◌, inl, inr}
+use Rattle.std.proofs.Common.{◌≡◌, ◌∙◌, ℕ, zero, suc, ◌<◌, ◌≤◌, ◌||◌, Bool, true, false, cond, nat_lt, List, [], ◌∷◌, ◌++◌, length, map, Option, Some, None, IfSome, Contains, refl, sym, ap, subst, arith, append_assoc, length-append, ⊎_elim, ◌⊎◌, inl, inr}
 use Rattle.std.proofs.lemmas.List.Elements.{Contains-append_cases, Contains-append_left, Contains-append_right}
 use Rattle.domain_base.specs.declared.place.CellAt.{CellAt}
 use Rattle.page_store.specs.Pages.{Pages}
@@ -16,9 +16,10 @@ use Rattle.extent_records.specs.Rows.{AreOneMap}
 use Rattle.extent_records.specs.Writing.{places_in}
 use Rattle.free_cells.specs.Cells.{Cells}
 use Rattle.bitfile_cells.specs.Changes.{with_record}
+use Rattle.bitfile_cells.specs.FileChanges.{KeepKinds, map_kinds}
 use Rattle.bitfile_cells.specs.Files.{HasMap, IsFile, places_of}
 use Rattle.bitfile_cells.proofs.Added.{used_of}
-use Rattle.bitfile_cells.proofs.ChainChanges.{at_apart, in_first, in_later, stand_file}
+use Rattle.bitfile_cells.proofs.ChainChanges.{at_apart, in_first, in_later, inside_places, kinds_on, kinds_same, stand_file}
 use Rattle.bitfile_cells.proofs.OneRecord.{has_after, replaced_fits}
 use Rattle.bitfile_cells.proofs.Replaced.{records_replaced}
 use Rattle.bitfile_cells.proofs.Walks.{distinct_file}
@@ -75,6 +76,33 @@ one_changed xs d ys chain front back = record {
     by_place : (c : PlacedCell) → ¬ c.at ≡ d.at → Contains (d ∷ ys) c → Contains chain c
     by_place c other (zero, within, is) = absurd (other (ap (λ (x : PlacedCell). x.at) (sym is)))
     by_place c other (suc k, within, is) = back c (k, omega (arith, within), is)
+
+-- a row of cells of which one says where pages stand in a record of the kind that it had
+kinds_row : (xs : List PlacedCell) (c d : PlacedCell) (ys : List PlacedCell) → d.at ≡ c.at → map_kinds d.cell.records ≡ map_kinds c.cell.records → AreDistinct (xs ++ c ∷ ys) → KeepKinds (xs ++ c ∷ ys) (xs ++ d ∷ ys)
+kinds_row [] c d ys at same distinct = kinds_on c d ys ys at same distinct.0 distinct.0 (kinds_same ys distinct.1)
+kinds_row (x ∷ xs) c d ys at same distinct =
+    kinds_on x x (xs ++ c ∷ ys) (xs ++ d ∷ ys) refl refl distinct.0 (λ inside. distinct.0 (subst (λ (ps : List CellAt). Contains ps x.at) (places_same xs d c ys at) inside))
+    (kinds_row xs c d ys at same distinct.1)
+
+-- and of which the one behind it is left out
+kinds_less : (xs : List PlacedCell) (b d c : PlacedCell) (ys : List PlacedCell) → d.at ≡ b.at → map_kinds d.cell.records ≡ map_kinds b.cell.records → AreDistinct (xs ++ b ∷ c ∷ ys) → KeepKinds (xs ++ b ∷ c ∷ ys) (xs ++ d ∷ ys)
+kinds_less [] b d c ys at same distinct =
+    kinds_on b d (c ∷ ys) ys at same distinct.0 (λ inside. distinct.0 (in_later b.at c ys inside)) (λ was now in_was in_now here. by_place was now in_was in_now here)
+  where
+    by_place : (was now : PlacedCell) → Contains (c ∷ ys) was → Contains ys now → now.at ≡ was.at → map_kinds now.cell.records ≡ map_kinds was.cell.records
+    by_place was now (zero, within, is) in_now here =
+        absurd (distinct.1.0 (subst (Contains (places ys)) (here ∙ ap (λ (x : PlacedCell). x.at) (sym is)) (inside_places ys now in_now)))
+    by_place was now (suc k, within, is) in_now here = kinds_same ys distinct.1.1 was now (k, omega (arith, within), is) in_now here
+kinds_less (x ∷ xs) b d c ys at same distinct =
+    kinds_on x x (xs ++ b ∷ c ∷ ys) (xs ++ d ∷ ys) refl refl distinct.0
+    (λ inside. distinct.0 (among xs x.at (subst (λ (ps : List CellAt). Contains ps x.at) (places_same xs d b ys at) inside)))
+    (kinds_less xs b d c ys at same distinct.1)
+  where
+    among : (xs : List PlacedCell) (a : CellAt) → Contains (places (xs ++ b ∷ ys)) a → Contains (places (xs ++ b ∷ c ∷ ys)) a
+    among [] a (zero, within, is) = in_first a b (c ∷ ys) is
+    among [] a (suc k, within, is) = in_later a b (c ∷ ys) (in_later a c ys (k, omega (arith, within), is))
+    among (x ∷ xs) a (zero, within, is) = in_first a x (xs ++ b ∷ c ∷ ys) is
+    among (x ∷ xs) a (suc k, within, is) = in_later a x (xs ++ b ∷ c ∷ ys) (among xs a (k, omega (arith, within), is))
 
 behind : (d : PlacedCell) (ys : List PlacedCell) (c : PlacedCell) → Contains ys c → Contains (d ∷ ys) c
 behind d ys c (k, within, is) = (suc k, omega (arith, within), is)
@@ -143,6 +171,7 @@ module _ (from : ℕ) (pages : Pages) (start : CellAt) (chain front rest : List 
       pub keeps : (at : CellAt) → Contains (places chain) at → ¬ edit.freed ≡ Some at → Contains (places after) at
       pub cuts : Cuts from value chain after
       pub one : ChangesOne chain after
+      pub kinds : KeepKinds chain after
       pub progress : HasSomething → Progresses (went edit.freed) from chain after cells cells_now
 
     abbrev changed : CellAt → Bool
@@ -179,6 +208,12 @@ module _ (from : ℕ) (pages : Pages) (start : CellAt) (chain front rest : List 
       unfolding c_now
       same_now = places_same front c_now c rest refl ∙ ap places (sym all)
 
+      kinds_now : KeepKinds (front ++ c ∷ rest) (front ++ c_now ∷ rest)
+      unfolding c_now
+      kinds_now = kinds_row front c c_now rest refl
+          (ap (map kind_of) (has_after value edits.after edits.cut.is_map edits.cut.same_kind c.cell has).only ∙ ap (λ (k : ℕ). k ∷ []) edits.cut.same_kind ∙ sym (ap (map kind_of) has.only))
+          distinct
+
       loses : HasSomething → LosesPage from chain (front ++ c_now ∷ rest) cells cells_now
       loses how = ⊎_elim
           (λ page. record {
@@ -203,6 +238,7 @@ module _ (from : ℕ) (pages : Pages) (start : CellAt) (chain front rest : List 
         within = λ at inside. subst (λ (ps : List CellAt). Contains ps at) same_now inside;
         keeps = λ at inside other. subst (λ (ps : List CellAt). Contains ps at) (sym same_now) inside;
         cuts = subst (λ (cs : List PlacedCell). Cuts from value cs (front ++ c_now ∷ rest)) (sym all) cut_now;
+        kinds = subst (λ (cs : List PlacedCell). KeepKinds cs (front ++ c_now ∷ rest)) (sym all) kinds_now;
         one = subst (λ (cs : List PlacedCell). ChangesOne cs (front ++ c_now ∷ rest)) (sym all)
             (one_changed front c_now rest (front ++ c ∷ rest) (λ x inside. Contains-append_left front (c ∷ rest) x inside) (λ x inside. Contains-append_right front (c ∷ rest) x (behind c rest x inside)));
         progress = λ how. subst (λ o. Progresses (went o) from chain (front ++ c_now ∷ rest) cells cells_now) (sym r.none) (loses how);
@@ -244,6 +280,10 @@ module _ (from : ℕ) (pages : Pages) (start : CellAt) (chain front rest : List 
           (all_back (λ (c : PlacedCell). StandsAt pages c.at c.cell) front (c ∷ rest) all_stand).1)
           cut_out.one_map
 
+      kinds_out : KeepKinds (u.earlier ++ u.before ∷ c ∷ rest) (u.earlier ++ b_now ∷ rest)
+      unfolding b_now
+      kinds_out = kinds_less u.earlier u.before b_now c rest refl refl distinct_row
+
       -- its cells are the others
       places_out : places (u.earlier ++ b_now ∷ rest) ≡ places (front ++ rest)
       unfolding b_now
@@ -267,6 +307,7 @@ module _ (from : ℕ) (pages : Pages) (start : CellAt) (chain front rest : List 
             subst (λ (ps : List CellAt). Contains ps at) (sym places_out)
             (in_less front c rest at (subst (λ (cs : List PlacedCell). Contains (places cs) at) all inside) (λ same. other (u.freed ∙ ap Some same)));
         cuts = subst (λ (cs : List PlacedCell). Cuts from value cs (u.earlier ++ b_now ∷ rest)) (sym (all ∙ in_row)) cut_out;
+        kinds = subst (λ (cs : List PlacedCell). KeepKinds cs (u.earlier ++ b_now ∷ rest)) (sym (all ∙ in_row)) kinds_out;
         one = subst (λ (cs : List PlacedCell). ChangesOne cs (u.earlier ++ b_now ∷ rest)) (sym (all ∙ in_row))
             (one_changed u.earlier b_now rest (u.earlier ++ u.before ∷ c ∷ rest) (λ x inside. Contains-append_left u.earlier (u.before ∷ c ∷ rest) x inside)
             (λ x inside. Contains-append_right u.earlier (u.before ∷ c ∷ rest) x (behind u.before (c ∷ rest) x (behind c rest x inside))));

@@ -15,7 +15,7 @@ use Rattle.free_space.specs.declared.waiting.PageUse.{PageUse}
 use Rattle.free_space.specs.declared.waiting.PageUse.TheVariants.{Data, Metadata}
 use Rattle.free_space.specs.VolumeSpace.{with_waiting}
 use Rattle.free_space.specs.Spaces.{Spaces, change_volume}
-use Rattle.bitfile_cells.specs.FileChanges.{SameFirst}
+use Rattle.bitfile_cells.specs.FileChanges.{KeepKinds, SameFirst}
 use Rattle.bitfile_cells.specs.Files.{places_of}
 use Rattle.bitfile_cells.specs.MapChanges.{ChangesAtMost, IsHandedOut, Joins, NoneTakes, TakesIfFull}
 use Rattle.chain_release.specs.declared.reader.Reader.{Reader}
@@ -108,9 +108,10 @@ pub record HandsPage (frozen : ℕ) (own own_now source source_now : Places) : T
   pub page : ℕ
   pub is : IsHandedOver frozen own own_now source source_now page
 
--- pages of a file from one on go, and cells of it that say of no page where it stands; the reader
--- reads what it read, through the file or at pages that were handed over, and keeps its cells with
--- each that is handed out; and what is gone waits
+-- pages of a file from one on go, and cells of it that say of no page where it stands; those that
+-- are left say it in records of the kinds that they had; the reader reads what it read, through the
+-- file or at pages that were handed over, and keeps its cells with each that is handed out; and what
+-- is gone waits
 pub record Releases (from : ℕ) (start : CellAt) (reader : Option Reader) (group : ℕ)
     (version : Version) (chain own : List PlacedCell) (space space_now : Spaces)
     (cells cells_now : Cells) (old new : Pages) (what : Released) : Type 0 where
@@ -119,6 +120,7 @@ pub record Releases (from : ℕ) (start : CellAt) (reader : Option Reader) (grou
   pub again : AreSharing start reader space_now cells_now new after own_now
   pub first : SameFirst chain after
   pub one : ChangesOne chain after
+  pub kinds : KeepKinds chain after
   pub few : ChangesAtMost 2 old new ⊎ (HandsPage (frozen_of reader) (places_of own)
       (places_of own_now) (places_of chain) (places_of after) × ChangesAtMost 5 old new)
   pub own_first : (own_now ≡ own) ⊎ SameFirst own own_now
