@@ -3,7 +3,7 @@ use Rattle.std.proofs.Common.{◌≡◌, ℕ, zero, suc, ◌-◌, Bool, List, []
 use Rattle.std.specs.Option.{option_map}
 use Rattle.free_space.specs.declared.waiting.Waiting.{Waiting}
 use Rattle.free_space.specs.declared.waiting.PageUse.{PageUse}
-use Rattle.free_space.specs.VolumeSpace.{VolumeSpace, added, with_page, with_run, without_page, with_waiting, with_open, with_released, keeping, as_kept}
+use Rattle.free_space.specs.VolumeSpace.{VolumeSpace, added, with_page, with_run, without_page, with_waiting, with_none_waiting, with_open, with_released, keeping, as_kept}
 use Rattle.free_space.specs.Spaces.{Spaces, volume_of, with_volume, change_volume, change_volumes, missed, kept_spaces}
 use Rattle.storage_bitmap.specs.VolumePages.{VolumePages}
 
@@ -64,6 +64,9 @@ kept-kept s = kept-change_volumes as_kept (λ v. refl) s
 pub kept-with_released : (kind : PageUse) (group : ℕ) (s : Spaces) → kept_spaces (change_volumes (with_released kind group) s) ≡ change_volumes (with_released kind group) s
 kept-with_released kind group s = kept-change_volumes (with_released kind group) (λ v. refl) s
 
+pub kept-with_none_waiting : (s : Spaces) → kept_spaces (change_volumes with_none_waiting s) ≡ change_volumes with_none_waiting s
+kept-with_none_waiting s = kept-change_volumes with_none_waiting (λ v. refl) s
+
 -- ---- where nothing is to be taken back
 
 kept_set : (vs : List (Option VolumeSpace)) (i : ℕ) (o : Option VolumeSpace) → option_map as_kept o ≡ o → as_kept_all vs ≡ vs → as_kept_all (set vs i o) ≡ set vs i o
@@ -78,6 +81,15 @@ get-kept : (vs : List (Option VolumeSpace)) (i : ℕ) → get_or (as_kept_all vs
 get-kept [] i = refl
 get-kept (o ∷ vs) zero = refl
 get-kept (o ∷ vs) (suc i) = get-kept vs i
+
+get-changed : (change : VolumeSpace → VolumeSpace) (vs : List (Option VolumeSpace)) (i : ℕ) → get_or (map (option_map change) vs) i None ≡ option_map change (get_or vs i None)
+get-changed change [] i = refl
+get-changed change (o ∷ vs) zero = refl
+get-changed change (o ∷ vs) (suc i) = get-changed change vs i
+
+-- a volume where each is changed
+pub volume_of-changed : (change : VolumeSpace → VolumeSpace) (s : Spaces) (vol : ℕ) → volume_of (change_volumes change s) vol ≡ option_map change (volume_of s vol)
+volume_of-changed change s vol = get-changed change s.volumes (vol - 1)
 
 -- a volume as it was kept
 pub volume_of-kept : (s : Spaces) (vol : ℕ) → volume_of (kept_spaces s) vol ≡ option_map as_kept (volume_of s vol)

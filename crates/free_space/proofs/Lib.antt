@@ -1,6 +1,7 @@
 pub mod Apart
 pub mod Changing
 pub mod Due
+pub mod Freeing
 pub mod Keeping
 pub mod Kept
 pub mod Mapping

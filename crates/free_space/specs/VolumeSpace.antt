@@ -142,3 +142,11 @@ with_released kind group v = keeping (record v {
   used = without_due v.used v.waiting kind group;
   waiting = still_waiting kind group v.waiting;
 })
+
+-- the used pages without those that wait
+abbrev pub without_waiting : FinSet nat_cmp → List Waiting → FinSet nat_cmp
+without_waiting used waiting = retain used (λ p. not (is_among waiting p))
+
+-- all pages that wait are free, and that is kept
+abbrev pub with_none_waiting : VolumeSpace → VolumeSpace
+with_none_waiting v = keeping (record v { used = without_waiting v.used v.waiting; waiting = [] })

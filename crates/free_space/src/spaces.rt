@@ -1,7 +1,7 @@
 //! The free space of a domain.
 ghost use Rattle.std.specs.Prelude.{◌≡◌, ℕ, ◌+◌, ◌<◌, ◌≤◌, ◌^◌, ◌↔◌, true, false, None, Some, List, length, sum_by, IfOk, IfErr, IfSome, IfNone, OnOk, OnErr, IsSomeAnd, MatchBool};
 ghost use Rattle.free_space.specs.declared.waiting.PageUse.TheVariants.{Data, Metadata};
-ghost use Rattle.free_space.specs.VolumeSpace.{added, with_page, with_run, without_page, with_open, with_waiting, keeping, with_released};
+ghost use Rattle.free_space.specs.VolumeSpace.{added, with_page, with_run, without_page, with_open, with_waiting, keeping, with_none_waiting, with_released};
 ghost use Rattle.free_space.specs.Sound.{AreSound, WasSoundVolume};
 ghost use Rattle.free_space.specs.Spaces.{no_spaces, volume_of, with_volume, change_volume, change_volumes, kept_spaces, AreTakenOn, AreFreedOn, AreGivenBackOn, IsFree, CanTake, CanTakeRun, IsHeld, missed, free_pages, waiting_pages, held_pages, IsLongestOn};
 
@@ -211,6 +211,18 @@ impl FreeSpace {
         for slot in self.volumes.iter_mut() {
             if let Some(volume) = slot {
                 volume.release(kind, group);
+            }
+        }
+    }
+
+    /// All pages that wait are free, whatever group they wait for, and that is kept, as all that has
+    /// changed before: so it is where no log has a group that names one of them.
+    pub fn free_waiting(&mut self)
+        ensures { self.new ≡ change_volumes with_none_waiting self.old }
+    {
+        for slot in self.volumes.iter_mut() {
+            if let Some(volume) = slot {
+                volume.free_waiting();
             }
         }
     }

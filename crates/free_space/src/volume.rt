@@ -3,7 +3,7 @@ ghost use Rattle.std.specs.Prelude.{◌≡◌, ℕ, ◌+◌, ◌-◌, ◌^◌, �
 ghost use Rattle.std.specs.List.{IsDistinct};
 ghost use Rattle.std.specs.FinSet.{contains, len, from_list, union, difference};
 ghost use Rattle.storage_bitmap.specs.VolumePages.{IsLongestRun};
-ghost use Rattle.free_space.specs.VolumeSpace.{added, volume_pages, IsFreePage, AreFreePages, is_waiting, with_page, with_run, without_page, with_open, with_waiting, without_due, still_waiting, keeping, as_kept, with_released, is_among};
+ghost use Rattle.free_space.specs.VolumeSpace.{added, volume_pages, IsFreePage, AreFreePages, is_waiting, with_page, with_run, without_page, with_open, with_waiting, without_due, without_waiting, still_waiting, keeping, as_kept, with_none_waiting, with_released, is_among};
 ghost use Rattle.free_space.specs.Sound.{IsSoundVolume, WasSoundVolume, is_one, without};
 ghost use Rattle.free_space.specs.Spaces.{AreTakenOn, AreFreedOn, AreGivenBackOn};
 
@@ -67,6 +67,16 @@ fn release(map: &mut Bitmap, waiting: &mut Vec<Waiting>, kind: PageUse, group: u
         }
     }
     waiting.retain(|page| !page.is_due(kind, group));
+}
+
+/// Frees all pages that wait.
+fn free_each(map: &mut Bitmap, waiting: &[Waiting])
+    requires { (p : ℕ) → is_among waiting.now p ≡ true → p < map.old.pages }
+    ensures { map.new ≡ record map.old { used = without_waiting map.old.used waiting.now } }
+{
+    for page in waiting {
+        map.clear(page.page);
+    }
 }
 
 /// Counts each of the pages among the free ones.
@@ -319,6 +329,18 @@ impl Volume {
         self.taken.clear();
         self.freed.clear();
         self.kept_waiting = self.waiting.len();
+    }
+
+    /// Frees all pages that wait, and keeps that.
+    pub fn free_waiting(&mut self)
+        ensures value { self.new ≡ with_none_waiting self.old }
+        ensures sound { IsSoundVolume self.new }
+    {
+        free_each(&mut self.map, &self.waiting);
+        self.waiting.clear();
+        self.taken.clear();
+        self.freed.clear();
+        self.kept_waiting = 0;
     }
 
     /// Opens the volume, or closes it.
