@@ -143,6 +143,13 @@ impl Deferred {
         self.queue.last()
     }
 
+    /// The entries, of which the last one is gone on with.
+    pub fn entries(&self) -> &[Entry]
+        ensures { result.now ≡ self.now.list.entries }
+    {
+        self.queue.entries.as_slice()
+    }
+
     /// The page of a tag directory that is given back next, once no file is on the list: the last
     /// one. None where no such page is.
     pub fn last_tag_page(&self) -> Option<Home>
