@@ -151,7 +151,7 @@ distinct : (cs : List PlacedCell) → IsStable (AreDistinct cs)
 distinct [] = unit
 distinct (c ∷ cs) = both not (distinct cs)
 
-linked : (pages : Pages) (first : PlacedCell) (rest : List PlacedCell) → IsStable (AreLinked pages first rest)
+pub linked : (pages : Pages) (first : PlacedCell) (rest : List PlacedCell) → IsStable (AreLinked pages first rest)
 linked pages first rest t = record {
   stands = stands pages first.at first.cell (∥∥₁_map t (λ x. x.stands));
   follow = follow pages first.cell.head rest (∥∥₁_map t (λ x. x.follow));

@@ -142,7 +142,7 @@ belong cells pages t = record {
 held : (space : Spaces) (vol p : ℕ) → IsStable (IsHeld space vol p)
 held space vol p = some_and (λ (v : VolumeSpace). (has v.used p ≡ true) × (is_waiting v p ≡ false)) (λ v. both (one_bool _ _) (one_bool _ _)) (volume_of space vol)
 
-allocated : (space : Spaces) (cells : Cells) (pages : Pages) → IsStable (AreAllocated space cells pages)
+pub allocated : (space : Spaces) (cells : Cells) (pages : Pages) → IsStable (AreAllocated space cells pages)
 allocated space cells pages t = record {
   belong = belong cells pages (∥∥₁_map t (λ x. x.belong));
   held = λ vol place low within. held space vol (slice_index (table_of cells vol) place) (∥∥₁_map t (λ x. x.held vol place low within));
@@ -152,7 +152,7 @@ allocated space cells pages t = record {
   ends = λ vol place last. some_and (λ page. next_of page ≡ 0) (λ page. one_number _ _) (pages (home_at cells vol place)) (∥∥₁_map t (λ x. x.ends vol place last));
 }
 
-held_apart : (space : Spaces) (cells : Cells) (home : Home) → IsStable (IsHeldApart space cells home)
+pub held_apart : (space : Spaces) (cells : Cells) (home : Home) → IsStable (IsHeldApart space cells home)
 held_apart space cells home t = record { held = held space home.vol home.page (∥∥₁_map t (λ x. x.held)); off_table = not (∥∥₁_map t (λ x. x.off_table)) }
 
 pub file_page : (space : Spaces) (cells : Cells) (places : List TagPlace) (home : Home) → IsStable (IsFilePage space cells places home)
