@@ -14,7 +14,11 @@ pub mod QuotasKnown
 pub mod Limited
 pub mod LimitsBounded
 pub mod LimitsSet
+pub mod BookChanged
 pub mod LimitsInBook
 pub mod QuotaCalls
 pub mod LimitsAsks
 pub mod Counted
+pub mod BooksFollow
+pub mod ChargeAsks
+pub mod Charged

@@ -1,161 +1,48 @@
--- A fileset's book with an owner's limits: the domain is what it was, and has the book.
-use Rattle.std.proofs.Common.{◌≡◌, ◌∙◌, ◌<◌, ◌≤◌, ℕ, Option, Some, None, IfSome, IsSome, length, slice_get, take, sym, ap, subst, ⊎_elim, true≢false}
-use Rattle.std.proofs.Math.Logic.{∥∥₁_map}
-use Rattle.std.proofs.lemmas.Bool.{cases_eq}
+-- A fileset's book with an owner's limits, set once the pages have them.
+use Rattle.std.proofs.Common.{◌≡◌, ◌∙◌, ◌<◌, ℕ, IsSome, length, sym, ap, subst}
 use Rattle.std.specs.FinMap.{insert}
-use Rattle.bitfile_core.specs.declared.bitfiles.Bitfiles.{Bitfiles}
-use Rattle.free_cells.specs.Cells.{is_closed, kept_of}
-use Rattle.free_space.specs.Spaces.{Spaces, kept_spaces, volume_of}
 use Rattle.fileset_model.specs.Filesets.{FilesetMap}
 use Rattle.fileset_model.specs.Usage.{with_limits}
 use Rattle.fileset_model.specs.declared.command.Owner.{Owner}
 use Rattle.fileset_model.specs.declared.fileset.FilesetSlot.{FilesetSlot}
 use Rattle.fileset_model.specs.declared.fileset.Limits.{Limits}
-use Rattle.fileset_table.specs.Table.{IsTable}
 use Rattle.fileset_table.specs.declared.slot.FilesetEntry.{FilesetEntry}
 use Rattle.quota_book.specs.Book.{Book}
-use Rattle.staged_pages.specs.Store.{before_of}
 use Rattle.domain_standing.specs.Domain.{DomainNow}
-use Rattle.domain_standing.specs.Sources.{StandAlone}
-use Rattle.domain_standing.specs.Standing.{AreBooksOf, HaveParents, IsMarkedBut, StandsDomain}
+use Rattle.domain_standing.specs.Standing.{AreBooksOf, HaveParents}
 use Rattle.standing_laws.specs.SetsQuota.{fileset_limited}
-use Rattle.standing_laws.specs.Sound.{IsSound}
-use Rattle.domain_parts.specs.Listing.{HaveOnce}
-use Rattle.domain_parts.specs.Slots.{CanGoBack, ChangesSlot, HasNumber, book_in, kept_book, kept_places, places_in, slot_in}
-use Rattle.domain_parts.specs.declared.slots.SlotFiles.{SlotFiles}
-use Rattle.domain_memory.specs.Kept.{KeepsKept}
-use Rattle.domain_memory.specs.Memory.{with_was}
-use Rattle.domain_memory.specs.Staged.{IsStaged, MayGoBack, staged_books, staged_in}
+use Rattle.domain_parts.specs.Slots.{book_in, slot_in}
+use Rattle.domain_memory.specs.Staged.{IsStaged, staged_books, staged_in}
 use Rattle.domain_memory.specs.declared.memory.DomainMemory.{DomainMemory}
-use Rattle.domain_stages.specs.Limits.{LimitsFiles, SetsInBook}
+use Rattle.domain_stages.specs.Charging.{ChangesInBook, ChangesOneBook}
+use Rattle.domain_stages.specs.Limits.{SetsLimitsIn}
+use Rattle.domain_stages.proofs.BookChanged.{one_book, staged_same, still_staged}
 use Rattle.domain_stages.proofs.Limited.{IsLimited}
-use Rattle.domain_stages.proofs.SlotsSet.{length_set, slot_other, slot_set}
 
--- what is told of a slot by its files and by what was kept is the same
-module _ (who : Owner) (limits : Limits) where
-  abbrev Limits_it : SlotFiles → SlotFiles → Type 0
-  Limits_it = LimitsFiles who limits
-
-  same_there : {X : Type 0} (what : Option SlotFiles → X) → ((a b : SlotFiles) → Limits_it a b → what (Some b) ≡ what (Some a)) → (old new : Option SlotFiles) → ChangesSlot Limits_it old new → what new ≡ what old
-  same_there what same None new none = ap what none
-  same_there what same (Some a) None is = absurd is
-  same_there what same (Some a) (Some b) is = same a b is
-
-  places_there : (a b : SlotFiles) → Limits_it a b → places_in (Some b) ≡ places_in (Some a)
-  places_there a b is = ap (λ (f : Bitfiles). f.tags) is.files
-
-  kept_places_there : (a b : SlotFiles) → Limits_it a b → kept_places (Some b) ≡ kept_places (Some a)
-  kept_places_there a b is = λ i. take (is.tag_pages i) ((is.files i).tags)
-
-  number_there : (n : ℕ) (old new : Option SlotFiles) → ChangesSlot Limits_it old new → IfSome old (HasNumber n) → IfSome new (HasNumber n)
-  number_there n None new none has = subst (λ o. IfSome o (HasNumber n)) (sym none) tt
-  number_there n (Some a) None is has = absurd is
-  number_there n (Some a) (Some b) is has = ap (λ (f : Bitfiles). f.fileset) is.files ∙ has
-
-  can_there : (old new : Option SlotFiles) → ChangesSlot Limits_it old new → IfSome old CanGoBack → IfSome new CanGoBack
-  can_there None new none can = subst (λ o. IfSome o CanGoBack) (sym none) tt
-  can_there (Some a) None is can = absurd is
-  can_there (Some a) (Some b) is can = record {
-    few = subst (λ (n : ℕ). n ≤ length b.files.tags) (sym is.tag_pages) (subst (λ (f : Bitfiles). a.tag_pages ≤ length f.tags) (sym is.files) can.few);
-    once = λ j k p q at_j at_k same. can.once j k p q (ap (λ (f : Bitfiles). slice_get f.tags j) (sym is.files) ∙ at_j) (ap (λ (f : Bitfiles). slice_get f.tags k) (sym is.files) ∙ at_k) same;
-  }
-
-  book_there : (old new : Option SlotFiles) → ChangesSlot Limits_it old new → IsSome old → book_in new ≡ record (book_in old) { limits = with_limits (book_in old).limits who limits }
-  book_there None new none some = absurd (true≢false (sym some))
-  book_there (Some a) None is some = absurd is
-  book_there (Some a) (Some b) is some = is.book
-
-module _ (number : ℕ) (who : Owner) (limits : Limits) (new last : DomainMemory) (within : number < length new.slots.items) (b : SetsInBook number who limits new last) where
-  slot_is : slot_in last.slots.items number ≡ b.slot
-  slot_is = ap (λ s. slot_in s number) b.slots ∙ slot_set new.slots.items number b.slot within
-
-  slot_was : (n : ℕ) → ¬ n ≡ number → slot_in last.slots.items n ≡ slot_in new.slots.items n
-  slot_was n differ = ap (λ s. slot_in s n) b.slots ∙ slot_other new.slots.items number n b.slot differ
-
-  slot_same : {X : Type 0} (what : Option SlotFiles → X) → what b.slot ≡ what (slot_in new.slots.items number) → (n : ℕ) → what (slot_in last.slots.items n) ≡ what (slot_in new.slots.items n)
-  slot_same what is n = ⊎_elim
-      (λ same. ap (λ (k : ℕ). what (slot_in last.slots.items k)) same ∙ ap what slot_is ∙ is ∙ sym (ap (λ (k : ℕ). what (slot_in new.slots.items k)) same))
-      (λ differ. ap what (slot_was n differ))
-      (cases_eq n number)
-
-  places_same : (n : ℕ) → places_in (slot_in last.slots.items n) ≡ places_in (slot_in new.slots.items n)
-  places_same = slot_same places_in (same_there who limits places_in (places_there who limits) (slot_in new.slots.items number) b.slot b.limited)
-
-  pub staged_same : staged_in last ≡ staged_in new
-  staged_same = ap staged_in b.same ∙ (λ i. record (staged_in new) { tags = λ n. places_same n i })
-
-  still_staged : (all : FilesetMap) → IsStaged new all → IsStaged last all
-  still_staged all is = record {
-    stands = subst (λ (d : DomainNow). StandsDomain d all) (sym staged_same) is.stands;
-    alone = subst StandAlone (sym staged_same) is.alone;
-    sound = subst IsSound (sym staged_same) is.sound;
-    marked = subst (λ (d : DomainNow). IsMarkedBut (record d { space = kept_spaces last.space })) (sym staged_same)
-        (subst (λ (s : Spaces). IsMarkedBut (record (staged_in new) { space = kept_spaces s })) (sym (ap (λ (m : DomainMemory). m.space) b.same)) is.marked);
-    once = subst (λ (m : DomainMemory). HaveOnce m.list.list.entries) (sym b.same) is.once;
-    room = subst (λ (m : DomainMemory). length m.listed.items ≤ m.list.room) (sym b.same) is.room;
-  }
-
-  pub book_kept : KeepsKept new last
-  book_kept = record {
-    frame = ap (λ (m : DomainMemory). m.frame) b.same;
-    table = ap (λ (m : DomainMemory). with_was m.was m.table) b.same;
-    places = slot_same kept_places (same_there who limits kept_places (kept_places_there who limits) (slot_in new.slots.items number) b.slot b.limited);
-    books = λ n entry there. slot_same kept_book (same_there who limits kept_book (λ x y is. is.kept) (slot_in new.slots.items number) b.slot b.limited) n;
-    pages = ap (λ (m : DomainMemory). before_of m.pages) b.same;
-    spaces = λ vol. ap (λ (m : DomainMemory). volume_of (kept_spaces m.space) vol) b.same;
-    cells = λ vol. ap (λ (m : DomainMemory). kept_of m.cells vol) b.same;
-    marks = λ vol. ap (λ (m : DomainMemory). is_closed m.cells vol) b.same;
-    list = ap (λ (m : DomainMemory). m.list.list) b.same;
-  }
-
-  pub book_back : ∥ MayGoBack new ∥₁ → ∥ MayGoBack last ∥₁
-  book_back may = ∥∥₁_map may (λ m. record {
-    has = record {
-      count = ap length b.slots ∙ length_set new.slots.items number b.slot ∙ m.has.count;
-      numbered = λ n. ⊎_elim
-          (λ same. subst (λ (k : ℕ). IfSome (slot_in last.slots.items k) (HasNumber k)) (sym same)
-          (subst (λ o. IfSome o (HasNumber number)) (sym slot_is) (number_there who limits number (slot_in new.slots.items number) b.slot b.limited (m.has.numbered number))))
-          (λ differ. subst (λ o. IfSome o (HasNumber n)) (sym (slot_was n differ)) (m.has.numbered n))
-          (cases_eq n number);
-    };
-    table = subst IsTable (sym book_kept.table) m.table;
-    slots = λ n. ⊎_elim
-        (λ same. subst (λ (k : ℕ). IfSome (slot_in last.slots.items k) CanGoBack) (sym same)
-        (subst (λ o. IfSome o CanGoBack) (sym slot_is) (can_there who limits (slot_in new.slots.items number) b.slot b.limited (m.slots number))))
-        (λ differ. subst (λ o. IfSome o CanGoBack) (sym (slot_was n differ)) (m.slots n))
-        (cases_eq n number);
-  })
-
-  module _ (old : DomainMemory) (slots : new.slots ≡ old.slots) (entry : FilesetEntry) (all : FilesetMap) (fileset : FilesetSlot) (some : IsSome (slot_in new.slots.items number)) (limited : IsLimited number who limits entry all fileset old new) where
+module _ (number : ℕ) (who : Owner) (limits : Limits) (new last : DomainMemory) (within : number < length new.slots.items) (b : ChangesInBook number (SetsLimitsIn who limits) new last) (old : DomainMemory) (slots : new.slots ≡ old.slots) (entry : FilesetEntry) (all : FilesetMap)
+    (fileset : FilesetSlot) (some : IsSome (slot_in new.slots.items number)) (limited : IsLimited number who limits entry all fileset old new)
+  where
     abbrev all_now : FilesetMap
     all_now = insert all entry.name (fileset_limited who limits fileset)
 
+    same_domain : staged_in last ≡ staged_in new
+    same_domain = staged_same number (SetsLimitsIn who limits) new last within b
+
+    one : ChangesOneBook number (SetsLimitsIn who limits) new last
+    one = one_book number (SetsLimitsIn who limits) new last within b some
+
     pub last_limited : IsStaged last all_now
-    last_limited = still_staged all_now limited.staged
+    last_limited = still_staged number (SetsLimitsIn who limits) new last within b all_now limited.staged
 
     pub last_parents_so : HaveParents (staged_in old) → HaveParents (staged_in last)
-    last_parents_so parents = subst HaveParents (sym staged_same) (limited.parents parents)
+    last_parents_so parents = subst HaveParents (sym same_domain) (limited.parents parents)
 
     books_old : (n : ℕ) → staged_books new n ≡ staged_books old n
     books_old n = ap (λ s. book_in (slot_in s.items n)) slots
 
     book_is : staged_books last number ≡ record (staged_books old number) { limits = with_limits (staged_books old number).limits who limits }
-    book_is = ap book_in slot_is ∙ book_there who limits (slot_in new.slots.items number) b.slot b.limited some ∙ ap (λ (k : Book). record k { limits = with_limits k.limits who limits }) (books_old number)
+    book_is = one.book ∙ ap (λ (k : Book). record k { limits = with_limits k.limits who limits }) (books_old number)
 
     pub last_books_so : AreBooksOf (staged_books old) (staged_in old) all → AreBooksOf (staged_books last) (staged_in last) all_now
-    last_books_so are = subst (λ (d : DomainNow). AreBooksOf (staged_books last) d all_now) (sym staged_same)
-        (limited.books (staged_books last) (λ n differ. ap book_in (slot_was n differ) ∙ books_old n) book_is are)
-
--- slots of which each has what it had
-pub slots_kept : (old new : DomainMemory) → new.slots.items ≡ old.slots.items → new ≡ record old { slots = new.slots } → KeepsKept old new
-slots_kept old new slots same = record {
-  frame = ap (λ (m : DomainMemory). m.frame) same;
-  table = ap (λ (m : DomainMemory). with_was m.was m.table) same;
-  places = λ n. ap (λ s. kept_places (slot_in s n)) slots;
-  books = λ n entry there. ap (λ s. kept_book (slot_in s n)) slots;
-  pages = ap (λ (m : DomainMemory). before_of m.pages) same;
-  spaces = λ vol. ap (λ (m : DomainMemory). volume_of (kept_spaces m.space) vol) same;
-  cells = λ vol. ap (λ (m : DomainMemory). kept_of m.cells vol) same;
-  marks = λ vol. ap (λ (m : DomainMemory). is_closed m.cells vol) same;
-  list = ap (λ (m : DomainMemory). m.list.list) same;
-}
+    last_books_so are = subst (λ (d : DomainNow). AreBooksOf (staged_books last) d all_now) (sym same_domain)
+        (limited.books (staged_books last) (λ n differ. one.others n differ ∙ books_old n) book_is are)

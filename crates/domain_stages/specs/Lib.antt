@@ -1,3 +1,4 @@
 pub mod Table
 pub mod Beginning
 pub mod Limits
+pub mod Charging

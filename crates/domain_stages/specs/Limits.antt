@@ -1,5 +1,5 @@
 -- An owner's limits, set in the fileset of a slot of a domain's memory, step by step.
-use Rattle.std.specs.Prelude.{◌≡◌, ◌⊎◌, ℕ, false, List, Option, IfSome, slice_set}
+use Rattle.std.specs.Prelude.{◌≡◌, ◌⊎◌, ℕ, false, List, IfSome}
 use Rattle.domain_base.specs.declared.place.CellAt.{CellAt}
 use Rattle.page_store.specs.declared.fault.StoreFault.{StoreFault}
 use Rattle.page_store.specs.declared.fault.StoreFault.TheVariants.{NoPage, OutOfMemory}
@@ -15,13 +15,12 @@ use Rattle.fileset_model.specs.declared.command.Owner.TheVariants as owner
 use Rattle.fileset_model.specs.declared.fileset.Limits.{Limits}
 use Rattle.fileset_table.specs.declared.slot.FilesetEntry.{FilesetEntry}
 use Rattle.fileset_table.specs.declared.slot.SlotItem.TheVariants as slot
+use Rattle.quota_book.specs.Book.{Book}
 use Rattle.quota_book.specs.QuotaCells.{touched}
 use Rattle.quota_chain.specs.QuotaChain.{IsQuotaChain, SetsLimits, TakesIfUntouched, said_in}
 use Rattle.staged_pages.specs.Store.{before_of, pages_of}
 use Rattle.standing_laws.specs.BoundedFileset.{entry_bounded}
 use Rattle.standing_laws.specs.SetsQuota.{entry_limited}
-use Rattle.domain_parts.specs.Slots.{ChangesSlot, slot_in}
-use Rattle.domain_parts.specs.declared.slots.SlotFiles.{SlotFiles}
 use Rattle.domain_memory.specs.declared.memory.DomainMemory.{DomainMemory}
 use Rattle.domain_stages.specs.Table.{HasOriginal, PutsSlot}
 
@@ -71,18 +70,6 @@ LimitsNone space cells NoPage = ((at : CellAt) → can_take cells at ≡ false)
     × ((vol p : ℕ) → ¬ CanTake space vol p)
 LimitsNone space cells OutOfMemory = Unit {0}
 
--- a fileset's book has the limits, and all else of its slot is as it was
-pub record LimitsFiles (who : Owner) (limits : Limits) (old new : SlotFiles) : Type 0 where
-  pub files : new.files ≡ old.files
-  pub tag_pages : new.tag_pages ≡ old.tag_pages
-  pub kept : new.book.kept ≡ old.book.kept
-  pub book : new.book.book
-      ≡ record old.book.book { limits = with_limits old.book.book.limits who limits }
-
--- so it is of the slot with a number, and nothing else changes
-pub record SetsInBook (number : ℕ) (who : Owner) (limits : Limits) (old new : DomainMemory)
-    : Type 0 where
-  pub slot : Option SlotFiles
-  pub limited : ChangesSlot (LimitsFiles who limits) (slot_in old.slots.items number) slot
-  pub slots : new.slots.items ≡ slice_set old.slots.items number slot
-  pub same : new ≡ record old { slots = new.slots }
+-- a book has the limits, and all else of it is as it was
+abbrev pub SetsLimitsIn : Owner → Limits → Book → Book → Type 0
+SetsLimitsIn who limits old new = new ≡ record old { limits = with_limits old.limits who limits }

@@ -17,7 +17,8 @@ ghost use Rattle.standing_laws.specs.SetsQuota.{fileset_limited};
 ghost use Rattle.domain_parts.specs.Slots.{ChangesSlot};
 ghost use Rattle.domain_memory.specs.Kept.{KeepsKept};
 ghost use Rattle.domain_memory.specs.Staged.{IsStaged, IsStagedForSome, MayGoBack, staged_books, staged_in};
-ghost use Rattle.domain_stages.specs.Limits.{BoundsInSlot, LimitsFiles, LimitsNone, SetsInBook, SetsInChain, SetsInPages, SetsOwner};
+ghost use Rattle.domain_stages.specs.Charging.{ChangesBook, ChangesInBook};
+ghost use Rattle.domain_stages.specs.Limits.{BoundsInSlot, LimitsNone, SetsInChain, SetsInPages, SetsLimitsIn, SetsOwner};
 ghost use Rattle.domain_stages.specs.Table.{HasOriginal, HasTablePage};
 
 use crate::table::put_in_table;
@@ -169,7 +170,7 @@ fn set_in_pages(
 
 /// Sets the limits of an owner in a fileset's book.
 fn limit_files(files: &mut SlotFiles, who: Owner, limits: &Limits) -> Result<(), OutOfMemory>
-    ensures ok { OnOk result (LimitsFiles who limits.now files.old files.new) }
+    ensures ok { OnOk result (ChangesBook (SetsLimitsIn who limits.now) files.old files.new) }
     ensures err { OnErr result (files.new ≡ files.old) }
 {
     files.book.set_limits(who, *limits)
@@ -177,7 +178,8 @@ fn limit_files(files: &mut SlotFiles, who: Owner, limits: &Limits) -> Result<(),
 
 /// Sets them in the book of a slot, if it has one.
 fn limit_slot(slot: &mut Option<SlotFiles>, who: Owner, limits: &Limits) -> Result<(), OutOfMemory>
-    ensures ok { OnOk result (ChangesSlot (LimitsFiles who limits.now) slot.old slot.new) }
+    ensures ok { OnOk result (ChangesSlot (ChangesBook (SetsLimitsIn who limits.now)) slot.old
+        slot.new) }
     ensures err { OnErr result (slot.new ≡ slot.old) }
 {
     match slot {
@@ -194,7 +196,8 @@ fn set_in_book(
     limits: &Limits,
 ) -> Result<(), OutOfMemory>
     requires within { number < length memory.old.slots.items }
-    ensures ok { OnOk result (SetsInBook number who limits.now memory.old memory.new) }
+    ensures ok { OnOk result (ChangesInBook number (SetsLimitsIn who limits.now) memory.old
+        memory.new) }
     ensures err { OnErr result (memory.new.slots.items ≡ memory.old.slots.items) }
     ensures same { memory.new ≡ record memory.old { slots = memory.new.slots } }
 {

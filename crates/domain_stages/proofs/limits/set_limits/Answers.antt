@@ -5,7 +5,9 @@ use Rattle.domain_memory.specs.Staged.{staged_in}
 use Rattle.domain_parts.specs.Slots.{slot_in}
 use Rattle.domain_stages.proofs.KeptParts.{asks_slot, back_kept}
 use Rattle.domain_stages.proofs.LimitsAsks.{its_original, pages_limited, slot_there}
-use Rattle.domain_stages.proofs.LimitsInBook.{book_back, book_kept, last_books_so, last_limited, last_parents_so, slots_kept}
+use Rattle.domain_stages.specs.Limits.{SetsLimitsIn}
+use Rattle.domain_stages.proofs.BookChanged.{book_back, book_kept, slots_kept}
+use Rattle.domain_stages.proofs.LimitsInBook.{last_books_so, last_limited, last_parents_so}
 use Rattle.domain_stages.proofs.limits.set_limits.Goals as goal
 
 pub returns-in_err-set_in_pages-clause-back : goal.returns-in_err-set_in_pages-clause-back
@@ -26,13 +28,13 @@ pub returns-clause-kept : goal.returns-clause-kept
 returns-clause-kept c =
     let low : c.args.number < 32 = search rules in
     let within = asks_slot c.set_in_pages.new.memory c.args.number (back_kept c.args.memory.now c.set_in_pages.new.memory (ap (λ s. s.items) c.set_in_pages.ensures.slots) c.set_in_pages.ensures.kept c.requires.back) low in
-    kept_joined c.args.memory.now c.set_in_pages.new.memory c.set_in_book.new.memory c.set_in_pages.ensures.kept (book_kept c.args.number c.args.who c.args.limits c.set_in_pages.new.memory c.set_in_book.new.memory within c.in_ok-set_in_book.ensures.ok)
+    kept_joined c.args.memory.now c.set_in_pages.new.memory c.set_in_book.new.memory c.set_in_pages.ensures.kept (book_kept c.args.number (SetsLimitsIn c.args.who c.args.limits) c.set_in_pages.new.memory c.set_in_book.new.memory within c.in_ok-set_in_book.ensures.ok)
 
 pub returns-clause-back : goal.returns-clause-back
 returns-clause-back c =
     let low : c.args.number < 32 = search rules in
     let within = asks_slot c.set_in_pages.new.memory c.args.number (back_kept c.args.memory.now c.set_in_pages.new.memory (ap (λ s. s.items) c.set_in_pages.ensures.slots) c.set_in_pages.ensures.kept c.requires.back) low in
-    book_back c.args.number c.args.who c.args.limits c.set_in_pages.new.memory c.set_in_book.new.memory within c.in_ok-set_in_book.ensures.ok (back_kept c.args.memory.now c.set_in_pages.new.memory (ap (λ s. s.items) c.set_in_pages.ensures.slots) c.set_in_pages.ensures.kept c.requires.back)
+    book_back c.args.number (SetsLimitsIn c.args.who c.args.limits) c.set_in_pages.new.memory c.set_in_book.new.memory within c.in_ok-set_in_book.ensures.ok (back_kept c.args.memory.now c.set_in_pages.new.memory (ap (λ s. s.items) c.set_in_pages.ensures.slots) c.set_in_pages.ensures.kept c.requires.back)
 
 pub returns-clause-staged : goal.returns-clause-staged
 returns-clause-staged c = λ entry has all is fileset there.
