@@ -3,7 +3,7 @@ ghost use Rattle.std.specs.Prelude.{◌≡◌, ◌≤◌, true, IfErr, IfOk, Non
 ghost use Rattle.dir_pages.specs.Rows.{is_row_name};
 ghost use Rattle.domain_layout.specs.CellRules.{of_original};
 ghost use Rattle.domain_memory.specs.Kept.{KeepsKept};
-ghost use Rattle.domain_memory.specs.Staged.{IsStagedForSome, MayGoBack};
+ghost use Rattle.domain_memory.specs.Staged.{IsStagedForSome, MayGoBack, staged_books};
 ghost use Rattle.fileset_model.specs.Apply.{link_checks, linked};
 ghost use Rattle.fileset_model.specs.Filesets.{FilesetMap};
 ghost use Rattle.fileset_model.specs.declared.fileset.FilesetSlot.{FilesetSlot};
@@ -82,6 +82,8 @@ pub fn create(
         → HasFileset memory number all entry fileset
         → IfErr result.1 (IsRefused (free_checks path.now) fileset) }
     ensures parents { OnOk result.1 (KeepsParents memory result.0) }
+    ensures table { result.0.table ≡ memory.table }
+    ensures counted { staged_books result.0 ≡ staged_books memory }
     ensures kept { ∥ KeepsKept memory result.0 ∥₁ }
     ensures back { ∥ MayGoBack result.0 ∥₁ }
 {
@@ -118,6 +120,8 @@ pub fn link(
         → HasFileset memory number all entry fileset
         → OnOk result.1 (KeepsBooks memory result.0 all entry fileset
         (linked path.now to.now fileset.tree)) }
+    ensures table { result.0.table ≡ memory.table }
+    ensures counted { staged_books result.0 ≡ staged_books memory }
     ensures kept { ∥ KeepsKept memory result.0 ∥₁ }
     ensures back { ∥ MayGoBack result.0 ∥₁ }
 {

@@ -3,7 +3,7 @@ ghost use Rattle.std.specs.Prelude.{◌≡◌, ◌≤◌, true, IfErr, IfOk, Non
 ghost use Rattle.dir_pages.specs.Rows.{is_row_name};
 ghost use Rattle.domain_layout.specs.CellRules.{of_original};
 ghost use Rattle.domain_memory.specs.Kept.{KeepsKept};
-ghost use Rattle.domain_memory.specs.Staged.{IsStagedForSome, MayGoBack};
+ghost use Rattle.domain_memory.specs.Staged.{IsStagedForSome, MayGoBack, staged_books};
 ghost use Rattle.fileset_model.specs.Apply.{rename_checks, renamed};
 ghost use Rattle.fileset_model.specs.Filesets.{FilesetMap};
 ghost use Rattle.fileset_model.specs.declared.fileset.FilesetSlot.{FilesetSlot};
@@ -82,6 +82,8 @@ pub fn rename(
         → IfOk result.1 (λ answer. answer.replaced ≡ None
         → KeepsBooks memory result.0 all entry fileset
         (renamed path.now to.now fileset.tree)) }
+    ensures table { result.0.table ≡ memory.table }
+    ensures counted { staged_books result.0 ≡ staged_books memory }
     ensures kept { ∥ KeepsKept memory result.0 ∥₁ }
     ensures back { ∥ MayGoBack result.0 ∥₁ }
 {

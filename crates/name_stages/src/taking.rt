@@ -2,7 +2,7 @@
 ghost use Rattle.std.specs.Prelude.{◌≡◌, ◌≤◌, false, true, IfErr, IfOk, OnOk, length, slice_get};
 ghost use Rattle.domain_layout.specs.CellRules.{of_original};
 ghost use Rattle.domain_memory.specs.Kept.{KeepsKept};
-ghost use Rattle.domain_memory.specs.Staged.{IsStagedForSome, MayGoBack};
+ghost use Rattle.domain_memory.specs.Staged.{IsStagedForSome, MayGoBack, staged_books};
 ghost use Rattle.fileset_model.specs.Apply.{without};
 ghost use Rattle.fileset_model.specs.Filesets.{FilesetMap};
 ghost use Rattle.fileset_model.specs.declared.fileset.FilesetSlot.{FilesetSlot};
@@ -46,6 +46,8 @@ pub fn unlink(
         → HasFileset memory number all entry fileset
         → IfOk result.1 (λ answer. answer.gone ≡ false
         → KeepsBooks memory result.0 all entry fileset (without path.now fileset.tree)) }
+    ensures table { result.0.table ≡ memory.table }
+    ensures counted { staged_books result.0 ≡ staged_books memory }
     ensures kept { ∥ KeepsKept memory result.0 ∥₁ }
     ensures back { ∥ MayGoBack result.0 ∥₁ }
 {
@@ -77,6 +79,8 @@ pub fn remove_directory(
         → HasFileset memory number all entry fileset
         → IfErr result.1 (IsRefused (rmdir_checks path.now) fileset) }
     ensures parents { OnOk result.1 (KeepsParents memory result.0) }
+    ensures table { result.0.table ≡ memory.table }
+    ensures counted { staged_books result.0 ≡ staged_books memory }
     ensures kept { ∥ KeepsKept memory result.0 ∥₁ }
     ensures back { ∥ MayGoBack result.0 ∥₁ }
 {

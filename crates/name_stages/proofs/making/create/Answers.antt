@@ -6,6 +6,7 @@ use Rattle.names_standing.proofs.Nodes.{node_made}
 use Rattle.name_stages.proofs.Calls.{err_by, has_names, names_were, new_is, ok_both, ok_by}
 use Rattle.name_stages.proofs.Roomy.{err_still, has_room, ok_still, room_back, room_kept, room_parents, room_stands, with_both}
 use Rattle.name_stages.proofs.Parents.{made_directories, on_ok_by, some_calls}
+use Rattle.name_stages.proofs.Left.{books_left, table_left}
 use Rattle.name_stages.proofs.making.create.Goals as goal
 
 pub make_in-answer-requires-clause-names : goal.make_in-answer-requires-clause-names
@@ -57,3 +58,15 @@ returns-clause-back c =
     let chosen = c.choose-chosen.result in
     let calls = some_calls (λ made. said_of c.args.kind made.tag made.dir) chosen c.make_in-answer.new.chosen c.make_in-answer.result c.make_in-answer.ensures.says c.make_in-answer.ensures.err_says in
     room_back c.args.memory c.args.number c.args.settings chosen c.choose-chosen.ensures c.requires.settings c.make_in-answer.new.chosen c.hand_back-memory.result.0 calls.1 c.hand_back-memory.ensures.back c.requires.stands c.requires.back c.requires.original
+
+pub returns-clause-table : goal.returns-clause-table
+returns-clause-table c =
+    let chosen = c.choose-chosen.result in
+    let calls = some_calls (λ made. said_of c.args.kind made.tag made.dir) chosen c.make_in-answer.new.chosen c.make_in-answer.result c.make_in-answer.ensures.says c.make_in-answer.ensures.err_says in
+    table_left c.args.memory c.args.number c.args.settings chosen c.choose-chosen.ensures c.make_in-answer.new.chosen c.hand_back-memory.result.0 calls.1 c.hand_back-memory.ensures.back
+
+pub returns-clause-counted : goal.returns-clause-counted
+returns-clause-counted c =
+    let chosen = c.choose-chosen.result in
+    let calls = some_calls (λ made. said_of c.args.kind made.tag made.dir) chosen c.make_in-answer.new.chosen c.make_in-answer.result c.make_in-answer.ensures.says c.make_in-answer.ensures.err_says in
+    books_left c.args.memory c.args.number c.args.settings chosen c.choose-chosen.ensures c.make_in-answer.new.chosen c.hand_back-memory.result.0 calls.1 c.hand_back-memory.ensures.back

@@ -8,6 +8,7 @@ use Rattle.name_stages.proofs.Books.{named_path}
 use Rattle.name_stages.proofs.Parents.{linked_directories, on_ok_by}
 use Rattle.name_stages.proofs.Calls.{err_by, has_names, is_refused, names_were, ok_by}
 use Rattle.name_stages.proofs.Roomy.{err_still, has_room, ok_still, room_back, room_books, room_kept, room_parents, room_stands, with_both}
+use Rattle.name_stages.proofs.Left.{books_left, table_left}
 use Rattle.name_stages.proofs.making.link.Goals as goal
 
 pub link_at-answer-requires-clause-names : goal.link_at-answer-requires-clause-names
@@ -58,3 +59,15 @@ returns-clause-books c = λ all entry fileset has.
     on_ok_by _ _ c.if_room.result (ok_still _ c.if_room.result c.link_at-answer.result c.hand_back-memory.result.1 c.if_room.ensures.ok c.link_at-answer.ensures.ok) (λ answer is.
     room_books c.args.memory c.args.number c.args.settings chosen c.choose-chosen.ensures c.requires.settings after c.hand_back-memory.result.0 calls c.hand_back-memory.ensures.back all entry fileset has (linked c.args.path.now c.args.to.now fileset.tree)
     (λ book mine. linked_same fileset.tree c.args.path.now c.args.to.now book (named_path c.args.to.now c.requires.some_to) mine))
+
+pub returns-clause-table : goal.returns-clause-table
+returns-clause-table c =
+    let chosen = c.choose-chosen.result in
+    let after : Chosen = record chosen { set = c.link_at-answer.new.set } in
+    table_left c.args.memory c.args.number c.args.settings chosen c.choose-chosen.ensures {said = None} after c.hand_back-memory.result.0 (record { set = c.link_at-answer.ensures.rest; rest = refl }) c.hand_back-memory.ensures.back
+
+pub returns-clause-counted : goal.returns-clause-counted
+returns-clause-counted c =
+    let chosen = c.choose-chosen.result in
+    let after : Chosen = record chosen { set = c.link_at-answer.new.set } in
+    books_left c.args.memory c.args.number c.args.settings chosen c.choose-chosen.ensures {said = None} after c.hand_back-memory.result.0 (record { set = c.link_at-answer.ensures.rest; rest = refl }) c.hand_back-memory.ensures.back

@@ -8,6 +8,7 @@ use Rattle.name_stages.proofs.Books.{book_moved, named_path}
 use Rattle.name_stages.proofs.Calls.{err_by, has_names, names_were, ok_both, ok_by}
 use Rattle.name_stages.proofs.Roomy.{err_still, has_room, ok_still, room_back, room_books, room_kept, room_parents, room_stands, with_both}
 use Rattle.name_stages.proofs.Parents.{moved_directories, on_ok_by, some_calls}
+use Rattle.name_stages.proofs.Left.{books_left, table_left}
 use Rattle.name_stages.proofs.moving.rename.Goals as goal
 
 pub move_in-answer-requires-clause-names : goal.move_in-answer-requires-clause-names
@@ -70,3 +71,15 @@ returns-clause-books c = λ all entry fileset has.
     let it = is.0 fileset was in
     room_books c.args.memory c.args.number c.args.settings chosen c.choose-chosen.ensures c.requires.settings c.move_in-answer.new.chosen c.hand_back-memory.result.0 is.1 c.hand_back-memory.ensures.back all entry fileset has (renamed c.args.path.now c.args.to.now fileset.tree)
     (book_moved c.args.path.now c.args.to.now fileset.tree (named_path c.args.path.now c.requires.some) (named_path c.args.to.now c.requires.some_to) (sym it.replaced ∙ ap (option_map number_of) none)))
+
+pub returns-clause-table : goal.returns-clause-table
+returns-clause-table c =
+    let chosen = c.choose-chosen.result in
+    let calls = some_calls (λ answer. said_of answer.kind answer.moved answer.dir) chosen c.move_in-answer.new.chosen c.move_in-answer.result c.move_in-answer.ensures.says c.move_in-answer.ensures.err_says in
+    table_left c.args.memory c.args.number c.args.settings chosen c.choose-chosen.ensures c.move_in-answer.new.chosen c.hand_back-memory.result.0 calls.1 c.hand_back-memory.ensures.back
+
+pub returns-clause-counted : goal.returns-clause-counted
+returns-clause-counted c =
+    let chosen = c.choose-chosen.result in
+    let calls = some_calls (λ answer. said_of answer.kind answer.moved answer.dir) chosen c.move_in-answer.new.chosen c.move_in-answer.result c.move_in-answer.ensures.says c.move_in-answer.ensures.err_says in
+    books_left c.args.memory c.args.number c.args.settings chosen c.choose-chosen.ensures c.move_in-answer.new.chosen c.hand_back-memory.result.0 calls.1 c.hand_back-memory.ensures.back

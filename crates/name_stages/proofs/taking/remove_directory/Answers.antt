@@ -8,6 +8,7 @@ use Rattle.fileset_model.specs.Apply.{without}
 use Rattle.name_stages.proofs.Parents.{on_ok_by}
 use Rattle.name_stages.proofs.Calls.{err_by, has_names, is_refused, names_were, ok_by}
 use Rattle.name_stages.proofs.Roomy.{err_still, has_room, ok_still, room_back, room_kept, room_parents, room_stands, with_both}
+use Rattle.name_stages.proofs.Left.{books_left, table_left}
 use Rattle.name_stages.proofs.taking.remove_directory.Goals as goal
 
 pub rmdir_at-answer-requires-clause-names : goal.rmdir_at-answer-requires-clause-names
@@ -49,3 +50,15 @@ returns-clause-parents c =
     on_ok_by _ _ c.if_room.result (with_both _ _ c.if_room.result (ok_still _ c.if_room.result c.rmdir_at-answer.result c.hand_back-memory.result.1 c.if_room.ensures.ok c.rmdir_at-answer.ensures.ok) (has_room _ c.if_room.result c.rmdir_at-answer.result c.hand_back-memory.result.1 c.if_room.ensures.ok c.hand_back-memory.ensures.ok)) (λ answer is.
     room_parents c.args.memory c.args.number c.args.settings chosen c.choose-chosen.ensures c.requires.settings after c.hand_back-memory.result.0 calls c.hand_back-memory.ensures.back c.requires.stands c.requires.back c.requires.original tt
     (λ fileset was. let it = is.0 fileset was in record { tree = without c.args.path.now fileset.tree; makes = it.makes; nodes = path_left c.args.path.now fileset.tree; directories = left_stand c.args.path.now fileset.tree }) is.1)
+
+pub returns-clause-table : goal.returns-clause-table
+returns-clause-table c =
+    let chosen = c.choose-chosen.result in
+    let after : Chosen = record chosen { set = c.rmdir_at-answer.new.set } in
+    table_left c.args.memory c.args.number c.args.settings chosen c.choose-chosen.ensures {said = None} after c.hand_back-memory.result.0 (record { set = c.rmdir_at-answer.ensures.rest; rest = refl }) c.hand_back-memory.ensures.back
+
+pub returns-clause-counted : goal.returns-clause-counted
+returns-clause-counted c =
+    let chosen = c.choose-chosen.result in
+    let after : Chosen = record chosen { set = c.rmdir_at-answer.new.set } in
+    books_left c.args.memory c.args.number c.args.settings chosen c.choose-chosen.ensures {said = None} after c.hand_back-memory.result.0 (record { set = c.rmdir_at-answer.ensures.rest; rest = refl }) c.hand_back-memory.ensures.back

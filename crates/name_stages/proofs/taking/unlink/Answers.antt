@@ -9,6 +9,7 @@ use Rattle.name_stages.proofs.Books.{book_left, named_path}
 use Rattle.name_stages.proofs.Parents.{on_ok_by}
 use Rattle.name_stages.proofs.Calls.{err_by, has_names, is_refused, names_were, ok_by}
 use Rattle.name_stages.proofs.Roomy.{err_still, has_room, ok_still, room_back, room_books, room_kept, room_parents, room_stands, with_both}
+use Rattle.name_stages.proofs.Left.{books_left, table_left}
 use Rattle.name_stages.proofs.taking.unlink.Goals as goal
 
 pub unlink_at-answer-requires-clause-names : goal.unlink_at-answer-requires-clause-names
@@ -61,3 +62,15 @@ returns-clause-books c = λ all entry fileset has.
     let it = is fileset was in
     room_books c.args.memory c.args.number c.args.settings chosen c.choose-chosen.ensures c.requires.settings after c.hand_back-memory.result.0 calls c.hand_back-memory.ensures.back all entry fileset has (without c.args.path.now fileset.tree)
     (book_left c.args.path.now _ answer.gone fileset.tree (named_path c.args.path.now c.requires.some) it.was it.last stays))
+
+pub returns-clause-table : goal.returns-clause-table
+returns-clause-table c =
+    let chosen = c.choose-chosen.result in
+    let after : Chosen = record chosen { set = c.unlink_at-answer.new.set } in
+    table_left c.args.memory c.args.number c.args.settings chosen c.choose-chosen.ensures {said = None} after c.hand_back-memory.result.0 (record { set = c.unlink_at-answer.ensures.rest; rest = refl }) c.hand_back-memory.ensures.back
+
+pub returns-clause-counted : goal.returns-clause-counted
+returns-clause-counted c =
+    let chosen = c.choose-chosen.result in
+    let after : Chosen = record chosen { set = c.unlink_at-answer.new.set } in
+    books_left c.args.memory c.args.number c.args.settings chosen c.choose-chosen.ensures {said = None} after c.hand_back-memory.result.0 (record { set = c.unlink_at-answer.ensures.rest; rest = refl }) c.hand_back-memory.ensures.back
