@@ -32,6 +32,7 @@ pub fn put_page(memory: &mut DomainMemory, number: FilesetNo, tag: Tag, page: u3
     ensures parents { (path : Path) (all : FilesetMap) (entry : FilesetEntry)
         (fileset : FilesetSlot) → HasFile memory.old number tag path all entry fileset
         → HaveParents (staged_in memory.old) → HaveParents (staged_in memory.new) }
+    ensures table { memory.new.table ≡ memory.old.table }
     ensures kept { KeepsKept memory.old memory.new }
     ensures back { ∥ MayGoBack memory.new ∥₁ }
     ensures books { staged_books memory.new ≡ staged_books memory.old }

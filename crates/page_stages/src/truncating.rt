@@ -8,7 +8,7 @@ ghost use Rattle.domain_layout.specs.CellRules.{of_original};
 ghost use Rattle.domain_standing.specs.Standing.{HaveParents};
 ghost use Rattle.node_laws.specs.Nodes.{cut_to};
 ghost use Rattle.domain_memory.specs.Kept.{KeepsKept};
-ghost use Rattle.domain_memory.specs.Staged.{IsStagedForSome, MayGoBack, staged_in};
+ghost use Rattle.domain_memory.specs.Staged.{IsStagedForSome, MayGoBack, staged_books, staged_in};
 ghost use Rattle.page_stages.specs.Stages.{HasFile, IsFileIn, ListsLeft, StandsChanged};
 
 use crate::slots::files_in;
@@ -49,6 +49,8 @@ pub fn truncate(
     ensures parents { (path : Path) (all : FilesetMap) (entry : FilesetEntry)
         (fileset : FilesetSlot) → HasFile memory.old number tag path all entry fileset
         → HaveParents (staged_in memory.old) → OnOk result (HaveParents (staged_in memory.new)) }
+    ensures table { memory.new.table ≡ memory.old.table }
+    ensures counted { staged_books memory.new ≡ staged_books memory.old }
     ensures kept { KeepsKept memory.old memory.new }
     ensures back { ∥ MayGoBack memory.new ∥₁ }
 {
