@@ -1,9 +1,19 @@
-mod SeenTrimmed
-mod Entries
-mod SeenOver
-mod PagesOver
-mod SlotOver
-mod SlotsOver
-mod ParentsOver
-mod BitsOver
-mod SpacesOver
+pub mod CellsLeft
+pub mod SpaceWaits
+pub mod OneStep
+pub mod Going
+pub mod Led
+pub mod TablesGo
+pub mod HeldGo
+pub mod ListGo
+pub mod SlotsGo
+pub mod ChainsGo
+pub mod SeenTrimmed
+pub mod Entries
+pub mod SeenOver
+pub mod PagesOver
+pub mod SlotOver
+pub mod SlotsOver
+pub mod ParentsOver
+pub mod BitsOver
+pub mod SpacesOver

@@ -34,6 +34,10 @@ pages_still group version first count last well steps h out =
       }
     ]
 
+-- no page of a tag directory comes on the list
+pub none_listed : (group : ℕ) (version : Version) (first : Now) (count : ℕ) (last : Now) → IsWell first → Steps group version first count last → (h : Home) → ¬ Contains first.list.tag_pages h → ¬ Contains last.list.tag_pages h
+none_listed group version first count last well steps h out = (pages_still group version first count last well steps h out).gone
+
 module _ (group count : ℕ) (d now : DomainNow) (files files_now : Files) (indexes : IndexesAt) (below : StandsBelow d files indexes) (after : StandsBelow now files_now indexes) (r : Releases group count d now files files_now) where
   -- a page that is on the list is one of a tag directory
   pub not_listed : (home : Home) (holder : Holder) → Holds d files indexes holder home → ((n : ℕ) → ¬ holder ≡ of_tags n) → ¬ Contains d.list.tag_pages home

@@ -67,3 +67,7 @@ space_still group version first count last well steps alone a =
 
 pub space_over : (group : ℕ) (version : Version) (first : Now) (count : ℕ) (last : Now) → IsWell first → Steps group version first count last → GiveNone first → kept_spaces last.space ≡ kept_spaces first.space
 space_over group version first count last well steps alone = (space_still group version first count last well steps alone (record { vol = 0; page = 0; cell = 0 })).same
+
+-- no entry gives a clone's file after them either
+pub alone_over : (group : ℕ) (version : Version) (first : Now) (count : ℕ) (last : Now) → IsWell first → Steps group version first count last → GiveNone first → GiveNone last
+alone_over group version first count last well steps alone = (space_still group version first count last well steps alone (record { vol = 0; page = 0; cell = 0 })).alone
