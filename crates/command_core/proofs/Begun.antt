@@ -1,14 +1,14 @@
 -- A new fileset that is laid over a domain's memory, and answered.
-use Rattle.std.proofs.Common.{◌≡◌, ◌<◌, ◌≤◌, ℕ, true, false, true≢false, List, Option, Some, None, IfNone, IfSome, IsSomeAnd, is_some, count_by, inl, inr, refl, sym, ap, subst, slice_get, leb-true, le-leb, arith}
+use Rattle.std.proofs.Common.{◌≡◌, ◌<◌, ◌≤◌, ℕ, true, false, true≢false, List, Option, Some, None, IfNone, IfSome, IsSomeAnd, is_some, count_by, inl, refl, sym, subst, slice_get, leb-true, le-leb, arith}
 use Rattle.std.proofs.Math.Logic.{∥∥₁_map}
 use Rattle.std.specs.FinMap.{insert}
 use Rattle.std.specs.List.{list_any}
 use Rattle.domain_base.specs.declared.place.Home.{Home}
-use Rattle.fileset_model.specs.Apply.{Answers}
+use Rattle.fileset_model.specs.Apply.{refusal_of}
 use Rattle.fileset_model.specs.Filesets.{FilesetMap}
 use Rattle.fileset_model.specs.declared.command.Command.TheVariants.{Mkfset}
 use Rattle.fileset_model.specs.declared.reply.Refusal.TheVariants.{FilesetExists, FilesetsFull}
-use Rattle.fileset_model.specs.declared.reply.Reply.TheVariants.{Done, Refused}
+use Rattle.fileset_model.specs.declared.reply.Reply.TheVariants.{Done}
 use Rattle.fileset_table.specs.Page.{IsTablePage}
 use Rattle.fileset_table.specs.Table.{IsTable, has_name, is_fileset, is_free}
 use Rattle.fileset_table.specs.declared.slot.SlotItem.{SlotItem}
@@ -23,8 +23,8 @@ use Rattle.domain_memory.specs.Staged.{IsSettled, IsStaged, IsStagedForSome, sta
 use Rattle.domain_memory.specs.declared.memory.DomainMemory.{DomainMemory}
 use Rattle.domain_memory.proofs.SettledKept.{settled_kept}
 use Rattle.command_core.specs.Coming.{IsAnswered}
-use Rattle.command_core.proofs.Counted.{full, not_full}
-use Rattle.command_core.proofs.Means.{begun, taken}
+use Rattle.command_core.proofs.Counted.{is_full, not_full}
+use Rattle.command_core.proofs.Means.{begun, is_taken, may_begin}
 use Rattle.command_core.proofs.Removal.{HasNamed}
 
 -- a domain's table keeps the rules of tables
@@ -56,18 +56,24 @@ few_staged memory staged apart =
     omega (arith, most, apart)
 
 -- there is a fileset of the name
-pub answers_taken : (memory : DomainMemory) (number : ℕ) (name : List ℕ) → HasNamed (slice_get memory.table.slots number) name → IsSettled memory → (all : FilesetMap) → StandsFor memory all
-    → IsAnswered memory all (Mkfset name) (Refused FilesetExists)
-answers_taken memory number name h settled all stands =
+pub refuses_taken : (memory : DomainMemory) (number : ℕ) (name : List ℕ) → HasNamed (slice_get memory.table.slots number) name → IsSettled memory → (all : FilesetMap) → StandsFor memory all → refusal_of all (Mkfset name) ≡ Some FilesetExists
+refuses_taken memory number name h settled all stands =
     let kept = settled_kept memory all settled stands in
-    record { now = all; kept = kept; means = inl (subst (λ (n : List ℕ). Answers all (Mkfset n) (Refused FilesetExists) all) h.named (taken (staged_in memory) all number h.entry kept.staged.stands.slots h.has)) }
+    subst (λ (n : List ℕ). refusal_of all (Mkfset n) ≡ Some FilesetExists) h.named (is_taken (staged_in memory) all number h.entry kept.staged.stands.slots h.has)
 
 -- there are 16
-pub answers_full : (memory : DomainMemory) (name : List ℕ) → IsSettled memory → list_any (has_name name) memory.table.slots ≡ false → count_by is_fileset memory.table.slots ≡ 16 → (all : FilesetMap) → StandsFor memory all
-    → IsAnswered memory all (Mkfset name) (Refused FilesetsFull)
-answers_full memory name settled none many all stands =
+pub refuses_full : (memory : DomainMemory) (name : List ℕ) → IsSettled memory → list_any (has_name name) memory.table.slots ≡ false → count_by is_fileset memory.table.slots ≡ 16 → (all : FilesetMap) → StandsFor memory all
+    → refusal_of all (Mkfset name) ≡ Some FilesetsFull
+refuses_full memory name settled none many all stands =
     let kept = settled_kept memory all settled stands in
-    record { now = all; kept = kept; means = inl (full (staged_in memory) all kept.staged.stands name none (omega (arith, many))) }
+    is_full (staged_in memory) all kept.staged.stands name none (omega (arith, many))
+
+-- nothing is refused
+pub allows_begun : (memory : DomainMemory) (name : List ℕ) → IsSettled memory → list_any (has_name name) memory.table.slots ≡ false → ¬ count_by is_fileset memory.table.slots ≡ 16 → (all : FilesetMap) → StandsFor memory all
+    → refusal_of all (Mkfset name) ≡ None
+allows_begun memory name settled none apart all stands =
+    let kept = settled_kept memory all settled stands in
+    may_begin (staged_in memory) all name kept.staged.stands.slots none (not_full (staged_in memory) all kept.staged.stands (fewer memory all kept.staged apart))
 
 -- it begins
 pub answers_begun : (old new : DomainMemory) (name : List ℕ) → IsSettled old → list_any (has_name name) old.table.slots ≡ false → ¬ count_by is_fileset old.table.slots ≡ 16

@@ -23,13 +23,11 @@ use Rattle.history_laws.proofs.GoesOn.{command_steps}
 use Rattle.history_laws.proofs.PlainLemmas.{there_itself}
 use Rattle.domain_layout.specs.Reached.{Frame}
 use Rattle.domain_memory.specs.Kept.{KeepsKept}
-use Rattle.domain_memory.specs.Memory.{StandsFor}
 use Rattle.domain_memory.specs.Staged.{MayBeKept}
-use Rattle.domain_memory.proofs.KeptStands.{stands_so}
 use Rattle.fileset_table.specs.Table.{Table}
 use Rattle.domain_memory.specs.declared.memory.DomainMemory.{DomainMemory}
 use Rattle.domain_state.specs.History.{MayCommit}
-use Rattle.command_core.specs.Coming.{ComesNext, IsAnswered}
+use Rattle.command_core.specs.Coming.{ComesNext}
 
 -- ---- no file is striped where none was
 
@@ -99,11 +97,3 @@ kept_turned old new kept = record {
   marks = λ vol. sym (kept.marks vol);
   list = sym kept.list;
 }
-
-pub may_add : (pages : Pages) (frame : Frame) (sizes : List ℕ) (old changed memory : DomainMemory) (entries : List Entry) (job : Option Command) (e : Entry) → memory ≡ changed → KeepsKept old changed → ComesNext entries e
-    → ((all : FilesetMap) → StandsFor old all → IsAnswered changed all e.command e.reply) → (all : FilesetMap) → StandsFor memory all → MayCommit pages frame sizes memory entries job e all
-may_add pages frame sizes old changed memory entries job e same kept next answered =
-    subst (λ (m : DomainMemory). (all : FilesetMap) → StandsFor m all → MayCommit pages frame sizes m entries job e all) (sym same)
-    (λ all stands.
-    let a = answered all (stands_so changed old (kept_turned old changed kept) all stands) in
-    may_commit pages frame sizes changed entries job e all a.now a.kept next a.means)

@@ -3,7 +3,7 @@ use Rattle.std.proofs.Common.{◌≡◌, ◌∙◌, ◌+◌, ◌-◌, ◌<◌, �
 use Rattle.std.specs.FinMap as map
 use Rattle.std.proofs.lemmas.List.Sums.{sum_by-cons}
 use Rattle.std.specs.List.{IsDistinct, list_any}
-use Rattle.fileset_model.specs.Apply.{Answers, filesets_full}
+use Rattle.fileset_model.specs.Apply.{Answers, filesets_full, refusal_of}
 use Rattle.fileset_model.specs.Filesets.{FilesetMap}
 use Rattle.fileset_model.specs.Orders.{Name, name_cmp, name_cmp-total, name_cmp-IsAntisymmetric}
 use Rattle.fileset_model.specs.Paths.{first_refusal, refuse_if}
@@ -167,11 +167,13 @@ module _ (d : DomainNow) (all : FilesetMap) (stands : StandsDomain d all) where
   })
 
   -- 16 are all that there may be
+  pub is_full : (name : Name) → list_any (has_name name) d.table.slots ≡ false → 16 ≤ count_by is_fileset d.table.slots → refusal_of all (Mkfset name) ≡ Some FilesetsFull
+  is_full name none many =
+      ap (λ (o : Option FilesetSlot). first_refusal (refuse_if (is_some o) FilesetExists ∷ filesets_full all ∷ [])) (missing d all slots name none)
+      ∙ ap (λ b. first_refusal (refuse_if b FilesetsFull ∷ [])) (le-leb 16 (map.len all) (subst (λ n. 16 ≤ n) (sym filesets_counted) many))
+
   pub full : (name : Name) → list_any (has_name name) d.table.slots ≡ false → 16 ≤ count_by is_fileset d.table.slots → Answers all (Mkfset name) (Refused FilesetsFull) all
-  full name none many =
-      refused all (Mkfset name) FilesetsFull
-      (ap (λ (o : Option FilesetSlot). first_refusal (refuse_if (is_some o) FilesetExists ∷ filesets_full all ∷ [])) (missing d all slots name none)
-      ∙ ap (λ b. first_refusal (refuse_if b FilesetsFull ∷ [])) (le-leb 16 (map.len all) (subst (λ n. 16 ≤ n) (sym filesets_counted) many)))
+  full name none many = refused all (Mkfset name) FilesetsFull (is_full name none many)
 
   pub not_full : count_by is_fileset d.table.slots < 16 → filesets_full all ≡ None
   not_full few = ap (λ b. refuse_if b FilesetsFull) (by_test (nat_le 16 (map.len all)) refl)

@@ -1,7 +1,6 @@
 -- A change that was laid over a domain's memory, from the domain that it was laid over.
-use Rattle.std.proofs.Common.{◌≡◌, ◌∙◌, ℕ, List, Result, Ok, Err, IfErr, IfOk, refl, sym, ap, subst}
-use Rattle.page_store.specs.declared.fault.StoreFault.{StoreFault}
-use Rattle.page_store.specs.declared.fault.StoreFault.TheVariants.{NoPage}
+use Rattle.std.proofs.Common.{◌≡◌, ℕ, List, None, Result, Ok, Err, IfErr, IfOk, refl, sym, subst}
+use Rattle.fileset_model.specs.Apply.{refusal_of}
 use Rattle.fileset_model.specs.Filesets.{FilesetMap}
 use Rattle.fileset_model.specs.declared.command.Command.{Command}
 use Rattle.fileset_model.specs.declared.entry.Entry.{Entry}
@@ -10,7 +9,10 @@ use Rattle.domain_memory.specs.Kept.{KeepsKept}
 use Rattle.domain_memory.specs.Memory.{StandsFor}
 use Rattle.domain_memory.specs.declared.memory.DomainMemory.{DomainMemory}
 use Rattle.domain_memory.proofs.KeptStands.{stands_so}
-use Rattle.command_core.specs.Coming.{AddsNone, AddsOne, IsAnswered}
+use Rattle.command_core.specs.Coming.{AddsNone, AddsOne}
+use Rattle.command_core.specs.Ending.{EndsAs}
+use Rattle.command_core.specs.declared.stop.Stop.{Stop}
+use Rattle.command_core.specs.declared.stop.Stop.TheVariants.{NoPage}
 use Rattle.command_core.proofs.Coming.{kept_turned}
 
 module _ (first old changed laid : DomainMemory) (is_old : old ≡ first) (kept : KeepsKept old changed) (is_laid : laid ≡ changed) where
@@ -20,12 +22,8 @@ module _ (first old changed laid : DomainMemory) (is_old : old ≡ first) (kept 
   was_stands : (all : FilesetMap) → StandsFor laid all → StandsFor old all
   was_stands all stands = stands_so changed old (kept_turned old changed kept) all (subst (λ (m : DomainMemory). StandsFor m all) is_laid stands)
 
-  pub answered_one : (command : Command) (reply : Reply) → ((all : FilesetMap) → StandsFor old all → IsAnswered changed all command reply) → (all : FilesetMap) → StandsFor laid all → IsAnswered laid all command reply
-  answered_one command reply answered all stands = subst (λ (m : DomainMemory). IsAnswered m all command reply) (sym is_laid) (answered all (was_stands all stands))
-
-  pub answered_laid : (command : Command) (staged : Result Reply StoreFault) → ((all : FilesetMap) → StandsFor old all → IfOk staged (IsAnswered changed all command)) → (all : FilesetMap) → StandsFor laid all
-      → IfOk staged (IsAnswered laid all command)
-  answered_laid command staged answered all stands = subst (λ (m : DomainMemory). IfOk staged (IsAnswered m all command)) (sym is_laid) (answered all (was_stands all stands))
+  pub ends_laid : (command : Command) (staged : Result Reply Stop) → ((all : FilesetMap) → StandsFor old all → EndsAs changed all command staged) → (all : FilesetMap) → StandsFor laid all → EndsAs laid all command staged
+  ends_laid command staged ends all stands = subst (λ (m : DomainMemory). EndsAs m all command staged) (sym is_laid) (ends all (was_stands all stands))
 
   pub adds_one : (client : ℕ) (command : Command) (now : DomainMemory) (before was after : List Entry) → was ≡ before → AddsOne client command laid now was after → AddsOne client command first now before after
   adds_one client command now before was after same adds = subst (λ (h : List Entry). AddsOne client command first now h after) same (record {
@@ -52,7 +50,21 @@ module _ (first old changed laid : DomainMemory) (is_old : old ≡ first) (kept 
   err_none memory history before was same (Ok now) none = none
   err_none memory history before was same (Err back) none = adds_none (memory back) before was (history back) same none
 
--- what has no answer for want of a page has this cause
-pub err_cause : {X Y : Type 0} (r : Result X Y) (staged : Result Reply StoreFault) (P : StoreFault → Type 0) → IfErr r (λ back. staged ≡ Err NoPage) → IfErr staged P → IfErr r (λ back. P NoPage)
-err_cause (Ok now) staged P is cause = is
-err_cause (Err back) staged P is cause = subst (λ s. IfErr s P) is cause
+-- a command that has no answer for want of a page is refused nothing, and has this cause
+module _ {X Y : Type 0} (r : Result X Y) (staged : Result Reply Stop) (wants : IfErr r (λ back. staged ≡ Err NoPage)) where
+  pub err_cause : (P : Type 0) → IfErr staged (λ stop. stop ≡ NoPage → P) → IfErr r (λ back. P)
+  err_cause P cause = by r wants
+    where
+      by : (x : Result X Y) → IfErr x (λ back. staged ≡ Err NoPage) → IfErr x (λ back. P)
+      by (Ok now) is = is
+      by (Err back) is = subst (λ (s : Result Reply Stop). IfErr s (λ stop. stop ≡ NoPage → P)) is cause refl
+
+  pub err_allowed : (changed : DomainMemory) (command : Command) (Q : FilesetMap → Type 0) → ((all : FilesetMap) → Q all → EndsAs changed all command staged) → IfErr r (λ back. (all : FilesetMap) → Q all → refusal_of all command ≡ None)
+  err_allowed changed command Q ends = by r wants
+    where
+      allowed : staged ≡ Err NoPage → (all : FilesetMap) → Q all → refusal_of all command ≡ None
+      allowed is all q = subst (λ (s : Result Reply Stop). EndsAs changed all command s) is (ends all q)
+
+      by : (x : Result X Y) → IfErr x (λ back. staged ≡ Err NoPage) → IfErr x (λ back. (all : FilesetMap) → Q all → refusal_of all command ≡ None)
+      by (Ok now) is = is
+      by (Err back) is = allowed is

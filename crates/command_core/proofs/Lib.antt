@@ -3,5 +3,8 @@ pub mod Means
 pub mod Removal
 pub mod Limits
 pub mod Counted
+pub mod KeptAtHand
+pub mod Served
+pub mod Stops
 pub mod Laid
 pub mod Begun

@@ -1,42 +1,43 @@
 -- Limits that are laid over a domain's memory, and answered.
-use Rattle.std.proofs.Common.{◌≡◌, ℕ, false, List, Some, inl, inr, refl, sym, subst, slice_get}
+use Rattle.std.proofs.Common.{◌≡◌, ◌⊎◌, ℕ, List, None, Some, inl, inr, refl, ap, subst, slice_get}
 use Rattle.std.specs.FinMap.{get, insert}
-use Rattle.std.specs.List.{list_any}
-use Rattle.fileset_model.specs.Apply.{Answers}
+use Rattle.fileset_model.specs.Apply.{Answers, AnswersIfMemory, refusal_of}
 use Rattle.fileset_model.specs.Filesets.{FilesetMap}
 use Rattle.fileset_model.specs.declared.command.Command.{Command}
 use Rattle.fileset_model.specs.declared.command.Command.TheVariants.{Setquota}
 use Rattle.fileset_model.specs.declared.command.Owner.{Owner}
 use Rattle.fileset_model.specs.declared.fileset.FilesetSlot.{FilesetSlot}
 use Rattle.fileset_model.specs.declared.fileset.Limits.{Limits}
-use Rattle.fileset_model.specs.declared.reply.Refusal.TheVariants.{NoFileset, OutOfMemory}
+use Rattle.fileset_model.specs.declared.reply.Refusal.{Refusal}
+use Rattle.fileset_model.specs.declared.reply.Refusal.TheVariants.{OutOfMemory}
 use Rattle.fileset_model.specs.declared.reply.Reply.TheVariants.{Done, Refused}
-use Rattle.fileset_table.specs.Table.{has_name}
 use Rattle.fileset_table.specs.declared.slot.FilesetEntry.{FilesetEntry}
 use Rattle.standing_laws.specs.SetsQuota.{fileset_limited}
 use Rattle.domain_standing.specs.Standing.{AreBooksOf, HaveParents}
-use Rattle.domain_memory.specs.Kept.{KeepsKept}
-use Rattle.domain_memory.specs.Memory.{StandsFor, books_in, kept_in}
+use Rattle.domain_memory.specs.Memory.{StandsFor}
 use Rattle.domain_memory.specs.Staged.{IsSettled, IsStaged, staged_books, staged_in}
 use Rattle.domain_memory.specs.declared.memory.DomainMemory.{DomainMemory}
-use Rattle.domain_memory.proofs.KeptStands.{stands_so}
 use Rattle.domain_memory.proofs.SettledKept.{settled_kept}
-use Rattle.domain_memory.proofs.KeptStands.{stands_still}
 use Rattle.domain_stages.specs.Table.{HasOriginal}
 use Rattle.command_core.specs.Coming.{IsAnswered}
-use Rattle.command_core.proofs.Means.{limited, none_limited, there}
+use Rattle.command_core.proofs.Means.{limited, may_limit, refused, there}
 use Rattle.command_core.proofs.Removal.{HasNamed}
 
--- no fileset has the name
-pub limits_none : (memory : DomainMemory) (name : List ℕ) (who : Owner) (files blocks : ℕ) → IsSettled memory → list_any (has_name name) memory.table.slots ≡ false → (all : FilesetMap) → StandsFor memory all
-    → IsAnswered memory all (Setquota name who files blocks) (Refused NoFileset)
-limits_none memory name who files blocks settled none all stands =
+-- nothing is refused
+pub allows_limits : (memory : DomainMemory) (number : ℕ) (name : List ℕ) (who : Owner) (files blocks : ℕ) → HasNamed (slice_get memory.table.slots number) name → IsSettled memory → (all : FilesetMap) → StandsFor memory all → refusal_of all (Setquota name who files blocks) ≡ None
+allows_limits memory number name who files blocks h settled all stands =
     let kept = settled_kept memory all settled stands in
-    record { now = all; kept = kept; means = inl (none_limited (staged_in memory) all name who files blocks kept.staged.stands.slots none) }
+    let at = there (staged_in memory) all kept.staged.stands.slots number h.entry h.has in
+    subst (λ (n : List ℕ). refusal_of all (Setquota n who files blocks) ≡ None) h.named (may_limit (staged_in memory) all number h.entry at.0 who files blocks kept.staged.stands.slots h.has at.1)
 
--- memory was short, and what was laid over it is taken back
-pub settled_short : (memory : DomainMemory) (command : Command) → IsSettled memory → (all : FilesetMap) → StandsFor memory all → IsAnswered memory all command (Refused OutOfMemory)
-settled_short memory command settled all stands = record { now = all; kept = settled_kept memory all settled stands; means = inr (refl, refl) }
+-- it is refused, or memory was short; and what was laid over the domain is taken back
+pub settled_refused : (memory : DomainMemory) (command : Command) (refusal : Refusal) → IsSettled memory → ((all : FilesetMap) → StandsFor memory all → (refusal_of all command ≡ Some refusal) ⊎ (refusal ≡ OutOfMemory)) → (all : FilesetMap) → StandsFor memory all
+    → IsAnswered memory all command (Refused refusal)
+settled_refused memory command refusal settled why all stands = record { now = all; kept = settled_kept memory all settled stands; means = by (why all stands) }
+  where
+    by : (refusal_of all command ≡ Some refusal) ⊎ (refusal ≡ OutOfMemory) → AnswersIfMemory all command (Refused refusal) all
+    by (inl is) = inl (refused all command refusal is)
+    by (inr short) = inr (ap Refused short, refl)
 
 -- they are set
 pub limits_done : (old new : DomainMemory) (number : ℕ) (name : List ℕ) (who : Owner) (limits : Limits) (h : HasNamed (slice_get old.table.slots number) name) → IsSettled old

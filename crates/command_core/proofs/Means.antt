@@ -4,7 +4,7 @@ use Rattle.std.specs.FinMap as map
 use Rattle.std.specs.List.{list_any}
 use Rattle.std.specs.Option.{option_map, option_map_or}
 use Rattle.std.specs.Cmp.Lexicographic.{bytes_decides}
-use Rattle.fileset_model.specs.Apply.{Answers, Changes, answer_of, filesets_full, has_clone, is_clone, is_clone_of, original_of, refusal_of}
+use Rattle.fileset_model.specs.Apply.{Answers, Changes, answer_of, filesets_full, has_clone, in_fileset, is_clone, is_clone_of, original_of, read_only, refusal_of}
 use Rattle.fileset_model.specs.Filesets.{FilesetMap}
 use Rattle.fileset_model.specs.Orders.{Name, name_cmp, name_cmp-total, name_cmp-IsAntisymmetric}
 use Rattle.fileset_model.specs.Paths.{first_refusal, refuse_if, same_name}
@@ -104,9 +104,18 @@ none_cloned all name none =
         ∙ same_images name_cmp name_cmp-total name_cmp-IsAntisymmetric (λ (s : FilesetSlot). original_of s.role) nothing (λ _. true) all all (λ q _. no_original (map.get all q) (none q))
         ∙ ap (images name_cmp nothing) (where_all name_cmp (map.entries all))
 
+-- ---- what is refused
+
+-- of checks in a fileset that is there, and in none
+pub in_this : (all : FilesetMap) (name : Name) (fileset : FilesetSlot) (checks : FilesetSlot → List (Option Refusal)) → map.get all name ≡ Some fileset → in_fileset all name checks ≡ first_refusal (checks fileset)
+in_this all name fileset checks at = ap (λ (o : Option FilesetSlot). option_map_or (λ (s : FilesetSlot). first_refusal (checks s)) o (Some NoFileset)) at
+
+pub in_none : (all : FilesetMap) (name : Name) (checks : FilesetSlot → List (Option Refusal)) → map.get all name ≡ None → in_fileset all name checks ≡ Some NoFileset
+in_none all name checks none = ap (λ (o : Option FilesetSlot). option_map_or (λ (s : FilesetSlot). first_refusal (checks s)) o (Some NoFileset)) none
+
 -- ---- what is answered
 
-accepted : (all : FilesetMap) (c : Command) (reply : Reply) (now : FilesetMap) → refusal_of all c ≡ None → reply ≡ answer_of all c → Changes all c now → Answers all c reply now
+pub accepted : (all : FilesetMap) (c : Command) (reply : Reply) (now : FilesetMap) → refusal_of all c ≡ None → reply ≡ answer_of all c → Changes all c now → Answers all c reply now
 accepted all c reply now none answer changes =
     subst (λ (o : Option Refusal). MatchOption o ((reply ≡ answer_of all c) × Changes all c now) (λ refusal. (reply ≡ Refused refusal) × (now ≡ all))) (sym none) (answer, changes)
 
@@ -115,38 +124,51 @@ refused all c refusal is =
     subst (λ (o : Option Refusal). MatchOption o ((Refused refusal ≡ answer_of all c) × Changes all c all) (λ r. (Refused refusal ≡ Refused r) × (all ≡ all))) (sym is) (refl, refl)
 
 module _ (d : DomainNow) (all : FilesetMap) where
+  pub may_remove : (number : ℕ) (entry : FilesetEntry) → StandSlots d all → item_in d number ≡ Some (slot.Original entry) → refusal_of all (command.Rmfset entry.name) ≡ None
+  may_remove number entry stand has =
+      let at = there d all stand number entry has in
+      in_this all entry.name at.0 (λ s. refuse_if (has_clone all entry.name) HasClone ∷ []) at.1
+      ∙ ap (λ b. first_refusal (refuse_if b HasClone ∷ [])) (none_cloned all entry.name (have_no_clone d all stand))
+
   pub removed : (number : ℕ) (entry : FilesetEntry) → StandSlots d all → item_in d number ≡ Some (slot.Original entry) → Answers all (command.Rmfset entry.name) Done (map.remove all entry.name)
   removed number entry stand has =
-      let at = there d all stand number entry has in
-      accepted all (command.Rmfset entry.name) Done (map.remove all entry.name)
-      (ap (λ (o : Option FilesetSlot). option_map_or (λ (s : FilesetSlot). first_refusal (refuse_if (has_clone all entry.name) HasClone ∷ [])) o (Some NoFileset)) at.1
-      ∙ ap (λ b. first_refusal (refuse_if b HasClone ∷ [])) (none_cloned all entry.name (have_no_clone d all stand)))
-      refl refl
+      accepted all (command.Rmfset entry.name) Done (map.remove all entry.name) (may_remove number entry stand has) refl refl
 
   pub none_removed : (name : Name) → StandSlots d all → list_any (has_name name) d.table.slots ≡ false → Answers all (command.Rmfset name) (Refused NoFileset) all
-  none_removed name stand none = refused all (command.Rmfset name) NoFileset (ap (λ (o : Option FilesetSlot). option_map_or (λ (s : FilesetSlot). first_refusal (refuse_if (has_clone all name) HasClone ∷ [])) o (Some NoFileset)) (missing d all stand name none))
+  none_removed name stand none = refused all (command.Rmfset name) NoFileset (in_none all name (λ s. refuse_if (has_clone all name) HasClone ∷ []) (missing d all stand name none))
+
+  -- each original may be changed
+  pub writable : (number : ℕ) (entry : FilesetEntry) (fileset : FilesetSlot) → StandSlots d all → item_in d number ≡ Some (slot.Original entry) → map.get all entry.name ≡ Some fileset → read_only fileset ≡ None
+  writable number entry fileset stand has at = ap (λ (r : Role). refuse_if (is_clone r) ReadOnly) (have_no_clone d all stand entry.name fileset at)
+
+  pub may_limit : (number : ℕ) (entry : FilesetEntry) (fileset : FilesetSlot) (who : Owner) (files blocks : ℕ) → StandSlots d all → item_in d number ≡ Some (slot.Original entry) → map.get all entry.name ≡ Some fileset
+      → refusal_of all (command.Setquota entry.name who files blocks) ≡ None
+  may_limit number entry fileset who files blocks stand has at =
+      in_this all entry.name fileset (λ s. read_only s ∷ []) at ∙ ap (λ (o : Option Refusal). first_refusal (o ∷ [])) (writable number entry fileset stand has at)
 
   pub limited : (number : ℕ) (entry : FilesetEntry) (fileset : FilesetSlot) (who : Owner) (limits : Limits) → StandSlots d all → item_in d number ≡ Some (slot.Original entry) → map.get all entry.name ≡ Some fileset
       → Answers all (command.Setquota entry.name who limits.files limits.blocks) Done (map.insert all entry.name (fileset_limited who limits fileset))
   limited number entry fileset who limits stand has at =
       accepted all (command.Setquota entry.name who limits.files limits.blocks) Done (map.insert all entry.name (fileset_limited who limits fileset))
-      (ap (λ (o : Option FilesetSlot). option_map_or (λ (s : FilesetSlot). first_refusal (refuse_if (is_clone s.role) ReadOnly ∷ [])) o (Some NoFileset)) at
-      ∙ ap (λ (r : Role). first_refusal (refuse_if (is_clone r) ReadOnly ∷ [])) (have_no_clone d all stand entry.name fileset at))
+      (may_limit number entry fileset who limits.files limits.blocks stand has at)
       refl
       (sym (ap (λ (o : Option FilesetSlot). option_map_or (λ (s : FilesetSlot). map.insert all entry.name (fileset_limited who limits s)) o all) at))
 
   pub none_limited : (name : Name) (who : Owner) (files blocks : ℕ) → StandSlots d all → list_any (has_name name) d.table.slots ≡ false → Answers all (command.Setquota name who files blocks) (Refused NoFileset) all
   none_limited name who files blocks stand none =
-      refused all (command.Setquota name who files blocks) NoFileset (ap (λ (o : Option FilesetSlot). option_map_or (λ (s : FilesetSlot). first_refusal (refuse_if (is_clone s.role) ReadOnly ∷ [])) o (Some NoFileset)) (missing d all stand name none))
+      refused all (command.Setquota name who files blocks) NoFileset (in_none all name (λ s. read_only s ∷ []) (missing d all stand name none))
+
+  pub may_begin : (name : Name) → StandSlots d all → list_any (has_name name) d.table.slots ≡ false → filesets_full all ≡ None → refusal_of all (command.Mkfset name) ≡ None
+  may_begin name stand none few =
+      ap (λ (o : Option FilesetSlot). first_refusal (refuse_if (is_some o) FilesetExists ∷ filesets_full all ∷ [])) (missing d all stand name none)
+      ∙ ap (λ (o : Option Refusal). first_refusal (o ∷ [])) few
 
   pub begun : (name : Name) → StandSlots d all → list_any (has_name name) d.table.slots ≡ false → filesets_full all ≡ None → Answers all (command.Mkfset name) Done (map.insert all name empty_slot)
   begun name stand none few =
-      accepted all (command.Mkfset name) Done (map.insert all name empty_slot)
-      (ap (λ (o : Option FilesetSlot). first_refusal (refuse_if (is_some o) FilesetExists ∷ filesets_full all ∷ [])) (missing d all stand name none)
-      ∙ ap (λ (o : Option Refusal). first_refusal (o ∷ [])) few)
-      refl (number_of root_tag, refl)
+      accepted all (command.Mkfset name) Done (map.insert all name empty_slot) (may_begin name stand none few) refl (number_of root_tag, refl)
+
+  pub is_taken : (number : ℕ) (entry : FilesetEntry) → StandSlots d all → item_in d number ≡ Some (slot.Original entry) → refusal_of all (command.Mkfset entry.name) ≡ Some FilesetExists
+  is_taken number entry stand has = ap (λ (o : Option FilesetSlot). first_refusal (refuse_if (is_some o) FilesetExists ∷ filesets_full all ∷ [])) (there d all stand number entry has).1
 
   pub taken : (number : ℕ) (entry : FilesetEntry) → StandSlots d all → item_in d number ≡ Some (slot.Original entry) → Answers all (command.Mkfset entry.name) (Refused FilesetExists) all
-  taken number entry stand has =
-      refused all (command.Mkfset entry.name) FilesetExists
-      (ap (λ (o : Option FilesetSlot). first_refusal (refuse_if (is_some o) FilesetExists ∷ filesets_full all ∷ [])) (there d all stand number entry has).1)
+  taken number entry stand has = refused all (command.Mkfset entry.name) FilesetExists (is_taken number entry stand has)

@@ -1,14 +1,16 @@
 -- A removal that is laid over a domain's memory, and answered.
-use Rattle.std.proofs.Common.{◌≡◌, ℕ, true, false, List, Option, Some, None, IfNone, IsSomeAnd, inl, inr, refl, sym, subst, slice_get, true≢false}
+use Rattle.std.proofs.Common.{◌≡◌, ℕ, true, false, List, Option, Some, None, IfNone, IsSomeAnd, inl, refl, sym, subst, slice_get, true≢false}
 use Rattle.std.proofs.Math.Logic.{∥∥₁_map}
 use Rattle.std.specs.FinMap.{remove}
 use Rattle.std.specs.List.{list_any}
 use Rattle.std.specs.Cmp.Lexicographic.{bytes_decides}
 use Rattle.fileset_model.specs.Filesets.{FilesetMap}
 use Rattle.fileset_model.specs.declared.command.Command.TheVariants.{Rmfset}
-use Rattle.fileset_model.specs.declared.reply.Refusal.TheVariants.{NoFileset, OutOfMemory}
-use Rattle.fileset_model.specs.declared.reply.Reply.TheVariants.{Done, Refused}
-use Rattle.fileset_model.specs.Apply.{Answers}
+use Rattle.fileset_model.specs.declared.fileset.FilesetSlot.{FilesetSlot}
+use Rattle.fileset_model.specs.declared.reply.Refusal.{Refusal}
+use Rattle.fileset_model.specs.declared.reply.Refusal.TheVariants.{NoFileset}
+use Rattle.fileset_model.specs.declared.reply.Reply.TheVariants.{Done}
+use Rattle.fileset_model.specs.Apply.{Answers, in_fileset}
 use Rattle.fileset_table.specs.Table.{has_name, is_original}
 use Rattle.fileset_table.specs.declared.slot.FilesetEntry.{FilesetEntry}
 use Rattle.fileset_table.specs.declared.slot.SlotItem.{SlotItem}
@@ -17,13 +19,13 @@ use Rattle.set_laws.proofs.Stable.{one_bool}
 use Rattle.domain_layout.specs.CellRules.{of_clone}
 use Rattle.domain_standing.specs.Standing.{AreBooksOf, HaveParents}
 use Rattle.domain_memory.specs.Memory.{StandsFor}
-use Rattle.domain_memory.specs.Staged.{IsSettled, IsStaged, IsStagedForSome, MayBeKept, staged_books, staged_in}
+use Rattle.domain_memory.specs.Staged.{IsSettled, IsStaged, IsStagedForSome, staged_books, staged_in}
 use Rattle.domain_memory.specs.declared.memory.DomainMemory.{DomainMemory}
 use Rattle.domain_memory.proofs.SettledKept.{settled_kept}
 use Rattle.domain_stages.specs.Table.{HasOriginal}
 use Rattle.domain_state.specs.History.{StandsForSome}
 use Rattle.command_core.specs.Coming.{IsAnswered}
-use Rattle.command_core.proofs.Means.{none_removed, removed}
+use Rattle.command_core.proofs.Means.{in_none, missing, removed}
 
 -- what is so where nothing is found
 pub when_none : {X : Type 0} {P : Type 0} (o : Option X) → IfNone o P → ((x : X) → ¬ o ≡ Some x) → P
@@ -54,15 +56,8 @@ pub is_its : (o : Option SlotItem) (name : List ℕ) → HasNamed o name → IsS
 is_its o name h = subst (λ (x : Option SlotItem). IsSomeAnd x (λ item. is_original item ≡ true)) (sym h.has) refl
 
 -- no fileset has the name
-pub answers_none : (memory : DomainMemory) (name : List ℕ) → IsSettled memory → list_any (has_name name) memory.table.slots ≡ false → (all : FilesetMap) → StandsFor memory all → IsAnswered memory all (Rmfset name) (Refused NoFileset)
-answers_none memory name settled none all stands =
-    let kept = settled_kept memory all settled stands in
-    record { now = all; kept = kept; means = inl (none_removed (staged_in memory) all name kept.staged.stands.slots none) }
-
--- memory was short
-pub answers_short : (old new : DomainMemory) (name : List ℕ) → IsSettled old → new ≡ old → (all : FilesetMap) → StandsFor old all → IsAnswered new all (Rmfset name) (Refused OutOfMemory)
-answers_short old new name settled same all stands =
-    record { now = all; kept = subst (λ (m : DomainMemory). MayBeKept m all) (sym same) (settled_kept old all settled stands); means = inr (refl, refl) }
+pub refuses_none : (memory : DomainMemory) (name : List ℕ) → IsSettled memory → list_any (has_name name) memory.table.slots ≡ false → (all : FilesetMap) → StandsFor memory all → (checks : FilesetSlot → List (Option Refusal)) → in_fileset all name checks ≡ Some NoFileset
+refuses_none memory name settled none all stands checks = in_none all name checks (missing (staged_in memory) all (settled_kept memory all settled stands).staged.stands.slots name none)
 
 -- it begins to be removed
 pub answers_done : (old new : DomainMemory) (number : ℕ) (name : List ℕ) (h : HasNamed (slice_get old.table.slots number) name) → IsSettled old

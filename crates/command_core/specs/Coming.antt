@@ -1,10 +1,5 @@
 -- An entry of a client's that comes next.
-use Rattle.std.specs.Prelude.{◌≡◌, ◌⊎◌, ◌≤◌, ◌++◌, ◌∷◌, ℕ, false, List, [], map, All, Contains}
-use Rattle.std.specs.List.{list_any}
-use Rattle.page_store.specs.declared.fault.StoreFault.{StoreFault}
-use Rattle.page_store.specs.declared.fault.StoreFault.TheVariants.{NoPage, OutOfMemory}
-use Rattle.free_cells.specs.Cells.{Cells}
-use Rattle.free_space.specs.Spaces.{Spaces}
+use Rattle.std.specs.Prelude.{◌≡◌, ◌≤◌, ◌++◌, ◌∷◌, ℕ, false, List, [], map, All, Contains}
 use Rattle.fileset_model.specs.Apply.{AnswersIfMemory}
 use Rattle.fileset_model.specs.Filesets.{FilesetMap}
 use Rattle.fileset_model.specs.declared.command.Actor.TheVariants.{Client}
@@ -14,11 +9,9 @@ use Rattle.fileset_model.specs.declared.reply.Refusal.TheVariants.{Panicked}
 use Rattle.fileset_model.specs.declared.reply.Reply.{Reply}
 use Rattle.fileset_model.specs.declared.reply.Reply.TheVariants.{Refused}
 use Rattle.history_model.specs.VolumeReply.{is_movers}
-use Rattle.fileset_table.specs.Table.{Table, is_free}
 use Rattle.domain_memory.specs.Memory.{StandsFor}
 use Rattle.domain_memory.specs.Staged.{IsSettled, MayBeKept}
 use Rattle.domain_memory.specs.declared.memory.DomainMemory.{DomainMemory}
-use Rattle.domain_stages.specs.Beginning.{BeginsNone}
 
 -- none of these was answered by panicked
 abbrev pub NonePanicked : List Entry → Type 0
@@ -63,9 +56,3 @@ pub record AddsNone (old new : DomainMemory) (before after : List Entry) : Type 
   pub settled : IsSettled new
   pub same : after ≡ before
   pub stands : (all : FilesetMap) → StandsFor old all → StandsFor new all
-
--- no slot of the table is free; or no page, or one alone and no cell
-abbrev pub LacksRoom : Table → Spaces → Cells → StoreFault → Type 0
-LacksRoom table space cells NoPage =
-    (list_any is_free table.slots ≡ false) ⊎ BeginsNone space cells NoPage
-LacksRoom table space cells OutOfMemory = Unit {0}

@@ -1,20 +1,23 @@
 //! What a client is answered, with the change that is laid over a domain.
-ghost use Rattle.std.specs.Prelude.{◌≡◌, ◌≤◌, ◌+◌, false, Err, IfErr, IfOk};
-ghost use Rattle.page_store.specs.declared.fault.StoreFault.TheVariants.{NoPage};
+ghost use Rattle.std.specs.Prelude.{◌≡◌, ◌⊎◌, ◌≤◌, ◌+◌, false, Err, IfErr, IfOk, Some};
+ghost use Rattle.fileset_model.specs.Apply.{refusal_of};
 ghost use Rattle.fileset_model.specs.Filesets.{FilesetMap};
+ghost use Rattle.fileset_model.specs.declared.reply.Refusal.TheVariants.{OutOfMemory};
 ghost use Rattle.history_model.specs.VolumeReply.{is_movers};
 ghost use Rattle.domain_memory.specs.Memory.{StandsFor};
 ghost use Rattle.domain_memory.specs.Staged.{IsSettled};
 ghost use Rattle.command_core.specs.Coming.{AddsNone, AddsOne, IsAnswered, NonePanicked};
+ghost use Rattle.command_core.specs.Ending.{EndsAs};
+ghost use Rattle.command_core.specs.declared.stop.Stop.TheVariants.{NoPage};
 
+use crate::stop::Stop;
 use domain_state::{Domain, Opening};
 use fileset_model::{Actor, Command, Entry, Refusal, Reply, Told};
-use page_store::StoreFault;
 use volume_disk::Rack;
 
 /// Adds a client's command with its answer to a domain's history, with the change that is laid over
 /// the domain.
-pub(crate) fn add_answer<R: Rack, O: Opening>(
+fn add_answer<R: Rack, O: Opening>(
     domain: Domain<R, O>,
     client: u8,
     command: Command,
@@ -50,6 +53,8 @@ pub(crate) fn add_answer<R: Rack, O: Opening>(
 fn take_back<R: Rack, O: Opening>(domain: Domain<R, O>) -> Domain<R, O>
     ensures none { AddsNone domain.memory result.memory
         (⟦<Domain<R, O> as Told>⟧.history domain) (⟦<Domain<R, O> as Told>⟧.history result) }
+    ensures was { (all : FilesetMap) → StandsFor result.memory all
+        → StandsFor domain.memory all }
     ensures rests { ⟦<Domain<R, O> as Told>⟧.rests domain
         → ⟦<Domain<R, O> as Told>⟧.rests result }
     ensures begun { ⟦<Domain<R, O> as Told>⟧.begun result ≡ ⟦<Domain<R, O> as Told>⟧.begun domain }
@@ -62,21 +67,47 @@ fn take_back<R: Rack, O: Opening>(domain: Domain<R, O>) -> Domain<R, O>
     domain
 }
 
-/// Adds a client's command to a domain's history with the change that is laid over the domain,
-/// where that has an answer; with no change where memory was short, which is answered then. Where
-/// no page was free nothing is added, and the change is taken back.
+/// Takes the change back that is laid over a domain, and adds a client's command to its history with
+/// a refusal: that of the rules of filesets, or out-of-memory.
+fn add_refusal<R: Rack, O: Opening>(
+    domain: Domain<R, O>,
+    client: u8,
+    command: Command,
+    refusal: Refusal,
+) -> Domain<R, O>
+    requires first { ⟦<Domain<R, O> as Told>⟧.rests domain }
+    requires room { 1 ≤ ⟦<Domain<R, O> as Told>⟧.room domain }
+    requires calm { NonePanicked (⟦<Domain<R, O> as Told>⟧.history domain) }
+    requires clients { is_movers command ≡ false }
+    requires refused { (all : FilesetMap) → StandsFor domain.memory all
+        → (refusal_of all command ≡ Some refusal) ⊎ (refusal ≡ OutOfMemory) }
+    ensures adds { AddsOne client command domain.memory result.memory
+        (⟦<Domain<R, O> as Told>⟧.history domain) (⟦<Domain<R, O> as Told>⟧.history result) }
+    ensures settled { IsSettled result.memory }
+    ensures begun { ⟦<Domain<R, O> as Told>⟧.begun result ≡ ⟦<Domain<R, O> as Told>⟧.begun domain }
+    ensures room { ⟦<Domain<R, O> as Told>⟧.room domain
+        ≤ ⟦<Domain<R, O> as Told>⟧.room result + 1 }
+    ensures rack { result.history.rack ≡ domain.history.rack }
+    ensures durable { result.history.durable ≡ domain.history.durable }
+{
+    add_answer(take_back(domain), client, command, Reply::Refused(refusal))
+}
+
+/// Ends a client's command with the change that is laid over a domain: adds it to the history with
+/// its answer, or with no change where it is refused or memory was short. Where a page is wanted
+/// nothing is added, and the change is taken back.
 pub(crate) fn answer<R: Rack, O: Opening>(
     domain: Domain<R, O>,
     client: u8,
     command: Command,
-    staged: Result<Reply, StoreFault>,
+    staged: Result<Reply, Stop>,
 ) -> Result<Domain<R, O>, Domain<R, O>>
     requires first { ⟦<Domain<R, O> as Told>⟧.rests domain }
     requires room { 1 ≤ ⟦<Domain<R, O> as Told>⟧.room domain }
     requires calm { NonePanicked (⟦<Domain<R, O> as Told>⟧.history domain) }
     requires clients { is_movers command ≡ false }
-    requires answered { (all : FilesetMap) → StandsFor domain.memory all
-        → IfOk staged (IsAnswered domain.memory all command) }
+    requires ends { (all : FilesetMap) → StandsFor domain.memory all
+        → EndsAs domain.memory all command staged }
     ensures adds { IfOk result (λ now. AddsOne client command domain.memory now.memory
         (⟦<Domain<R, O> as Told>⟧.history domain) (⟦<Domain<R, O> as Told>⟧.history now)) }
     ensures settled { IfOk result (λ now. IsSettled now.memory) }
@@ -99,10 +130,13 @@ pub(crate) fn answer<R: Rack, O: Opening>(
 {
     match staged {
         Ok(reply) => Ok(add_answer(domain, client, command, reply)),
-        Err(StoreFault::NoPage) => Err(take_back(domain)),
-        Err(StoreFault::OutOfMemory) => {
-            let short = Reply::Refused(Refusal::OutOfMemory);
-            Ok(add_answer(take_back(domain), client, command, short))
-        }
+        Err(stop) => match stop {
+            Stop::Refused(refusal) => Ok(add_refusal(domain, client, command, refusal)),
+            Stop::NoPage => Err(take_back(domain)),
+            Stop::OutOfMemory => {
+                let short = Refusal::OutOfMemory;
+                Ok(add_refusal(domain, client, command, short))
+            }
+        },
     }
 }

@@ -1,17 +1,19 @@
-//! Commands that make and remove the filesets of a domain or set limits in them, each answered and
-//! added to its history.
+//! Commands of clients: each is laid over a domain's memory by a function of its own, which stops at
+//! the first refusal, and all are answered and added to the domain's history by one.
 #![tactic(auto)]
 
 mod answering;
 mod beginning;
+mod commands;
+mod finding;
 mod laws;
 mod limiting;
 mod removing;
+mod staging;
+mod stop;
 
-pub use beginning::create_fileset;
+pub use commands::command;
 pub use laws::{
     what_a_client_is_answered_may_be_committed, what_beginnings_mean, what_is_said_of_filesets,
     what_limits_mean, what_removals_mean,
 };
-pub use limiting::limit_fileset;
-pub use removing::remove_fileset;

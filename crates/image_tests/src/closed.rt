@@ -5,15 +5,15 @@ ghost use Rattle.page_ways.specs.Frame.{frame_in};
 ghost use Rattle.staged_pages.specs.Store.{before_of};
 ghost use Rattle.word_forms.specs.Forms.{is_fileset_name as is_name};
 ghost use Rattle.domain_memory.specs.Staged.{IsSettled};
-ghost use Rattle.command_core.specs.Coming.{NonePanicked};
+ghost use Rattle.command_core.specs.Ending.{IsServed};
 ghost use Rattle.image_tests.specs.Done.{is_done};
 
-use command_core::{create_fileset, remove_fileset};
+use command_core::command;
 use domain_attaching::{attach, close};
 use domain_base::limits::FILESET_SLOTS;
 use domain_base::{FilesetNo, Version, VolIx};
 use domain_state::{Attached, Domain, Opening, make};
-use fileset_model::{Entry, FilesetName, Reply, Told};
+use fileset_model::{Command, Entry, FilesetName, Reply, Told};
 use fileset_table::{FilesetTable, SlotItem};
 use memory_disk::MemoryRack;
 use std::alloc::Global;
@@ -49,28 +49,14 @@ fn are_done(entries: &[Entry]) -> bool
     entries.iter().all(|entry| is_done(entry))
 }
 
-/// Makes or removes the fileset of this name; where no page is free the domain is as it was.
-fn change_named<R: Rack + Drop, O: Opening>(
-    domain: Domain<R, O>,
-    alloc: Global,
-    change: Change,
-    name: FilesetName,
-    prefer: VolIx,
-) -> Domain<R, O>
-    requires rests { ⟦<Domain<R, O> as Told>⟧.rests domain }
-    requires room { 1 ≤ ⟦<Domain<R, O> as Told>⟧.room domain }
-    requires settled { IsSettled domain.memory }
-    requires calm { NonePanicked (⟦<Domain<R, O> as Told>⟧.history domain) }
-    requires named { is_name name ≡ true }
-    ensures { IsSettled result.memory }
+/// The command on the fileset of this name.
+fn command_of(change: Change, fileset: FilesetName) -> Command
+    requires named { is_name fileset ≡ true }
+    ensures { IsServed result }
 {
-    let changed = match change {
-        Change::Make(_) => create_fileset(domain, alloc, 1, name, prefer),
-        Change::Remove(_) => Ok(remove_fileset(domain, alloc, 1, name)),
-    };
-    match changed {
-        Ok(domain) => domain,
-        Err(domain) => domain,
+    match change {
+        Change::Make(_) => Command::Mkfset { fileset },
+        Change::Remove(_) => Command::Rmfset { fileset },
     }
 }
 
@@ -99,7 +85,8 @@ fn changed<R: Rack + Drop, O: Opening>(
     }
     let prefer = VolIx::new(1).ok_or("a volume")?;
     domain.reserve_history(1)?;
-    let mut domain = change_named(domain, alloc, change, name, prefer);
+    let asked = command_of(change, name);
+    let (Ok(mut domain) | Err(mut domain)) = command(domain, alloc, 1, asked, prefer);
     domain.end_event();
     Ok(domain)
 }

@@ -5,13 +5,13 @@ ghost use Rattle.page_ways.specs.Frame.{frame_in};
 ghost use Rattle.staged_pages.specs.Store.{before_of};
 ghost use Rattle.word_forms.specs.Forms.{is_fileset_name as is_name};
 ghost use Rattle.domain_memory.specs.Staged.{IsSettled};
-ghost use Rattle.command_core.specs.Coming.{NonePanicked};
+ghost use Rattle.command_core.specs.Ending.{IsServed};
 ghost use Rattle.state_tests.specs.Calm.{is_panicked};
 
-use command_core::{create_fileset, limit_fileset, remove_fileset};
+use command_core::command;
 use domain_base::{OutOfMemory, Version, VolIx};
 use domain_state::{Attached, Domain, Opening, make};
-use fileset_model::{Entry, FilesetName, Limits, Owner, Refusal, Reply, Told};
+use fileset_model::{Command, Entry, FilesetName, Owner, Refusal, Reply, Told};
 use memory_disk::MemoryRack;
 use std::alloc::Global;
 use std::marker::Brand;
@@ -69,35 +69,20 @@ fn has_panicked(entries: &[Entry]) -> bool
     entries.iter().any(|entry| is_panicked(entry))
 }
 
-/// Answers a command on the fileset with this name; where no page is free the domain is as it was.
-fn asked_of<R: Rack + Drop, O: Opening>(
-    domain: Domain<R, O>,
-    alloc: Global,
-    asked: Asked,
-    name: FilesetName,
-    prefer: VolIx,
-) -> Domain<R, O>
-    requires rests { ⟦<Domain<R, O> as Told>⟧.rests domain }
-    requires room { 1 ≤ ⟦<Domain<R, O> as Told>⟧.room domain }
-    requires settled { IsSettled domain.memory }
-    requires calm { NonePanicked (⟦<Domain<R, O> as Told>⟧.history domain) }
-    requires named { is_name name ≡ true }
-    ensures { IsSettled result.memory }
+/// The command on the fileset with this name.
+fn command_of(asked: Asked, fileset: FilesetName) -> Command
+    requires named { is_name fileset ≡ true }
+    ensures { IsServed result }
 {
-    let answered = match asked {
-        Asked::Make(_) => create_fileset(domain, alloc, 1, name, prefer),
-        Asked::Limit(_) => {
-            let limits = Limits {
-                files: 3,
-                blocks: 5,
-            };
-            limit_fileset(domain, alloc, 1, name, Owner::User(7), limits, prefer)
-        }
-        Asked::Remove(_) => Ok(remove_fileset(domain, alloc, 1, name)),
-    };
-    match answered {
-        Ok(domain) => domain,
-        Err(domain) => domain,
+    match asked {
+        Asked::Make(_) => Command::Mkfset { fileset },
+        Asked::Limit(_) => Command::Setquota {
+            fileset,
+            who: Owner::User(7),
+            files: 3,
+            blocks: 5,
+        },
+        Asked::Remove(_) => Command::Rmfset { fileset },
     }
 }
 
@@ -132,7 +117,8 @@ fn answered<R: Rack + Drop, O: Opening>(
     if domain.reserve_history(1).is_err() {
         return domain;
     }
-    let mut domain = asked_of(domain, alloc, asked, name, prefer);
+    let asked = command_of(asked, name);
+    let (Ok(mut domain) | Err(mut domain)) = command(domain, alloc, 1, asked, prefer);
     domain.end_event();
     domain
 }

@@ -1,3 +1,4 @@
+use Rattle.std.proofs.Common.{sym}
 use Rattle.domain_memory.proofs.KeptStands.{stands_still}
 use Rattle.command_core.proofs.answering.take_back.Goals as goal
 
@@ -7,3 +8,6 @@ returns-clause-none g c = record {
   same = c.discard.ensures.history;
   stands = λ all stands. stands_still c.args.domain.memory c.discard.new.self.memory all c.discard.ensures.kept c.discard.ensures.books stands;
 }
+
+pub returns-clause-was : goal.returns-clause-was
+returns-clause-was g c = λ all stands. stands_still c.discard.new.self.memory c.args.domain.memory all (sym c.discard.ensures.kept) (sym c.discard.ensures.books) stands

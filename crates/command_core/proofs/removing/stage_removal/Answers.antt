@@ -1,27 +1,26 @@
-use Rattle.std.proofs.Common.{true, false, List, ℕ, IsSomeAnd, slice_get, ◌≡◌, subst}
-use Rattle.std.specs.List.{list_any}
-use Rattle.fileset_table.specs.Table.{has_name}
-use Rattle.command_core.proofs.Removal.{answers_done, answers_none, answers_short, found, is_its, staged_some, when_none}
+use Rattle.std.proofs.Common.{◌∷◌, []}
+use Rattle.fileset_model.specs.Apply.{has_clone}
+use Rattle.fileset_model.specs.Paths.{refuse_if}
+use Rattle.fileset_model.specs.declared.command.Command.TheVariants.{Rmfset}
+use Rattle.fileset_model.specs.declared.reply.Refusal.TheVariants.{HasClone, NoFileset}
+use Rattle.command_core.proofs.Removal.{answers_done, found, is_its, refuses_none, staged_some}
+use Rattle.command_core.proofs.Stops.{ends_refused}
 use Rattle.command_core.proofs.removing.stage_removal.Goals as goal
 
-pub returns-in_default-clause-answered : goal.returns-in_default-clause-answered
-returns-in_default-clause-answered c =
-    answers_none c.args.memory.now c.args.fileset.now c.requires.settled
-    (subst (λ (name : List ℕ). list_any (has_name name) c.args.memory.now.table.slots ≡ false) c.as_slice.ensures (when_none c.find.result c.find.ensures.none c.in_default.not-Some))
+pub returns-in_err-number-clause-ends : goal.returns-in_err-number-clause-ends
+returns-in_err-number-clause-ends c = λ all stands.
+    ends_refused c.args.memory.now all (Rmfset c.args.fileset.now) c.from_residual.result c.in_err-number.field-0.0 NoFileset c.from_residual.ensures.1 c.in_err-number.ensures.none.0
+    (refuses_none c.args.memory.now c.args.fileset.now c.requires.settled c.in_err-number.ensures.none.1 all stands (λ s. refuse_if (has_clone all c.args.fileset.now) HasClone ∷ []))
 
 pub begin_to_go-requires-clause-stands : goal.begin_to_go-requires-clause-stands
 begin_to_go-requires-clause-stands c = staged_some c.args.memory.now c.requires.settled c.requires.stands
 
 pub begin_to_go-requires-clause-original : goal.begin_to_go-requires-clause-original
 begin_to_go-requires-clause-original c =
-    is_its _ c.args.fileset.now (found c.args.memory.now c.in-Some.number c.args.fileset.now (staged_some c.args.memory.now c.requires.settled c.requires.stands)
-    (subst (λ (name : List ℕ). IsSomeAnd (slice_get c.args.memory.now.table.slots c.in-Some.number) (λ item. has_name name item ≡ true)) c.as_slice.ensures c.in-Some.ensures.some))
+    is_its _ c.args.fileset.now (found c.args.memory.now c.in_ok-number.number c.args.fileset.now (staged_some c.args.memory.now c.requires.settled c.requires.stands) c.in_ok-number.ensures.there)
 
-pub returns-in-Ok-clause-answered : goal.returns-in-Ok-clause-answered
-returns-in-Ok-clause-answered c =
-    answers_done c.args.memory.now c.begin_to_go.new.memory c.in-Some.number c.args.fileset.now (found c.args.memory.now c.in-Some.number c.args.fileset.now (staged_some c.args.memory.now c.requires.settled c.requires.stands)
-    (subst (λ (name : List ℕ). IsSomeAnd (slice_get c.args.memory.now.table.slots c.in-Some.number) (λ item. has_name name item ≡ true)) c.as_slice.ensures c.in-Some.ensures.some))
-    c.requires.settled c.in-Ok.ensures.staged c.in-Ok.ensures.parents c.in-Ok.ensures.books
-
-pub returns-in-Err-clause-answered : goal.returns-in-Err-clause-answered
-returns-in-Err-clause-answered c = answers_short c.args.memory.now c.begin_to_go.new.memory c.args.fileset.now c.requires.settled c.in-Err.ensures.err
+pub returns-clause-ends : goal.returns-clause-ends
+returns-clause-ends c =
+    let began = c.in_ok-begin_to_go.ensures in
+    answers_done c.args.memory.now c.begin_to_go.new.memory c.in_ok-number.number c.args.fileset.now (found c.args.memory.now c.in_ok-number.number c.args.fileset.now (staged_some c.args.memory.now c.requires.settled c.requires.stands) c.in_ok-number.ensures.there)
+    c.requires.settled began.staged began.parents began.books

@@ -1,0 +1,57 @@
+-- The commands that are answered so far.
+use Rattle.std.proofs.Common.{◌≡◌, ℕ, false, refl}
+use Rattle.fileset_model.specs.Orders.{Name}
+use Rattle.fileset_model.specs.declared.command.Command.{Command}
+use Rattle.fileset_model.specs.declared.command.Command.TheVariants as command
+use Rattle.fileset_model.specs.declared.command.Owner.{Owner}
+use Rattle.history_model.specs.VolumeReply.{is_movers}
+use Rattle.command_core.specs.Ending.{IsServed}
+
+-- one of them is one of these
+pub data Serving : Command → Type 0 where
+  mkfset : (fileset : Name) → Serving (command.Mkfset fileset)
+  rmfset : (fileset : Name) → Serving (command.Rmfset fileset)
+  setquota : (fileset : Name) (who : Owner) (files blocks : ℕ) → Serving (command.Setquota fileset who files blocks)
+
+pub serving : (c : Command) → IsServed c → Serving c
+serving (command.Mkfset fileset) is = Serving.mkfset fileset
+serving (command.Rmfset fileset) is = Serving.rmfset fileset
+serving (command.Setquota fileset who files blocks) is = Serving.setquota fileset who files blocks
+serving (command.Clonefset fileset new_name) is = absurd is
+serving command.Showfsets is = absurd is
+serving (command.Showquota fileset who) is = absurd is
+serving (command.Create place uid gid) is = absurd is
+serving (command.Mkdir place uid gid) is = absurd is
+serving (command.Write place offset bytes) is = absurd is
+serving (command.Read place offset count) is = absurd is
+serving (command.Truncate place size) is = absurd is
+serving (command.Rename place to) is = absurd is
+serving (command.Link place to) is = absurd is
+serving (command.Links place) is = absurd is
+serving (command.Unlink place) is = absurd is
+serving (command.Rmdir place) is = absurd is
+serving (command.List place) is = absurd is
+serving (command.Stat place) is = absurd is
+serving (command.Fsync place) is = absurd is
+serving (command.Chfile place logged) is = absurd is
+serving (command.Stripe width place) is = absurd is
+serving command.Sync is = absurd is
+serving command.Cancel is = absurd is
+serving command.Showfdmn is = absurd is
+serving (command.Showfile place) is = absurd is
+serving (command.Migrate place first count from to) is = absurd is
+serving command.Balance is = absurd is
+serving (command.Addvol vol) is = absurd is
+serving (command.Rmvol vol) is = absurd is
+serving (command.ChvolA vol) is = absurd is
+serving (command.Switchlog vol) is = absurd is
+serving command.Upgrade is = absurd is
+serving (command.Defragment place) is = absurd is
+
+clients : (c : Command) → Serving c → is_movers c ≡ false
+clients c (Serving.mkfset fileset) = refl
+clients c (Serving.rmfset fileset) = refl
+clients c (Serving.setquota fileset who files blocks) = refl
+
+pub served_client : (c : Command) → IsServed c → is_movers c ≡ false
+served_client c is = clients c (serving c is)

@@ -1,0 +1,52 @@
+-- How a command ends that is laid over a domain's memory.
+use Rattle.std.specs.Prelude.{◌≡◌, ◌⊎◌, true, false, None, Result, Ok, Err, Some}
+use Rattle.std.specs.List.{list_any}
+use Rattle.page_store.specs.declared.fault.StoreFault.{StoreFault}
+use Rattle.page_store.specs.declared.fault.StoreFault.TheVariants as fault
+use Rattle.fileset_model.specs.Apply.{refusal_of}
+use Rattle.fileset_model.specs.Filesets.{FilesetMap}
+use Rattle.fileset_model.specs.declared.command.Command.{Command}
+use Rattle.fileset_model.specs.declared.command.Command.TheVariants.{Mkfset, Rmfset, Setquota}
+use Rattle.fileset_model.specs.declared.reply.Reply.{Reply}
+use Rattle.fileset_table.specs.Table.{is_free}
+use Rattle.word_forms.specs.Forms.{is_fileset_name}
+use Rattle.domain_memory.specs.declared.memory.DomainMemory.{DomainMemory}
+use Rattle.domain_stages.specs.Beginning.{BeginsNone}
+use Rattle.domain_stages.specs.Limits.{LimitsNone}
+use Rattle.command_core.specs.Coming.{IsAnswered}
+use Rattle.command_core.specs.declared.stop.Stop.{Stop}
+use Rattle.command_core.specs.declared.stop.Stop.TheVariants.{NoPage, OutOfMemory, Refused}
+
+-- want of a page, or of memory, of a call that stores something
+abbrev pub stop_of : StoreFault → Stop
+stop_of fault.NoPage = NoPage
+stop_of fault.OutOfMemory = OutOfMemory
+
+-- a command on these filesets is refused so by their rules; or they refuse nothing, and a page is
+-- wanted; or memory was short
+abbrev pub StopsAs : FilesetMap → Command → Stop → Type 0
+StopsAs all command (Refused refusal) = refusal_of all command ≡ Some refusal
+StopsAs all command NoPage = refusal_of all command ≡ None
+StopsAs all command OutOfMemory = Unit {0}
+
+-- it has an answer with the change that is laid over memory, or stops
+abbrev pub EndsAs : DomainMemory → FilesetMap → Command → Result Reply Stop → Type 0
+EndsAs now all command (Ok reply) = IsAnswered now all command reply
+EndsAs now all command (Err stop) = StopsAs all command stop
+
+-- the commands that are answered so far, with names of the forms that scripts have
+abbrev pub IsServed : Command → Type 0
+IsServed (Mkfset fileset) = is_fileset_name fileset ≡ true
+IsServed (Rmfset fileset) = Unit {0}
+IsServed (Setquota fileset who files blocks) = Unit {0}
+IsServed command = ⊥
+
+-- why a command may want a page, where that is known: of mkfset, that no slot of the table is free;
+-- or no page, or one alone and no cell; of setquota, that no cell is free, and no page
+abbrev pub LacksPage : Command → DomainMemory → Type 0
+LacksPage (Mkfset fileset) memory = (list_any is_free memory.table.slots ≡ false)
+    ⊎ BeginsNone memory.space memory.cells fault.NoPage
+LacksPage (Rmfset fileset) memory = ⊥
+LacksPage (Setquota fileset who files blocks) memory =
+    LimitsNone memory.space memory.cells fault.NoPage
+LacksPage command memory = Unit {0}

@@ -1,0 +1,57 @@
+//! A command of a client, laid over a domain's memory.
+ghost use Rattle.std.specs.Prelude.{◌≡◌, IfErr};
+ghost use Rattle.fileset_model.specs.Filesets.{FilesetMap};
+ghost use Rattle.domain_memory.specs.Kept.{KeepsKept};
+ghost use Rattle.domain_memory.specs.Memory.{StandsFor};
+ghost use Rattle.domain_memory.specs.Staged.{IsSettled, MayGoBack};
+ghost use Rattle.domain_state.specs.History.{StandsForSome};
+ghost use Rattle.command_core.specs.Ending.{EndsAs, IsServed, LacksPage};
+ghost use Rattle.command_core.specs.declared.stop.Stop.TheVariants.{NoPage};
+
+use crate::beginning::stage_fileset;
+use crate::limiting::stage_limits;
+use crate::removing::stage_removal;
+use crate::stop::Stop;
+use domain_base::VolIx;
+use domain_memory::DomainMemory;
+use fileset_model::{Command, Limits, Reply};
+use std::alloc::Global;
+
+/// Lays a command of a client over a domain's memory, with its answer. The preferred volume is the
+/// one of which pages and cells are taken first. Where it stops the change may be half made.
+pub(crate) fn stage(
+    memory: DomainMemory,
+    alloc: Global,
+    command: &Command,
+    prefer: VolIx,
+) -> (DomainMemory, Result<Reply, Stop>)
+    requires settled { IsSettled memory }
+    requires stands { ∥ StandsForSome memory ∥₁ }
+    requires back { ∥ MayGoBack memory ∥₁ }
+    requires served { IsServed command.now }
+    ensures ends { (all : FilesetMap) → StandsFor memory all
+        → EndsAs result.0 all command.now result.1 }
+    ensures kept { ∥ KeepsKept memory result.0 ∥₁ }
+    ensures back { ∥ MayGoBack result.0 ∥₁ }
+    ensures cause { IfErr result.1 (λ stop. stop ≡ NoPage → LacksPage command.now memory) }
+{
+    let mut memory = memory;
+    let answer = match command {
+        Command::Mkfset { fileset } => stage_fileset(&mut memory, alloc, fileset, prefer),
+        Command::Rmfset { fileset } => stage_removal(&mut memory, alloc, fileset),
+        Command::Setquota {
+            fileset,
+            who,
+            files,
+            blocks,
+        } => {
+            let limits = Limits {
+                files: *files,
+                blocks: *blocks,
+            };
+            stage_limits(&mut memory, alloc, fileset, *who, limits, prefer)
+        }
+        _ => unreachable!(),
+    };
+    (memory, answer)
+}

@@ -1,0 +1,54 @@
+//! Why a command comes to no answer of its own.
+ghost use Rattle.std.specs.Prelude.{◌≡◌};
+
+use domain_base::OutOfMemory as NoMemory;
+use fileset_model::Refusal;
+use page_store::StoreFault;
+use std::error::Error;
+use std::fmt;
+
+/// Why a command that is laid over a domain comes to no answer of its own.
+#[derive(Clone, Copy, Debug, PartialEq, Eq)]
+pub enum Stop {
+    /// The rules of filesets forbid it as things stand.
+    Refused(Refusal),
+    /// No page was free that it needed.
+    NoPage,
+    /// No memory could be had.
+    OutOfMemory,
+}
+
+impl From<NoMemory> for Stop {
+    ghost use Rattle.command_core.specs.declared.stop.Stop.TheVariants.{OutOfMemory};
+
+    ghost from_gives = { λ _ stop. stop ≡ OutOfMemory };
+
+    fn from(_: NoMemory) -> Stop {
+        Stop::OutOfMemory
+    }
+}
+
+impl From<StoreFault> for Stop {
+    ghost use Rattle.command_core.specs.Ending.{stop_of};
+
+    ghost from_gives = { λ fault stop. stop ≡ stop_of fault };
+
+    fn from(fault: StoreFault) -> Stop {
+        match fault {
+            StoreFault::NoPage => Stop::NoPage,
+            StoreFault::OutOfMemory => Stop::OutOfMemory,
+        }
+    }
+}
+
+impl fmt::Display for Stop {
+    fn fmt<W: fmt::Write>(&self, f: &mut fmt::Formatter<W>) -> fmt::Result {
+        f.write_str(match self {
+            Stop::Refused(_) => "the command is refused",
+            Stop::NoPage => "no page is free",
+            Stop::OutOfMemory => "out of memory",
+        })
+    }
+}
+
+impl Error for Stop {}
