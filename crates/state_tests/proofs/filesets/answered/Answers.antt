@@ -6,7 +6,7 @@ use Rattle.state_tests.specs.Calm.{is_panicked}
 use Rattle.state_tests.proofs.Calm.{none_panicked}
 use Rattle.state_tests.proofs.filesets.answered.Goals as goal
 
-pub command-domain-requires-clause-calm : goal.command-domain-requires-clause-calm
-command-domain-requires-clause-calm g c =
+pub command-requires-clause-calm : goal.command-requires-clause-calm
+command-requires-clause-calm g c =
     subst NonePanicked (sym c.reserve_history.ensures.history)
     (none_panicked c.args.domain.history.entries.items (ap (list_any (λ (entry : Entry). is_panicked entry.reply)) (sym c.entries.ensures) ∙ sym c.has_panicked.ensures ∙ c.if-has_panicked.false))
