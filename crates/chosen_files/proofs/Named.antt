@@ -33,7 +33,7 @@ use Rattle.chosen_files.specs.declared.chosen.Chosen.{Chosen}
 use Rattle.chosen_files.proofs.Back.{go, now_staged, number_is}
 
 -- the set that memory has lent stands in memory
-set_of : (memory : DomainMemory) (number : ℕ) (settings : CallSettings) (chosen : Chosen) → Lends memory number settings chosen → chosen.set.parts.files.fileset ≡ number
+pub set_of : (memory : DomainMemory) (number : ℕ) (settings : CallSettings) (chosen : Chosen) → Lends memory number settings chosen → chosen.set.parts.files.fileset ≡ number
     → let d = staged_in memory in StandsAsSet number (d.tags number) d.space d.cells d.pages (files_in chosen)
 set_of memory number settings chosen lends is =
     let p = chosen.set.parts in

@@ -1,2 +1,3 @@
 pub mod Stages
 pub mod Room
+pub mod Looking

@@ -1,13 +1,16 @@
 //! Changes of names, laid over a domain's memory: each lends the files of one fileset to a call on
-//! names, has them back, and says for which filesets the domain stands with it.
+//! names, has them back, and says for which filesets the domain stands with it. Looks at names, which
+//! leave memory as it is.
 #![tactic(auto)]
 
+mod looking;
 mod making;
 mod moving;
 mod room;
 mod saying;
 mod taking;
 
+pub use looking::{count_rows, list_names, look_at};
 pub use making::{create, link};
 pub use moving::rename;
 pub use taking::{remove_directory, unlink};
