@@ -40,16 +40,19 @@ same_or_fewer group version old new (file_ends s) = inl (ap (λ (l : Listing). l
 same_or_fewer group version old new (tag_page_goes s) =
     inr (ap length s.takes.last ∙ longer s.takes.front s.takes.home ∙ ap (λ (l : Listing). suc (length l.tag_pages)) (sym s.takes.is))
 
-pub alone_step : (group : ℕ) (version : Version) (old new : Now) → IsWell old → AreAlone old.files → Step group version old new → AreAlone new.files
-alone_step group version old new well alone step at = by_source (source_at new.files at) refl
+pub alone_over : (group : ℕ) (version : Version) (first : Now) (count : ℕ) (last : Now) → IsWell first → AreAlone first.files → Steps group version first count last → AreAlone last.files
+alone_over group version old count new well alone steps at = by_source (source_at new.files at) refl
   where
     by_source : (o : Option Source) → source_at new.files at ≡ o → o ≡ None
     by_source None is = refl
     by_source (Some s) is = absurd (subst (λ o. IsSomeAnd o (λ (x : Source). x.at ≡ s.at)) (alone at)
-        (no_more_read group version old (0 + 1) new well (more 0 old new none step) at s.at (subst (λ o. IsSomeAnd o (λ (x : Source). x.at ≡ s.at)) (sym is) refl)))
+        (no_more_read group version old count new well steps at s.at (subst (λ o. IsSomeAnd o (λ (x : Source). x.at ≡ s.at)) (sym is) refl)))
+
+alone_step : (group : ℕ) (version : Version) (old new : Now) → IsWell old → AreAlone old.files → Step group version old new → AreAlone new.files
+alone_step group version old new well alone step = alone_over group version old (0 + 1) new well alone (more 0 old new none step)
 
 -- what holds first, and goes on to with each step, holds last
-module _ (group : ℕ) (version : Version) (P : Now → Type 0) (goes : (old new : Now) → IsWell old → AreAlone old.files → IsWell new → Step group version old new → OneGoes old new → P old → P new) where
+module _ (group : ℕ) (version : Version) (P : Now → Type 0) (goes : (old new : Now) → IsWell old → AreAlone old.files → IsWell new → Step group version old new → new.list.tag_pages ≡ old.list.tag_pages → P old → P new) where
   record Comes (first now : Now) : Type 0 where
     well : IsWell now
     alone : AreAlone now.files
@@ -74,7 +77,7 @@ module _ (group : ℕ) (version : Version) (P : Now → Type 0) (goes : (old new
                 (λ fewer. let few = was.few in omega (arith, fewer, few))
                 (same_or_fewer group version between last step);
             holds = λ same. ⊎_elim
-                (λ stays. goes between last was.well was.alone now step (one_goes group version between last was.well was.alone step stays) (was.holds (sym stays ∙ same)))
+                (λ stays. goes between last was.well was.alone now step stays (was.holds (sym stays ∙ same)))
                 (λ fewer. let e : length last.list.tag_pages ≡ length first.list.tag_pages = ap length same in let few = was.few in absurd (omega (arith, fewer, few, e)))
                 (same_or_fewer group version between last step);
           }
@@ -202,9 +205,22 @@ pub record AllGo (apart : CellAt → Type 0) (first now : Now) : Type 0 where
   pub chains : (q : CellAt) → IsHandedOut now.cells q → apart q ⊎ IsInChain now.files q
   pub volumes : (q : CellAt) (cell : Cell) → StandsAt first.pages q cell → Contains (table_of first.cells q.vol) q.page → cell.head.kind ≡ Volume → StandsAt now.pages q cell
 
+pub first_go : (apart : CellAt → Type 0) (first : Now) → ((q : CellAt) → IsHandedOut first.cells q → IsInUse first.pages q) → ((q : CellAt) → IsHandedOut first.cells q → apart q ⊎ IsInChain first.files q) → AllGo apart first first
+first_go apart first used chains = record {
+  tables = λ vol. refl;
+  marks = λ vol. refl;
+  off = λ home out. refl;
+  space = spaces_itself first.space first.space refl;
+  had = λ a p home there. there;
+  says = λ a cs is. (cs, is, says_itself cs);
+  used = used;
+  chains = chains;
+  volumes = λ q cell stands on volume. stands;
+}
+
 module _ (group : ℕ) (version : Version) (apart : CellAt → Type 0) (first : Now) where
-  go_step : (old new : Now) → IsWell old → AreAlone old.files → IsWell new → Step group version old new → OneGoes old new → AllGo apart first old → AllGo apart first new
-  go_step old new well alone now step g was = record {
+  pub go_step : (old new : Now) → IsWell old → IsWell new → OneGoes old new → AllGo apart first old → AllGo apart first new
+  go_step old new well now g was = record {
     tables = λ vol. g.tables vol ∙ was.tables vol;
     marks = λ vol. g.marks vol ∙ was.marks vol;
     off = λ home out. g.elsewhere home (λ on. out (subst (λ (t : List ℕ). Contains t home.page) (g.tables home.vol ∙ was.tables home.vol) on)) ∙ was.off home out;
@@ -218,14 +234,5 @@ module _ (group : ℕ) (version : Version) (apart : CellAt → Type 0) (first : 
 
   pub all_go : (count : ℕ) (last : Now) → IsWell first → AreAlone first.files → Steps group version first count last → last.list.tag_pages ≡ first.list.tag_pages
       → ((q : CellAt) → IsHandedOut first.cells q → IsInUse first.pages q) → ((q : CellAt) → IsHandedOut first.cells q → apart q ⊎ IsInChain first.files q) → AllGo apart first last
-  all_go count last well alone steps same used chains = by_steps group version (AllGo apart first) go_step first count last well alone steps same (record {
-    tables = λ vol. refl;
-    marks = λ vol. refl;
-    off = λ home out. refl;
-    space = spaces_itself first.space first.space refl;
-    had = λ a p home there. there;
-    says = λ a cs is. (cs, is, says_itself cs);
-    used = used;
-    chains = chains;
-    volumes = λ q cell stands on volume. stands;
-  })
+  all_go count last well alone steps same used chains = by_steps group version (AllGo apart first) (λ old new well alone now step same was. go_step old new well now (one_goes group version old new well alone step same) was) first count last well alone steps same
+      (first_go apart first used chains)

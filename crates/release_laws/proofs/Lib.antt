@@ -1,5 +1,6 @@
 pub mod CellsLeft
 pub mod SpaceWaits
+pub mod CellFates
 pub mod OneStep
 pub mod Going
 pub mod Led
@@ -8,6 +9,11 @@ pub mod HeldGo
 pub mod ListGo
 pub mod SlotsGo
 pub mod ChainsGo
+pub mod CellsGo
+pub mod RestCells
+pub mod RestGo
+pub mod BelowGo
+pub mod SoundGo
 pub mod SeenTrimmed
 pub mod Entries
 pub mod SeenOver

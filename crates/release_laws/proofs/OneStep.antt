@@ -26,7 +26,7 @@ use Rattle.chain_release.proofs.Once.{absent_not}
 use Rattle.deferred_delete.specs.declared.list.Entry.{Entry}
 use Rattle.deferred_delete.specs.Listing.{Listing}
 use Rattle.deferred_delete.specs.Standing.{Files, IsFileOrQuotas, source_at}
-use Rattle.deferred_delete.specs.Steps.{EndsFile, EndsTrim, IsWell, LetsPages, LosesQuotaCell, Now, Step, file_ends, leads_to, pages_go, quota_goes, reading_ends, says_trimmed, tag_page_goes, trim_ends}
+use Rattle.deferred_delete.specs.Steps.{EndsFile, EndsTrim, GivesTagPage, IsWell, LetsPages, LosesQuotaCell, Now, Step, file_ends, leads_to, pages_go, quota_goes, reading_ends, says_trimmed, tag_page_goes, trim_ends}
 use Rattle.deferred_delete.proofs.Lists.{longer}
 use Rattle.deferred_delete.proofs.Spread.{has_reader, none_not}
 use Rattle.deferred_delete.proofs.Standings.{at_itself, chain_inside, linked_at, quota_place, standing}
@@ -37,6 +37,7 @@ use Rattle.deferred_laws.proofs.Narrower.{in_last}
 use Rattle.deferred_laws.proofs.PagesGo.{at_other, at_source}
 use Rattle.deferred_laws.proofs.QuotaStep.{quota_beside, quota_is, quota_says}
 use Rattle.deferred_laws.proofs.Said.{SaysSame, says_first, says_trim}
+use Rattle.release_laws.proofs.CellFates.{CellsGo, lets_cells, no_cells, quota_cells, trim_cells}
 use Rattle.release_laws.proofs.CellsLeft.{all_left}
 use Rattle.release_laws.proofs.SpaceWaits.{SpacesKeep, spaces_given, spaces_itself}
 
@@ -56,6 +57,7 @@ pub record OneGoes (old new : Now) : Type 0 where
   pub says : SaysSame chain after ⊎ (after ≡ [])
   pub beside : (a : CellAt) → ¬ a ≡ entry.at → new.files a ≡ old.files a
   pub within : (q : CellAt) → Contains (places after) q → Contains (places chain) q
+  pub cells : CellsGo chain after
   pub handed : (q : CellAt) → IsHandedOut new.cells q → IsHandedOut old.cells q
   pub left : (q : CellAt) → IsHandedOut new.cells q → Contains (places chain) q → ¬ Contains (places after) q → ⊥
   pub others : (q : CellAt) (cell : Cell) → StandsAt old.pages q cell → Contains (table_of old.cells q.vol) q.page → ¬ Contains (places chain) q → StandsAt new.pages q cell
@@ -180,6 +182,7 @@ module _ (group : ℕ) (version : Version) (old new : Now) (well : IsWell old) (
           says = inl (says_first s.chain s.releases.after s.releases.first);
           beside = λ a apart. at_other group version old new fits s a apart (λ some. none_not a (sym (no_clone s.entry entry_in) ∙ some));
           within = s.releases.within;
+          cells = lets_cells old.pages new.pages s.entry.at s.chain s.releases.after s.file s.releases.again.file s.releases.first s.releases.kinds s.releases.within;
           handed = go.handed;
           left = go.left;
           others = λ q cell stands on out. s.others q cell stands on out (λ own. let it = subst (λ (cs : List PlacedCell). Contains (places cs) q) no_reader.1 own in omega (arith, it.1));
@@ -225,6 +228,7 @@ module _ (group : ℕ) (version : Version) (old new : Now) (well : IsWell old) (
       says = inl (says_first (s.first ∷ s.second ∷ s.rest) s.after (quota_says group version old new s));
       beside = quota_beside group version old new s;
       within = quota_inside;
+      cells = subst (CellsGo (s.first ∷ s.second ∷ s.rest)) (sym s.after_is) (quota_cells old.pages s.entry.at s.first s.second s.rest s.quotas s.second.cell.head.next);
       handed = λ q is. (freed_was s.second.at old.cells new.cells s.frees q is).0;
       left = λ q is inside out. out (quota_left_in q (freed_was s.second.at old.cells new.cells s.frees q is).1 inside);
       others = λ q cell stands on out. stands_still old.pages new.pages (λ at. is_at s.first.at at || is_at s.second.at at) s.others q cell (quota_apart q out) stands;
@@ -253,6 +257,7 @@ module _ (group : ℕ) (version : Version) (old new : Now) (well : IsWell old) (
       says = inl (says_trim s.chain);
       beside = trim_other group version old new fits s;
       within = λ q inside. subst (λ (ps : List CellAt). Contains ps q) (with_places says_trimmed s.chain) inside;
+      cells = trim_cells old.pages s.entry.at s.chain (stands_there s.entry.at s.chain s.is) s.trim;
       handed = same_handed old.cells new.cells s.same_cells;
       left = λ q is inside out. out (subst (λ (ps : List CellAt). Contains ps q) (sym (with_places says_trimmed s.chain)) inside);
       others = λ q cell stands on out. stands_still old.pages new.pages (is_at s.entry.at) s.others q cell (apart_first old.pages s.entry.at s.chain (stands_there s.entry.at s.chain s.is) q out) stands;
@@ -286,6 +291,7 @@ module _ (group : ℕ) (version : Version) (old new : Now) (well : IsWell old) (
       says = inr refl;
       beside = ended_other group version old new fits s;
       within = λ q inside. absurd (omega (arith, inside.1));
+      cells = no_cells s.chain;
       handed = λ q is. (freed_was s.entry.at old.cells new.cells s.frees q is).0;
       left = λ q is inside out. (freed_was s.entry.at old.cells new.cells s.frees q is).1 (none_left s.chain s.done (stands_there s.entry.at s.chain s.is) q inside);
       others = λ q cell stands on out. stands_still old.pages new.pages (is_at s.entry.at) s.others q cell (apart_first old.pages s.entry.at s.chain (stands_there s.entry.at s.chain s.is) q out) stands;
@@ -298,13 +304,16 @@ module _ (group : ℕ) (version : Version) (old new : Now) (well : IsWell old) (
 
   -- ---- any step, where no page of a tag directory goes
 
+  pub tag_page_stays : (s : GivesTagPage group old new) → ¬ new.list.tag_pages ≡ old.list.tag_pages
+  tag_page_stays s same =
+      let front : s.takes.front ≡ s.takes.front ++ s.takes.home ∷ [] = sym (ap (λ (l : Listing). l.tag_pages) s.takes.is) ∙ same ∙ s.takes.last in
+      let e : length s.takes.front ≡ suc (length s.takes.front) = ap length front ∙ longer s.takes.front s.takes.home in
+      omega (arith, e)
+
   pub one_goes : Step group version old new → new.list.tag_pages ≡ old.list.tag_pages → OneGoes old new
   one_goes (pages_go s) same = lets_goes s
   one_goes (quota_goes s) same = quota_step s
   one_goes (trim_ends s) same = trim_step s
   one_goes (reading_ends s) same = absurd (none_not s.clone (sym (no_clone s.entry (in_last old.list s.front s.entry s.last)) ∙ s.given))
   one_goes (file_ends s) same = file_step s
-  one_goes (tag_page_goes s) same =
-      let front : s.takes.front ≡ s.takes.front ++ s.takes.home ∷ [] = sym (ap (λ (l : Listing). l.tag_pages) s.takes.is) ∙ same ∙ s.takes.last in
-      let e : length s.takes.front ≡ suc (length s.takes.front) = ap length front ∙ longer s.takes.front s.takes.home in
-      absurd (omega (arith, e))
+  one_goes (tag_page_goes s) same = absurd (tag_page_stays s same)
