@@ -1,5 +1,5 @@
 -- What a step makes of single cells where no file is read through another one.
-use Rattle.std.proofs.Common.{◌≡◌, ◌∙◌, ◌⊎◌, inl, Contains, sym, subst, ⊎_elim}
+use Rattle.std.proofs.Common.{◌≡◌, ◌∙◌, inl, Contains, sym, subst, ⊎_elim}
 use Rattle.domain_base.specs.declared.place.CellAt.{CellAt}
 use Rattle.bmt_mcells.specs.Cell.{Cell}
 use Rattle.bmt_mcells.specs.Chain.{PlacedCell, StandsAt}

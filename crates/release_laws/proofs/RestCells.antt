@@ -1,5 +1,5 @@
 -- What is asked of a cell is so of what a step makes of it.
-use Rattle.std.proofs.Common.{◌≡◌, ◌∙◌, ◌⊎◌, ◌&&◌, ◌||◌, inl, inr, ℕ, Bool, true, false, not, cond, nat_eq, nat_le, List, [], ◌∷◌, map, Option, Some, None, IfSome, is_some, refl, sym, ap, subst, arith, ⊎_elim, true≢false}
+use Rattle.std.proofs.Common.{◌≡◌, ◌∙◌, ◌&&◌, ◌||◌, inl, inr, ℕ, Bool, true, false, not, cond, nat_eq, nat_le, List, [], ◌∷◌, map, Option, Some, None, IfSome, is_some, refl, sym, ap, subst, arith, ⊎_elim, true≢false}
 use Rattle.std.proofs.lemmas.Bool.{and_from, and_parts, cases_Bool, eqb-true, or_cases}
 use Rattle.std.specs.List.{AllByRecursion, list_all, list_any}
 use Rattle.std.specs.Option.{option_and_then, option_map, option_map_or}
