@@ -28,7 +28,7 @@ use Rattle.command_core.proofs.Means.{begun, is_taken, may_begin}
 use Rattle.command_core.proofs.Removal.{HasNamed}
 
 -- a domain's table keeps the rules of tables
-table_good : (d : DomainNow) → StandTables d → IsTable d.table
+pub table_good : (d : DomainNow) → StandTables d → IsTable d.table
 table_good d tables = by_home d.frame.anchor.table tables.laid.table
   where
     by_page : (o : Option (List ℕ)) → IsSomeAnd o (λ page. IsTablePage page d.table) → IsTable d.table

@@ -8,3 +8,6 @@ pub mod Served
 pub mod Stops
 pub mod Laid
 pub mod Begun
+pub mod Given
+pub mod Created
+pub mod Linked

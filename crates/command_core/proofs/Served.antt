@@ -1,9 +1,10 @@
 -- The commands that are answered so far.
 use Rattle.std.proofs.Common.{◌≡◌, ℕ, false, refl}
-use Rattle.fileset_model.specs.Orders.{Name}
+use Rattle.fileset_model.specs.Orders.{Name, Path}
 use Rattle.fileset_model.specs.declared.command.Command.{Command}
 use Rattle.fileset_model.specs.declared.command.Command.TheVariants as command
 use Rattle.fileset_model.specs.declared.command.Owner.{Owner}
+use Rattle.fileset_model.specs.declared.command.Place.{Place}
 use Rattle.history_model.specs.VolumeReply.{is_movers}
 use Rattle.command_core.specs.Ending.{IsServed}
 
@@ -12,6 +13,9 @@ pub data Serving : Command → Type 0 where
   mkfset : (fileset : Name) → Serving (command.Mkfset fileset)
   rmfset : (fileset : Name) → Serving (command.Rmfset fileset)
   setquota : (fileset : Name) (who : Owner) (files blocks : ℕ) → Serving (command.Setquota fileset who files blocks)
+  create : (place : Place) (uid gid : ℕ) → Serving (command.Create place uid gid)
+  mkdir : (place : Place) (uid gid : ℕ) → Serving (command.Mkdir place uid gid)
+  link : (place : Place) (to : Path) → Serving (command.Link place to)
 
 pub serving : (c : Command) → IsServed c → Serving c
 serving (command.Mkfset fileset) is = Serving.mkfset fileset
@@ -20,13 +24,13 @@ serving (command.Setquota fileset who files blocks) is = Serving.setquota filese
 serving (command.Clonefset fileset new_name) is = absurd is
 serving command.Showfsets is = absurd is
 serving (command.Showquota fileset who) is = absurd is
-serving (command.Create place uid gid) is = absurd is
-serving (command.Mkdir place uid gid) is = absurd is
+serving (command.Create place uid gid) is = Serving.create place uid gid
+serving (command.Mkdir place uid gid) is = Serving.mkdir place uid gid
 serving (command.Write place offset bytes) is = absurd is
 serving (command.Read place offset count) is = absurd is
 serving (command.Truncate place size) is = absurd is
 serving (command.Rename place to) is = absurd is
-serving (command.Link place to) is = absurd is
+serving (command.Link place to) is = Serving.link place to
 serving (command.Links place) is = absurd is
 serving (command.Unlink place) is = absurd is
 serving (command.Rmdir place) is = absurd is
@@ -52,6 +56,9 @@ clients : (c : Command) → Serving c → is_movers c ≡ false
 clients c (Serving.mkfset fileset) = refl
 clients c (Serving.rmfset fileset) = refl
 clients c (Serving.setquota fileset who files blocks) = refl
+clients c (Serving.create place uid gid) = refl
+clients c (Serving.mkdir place uid gid) = refl
+clients c (Serving.link place to) = refl
 
 pub served_client : (c : Command) → IsServed c → is_movers c ≡ false
 served_client c is = clients c (serving c is)

@@ -1,12 +1,13 @@
 -- How a command ends that is laid over a domain's memory.
-use Rattle.std.specs.Prelude.{◌≡◌, ◌⊎◌, true, false, None, Result, Ok, Err, Some}
+use Rattle.std.specs.Prelude.{◌≡◌, ◌⊎◌, ◌≤◌, true, false, None, Option, Result, Ok, Err, Some, length}
 use Rattle.std.specs.List.{list_any}
 use Rattle.page_store.specs.declared.fault.StoreFault.{StoreFault}
 use Rattle.page_store.specs.declared.fault.StoreFault.TheVariants as fault
 use Rattle.fileset_model.specs.Apply.{refusal_of}
 use Rattle.fileset_model.specs.Filesets.{FilesetMap}
 use Rattle.fileset_model.specs.declared.command.Command.{Command}
-use Rattle.fileset_model.specs.declared.command.Command.TheVariants.{Mkfset, Rmfset, Setquota}
+use Rattle.fileset_model.specs.declared.command.Command.TheVariants.{Create, Link, Mkdir, Mkfset, Rmfset, Setquota}
+use Rattle.fileset_model.specs.declared.reply.Refusal.{Refusal}
 use Rattle.fileset_model.specs.declared.reply.Reply.{Reply}
 use Rattle.fileset_table.specs.Table.{is_free}
 use Rattle.word_forms.specs.Forms.{is_fileset_name}
@@ -14,6 +15,7 @@ use Rattle.domain_memory.specs.declared.memory.DomainMemory.{DomainMemory}
 use Rattle.domain_stages.specs.Beginning.{BeginsNone}
 use Rattle.domain_stages.specs.Limits.{LimitsNone}
 use Rattle.command_core.specs.Coming.{IsAnswered}
+use Rattle.command_core.specs.Naming.{IsNewPath}
 use Rattle.command_core.specs.declared.stop.Stop.{Stop}
 use Rattle.command_core.specs.declared.stop.Stop.TheVariants.{NoPage, OutOfMemory, Refused}
 
@@ -22,12 +24,16 @@ abbrev pub stop_of : StoreFault → Stop
 stop_of fault.NoPage = NoPage
 stop_of fault.OutOfMemory = OutOfMemory
 
--- a command on these filesets is refused so by their rules; or they refuse nothing, and a page is
--- wanted; or memory was short
+-- what the rules refuse is told, or that they refuse nothing, and a page is wanted; or memory was
+-- short
+abbrev pub StopsWith : Option Refusal → Stop → Type 0
+StopsWith refusal (Refused told) = refusal ≡ Some told
+StopsWith refusal NoPage = refusal ≡ None
+StopsWith refusal OutOfMemory = Unit {0}
+
+-- so a command on these filesets stops
 abbrev pub StopsAs : FilesetMap → Command → Stop → Type 0
-StopsAs all command (Refused refusal) = refusal_of all command ≡ Some refusal
-StopsAs all command NoPage = refusal_of all command ≡ None
-StopsAs all command OutOfMemory = Unit {0}
+StopsAs all command stop = StopsWith (refusal_of all command) stop
 
 -- it has an answer with the change that is laid over memory, or stops
 abbrev pub EndsAs : DomainMemory → FilesetMap → Command → Result Reply Stop → Type 0
@@ -39,6 +45,9 @@ abbrev pub IsServed : Command → Type 0
 IsServed (Mkfset fileset) = is_fileset_name fileset ≡ true
 IsServed (Rmfset fileset) = Unit {0}
 IsServed (Setquota fileset who files blocks) = Unit {0}
+IsServed (Create place uid gid) = IsNewPath place.path
+IsServed (Mkdir place uid gid) = IsNewPath place.path
+IsServed (Link place to) = (1 ≤ length place.path) × IsNewPath to
 IsServed command = ⊥
 
 -- why a command may want a page, where that is known: of mkfset, that no slot of the table is free;

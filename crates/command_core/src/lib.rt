@@ -5,10 +5,13 @@
 mod answering;
 mod beginning;
 mod commands;
+mod creating;
 mod finding;
 mod laws;
 mod limiting;
+mod linking;
 mod removing;
+mod settings;
 mod staging;
 mod stop;
 

@@ -9,10 +9,12 @@ ghost use Rattle.command_core.specs.Ending.{EndsAs, IsServed, LacksPage};
 ghost use Rattle.command_core.specs.declared.stop.Stop.TheVariants.{NoPage};
 
 use crate::beginning::stage_fileset;
+use crate::creating::stage_creation;
 use crate::limiting::stage_limits;
+use crate::linking::stage_link;
 use crate::removing::stage_removal;
 use crate::stop::Stop;
-use domain_base::VolIx;
+use domain_base::{Kind, VolIx};
 use domain_memory::DomainMemory;
 use fileset_model::{Command, Limits, Reply};
 use std::alloc::Global;
@@ -51,6 +53,13 @@ pub(crate) fn stage(
             };
             stage_limits(&mut memory, alloc, fileset, *who, limits, prefer)
         }
+        Command::Create { place, uid, gid } => {
+            return stage_creation(memory, alloc, place, Kind::File, *uid, *gid, prefer);
+        }
+        Command::Mkdir { place, uid, gid } => {
+            return stage_creation(memory, alloc, place, Kind::Directory, *uid, *gid, prefer);
+        }
+        Command::Link { place, to } => return stage_link(memory, alloc, place, to, prefer),
         _ => unreachable!(),
     };
     (memory, answer)

@@ -1,3 +1,4 @@
+use Rattle.std.proofs.Common.{refl}
 use Rattle.command_core.proofs.Stops.{ends_same}
 use Rattle.command_core.proofs.staging.stage.Goals as goal
 use Rattle.command_core.proofs.staging.stage.Goals.{in-Mkfset, in-Rmfset, in-Setquota}
@@ -8,3 +9,12 @@ returns-clause-ends c = λ all stands. elim c.match-command.branch [
   | in-Rmfset w ↦ ends_same c.match-command.memory _ all c.args.command.now _ c.match-command.answer _ w.memory-is w.in-Rmfset.is w.answer-is (w.stage_removal-answer.ensures.ends all stands)
   | in-Setquota w ↦ ends_same c.match-command.memory _ all c.args.command.now _ c.match-command.answer _ w.memory-is w.in-Setquota.is w.answer-is (w.stage_limits-answer.ensures.ends all stands)
 ]
+
+pub returns-in-Create-clause-ends : goal.returns-in-Create-clause-ends
+returns-in-Create-clause-ends c = λ all stands. ends_same c.stage_creation.result.0 _ all c.args.command.now _ c.stage_creation.result.1 _ refl c.in-Create.is refl (c.stage_creation.ensures.ends all stands)
+
+pub returns-in-Mkdir-clause-ends : goal.returns-in-Mkdir-clause-ends
+returns-in-Mkdir-clause-ends c = λ all stands. ends_same c.stage_creation-in-Mkdir.result.0 _ all c.args.command.now _ c.stage_creation-in-Mkdir.result.1 _ refl c.in-Mkdir.is refl (c.stage_creation-in-Mkdir.ensures.ends all stands)
+
+pub returns-in-Link-clause-ends : goal.returns-in-Link-clause-ends
+returns-in-Link-clause-ends c = λ all stands. ends_same c.stage_link.result.0 _ all c.args.command.now _ c.stage_link.result.1 _ refl c.in-Link.is refl (c.stage_link.ensures.ends all stands)

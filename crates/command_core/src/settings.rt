@@ -1,0 +1,20 @@
+//! What calls on the files of a fileset are given.
+ghost use Rattle.chosen_files.specs.Chosen.{AreSettingsOf};
+
+use bitfile_store::CallSettings;
+use domain_base::VolIx;
+use domain_memory::DomainMemory;
+
+/// What calls on files of a domain are given: its version, how many clones were made, and the volume
+/// of which cells and pages are taken first. Pages that are given back wait for the first group of a
+/// log.
+pub(crate) fn settings_of(memory: &DomainMemory, prefer: VolIx) -> CallSettings
+    ensures { AreSettingsOf memory.now result }
+{
+    CallSettings {
+        version: memory.frame.version,
+        prefer,
+        born: memory.table.made(),
+        group: 0,
+    }
+}
