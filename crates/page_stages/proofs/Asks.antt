@@ -80,3 +80,11 @@ module _ (memory : DomainMemory) (number : ℕ) (staged : ∥ IsStagedForSome me
     files_by chains are =
         subst (λ (n : ℕ). AreFiles n files.files.tags (pages_of memory.pages) chains) (sym its_number)
         (subst (λ (ps : List TagPlace). AreFiles number ps (pages_of memory.pages) chains) its_places are)
+
+  -- and so there are some
+  pub some_files : (chains : Chains) × AreFilesIn memory number chains
+  some_files = by_slot (slot_in memory.slots.items number) refl
+    where
+      by_slot : (o : Option SlotFiles) → slot_in memory.slots.items number ≡ o → (chains : Chains) × AreFilesIn memory number chains
+      by_slot None none = absurd (not_empty none)
+      by_slot (Some files) is = let f = has_files files is in (f.0, files_in files is f.0 f.1)

@@ -40,6 +40,7 @@ use Rattle.deferred_delete.specs.Listing.{Adds, Listing}
 use Rattle.deferred_delete.specs.declared.list.Entry.{Entry}
 use Rattle.domain_standing.specs.Domain.{DomainNow}
 use Rattle.domain_standing.specs.Standing.{HaveParents}
+use Rattle.bitfile_core.proofs.Created.{one_chains}
 use Rattle.standing_laws.specs.Leads.{IsLiveOf}
 use Rattle.names_standing.specs.OneFile.{KeepsKind}
 use Rattle.set_standing.specs.Around.{StandsAround}
@@ -226,6 +227,9 @@ module _ (old new : DomainMemory) (same : new ≡ record old { pages = new.pages
         (λ page home at. sym (changes.bytes.own page home (λ none. none) (sym (place_live chains tag live state is_state page) ∙ cut_home size t.lowered state page home at)))
         (cut_is d.contents state size t.lowered node from filled)
 
+    cut_still : IsFileIn new number tag
+    cut_still = λ chains_new are_new. subst (IsLiveOf FileKind) (one_chains now.pages number (now.tags number) changes.chains_now chains_new changes.are are_new tag) changes.live
+
     cut_parents : HaveParents d → HaveParents now
     cut_parents = parents_stay old number tag path all entry fileset has new (cut size t.lowered) (λ k. ⊥) changes
 
@@ -257,3 +261,15 @@ parents_end old new same list more number tag size files is number_is file left 
     cut_parents (roomy old new list more) new same number tag size files is number_is file left lists truncates together beside path all entry fileset
     (roomy_has old new list more number tag path all entry fileset has) (roomy_parents old new list more had)
 parents_end old new same list more number tag size files is number_is file left lists truncates together beside (Err e) path all entry fileset has had = tt
+
+pub file_end : {X E : Type 0} (old new : DomainMemory) → new ≡ record old { pages = new.pages; list = new.list; listed = new.listed } → new.list.list ≡ old.list.list → old.list.room ≤ new.list.room
+    → (number : ℕ) (tag : Tag) (size : ℕ) (files : SlotFiles) → slot_in old.slots.items number ≡ Some files → files.files.fileset ≡ number → IsFileIn old number tag → (left : Option CellAt) → ListsLeft left old.listed.items new.listed.items
+    → ((chains : Chains) → AreFiles files.files.fileset files.files.tags (pages_of old.pages) chains → Truncates files.files.fileset files.files.tags tag size left chains (pages_of new.pages))
+    → ((chains : Chains) → AreTogether files.files.fileset files.files.tags old.space old.cells (pages_of old.pages) chains → TruncatesTogether files.files.fileset files.files.tags tag size old.space old.cells chains (pages_of new.pages))
+    → ((chains : Chains) → AreFiles files.files.fileset files.files.tags (pages_of old.pages) chains → ChangesFirst (chains tag) (pages_of old.pages) (pages_of new.pages))
+    → (r : Result X E) → (path : Path) (all : FilesetMap) (entry : FilesetEntry) (fileset : FilesetSlot) → HasFile old number tag path all entry fileset
+    → OnOk r (IsFileIn new number tag)
+file_end old new same list more number tag size files is number_is file left lists truncates together beside (Ok x) path all entry fileset has =
+    cut_still (roomy old new list more) new same number tag size files is number_is file left lists truncates together beside path all entry fileset
+    (roomy_has old new list more number tag path all entry fileset has)
+file_end old new same list more number tag size files is number_is file left lists truncates together beside (Err e) path all entry fileset has = tt

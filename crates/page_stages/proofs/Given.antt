@@ -38,6 +38,8 @@ use Rattle.domain_memory.specs.declared.memory.DomainMemory.{DomainMemory}
 use Rattle.page_stages.proofs.Changed.{around_file, changed_staged, parents_stay, placed_seen, still_fits}
 use Rattle.page_stages.proofs.Seen.{bytes_follow, kept_live, pages_whole, seen_live, slot_changes, tags_same}
 use Rattle.page_stages.proofs.Turns.{page_keeps}
+use Rattle.page_stages.proofs.Opened.{placed_solid, still_open}
+use Rattle.page_stages.specs.Reading.{KeepsOpen}
 use Rattle.page_stages.specs.Stages.{HasFile, IsFileIn, LacksPage, StandsChanged}
 
 module _ (old new : DomainMemory) (same : new ≡ record old { pages = new.pages; space = new.space; cells = new.cells }) (spaces : (vol : ℕ) → volume_of (kept_spaces new.space) vol ≡ volume_of (kept_spaces old.space) vol)
@@ -115,6 +117,13 @@ module _ (old new : DomainMemory) (same : new ≡ record old { pages = new.pages
         by_parents None there g = absurd g
         by_parents (Some chain) there g = parents chain there g
 
+    pub page_open : KeepsOpen number tag old new
+    page_open = by_open (chains tag) refl got
+      where
+        by_open : (o : Option (List PlacedCell)) → chains tag ≡ o → IsSomeAnd o (GetsPage number (d.tags number) tag page bytes prefer d.frame.version chains d.space now.space d.cells now.cells d.pages now.pages) → KeepsOpen number tag old new
+        by_open None there g = absurd g
+        by_open (Some chain) there g = still_open old new number tag (placed page (At g.home)) (λ k. ⊥) chains around.well.together.files live (changes chain there g) (λ state. refl) (placed_solid page g.home)
+
     by_chain : (o : Option (List PlacedCell)) → chains tag ≡ o → IsSomeAnd o (GetsPage number (d.tags number) tag page bytes prefer d.frame.version chains d.space now.space d.cells now.cells d.pages now.pages) → StandsChanged path (with_page page bytes) all entry fileset new
     by_chain None there g = absurd g
     by_chain (Some chain) there g = staged chain there g
@@ -140,3 +149,12 @@ pub parents_end : {X E : Type 0} (old new : DomainMemory) → new ≡ record old
 parents_end old new same spaces number tag page bytes prefer files is number_is file lacks small (Ok x) gets path all entry fileset has had =
     page_parents old new same spaces number tag page bytes prefer files is number_is file lacks small gets path all entry fileset has had
 parents_end old new same spaces number tag page bytes prefer files is number_is file lacks small (Err e) gets path all entry fileset has had = tt
+
+pub open_end : {X E : Type 0} (old new : DomainMemory) → new ≡ record old { pages = new.pages; space = new.space; cells = new.cells } → ((vol : ℕ) → volume_of (kept_spaces new.space) vol ≡ volume_of (kept_spaces old.space) vol)
+    → (number : ℕ) (tag : Tag) (page : ℕ) (bytes : List ℕ) (prefer : ℕ) (files : SlotFiles) → slot_in old.slots.items number ≡ Some files → files.files.fileset ≡ number → IsFileIn old number tag → LacksPage old number tag page → page < file_pages → (r : Result X E)
+    → ((chains : Chains) → AreTogether files.files.fileset files.files.tags old.space old.cells (pages_of old.pages) chains
+    → OnOk r (IsSomeAnd (chains tag) (GetsPage files.files.fileset files.files.tags tag page bytes prefer old.frame.version chains old.space new.space old.cells new.cells (pages_of old.pages) (pages_of new.pages))))
+    → (path : Path) (all : FilesetMap) (entry : FilesetEntry) (fileset : FilesetSlot) → HasFile old number tag path all entry fileset → OnOk r (KeepsOpen number tag old new)
+open_end old new same spaces number tag page bytes prefer files is number_is file lacks small (Ok x) gets path all entry fileset has =
+    page_open old new same spaces number tag page bytes prefer files is number_is file lacks small gets path all entry fileset has
+open_end old new same spaces number tag page bytes prefer files is number_is file lacks small (Err e) gets path all entry fileset has = tt

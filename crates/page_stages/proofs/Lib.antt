@@ -11,3 +11,10 @@ pub mod Roomy
 pub mod Sized
 pub mod Cut
 pub mod Looked
+pub mod Node
+pub mod Twice
+pub mod Known
+pub mod Laid
+pub mod Opened
+pub mod Steps
+pub mod Paged

@@ -31,6 +31,8 @@ use Rattle.domain_memory.specs.declared.memory.DomainMemory.{DomainMemory}
 use Rattle.page_stages.proofs.Changed.{around_file, changed_staged, parents_stay, placed_seen, still_fits}
 use Rattle.page_stages.proofs.Seen.{bytes_follow, kept_live, pages_whole, place_live, seen_live, with_pages}
 use Rattle.page_stages.proofs.Turns.{kept_home, page_keeps}
+use Rattle.page_stages.proofs.Opened.{still_open}
+use Rattle.page_stages.specs.Reading.{KeepsOpen}
 use Rattle.page_stages.specs.Stages.{AreFilesIn, HasFile, HasPage, IsFileIn, StandsChanged}
 
 module _ (old new : DomainMemory) (same : new ≡ record old { pages = new.pages }) (number : ℕ) (tag : Tag) (page : ℕ) (bytes : List ℕ) (file : IsFileIn old number tag) (page_there : HasPage old number tag page) (small : page < file_pages)
@@ -81,3 +83,6 @@ module _ (old new : DomainMemory) (same : new ≡ record old { pages = new.pages
 
     pub put_parents : HaveParents d → HaveParents now
     put_parents = parents_stay old number tag path all entry fileset has new (λ (s : FileState). s) (λ k. k ≡ page) changes
+
+    pub put_open : KeepsOpen number tag old new
+    put_open = still_open old new number tag (λ (s : FileState). s) (λ k. k ≡ page) chains around.well.together.files live changes (λ state. refl) (λ state q solid. solid)

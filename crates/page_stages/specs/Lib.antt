@@ -1,2 +1,4 @@
 pub mod Stages
 pub mod Looking
+pub mod Reading
+pub mod Writing

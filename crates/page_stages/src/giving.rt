@@ -13,6 +13,7 @@ ghost use Rattle.domain_standing.specs.Standing.{HaveParents};
 ghost use Rattle.node_laws.specs.Nodes.{with_page};
 ghost use Rattle.domain_memory.specs.Kept.{KeepsKept};
 ghost use Rattle.domain_memory.specs.Staged.{IsStagedForSome, MayGoBack, staged_books, staged_in};
+ghost use Rattle.page_stages.specs.Reading.{KeepsOpen};
 ghost use Rattle.page_stages.specs.Stages.{GivesNone, HasFile, IsFileIn, LacksPage, StandsChanged};
 
 use crate::slots::files_in;
@@ -87,6 +88,9 @@ pub fn give_page(
     ensures parents { (path : Path) (all : FilesetMap) (entry : FilesetEntry)
         (fileset : FilesetSlot) → HasFile memory.old number tag path all entry fileset
         → HaveParents (staged_in memory.old) → OnOk result (HaveParents (staged_in memory.new)) }
+    ensures open_still { (path : Path) (all : FilesetMap) (entry : FilesetEntry)
+        (fileset : FilesetSlot) → HasFile memory.old number tag path all entry fileset
+        → OnOk result (KeepsOpen number tag memory.old memory.new) }
     ensures table { memory.new.table ≡ memory.old.table }
     ensures counted { staged_books memory.new ≡ staged_books memory.old }
     ensures kept { KeepsKept memory.old memory.new }

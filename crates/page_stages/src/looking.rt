@@ -30,7 +30,7 @@ pub enum FilePage {
 }
 
 /// How many of its first pages a file keeps; None where the tag names no file that stays.
-fn kept_of<M: MetaPages>(pages: &M, files: &Bitfiles, tag: Tag) -> Option<u32>
+pub(crate) fn kept_of<M: MetaPages>(pages: &M, files: &Bitfiles, tag: Tag) -> Option<u32>
     requires { HasFiles files.now.fileset files.now.tags (M.pages pages.now) }
     ensures file { (chains : Chains)
         → AreFiles files.now.fileset files.now.tags (M.pages pages.now) chains

@@ -9,6 +9,7 @@ ghost use Rattle.domain_standing.specs.Standing.{HaveParents};
 ghost use Rattle.node_laws.specs.Nodes.{with_page};
 ghost use Rattle.domain_memory.specs.Kept.{KeepsKept};
 ghost use Rattle.domain_memory.specs.Staged.{IsStagedForSome, MayGoBack, staged_books, staged_in};
+ghost use Rattle.page_stages.specs.Reading.{KeepsOpen};
 ghost use Rattle.page_stages.specs.Stages.{HasFile, HasPage, IsFileIn, StandsChanged};
 
 use crate::slots::files_in;
@@ -32,6 +33,9 @@ pub fn put_page(memory: &mut DomainMemory, number: FilesetNo, tag: Tag, page: u3
     ensures parents { (path : Path) (all : FilesetMap) (entry : FilesetEntry)
         (fileset : FilesetSlot) → HasFile memory.old number tag path all entry fileset
         → HaveParents (staged_in memory.old) → HaveParents (staged_in memory.new) }
+    ensures open_still { (path : Path) (all : FilesetMap) (entry : FilesetEntry)
+        (fileset : FilesetSlot) → HasFile memory.old number tag path all entry fileset
+        → KeepsOpen number tag memory.old memory.new }
     ensures table { memory.new.table ≡ memory.old.table }
     ensures kept { KeepsKept memory.old memory.new }
     ensures back { ∥ MayGoBack memory.new ∥₁ }

@@ -49,6 +49,9 @@ pub fn truncate(
     ensures parents { (path : Path) (all : FilesetMap) (entry : FilesetEntry)
         (fileset : FilesetSlot) → HasFile memory.old number tag path all entry fileset
         → HaveParents (staged_in memory.old) → OnOk result (HaveParents (staged_in memory.new)) }
+    ensures file { (path : Path) (all : FilesetMap) (entry : FilesetEntry) (fileset : FilesetSlot)
+        → HasFile memory.old number tag path all entry fileset
+        → OnOk result (IsFileIn memory.new number tag) }
     ensures table { memory.new.table ≡ memory.old.table }
     ensures counted { staged_books memory.new ≡ staged_books memory.old }
     ensures kept { KeepsKept memory.old memory.new }

@@ -4,7 +4,7 @@ use Rattle.domain_parts.specs.Slots.{slot_in}
 use Rattle.domain_parts.specs.declared.slots.SlotFiles.{SlotFiles}
 use Rattle.page_stages.proofs.Asks.{files_in, has_together, its_number, there}
 use Rattle.page_stages.proofs.Calls.{give_none}
-use Rattle.page_stages.proofs.Given.{given_end, parents_end}
+use Rattle.page_stages.proofs.Given.{given_end, open_end, parents_end}
 use Rattle.page_stages.proofs.Kept.{back_kept, give_kept, parts_kept}
 use Rattle.page_stages.proofs.giving.give_page.Goals as goal
 
@@ -44,6 +44,17 @@ returns-clause-parents c = λ path all entry fileset has had.
     (c.give_in.ensures.ok t.0 t.1) (c.give_in.ensures.none t.0 t.1) c.give_in.ensures.cells in
     parents_end memory (record memory { pages = c.give_in.new.pages; space = c.give_in.new.space; cells = c.give_in.new.cells }) refl k.spaces c.args.number c.args.tag c.args.page c.args.bytes c.args.prefer slot is (its_number memory c.args.number c.requires.stands c.requires.back c.requires.original slot is) c.requires.file c.requires.lacks c.requires.small c.give_in.result c.give_in.ensures.ok
     path all entry fileset has had
+
+pub returns-clause-open_still : goal.returns-clause-open_still
+returns-clause-open_still c = λ path all entry fileset has.
+    let memory = c.args.memory.now in
+    let slot = c.files_in-slot.result.now in
+    let is = ap (λ (slots : List (Option SlotFiles)). slot_in slots c.args.number) (sym c.deref.ensures.value) ∙ c.files_in-slot.ensures in
+    let t = has_together memory c.args.number c.requires.stands c.requires.back c.requires.original slot is in
+    let k = give_kept slot.files.fileset slot.files.tags c.args.tag c.args.page c.args.bytes c.args.prefer memory.frame.version t.0 memory.space c.give_in.new.space memory.cells c.give_in.new.cells (pages_of memory.pages) (pages_of c.give_in.new.pages) c.give_in.result
+    (c.give_in.ensures.ok t.0 t.1) (c.give_in.ensures.none t.0 t.1) c.give_in.ensures.cells in
+    open_end memory (record memory { pages = c.give_in.new.pages; space = c.give_in.new.space; cells = c.give_in.new.cells }) refl k.spaces c.args.number c.args.tag c.args.page c.args.bytes c.args.prefer slot is (its_number memory c.args.number c.requires.stands c.requires.back c.requires.original slot is) c.requires.file c.requires.lacks c.requires.small c.give_in.result c.give_in.ensures.ok
+    path all entry fileset has
 
 pub returns-clause-kept : goal.returns-clause-kept
 returns-clause-kept c =

@@ -8,7 +8,7 @@ use Rattle.domain_parts.specs.Slots.{slot_in}
 use Rattle.domain_parts.specs.declared.slots.SlotFiles.{SlotFiles}
 use Rattle.page_stages.proofs.Asks.{files_by, files_in, has_files, there}
 use Rattle.page_stages.proofs.Kept.{back_kept}
-use Rattle.page_stages.proofs.Put.{page_put_there, put_parents}
+use Rattle.page_stages.proofs.Put.{page_put_there, put_open, put_parents}
 use Rattle.page_stages.proofs.Stood.{stands_at}
 use Rattle.page_stages.proofs.putting.put_page.Goals as goal
 
@@ -59,6 +59,14 @@ returns-clause-parents c = λ path all entry fileset has had.
     put_parents memory (record memory { pages = c.put.new.self }) refl c.args.number c.args.tag c.args.page c.args.bytes c.requires.file c.requires.has c.requires.small c.in-Some.home
     (λ chains are. sym (c.page_home.ensures chains (files_by memory c.args.number c.requires.stands c.requires.back c.requires.original c.files_in-slot.result.now is chains are)) ∙ home_is c.page_home.result c.in-Some.home (sym c.home.ensures ∙ c.in-Some.is))
     c.put.ensures.value path all entry fileset has had
+
+pub returns-clause-open_still : goal.returns-clause-open_still
+returns-clause-open_still c = λ path all entry fileset has.
+    let memory = c.args.memory.now in
+    let is = ap (λ (slots : List (Option SlotFiles)). slot_in slots c.args.number) (sym c.deref.ensures.value) ∙ c.files_in-slot.ensures in
+    put_open memory (record memory { pages = c.put.new.self }) refl c.args.number c.args.tag c.args.page c.args.bytes c.requires.file c.requires.has c.requires.small c.in-Some.home
+    (λ chains are. sym (c.page_home.ensures chains (files_by memory c.args.number c.requires.stands c.requires.back c.requires.original c.files_in-slot.result.now is chains are)) ∙ home_is c.page_home.result c.in-Some.home (sym c.home.ensures ∙ c.in-Some.is))
+    c.put.ensures.value path all entry fileset has
 
 pub returns-clause-back : goal.returns-clause-back
 returns-clause-back c = back_kept c.args.memory.now _ refl c.requires.back

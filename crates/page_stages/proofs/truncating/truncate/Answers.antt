@@ -6,7 +6,7 @@ use Rattle.bitfile_core.specs.Files.{attributes_of, of_live}
 use Rattle.domain_parts.specs.Slots.{slot_in}
 use Rattle.domain_parts.specs.declared.slots.SlotFiles.{SlotFiles}
 use Rattle.page_stages.proofs.Asks.{files_in, has_files, its_number, there}
-use Rattle.page_stages.proofs.Cut.{cut_end, parents_end}
+use Rattle.page_stages.proofs.Cut.{cut_end, file_end, parents_end}
 use Rattle.page_stages.proofs.Kept.{back_kept}
 use Rattle.page_stages.proofs.truncating.truncate.Goals as goal
 
@@ -51,6 +51,14 @@ returns-clause-parents c = λ path all entry fileset has had.
     let is = ap (λ (slots : List (Option SlotFiles)). slot_in slots c.args.number) (sym c.deref.ensures.value) ∙ c.files_in-slot.ensures in
     parents_end memory (record memory { pages = c.truncate.new.pages; list = c.reserve.new.self; listed = c.list_left.new.listed }) refl c.reserve.ensures.list c.reserve.ensures.room c.args.number c.args.tag c.args.size slot is (its_number memory c.args.number c.requires.stands c.requires.back c.requires.original slot is) c.requires.file
     c.in_ok-left.left c.in_ok-list_left.ensures.ok c.in_ok-left.ensures.ok (λ chains are. c.in_ok-left.ensures.together memory.space memory.cells chains are) c.truncate.ensures.beside c.reserve.result path all entry fileset has had
+
+pub returns-clause-file : goal.returns-clause-file
+returns-clause-file c = λ path all entry fileset has.
+    let memory = c.args.memory.now in
+    let slot = c.files_in-slot.result.now in
+    let is = ap (λ (slots : List (Option SlotFiles)). slot_in slots c.args.number) (sym c.deref.ensures.value) ∙ c.files_in-slot.ensures in
+    file_end memory (record memory { pages = c.truncate.new.pages; list = c.reserve.new.self; listed = c.list_left.new.listed }) refl c.reserve.ensures.list c.reserve.ensures.room c.args.number c.args.tag c.args.size slot is (its_number memory c.args.number c.requires.stands c.requires.back c.requires.original slot is) c.requires.file
+    c.in_ok-left.left c.in_ok-list_left.ensures.ok c.in_ok-left.ensures.ok (λ chains are. c.in_ok-left.ensures.together memory.space memory.cells chains are) c.truncate.ensures.beside c.reserve.result path all entry fileset has
 
 pub returns-clause-back : goal.returns-clause-back
 returns-clause-back c = back_kept c.args.memory.now _ refl c.requires.back

@@ -1,0 +1,18 @@
+use Rattle.std.proofs.Common.{◌≡◌, ◌-◌, ◌<◌, ◌≤◌, ℕ, count_by, not}
+use Rattle.std.specs.FinMap.{contains_key}
+use Rattle.std.specs.List.{range_with_len}
+use Rattle.fileset_model.specs.Filesets.{FilesetMap}
+use Rattle.fileset_model.specs.Orders.{Path}
+use Rattle.fileset_model.specs.declared.fileset.FilesetSlot.{FilesetSlot}
+use Rattle.fileset_table.specs.declared.slot.FilesetEntry.{FilesetEntry}
+use Rattle.page_stages.specs.Reading.{IsOpen, pages_at}
+use Rattle.page_stages.specs.Stages.{HasFile}
+use Rattle.page_stages.proofs.writing.absent_pages.Given as goal
+
+abbrev pub invariant-loop-page : goal.invariant-loop-page
+invariant-loop-page l = record {
+  counted : (path : Path) (all : FilesetMap) (entry : FilesetEntry) (fileset : FilesetSlot) → HasFile l.memory l.number l.tag path all entry fileset
+      → l.absent ≡ count_by (λ q. not (contains_key (pages_at fileset.tree path) q)) (range_with_len l.first (l.page - l.first));
+  few : l.absent ≤ l.page - l.first;
+  opened : (q : ℕ) → l.first ≤ q → q < l.page → IsOpen l.memory l.number l.tag q;
+}

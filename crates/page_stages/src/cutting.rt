@@ -1,0 +1,127 @@
+//! Files that are truncated, and files whose data is logged from now on or not.
+ghost use Rattle.std.specs.Prelude.{◌%◌, ◌-◌, ◌/◌, ◌≡◌, ◌≤◌, IfOk, OnOk, slice_get, true};
+ghost use Rattle.domain_base.specs.declared.limits.TheConstants.{FILE_BYTES};
+ghost use Rattle.fileset_model.specs.Apply.{flagged_node, truncated_node};
+ghost use Rattle.fileset_model.specs.Filesets.{FilesetMap};
+ghost use Rattle.fileset_model.specs.Orders.{Path};
+ghost use Rattle.fileset_model.specs.declared.fileset.FilesetSlot.{FilesetSlot};
+ghost use Rattle.fileset_table.specs.declared.slot.FilesetEntry.{FilesetEntry};
+ghost use Rattle.domain_layout.specs.CellRules.{of_original};
+ghost use Rattle.domain_standing.specs.Standing.{HaveParents};
+ghost use Rattle.node_laws.specs.Commands.{zeros_behind};
+ghost use Rattle.domain_memory.specs.Kept.{KeepsKept};
+ghost use Rattle.domain_memory.specs.Staged.{IsStagedForSome, MayGoBack, staged_books, staged_in};
+ghost use Rattle.page_stages.specs.Stages.{HasFile, IsFileIn, StandsChanged};
+ghost use Rattle.page_stages.specs.Writing.{StaysElse, cleared_behind};
+
+use crate::describing::describe;
+use crate::putting::put_page;
+use crate::reading::page_of;
+use crate::sizing::set_size;
+use crate::truncating::truncate;
+use domain_base::limits::PAGE_BYTES;
+use domain_base::{FilesetNo, OutOfMemory, Page, Tag};
+use domain_memory::DomainMemory;
+use std::alloc::Global;
+
+/// Another page with the bytes of the one in which a file of that size ends, and zeros behind its
+/// end.
+fn cleared(page: &Page, alloc: Global, size: u64) -> Result<Page, OutOfMemory>
+    ensures { IfOk result (λ after. after ≡ zeros_behind size (size / PAGE_BYTES) page.now) }
+{
+    let zeros = Page::zeros(alloc)?;
+    let mut after = page.copy(alloc)?;
+    let at = (size % PAGE_BYTES as u64) as usize;
+    after.set(at, &zeros.bytes()[at..]);
+    Ok(after)
+}
+
+/// Puts zeros behind the end of a file of that size into the page in which it ends, if it has that.
+fn clear_rest(
+    memory: &mut DomainMemory,
+    alloc: Global,
+    number: FilesetNo,
+    tag: Tag,
+    size: u64,
+) -> Result<(), OutOfMemory>
+    requires stands { ∥ IsStagedForSome memory.old ∥₁ }
+    requires back { ∥ MayGoBack memory.old ∥₁ }
+    requires original { of_original (slice_get memory.old.table.slots number) ≡ true }
+    requires file { IsFileIn memory.old number tag }
+    requires fits { size ≤ FILE_BYTES }
+    ensures ok { (path : Path) (all : FilesetMap) (entry : FilesetEntry) (fileset : FilesetSlot)
+        → HasFile memory.old number tag path all entry fileset → OnOk result
+        (StandsChanged path (cleared_behind size) all entry fileset memory.new) }
+    ensures parents { (path : Path) (all : FilesetMap) (entry : FilesetEntry)
+        (fileset : FilesetSlot) → HasFile memory.old number tag path all entry fileset
+        → HaveParents (staged_in memory.old) → OnOk result (HaveParents (staged_in memory.new)) }
+    ensures rest { StaysElse memory.old memory.new }
+{
+    let page = size / PAGE_BYTES as u64;
+    let Some(there) = page_of(memory, number, tag, page) else {
+        return Ok(());
+    };
+    let after = cleared(there, alloc, size)?;
+    put_page(memory, number, tag, page as u32, after);
+    Ok(())
+}
+
+/// Truncates a file of the fileset in a slot, an original, or makes it longer: it has that size in
+/// bytes then, of its pages those that begin in front of its end, and zeros behind its end in the
+/// last one. Where pages lie behind it, its first cell says that they are to be let go of, and is
+/// listed; there is room on the list then. There may only be no memory. After an Err the change may
+/// be half made: it is to be taken back; what was kept stays.
+pub fn cut_file(
+    memory: &mut DomainMemory,
+    alloc: Global,
+    number: FilesetNo,
+    tag: Tag,
+    size: u64,
+) -> Result<(), OutOfMemory>
+    requires stands { ∥ IsStagedForSome memory.old ∥₁ }
+    requires back { ∥ MayGoBack memory.old ∥₁ }
+    requires original { of_original (slice_get memory.old.table.slots number) ≡ true }
+    requires file { IsFileIn memory.old number tag }
+    requires fits { size ≤ FILE_BYTES }
+    ensures ok { (path : Path) (all : FilesetMap) (entry : FilesetEntry) (fileset : FilesetSlot)
+        → HasFile memory.old number tag path all entry fileset → OnOk result
+        (StandsChanged path (truncated_node size) all entry fileset memory.new) }
+    ensures parents { (path : Path) (all : FilesetMap) (entry : FilesetEntry)
+        (fileset : FilesetSlot) → HasFile memory.old number tag path all entry fileset
+        → HaveParents (staged_in memory.old) → OnOk result (HaveParents (staged_in memory.new)) }
+    ensures kept { KeepsKept memory.old memory.new }
+    ensures back { ∥ MayGoBack memory.new ∥₁ }
+    ensures table { memory.new.table ≡ memory.old.table }
+    ensures counted { staged_books memory.new ≡ staged_books memory.old }
+{
+    truncate(memory, alloc, number, tag, size)?;
+    clear_rest(memory, alloc, number, tag, size)
+}
+
+/// Says of a file of the fileset in a slot, an original, whether its data is logged. There may only
+/// be no memory, and then the domain is as it was.
+pub fn flag_file(
+    memory: &mut DomainMemory,
+    alloc: Global,
+    number: FilesetNo,
+    tag: Tag,
+    is_logged: bool,
+) -> Result<(), OutOfMemory>
+    requires stands { ∥ IsStagedForSome memory.old ∥₁ }
+    requires back { ∥ MayGoBack memory.old ∥₁ }
+    requires original { of_original (slice_get memory.old.table.slots number) ≡ true }
+    requires file { IsFileIn memory.old number tag }
+    ensures ok { (path : Path) (all : FilesetMap) (entry : FilesetEntry) (fileset : FilesetSlot)
+        → HasFile memory.old number tag path all entry fileset → OnOk result
+        (StandsChanged path (flagged_node is_logged) all entry fileset memory.new) }
+    ensures parents { (path : Path) (all : FilesetMap) (entry : FilesetEntry)
+        (fileset : FilesetSlot) → HasFile memory.old number tag path all entry fileset
+        → HaveParents (staged_in memory.old) → OnOk result (HaveParents (staged_in memory.new)) }
+    ensures kept { KeepsKept memory.old memory.new }
+    ensures back { ∥ MayGoBack memory.new ∥₁ }
+    ensures table { memory.new.table ≡ memory.old.table }
+    ensures counted { staged_books memory.new ≡ staged_books memory.old }
+{
+    let what = describe(memory, number, tag);
+    set_size(memory, alloc, number, tag, what.size, is_logged)
+}

@@ -1,0 +1,268 @@
+//! Bytes that are written to a file.
+ghost use Rattle.std.specs.Prelude.{◌*◌, ◌+◌, ◌-◌, ◌/◌, ◌<◌, ◌^◌, ◌≡◌, ◌≤◌, IfOk, IfSome, OnOk, length, slice_get, true, unwrap_or};
+ghost use Rattle.std.specs.FinMap.{get};
+ghost use Rattle.domain_base.specs.Page.{zero_bytes};
+ghost use Rattle.domain_base.specs.declared.limits.TheConstants.{FILE_BYTES};
+ghost use Rattle.fileset_model.specs.Apply.{written_node};
+ghost use Rattle.fileset_model.specs.Filesets.{FilesetMap};
+ghost use Rattle.fileset_model.specs.Orders.{Path};
+ghost use Rattle.fileset_model.specs.Pages.{absent_pages as absent_of, page_after as bytes_after, pages_of};
+ghost use Rattle.fileset_model.specs.declared.fileset.FilesetSlot.{FilesetSlot};
+ghost use Rattle.fileset_table.specs.declared.slot.FilesetEntry.{FilesetEntry};
+ghost use Rattle.domain_layout.specs.CellRules.{of_original};
+ghost use Rattle.domain_standing.specs.Standing.{HaveParents};
+ghost use Rattle.node_laws.specs.Nodes.{with_page};
+ghost use Rattle.domain_memory.specs.Kept.{KeepsKept};
+ghost use Rattle.domain_memory.specs.Staged.{IsStagedForSome, MayGoBack, staged_books, staged_in};
+ghost use Rattle.page_stages.specs.Reading.{AreOpen, IsOpen, KeepsOpen, pages_at};
+ghost use Rattle.page_stages.specs.Stages.{HasFile, IsFileIn, StandsChanged};
+ghost use Rattle.page_stages.specs.Writing.{StaysElse, with_written};
+
+use crate::describing::describe;
+use crate::giving::give_page;
+use crate::looking::{FilePage, look_at_page};
+use crate::putting::put_page;
+use crate::reading::page_of;
+use crate::sizing::set_size;
+use domain_base::limits::{FILE_PAGES, PAGE_BYTES};
+use domain_base::{FilesetNo, OutOfMemory, Page, Tag, VolIx};
+use domain_memory::DomainMemory;
+use page_store::StoreFault;
+use std::alloc::Global;
+
+/// How many of the pages are absent that so many bytes of a file from an offset on lie in, if each
+/// of them may be written; None where the file neither has one nor can get it now, as pages behind
+/// those that it keeps are still to be let go of. It takes no memory.
+pub fn absent_pages(
+    memory: &DomainMemory,
+    number: FilesetNo,
+    tag: Tag,
+    offset: u64,
+    len: u64,
+) -> Option<u64>
+    requires stands { ∥ IsStagedForSome memory.now ∥₁ }
+    requires back { ∥ MayGoBack memory.now ∥₁ }
+    requires original { of_original (slice_get memory.now.table.slots number) ≡ true }
+    requires file { IsFileIn memory.now number tag }
+    requires fits { offset + len ≤ FILE_BYTES }
+    ensures writable { IfSome result (λ count. AreOpen memory.now number tag offset len) }
+    ensures count { (path : Path) (all : FilesetMap) (entry : FilesetEntry) (fileset : FilesetSlot)
+        → HasFile memory.now number tag path all entry fileset
+        → IfSome result (λ count. count ≡ absent_of (pages_at fileset.tree path) offset len) }
+{
+    if len == 0 {
+        return Some(0);
+    }
+    let first = offset / PAGE_BYTES as u64;
+    let end = (offset + len - 1) / PAGE_BYTES as u64 + 1;
+    let mut absent = 0;
+    for page in first..end {
+        match look_at_page(memory, number, tag, page as u32) {
+            FilePage::There => {}
+            FilePage::Lacking => absent += 1,
+            FilePage::Closed | FilePage::NoFile => return None,
+        }
+    }
+    Some(absent)
+}
+
+/// Puts bytes on a page that a file has or may get.
+fn place_page(
+    memory: &mut DomainMemory,
+    alloc: Global,
+    number: FilesetNo,
+    tag: Tag,
+    page: u32,
+    bytes: Page,
+    prefer: VolIx,
+) -> Result<(), StoreFault>
+    requires stands { ∥ IsStagedForSome memory.old ∥₁ }
+    requires back { ∥ MayGoBack memory.old ∥₁ }
+    requires original { of_original (slice_get memory.old.table.slots number) ≡ true }
+    requires file { IsFileIn memory.old number tag }
+    requires writable { IsOpen memory.old number tag page }
+    requires small { page < FILE_PAGES }
+    ensures ok { (path : Path) (all : FilesetMap) (entry : FilesetEntry) (fileset : FilesetSlot)
+        → HasFile memory.old number tag path all entry fileset → OnOk result
+        (StandsChanged path (with_page page bytes) all entry fileset memory.new) }
+    ensures parents { (path : Path) (all : FilesetMap) (entry : FilesetEntry)
+        (fileset : FilesetSlot) → HasFile memory.old number tag path all entry fileset
+        → HaveParents (staged_in memory.old) → OnOk result (HaveParents (staged_in memory.new)) }
+    ensures open_still { (path : Path) (all : FilesetMap) (entry : FilesetEntry) (fileset : FilesetSlot)
+        → HasFile memory.old number tag path all entry fileset
+        → OnOk result (KeepsOpen number tag memory.old memory.new) }
+    ensures rest { StaysElse memory.old memory.new }
+{
+    match look_at_page(memory, number, tag, page) {
+        FilePage::There => {
+            put_page(memory, number, tag, page, bytes);
+            Ok(())
+        }
+        FilePage::Lacking => give_page(memory, alloc, number, tag, page, bytes, prefer),
+        FilePage::Closed | FilePage::NoFile => unreachable!(),
+    }
+}
+
+/// Another page with the bytes of one of a file, or zeros where the file does not have it.
+fn page_or_zeros(
+    memory: &DomainMemory,
+    alloc: Global,
+    number: FilesetNo,
+    tag: Tag,
+    page: u64,
+) -> Result<Page, OutOfMemory>
+    requires stands { ∥ IsStagedForSome memory.now ∥₁ }
+    requires back { ∥ MayGoBack memory.now ∥₁ }
+    requires original { of_original (slice_get memory.now.table.slots number) ≡ true }
+    requires file { IsFileIn memory.now number tag }
+    ensures { (path : Path) (all : FilesetMap) (entry : FilesetEntry) (fileset : FilesetSlot)
+        → HasFile memory.now number tag path all entry fileset
+        → IfOk result (λ copy. copy ≡ unwrap_or (get (pages_at fileset.tree path) page)
+        (zero_bytes PAGE_BYTES)) }
+{
+    match page_of(memory, number, tag, page) {
+        Some(there) => there.copy(alloc),
+        None => Page::zeros(alloc),
+    }
+}
+
+/// A page of a file as it is after a write of the bytes at the offset.
+fn page_after(
+    memory: &DomainMemory,
+    alloc: Global,
+    number: FilesetNo,
+    tag: Tag,
+    offset: u64,
+    bytes: &[u8],
+    page: u64,
+) -> Result<Page, OutOfMemory>
+    requires stands { ∥ IsStagedForSome memory.now ∥₁ }
+    requires back { ∥ MayGoBack memory.now ∥₁ }
+    requires original { of_original (slice_get memory.now.table.slots number) ≡ true }
+    requires file { IsFileIn memory.now number tag }
+    requires fits { page * PAGE_BYTES < 2 ^ 64 }
+    requires reached { offset - page * PAGE_BYTES ≤ PAGE_BYTES }
+    requires reaches { page * PAGE_BYTES - offset ≤ length bytes.now }
+    ensures { (path : Path) (all : FilesetMap) (entry : FilesetEntry) (fileset : FilesetSlot)
+        → HasFile memory.now number tag path all entry fileset
+        → IfOk result (λ after.
+        after ≡ bytes_after (pages_at fileset.tree path) offset bytes.now page) }
+{
+    let mut after = page_or_zeros(memory, alloc, number, tag, page)?;
+    let start = page * PAGE_BYTES as u64;
+    let at = offset.saturating_sub(start) as usize;
+    let rest = &bytes[start.saturating_sub(offset) as usize..];
+    after.set(at, &rest[..rest.len().min(PAGE_BYTES - at)]);
+    Ok(after)
+}
+
+/// Lays those of the bytes that are to be written at the offset on a page that lie in it.
+fn write_page(
+    memory: &mut DomainMemory,
+    alloc: Global,
+    number: FilesetNo,
+    tag: Tag,
+    offset: u64,
+    bytes: &[u8],
+    page: u64,
+    prefer: VolIx,
+) -> Result<(), StoreFault>
+    requires stands { ∥ IsStagedForSome memory.old ∥₁ }
+    requires back { ∥ MayGoBack memory.old ∥₁ }
+    requires original { of_original (slice_get memory.old.table.slots number) ≡ true }
+    requires file { IsFileIn memory.old number tag }
+    requires writable { IsOpen memory.old number tag page }
+    requires small { page < FILE_PAGES }
+    requires reached { offset - page * PAGE_BYTES ≤ PAGE_BYTES }
+    requires reaches { page * PAGE_BYTES - offset ≤ length bytes.now }
+    ensures ok { (path : Path) (all : FilesetMap) (entry : FilesetEntry) (fileset : FilesetSlot)
+        → HasFile memory.old number tag path all entry fileset
+        → OnOk result (StandsChanged path
+        (with_page page (bytes_after (pages_at fileset.tree path) offset bytes.now page))
+        all entry fileset memory.new) }
+    ensures parents { (path : Path) (all : FilesetMap) (entry : FilesetEntry)
+        (fileset : FilesetSlot) → HasFile memory.old number tag path all entry fileset
+        → HaveParents (staged_in memory.old) → OnOk result (HaveParents (staged_in memory.new)) }
+    ensures open_still { (path : Path) (all : FilesetMap) (entry : FilesetEntry) (fileset : FilesetSlot)
+        → HasFile memory.old number tag path all entry fileset
+        → OnOk result (KeepsOpen number tag memory.old memory.new) }
+    ensures rest { StaysElse memory.old memory.new }
+{
+    let after = page_after(memory, alloc, number, tag, offset, bytes, page)?;
+    place_page(memory, alloc, number, tag, page as u32, after, prefer)
+}
+
+/// Lays bytes on the pages of a file that they lie in, whatever its size is.
+fn write_pages(
+    memory: &mut DomainMemory,
+    alloc: Global,
+    number: FilesetNo,
+    tag: Tag,
+    offset: u64,
+    bytes: &[u8],
+    prefer: VolIx,
+) -> Result<(), StoreFault>
+    requires stands { ∥ IsStagedForSome memory.old ∥₁ }
+    requires back { ∥ MayGoBack memory.old ∥₁ }
+    requires original { of_original (slice_get memory.old.table.slots number) ≡ true }
+    requires file { IsFileIn memory.old number tag }
+    requires fits { offset + length bytes.now ≤ FILE_BYTES }
+    requires writable { AreOpen memory.old number tag offset (length bytes.now) }
+    ensures ok { (path : Path) (all : FilesetMap) (entry : FilesetEntry) (fileset : FilesetSlot)
+        → HasFile memory.old number tag path all entry fileset → OnOk result (StandsChanged path
+        (with_written (pages_of offset (length bytes.now)) offset bytes.now)
+        all entry fileset memory.new) }
+    ensures parents { (path : Path) (all : FilesetMap) (entry : FilesetEntry)
+        (fileset : FilesetSlot) → HasFile memory.old number tag path all entry fileset
+        → HaveParents (staged_in memory.old) → OnOk result (HaveParents (staged_in memory.new)) }
+    ensures file { OnOk result (IsFileIn memory.new number tag) }
+    ensures rest { StaysElse memory.old memory.new }
+{
+    if bytes.is_empty() {
+        return Ok(());
+    }
+    let first = offset / PAGE_BYTES as u64;
+    let end = (offset + bytes.len() as u64 - 1) / PAGE_BYTES as u64 + 1;
+    for page in first..end {
+        write_page(memory, alloc, number, tag, offset, bytes, page, prefer)?;
+    }
+    Ok(())
+}
+
+/// Writes bytes to a file of the fileset in a slot, an original, from an offset on: it reaches to
+/// the last of them then, if it did not; pages that it did not have are free ones, looked for on
+/// the preferred volume first, with zeros where no byte is written. Each page that they lie in is
+/// one that the file has or may get, as absent_pages tells. There may be no page free, or no memory.
+/// After an Err the change may be half made: it is to be taken back; what was kept stays.
+pub fn write_bytes(
+    memory: &mut DomainMemory,
+    alloc: Global,
+    number: FilesetNo,
+    tag: Tag,
+    offset: u64,
+    bytes: &[u8],
+    prefer: VolIx,
+) -> Result<(), StoreFault>
+    requires stands { ∥ IsStagedForSome memory.old ∥₁ }
+    requires back { ∥ MayGoBack memory.old ∥₁ }
+    requires original { of_original (slice_get memory.old.table.slots number) ≡ true }
+    requires file { IsFileIn memory.old number tag }
+    requires fits { offset + length bytes.now ≤ FILE_BYTES }
+    requires writable { AreOpen memory.old number tag offset (length bytes.now) }
+    ensures ok { (path : Path) (all : FilesetMap) (entry : FilesetEntry) (fileset : FilesetSlot)
+        → HasFile memory.old number tag path all entry fileset → OnOk result
+        (StandsChanged path (written_node offset bytes.now) all entry fileset memory.new) }
+    ensures parents { (path : Path) (all : FilesetMap) (entry : FilesetEntry)
+        (fileset : FilesetSlot) → HasFile memory.old number tag path all entry fileset
+        → HaveParents (staged_in memory.old) → OnOk result (HaveParents (staged_in memory.new)) }
+    ensures kept { KeepsKept memory.old memory.new }
+    ensures back { ∥ MayGoBack memory.new ∥₁ }
+    ensures table { memory.new.table ≡ memory.old.table }
+    ensures counted { staged_books memory.new ≡ staged_books memory.old }
+{
+    write_pages(memory, alloc, number, tag, offset, bytes, prefer)?;
+    let what = describe(memory, number, tag);
+    let size = what.size.max(offset + bytes.len() as u64);
+    set_size(memory, alloc, number, tag, size, what.is_logged)?;
+    Ok(())
+}
