@@ -9,7 +9,6 @@ ghost use Rattle.fileset_model.specs.Orders.{Path as PathOf};
 ghost use Rattle.fileset_model.specs.Paths.{rows_of, target_refusal};
 ghost use Rattle.fileset_model.specs.declared.fileset.FilesetSlot.{FilesetSlot};
 ghost use Rattle.fileset_table.specs.declared.slot.FilesetEntry.{FilesetEntry};
-ghost use Rattle.chosen_files.specs.Chosen.{AreSettingsOf};
 ghost use Rattle.name_space.specs.Names.{number_of};
 ghost use Rattle.name_stages.specs.Looking.{IsLiveIn, IsSame, LeadsTo};
 ghost use Rattle.name_stages.specs.Stages.{HasFileset};
