@@ -11,6 +11,7 @@ mod laws;
 mod limiting;
 mod linking;
 mod removing;
+mod serving;
 mod settings;
 mod staging;
 mod stop;
@@ -20,3 +21,4 @@ pub use laws::{
     what_a_client_is_answered_may_be_committed, what_beginnings_mean, what_is_said_of_filesets,
     what_limits_mean, what_removals_mean,
 };
+pub use serving::is_served;
