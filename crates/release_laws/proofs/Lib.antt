@@ -23,3 +23,5 @@ pub mod SlotsOver
 pub mod ParentsOver
 pub mod BitsOver
 pub mod SpacesOver
+pub mod FreedPages
+pub mod FilesAtHand

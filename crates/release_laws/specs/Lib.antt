@@ -1,2 +1,4 @@
 pub mod Released
 pub mod Trimmed
+pub mod Freed
+pub mod AtHand
