@@ -18,3 +18,4 @@ pub mod Laid
 pub mod Opened
 pub mod Steps
 pub mod Paged
+pub mod Counted

@@ -2,3 +2,4 @@ pub mod Stages
 pub mod Looking
 pub mod Reading
 pub mod Writing
+pub mod Counting

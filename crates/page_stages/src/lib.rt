@@ -1,6 +1,7 @@
 //! Changes of one file that are laid over a domain's memory: its pages and its size.
 #![tactic(auto)]
 
+mod counting;
 mod cutting;
 mod describing;
 mod giving;
@@ -12,6 +13,7 @@ mod slots;
 mod truncating;
 mod writing;
 
+pub use counting::count_pages;
 pub use cutting::{cut_file, flag_file};
 pub use describing::describe;
 pub use giving::give_page;
