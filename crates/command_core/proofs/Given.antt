@@ -1,9 +1,8 @@
 -- What a command knows of the original that it names, in a domain's memory with no change over it.
-use Rattle.std.proofs.Common.{◌≡◌, ◌∙◌, ℕ, true, Option, Some, None, IfSome, IsSomeAnd, length, slice_get, refl, sym, ap, subst}
+use Rattle.std.proofs.Common.{◌≡◌, ◌∙◌, ℕ, true, Option, Some, None, IfSome, length, slice_get, refl, sym, ap, subst}
 use Rattle.std.proofs.Math.Logic.{∥∥₁_map}
 use Rattle.std.specs.FinMap.{get}
 use Rattle.fileset_laws.specs.Valid.{IsValidFileset, IsValidAs}
-use Rattle.fileset_model.specs.Apply.{read_only}
 use Rattle.fileset_model.specs.Filesets.{FilesetMap}
 use Rattle.fileset_model.specs.Orders.{Name}
 use Rattle.fileset_model.specs.declared.fileset.FilesetSlot.{FilesetSlot}
@@ -26,7 +25,6 @@ use Rattle.domain_state.proofs.NoClones.{have_no_clone}
 use Rattle.standing_laws.proofs.FilesetPut.{stood_in}
 use Rattle.name_stages.specs.Stages.{HasFileset}
 use Rattle.command_core.proofs.Begun.{table_good}
-use Rattle.command_core.proofs.Means.{writable}
 use Rattle.command_core.proofs.Removal.{HasNamed}
 
 -- what a call asks of the slot

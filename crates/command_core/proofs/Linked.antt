@@ -1,6 +1,6 @@
 -- A second path of a file in a domain's memory, answered.
 use Rattle.std.proofs.Common.{◌≡◌, ◌∙◌, ◌++◌, ◌∷◌, [], ℕ, List, Option, Some, None, inl, refl, sym, ap, subst}
-use Rattle.std.specs.FinMap.{get, insert}
+use Rattle.std.specs.FinMap.{insert}
 use Rattle.std.specs.Option.{option_map_or}
 use Rattle.domain_base.specs.declared.place.Tag.{Tag}
 use Rattle.fileset_model.specs.Apply.{link_checks, linked, refusal_of, with_tree}

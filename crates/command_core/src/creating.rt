@@ -18,14 +18,13 @@ ghost use Rattle.command_core.specs.Naming.{IsNewPath, creation};
 ghost use Rattle.command_core.specs.declared.stop.Stop.TheVariants.{NoPage, OutOfMemory, Refused as StopRefused};
 
 use crate::finding::slot_of;
-use crate::settings::settings_of;
 use crate::stop::Stop;
 use domain_base::{FilesetNo, Kind, VolIx};
 use domain_memory::DomainMemory;
 use domain_stages::{ask_quota, charge};
 use fileset_model::{Place, Refusal, Reply};
 use name_space::NameFault;
-use name_stages::create;
+use name_stages::{create, settings_of};
 use std::alloc::Global;
 
 /// Why nothing is made that a quota may refuse too: that is refused behind what names refuse, and in

@@ -12,7 +12,6 @@ mod limiting;
 mod linking;
 mod removing;
 mod serving;
-mod settings;
 mod staging;
 mod stop;
 

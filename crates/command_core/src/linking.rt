@@ -12,12 +12,11 @@ ghost use Rattle.command_core.specs.declared.stop.Stop.TheVariants.{NoPage};
 
 use crate::creating::stop_for;
 use crate::finding::slot_of;
-use crate::settings::settings_of;
 use crate::stop::Stop;
 use domain_base::VolIx;
 use domain_memory::DomainMemory;
 use fileset_model::{Path, Place, Reply};
-use name_stages::link;
+use name_stages::{link, settings_of};
 use std::alloc::Global;
 
 /// Lays a second path of a file over a domain's memory: it is refused as the rules of filesets say,

@@ -7,7 +7,6 @@ use Rattle.free_cells.specs.Cells.{is_closed, kept_of}
 use Rattle.free_space.specs.Spaces.{Spaces, kept_spaces, volume_of}
 use Rattle.fileset_model.specs.Filesets.{FilesetMap}
 use Rattle.fileset_table.specs.Table.{IsTable}
-use Rattle.fileset_table.specs.declared.slot.FilesetEntry.{FilesetEntry}
 use Rattle.quota_book.specs.Book.{Book}
 use Rattle.staged_pages.specs.Store.{before_of}
 use Rattle.domain_standing.specs.Domain.{DomainNow}

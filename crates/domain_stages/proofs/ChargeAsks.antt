@@ -1,5 +1,5 @@
 -- What charges and refunds ask of a domain's memory, and what stays where slots have what they had.
-use Rattle.std.proofs.Common.{◌≡◌, ◌∙◌, ◌<◌, ◌≤◌, ℕ, Bool, true, false, not, List, [], ◌∷◌, Option, Some, None, IsSome, IsSomeAnd, length, slice_get, refl, sym, ap, subst, arith, true≢false, ⊎_elim}
+use Rattle.std.proofs.Common.{◌≡◌, ◌∙◌, ℕ, true, false, [], ◌∷◌, Option, Some, None, IsSome, slice_get, refl, sym, ap, subst, arith, true≢false, ⊎_elim}
 use Rattle.std.proofs.Math.Logic.{∥∥₁_elim}
 use Rattle.std.proofs.lemmas.Bool.{cases_lt}
 use Rattle.std.specs.FinMap.{get}
@@ -14,7 +14,7 @@ use Rattle.fileset_model.specs.declared.reply.Refusal.{Refusal}
 use Rattle.fileset_table.specs.declared.slot.FilesetEntry.{FilesetEntry}
 use Rattle.fileset_table.specs.declared.slot.SlotItem.{SlotItem}
 use Rattle.fileset_table.specs.declared.slot.SlotItem.TheVariants as slot
-use Rattle.quota_book.specs.Book.{HasAll, IsWithin, refusal_in, used}
+use Rattle.quota_book.specs.Book.{HasAll, IsWithin, refusal_in}
 use Rattle.quota_book.proofs.Sums.{asked_same}
 use Rattle.domain_layout.specs.CellRules.{of_original}
 use Rattle.domain_standing.specs.Standing.{AreBooksOf}

@@ -8,9 +8,11 @@ mod making;
 mod moving;
 mod room;
 mod saying;
+mod settings;
 mod taking;
 
 pub use looking::{count_rows, list_names, look_at};
 pub use making::{create, link};
 pub use moving::rename;
+pub use settings::settings_of;
 pub use taking::{remove_directory, unlink};

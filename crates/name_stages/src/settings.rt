@@ -8,7 +8,7 @@ use domain_memory::DomainMemory;
 /// What calls on files of a domain are given: its version, how many clones were made, and the volume
 /// of which cells and pages are taken first. Pages that are given back wait for the first group of a
 /// log.
-pub(crate) fn settings_of(memory: &DomainMemory, prefer: VolIx) -> CallSettings
+pub fn settings_of(memory: &DomainMemory, prefer: VolIx) -> CallSettings
     ensures { AreSettingsOf memory.now result }
 {
     CallSettings {
