@@ -9,8 +9,6 @@ mod broken;
 #[cfg(test)]
 mod brought;
 #[cfg(test)]
-mod closed;
-#[cfg(test)]
 mod fetched;
 #[cfg(test)]
 mod image;

@@ -1,15 +1,11 @@
 //! Filesets that are made, bounded and removed in a domain that was just made.
 ghost use Rattle.std.specs.Prelude.{◌≡◌, ◌≤◌, true};
-ghost use Rattle.std.specs.List.{list_any};
 ghost use Rattle.page_ways.specs.Frame.{frame_in};
 ghost use Rattle.staged_pages.specs.Store.{before_of};
-ghost use Rattle.word_forms.specs.Forms.{is_fileset_name as is_name};
 ghost use Rattle.domain_memory.specs.Staged.{IsSettled};
-ghost use Rattle.command_core.specs.Ending.{IsServed};
-ghost use Rattle.state_tests.specs.Calm.{is_panicked};
 
-use command_core::command;
-use domain_base::{OutOfMemory, Version, VolIx};
+use crate::answering::answered;
+use domain_base::{OutOfMemory, Version};
 use domain_state::{Attached, Domain, Opening, make};
 use fileset_model::{Command, Entry, FilesetName, Owner, Refusal, Reply, Told};
 use memory_disk::MemoryRack;
@@ -17,7 +13,6 @@ use std::alloc::Global;
 use std::marker::Brand;
 use std::test::Fail;
 use volume_disk::Rack;
-use word_forms::is_fileset_name;
 
 /// What a client asks of the fileset with a name of one letter.
 #[derive(Clone, Copy, Drop)]
@@ -57,23 +52,8 @@ fn answer_of(entry: &Entry) -> Answer {
     }
 }
 
-fn is_panicked(entry: &Entry) -> bool
-    ensures { result ≡ is_panicked entry.now.reply }
-{
-    matches!(entry.reply, Reply::Refused(Refusal::Panicked { .. }))
-}
-
-fn has_panicked(entries: &[Entry]) -> bool
-    ensures { result ≡ list_any (λ entry. is_panicked entry.reply) entries.now }
-{
-    entries.iter().any(|entry| is_panicked(entry))
-}
-
 /// The command on the fileset with this name.
-fn command_of(asked: Asked, fileset: FilesetName) -> Command
-    requires named { is_name fileset ≡ true }
-    ensures { IsServed result }
-{
+fn command_of(asked: Asked, fileset: FilesetName) -> Command {
     match asked {
         Asked::Make(_) => Command::Mkfset { fileset },
         Asked::Limit(_) => Command::Setquota {
@@ -93,8 +73,8 @@ fn name_of(alloc: Global, letter: u8) -> Result<FilesetName, OutOfMemory> {
     Ok(FilesetName::from_vec(bytes))
 }
 
-/// Answers a command, and ends its event; where memory is short nothing is answered.
-fn answered<R: Rack + Drop, O: Opening>(
+/// Answers what is asked of a fileset; where memory is short nothing is answered.
+fn told_by<R: Rack + Drop, O: Opening>(
     domain: Domain<R, O>,
     alloc: Global,
     asked: Asked,
@@ -104,23 +84,10 @@ fn answered<R: Rack + Drop, O: Opening>(
     ensures rests { ⟦<Domain<R, O> as Told>⟧.rests result }
     ensures settled { IsSettled result.memory }
 {
-    let mut domain = domain;
-    let Ok(name) = name_of(alloc, asked.letter()) else {
-        return domain;
-    };
-    if !is_fileset_name(name.as_slice()) || has_panicked(domain.entries()) {
-        return domain;
+    match name_of(alloc, asked.letter()) {
+        Ok(name) => answered(domain, alloc, command_of(asked, name)),
+        Err(_) => domain,
     }
-    let Some(prefer) = VolIx::new(1) else {
-        return domain;
-    };
-    if domain.reserve_history(1).is_err() {
-        return domain;
-    }
-    let asked = command_of(asked, name);
-    let (Ok(mut domain) | Err(mut domain)) = command(domain, alloc, 1, asked, prefer);
-    domain.end_event();
-    domain
 }
 
 /// Answers commands one after another.
@@ -134,7 +101,7 @@ fn all_answered<R: Rack + Drop, O: Opening>(
 {
     match asked {
         [] => domain,
-        [first, rest @ ..] => all_answered(answered(domain, alloc, *first), alloc, rest),
+        [first, rest @ ..] => all_answered(told_by(domain, alloc, *first), alloc, rest),
     }
 }
 

@@ -2,6 +2,14 @@
 #![tactic(auto)]
 
 #[cfg(test)]
+mod answering;
+#[cfg(test)]
+mod closed;
+#[cfg(test)]
+mod commands;
+#[cfg(test)]
 mod filesets;
 #[cfg(test)]
 mod opened;
+#[cfg(test)]
+mod telling;

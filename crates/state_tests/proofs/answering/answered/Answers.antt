@@ -4,7 +4,7 @@ use Rattle.fileset_model.specs.declared.entry.Entry.{Entry}
 use Rattle.command_core.specs.Coming.{NonePanicked}
 use Rattle.state_tests.specs.Calm.{is_panicked}
 use Rattle.state_tests.proofs.Calm.{none_panicked}
-use Rattle.state_tests.proofs.filesets.answered.Goals as goal
+use Rattle.state_tests.proofs.answering.answered.Goals as goal
 
 pub command-requires-clause-calm : goal.command-requires-clause-calm
 command-requires-clause-calm g c =
