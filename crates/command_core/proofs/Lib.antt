@@ -11,3 +11,7 @@ pub mod Begun
 pub mod Given
 pub mod Created
 pub mod Linked
+pub mod Gone
+pub mod Taken
+pub mod Shares
+pub mod Still

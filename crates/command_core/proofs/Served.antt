@@ -16,6 +16,8 @@ pub data Serving : Command → Type 0 where
   create : (place : Place) (uid gid : ℕ) → Serving (command.Create place uid gid)
   mkdir : (place : Place) (uid gid : ℕ) → Serving (command.Mkdir place uid gid)
   link : (place : Place) (to : Path) → Serving (command.Link place to)
+  unlink : (place : Place) → Serving (command.Unlink place)
+  rmdir : (place : Place) → Serving (command.Rmdir place)
 
 pub serving : (c : Command) → IsServed c → Serving c
 serving (command.Mkfset fileset) is = Serving.mkfset fileset
@@ -32,8 +34,8 @@ serving (command.Truncate place size) is = absurd is
 serving (command.Rename place to) is = absurd is
 serving (command.Link place to) is = Serving.link place to
 serving (command.Links place) is = absurd is
-serving (command.Unlink place) is = absurd is
-serving (command.Rmdir place) is = absurd is
+serving (command.Unlink place) is = Serving.unlink place
+serving (command.Rmdir place) is = Serving.rmdir place
 serving (command.List place) is = absurd is
 serving (command.Stat place) is = absurd is
 serving (command.Fsync place) is = absurd is
@@ -59,6 +61,8 @@ clients c (Serving.setquota fileset who files blocks) = refl
 clients c (Serving.create place uid gid) = refl
 clients c (Serving.mkdir place uid gid) = refl
 clients c (Serving.link place to) = refl
+clients c (Serving.unlink place) = refl
+clients c (Serving.rmdir place) = refl
 
 pub served_client : (c : Command) → IsServed c → is_movers c ≡ false
 served_client c is = clients c (serving c is)

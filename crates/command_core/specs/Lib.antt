@@ -1,3 +1,4 @@
 pub mod Coming
 pub mod Ending
 pub mod Naming
+pub mod Leaving

@@ -8,12 +8,14 @@ mod commands;
 mod creating;
 mod finding;
 mod laws;
+mod leaving;
 mod limiting;
 mod linking;
 mod removing;
 mod serving;
 mod staging;
 mod stop;
+mod taking;
 
 pub use commands::command;
 pub use laws::{

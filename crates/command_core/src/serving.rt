@@ -28,6 +28,7 @@ pub fn is_served(command: &Command) -> bool
         Command::Rmfset { .. } | Command::Setquota { .. } => true,
         Command::Create { place, .. } | Command::Mkdir { place, .. } => is_new_path(&place.path),
         Command::Link { place, to } => !place.path.as_slice().is_empty() && is_new_path(to),
+        Command::Unlink { place } | Command::Rmdir { place } => !place.path.as_slice().is_empty(),
         _ => false,
     }
 }

@@ -14,6 +14,7 @@ use crate::limiting::stage_limits;
 use crate::linking::stage_link;
 use crate::removing::stage_removal;
 use crate::stop::Stop;
+use crate::taking::stage_taking;
 use domain_base::{Kind, VolIx};
 use domain_memory::DomainMemory;
 use fileset_model::{Command, Limits, Reply};
@@ -60,6 +61,12 @@ pub(crate) fn stage(
             return stage_creation(memory, alloc, place, Kind::Directory, *uid, *gid, prefer);
         }
         Command::Link { place, to } => return stage_link(memory, alloc, place, to, prefer),
+        Command::Unlink { place } => {
+            return stage_taking(memory, alloc, place, Kind::File, prefer);
+        }
+        Command::Rmdir { place } => {
+            return stage_taking(memory, alloc, place, Kind::Directory, prefer);
+        }
         _ => unreachable!(),
     };
     (memory, answer)

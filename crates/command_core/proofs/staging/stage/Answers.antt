@@ -18,3 +18,9 @@ returns-in-Mkdir-clause-ends c = λ all stands. ends_same c.stage_creation-in-Mk
 
 pub returns-in-Link-clause-ends : goal.returns-in-Link-clause-ends
 returns-in-Link-clause-ends c = λ all stands. ends_same c.stage_link.result.0 _ all c.args.command.now _ c.stage_link.result.1 _ refl c.in-Link.is refl (c.stage_link.ensures.ends all stands)
+
+pub returns-in-Unlink-clause-ends : goal.returns-in-Unlink-clause-ends
+returns-in-Unlink-clause-ends c = λ all stands. ends_same c.stage_taking.result.0 _ all c.args.command.now _ c.stage_taking.result.1 _ refl c.in-Unlink.is refl (c.stage_taking.ensures.ends all stands)
+
+pub returns-in-Rmdir-clause-ends : goal.returns-in-Rmdir-clause-ends
+returns-in-Rmdir-clause-ends c = λ all stands. ends_same c.stage_taking-in-Rmdir.result.0 _ all c.args.command.now _ c.stage_taking-in-Rmdir.result.1 _ refl c.in-Rmdir.is refl (c.stage_taking-in-Rmdir.ensures.ends all stands)

@@ -1,0 +1,48 @@
+-- What is so of memory that is as it was.
+use Rattle.std.proofs.Common.{◌≡◌, ℕ, List, Some, sym, ap, subst}
+use Rattle.domain_base.specs.declared.place.Kind.{Kind}
+use Rattle.domain_base.specs.declared.place.Tag.{Tag}
+use Rattle.bitfile_core.specs.Files.{AreFiles}
+use Rattle.tag_dirs.specs.declared.dir.TagPlace.{TagPlace}
+use Rattle.page_store.specs.Pages.{Pages}
+use Rattle.fileset_model.specs.Filesets.{FilesetMap}
+use Rattle.fileset_model.specs.declared.fileset.FilesetSlot.{FilesetSlot}
+use Rattle.fileset_table.specs.declared.slot.FilesetEntry.{FilesetEntry}
+use Rattle.fileset_table.specs.declared.slot.SlotItem.TheVariants as slot
+use Rattle.staged_pages.specs.Store.{pages_of}
+use Rattle.domain_standing.specs.Domain.{DomainNow, item_in}
+use Rattle.domain_parts.specs.Slots.{places_in, slot_in}
+use Rattle.domain_memory.specs.Memory.{StandsFor}
+use Rattle.domain_memory.specs.declared.memory.DomainMemory.{DomainMemory}
+use Rattle.domain_memory.proofs.KeptStands.{stands_so}
+use Rattle.name_stages.specs.Looking.{IsLiveIn, IsSame}
+use Rattle.name_stages.specs.Stages.{HasFileset}
+use Rattle.name_stages.proofs.Same.{staged_is, still_back, still_keeps, still_staged}
+
+pub turned : (memory now : DomainMemory) → IsSame memory now → IsSame now memory
+turned memory now is = record {
+  same = sym (ap (λ (m : DomainMemory). record m { slots = memory.slots; listed = memory.listed }) is.same);
+  slots = sym is.slots;
+  listed = sym is.listed;
+}
+
+module _ (memory now : DomainMemory) (is : IsSame memory now) where
+  pub table_still : now.table ≡ memory.table
+  table_still = ap (λ (m : DomainMemory). m.table) is.same
+
+  pub stands_still : (all : FilesetMap) → StandsFor memory all → StandsFor now all
+  stands_still = stands_so memory now (still_keeps memory now is)
+
+  pub has_still : (number : ℕ) (all : FilesetMap) (entry : FilesetEntry) (fileset : FilesetSlot) → HasFileset memory number all entry fileset → HasFileset now number all entry fileset
+  has_still number all entry fileset h = record {
+    staged = still_staged memory now is all h.staged;
+    may = still_back memory now is h.may;
+    original = subst (λ (d : DomainNow). item_in d number ≡ Some (slot.Original entry)) (sym (staged_is memory now is)) h.original;
+    there = h.there;
+  }
+
+  pub live_still : (number : ℕ) (tag : Tag) (of : Kind) → IsLiveIn memory number tag of → IsLiveIn now number tag of
+  live_still number tag of live = λ chains are.
+      live chains
+      (subst (λ (ps : List TagPlace). AreFiles number ps (pages_of memory.pages) chains) (ap (λ items. places_in (slot_in items number)) is.slots)
+      (subst (λ (pages : Pages). AreFiles number (places_in (slot_in now.slots.items number)) pages chains) (ap (λ (m : DomainMemory). pages_of m.pages) is.same) are))
