@@ -13,5 +13,6 @@ pub mod Created
 pub mod Linked
 pub mod Gone
 pub mod Taken
+pub mod Renamed
 pub mod Shares
 pub mod Still

@@ -18,6 +18,7 @@ pub data Serving : Command → Type 0 where
   link : (place : Place) (to : Path) → Serving (command.Link place to)
   unlink : (place : Place) → Serving (command.Unlink place)
   rmdir : (place : Place) → Serving (command.Rmdir place)
+  rename : (place : Place) (to : Path) → Serving (command.Rename place to)
 
 pub serving : (c : Command) → IsServed c → Serving c
 serving (command.Mkfset fileset) is = Serving.mkfset fileset
@@ -31,7 +32,7 @@ serving (command.Mkdir place uid gid) is = Serving.mkdir place uid gid
 serving (command.Write place offset bytes) is = absurd is
 serving (command.Read place offset count) is = absurd is
 serving (command.Truncate place size) is = absurd is
-serving (command.Rename place to) is = absurd is
+serving (command.Rename place to) is = Serving.rename place to
 serving (command.Link place to) is = Serving.link place to
 serving (command.Links place) is = absurd is
 serving (command.Unlink place) is = Serving.unlink place
@@ -63,6 +64,7 @@ clients c (Serving.mkdir place uid gid) = refl
 clients c (Serving.link place to) = refl
 clients c (Serving.unlink place) = refl
 clients c (Serving.rmdir place) = refl
+clients c (Serving.rename place to) = refl
 
 pub served_client : (c : Command) → IsServed c → is_movers c ≡ false
 served_client c is = clients c (serving c is)

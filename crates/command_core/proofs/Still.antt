@@ -1,5 +1,5 @@
 -- What is so of memory that is as it was.
-use Rattle.std.proofs.Common.{◌≡◌, ℕ, List, Some, sym, ap, subst}
+use Rattle.std.proofs.Common.{◌≡◌, ℕ, List, Result, Ok, Err, IfOk, Some, sym, ap, subst}
 use Rattle.domain_base.specs.declared.place.Kind.{Kind}
 use Rattle.domain_base.specs.declared.place.Tag.{Tag}
 use Rattle.bitfile_core.specs.Files.{AreFiles}
@@ -46,3 +46,7 @@ module _ (memory now : DomainMemory) (is : IsSame memory now) where
       live chains
       (subst (λ (ps : List TagPlace). AreFiles number ps (pages_of memory.pages) chains) (ap (λ items. places_in (slot_in items number)) is.slots)
       (subst (λ (pages : Pages). AreFiles number (places_in (slot_in now.slots.items number)) pages chains) (ap (λ (m : DomainMemory). pages_of m.pages) is.same) are))
+
+  pub led_live : {E : Type 0} (number : ℕ) (led : Result (Tag × Kind) E) → IfOk led (λ there. IsLiveIn memory number there.0 there.1) → IfOk led (λ there. IsLiveIn now number there.0 there.1)
+  led_live number (Ok there) live = live_still number there.0 there.1 live
+  led_live number (Err e) live = live

@@ -1,8 +1,8 @@
 //! What is gone with its last path, refunded to its owners.
-ghost use Rattle.std.specs.Prelude.{◌≡◌, false, true, IfOk, IsSomeAnd, slice_get};
+ghost use Rattle.std.specs.Prelude.{◌≡◌, false, true, IfErr, IfOk, IsSomeAnd, None, Some, slice_get};
 ghost use Rattle.fileset_model.specs.Filesets.{FilesetMap};
 ghost use Rattle.fileset_model.specs.Orders.{Path as PathOf};
-ghost use Rattle.fileset_model.specs.Paths.{node_at};
+ghost use Rattle.fileset_model.specs.Paths.{node_at, target_refusal};
 ghost use Rattle.fileset_model.specs.declared.fileset.FilesetSlot.{FilesetSlot};
 ghost use Rattle.fileset_table.specs.declared.slot.FilesetEntry.{FilesetEntry};
 ghost use Rattle.quota_book.specs.Book.{HasAll, Refunds, used};
@@ -11,6 +11,7 @@ ghost use Rattle.domain_memory.specs.Kept.{KeepsKept};
 ghost use Rattle.domain_memory.specs.Staged.{IsStaged, IsStagedForSome, MayGoBack, staged_books, staged_in};
 ghost use Rattle.domain_stages.specs.Charging.{ChangesOneBook};
 ghost use Rattle.name_stages.specs.Looking.{IsLiveIn, LeadsTo};
+ghost use Rattle.name_stages.specs.Stages.{HasFileset};
 ghost use Rattle.page_stages.specs.Stages.{HasFile};
 ghost use Rattle.command_core.specs.Leaving.{IsShareOf};
 
@@ -18,6 +19,7 @@ use domain_base::limits::BLOCKS_PER_PAGE;
 use domain_base::{FilesetNo, Kind, OutOfMemory, Tag};
 use domain_memory::DomainMemory;
 use domain_stages::refund;
+use fileset_model::Refusal;
 use page_stages::{count_pages, describe};
 use std::alloc::Global;
 
@@ -55,6 +57,34 @@ pub(crate) fn share_of(
         gid: what.gid,
         blocks: u64::from(BLOCKS_PER_PAGE) * u64::from(pages),
     })
+}
+
+/// That of what a path leads to, if it leads anywhere; else nobody's. There may only be no memory.
+pub(crate) fn share_led(
+    memory: &DomainMemory,
+    alloc: Global,
+    number: FilesetNo,
+    led: Result<(Tag, Kind), Refusal>,
+) -> Result<Share, OutOfMemory>
+    requires stands { ∥ IsStagedForSome memory.now ∥₁ }
+    requires back { ∥ MayGoBack memory.now ∥₁ }
+    requires original { of_original (slice_get memory.now.table.slots number) ≡ true }
+    requires live { IfOk led (λ there. IsLiveIn memory.now number there.0 there.1) }
+    ensures { (path : PathOf) (all : FilesetMap) (entry : FilesetEntry) (fileset : FilesetSlot)
+        → HasFileset memory.now number all entry fileset
+        → IfOk led (λ there. LeadsTo path fileset there.0 there.1)
+        → IfErr led (λ refusal. target_refusal fileset path ≡ Some refusal)
+        → target_refusal fileset path ≡ None
+        → IfOk result (λ share. IsSomeAnd (node_at fileset.tree path) (IsShareOf share)) }
+{
+    match led {
+        Ok(there) => share_of(memory, alloc, number, there.0, there.1),
+        Err(_) => Ok(Share {
+            uid: 0,
+            gid: 0,
+            blocks: 0,
+        }),
+    }
 }
 
 /// Refunds a file or directory to its owners, if it is gone.

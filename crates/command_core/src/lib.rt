@@ -12,6 +12,7 @@ mod leaving;
 mod limiting;
 mod linking;
 mod removing;
+mod renaming;
 mod serving;
 mod staging;
 mod stop;

@@ -27,7 +27,9 @@ pub fn is_served(command: &Command) -> bool
         Command::Mkfset { fileset } => is_fileset_name(fileset.as_slice()),
         Command::Rmfset { .. } | Command::Setquota { .. } => true,
         Command::Create { place, .. } | Command::Mkdir { place, .. } => is_new_path(&place.path),
-        Command::Link { place, to } => !place.path.as_slice().is_empty() && is_new_path(to),
+        Command::Link { place, to } | Command::Rename { place, to } => {
+            !place.path.as_slice().is_empty() && is_new_path(to)
+        }
         Command::Unlink { place } | Command::Rmdir { place } => !place.path.as_slice().is_empty(),
         _ => false,
     }

@@ -13,6 +13,7 @@ use crate::creating::stage_creation;
 use crate::limiting::stage_limits;
 use crate::linking::stage_link;
 use crate::removing::stage_removal;
+use crate::renaming::stage_rename;
 use crate::stop::Stop;
 use crate::taking::stage_taking;
 use domain_base::{Kind, VolIx};
@@ -66,6 +67,9 @@ pub(crate) fn stage(
         }
         Command::Rmdir { place } => {
             return stage_taking(memory, alloc, place, Kind::Directory, prefer);
+        }
+        Command::Rename { place, to } => {
+            return stage_rename(memory, alloc, place, to, prefer);
         }
         _ => unreachable!(),
     };

@@ -24,3 +24,6 @@ returns-in-Unlink-clause-ends c = λ all stands. ends_same c.stage_taking.result
 
 pub returns-in-Rmdir-clause-ends : goal.returns-in-Rmdir-clause-ends
 returns-in-Rmdir-clause-ends c = λ all stands. ends_same c.stage_taking-in-Rmdir.result.0 _ all c.args.command.now _ c.stage_taking-in-Rmdir.result.1 _ refl c.in-Rmdir.is refl (c.stage_taking-in-Rmdir.ensures.ends all stands)
+
+pub returns-in-Rename-clause-ends : goal.returns-in-Rename-clause-ends
+returns-in-Rename-clause-ends c = λ all stands. ends_same c.stage_rename.result.0 _ all c.args.command.now _ c.stage_rename.result.1 _ refl c.in-Rename.is refl (c.stage_rename.ensures.ends all stands)
