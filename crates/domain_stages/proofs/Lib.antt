@@ -1,3 +1,6 @@
+mod LetGo
+mod LetGoEnds
+mod Freed
 pub mod SlotPut
 pub mod SlotsSet
 pub mod KeptTaken

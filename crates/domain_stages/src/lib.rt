@@ -1,5 +1,6 @@
 //! Changes that are laid over a domain's memory: filesets that begin, that begin to be removed,
-//! limits that are set, and what owners use, charged and refunded.
+//! limits that are set, what owners use, charged and refunded, and things on its list that are let
+//! go of.
 #![tactic(auto)]
 
 mod beginning;
@@ -7,7 +8,9 @@ mod charging;
 mod counting;
 mod going;
 mod laws;
+mod letting_go;
 mod limits;
+mod releasing;
 mod table;
 mod tags;
 
@@ -16,4 +19,6 @@ pub use charging::{ask_quota, charge, refund, used_by};
 pub use counting::count_filesets;
 pub use going::begin_to_go;
 pub use laws::books_follow_their_filesets;
+pub use letting_go::{let_go, may_let_go};
 pub use limits::set_limits;
+pub use releasing::{Drained, drain, release};

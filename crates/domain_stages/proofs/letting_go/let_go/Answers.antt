@@ -1,0 +1,46 @@
+use Rattle.std.proofs.Common.{refl, sym, subst}
+use Rattle.std.proofs.lemmas.Bool.{MatchBool-at_true}
+use Rattle.deferred_delete.specs.Listing.{Listing}
+use Rattle.deferred_delete.specs.Standing.{Files}
+use Rattle.deferred_delete.specs.Steps.{IsWell, LacksRoom, LetsGo, now_of}
+use Rattle.staged_pages.specs.Store.{pages_of}
+use Rattle.domain_memory.specs.declared.memory.DomainMemory.{DomainMemory}
+use Rattle.domain_memory.proofs.SettledKept.{settled_kept}
+use Rattle.domain_stages.specs.LettingGo.{MayLetGo}
+use Rattle.domain_stages.proofs.LetGo.{let_go_so}
+use Rattle.domain_stages.proofs.LetGoEnds.{asks_well, back_stays, never_lacks}
+use Rattle.domain_stages.proofs.letting_go.let_go.Goals as goal
+
+pub returns-then-not-may_let_go-clause-ok : goal.returns-then-not-may_let_go-clause-ok
+returns-then-not-may_let_go-clause-ok c = λ all stood. settled_kept c.args.memory.now all c.requires.settled stood
+
+pub release_some-requires-clause-well : goal.release_some-requires-clause-well
+release_some-requires-clause-well c =
+    let memory = c.args.memory.now in
+    subst (λ (l : Listing). (files : Files) × IsWell (now_of l files memory.space memory.cells (pages_of memory.pages))) (sym c.start_over.ensures.list) (asks_well memory c.requires.settled c.requires.stands)
+
+pub unreachable-requires : goal.unreachable-requires
+unreachable-requires c =
+    let memory = c.args.memory.now in
+    let found = asks_well memory c.requires.settled c.requires.stands in
+    let well = subst (λ (l : Listing). IsWell (now_of l found.0 memory.space memory.cells (pages_of memory.pages))) (sym c.start_over.ensures.list) found.1 in
+    never_lacks memory c.requires.settled c.requires.stands found.0 (subst (λ (l : Listing). LacksRoom l found.0) c.start_over.ensures.list (c.in-Err-NoPage.ensures.full found.0 well c.in-Err-NoPage.field-0-is))
+
+pub returns-in-Ok-clause-ok : goal.returns-in-Ok-clause-ok
+returns-in-Ok-clause-ok c = λ all stood.
+    let memory = c.args.memory.now in
+    let now : DomainMemory = record memory { pages = c.release_some.new.pages; space = c.release_some.new.space; cells = c.release_some.new.cells; list = c.release_some.new.self } in
+    let_go_so memory now c.requires.settled (MatchBool-at_true (MayLetGo memory) (¬ MayLetGo memory) c.if-not-may_let_go.false c.may_let_go.ensures) refl c.args.group c.in-Ok.count
+    (λ files well. subst (λ (l : Listing). LetsGo c.args.group memory.frame.version (now_of l files memory.space memory.cells (pages_of memory.pages)) c.in-Ok.count now.list.list now.space now.cells (pages_of now.pages)) c.start_over.ensures.list
+    (c.in-Ok.ensures.ok files (subst (λ (l : Listing). IsWell (now_of l files memory.space memory.cells (pages_of memory.pages))) (sym c.start_over.ensures.list) well)))
+    all (settled_kept memory all c.requires.settled stood)
+
+pub returns-in-Ok-clause-back : goal.returns-in-Ok-clause-back
+returns-in-Ok-clause-back c =
+    let memory = c.args.memory.now in
+    back_stays memory (record memory { pages = c.release_some.new.pages; space = c.release_some.new.space; cells = c.release_some.new.cells; list = c.release_some.new.self }) refl c.requires.back
+
+pub returns-in-Err-OutOfMemory-clause-back : goal.returns-in-Err-OutOfMemory-clause-back
+returns-in-Err-OutOfMemory-clause-back c =
+    let memory = c.args.memory.now in
+    back_stays memory (record memory { pages = c.release_some.new.pages; space = c.release_some.new.space; cells = c.release_some.new.cells; list = c.release_some.new.self }) refl c.requires.back

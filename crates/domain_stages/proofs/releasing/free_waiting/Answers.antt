@@ -1,0 +1,14 @@
+use Rattle.std.proofs.Common.{refl, sym, subst}
+use Rattle.free_space.specs.Spaces.{Spaces}
+use Rattle.domain_stages.specs.LettingGo.{NoneWaits}
+use Rattle.domain_stages.proofs.Freed.{freed_settled, freed_stands, none_waits}
+use Rattle.domain_stages.proofs.releasing.free_waiting.Goals as goal
+
+pub returns-clause-stands : goal.returns-clause-stands
+returns-clause-stands c = λ all stood. let memory = c.args.memory.now in freed_stands memory (record memory { space = c.free_waiting.new.self }) refl c.free_waiting.ensures c.requires.settled all stood
+
+pub returns-clause-none : goal.returns-clause-none
+returns-clause-none c = subst (λ (s : Spaces). NoneWaits s) (sym c.free_waiting.ensures) (none_waits c.args.memory.now.space)
+
+pub returns-clause-settled : goal.returns-clause-settled
+returns-clause-settled c = let memory = c.args.memory.now in freed_settled memory (record memory { space = c.free_waiting.new.self }) refl c.free_waiting.ensures c.requires.settled

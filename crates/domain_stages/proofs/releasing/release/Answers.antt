@@ -1,0 +1,12 @@
+use Rattle.std.proofs.Math.Logic.{∥∥₁_map}
+use Rattle.domain_memory.proofs.KeptStands.{stands_so}
+use Rattle.domain_stages.proofs.releasing.release.Goals as goal
+
+pub returns-in_err-count-clause-stands : goal.returns-in_err-count-clause-stands
+returns-in_err-count-clause-stands c = λ all stood. stands_so c.args.memory.now c.let_go.new.memory c.in_err-count.ensures.kept all stood
+
+pub keep-requires-clause-staged : goal.keep-requires-clause-staged
+keep-requires-clause-staged c = ∥∥₁_map c.requires.stands (λ s. (s.0, (c.in_ok-count.ensures.ok s.0 s.1).staged))
+
+pub returns-clause-stands : goal.returns-clause-stands
+returns-clause-stands c = λ all stood. c.keep.ensures.stands all (c.in_ok-count.ensures.ok all stood)

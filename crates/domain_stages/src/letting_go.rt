@@ -1,0 +1,128 @@
+//! Things on a domain's list that are let go of.
+ghost use Rattle.std.specs.Prelude.{◌≡◌, ◌≤◌, ◌↔◌, Contains, MatchBool, false, true, IfOk, OnErr, OnOk};
+ghost use Rattle.std.specs.Option.{option_map_or};
+ghost use Rattle.fileset_model.specs.Filesets.{FilesetMap};
+ghost use Rattle.bmt_mcells.specs.Cell.{Cell};
+ghost use Rattle.bmt_mcells.specs.Chain.{StandsAt};
+ghost use Rattle.bitfile_core.specs.Files.{says_remove};
+ghost use Rattle.deferred_delete.specs.declared.list.Entry.{Entry as EntryOf};
+ghost use Rattle.domain_layout.specs.CellRules.{says_directory};
+ghost use Rattle.domain_memory.specs.Kept.{KeepsKept};
+ghost use Rattle.domain_memory.specs.Memory.{StandsFor};
+ghost use Rattle.domain_memory.specs.Staged.{IsSettled, MayBeKept, MayGoBack};
+ghost use Rattle.domain_stages.specs.LettingGo.{MayLetGo, StandsForAny, are_plain};
+
+use bmt_mcells::find_record;
+use deferred_delete::Entry;
+use domain_base::{CellAt, OutOfMemory};
+use domain_memory::DomainMemory;
+use page_store::{MetaPages, StoreFault};
+use record_table::{Leftover, Record};
+use std::alloc::Global;
+
+/// Whether a record of attributes is that of a directory.
+fn is_directory(value: &Option<Record>) -> bool
+    ensures { result ≡ option_map_or says_directory value.now false }
+{
+    match value {
+        Some(Record::Attributes { kind, .. }) => *kind == 2,
+        _ => false,
+    }
+}
+
+/// Whether a record of what is left to be done says that all goes.
+fn goes_whole(value: &Option<Record>) -> bool
+    ensures { result ≡ option_map_or says_remove value.now false }
+{
+    match value {
+        Some(Record::Pending { what }) => matches!(what, Leftover::Remove),
+        _ => false,
+    }
+}
+
+/// Whether the first cell that stands there is of a file or directory that names no index; and, of
+/// a directory, says that all of it goes.
+fn is_plain<M: MetaPages>(pages: &M, at: &CellAt) -> bool
+    ensures { (cell : Cell) → StandsAt (M.pages pages.now) at.now cell
+        → result ≡ are_plain cell.records }
+{
+    let attributes = find_record(pages, *at, 1);
+    let left = find_record(pages, *at, 6);
+    attributes.is_some()
+        && find_record(pages, *at, 9).is_none()
+        && (!is_directory(&attributes) || goes_whole(&left))
+}
+
+/// Whether the first cell of each of these entries is so.
+fn are_all_plain<M: MetaPages>(pages: &M, entries: &[Entry]) -> bool
+    ensures all { result ≡ true → (entry : EntryOf) → Contains entries.now entry
+        → (cell : Cell) → StandsAt (M.pages pages.now) entry.at cell
+        → are_plain cell.records ≡ true }
+    ensures one { result ≡ false → (entry : EntryOf) × Contains entries.now entry
+        × ((cell : Cell) → StandsAt (M.pages pages.now) entry.at cell
+        → are_plain cell.records ≡ false) }
+{
+    for entry in entries {
+        if !is_plain(pages, &entry.at) {
+            return false;
+        }
+    }
+    true
+}
+
+/// Whether something is on the list of a domain, and all of it may be let go of: each is a file or
+/// directory that names no index, and no directory of which only pages go. So nothing may be, as
+/// long as pages of a tag directory or quota cells of a fileset that was removed are on the list,
+/// which its slot names, or a directory that was removed without its index. It takes no memory.
+pub fn may_let_go(memory: &DomainMemory) -> bool
+    requires settled { IsSettled memory.now }
+    requires stands { ∥ StandsForAny memory.now ∥₁ }
+    ensures { MatchBool result (MayLetGo memory.now) (¬ MayLetGo memory.now) }
+{
+    let entries = memory.list.entries();
+    !entries.is_empty()
+        && memory.list.last_tag_page().is_none()
+        && are_all_plain(&memory.pages, entries)
+}
+
+/// Lets go of things on a domain's list, sixteen at most, with which at most so many pages of
+/// metadata change, five or more, beside those of bitmaps; what no file has any more waits for the
+/// group. It answers how many, 0 exactly where nothing may be let go of. The filesets stay what
+/// they are. No change may be laid over the domain before, and this one is to be kept: the list is
+/// not taken back. There may only be no memory, and then all is as it was.
+pub fn let_go(
+    memory: &mut DomainMemory,
+    alloc: Global,
+    group: u64,
+    most: u32,
+) -> Result<u32, OutOfMemory>
+    requires most { 5 ≤ most }
+    requires settled { IsSettled memory.old }
+    requires stands { ∥ StandsForAny memory.old ∥₁ }
+    requires back { ∥ MayGoBack memory.old ∥₁ }
+    ensures ok { (all : FilesetMap) → StandsFor memory.old all
+        → OnOk result (MayBeKept memory.new all) }
+    ensures some { IfOk result (λ count. (count ≡ 0) ↔ ¬ MayLetGo memory.old) }
+    ensures kept { OnErr result (KeepsKept memory.old memory.new) }
+    ensures settled { OnErr result (IsSettled memory.new) }
+    ensures back { ∥ MayGoBack memory.new ∥₁ }
+    ensures frame { memory.new.frame ≡ memory.old.frame }
+{
+    if !may_let_go(memory) {
+        return Ok(0);
+    }
+    memory.list.start_over();
+    match memory.list.release_some(
+        alloc,
+        &mut memory.pages,
+        &mut memory.space,
+        &mut memory.cells,
+        group,
+        memory.frame.version,
+        most,
+    ) {
+        Ok(count) => Ok(count),
+        Err(StoreFault::OutOfMemory) => Err(OutOfMemory),
+        Err(StoreFault::NoPage) => unreachable!(),
+    }
+}

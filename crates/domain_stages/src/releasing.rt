@@ -1,0 +1,88 @@
+//! Things on a domain's list that are let go of and kept so, and pages that come free.
+ghost use Rattle.std.specs.Prelude.{◌≡◌, ◌↔◌, true, IfOk, sum_by};
+ghost use Rattle.fileset_model.specs.Filesets.{FilesetMap};
+ghost use Rattle.free_space.specs.Spaces.{free_pages};
+ghost use Rattle.deferred_delete.specs.Listing.{IsEmpty};
+ghost use Rattle.domain_memory.specs.Memory.{StandsFor};
+ghost use Rattle.domain_memory.specs.Staged.{IsSettled, MayGoBack};
+ghost use Rattle.domain_stages.specs.LettingGo.{MayLetGo, NoneWaits, StandsForAny};
+
+use crate::letting_go::let_go;
+use domain_base::OutOfMemory;
+use domain_memory::DomainMemory;
+use std::alloc::Global;
+
+/// The group of a log for which pages wait that no file has any more: no log has a group yet.
+const GROUP: u64 = 0;
+
+/// How many pages of metadata change at most in one release, beside those of bitmaps.
+const MOST_PAGES: u32 = 32;
+
+/// Lets go of some of the things on a domain's list, and keeps that: the domain stands for the same
+/// filesets. It answers how many, 0 exactly where nothing may be let go of. There may only be no
+/// memory, and then nothing was let go of.
+pub fn release(memory: &mut DomainMemory, alloc: Global) -> Result<u32, OutOfMemory>
+    requires settled { IsSettled memory.old }
+    requires stands { ∥ StandsForAny memory.old ∥₁ }
+    requires back { ∥ MayGoBack memory.old ∥₁ }
+    ensures stands { (all : FilesetMap) → StandsFor memory.old all → StandsFor memory.new all }
+    ensures some { IfOk result (λ count. (count ≡ 0) ↔ ¬ MayLetGo memory.old) }
+    ensures settled { IsSettled memory.new }
+    ensures back { ∥ MayGoBack memory.new ∥₁ }
+    ensures frame { memory.new.frame ≡ memory.old.frame }
+{
+    let count = let_go(memory, alloc, GROUP, MOST_PAGES)?;
+    memory.keep();
+    Ok(count)
+}
+
+/// Frees all pages that wait, since no log has a group that names one: the domain stands for the
+/// same filesets. It takes no memory.
+fn free_waiting(memory: &mut DomainMemory)
+    requires settled { IsSettled memory.old }
+    ensures stands { (all : FilesetMap) → StandsFor memory.old all → StandsFor memory.new all }
+    ensures none { NoneWaits memory.new.space }
+    ensures settled { IsSettled memory.new }
+    ensures same { memory.new ≡ record memory.old { space = memory.new.space } }
+{
+    memory.space.free_waiting();
+}
+
+/// What is left once a domain was drained.
+#[derive(Clone, Copy, Debug, PartialEq, Eq)]
+pub struct Drained {
+    /// How many pages are free, on all volumes that are open.
+    pub free: u32,
+    /// Whether nothing is on the list any more.
+    pub is_done: bool,
+}
+
+/// Lets go of what is on a domain's list, one release after the other, each of which is kept, until
+/// nothing more may be let go of, after 2^64 - 1 releases at the latest; and frees all pages that
+/// wait then. The domain stands for the same filesets, after an error too, where memory was short
+/// for a release.
+pub fn drain(memory: &mut DomainMemory, alloc: Global) -> Result<Drained, OutOfMemory>
+    requires settled { IsSettled memory.old }
+    requires stands { ∥ StandsForAny memory.old ∥₁ }
+    requires back { ∥ MayGoBack memory.old ∥₁ }
+    ensures stands { (all : FilesetMap) → StandsFor memory.old all → StandsFor memory.new all }
+    ensures none { IfOk result (λ drained. NoneWaits memory.new.space) }
+    ensures free { IfOk result (λ drained. drained.free
+        ≡ sum_by free_pages memory.new.space.volumes) }
+    ensures done { IfOk result (λ drained. (drained.is_done ≡ true)
+        ↔ IsEmpty memory.new.list.list) }
+    ensures settled { IsSettled memory.new }
+    ensures back { ∥ MayGoBack memory.new ∥₁ }
+    ensures frame { memory.new.frame ≡ memory.old.frame }
+{
+    for _ in 0..u64::MAX {
+        if release(memory, alloc)? == 0 {
+            break;
+        }
+    }
+    free_waiting(memory);
+    Ok(Drained {
+        free: memory.space.free_now(),
+        is_done: memory.list.is_empty(),
+    })
+}
