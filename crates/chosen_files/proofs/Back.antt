@@ -23,19 +23,19 @@ use Rattle.layout_laws.proofs.Reached.{same_number}
 use Rattle.deferred_delete.proofs.Spread.{some_same}
 use Rattle.domain_layout.specs.Read.{contents_of}
 use Rattle.domain_layout.specs.Shape.{FilesetShape}
-use Rattle.domain_standing.specs.Domain.{DomainNow, item_in}
-use Rattle.domain_standing.specs.Standing.{IsMarkedBut, StandsDomain}
-use Rattle.standing_laws.specs.Slots.{StandsSlot}
-use Rattle.standing_laws.specs.SlotsStay.{PutsFileset}
-use Rattle.standing_laws.proofs.BitsStay.{bits_stay}
-use Rattle.standing_laws.proofs.FilesetPut.{fileset_put, stood_in}
-use Rattle.standing_laws.proofs.SourcesSaid.{alone_by_files, files_alone}
-use Rattle.standing_laws.proofs.SoundParted.{sound_but}
-use Rattle.set_standing.specs.Around.{GoesOnAround, IsNamedIn, StandsAround, StaysAround}
-use Rattle.set_standing.specs.Follow.{Said}
-use Rattle.set_standing.specs.Parts.{AddsFiles, Surroundings, TagsOf, domain_of}
-use Rattle.set_standing.proofs.Again.{around_of}
-use Rattle.set_standing.proofs.OwnIndexes.{around_sound}
+use Rattle.names_standing.specs.Domain.{DomainNow, item_in}
+use Rattle.names_standing.specs.Standing.{IsMarkedBut, StandsDomain}
+use Rattle.names_standing.specs.Slots.{StandsSlot}
+use Rattle.names_standing.specs.SlotsStay.{PutsFileset}
+use Rattle.names_standing.proofs.BitsStay.{bits_stay}
+use Rattle.names_standing.proofs.FilesetPut.{fileset_put, stood_in}
+use Rattle.names_standing.proofs.SourcesSaid.{alone_by_files, files_alone}
+use Rattle.names_standing.proofs.SoundParted.{sound_but}
+use Rattle.names_standing.specs.Around.{GoesOnAround, IsNamedIn, StandsAround, StaysAround}
+use Rattle.names_standing.specs.Follow.{Said}
+use Rattle.names_standing.specs.Parts.{AddsFiles, Surroundings, TagsOf, domain_of}
+use Rattle.names_standing.proofs.Again.{around_of}
+use Rattle.names_standing.proofs.OwnIndexes.{around_sound}
 use Rattle.domain_parts.specs.Listing.{HaveOnce, list_with}
 use Rattle.domain_parts.specs.Slots.{CanGoBack, HasNumber, kept_book, kept_places, places_in, slot_in}
 use Rattle.domain_parts.specs.declared.slots.SlotFiles.{SlotFiles}

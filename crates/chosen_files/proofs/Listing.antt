@@ -4,7 +4,7 @@ use Rattle.domain_base.specs.declared.place.CellAt.{CellAt}
 use Rattle.deferred_delete.specs.Listing.{Listing}
 use Rattle.domain_parts.specs.Listing.{HaveOnce, list_with, put_all_on, put_on}
 use Rattle.domain_parts.proofs.Listed.{once_all, once_put, put_adds, put_both}
-use Rattle.set_standing.specs.Parts.{AddsFiles}
+use Rattle.names_standing.specs.Parts.{AddsFiles}
 
 pub all_added : (more : List CellAt) (list : Listing) → HaveOnce list.entries → AddsFiles more list (list_with more list)
 all_added [] list once = refl

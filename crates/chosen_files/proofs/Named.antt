@@ -19,10 +19,10 @@ use Rattle.name_space.specs.Changes.{IsOriginal}
 use Rattle.staged_pages.specs.Store.{pages_of}
 use Rattle.deferred_delete.proofs.Spread.{some_same}
 use Rattle.domain_layout.specs.Filled.{IsRole}
-use Rattle.domain_standing.specs.Domain.{item_in}
-use Rattle.standing_laws.proofs.FilesetPut.{stood_in}
-use Rattle.set_standing.specs.Around.{GoesOnAround}
-use Rattle.set_standing.specs.Follow.{Said}
+use Rattle.names_standing.specs.Domain.{item_in}
+use Rattle.names_standing.proofs.FilesetPut.{stood_in}
+use Rattle.names_standing.specs.Around.{GoesOnAround}
+use Rattle.names_standing.specs.Follow.{Said}
 use Rattle.names_standing.specs.Nodes.{NodesFollow, named_shape}
 use Rattle.names_standing.proofs.Filled.{new_stands}
 use Rattle.domain_parts.specs.Slots.{HasNumber, places_in, slot_in}

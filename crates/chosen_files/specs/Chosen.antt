@@ -4,8 +4,8 @@ use Rattle.page_store.specs.Bitfiles.{Bitfiles}
 use Rattle.bitfile_store.specs.Rest.{LeavesRest, parts_of}
 use Rattle.bitfile_store.specs.Shown.{shown}
 use Rattle.bitfile_store.specs.declared.parts.CallSettings.{CallSettings}
-use Rattle.set_standing.specs.Follow.{Said}
-use Rattle.set_standing.specs.Parts.{Parts}
+use Rattle.names_standing.specs.Follow.{Said}
+use Rattle.names_standing.specs.Parts.{Parts}
 use Rattle.staged_pages.specs.Store.{before_of, pages_of}
 use Rattle.domain_parts.specs.Slots.{slot_in}
 use Rattle.domain_memory.specs.declared.memory.DomainMemory.{DomainMemory}

@@ -1,1 +1,12 @@
 pub mod Chosen
+pub use Rattle.names_standing.specs.Domain
+pub use Rattle.names_standing.specs.Sources
+pub use Rattle.names_standing.specs.Standing
+pub use Rattle.names_standing.specs.Directories
+pub use Rattle.names_standing.specs.Nodes
+pub use Rattle.names_standing.specs.Around
+pub use Rattle.names_standing.specs.Follow
+pub use Rattle.names_standing.specs.Leads
+pub use Rattle.names_standing.specs.SlotParents
+pub use Rattle.names_standing.specs.SlotsStay
+pub use Rattle.names_standing.specs.Sound

@@ -14,10 +14,10 @@ use Rattle.fileset_table.specs.Table.{IsTable, has_name, is_fileset, is_free}
 use Rattle.fileset_table.specs.declared.slot.SlotItem.{SlotItem}
 use Rattle.fileset_table.specs.declared.slot.SlotItem.TheVariants as slot
 use Rattle.set_laws.proofs.Stable.{one_bool}
-use Rattle.standing_laws.specs.NewFileset.{empty_slot}
-use Rattle.domain_standing.specs.Domain.{DomainNow}
-use Rattle.domain_standing.specs.Standing.{AreBooksOf, HaveParents}
-use Rattle.domain_standing.specs.Tables.{StandTables}
+use Rattle.domain_stages.specs.NewFileset.{empty_slot}
+use Rattle.domain_stages.specs.Domain.{DomainNow}
+use Rattle.domain_stages.specs.Standing.{AreBooksOf, HaveParents}
+use Rattle.domain_stages.specs.Tables.{StandTables}
 use Rattle.domain_memory.specs.Memory.{StandsFor}
 use Rattle.domain_memory.specs.Staged.{IsSettled, IsStaged, IsStagedForSome, staged_books, staged_in}
 use Rattle.domain_memory.specs.declared.memory.DomainMemory.{DomainMemory}

@@ -20,11 +20,11 @@ use Rattle.fileset_table.specs.Table.{entry_of, has_name}
 use Rattle.domain_layout.specs.CellRules.{of_clone}
 use Rattle.domain_layout.specs.Filled.{FillsThere}
 use Rattle.domain_layout.specs.Shape.{FilesetShape, HasFileset}
-use Rattle.domain_standing.specs.Domain.{DomainNow, item_in}
-use Rattle.domain_standing.specs.Slots.{StandSlots}
-use Rattle.domain_standing.specs.Standing.{StandsDomain}
+use Rattle.domain_stages.specs.Domain.{DomainNow, item_in}
+use Rattle.domain_stages.specs.Slots.{StandSlots}
+use Rattle.domain_stages.specs.Standing.{StandsDomain}
 use Rattle.command_core.proofs.Means.{missing, refused, there}
-use Rattle.standing_laws.proofs.FilesetPut.{one_name, one_slot, own_names}
+use Rattle.domain_stages.proofs.FilesetPut.{one_name, one_slot, own_names}
 
 -- the slot of a fileset that has this name
 pub record HasSlot (xs : List SlotItem) (name : Name) : Type 0 where

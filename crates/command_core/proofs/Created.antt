@@ -31,7 +31,7 @@ use Rattle.quota_book.specs.Book.{Charges}
 use Rattle.quota_book.specs.Sums.{ChangesNode, CountsMore, IsNotRoot}
 use Rattle.quota_book.proofs.ModelChanges.{made as node_made, one as counts_one}
 use Rattle.quota_book.proofs.Sums.{charged_book}
-use Rattle.domain_standing.specs.Standing.{AreBooksOf, HaveParents}
+use Rattle.domain_stages.specs.Standing.{AreBooksOf, HaveParents}
 use Rattle.domain_state.proofs.NoClones.{have_no_clone}
 use Rattle.fileset_table.specs.Table.{has_name}
 use Rattle.domain_memory.specs.Memory.{StandsFor}

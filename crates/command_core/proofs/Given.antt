@@ -22,7 +22,7 @@ use Rattle.domain_memory.specs.declared.memory.DomainMemory.{DomainMemory}
 use Rattle.domain_memory.proofs.SettledKept.{settled_kept}
 use Rattle.domain_memory.proofs.TakingBack.{asks_slots}
 use Rattle.domain_state.proofs.NoClones.{have_no_clone}
-use Rattle.standing_laws.proofs.FilesetPut.{stood_in}
+use Rattle.domain_stages.proofs.FilesetPut.{stood_in}
 use Rattle.name_stages.specs.Stages.{HasFileset}
 use Rattle.command_core.proofs.Begun.{table_good}
 use Rattle.command_core.proofs.Removal.{HasNamed}

@@ -12,8 +12,8 @@ use Rattle.fileset_model.specs.declared.reply.Refusal.{Refusal}
 use Rattle.fileset_model.specs.declared.reply.Refusal.TheVariants.{OutOfMemory}
 use Rattle.fileset_model.specs.declared.reply.Reply.TheVariants.{Done, Refused}
 use Rattle.fileset_table.specs.declared.slot.FilesetEntry.{FilesetEntry}
-use Rattle.standing_laws.specs.SetsQuota.{fileset_limited}
-use Rattle.domain_standing.specs.Standing.{AreBooksOf, HaveParents}
+use Rattle.domain_stages.specs.SetsQuota.{fileset_limited}
+use Rattle.domain_stages.specs.Standing.{AreBooksOf, HaveParents}
 use Rattle.domain_memory.specs.Memory.{StandsFor}
 use Rattle.domain_memory.specs.Staged.{IsSettled, IsStaged, staged_books, staged_in}
 use Rattle.domain_memory.specs.declared.memory.DomainMemory.{DomainMemory}

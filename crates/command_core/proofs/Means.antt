@@ -27,11 +27,11 @@ use Rattle.history_laws.specs.GoingOn.{HaveNoClone}
 use Rattle.history_laws.proofs.ImageLemmas.{images, same_images, where_all}
 use Rattle.domain_layout.specs.Filled.{FillsThere}
 use Rattle.domain_layout.specs.Shape.{FilesetShape, IsOriginal}
-use Rattle.domain_standing.specs.Domain.{DomainNow, item_in}
-use Rattle.domain_standing.specs.Slots.{StandSlots}
+use Rattle.domain_stages.specs.Domain.{DomainNow, item_in}
+use Rattle.domain_stages.specs.Slots.{StandSlots}
 use Rattle.name_space.specs.Names.{number_of, root_tag}
-use Rattle.standing_laws.specs.NewFileset.{empty_slot}
-use Rattle.standing_laws.specs.SetsQuota.{fileset_limited}
+use Rattle.domain_stages.specs.NewFileset.{empty_slot}
+use Rattle.domain_stages.specs.SetsQuota.{fileset_limited}
 use Rattle.domain_state.proofs.NoClones.{have_no_clone}
 
 -- ---- which filesets there are

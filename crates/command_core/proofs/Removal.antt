@@ -17,7 +17,7 @@ use Rattle.fileset_table.specs.declared.slot.SlotItem.{SlotItem}
 use Rattle.fileset_table.specs.declared.slot.SlotItem.TheVariants as slot
 use Rattle.set_laws.proofs.Stable.{one_bool}
 use Rattle.domain_layout.specs.CellRules.{of_clone}
-use Rattle.domain_standing.specs.Standing.{AreBooksOf, HaveParents}
+use Rattle.domain_stages.specs.Standing.{AreBooksOf, HaveParents}
 use Rattle.domain_memory.specs.Memory.{StandsFor}
 use Rattle.domain_memory.specs.Staged.{IsSettled, IsStaged, IsStagedForSome, staged_books, staged_in}
 use Rattle.domain_memory.specs.declared.memory.DomainMemory.{DomainMemory}

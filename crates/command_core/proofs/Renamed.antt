@@ -21,7 +21,7 @@ use Rattle.name_space.specs.declared.rename.Renamed.{Renamed}
 use Rattle.quota_book.specs.Book.{Book, HasAll, Refunds, used}
 use Rattle.quota_book.specs.Sums.{IsBookOf}
 use Rattle.quota_book.proofs.Unchanged.{moved_same}
-use Rattle.domain_standing.specs.Standing.{AreBooksOf, HaveParents}
+use Rattle.domain_stages.specs.Standing.{AreBooksOf, HaveParents}
 use Rattle.domain_memory.specs.Staged.{IsStaged, staged_books, staged_in}
 use Rattle.domain_memory.specs.declared.memory.DomainMemory.{DomainMemory}
 use Rattle.domain_stages.specs.Charging.{ChangesOneBook}

@@ -10,7 +10,7 @@ use Rattle.fileset_model.specs.declared.fileset.FilesetSlot.{FilesetSlot}
 use Rattle.fileset_table.specs.declared.slot.FilesetEntry.{FilesetEntry}
 use Rattle.fileset_table.specs.declared.slot.SlotItem.TheVariants as slot
 use Rattle.staged_pages.specs.Store.{pages_of}
-use Rattle.domain_standing.specs.Domain.{DomainNow, item_in}
+use Rattle.domain_stages.specs.Domain.{DomainNow, item_in}
 use Rattle.domain_parts.specs.Slots.{places_in, slot_in}
 use Rattle.domain_memory.specs.Memory.{StandsFor}
 use Rattle.domain_memory.specs.declared.memory.DomainMemory.{DomainMemory}

@@ -19,7 +19,7 @@ use Rattle.name_space.specs.Names.{number_of}
 use Rattle.quota_book.specs.Book.{Book, HasAll, Refunds, used}
 use Rattle.quota_book.specs.Sums.{IsBookOf}
 use Rattle.quota_book.proofs.Unchanged.{unlinked_same}
-use Rattle.domain_standing.specs.Standing.{AreBooksOf, HaveParents}
+use Rattle.domain_stages.specs.Standing.{AreBooksOf, HaveParents}
 use Rattle.domain_memory.specs.Memory.{StandsFor}
 use Rattle.domain_memory.specs.Staged.{IsSettled, IsStaged, staged_books, staged_in}
 use Rattle.domain_memory.specs.declared.memory.DomainMemory.{DomainMemory}

@@ -18,11 +18,11 @@ ghost use Rattle.fileset_model.specs.declared.reply.Reply.TheVariants.{Done, Ref
 ghost use Rattle.fileset_table.specs.Table.{has_name, is_fileset};
 ghost use Rattle.fileset_table.specs.declared.slot.FilesetEntry.{FilesetEntry};
 ghost use Rattle.fileset_table.specs.declared.slot.SlotItem.TheVariants.{Original};
-ghost use Rattle.standing_laws.specs.NewFileset.{empty_slot};
-ghost use Rattle.standing_laws.specs.SetsQuota.{fileset_limited};
-ghost use Rattle.domain_standing.specs.Domain.{DomainNow, item_in};
-ghost use Rattle.domain_standing.specs.Slots.{StandSlots};
-ghost use Rattle.domain_standing.specs.Standing.{StandsDomain};
+ghost use Rattle.domain_stages.specs.NewFileset.{empty_slot};
+ghost use Rattle.domain_stages.specs.SetsQuota.{fileset_limited};
+ghost use Rattle.domain_stages.specs.Domain.{DomainNow, item_in};
+ghost use Rattle.domain_stages.specs.Slots.{StandSlots};
+ghost use Rattle.domain_stages.specs.Standing.{StandsDomain};
 ghost use Rattle.domain_memory.specs.Staged.{MayBeKept};
 ghost use Rattle.domain_memory.specs.declared.memory.DomainMemory.{DomainMemory};
 ghost use Rattle.domain_state.specs.History.{MayCommit};

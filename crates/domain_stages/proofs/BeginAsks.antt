@@ -14,7 +14,7 @@ use Rattle.fileset_table.specs.declared.slot.SlotItem.TheVariants as slot
 use Rattle.fileset_table.proofs.Joining.{original_joins}
 use Rattle.word_forms.specs.Forms.{is_fileset_name}
 use Rattle.staged_pages.specs.Store.{pages_of}
-use Rattle.standing_laws.specs.NewFileset.{no_chains}
+use Rattle.release_laws.specs.NewFileset.{no_chains}
 use Rattle.domain_memory.specs.Staged.{IsStagedForSome}
 use Rattle.domain_memory.specs.declared.memory.DomainMemory.{DomainMemory}
 use Rattle.domain_stages.specs.Beginning.{BeginsTags, new_entry}

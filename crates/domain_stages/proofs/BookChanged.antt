@@ -9,10 +9,10 @@ use Rattle.fileset_model.specs.Filesets.{FilesetMap}
 use Rattle.fileset_table.specs.Table.{IsTable}
 use Rattle.quota_book.specs.Book.{Book}
 use Rattle.staged_pages.specs.Store.{before_of}
-use Rattle.domain_standing.specs.Domain.{DomainNow}
-use Rattle.domain_standing.specs.Sources.{StandAlone}
-use Rattle.domain_standing.specs.Standing.{IsMarkedBut, StandsDomain}
-use Rattle.standing_laws.specs.Sound.{IsSound}
+use Rattle.release_laws.specs.Domain.{DomainNow}
+use Rattle.release_laws.specs.Sources.{StandAlone}
+use Rattle.release_laws.specs.Standing.{IsMarkedBut, StandsDomain}
+use Rattle.release_laws.specs.Sound.{IsSound}
 use Rattle.domain_parts.specs.Listing.{HaveOnce}
 use Rattle.domain_parts.specs.Slots.{CanGoBack, ChangesSlot, HasNumber, book_in, kept_book, kept_places, places_in, slot_in}
 use Rattle.domain_parts.specs.declared.slots.SlotFiles.{SlotFiles}

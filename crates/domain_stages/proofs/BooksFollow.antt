@@ -10,10 +10,10 @@ use Rattle.fileset_table.specs.declared.slot.SlotItem.TheVariants as slot
 use Rattle.quota_book.specs.Book.{Book}
 use Rattle.quota_book.specs.Sums.{IsBookOf}
 use Rattle.deferred_delete.proofs.Spread.{some_same}
-use Rattle.domain_standing.specs.Standing.{AreBooksOf}
-use Rattle.domain_standing.specs.Tables.{StandTables}
-use Rattle.standing_laws.specs.SlotsStay.{PutsFileset}
-use Rattle.standing_laws.proofs.BooksStay.{books_put}
+use Rattle.release_laws.specs.Standing.{AreBooksOf}
+use Rattle.release_laws.specs.Tables.{StandTables}
+use Rattle.release_laws.specs.SlotsStay.{PutsFileset}
+use Rattle.release_laws.proofs.BooksStay.{books_put}
 use Rattle.domain_memory.specs.Staged.{staged_books, staged_in}
 use Rattle.domain_memory.specs.declared.memory.DomainMemory.{DomainMemory}
 use Rattle.domain_stages.specs.Charging.{ChangesOneBook}

@@ -17,7 +17,7 @@ use Rattle.fileset_table.specs.declared.slot.SlotItem.TheVariants as slot
 use Rattle.quota_book.specs.Book.{HasAll, IsWithin, refusal_in}
 use Rattle.quota_book.proofs.Sums.{asked_same}
 use Rattle.domain_layout.specs.CellRules.{of_original}
-use Rattle.domain_standing.specs.Standing.{AreBooksOf}
+use Rattle.release_laws.specs.Standing.{AreBooksOf}
 use Rattle.domain_parts.specs.Slots.{book_in, places_in, slot_in}
 use Rattle.domain_parts.specs.declared.slots.SlotFiles.{SlotFiles}
 use Rattle.domain_memory.specs.Staged.{IsStagedForSome, staged_books, staged_in}

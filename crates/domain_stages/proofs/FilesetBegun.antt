@@ -26,26 +26,26 @@ use Rattle.deferred_delete.proofs.Spread.{some_same}
 use Rattle.deferred_laws.specs.Calls.{FilesetNow, Makes, StandsWell, made, no_call, one_more}
 use Rattle.deferred_laws.proofs.SourcesStay.{sources_stay}
 use Rattle.staged_pages.specs.Store.{pages_of}
-use Rattle.domain_standing.specs.Chains.{IndexesAt}
-use Rattle.domain_standing.specs.Domain.{DomainNow}
-use Rattle.domain_standing.specs.Holders.Holder.{of_file}
-use Rattle.domain_standing.specs.Sources.{StandAlone}
-use Rattle.domain_standing.specs.Standing.{AreBooksOf, HaveParents, IsMarkedBut}
+use Rattle.release_laws.specs.Chains.{IndexesAt}
+use Rattle.release_laws.specs.Domain.{DomainNow}
+use Rattle.release_laws.specs.Holders.Holder.{of_file}
+use Rattle.release_laws.specs.Sources.{StandAlone}
+use Rattle.release_laws.specs.Standing.{AreBooksOf, HaveParents, IsMarkedBut}
 use Rattle.domain_parts.specs.Listing.{HaveOnce}
 use Rattle.domain_parts.specs.Slots.{book_in, places_in, slot_in}
-use Rattle.standing_laws.specs.Leads.{LeadsOn, StandsBelow, fileset_now}
-use Rattle.standing_laws.specs.NewFileset.{JoinsEmpty, empty_slot, no_chains}
-use Rattle.standing_laws.specs.SlotsStay.{PutsFileset}
-use Rattle.standing_laws.proofs.BegunDomain.{bits_made, domain_begun}
-use Rattle.standing_laws.proofs.BooksStay.{books_begun}
-use Rattle.standing_laws.proofs.FilesetBegins.{empty_begins, now_item}
-use Rattle.standing_laws.proofs.RootMade.{root_leads, root_made}
-use Rattle.standing_laws.proofs.RootParents.{parents_made}
-use Rattle.standing_laws.proofs.SourcesSaid.{alone_by_files, files_alone}
-use Rattle.standing_laws.proofs.TablesTaken.{page_stays}
-use Rattle.standing_laws.specs.Sound.{IsSound, StandsSound}
-use Rattle.standing_laws.proofs.SoundCalled.{sound_called}
-use Rattle.standing_laws.proofs.SoundInPlace.{sound_begun}
+use Rattle.release_laws.specs.Leads.{LeadsOn, StandsBelow, fileset_now}
+use Rattle.release_laws.specs.NewFileset.{JoinsEmpty, empty_slot, no_chains}
+use Rattle.release_laws.specs.SlotsStay.{PutsFileset}
+use Rattle.release_laws.proofs.BegunDomain.{bits_made, domain_begun}
+use Rattle.release_laws.proofs.BooksStay.{books_begun}
+use Rattle.release_laws.proofs.FilesetBegins.{empty_begins, now_item}
+use Rattle.release_laws.proofs.RootMade.{root_leads, root_made}
+use Rattle.release_laws.proofs.RootParents.{parents_made}
+use Rattle.release_laws.proofs.SourcesSaid.{alone_by_files, files_alone}
+use Rattle.release_laws.proofs.TablesTaken.{page_stays}
+use Rattle.release_laws.specs.Sound.{IsSound, StandsSound}
+use Rattle.release_laws.proofs.SoundCalled.{sound_called}
+use Rattle.release_laws.proofs.SoundInPlace.{sound_begun}
 use Rattle.domain_memory.specs.Staged.{IsStaged, staged_books, staged_in}
 use Rattle.domain_memory.specs.declared.memory.DomainMemory.{DomainMemory}
 use Rattle.domain_stages.specs.Beginning.{BeginsTags, MakesRoot, new_entry}

@@ -10,19 +10,19 @@ use Rattle.fileset_table.specs.declared.slot.FilesetEntry.{FilesetEntry}
 use Rattle.fileset_table.specs.declared.slot.SlotItem.TheVariants as slot
 use Rattle.quota_book.specs.Book.{Book}
 use Rattle.log_ring.specs.Homes.{IsMember}
-use Rattle.domain_standing.specs.Domain.{DomainNow}
-use Rattle.domain_standing.specs.Holders.Holder.{of_cells, of_table}
-use Rattle.domain_standing.specs.Sources.{StandAlone}
-use Rattle.domain_standing.specs.Standing.{AreBooksOf, HaveParents, IsMarkedBut}
-use Rattle.domain_standing.proofs.SourcesStay.{sources_stay}
+use Rattle.release_laws.specs.Domain.{DomainNow}
+use Rattle.release_laws.specs.Holders.Holder.{of_cells, of_table}
+use Rattle.release_laws.specs.Sources.{StandAlone}
+use Rattle.release_laws.specs.Standing.{AreBooksOf, HaveParents, IsMarkedBut}
+use Rattle.release_laws.proofs.SourcesStay.{sources_stay}
 use Rattle.domain_parts.specs.Listing.{HaveOnce}
-use Rattle.standing_laws.specs.GoingFileset.{BeginsToGo}
-use Rattle.standing_laws.specs.Leads.{StandsBelow}
-use Rattle.standing_laws.proofs.BitsStay.{bits_went}
-use Rattle.standing_laws.proofs.FilesetGoes.{books_went, domain_went, went}
-use Rattle.standing_laws.proofs.ParentsBegin.{parents_went}
-use Rattle.standing_laws.specs.Sound.{IsSound}
-use Rattle.standing_laws.proofs.SoundInPlace.{sound_going}
+use Rattle.release_laws.specs.GoingFileset.{BeginsToGo}
+use Rattle.release_laws.specs.Leads.{StandsBelow}
+use Rattle.release_laws.proofs.BitsStay.{bits_went}
+use Rattle.release_laws.proofs.FilesetGoes.{books_went, domain_went, went}
+use Rattle.release_laws.proofs.ParentsBegin.{parents_went}
+use Rattle.release_laws.specs.Sound.{IsSound}
+use Rattle.release_laws.proofs.SoundInPlace.{sound_going}
 use Rattle.domain_memory.specs.Staged.{IsStaged, staged_books, staged_in}
 use Rattle.domain_memory.specs.declared.memory.DomainMemory.{DomainMemory}
 use Rattle.domain_stages.specs.Table.{HasOriginal, PutsSlot}

@@ -13,11 +13,11 @@ use Rattle.page_ways.specs.Frame.{frame_in}
 use Rattle.quota_book.specs.Sums.{IsBookOf}
 use Rattle.staged_pages.specs.Store.{before_of, pages_of}
 use Rattle.domain_layout.specs.Read.{contents_of}
-use Rattle.domain_standing.specs.Domain.{DomainNow, item_in}
-use Rattle.domain_standing.specs.Sources.{StandAlone}
-use Rattle.domain_standing.specs.Standing.{HaveParents, IsMarkedBut, StandsDomain}
-use Rattle.standing_laws.specs.Leads.{StandsBelow}
-use Rattle.standing_laws.specs.Sound.{IsSound}
+use Rattle.release_laws.specs.Domain.{DomainNow, item_in}
+use Rattle.release_laws.specs.Sources.{StandAlone}
+use Rattle.release_laws.specs.Standing.{HaveParents, IsMarkedBut, StandsDomain}
+use Rattle.release_laws.specs.Leads.{StandsBelow}
+use Rattle.release_laws.specs.Sound.{IsSound}
 use Rattle.domain_parts.specs.Slots.{CanGoBack, HasNumber, book_in, kept_book, kept_places, places_in, slot_in}
 use Rattle.domain_memory.specs.Memory.{StandsFor, books_in, kept_in, with_was}
 use Rattle.domain_memory.specs.Staged.{IsSettled, MayGoBack}

@@ -11,7 +11,7 @@ use Rattle.fileset_table.specs.declared.slot.FilesetEntry.{FilesetEntry}
 use Rattle.fileset_table.specs.declared.slot.SlotItem.TheVariants as slot
 use Rattle.quota_book.specs.Book.{empty_book}
 use Rattle.staged_pages.specs.Store.{before_of}
-use Rattle.domain_standing.specs.Domain.{item_in}
+use Rattle.release_laws.specs.Domain.{item_in}
 use Rattle.domain_parts.specs.Slots.{CanGoBack, HasNumber, kept_book, kept_places, slot_in}
 use Rattle.domain_parts.specs.declared.slots.SlotFiles.{SlotFiles}
 use Rattle.domain_memory.specs.Kept.{KeepsKept}

@@ -33,16 +33,16 @@ use Rattle.deferred_laws.proofs.Others.{others_stay}
 use Rattle.fileset_model.specs.Filesets.{FilesetMap}
 use Rattle.free_space.specs.Spaces.{Spaces, kept_spaces}
 use Rattle.domain_layout.specs.CellRules.{has_kind, say_removed, says_directory}
-use Rattle.domain_standing.specs.Chains.{AreQuotasOf, IndexesAt, IsQuotaOf}
-use Rattle.domain_standing.specs.Domain.{DomainNow, all_of}
-use Rattle.domain_standing.specs.Sources.{StandAlone}
-use Rattle.domain_standing.specs.Standing.{IsMarkedBut}
+use Rattle.release_laws.specs.Chains.{AreQuotasOf, IndexesAt, IsQuotaOf}
+use Rattle.release_laws.specs.Domain.{DomainNow, all_of}
+use Rattle.release_laws.specs.Sources.{StandAlone}
+use Rattle.release_laws.specs.Standing.{IsMarkedBut}
 use Rattle.page_ways.specs.Frame.{frame_in}
 use Rattle.quota_book.specs.Book.{Book}
 use Rattle.quota_book.specs.Sums.{IsBookOf}
 use Rattle.staged_pages.specs.Store.{pages_of}
-use Rattle.standing_laws.specs.Leads.{StandsBelow}
-use Rattle.standing_laws.specs.Sound.{StandsSound}
+use Rattle.release_laws.specs.Leads.{StandsBelow}
+use Rattle.release_laws.specs.Sound.{StandsSound}
 use Rattle.domain_parts.specs.Listing.{HaveOnce, list_with}
 use Rattle.domain_parts.specs.Slots.{book_in, places_in, slot_in}
 use Rattle.domain_memory.specs.Staged.{IsSettled, MayBeKept, staged_in}

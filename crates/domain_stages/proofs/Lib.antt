@@ -25,3 +25,4 @@ pub mod Counted
 pub mod BooksFollow
 pub mod ChargeAsks
 pub mod Charged
+pub use Rattle.release_laws.proofs.FilesetPut

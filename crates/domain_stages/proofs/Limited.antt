@@ -8,8 +8,8 @@ use Rattle.fileset_model.specs.declared.fileset.FilesetSlot.{FilesetSlot}
 use Rattle.fileset_model.specs.declared.fileset.Limits.{Limits}
 use Rattle.fileset_table.specs.declared.slot.FilesetEntry.{FilesetEntry}
 use Rattle.quota_book.specs.Book.{Book}
-use Rattle.domain_standing.specs.Standing.{AreBooksOf, HaveParents}
-use Rattle.standing_laws.specs.SetsQuota.{fileset_limited}
+use Rattle.release_laws.specs.Standing.{AreBooksOf, HaveParents}
+use Rattle.release_laws.specs.SetsQuota.{fileset_limited}
 use Rattle.domain_memory.specs.Staged.{IsStaged, staged_books, staged_in}
 use Rattle.domain_memory.specs.declared.memory.DomainMemory.{DomainMemory}
 

@@ -22,9 +22,9 @@ use Rattle.word_forms.specs.Forms.{is_fileset_name}
 use Rattle.quota_chain.specs.QuotaChain.{IsQuotaChain}
 use Rattle.deferred_delete.specs.Standing.{IsQuotas}
 use Rattle.staged_pages.specs.Store.{pages_of}
-use Rattle.standing_laws.specs.BoundedFileset.{entry_bounded}
-use Rattle.standing_laws.specs.SetsQuota.{entry_limited}
-use Rattle.standing_laws.proofs.CellsNow.{below_28}
+use Rattle.release_laws.specs.BoundedFileset.{entry_bounded}
+use Rattle.release_laws.specs.SetsQuota.{entry_limited}
+use Rattle.release_laws.proofs.CellsNow.{below_28}
 use Rattle.domain_parts.specs.Slots.{places_in, slot_in}
 use Rattle.domain_parts.specs.declared.slots.SlotFiles.{SlotFiles}
 use Rattle.domain_memory.specs.Staged.{IsStaged}

@@ -10,14 +10,14 @@ use Rattle.fileset_model.specs.declared.fileset.FilesetSlot.{FilesetSlot}
 use Rattle.fileset_model.specs.declared.fileset.Limits.{Limits}
 use Rattle.fileset_table.specs.declared.slot.FilesetEntry.{FilesetEntry}
 use Rattle.fileset_table.specs.declared.slot.SlotItem.TheVariants as slot
-use Rattle.domain_standing.specs.Domain.{DomainNow}
-use Rattle.domain_standing.specs.Standing.{IsMarkedBut}
+use Rattle.release_laws.specs.Domain.{DomainNow}
+use Rattle.release_laws.specs.Standing.{IsMarkedBut}
 use Rattle.domain_parts.specs.Listing.{HaveOnce}
-use Rattle.standing_laws.specs.BoundedFileset.{BoundsFileset, entry_bounded}
-use Rattle.standing_laws.specs.Leads.{StandsBelow}
-use Rattle.standing_laws.proofs.FilesetBounded.{after, alone_bounded, bits_bounded, books_bounded, domain_bounded, parents_bounded}
-use Rattle.standing_laws.specs.Sound.{IsSound}
-use Rattle.standing_laws.proofs.SoundInPlace.{sound_bounded}
+use Rattle.release_laws.specs.BoundedFileset.{BoundsFileset, entry_bounded}
+use Rattle.release_laws.specs.Leads.{StandsBelow}
+use Rattle.release_laws.proofs.FilesetBounded.{after, alone_bounded, bits_bounded, books_bounded, domain_bounded, parents_bounded}
+use Rattle.release_laws.specs.Sound.{IsSound}
+use Rattle.release_laws.proofs.SoundInPlace.{sound_bounded}
 use Rattle.domain_memory.specs.Staged.{IsStaged, staged_books, staged_in}
 use Rattle.domain_memory.specs.declared.memory.DomainMemory.{DomainMemory}
 use Rattle.domain_stages.specs.Table.{HasOriginal, PutsSlot}

@@ -28,26 +28,26 @@ use Rattle.layout_laws.specs.Agreeing.{AgreeOn}
 use Rattle.layout_laws.proofs.Reached.{member_or_none}
 use Rattle.log_ring.specs.Homes.{IsMember}
 use Rattle.staged_pages.specs.Store.{pages_of}
-use Rattle.domain_standing.specs.Chains.{AreQuotasOf, IndexesAt}
-use Rattle.domain_standing.specs.Domain.{DomainNow, all_of}
-use Rattle.domain_standing.specs.Holders.Holder.{of_cells, of_file, of_table}
-use Rattle.domain_standing.specs.Standing.{IsMarkedBut}
-use Rattle.standing_laws.specs.Leads.{StandsBelow}
-use Rattle.standing_laws.specs.SetsQuota.{SetsQuota, entry_limited}
-use Rattle.standing_laws.proofs.BooksStay.{books_limited}
-use Rattle.standing_laws.proofs.HeldSpaces.{one_new}
-use Rattle.standing_laws.proofs.QuotaAlone.{alone_limited}
-use Rattle.standing_laws.proofs.QuotaBeside.{bits_limited, parents_limited}
-use Rattle.standing_laws.proofs.QuotaChains.{chains_stand}
-use Rattle.standing_laws.proofs.QuotaDomain.{domain_limited}
-use Rattle.standing_laws.proofs.QuotaHeld.{owned_still}
-use Rattle.standing_laws.proofs.QuotaRest.{rest_stands}
-use Rattle.standing_laws.proofs.QuotaSlots.{page_stays}
-use Rattle.standing_laws.proofs.QuotaTables.{tables_stand}
-use Rattle.standing_laws.proofs.SlotsKept.{agree}
-use Rattle.standing_laws.proofs.TablesTaken.{low_table, unheld_taken}
-use Rattle.standing_laws.specs.Sound.{IsSound, StandsSound}
-use Rattle.standing_laws.proofs.SoundLimited.{sound_limited}
+use Rattle.release_laws.specs.Chains.{AreQuotasOf, IndexesAt}
+use Rattle.release_laws.specs.Domain.{DomainNow, all_of}
+use Rattle.release_laws.specs.Holders.Holder.{of_cells, of_file, of_table}
+use Rattle.release_laws.specs.Standing.{IsMarkedBut}
+use Rattle.release_laws.specs.Leads.{StandsBelow}
+use Rattle.release_laws.specs.SetsQuota.{SetsQuota, entry_limited}
+use Rattle.release_laws.proofs.BooksStay.{books_limited}
+use Rattle.release_laws.proofs.HeldSpaces.{one_new}
+use Rattle.release_laws.proofs.QuotaAlone.{alone_limited}
+use Rattle.release_laws.proofs.QuotaBeside.{bits_limited, parents_limited}
+use Rattle.release_laws.proofs.QuotaChains.{chains_stand}
+use Rattle.release_laws.proofs.QuotaDomain.{domain_limited}
+use Rattle.release_laws.proofs.QuotaHeld.{owned_still}
+use Rattle.release_laws.proofs.QuotaRest.{rest_stands}
+use Rattle.release_laws.proofs.QuotaSlots.{page_stays}
+use Rattle.release_laws.proofs.QuotaTables.{tables_stand}
+use Rattle.release_laws.proofs.SlotsKept.{agree}
+use Rattle.release_laws.proofs.TablesTaken.{low_table, unheld_taken}
+use Rattle.release_laws.specs.Sound.{IsSound, StandsSound}
+use Rattle.release_laws.proofs.SoundLimited.{sound_limited}
 use Rattle.domain_memory.specs.Staged.{IsStaged, staged_books, staged_in}
 use Rattle.domain_memory.specs.declared.memory.DomainMemory.{DomainMemory}
 use Rattle.domain_stages.specs.Limits.{SetsInChain}

@@ -29,9 +29,9 @@ use Rattle.domain_layout.specs.TagRules.{quota_of}
 use Rattle.fileset_table.specs.declared.slot.FilesetEntry.{FilesetEntry}
 use Rattle.quota_chain.specs.QuotaChain.{IsQuotaChain}
 use Rattle.staged_pages.specs.Store.{pages_of}
-use Rattle.domain_standing.specs.Chains.{AreQuotasOf}
-use Rattle.standing_laws.specs.NewFileset.{no_chains}
-use Rattle.standing_laws.proofs.OtherSlots.{links_of}
+use Rattle.release_laws.specs.Chains.{AreQuotasOf}
+use Rattle.release_laws.specs.NewFileset.{no_chains}
+use Rattle.release_laws.proofs.OtherSlots.{links_of}
 use Rattle.domain_memory.specs.Staged.{IsStagedForSome, staged_in}
 use Rattle.domain_memory.specs.declared.memory.DomainMemory.{DomainMemory}
 use Rattle.domain_stages.specs.Table.{HasOriginal}

@@ -9,7 +9,7 @@ use Rattle.bitfile_core.specs.Creation.{Creates, LeavesBeside, new_file, root_ta
 use Rattle.bitfile_core.specs.Files.{Chains}
 use Rattle.bitfile_core.specs.Together.{AreTogether}
 use Rattle.staged_pages.specs.Store.{pages_of}
-use Rattle.standing_laws.specs.NewFileset.{no_chains}
+use Rattle.release_laws.specs.NewFileset.{no_chains}
 use Rattle.domain_memory.specs.declared.memory.DomainMemory.{DomainMemory}
 use Rattle.domain_stages.specs.Beginning.{MakesRoot}
 

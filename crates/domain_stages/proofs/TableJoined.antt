@@ -19,15 +19,15 @@ use Rattle.set_laws.proofs.Stable.{IsStable, all, both, if_some, less, not, one_
 use Rattle.set_laws.proofs.StableFiles.{together}
 use Rattle.deferred_delete.specs.Standing.{Files}
 use Rattle.staged_pages.specs.Store.{pages_of}
-use Rattle.domain_standing.specs.Chains.{IndexesAt}
-use Rattle.domain_standing.specs.Domain.{DomainNow}
-use Rattle.domain_standing.specs.Holders.Holder.{of_table}
+use Rattle.release_laws.specs.Chains.{IndexesAt}
+use Rattle.release_laws.specs.Domain.{DomainNow}
+use Rattle.release_laws.specs.Holders.Holder.{of_table}
 use Rattle.domain_parts.specs.Listing.{list_with}
 use Rattle.page_ways.specs.Frame.{frame_in}
-use Rattle.standing_laws.specs.Leads.{StandsBelow}
-use Rattle.standing_laws.specs.NewFileset.{JoinsEmpty, no_chains}
-use Rattle.standing_laws.proofs.FilesetBegins.{empty_begins}
-use Rattle.standing_laws.proofs.TablesTaken.{unheld_taken}
+use Rattle.release_laws.specs.Leads.{StandsBelow}
+use Rattle.release_laws.specs.NewFileset.{JoinsEmpty, no_chains}
+use Rattle.release_laws.proofs.FilesetBegins.{empty_begins}
+use Rattle.release_laws.proofs.TablesTaken.{unheld_taken}
 use Rattle.domain_memory.specs.Staged.{IsStagedForSome, staged_in}
 use Rattle.domain_memory.specs.declared.memory.DomainMemory.{DomainMemory}
 use Rattle.domain_memory.proofs.GoingBack.{table_is}

@@ -17,7 +17,7 @@ use Rattle.bitfile_core.specs.Together.{AreTogether}
 use Rattle.bitfile_core.specs.declared.bitfiles.Bitfiles.{Bitfiles}
 use Rattle.fileset_table.specs.declared.slot.FilesetEntry.{FilesetEntry}
 use Rattle.staged_pages.specs.Store.{before_of, pages_of}
-use Rattle.standing_laws.specs.NewFileset.{no_chains}
+use Rattle.release_laws.specs.NewFileset.{no_chains}
 use Rattle.domain_memory.specs.declared.memory.DomainMemory.{DomainMemory}
 
 -- what the table has of a new fileset

@@ -3,3 +3,9 @@ pub mod Beginning
 pub mod Limits
 pub mod Charging
 pub mod LettingGo
+pub use Rattle.release_laws.specs.Domain
+pub use Rattle.release_laws.specs.Slots
+pub use Rattle.release_laws.specs.Standing
+pub use Rattle.release_laws.specs.Tables
+pub use Rattle.release_laws.specs.NewFileset
+pub use Rattle.release_laws.specs.SetsQuota

@@ -19,8 +19,8 @@ use Rattle.quota_book.specs.Book.{Book}
 use Rattle.quota_book.specs.QuotaCells.{touched}
 use Rattle.quota_chain.specs.QuotaChain.{IsQuotaChain, SetsLimits, TakesIfUntouched, said_in}
 use Rattle.staged_pages.specs.Store.{before_of, pages_of}
-use Rattle.standing_laws.specs.BoundedFileset.{entry_bounded}
-use Rattle.standing_laws.specs.SetsQuota.{entry_limited}
+use Rattle.release_laws.specs.BoundedFileset.{entry_bounded}
+use Rattle.release_laws.specs.SetsQuota.{entry_limited}
 use Rattle.domain_memory.specs.declared.memory.DomainMemory.{DomainMemory}
 use Rattle.domain_stages.specs.Table.{HasOriginal, PutsSlot}
 

@@ -4,7 +4,7 @@ ghost use Rattle.std.specs.FinMap.{remove};
 ghost use Rattle.fileset_model.specs.Filesets.{FilesetMap};
 ghost use Rattle.fileset_table.specs.Table.{is_original};
 ghost use Rattle.fileset_table.specs.declared.slot.FilesetEntry.{FilesetEntry};
-ghost use Rattle.domain_standing.specs.Standing.{AreBooksOf, HaveParents};
+ghost use Rattle.release_laws.specs.Standing.{AreBooksOf, HaveParents};
 ghost use Rattle.domain_memory.specs.Staged.{IsStaged, IsStagedForSome, MayGoBack, staged_books, staged_in};
 ghost use Rattle.domain_memory.specs.Kept.{KeepsKept};
 ghost use Rattle.domain_stages.specs.Table.{HasOriginal};

@@ -12,8 +12,8 @@ ghost use Rattle.fileset_table.specs.declared.slot.FilesetEntry.{FilesetEntry as
 ghost use Rattle.fileset_table.specs.declared.slot.SlotItem.TheVariants as slot;
 ghost use Rattle.quota_chain.specs.QuotaChain.{IsQuotaChain};
 ghost use Rattle.staged_pages.specs.Store.{pages_of};
-ghost use Rattle.domain_standing.specs.Standing.{AreBooksOf, HaveParents};
-ghost use Rattle.standing_laws.specs.SetsQuota.{fileset_limited};
+ghost use Rattle.release_laws.specs.Standing.{AreBooksOf, HaveParents};
+ghost use Rattle.release_laws.specs.SetsQuota.{fileset_limited};
 ghost use Rattle.domain_parts.specs.Slots.{ChangesSlot};
 ghost use Rattle.domain_memory.specs.Kept.{KeepsKept};
 ghost use Rattle.domain_memory.specs.Staged.{IsStaged, IsStagedForSome, MayGoBack, staged_books, staged_in};

@@ -18,10 +18,10 @@ use Rattle.quota_book.specs.Sums.{IsBookOf}
 use Rattle.quota_book.proofs.Unchanged.{moved_same, unlinked_same}
 use Rattle.name_space.specs.Changes.{replaced_number}
 use Rattle.deferred_delete.proofs.Spread.{none_not, some_same}
-use Rattle.standing_laws.specs.SlotsStay.{PutsFileset}
-use Rattle.standing_laws.proofs.BooksStay.{books_put}
-use Rattle.set_standing.specs.Around.{GoesOnAround}
-use Rattle.set_standing.specs.Follow.{Said}
+use Rattle.chosen_files.specs.SlotsStay.{PutsFileset}
+use Rattle.chosen_files.proofs.BooksStay.{books_put}
+use Rattle.chosen_files.specs.Around.{GoesOnAround}
+use Rattle.chosen_files.specs.Follow.{Said}
 use Rattle.domain_parts.specs.Slots.{book_in, slot_in}
 use Rattle.domain_memory.specs.Staged.{staged_books, staged_in}
 use Rattle.domain_memory.specs.declared.memory.DomainMemory.{DomainMemory}

@@ -14,18 +14,18 @@ use Rattle.name_space.specs.Changes.{Checks, HasOriginal, IsFaultOf, IsOriginal,
 use Rattle.name_space.specs.declared.fault.NameFault.{NameFault}
 use Rattle.name_space.specs.declared.fault.NameFault.TheVariants.{NoPage, OutOfMemory, Refused}
 use Rattle.names_at_hand.proofs.AtHand.{at_hand}
-use Rattle.names_standing.specs.Nodes.{IsNewNode, NodesFollow}
+use Rattle.chosen_files.specs.Nodes.{IsNewNode, NodesFollow}
 use Rattle.bitfile_store.specs.Rest.{rest_is, rest_joined}
 use Rattle.bitfile_store.specs.declared.parts.CallSettings.{CallSettings}
 use Rattle.domain_layout.specs.CellRules.{of_original}
-use Rattle.domain_standing.specs.Domain.{item_in}
-use Rattle.standing_laws.proofs.FilesetPut.{stood_in}
+use Rattle.chosen_files.specs.Domain.{item_in}
+use Rattle.chosen_files.proofs.FilesetPut.{stood_in}
 use Rattle.domain_memory.specs.Kept.{KeepsKept}
 use Rattle.domain_memory.specs.Staged.{IsStagedForSome, MayGoBack, staged_in}
 use Rattle.domain_memory.specs.declared.memory.DomainMemory.{DomainMemory}
 use Rattle.chosen_files.specs.Chosen.{AreSettingsOf, CallsChange, Lends, files_in}
 use Rattle.chosen_files.specs.declared.chosen.Chosen.{Chosen}
-use Rattle.set_standing.specs.Follow.{Said}
+use Rattle.chosen_files.specs.Follow.{Said}
 use Rattle.chosen_files.proofs.Back.{goes_back, kept_still}
 use Rattle.chosen_files.proofs.Named.{lent_names, new_names_staged}
 use Rattle.name_stages.specs.Stages.{HasFileset, IsRefused, StandsWith}

@@ -2,7 +2,7 @@
 use Rattle.std.proofs.Common.{◌≡◌, ◌∙◌, ℕ, sym, ap, subst, ⊎_elim}
 use Rattle.std.proofs.lemmas.Bool.{cases_eq}
 use Rattle.bitfile_store.specs.declared.parts.CallSettings.{CallSettings}
-use Rattle.set_standing.specs.Follow.{Said}
+use Rattle.chosen_files.specs.Follow.{Said}
 use Rattle.domain_parts.specs.Slots.{book_in, slot_in}
 use Rattle.domain_memory.specs.Staged.{staged_books}
 use Rattle.domain_memory.specs.declared.memory.DomainMemory.{DomainMemory}

@@ -24,8 +24,8 @@ use Rattle.name_space.specs.Names.{IsNodeOf, is_directory_kind, led_to, number_o
 use Rattle.name_space.specs.Walks.{IsTarget}
 use Rattle.name_space.proofs.Originals.{is_in, number_at, one_tag, path_at}
 use Rattle.deferred_delete.proofs.Spread.{none_not, some_same}
-use Rattle.domain_standing.specs.Domain.{DomainNow}
-use Rattle.standing_laws.specs.Leads.{IsLiveOf}
+use Rattle.chosen_files.specs.Domain.{DomainNow}
+use Rattle.chosen_files.specs.Leads.{IsLiveOf}
 use Rattle.domain_parts.specs.Slots.{HasNumber}
 use Rattle.domain_memory.specs.Staged.{MayGoBack, staged_in}
 use Rattle.domain_memory.specs.declared.memory.DomainMemory.{DomainMemory}

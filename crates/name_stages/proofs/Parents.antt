@@ -29,16 +29,16 @@ use Rattle.name_space.specs.declared.rename.Renamed.{Renamed}
 use Rattle.name_space.proofs.Originals.{is_in, one_tag, path_at}
 use Rattle.deferred_delete.proofs.Spread.{none_not, some_same}
 use Rattle.domain_layout.specs.CellRules.{of_original}
-use Rattle.domain_standing.specs.Domain.{item_in}
-use Rattle.domain_standing.specs.Standing.{HaveParents}
-use Rattle.standing_laws.proofs.FilesetPut.{stood_in}
-use Rattle.set_standing.specs.Follow.{Said}
-use Rattle.names_standing.specs.Directories.{AreTags, DirectoriesFollow, IsDirectoryOf, numbers_of, said_of}
-use Rattle.names_standing.specs.Nodes.{NodesFollow}
-use Rattle.names_standing.proofs.MovedStood.{renamed_leads, renamed_stand}
-use Rattle.names_standing.proofs.Nodes.{path_moved}
-use Rattle.names_standing.proofs.SaidParents.{parents_follow}
-use Rattle.names_standing.proofs.Stood.{link_stands, new_stands_in}
+use Rattle.chosen_files.specs.Domain.{item_in}
+use Rattle.chosen_files.specs.Standing.{HaveParents}
+use Rattle.chosen_files.proofs.FilesetPut.{stood_in}
+use Rattle.chosen_files.specs.Follow.{Said}
+use Rattle.chosen_files.specs.Directories.{AreTags, DirectoriesFollow, IsDirectoryOf, numbers_of, said_of}
+use Rattle.chosen_files.specs.Nodes.{NodesFollow}
+use Rattle.chosen_files.proofs.MovedStood.{renamed_leads, renamed_stand}
+use Rattle.chosen_files.proofs.Nodes.{path_moved}
+use Rattle.name_stages.proofs.SaidParents.{parents_follow}
+use Rattle.chosen_files.proofs.Stood.{link_stands, new_stands_in}
 use Rattle.domain_memory.specs.Staged.{IsStaged, IsStagedForSome, MayGoBack, staged_in}
 use Rattle.domain_memory.specs.declared.memory.DomainMemory.{DomainMemory}
 use Rattle.chosen_files.specs.Chosen.{AreSettingsOf, CallsChange, Lends, files_in}

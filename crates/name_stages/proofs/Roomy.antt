@@ -14,13 +14,13 @@ use Rattle.name_space.specs.declared.fault.NameFault.TheVariants.{OutOfMemory}
 use Rattle.quota_book.specs.Sums.{IsBookOf}
 use Rattle.quota_book.specs.Book.{Book}
 use Rattle.domain_layout.specs.CellRules.{of_original}
-use Rattle.domain_standing.specs.Domain.{DomainNow, item_in}
-use Rattle.domain_standing.specs.Sources.{StandAlone}
-use Rattle.domain_standing.specs.Standing.{AreBooksOf, HaveParents, IsMarkedBut, StandsDomain}
-use Rattle.standing_laws.specs.Sound.{IsSound}
-use Rattle.set_standing.specs.Follow.{Said}
-use Rattle.names_standing.specs.Directories.{AreTags}
-use Rattle.names_standing.specs.Nodes.{NodesFollow}
+use Rattle.chosen_files.specs.Domain.{DomainNow, item_in}
+use Rattle.chosen_files.specs.Sources.{StandAlone}
+use Rattle.chosen_files.specs.Standing.{AreBooksOf, HaveParents, IsMarkedBut, StandsDomain}
+use Rattle.chosen_files.specs.Sound.{IsSound}
+use Rattle.chosen_files.specs.Follow.{Said}
+use Rattle.chosen_files.specs.Directories.{AreTags}
+use Rattle.chosen_files.specs.Nodes.{NodesFollow}
 use Rattle.domain_parts.specs.Listing.{HaveOnce, list_with}
 use Rattle.domain_memory.specs.Kept.{KeepsKept}
 use Rattle.domain_memory.specs.Staged.{IsStaged, IsStagedForSome, MayGoBack, staged_books, staged_in}

@@ -8,10 +8,10 @@ use Rattle.free_space.specs.Spaces.{kept_spaces, volume_of}
 use Rattle.fileset_model.specs.Filesets.{FilesetMap}
 use Rattle.fileset_table.specs.Table.{IsTable}
 use Rattle.staged_pages.specs.Store.{before_of, pages_of}
-use Rattle.domain_standing.specs.Domain.{DomainNow}
-use Rattle.domain_standing.specs.Sources.{StandAlone}
-use Rattle.domain_standing.specs.Standing.{AreBooksOf, HaveParents, IsMarkedBut, StandsDomain}
-use Rattle.standing_laws.specs.Sound.{IsSound}
+use Rattle.chosen_files.specs.Domain.{DomainNow}
+use Rattle.chosen_files.specs.Sources.{StandAlone}
+use Rattle.chosen_files.specs.Standing.{AreBooksOf, HaveParents, IsMarkedBut, StandsDomain}
+use Rattle.chosen_files.specs.Sound.{IsSound}
 use Rattle.domain_parts.specs.Listing.{HaveOnce, list_with}
 use Rattle.domain_parts.specs.Slots.{CanGoBack, HasNumber, book_in, kept_book, kept_places, places_in, slot_in}
 use Rattle.domain_parts.proofs.SlotsChanged.{slot_at}

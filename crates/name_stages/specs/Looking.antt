@@ -10,7 +10,7 @@ use Rattle.fileset_model.specs.Paths.{is_directory, node_at, target_refusal}
 use Rattle.fileset_model.specs.declared.fileset.FilesetSlot.{FilesetSlot}
 use Rattle.name_space.specs.Names.{is_directory_kind, number_of}
 use Rattle.staged_pages.specs.Store.{pages_of}
-use Rattle.standing_laws.specs.Leads.{IsLiveOf}
+use Rattle.chosen_files.specs.Leads.{IsLiveOf}
 use Rattle.domain_parts.specs.Slots.{places_in, slot_in}
 use Rattle.domain_memory.specs.declared.memory.DomainMemory.{DomainMemory}
 

@@ -18,8 +18,8 @@ use Rattle.name_space.specs.declared.create.Created.{Created}
 use Rattle.name_space.specs.declared.fault.NameFault.{NameFault}
 use Rattle.name_space.specs.declared.fault.NameFault.TheVariants.{NoPage, OutOfMemory, Refused}
 use Rattle.name_space.specs.declared.rename.Renamed.{Renamed}
-use Rattle.domain_standing.specs.Domain.{item_in}
-use Rattle.domain_standing.specs.Standing.{AreBooksOf, HaveParents}
+use Rattle.chosen_files.specs.Domain.{item_in}
+use Rattle.chosen_files.specs.Standing.{AreBooksOf, HaveParents}
 use Rattle.domain_memory.specs.Staged.{IsStaged, MayGoBack, staged_books, staged_in}
 use Rattle.domain_memory.specs.declared.memory.DomainMemory.{DomainMemory}
 

@@ -9,10 +9,12 @@ mod moving;
 mod room;
 mod saying;
 mod settings;
+mod standing;
 mod taking;
 
 pub use looking::{count_rows, list_names, look_at};
 pub use making::{create, link};
 pub use moving::rename;
 pub use settings::settings_of;
+pub use standing::directories_say_where_they_stand;
 pub use taking::{remove_directory, unlink};

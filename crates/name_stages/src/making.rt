@@ -10,7 +10,7 @@ ghost use Rattle.fileset_model.specs.declared.fileset.FilesetSlot.{FilesetSlot};
 ghost use Rattle.fileset_table.specs.declared.slot.FilesetEntry.{FilesetEntry};
 ghost use Rattle.chosen_files.specs.Chosen.{AreSettingsOf, CallsChange, files_in};
 ghost use Rattle.name_space.specs.Changes.{Creates as CreatesIn, HasOriginal, IsOriginal, free_checks, last_name, new_node};
-ghost use Rattle.names_standing.specs.Directories.{AreTags, said_of};
+ghost use Rattle.chosen_files.specs.Directories.{AreTags, said_of};
 ghost use Rattle.name_stages.specs.Stages.{Creates, HasFileset, IsRefused, KeepsBooks, KeepsParents, Links};
 
 use crate::room::{hand_back, if_room};

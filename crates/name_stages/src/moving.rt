@@ -10,7 +10,7 @@ ghost use Rattle.fileset_model.specs.declared.fileset.FilesetSlot.{FilesetSlot};
 ghost use Rattle.fileset_table.specs.declared.slot.FilesetEntry.{FilesetEntry};
 ghost use Rattle.chosen_files.specs.Chosen.{AreSettingsOf, CallsChange, files_in};
 ghost use Rattle.name_space.specs.Changes.{HasOriginal, IsOriginal, Renames as RenamesIn, last_name};
-ghost use Rattle.names_standing.specs.Directories.{AreTags, said_of};
+ghost use Rattle.chosen_files.specs.Directories.{AreTags, said_of};
 ghost use Rattle.name_stages.specs.Stages.{HasFileset, IsRefused, KeepsBooks, KeepsParents, Renames};
 
 use crate::room::{hand_back, if_room};

@@ -4,7 +4,7 @@ ghost use Rattle.domain_base.specs.declared.place.Kind.TheVariants as kind;
 ghost use Rattle.page_store.specs.Bitfiles.{IsDirectory};
 ghost use Rattle.chosen_files.specs.Chosen.{CallsChange, files_in};
 ghost use Rattle.name_space.specs.declared.fault.NameFault.TheVariants as fault;
-ghost use Rattle.names_standing.specs.Directories.{AreTags, said_of};
+ghost use Rattle.chosen_files.specs.Directories.{AreTags, said_of};
 
 use chosen_files::Chosen;
 use domain_base::{Kind, Tag};

@@ -3,4 +3,14 @@ pub mod Filled
 pub mod OneFile
 pub mod Stood
 pub mod MovedStood
-pub mod SaidParents
+pub use Rattle.set_standing.proofs.Again
+pub use Rattle.set_standing.proofs.OwnIndexes
+pub use Rattle.standing_laws.proofs.BitsStay
+pub use Rattle.standing_laws.proofs.FilesetPut
+pub use Rattle.standing_laws.proofs.SoundParted
+pub use Rattle.standing_laws.proofs.SourcesSaid
+pub use Rattle.set_standing.proofs.FileCalls
+pub use Rattle.set_standing.proofs.FileParents
+pub use Rattle.set_standing.proofs.FileShown
+pub use Rattle.standing_laws.proofs.OtherSlots
+pub use Rattle.standing_laws.proofs.BooksStay

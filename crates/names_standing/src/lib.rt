@@ -5,9 +5,7 @@
 mod directories;
 mod files;
 mod laws;
-mod parents;
 
 pub use directories::names_keep_directories;
 pub use files::a_fileset_of_one_changed_file_stands;
 pub use laws::{a_fileset_of_new_names_stands, names_keep_files};
-pub use parents::directories_say_where_they_stand;

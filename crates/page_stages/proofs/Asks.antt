@@ -12,8 +12,8 @@ use Rattle.set_laws.proofs.Stable.{one_number}
 use Rattle.tag_dirs.specs.declared.dir.TagPlace.{TagPlace}
 use Rattle.staged_pages.specs.Store.{pages_of}
 use Rattle.domain_layout.specs.CellRules.{of_original}
-use Rattle.domain_standing.specs.Domain.{item_in}
-use Rattle.standing_laws.proofs.FilesetPut.{stood_in}
+use Rattle.names_standing.specs.Domain.{item_in}
+use Rattle.names_standing.proofs.FilesetPut.{stood_in}
 use Rattle.domain_parts.specs.Slots.{HasNumber, places_in, slot_in}
 use Rattle.domain_parts.specs.declared.slots.SlotFiles.{SlotFiles}
 use Rattle.domain_memory.specs.Staged.{IsStagedForSome, MayGoBack, staged_in}

@@ -38,21 +38,21 @@ use Rattle.domain_layout.specs.Shape.{FilesetShape}
 use Rattle.node_laws.specs.Nodes.{seen_of}
 use Rattle.node_laws.proofs.Seen.{live_seen}
 use Rattle.staged_pages.specs.Store.{pages_of}
-use Rattle.domain_standing.specs.Domain.{DomainNow, item_in}
-use Rattle.domain_standing.specs.Standing.{HaveParents, IsMarkedBut, StandsDomain}
-use Rattle.standing_laws.specs.Leads.{IsLiveOf}
-use Rattle.standing_laws.specs.Slots.{StandsSlot}
-use Rattle.standing_laws.specs.SlotsStay.{PutsFileset}
-use Rattle.standing_laws.proofs.BitsStay.{bits_stay}
-use Rattle.standing_laws.proofs.FilesetPut.{fileset_put, stood_in}
-use Rattle.standing_laws.proofs.OtherSlots.{seen_place}
-use Rattle.standing_laws.proofs.SourcesSaid.{alone_by_files, files_alone}
-use Rattle.standing_laws.proofs.SoundParted.{sound_but}
-use Rattle.set_standing.proofs.Again.{around_of}
-use Rattle.set_standing.proofs.FileParents.{file_parents}
-use Rattle.set_standing.proofs.OwnIndexes.{around_sound}
-use Rattle.set_standing.specs.Around.{IsNamedIn, StandsAround}
-use Rattle.set_standing.specs.Beside.{ChangesOneFile}
+use Rattle.names_standing.specs.Domain.{DomainNow, item_in}
+use Rattle.names_standing.specs.Standing.{HaveParents, IsMarkedBut, StandsDomain}
+use Rattle.names_standing.specs.Leads.{IsLiveOf}
+use Rattle.names_standing.specs.Slots.{StandsSlot}
+use Rattle.names_standing.specs.SlotsStay.{PutsFileset}
+use Rattle.names_standing.proofs.BitsStay.{bits_stay}
+use Rattle.names_standing.proofs.FilesetPut.{fileset_put, stood_in}
+use Rattle.names_standing.proofs.OtherSlots.{seen_place}
+use Rattle.names_standing.proofs.SourcesSaid.{alone_by_files, files_alone}
+use Rattle.names_standing.proofs.SoundParted.{sound_but}
+use Rattle.names_standing.proofs.Again.{around_of}
+use Rattle.names_standing.proofs.FileParents.{file_parents}
+use Rattle.names_standing.proofs.OwnIndexes.{around_sound}
+use Rattle.names_standing.specs.Around.{IsNamedIn, StandsAround}
+use Rattle.names_standing.specs.Beside.{ChangesOneFile}
 use Rattle.names_standing.specs.Nodes.{named_shape}
 use Rattle.names_standing.specs.OneFile.{FileFollows, KeepsKind}
 use Rattle.names_standing.proofs.OneFile.{changed_stands}

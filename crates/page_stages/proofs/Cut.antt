@@ -38,15 +38,15 @@ use Rattle.node_laws.proofs.Changed.{agree_on}
 use Rattle.node_laws.proofs.Cut.{cut_is, get-cut}
 use Rattle.deferred_delete.specs.Listing.{Adds, Listing}
 use Rattle.deferred_delete.specs.declared.list.Entry.{Entry}
-use Rattle.domain_standing.specs.Domain.{DomainNow}
-use Rattle.domain_standing.specs.Standing.{HaveParents}
+use Rattle.names_standing.specs.Domain.{DomainNow}
+use Rattle.names_standing.specs.Standing.{HaveParents}
 use Rattle.bitfile_core.proofs.Created.{one_chains}
-use Rattle.standing_laws.specs.Leads.{IsLiveOf}
+use Rattle.names_standing.specs.Leads.{IsLiveOf}
 use Rattle.names_standing.specs.OneFile.{KeepsKind}
-use Rattle.set_standing.specs.Around.{StandsAround}
-use Rattle.set_standing.specs.Beside.{ChangesOneFile}
-use Rattle.set_standing.proofs.FileCalls.{cut_again, cut_listed_again}
-use Rattle.set_standing.proofs.FileShown.{says_state}
+use Rattle.names_standing.specs.Around.{StandsAround}
+use Rattle.names_standing.specs.Beside.{ChangesOneFile}
+use Rattle.names_standing.proofs.FileCalls.{cut_again, cut_listed_again}
+use Rattle.names_standing.proofs.FileShown.{says_state}
 use Rattle.domain_parts.specs.Listing.{list_with, put_all_on}
 use Rattle.domain_parts.specs.Slots.{places_in, slot_in}
 use Rattle.domain_parts.specs.declared.slots.SlotFiles.{SlotFiles}

@@ -25,12 +25,12 @@ use Rattle.staged_pages.specs.Store.{pages_of}
 use Rattle.domain_layout.specs.Filled.{IsFilled}
 use Rattle.node_laws.specs.Nodes.{AgreeBut, seen_of, with_page}
 use Rattle.node_laws.proofs.Changed.{joined}
-use Rattle.domain_standing.specs.Domain.{DomainNow}
-use Rattle.domain_standing.specs.Standing.{HaveParents}
-use Rattle.standing_laws.specs.Leads.{IsLiveOf}
-use Rattle.set_standing.specs.Around.{StandsAround}
-use Rattle.set_standing.specs.Beside.{ChangesOneFile}
-use Rattle.set_standing.proofs.FileCalls.{given_again}
+use Rattle.names_standing.specs.Domain.{DomainNow}
+use Rattle.names_standing.specs.Standing.{HaveParents}
+use Rattle.names_standing.specs.Leads.{IsLiveOf}
+use Rattle.names_standing.specs.Around.{StandsAround}
+use Rattle.names_standing.specs.Beside.{ChangesOneFile}
+use Rattle.names_standing.proofs.FileCalls.{given_again}
 use Rattle.domain_parts.specs.Slots.{places_in, slot_in}
 use Rattle.domain_parts.specs.declared.slots.SlotFiles.{SlotFiles}
 use Rattle.domain_memory.specs.Staged.{staged_in}

@@ -17,7 +17,7 @@ use Rattle.fileset_table.specs.declared.slot.FilesetEntry.{FilesetEntry}
 use Rattle.name_space.proofs.Originals.{number_at}
 use Rattle.domain_layout.specs.CellRules.{of_original}
 use Rattle.domain_layout.specs.Filled.{IsRole}
-use Rattle.standing_laws.proofs.FilesetPut.{stood_in}
+use Rattle.names_standing.proofs.FilesetPut.{stood_in}
 use Rattle.domain_memory.specs.Staged.{IsStagedForSome, staged_in}
 use Rattle.domain_memory.specs.declared.memory.DomainMemory.{DomainMemory}
 use Rattle.page_stages.proofs.Asks.{has_entry}

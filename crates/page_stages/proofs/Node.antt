@@ -32,7 +32,7 @@ use Rattle.name_space.proofs.Originals.{all_shown, is_in}
 use Rattle.deferred_delete.proofs.Spread.{none_not, some_same}
 use Rattle.domain_layout.specs.Filled.{IsFilled, IsRole}
 use Rattle.domain_layout.specs.Seen.{SeenFile, kept_by, seen_in}
-use Rattle.domain_standing.specs.Domain.{DomainNow}
+use Rattle.names_standing.specs.Domain.{DomainNow}
 use Rattle.domain_memory.specs.Staged.{staged_in}
 use Rattle.domain_memory.specs.declared.memory.DomainMemory.{DomainMemory}
 use Rattle.page_stages.proofs.Changed.{IsShownAt, IsStood, is_stood, shown_kind}

@@ -11,8 +11,8 @@ use Rattle.bitfile_core.specs.Pages.{MayGrow}
 use Rattle.bitfile_core.specs.State.{FileState, state_of}
 use Rattle.bitfile_core.proofs.Created.{one_chains}
 use Rattle.bitfile_laws.specs.States.{placed}
-use Rattle.standing_laws.specs.Leads.{IsLiveOf}
-use Rattle.set_standing.specs.Beside.{ChangesOneFile}
+use Rattle.names_standing.specs.Leads.{IsLiveOf}
+use Rattle.names_standing.specs.Beside.{ChangesOneFile}
 use Rattle.domain_memory.specs.Staged.{staged_in}
 use Rattle.domain_memory.specs.declared.memory.DomainMemory.{DomainMemory}
 use Rattle.page_stages.proofs.Seen.{HasStateAt, keep_live, kept_live, place_live, state_of_live}

@@ -40,7 +40,7 @@ use Rattle.page_stages.proofs.Changed.{around_file}
 use Rattle.page_stages.proofs.Node.{node_of}
 use Rattle.page_stages.proofs.Stood.{stands_at}
 use Rattle.page_stages.proofs.Twice.{has_node, whole_node}
-use Rattle.set_standing.specs.Around.{StandsAround}
+use Rattle.names_standing.specs.Around.{StandsAround}
 use Rattle.page_stages.specs.Reading.{IsDescribed, IsWhatIs, pages_at, pages_in}
 use Rattle.page_stages.specs.Stages.{AreFilesIn, HasFile, HasPage, IsFileIn, IsPageOf, LacksPage}
 

@@ -20,12 +20,12 @@ use Rattle.staged_pages.specs.Store.{pages_of}
 use Rattle.domain_layout.specs.Filled.{IsFilled}
 use Rattle.node_laws.specs.Nodes.{AgreeBut, seen_of, with_page}
 use Rattle.node_laws.proofs.Changed.{written}
-use Rattle.domain_standing.specs.Domain.{DomainNow}
-use Rattle.domain_standing.specs.Standing.{HaveParents}
-use Rattle.standing_laws.specs.Leads.{IsLiveOf}
-use Rattle.set_standing.specs.Around.{StandsAround}
-use Rattle.set_standing.specs.Beside.{ChangesOneFile}
-use Rattle.set_standing.proofs.FileCalls.{put_again}
+use Rattle.names_standing.specs.Domain.{DomainNow}
+use Rattle.names_standing.specs.Standing.{HaveParents}
+use Rattle.names_standing.specs.Leads.{IsLiveOf}
+use Rattle.names_standing.specs.Around.{StandsAround}
+use Rattle.names_standing.specs.Beside.{ChangesOneFile}
+use Rattle.names_standing.proofs.FileCalls.{put_again}
 use Rattle.domain_memory.specs.Staged.{staged_in}
 use Rattle.domain_memory.specs.declared.memory.DomainMemory.{DomainMemory}
 use Rattle.page_stages.proofs.Changed.{around_file, changed_staged, parents_stay, placed_seen, still_fits}

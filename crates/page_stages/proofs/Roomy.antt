@@ -7,10 +7,10 @@ use Rattle.fileset_model.specs.Filesets.{FilesetMap}
 use Rattle.fileset_model.specs.Orders.{Path}
 use Rattle.fileset_model.specs.declared.fileset.FilesetSlot.{FilesetSlot}
 use Rattle.fileset_table.specs.declared.slot.FilesetEntry.{FilesetEntry}
-use Rattle.domain_standing.specs.Domain.{DomainNow}
-use Rattle.domain_standing.specs.Sources.{StandAlone}
-use Rattle.domain_standing.specs.Standing.{HaveParents, IsMarkedBut, StandsDomain}
-use Rattle.standing_laws.specs.Sound.{IsSound}
+use Rattle.names_standing.specs.Domain.{DomainNow}
+use Rattle.names_standing.specs.Sources.{StandAlone}
+use Rattle.names_standing.specs.Standing.{HaveParents, IsMarkedBut, StandsDomain}
+use Rattle.names_standing.specs.Sound.{IsSound}
 use Rattle.domain_parts.specs.Listing.{HaveOnce, list_with}
 use Rattle.domain_memory.specs.Staged.{IsStaged, staged_in}
 use Rattle.domain_memory.specs.declared.memory.DomainMemory.{DomainMemory}

@@ -18,9 +18,9 @@ use Rattle.node_laws.proofs.Seen.{live_seen}
 use Rattle.page_ways.specs.Frame.{frame_in}
 use Rattle.page_store.specs.Pages.{AreWhole}
 use Rattle.staged_pages.specs.Store.{pages_of, whole_pages}
-use Rattle.standing_laws.specs.Leads.{IsLiveOf}
-use Rattle.set_standing.specs.Around.{BytesFollow, ChangesSlot}
-use Rattle.set_standing.proofs.FileShown.{SaysState, says_state, state_there}
+use Rattle.names_standing.specs.Leads.{IsLiveOf}
+use Rattle.names_standing.specs.Around.{BytesFollow, ChangesSlot}
+use Rattle.names_standing.proofs.FileShown.{SaysState, says_state, state_there}
 use Rattle.domain_parts.specs.Listing.{list_with}
 use Rattle.domain_parts.specs.Slots.{places_in, slot_in}
 use Rattle.domain_memory.specs.Staged.{staged_in}

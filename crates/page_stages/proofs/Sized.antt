@@ -22,12 +22,12 @@ use Rattle.deferred_delete.proofs.Spread.{some_same}
 use Rattle.domain_layout.specs.Filled.{IsFilled}
 use Rattle.node_laws.specs.Nodes.{seen_of, with_size}
 use Rattle.node_laws.proofs.Changed.{agree_on, described_as}
-use Rattle.domain_standing.specs.Domain.{DomainNow}
-use Rattle.domain_standing.specs.Standing.{HaveParents}
-use Rattle.standing_laws.specs.Leads.{IsLiveOf}
-use Rattle.set_standing.specs.Around.{StandsAround}
-use Rattle.set_standing.specs.Beside.{ChangesOneFile}
-use Rattle.set_standing.proofs.FileCalls.{described_again}
+use Rattle.names_standing.specs.Domain.{DomainNow}
+use Rattle.names_standing.specs.Standing.{HaveParents}
+use Rattle.names_standing.specs.Leads.{IsLiveOf}
+use Rattle.names_standing.specs.Around.{StandsAround}
+use Rattle.names_standing.specs.Beside.{ChangesOneFile}
+use Rattle.names_standing.proofs.FileCalls.{described_again}
 use Rattle.domain_parts.specs.Slots.{places_in, slot_in}
 use Rattle.domain_parts.specs.declared.slots.SlotFiles.{SlotFiles}
 use Rattle.domain_memory.specs.Staged.{staged_in}

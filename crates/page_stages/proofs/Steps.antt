@@ -13,7 +13,7 @@ use Rattle.fileset_model.specs.declared.node.Node.{Node}
 use Rattle.fileset_table.specs.Table.{Table}
 use Rattle.fileset_table.specs.declared.slot.FilesetEntry.{FilesetEntry}
 use Rattle.domain_layout.specs.CellRules.{of_original}
-use Rattle.domain_standing.specs.Standing.{HaveParents}
+use Rattle.names_standing.specs.Standing.{HaveParents}
 use Rattle.node_laws.specs.Nodes.{with_page}
 use Rattle.domain_memory.specs.Staged.{IsStagedForSome, MayGoBack, staged_in}
 use Rattle.domain_memory.specs.declared.memory.DomainMemory.{DomainMemory}

@@ -30,11 +30,11 @@ use Rattle.domain_layout.specs.Filled.{IsFilled, IsRole}
 use Rattle.domain_layout.specs.Seen.{SeenFile, seen_in}
 use Rattle.domain_layout.specs.Shape.{FilesetShape}
 use Rattle.node_laws.specs.Nodes.{seen_of}
-use Rattle.domain_standing.specs.Domain.{DomainNow, item_in}
-use Rattle.domain_standing.specs.Tables.{StandTables}
-use Rattle.standing_laws.specs.Leads.{IsLiveOf}
-use Rattle.standing_laws.specs.Slots.{StandsSlot}
-use Rattle.standing_laws.proofs.FilesetPut.{stood_in}
+use Rattle.names_standing.specs.Domain.{DomainNow, item_in}
+use Rattle.names_standing.specs.Tables.{StandTables}
+use Rattle.names_standing.specs.Leads.{IsLiveOf}
+use Rattle.names_standing.specs.Slots.{StandsSlot}
+use Rattle.names_standing.proofs.FilesetPut.{stood_in}
 use Rattle.domain_memory.specs.Staged.{IsStagedForSome, staged_in}
 use Rattle.domain_memory.specs.declared.memory.DomainMemory.{DomainMemory}
 use Rattle.page_stages.proofs.Asks.{HasEntry, has_entry}

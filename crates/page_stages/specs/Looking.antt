@@ -4,7 +4,7 @@ use Rattle.domain_base.specs.declared.place.Kind.TheVariants.{File}
 use Rattle.domain_base.specs.declared.place.Tag.{Tag}
 use Rattle.bitfile_core.specs.Files.{Chains}
 use Rattle.bitfile_core.specs.Pages.{MayGrow}
-use Rattle.standing_laws.specs.Leads.{IsLiveOf}
+use Rattle.names_standing.specs.Leads.{IsLiveOf}
 use Rattle.domain_memory.specs.declared.memory.DomainMemory.{DomainMemory}
 use Rattle.page_stages.specs.Stages.{AreFilesIn, HasPage, IsFileIn, IsPageOf, LacksPage}
 use Rattle.page_stages.specs.declared.looking.FilePage.{FilePage}

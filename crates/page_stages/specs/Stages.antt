@@ -24,8 +24,8 @@ use Rattle.fileset_table.specs.declared.slot.FilesetEntry.{FilesetEntry}
 use Rattle.fileset_table.specs.declared.slot.SlotItem.TheVariants as slot
 use Rattle.name_space.specs.Names.{number_of}
 use Rattle.staged_pages.specs.Store.{pages_of}
-use Rattle.domain_standing.specs.Domain.{item_in}
-use Rattle.standing_laws.specs.Leads.{IsLiveOf}
+use Rattle.names_standing.specs.Domain.{item_in}
+use Rattle.names_standing.specs.Leads.{IsLiveOf}
 use Rattle.domain_parts.specs.Slots.{places_in, slot_in}
 use Rattle.domain_memory.specs.Staged.{IsStaged, staged_in}
 use Rattle.domain_memory.specs.declared.memory.DomainMemory.{DomainMemory}

@@ -4,7 +4,7 @@ ghost use Rattle.std.specs.Option.{option_and_then};
 ghost use Rattle.domain_base.specs.declared.place.Kind.TheVariants.{File};
 ghost use Rattle.bitfile_core.specs.Files.{AreFiles, Chains, HasFiles, keep_of, of_live};
 ghost use Rattle.domain_layout.specs.CellRules.{of_original};
-ghost use Rattle.standing_laws.specs.Leads.{IsLiveOf};
+ghost use Rattle.names_standing.specs.Leads.{IsLiveOf};
 ghost use Rattle.domain_memory.specs.Staged.{IsStagedForSome, MayGoBack};
 ghost use Rattle.page_stages.specs.Looking.{IsAtPage};
 

@@ -5,7 +5,7 @@ ghost use Rattle.fileset_model.specs.Orders.{Path};
 ghost use Rattle.fileset_model.specs.declared.fileset.FilesetSlot.{FilesetSlot};
 ghost use Rattle.fileset_table.specs.declared.slot.FilesetEntry.{FilesetEntry};
 ghost use Rattle.domain_layout.specs.CellRules.{of_original};
-ghost use Rattle.domain_standing.specs.Standing.{HaveParents};
+ghost use Rattle.names_standing.specs.Standing.{HaveParents};
 ghost use Rattle.node_laws.specs.Nodes.{with_size};
 ghost use Rattle.domain_memory.specs.Kept.{KeepsKept};
 ghost use Rattle.domain_memory.specs.Staged.{IsStagedForSome, MayGoBack, staged_books, staged_in};

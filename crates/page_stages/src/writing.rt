@@ -10,7 +10,7 @@ ghost use Rattle.fileset_model.specs.Pages.{absent_pages as absent_of, page_afte
 ghost use Rattle.fileset_model.specs.declared.fileset.FilesetSlot.{FilesetSlot};
 ghost use Rattle.fileset_table.specs.declared.slot.FilesetEntry.{FilesetEntry};
 ghost use Rattle.domain_layout.specs.CellRules.{of_original};
-ghost use Rattle.domain_standing.specs.Standing.{HaveParents};
+ghost use Rattle.names_standing.specs.Standing.{HaveParents};
 ghost use Rattle.node_laws.specs.Nodes.{with_page};
 ghost use Rattle.domain_memory.specs.Kept.{KeepsKept};
 ghost use Rattle.domain_memory.specs.Staged.{IsStagedForSome, MayGoBack, staged_books, staged_in};

@@ -2,3 +2,17 @@ pub mod Released
 pub mod Trimmed
 pub mod Freed
 pub mod AtHand
+pub use Rattle.domain_standing.specs.Chains
+pub use Rattle.domain_standing.specs.Domain
+pub use Rattle.domain_standing.specs.Holders
+pub use Rattle.domain_standing.specs.Slots
+pub use Rattle.domain_standing.specs.Sources
+pub use Rattle.domain_standing.specs.Standing
+pub use Rattle.domain_standing.specs.Tables
+pub use Rattle.standing_laws.specs.BoundedFileset
+pub use Rattle.standing_laws.specs.GoingFileset
+pub use Rattle.standing_laws.specs.Leads
+pub use Rattle.standing_laws.specs.NewFileset
+pub use Rattle.standing_laws.specs.SetsQuota
+pub use Rattle.standing_laws.specs.SlotsStay
+pub use Rattle.standing_laws.specs.Sound

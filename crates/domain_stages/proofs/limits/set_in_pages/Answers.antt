@@ -1,5 +1,5 @@
 use Rattle.fileset_table.specs.declared.slot.SlotItem.TheVariants as slot
-use Rattle.standing_laws.specs.BoundedFileset.{entry_bounded}
+use Rattle.release_laws.specs.BoundedFileset.{entry_bounded}
 use Rattle.domain_stages.proofs.SlotPut.{asks_page, kept_put}
 use Rattle.domain_stages.proofs.limits.set_in_pages.Goals as goal
 

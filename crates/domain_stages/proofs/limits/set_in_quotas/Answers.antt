@@ -1,7 +1,7 @@
 use Rattle.std.proofs.Common.{◌∙◌, refl, sym, ap, subst}
 use Rattle.fileset_table.specs.Table.{IsTable, with_slot}
 use Rattle.fileset_table.specs.declared.slot.SlotItem.TheVariants as slot
-use Rattle.standing_laws.specs.SetsQuota.{entry_limited}
+use Rattle.release_laws.specs.SetsQuota.{entry_limited}
 use Rattle.domain_memory.proofs.KeptStands.{kept_joined}
 use Rattle.domain_memory.specs.declared.memory.DomainMemory.{DomainMemory}
 use Rattle.domain_stages.proofs.LimitsAsks.{mid_page, slot_changes, start_low}

@@ -1,5 +1,5 @@
 use Rattle.std.proofs.Common.{◌<◌, IsSome, slice_get, sym, ap, subst, rules}
-use Rattle.standing_laws.proofs.FilesetPut.{stood_in}
+use Rattle.release_laws.proofs.FilesetPut.{stood_in}
 use Rattle.domain_memory.proofs.KeptStands.{kept_joined}
 use Rattle.domain_memory.specs.Staged.{staged_in}
 use Rattle.domain_parts.specs.Slots.{slot_in}

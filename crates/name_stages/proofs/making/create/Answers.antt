@@ -1,8 +1,8 @@
 use Rattle.name_space.specs.Changes.{new_node}
 use Rattle.fileset_model.specs.Apply.{with_node}
 use Rattle.name_space.specs.Names.{number_of}
-use Rattle.names_standing.specs.Directories.{said_of}
-use Rattle.names_standing.proofs.Nodes.{node_made}
+use Rattle.chosen_files.specs.Directories.{said_of}
+use Rattle.chosen_files.proofs.Nodes.{node_made}
 use Rattle.name_stages.proofs.Calls.{err_by, has_names, names_were, new_is, ok_both, ok_by}
 use Rattle.name_stages.proofs.Roomy.{err_still, has_room, ok_still, room_back, room_kept, room_parents, room_stands, with_both}
 use Rattle.name_stages.proofs.Parents.{made_directories, on_ok_by, some_calls}

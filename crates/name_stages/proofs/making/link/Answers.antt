@@ -2,7 +2,7 @@ use Rattle.std.proofs.Common.{None, refl}
 use Rattle.fileset_model.specs.Apply.{link_checks, linked}
 use Rattle.chosen_files.specs.Chosen.{CallsChange}
 use Rattle.chosen_files.specs.declared.chosen.Chosen.{Chosen}
-use Rattle.names_standing.proofs.Nodes.{path_linked}
+use Rattle.chosen_files.proofs.Nodes.{path_linked}
 use Rattle.quota_book.proofs.Unchanged.{linked_same}
 use Rattle.name_stages.proofs.Books.{named_path}
 use Rattle.name_stages.proofs.Parents.{linked_directories, on_ok_by}

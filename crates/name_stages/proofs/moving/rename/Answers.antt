@@ -2,8 +2,8 @@ use Rattle.std.proofs.Common.{◌∙◌, ap, sym}
 use Rattle.std.specs.Option.{option_map}
 use Rattle.name_space.specs.Names.{number_of}
 use Rattle.fileset_model.specs.Apply.{renamed}
-use Rattle.names_standing.specs.Directories.{said_of}
-use Rattle.names_standing.proofs.Nodes.{path_moved}
+use Rattle.chosen_files.specs.Directories.{said_of}
+use Rattle.chosen_files.proofs.Nodes.{path_moved}
 use Rattle.name_stages.proofs.Books.{book_moved, named_path}
 use Rattle.name_stages.proofs.Calls.{err_by, has_names, names_were, ok_both, ok_by}
 use Rattle.name_stages.proofs.Roomy.{err_still, has_room, ok_still, room_back, room_books, room_kept, room_parents, room_stands, with_both}

@@ -2,7 +2,7 @@ use Rattle.std.proofs.Common.{◌<◌, ◌^◌, rules, refl, subst, sym}
 use Rattle.domain_base.specs.declared.place.Kind.{Kind}
 use Rattle.chosen_files.specs.Chosen.{CallsChange}
 use Rattle.chosen_files.specs.declared.chosen.Chosen.{Chosen}
-use Rattle.names_standing.specs.Directories.{said_of}
+use Rattle.chosen_files.specs.Directories.{said_of}
 use Rattle.name_stages.proofs.Calls.{no_calls}
 use Rattle.name_stages.proofs.Parents.{tags_of}
 use Rattle.name_stages.proofs.saying.say_parent.Goals as goal

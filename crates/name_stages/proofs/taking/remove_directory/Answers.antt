@@ -2,8 +2,8 @@ use Rattle.std.proofs.Common.{None, refl}
 use Rattle.name_space.specs.Changes.{rmdir_checks}
 use Rattle.chosen_files.specs.Chosen.{CallsChange}
 use Rattle.chosen_files.specs.declared.chosen.Chosen.{Chosen}
-use Rattle.names_standing.proofs.Nodes.{path_left}
-use Rattle.names_standing.proofs.Stood.{left_stand}
+use Rattle.chosen_files.proofs.Nodes.{path_left}
+use Rattle.chosen_files.proofs.Stood.{left_stand}
 use Rattle.fileset_model.specs.Apply.{without}
 use Rattle.name_stages.proofs.Parents.{on_ok_by}
 use Rattle.name_stages.proofs.Calls.{err_by, has_names, is_refused, names_were, ok_by}

@@ -5,12 +5,12 @@ ghost use Rattle.fileset_model.specs.Filesets.{FilesetMap};
 ghost use Rattle.fileset_model.specs.declared.fileset.FilesetSlot.{FilesetSlot};
 ghost use Rattle.fileset_table.specs.declared.slot.FilesetEntry.{FilesetEntry};
 ghost use Rattle.fileset_table.specs.declared.slot.SlotItem.TheVariants as slot;
-ghost use Rattle.domain_standing.specs.Domain.{DomainNow, item_in};
-ghost use Rattle.domain_standing.specs.Standing.{HaveParents, StandsDomain};
-ghost use Rattle.standing_laws.specs.Sound.{IsSound};
-ghost use Rattle.set_standing.specs.Around.{StaysAround};
-ghost use Rattle.set_standing.specs.Follow.{Said};
-ghost use Rattle.names_standing.specs.Directories.{AreTags, DirectoriesFollow, numbers_of};
+ghost use Rattle.chosen_files.specs.Domain.{DomainNow, item_in};
+ghost use Rattle.chosen_files.specs.Standing.{HaveParents, StandsDomain};
+ghost use Rattle.chosen_files.specs.Sound.{IsSound};
+ghost use Rattle.chosen_files.specs.Around.{StaysAround};
+ghost use Rattle.chosen_files.specs.Follow.{Said};
+ghost use Rattle.chosen_files.specs.Directories.{AreTags, DirectoriesFollow, numbers_of};
 
 /// Each directory of a domain says the one in which its row stands, as before, once names of one
 /// original have changed: where they stand in those in which they stood, but for one of which it

@@ -24,18 +24,18 @@ use Rattle.deferred_delete.proofs.Spread.{none_not, some_same}
 use Rattle.domain_layout.specs.DirectoryRules.{Has, IsRow, RowPlace}
 use Rattle.domain_layout.specs.Seen.{SeenFile}
 use Rattle.layout_laws.proofs.Reached.{same_number}
-use Rattle.domain_standing.specs.Domain.{DomainNow, item_in}
-use Rattle.domain_standing.specs.Standing.{HaveParents, StandsDomain}
-use Rattle.standing_laws.specs.SlotParents.{HaveParentsIn, StandsForSome}
-use Rattle.standing_laws.proofs.FilesetPut.{StoodIn, stood_in}
-use Rattle.standing_laws.specs.Sound.{IsSound, StandsSound}
+use Rattle.chosen_files.specs.Domain.{DomainNow, item_in}
+use Rattle.chosen_files.specs.Standing.{HaveParents, StandsDomain}
+use Rattle.chosen_files.specs.SlotParents.{HaveParentsIn, StandsForSome}
+use Rattle.chosen_files.proofs.FilesetPut.{StoodIn, stood_in}
+use Rattle.chosen_files.specs.Sound.{IsSound, StandsSound}
 use Rattle.no_fault_laws.proofs.Originals.{IsOriginalSlot, is_role}
 use Rattle.no_fault_laws.proofs.RowPaths.{PathRow, RowWay, dir_row, in_it, path_row, row_dir, row_way}
 use Rattle.no_fault_laws.proofs.Seen.{has_seen, shown_in}
 use Rattle.no_fault_laws.proofs.Shown.{IsShown}
-use Rattle.set_standing.specs.Around.{StaysAround}
-use Rattle.set_standing.specs.Follow.{ComesFrom, IsStill, IsUnsaid, Said, TagFollows}
-use Rattle.names_standing.specs.Directories.{AreTags, DirectoriesFollow, IsDirectoryOf, IsOfNone, StandsIn, numbers_of}
+use Rattle.chosen_files.specs.Around.{StaysAround}
+use Rattle.chosen_files.specs.Follow.{ComesFrom, IsStill, IsUnsaid, Said, TagFollows}
+use Rattle.chosen_files.specs.Directories.{AreTags, DirectoriesFollow, IsDirectoryOf, IsOfNone, StandsIn, numbers_of}
 
 -- the original in a slot of a domain that stands
 abbrev its_slot : (d : DomainNow) (all : FilesetMap) (stands : StandsDomain d all) (number : ℕ) (entry : FilesetEntry) → StoodIn d all stands.slots number entry → IsOriginalSlot d all stands.slots number entry
