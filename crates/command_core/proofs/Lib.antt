@@ -16,3 +16,4 @@ pub mod Taken
 pub mod Renamed
 pub mod Shares
 pub mod Still
+pub mod Placed

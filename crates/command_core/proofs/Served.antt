@@ -15,7 +15,9 @@ pub data Serving : Command → Type 0 where
   setquota : (fileset : Name) (who : Owner) (files blocks : ℕ) → Serving (command.Setquota fileset who files blocks)
   create : (place : Place) (uid gid : ℕ) → Serving (command.Create place uid gid)
   mkdir : (place : Place) (uid gid : ℕ) → Serving (command.Mkdir place uid gid)
+  read : (place : Place) (offset count : ℕ) → Serving (command.Read place offset count)
   link : (place : Place) (to : Path) → Serving (command.Link place to)
+  links : (place : Place) → Serving (command.Links place)
   unlink : (place : Place) → Serving (command.Unlink place)
   rmdir : (place : Place) → Serving (command.Rmdir place)
   rename : (place : Place) (to : Path) → Serving (command.Rename place to)
@@ -30,11 +32,11 @@ serving (command.Showquota fileset who) is = absurd is
 serving (command.Create place uid gid) is = Serving.create place uid gid
 serving (command.Mkdir place uid gid) is = Serving.mkdir place uid gid
 serving (command.Write place offset bytes) is = absurd is
-serving (command.Read place offset count) is = absurd is
+serving (command.Read place offset count) is = Serving.read place offset count
 serving (command.Truncate place size) is = absurd is
 serving (command.Rename place to) is = Serving.rename place to
 serving (command.Link place to) is = Serving.link place to
-serving (command.Links place) is = absurd is
+serving (command.Links place) is = Serving.links place
 serving (command.Unlink place) is = Serving.unlink place
 serving (command.Rmdir place) is = Serving.rmdir place
 serving (command.List place) is = absurd is
@@ -61,7 +63,9 @@ clients c (Serving.rmfset fileset) = refl
 clients c (Serving.setquota fileset who files blocks) = refl
 clients c (Serving.create place uid gid) = refl
 clients c (Serving.mkdir place uid gid) = refl
+clients c (Serving.read place offset count) = refl
 clients c (Serving.link place to) = refl
+clients c (Serving.links place) = refl
 clients c (Serving.unlink place) = refl
 clients c (Serving.rmdir place) = refl
 clients c (Serving.rename place to) = refl

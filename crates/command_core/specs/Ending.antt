@@ -6,7 +6,7 @@ use Rattle.page_store.specs.declared.fault.StoreFault.TheVariants as fault
 use Rattle.fileset_model.specs.Apply.{refusal_of}
 use Rattle.fileset_model.specs.Filesets.{FilesetMap}
 use Rattle.fileset_model.specs.declared.command.Command.{Command}
-use Rattle.fileset_model.specs.declared.command.Command.TheVariants.{Create, Link, Mkdir, Mkfset, Rename, Rmdir, Rmfset, Setquota, Unlink}
+use Rattle.fileset_model.specs.declared.command.Command.TheVariants.{Create, Link, Mkdir, Mkfset, Rename, Rmdir, Rmfset, Setquota, Unlink, Links, Read}
 use Rattle.fileset_model.specs.declared.reply.Refusal.{Refusal}
 use Rattle.fileset_model.specs.declared.reply.Reply.{Reply}
 use Rattle.fileset_table.specs.Table.{is_free}
@@ -47,7 +47,9 @@ IsServed (Rmfset fileset) = Unit {0}
 IsServed (Setquota fileset who files blocks) = Unit {0}
 IsServed (Create place uid gid) = IsNewPath place.path
 IsServed (Mkdir place uid gid) = IsNewPath place.path
+IsServed (Read place offset count) = Unit {0}
 IsServed (Link place to) = (1 ≤ length place.path) × IsNewPath to
+IsServed (Links place) = Unit {0}
 IsServed (Unlink place) = 1 ≤ length place.path
 IsServed (Rmdir place) = 1 ≤ length place.path
 IsServed (Rename place to) = (1 ≤ length place.path) × IsNewPath to

@@ -2,3 +2,4 @@ pub mod Coming
 pub mod Ending
 pub mod Naming
 pub mod Leaving
+pub mod Placing

@@ -11,6 +11,8 @@ mod laws;
 mod leaving;
 mod limiting;
 mod linking;
+mod looking;
+mod placing;
 mod removing;
 mod renaming;
 mod serving;

@@ -12,6 +12,7 @@ use crate::beginning::stage_fileset;
 use crate::creating::stage_creation;
 use crate::limiting::stage_limits;
 use crate::linking::stage_link;
+use crate::looking::{stage_links, stage_read};
 use crate::removing::stage_removal;
 use crate::renaming::stage_rename;
 use crate::stop::Stop;
@@ -61,7 +62,15 @@ pub(crate) fn stage(
         Command::Mkdir { place, uid, gid } => {
             return stage_creation(memory, alloc, place, Kind::Directory, *uid, *gid, prefer);
         }
+        Command::Read {
+            place,
+            offset,
+            count,
+        } => {
+            return stage_read(memory, alloc, place, *offset, *count, prefer);
+        }
         Command::Link { place, to } => return stage_link(memory, alloc, place, to, prefer),
+        Command::Links { place } => return stage_links(memory, place, prefer),
         Command::Unlink { place } => {
             return stage_taking(memory, alloc, place, Kind::File, prefer);
         }

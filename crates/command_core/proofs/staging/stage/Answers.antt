@@ -27,3 +27,9 @@ returns-in-Rmdir-clause-ends c = λ all stands. ends_same c.stage_taking-in-Rmdi
 
 pub returns-in-Rename-clause-ends : goal.returns-in-Rename-clause-ends
 returns-in-Rename-clause-ends c = λ all stands. ends_same c.stage_rename.result.0 _ all c.args.command.now _ c.stage_rename.result.1 _ refl c.in-Rename.is refl (c.stage_rename.ensures.ends all stands)
+
+pub returns-in-Read-clause-ends : goal.returns-in-Read-clause-ends
+returns-in-Read-clause-ends c = λ all stands. ends_same c.stage_read.result.0 _ all c.args.command.now _ c.stage_read.result.1 _ refl c.in-Read.is refl (c.stage_read.ensures.ends all stands)
+
+pub returns-in-Links-clause-ends : goal.returns-in-Links-clause-ends
+returns-in-Links-clause-ends c = λ all stands. ends_same c.stage_links.result.0 _ all c.args.command.now _ c.stage_links.result.1 _ refl c.in-Links.is refl (c.stage_links.ensures.ends all stands)

@@ -1,0 +1,148 @@
+-- What a path leads to in a domain's memory that is settled.
+use Rattle.std.proofs.Common.{◌≡◌, ◌∙◌, ◌∷◌, ℕ, true, false, not, Bool, [], Option, None, Some, IsSome, IsSomeAnd, Result, Ok, Err, inl, slice_get, refl, ap, subst}
+use Rattle.std.specs.Option.{option_and_then, option_map, option_map_or}
+use Rattle.domain_base.specs.declared.place.Kind.{Kind}
+use Rattle.domain_base.specs.declared.place.Kind.TheVariants as kind
+use Rattle.domain_base.specs.declared.place.Tag.{Tag}
+use Rattle.bitfile_core.specs.declared.attributes.Attributes.{Attributes}
+use Rattle.bitfile_core.specs.Files.{AreFiles, attributes_of, of_live}
+use Rattle.fileset_model.specs.Apply.{Changes, answer_of, in_fileset, links_of, out_of_sync, read_checks, read_of}
+use Rattle.fileset_model.specs.Filesets.{FilesetMap}
+use Rattle.fileset_model.specs.Paths.{directory_here, first_refusal, is_directory, is_out_of_sync, node_at, paths_to, refuse_if, target_refusal}
+use Rattle.fileset_model.specs.declared.command.Command.{Command}
+use Rattle.fileset_model.specs.declared.command.Command.TheVariants.{Links, Read}
+use Rattle.fileset_model.specs.declared.command.Place.{Place}
+use Rattle.fileset_model.specs.declared.fileset.FilesetSlot.{FilesetSlot}
+use Rattle.fileset_model.specs.declared.fileset.Role.{Role}
+use Rattle.fileset_model.specs.declared.node.Node.{Node}
+use Rattle.fileset_model.specs.declared.reply.Refusal.{Refusal}
+use Rattle.fileset_model.specs.declared.reply.Refusal.TheVariants.{IsDirectory, OutOfSync}
+use Rattle.fileset_model.specs.declared.reply.Reply.{Reply}
+use Rattle.fileset_model.specs.declared.reply.Reply.TheVariants.{Count, Done}
+use Rattle.fileset_table.specs.Table.{Table}
+use Rattle.name_space.specs.Names.{is_directory_kind, number_of}
+use Rattle.staged_pages.specs.Store.{pages_of}
+use Rattle.deferred_delete.proofs.Spread.{none_not, some_same}
+use Rattle.domain_layout.specs.CellRules.{of_original}
+use Rattle.domain_parts.specs.Slots.{places_in, slot_in}
+use Rattle.domain_memory.specs.Staged.{MayBeKept}
+use Rattle.domain_memory.specs.declared.memory.DomainMemory.{DomainMemory}
+use Rattle.name_stages.specs.Looking.{IsLiveIn, IsSame, LeadsTo}
+use Rattle.name_stages.proofs.Same.{still_back, still_staged}
+use Rattle.page_stages.specs.Reading.{IsThereIn}
+use Rattle.page_stages.specs.Stages.{HasFile}
+use Rattle.command_core.specs.Ending.{EndsAs}
+use Rattle.command_core.specs.Placing.{IsLost, IsPlaced, RepliesAs}
+use Rattle.command_core.specs.declared.stop.Stop.{Stop}
+use Rattle.command_core.specs.declared.stop.Stop.TheVariants.{Refused}
+use Rattle.command_core.proofs.Given.{Given}
+use Rattle.command_core.proofs.Means.{accepted, in_this}
+
+pub same_itself : (memory : DomainMemory) → IsSame memory memory
+same_itself memory = record { same = refl; slots = refl; listed = refl }
+
+pub is_placed : (memory : DomainMemory) (number : ℕ) (place : Place) (all : FilesetMap) (g : Given memory number place.fileset all) (tag : Tag) (of : Kind) → LeadsTo place.path g.fileset tag of → IsPlaced memory all place number tag of
+is_placed memory number place all g tag of leads = record {
+  entry = g.entry;
+  fileset = g.fileset;
+  has = g.has;
+  here = g.here;
+  role = g.role;
+  leads = leads;
+}
+
+-- the way there is refused first
+pub is_lost : (memory : DomainMemory) (number : ℕ) (place : Place) (all : FilesetMap) (g : Given memory number place.fileset all) → (refusal : Refusal) → target_refusal g.fileset place.path ≡ Some refusal → IsLost all place (Refused refusal)
+is_lost memory number place all g refusal is = λ more.
+    in_this all place.fileset g.fileset (λ slot. target_refusal slot place.path ∷ more slot) g.here
+    ∙ ap (λ (o : Option Refusal). first_refusal (o ∷ more g.fileset)) is
+
+-- a command that changes nothing ends so
+pub ends_so : (last : DomainMemory) (all : FilesetMap) (command : Command) (r : Result Reply Stop) → MayBeKept last all → Changes all command all → RepliesAs all command r → EndsAs last all command r
+ends_so last all command (Ok reply) kept still is = record { now = all; kept = kept; means = inl (accepted all command reply all is.0 is.1 still) }
+ends_so last all command (Err stop) kept still is = is
+
+-- ---- memory that is as it was
+
+module _ (memory last : DomainMemory) (same : IsSame memory last) where
+  table_is : last.table ≡ memory.table
+  table_is = ap (λ (m : DomainMemory). m.table) same.same
+
+  pub original_is : (number : ℕ) → of_original (slice_get memory.table.slots number) ≡ true → of_original (slice_get last.table.slots number) ≡ true
+  original_is number is = ap (λ (t : Table). of_original (slice_get t.slots number)) table_is ∙ is
+
+  pub live_is : (number : ℕ) (tag : Tag) (of : Kind) → IsLiveIn memory number tag of → IsLiveIn last number tag of
+  live_is number tag of live chains are =
+      live chains
+      (subst (λ items. AreFiles number (places_in (slot_in items number)) (pages_of memory.pages) chains) same.slots
+      (subst (λ (m : DomainMemory). AreFiles number (places_in (slot_in last.slots.items number)) (pages_of m.pages) chains) same.same are))
+
+  pub placed_is : (all : FilesetMap) (place : Place) (number : ℕ) (tag : Tag) (of : Kind) → IsPlaced memory all place number tag of → IsPlaced last all place number tag of
+  placed_is all place number tag of p = record {
+    entry = p.entry;
+    fileset = p.fileset;
+    has = record {
+      staged = still_staged memory last same all p.has.staged;
+      may = still_back memory last same p.has.may;
+      original = ap (λ (t : Table). slice_get t.slots number) table_is ∙ p.has.original;
+      there = p.has.there;
+    };
+    here = p.here;
+    role = p.role;
+    leads = p.leads;
+  }
+
+-- ---- what is asked of a place
+
+told : (o : Option Node) (b : Bool) → option_map is_directory o ≡ Some b → option_map_or is_directory o false ≡ b
+told None b is = absurd (none_not b is)
+told (Some node) b is = some_same (is_directory node) b is
+
+told_not : (o : Option Node) (b : Bool) → option_map is_directory o ≡ Some b → option_map_or (λ node. not (is_directory node)) o false ≡ not b
+told_not None b is = absurd (none_not b is)
+told_not (Some node) b is = ap not (some_same (is_directory node) b is)
+
+module _ (memory : DomainMemory) (all : FilesetMap) (place : Place) (number : ℕ) (tag : Tag) (of : Kind) (p : IsPlaced memory all place number tag of) where
+  pub file_of : HasFile memory number tag place.path all p.entry p.fileset
+  file_of = record { staged = p.has.staged; original = p.has.original; there = p.has.there; at = p.leads.at }
+
+  directory_is : directory_here p.fileset place.path ≡ refuse_if (is_directory_kind of) IsDirectory
+  directory_is = ap (λ b. refuse_if b IsDirectory) (told (node_at p.fileset.tree place.path) (is_directory_kind of) p.leads.kind)
+
+  in_step : out_of_sync p.fileset place.path ≡ None
+  in_step =
+      ap (λ (o : Option ℕ). refuse_if (option_map_or (is_out_of_sync p.fileset.role) o false) OutOfSync) p.leads.at
+      ∙ ap (λ (r : Role). refuse_if (is_out_of_sync r (number_of tag)) OutOfSync) p.role
+
+  pub read_refusal : in_fileset all place.fileset (read_checks place.path) ≡ first_refusal (refuse_if (is_directory_kind of) IsDirectory ∷ [])
+  read_refusal =
+      in_this all place.fileset p.fileset (read_checks place.path) p.here
+      ∙ (λ i. first_refusal (p.leads.allowed i ∷ directory_is i ∷ in_step i ∷ []))
+      ∙ by_kind of
+    where
+      by_kind : (k : Kind) → first_refusal (None ∷ refuse_if (is_directory_kind k) IsDirectory ∷ None ∷ []) ≡ first_refusal (refuse_if (is_directory_kind k) IsDirectory ∷ [])
+      by_kind kind.File = refl
+      by_kind kind.Directory = refl
+
+  -- and what is answered
+  pub links_answer : answer_of all (Links place) ≡ Count (paths_to p.fileset.tree (number_of tag))
+  links_answer =
+      ap (λ (o : Option FilesetSlot). option_map_or (λ (s : FilesetSlot). links_of place.path s.tree) o Done) p.here
+      ∙ ap (λ (o : Option ℕ). option_map_or (λ n. Count (paths_to p.fileset.tree n)) o Done) p.leads.at
+
+  pub read_answer : (offset count : ℕ) (reply : Reply) → IsSomeAnd (node_at p.fileset.tree place.path) (λ node. read_of offset count node ≡ reply) → answer_of all (Read place offset count) ≡ reply
+  read_answer offset count reply is =
+      ap (λ (o : Option FilesetSlot). option_map_or (λ (s : FilesetSlot). option_map_or (read_of offset count) (node_at s.tree place.path) Done) o Done) p.here
+      ∙ by_node (node_at p.fileset.tree place.path) is
+    where
+      by_node : (o : Option Node) → IsSomeAnd o (λ node. read_of offset count node ≡ reply) → option_map_or (read_of offset count) o Done ≡ reply
+      by_node None none = absurd none
+      by_node (Some node) read = read
+
+-- a tag names something there
+pub there_in : (memory : DomainMemory) (number : ℕ) (tag : Tag) (of : Kind) → IsLiveIn memory number tag of → IsThereIn memory number tag
+there_in memory number tag of live = λ chains are. by_option (option_and_then (of_live attributes_of) (chains tag)) (live chains are)
+  where
+    by_option : (o : Option Attributes) → IsSomeAnd o (λ is. is.kind ≡ of) → IsSome o
+    by_option None none = absurd none
+    by_option (Some what) some = refl

@@ -1,0 +1,41 @@
+-- Commands that look at what a path leads to, and change nothing.
+use Rattle.std.specs.Prelude.{◌≡◌, ◌∷◌, ℕ, List, None, Option, Result, Ok, Err, Some}
+use Rattle.std.specs.FinMap.{get}
+use Rattle.domain_base.specs.declared.place.Kind.{Kind}
+use Rattle.domain_base.specs.declared.place.Tag.{Tag}
+use Rattle.fileset_model.specs.Apply.{answer_of, in_fileset, refusal_of}
+use Rattle.fileset_model.specs.Filesets.{FilesetMap}
+use Rattle.fileset_model.specs.Paths.{target_refusal}
+use Rattle.fileset_model.specs.declared.command.Command.{Command}
+use Rattle.fileset_model.specs.declared.command.Place.{Place}
+use Rattle.fileset_model.specs.declared.fileset.FilesetSlot.{FilesetSlot}
+use Rattle.fileset_model.specs.declared.fileset.Role.TheVariants.{Original}
+use Rattle.fileset_model.specs.declared.reply.Refusal.{Refusal}
+use Rattle.fileset_model.specs.declared.reply.Reply.{Reply}
+use Rattle.fileset_table.specs.declared.slot.FilesetEntry.{FilesetEntry}
+use Rattle.domain_memory.specs.declared.memory.DomainMemory.{DomainMemory}
+use Rattle.name_stages.specs.Looking.{LeadsTo}
+use Rattle.name_stages.specs.Stages.{HasFileset}
+use Rattle.command_core.specs.Ending.{StopsAs, StopsWith}
+use Rattle.command_core.specs.declared.stop.Stop.{Stop}
+
+-- the fileset of a place is an original, and the path leads to what a tag names in this slot
+pub record IsPlaced (memory : DomainMemory) (all : FilesetMap) (place : Place) (number : ℕ)
+    (tag : Tag) (of : Kind) : Type 0 where
+  pub entry : FilesetEntry
+  pub fileset : FilesetSlot
+  pub has : HasFileset memory number all entry fileset
+  pub here : get all place.fileset ≡ Some fileset
+  pub role : fileset.role ≡ Original
+  pub leads : LeadsTo place.path fileset tag of
+
+-- no path leads there, whatever is asked behind that
+abbrev pub IsLost : FilesetMap → Place → Stop → Type 0
+IsLost all place stop = (more : FilesetSlot → List (Option Refusal)) → StopsWith
+    (in_fileset all place.fileset (λ slot. target_refusal slot place.path ∷ more slot)) stop
+
+-- a command is not refused, and has this answer; or stops
+abbrev pub RepliesAs : FilesetMap → Command → Result Reply Stop → Type 0
+RepliesAs all command (Ok reply) =
+    (refusal_of all command ≡ None) × (reply ≡ answer_of all command)
+RepliesAs all command (Err stop) = StopsAs all command stop
