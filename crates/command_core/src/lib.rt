@@ -13,6 +13,7 @@ mod limiting;
 mod linking;
 mod looking;
 mod placing;
+mod releasing;
 mod removing;
 mod renaming;
 mod serving;
@@ -25,4 +26,5 @@ pub use laws::{
     what_a_client_is_answered_may_be_committed, what_beginnings_mean, what_is_said_of_filesets,
     what_limits_mean, what_removals_mean,
 };
+pub use releasing::{drain, release};
 pub use serving::is_served;

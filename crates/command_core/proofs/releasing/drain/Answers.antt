@@ -1,0 +1,20 @@
+use Rattle.std.proofs.Common.{sym, subst}
+use Rattle.std.proofs.Math.Logic.{∥∥₁_map}
+use Rattle.domain_memory.specs.Memory.{StandsFor}
+use Rattle.domain_memory.specs.declared.memory.DomainMemory.{DomainMemory}
+use Rattle.command_core.proofs.releasing.drain.Goals as goal
+
+pub drain-drained-requires-clause-stands : goal.drain-drained-requires-clause-stands
+drain-drained-requires-clause-stands g c = ∥∥₁_map c.apart-memory.ensures.stands (λ goes. (goes.all, goes.stands))
+
+pub together-requires-clause-stands : goal.together-requires-clause-stands
+together-requires-clause-stands g c = ∥∥₁_map c.apart-memory.ensures.stands (λ goes. record {
+  all = goes.all;
+  stands = c.drain-drained.ensures.stands goes.all goes.stands;
+  leads = goes.leads;
+})
+
+pub returns-clause-stands : goal.returns-clause-stands
+returns-clause-stands g c = λ all stood.
+    subst (λ (m : DomainMemory). StandsFor m all) (sym c.together.ensures.memory)
+    (c.drain-drained.ensures.stands all (subst (λ (m : DomainMemory). StandsFor m all) (sym c.apart-memory.ensures.memory) stood))
