@@ -1,15 +1,19 @@
 //! What calls on the files of a fileset are given.
+ghost use Rattle.std.specs.Prelude.{◌≡◌};
 ghost use Rattle.chosen_files.specs.Chosen.{AreSettingsOf};
 
 use bitfile_store::CallSettings;
 use domain_base::VolIx;
 use domain_memory::DomainMemory;
 
-/// What calls on files of a domain are given: its version, how many clones were made, and the volume
-/// of which cells and pages are taken first. Pages that are given back wait for the first group of a
-/// log.
+/// What calls on files of a domain are given: its version, how many clones were made, and the
+/// volume of which cells and pages are taken first. Pages that are given back wait for the first
+/// group of a log.
 pub fn settings_of(memory: &DomainMemory, prefer: VolIx) -> CallSettings
-    ensures { AreSettingsOf memory.now result }
+    ensures settings { AreSettingsOf memory.now result }
+    ensures prefer { result.prefer ≡ prefer }
+    ensures born { result.born ≡ memory.now.table.made }
+    ensures group { result.group ≡ 0 }
 {
     CallSettings {
         version: memory.frame.version,
