@@ -17,7 +17,7 @@ abbrev pub with_written : List ℕ → ℕ → List ℕ → Node → Node
 with_written numbers offset bytes node =
     with_each (map (λ q. (q, page_after (pages_in node) offset bytes q)) numbers) node
 
--- a file of that size with zeros behind its end in the page in which it ends, if it has that
+-- a file with zeros from that byte on in the page in which that byte lies, if it has that
 abbrev pub cleared_behind : ℕ → Node → Node
 cleared_behind size node =
     let page = size / PAGE_BYTES in

@@ -1,5 +1,5 @@
 //! Files that are truncated, and files whose data is logged from now on or not.
-ghost use Rattle.std.specs.Prelude.{◌%◌, ◌-◌, ◌/◌, ◌≡◌, ◌≤◌, IfOk, OnOk, slice_get, true};
+ghost use Rattle.std.specs.Prelude.{◌%◌, ◌-◌, ◌/◌, ◌≡◌, ◌≤◌, IfOk, OnErr, OnOk, slice_get, true};
 ghost use Rattle.domain_base.specs.declared.limits.TheConstants.{FILE_BYTES};
 ghost use Rattle.fileset_model.specs.Apply.{flagged_node, truncated_node};
 ghost use Rattle.fileset_model.specs.Filesets.{FilesetMap};
@@ -24,8 +24,7 @@ use domain_base::{FilesetNo, OutOfMemory, Page, Tag};
 use domain_memory::DomainMemory;
 use std::alloc::Global;
 
-/// Another page with the bytes of the one in which a file of that size ends, and zeros behind its
-/// end.
+/// Another page with the bytes of the one in which that byte of a file lies, and zeros from it on.
 fn cleared(page: &Page, alloc: Global, size: u64) -> Result<Page, OutOfMemory>
     ensures { IfOk result (λ after. after ≡ zeros_behind size (size / PAGE_BYTES) page.now) }
 {
@@ -36,7 +35,8 @@ fn cleared(page: &Page, alloc: Global, size: u64) -> Result<Page, OutOfMemory>
     Ok(after)
 }
 
-/// Puts zeros behind the end of a file of that size into the page in which it ends, if it has that.
+/// Puts zeros into a file from that byte on, as far as the page reaches in which it lies, if the
+/// file has that page.
 fn clear_rest(
     memory: &mut DomainMemory,
     alloc: Global,
@@ -121,6 +121,7 @@ pub fn flag_file(
     ensures back { ∥ MayGoBack memory.new ∥₁ }
     ensures table { memory.new.table ≡ memory.old.table }
     ensures counted { staged_books memory.new ≡ staged_books memory.old }
+    ensures err { OnErr result (staged_in memory.new ≡ staged_in memory.old) }
 {
     let what = describe(memory, number, tag);
     set_size(memory, alloc, number, tag, what.size, is_logged)

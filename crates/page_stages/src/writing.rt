@@ -1,5 +1,5 @@
 //! Bytes that are written to a file.
-ghost use Rattle.std.specs.Prelude.{◌*◌, ◌+◌, ◌-◌, ◌/◌, ◌<◌, ◌^◌, ◌≡◌, ◌≤◌, IfOk, IfSome, OnOk, length, slice_get, true, unwrap_or};
+ghost use Rattle.std.specs.Prelude.{◌*◌, ◌+◌, ◌-◌, ◌/◌, ◌<◌, ◌^◌, ◌≡◌, ◌≤◌, IfNone, IfOk, IfSome, OnOk, length, slice_get, true, unwrap_or};
 ghost use Rattle.std.specs.FinMap.{get};
 ghost use Rattle.domain_base.specs.Page.{zero_bytes};
 ghost use Rattle.domain_base.specs.declared.limits.TheConstants.{FILE_BYTES};
@@ -49,6 +49,7 @@ pub fn absent_pages(
     ensures count { (path : Path) (all : FilesetMap) (entry : FilesetEntry) (fileset : FilesetSlot)
         → HasFile memory.now number tag path all entry fileset
         → IfSome result (λ count. count ≡ absent_of (pages_at fileset.tree path) offset len) }
+    ensures closed { IfNone result (¬ AreOpen memory.now number tag offset len) }
 {
     if len == 0 {
         return Some(0);

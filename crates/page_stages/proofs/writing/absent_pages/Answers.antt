@@ -3,9 +3,11 @@ use Rattle.std.proofs.lemmas.Bool.{cases_eq}
 use Rattle.std.specs.FinMap.{contains_key}
 use Rattle.std.specs.List.{range_with_len}
 use Rattle.page_stages.specs.Looking.{IsAtPage}
+use Rattle.page_stages.specs.declared.looking.FilePage.TheVariants.{Closed, NoFile}
 use Rattle.page_stages.specs.Reading.{IsOpen, pages_at}
-use Rattle.page_stages.proofs.Laid.{pages_are, pages_within}
-use Rattle.page_stages.proofs.Opened.{open_lacking, open_there}
+use Rattle.page_stages.proofs.Asks.{some_files}
+use Rattle.page_stages.proofs.Laid.{pages_are, pages_have, pages_within}
+use Rattle.page_stages.proofs.Opened.{open_lacking, open_not_closed, open_there}
 use Rattle.page_stages.proofs.Paged.{absent_lacking, absent_there}
 use Rattle.page_stages.proofs.writing.absent_pages.Goals.{in-There, in-Lacking}
 use Rattle.page_stages.proofs.writing.absent_pages.Goals as goal
@@ -52,3 +54,16 @@ returns-clause-count c = λ path all entry fileset has.
     c.loop-page.invariant.counted path all entry fileset has
     ∙ ap (λ n. count_by (λ q. not (contains_key (pages_at fileset.tree path) q)) (range_with_len first n)) whole
     ∙ sym (ap (count_by (λ q. not (contains_key (pages_at fileset.tree path) q))) (pages_are c.args.offset c.args.len (omega arith)))
+
+pub returns-in-Closed-clause-closed : goal.returns-in-Closed-clause-closed
+returns-in-Closed-clause-closed c = λ are.
+    let memory = c.args.memory.now in
+    let number = c.args.number in
+    let tag = c.args.tag in
+    let page = c.loop-page.page in
+    let f = some_files memory number c.requires.stands c.requires.back c.requires.original in
+    let is_open = are page (pages_have c.args.offset c.args.len page (omega arith) c.loop-page.auto.page c.loop-page-test.true) f.0 f.1 in
+    ⊎_elim
+    (λ closed. let is : IsAtPage memory number tag page Closed = subst (IsAtPage memory number tag page) closed c.look_at_page.ensures in open_not_closed tag page f.0 is_open (is.1 f.0 f.1))
+    (λ none. let is : IsAtPage memory number tag page NoFile = subst (IsAtPage memory number tag page) none c.look_at_page.ensures in is f.0 f.1 (c.requires.file f.0 f.1))
+    c.in-Closed.is
