@@ -1,5 +1,5 @@
 -- Memory whose list has more room than it had, with lent files back in it.
-use Rattle.std.proofs.Common.{◌≡◌, ◌∙◌, ◌≤◌, ◌⊎◌, ℕ, true, Result, Ok, Err, IfOk, IfErr, IsOk, OnErr, OnOk, length, refl, sym, ap, subst, ⊎_elim, arith, true≢false}
+use Rattle.std.proofs.Common.{◌≡◌, ◌≢◌, ◌∙◌, ◌≤◌, ◌⊎◌, ℕ, true, Result, Ok, Err, IfOk, IfErr, IsOk, OnErr, OnOk, length, refl, sym, ap, subst, ⊎_elim, arith, true≢false}
 use Rattle.std.proofs.Math.Logic.{∥∥₁_map}
 use Rattle.bitfile_store.specs.declared.parts.CallSettings.{CallSettings}
 use Rattle.deferred_delete.specs.Listing.{Listing}
@@ -10,7 +10,7 @@ use Rattle.fileset_model.specs.declared.fileset.FilesetSlot.{FilesetSlot}
 use Rattle.fileset_table.specs.declared.slot.FilesetEntry.{FilesetEntry}
 use Rattle.name_space.specs.Changes.{IsOriginal}
 use Rattle.name_space.specs.declared.fault.NameFault.{NameFault}
-use Rattle.name_space.specs.declared.fault.NameFault.TheVariants.{OutOfMemory}
+use Rattle.name_space.specs.declared.fault.NameFault.TheVariants.{NoPage, OutOfMemory}
 use Rattle.quota_book.specs.Sums.{IsBookOf}
 use Rattle.quota_book.specs.Book.{Book}
 use Rattle.domain_layout.specs.CellRules.{of_original}
@@ -43,6 +43,12 @@ ok_still P (Err e) answer room same is = tt
 pub err_still : {A : Type 0} (P : NameFault → Type 0) (r answer : Result A NameFault) → OnErr r ((r ≡ answer) ⊎ (r ≡ Err OutOfMemory)) → P OutOfMemory → IfErr answer P → IfErr r P
 err_still P (Ok a) answer same short is = tt
 err_still P (Err e) answer same short is = ⊎_elim (λ same. subst (λ x. IfErr x P) (sym same) is) (λ none. subst (λ x. IfErr x P) (sym none) short) same
+
+pub pages_still : {A : Type 0} (r answer : Result A NameFault) → OnErr r ((r ≡ answer) ⊎ (r ≡ Err OutOfMemory)) → IfErr answer (λ fault. fault ≢ NoPage) → IfErr r (λ fault. fault ≢ NoPage)
+pages_still r answer same is = err_still (λ fault. fault ≢ NoPage) r answer same short is
+  where
+    short : OutOfMemory ≡ NoPage → ⊥
+    short e = cc
 
 pub has_room : {A E B F : Type 0} (Q : Type 0) (r answer : Result A E) (room : Result B F) → OnOk r ((r ≡ answer) × IsOk room) → OnOk room Q → OnOk r Q
 has_room Q (Ok a) answer (Ok b) same is = is

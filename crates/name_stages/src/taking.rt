@@ -1,5 +1,5 @@
 //! A path that is taken away (unlink, rmdir).
-ghost use Rattle.std.specs.Prelude.{◌≡◌, ◌≤◌, false, true, IfErr, IfOk, OnOk, length, slice_get};
+ghost use Rattle.std.specs.Prelude.{◌≡◌, ◌≢◌, ◌≤◌, false, true, IfErr, IfOk, OnOk, length, slice_get};
 ghost use Rattle.domain_layout.specs.CellRules.{of_original};
 ghost use Rattle.domain_memory.specs.Kept.{KeepsKept};
 ghost use Rattle.domain_memory.specs.Staged.{IsStagedForSome, MayGoBack, staged_books};
@@ -9,6 +9,7 @@ ghost use Rattle.fileset_model.specs.declared.fileset.FilesetSlot.{FilesetSlot};
 ghost use Rattle.fileset_table.specs.declared.slot.FilesetEntry.{FilesetEntry};
 ghost use Rattle.chosen_files.specs.Chosen.{AreSettingsOf};
 ghost use Rattle.name_space.specs.Changes.{rmdir_checks, unlink_checks};
+ghost use Rattle.name_space.specs.declared.fault.NameFault.TheVariants.{NoPage as IsNoPage};
 ghost use Rattle.name_stages.specs.Stages.{HasFileset, IsRefused, KeepsBooks, KeepsParents, Removes};
 
 use crate::room::{hand_back, if_room};
@@ -20,8 +21,8 @@ use fileset_model::Path;
 use name_space::{NameFault, Unlinked, rmdir_at, unlink_at};
 use std::alloc::Global;
 
-/// Takes a path of a file away, and the file with its last one. After an Err the change may be half
-/// made: it is to be taken back.
+/// Takes a path of a file away, and the file with its last one. No page is wanted, but there may be
+/// no memory. After an Err the change may be half made: it is to be taken back.
 pub fn unlink(
     memory: DomainMemory,
     alloc: Global,
@@ -41,6 +42,7 @@ pub fn unlink(
     ensures err { (all : FilesetMap) (entry : FilesetEntry) (fileset : FilesetSlot)
         → HasFileset memory number all entry fileset
         → IfErr result.1 (IsRefused (unlink_checks path.now) fileset) }
+    ensures pages { IfErr result.1 (λ fault. fault ≢ IsNoPage) }
     ensures parents { OnOk result.1 (KeepsParents memory result.0) }
     ensures books { (all : FilesetMap) (entry : FilesetEntry) (fileset : FilesetSlot)
         → HasFileset memory number all entry fileset
@@ -57,8 +59,8 @@ pub fn unlink(
     (memory, if_room(answer, room))
 }
 
-/// Removes a directory without rows. After an Err the change may be half made: it is to be taken
-/// back.
+/// Removes a directory without rows. No page is wanted, but there may be no memory. After an Err
+/// the change may be half made: it is to be taken back.
 pub fn remove_directory(
     memory: DomainMemory,
     alloc: Global,
@@ -78,6 +80,7 @@ pub fn remove_directory(
     ensures err { (all : FilesetMap) (entry : FilesetEntry) (fileset : FilesetSlot)
         → HasFileset memory number all entry fileset
         → IfErr result.1 (IsRefused (rmdir_checks path.now) fileset) }
+    ensures pages { IfErr result.1 (λ fault. fault ≢ IsNoPage) }
     ensures parents { OnOk result.1 (KeepsParents memory result.0) }
     ensures table { result.0.table ≡ memory.table }
     ensures counted { staged_books result.0 ≡ staged_books memory }

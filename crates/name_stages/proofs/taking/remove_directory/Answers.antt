@@ -7,7 +7,7 @@ use Rattle.chosen_files.proofs.Stood.{left_stand}
 use Rattle.fileset_model.specs.Apply.{without}
 use Rattle.name_stages.proofs.Parents.{on_ok_by}
 use Rattle.name_stages.proofs.Calls.{err_by, has_names, is_refused, names_were, ok_by}
-use Rattle.name_stages.proofs.Roomy.{err_still, has_room, ok_still, room_back, room_kept, room_parents, room_stands, with_both}
+use Rattle.name_stages.proofs.Roomy.{err_still, has_room, ok_still, pages_still, room_back, room_kept, room_parents, room_stands, with_both}
 use Rattle.name_stages.proofs.Left.{books_left, table_left}
 use Rattle.name_stages.proofs.taking.remove_directory.Goals as goal
 
@@ -29,6 +29,9 @@ pub returns-clause-err : goal.returns-clause-err
 returns-clause-err c = λ all entry fileset has.
     let was = names_were c.args.memory c.args.number c.args.settings c.choose-chosen.result c.choose-chosen.ensures c.requires.stands c.requires.back c.requires.original all entry fileset has in
     err_still _ c.if_room.result c.rmdir_at-answer.result c.if_room.ensures.err tt (err_by _ _ c.rmdir_at-answer.result c.rmdir_at-answer.ensures.err (λ fault is. is_refused (rmdir_checks c.args.path.now) _ _ _ _ fileset was fault is))
+
+pub returns-clause-pages : goal.returns-clause-pages
+returns-clause-pages c = pages_still c.if_room.result c.rmdir_at-answer.result c.if_room.ensures.err (c.rmdir_at-answer.ensures.in_place tt)
 
 pub returns-clause-kept : goal.returns-clause-kept
 returns-clause-kept c =
