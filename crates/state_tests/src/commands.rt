@@ -59,6 +59,72 @@ static QUOTAS: [Row; 16] = [
     ("create home:/h 30 31", "E11 quota-files limit=6 used=6"),
 ];
 
+static MOVES: [Row; 43] = [
+    ("mkfset home", "ok"),
+    ("create home:/a 10 20", "ok"),
+    ("link home:/a /b", "ok"),
+    ("links home:/a", "ok 2"),
+    ("unlink home:/a", "ok"),
+    ("links home:/a", "E3 no-path"),
+    ("links home:/b", "ok 1"),
+    ("read home:/b 0 3", "ok -"),
+    ("read home:/b 7 3", "ok -"),
+    ("read home:/c 0 3", "E3 no-path"),
+    ("unlink home:/c", "E3 no-path"),
+    ("mkdir home:/d 10 20", "ok"),
+    ("read home:/d 0 3", "E6 is-directory"),
+    ("links home:/d", "E6 is-directory"),
+    ("unlink home:/d", "E6 is-directory"),
+    ("rmdir home:/b", "E5 not-directory"),
+    ("rmdir home:/c", "E3 no-path"),
+    ("create home:/d/e 11 21", "ok"),
+    ("rmdir home:/d", "E7 not-empty"),
+    ("rename home:/d /d/f", "E13 into-itself"),
+    ("rename home:/d /g", "ok"),
+    ("links home:/g/e", "ok 1"),
+    ("links home:/d/e", "E3 no-path"),
+    ("rename home:/g/e /b", "ok"),
+    ("links home:/b", "ok 1"),
+    ("links home:/g/e", "E3 no-path"),
+    ("rmdir home:/g", "ok"),
+    ("mkdir home:/h 10 20", "ok"),
+    ("rename home:/b /h", "E6 is-directory"),
+    ("rename home:/h /b", "E5 not-directory"),
+    ("rename home:/h /h", "ok"),
+    ("rename home:/x /y", "E3 no-path"),
+    ("mkdir home:/i 1 2", "ok"),
+    ("create home:/i/j 1 2", "ok"),
+    ("rename home:/h /i", "E7 not-empty"),
+    ("rename home:/i /h", "ok"),
+    ("links home:/h/j", "ok 1"),
+    ("rmdir home:/i", "E3 no-path"),
+    ("unlink home:/h/j", "ok"),
+    ("rmdir home:/h", "ok"),
+    ("rmdir home:/h", "E3 no-path"),
+    ("unlink home:/b", "ok"),
+    ("unlink home:/b", "E3 no-path"),
+];
+
+static SHARES: [Row; 17] = [
+    ("mkfset home", "ok"),
+    ("setquota home user 10 2 0", "ok"),
+    ("create home:/a 10 20", "ok"),
+    ("create home:/b 10 20", "ok"),
+    ("create home:/c 10 20", "E11 quota-files limit=2 used=2"),
+    ("link home:/a /c", "ok"),
+    ("unlink home:/a", "ok"),
+    ("create home:/d 10 20", "E11 quota-files limit=2 used=2"),
+    ("unlink home:/c", "ok"),
+    ("create home:/d 10 20", "ok"),
+    ("create home:/e 11 20", "ok"),
+    ("rename home:/e /d", "ok"),
+    ("mkdir home:/f 10 20", "ok"),
+    ("create home:/g 10 20", "E11 quota-files limit=2 used=2"),
+    ("rmdir home:/f", "ok"),
+    ("create home:/g 10 20", "ok"),
+    ("create home:/h 10 20", "E11 quota-files limit=2 used=2"),
+];
+
 #[test]
 fn files_and_directories_are_made_and_linked(rt: HostRuntime) -> Result<(), Fail> {
     let alloc = rt.alloc();
@@ -72,5 +138,21 @@ fn quotas_refuse_files_of_owners(rt: HostRuntime) -> Result<(), Fail> {
     let alloc = rt.alloc();
     let found = made_and_told(alloc, &QUOTAS)?;
     assert_eq!(rt; found.as_slice(), wanted(alloc, &QUOTAS)?.as_slice());
+    Ok(())
+}
+
+#[test]
+fn files_and_directories_are_moved_and_taken_away(rt: HostRuntime) -> Result<(), Fail> {
+    let alloc = rt.alloc();
+    let found = made_and_told(alloc, &MOVES)?;
+    assert_eq!(rt; found.as_slice(), wanted(alloc, &MOVES)?.as_slice());
+    Ok(())
+}
+
+#[test]
+fn what_is_taken_away_counts_for_its_owner_no_more(rt: HostRuntime) -> Result<(), Fail> {
+    let alloc = rt.alloc();
+    let found = made_and_told(alloc, &SHARES)?;
+    assert_eq!(rt; found.as_slice(), wanted(alloc, &SHARES)?.as_slice());
     Ok(())
 }
