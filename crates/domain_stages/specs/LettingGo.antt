@@ -6,6 +6,8 @@ use Rattle.bmt_mcells.specs.Cell.{Cell, record_of}
 use Rattle.bmt_mcells.specs.Chain.{StandsAt}
 use Rattle.free_space.specs.Spaces.{Spaces, volume_of}
 use Rattle.deferred_delete.specs.Listing.{IsEmpty}
+use Rattle.deferred_delete.specs.Standing.{Files}
+use Rattle.deferred_delete.specs.Steps.{IsWell, LetsGo, Now, now_of}
 use Rattle.deferred_delete.specs.declared.list.Entry.{Entry}
 use Rattle.staged_pages.specs.Store.{pages_of}
 use Rattle.fileset_model.specs.Filesets.{FilesetMap}
@@ -33,6 +35,18 @@ pub record MayLetGo (memory : DomainMemory) : Type 0 where
   pub some : ¬ IsEmpty memory.list.list
   pub tag_pages : memory.list.list.tag_pages ≡ []
   pub plain : HavePlain memory memory.list.list.entries
+
+-- a domain's list, with its files, free space, free cells and pages
+abbrev pub list_in : DomainMemory → Files → Now
+list_in memory files =
+    now_of memory.list.list files memory.space memory.cells (pages_of memory.pages)
+
+-- so many things of the list were let go of, one after the other, and no other, whatever files they
+-- are with which all was well
+abbrev pub LetsListGo : ℕ → ℕ → DomainMemory → DomainMemory → Type 0
+LetsListGo group count old new = (files : Files) → IsWell (list_in old files)
+    → LetsGo group old.frame.version (list_in old files) count new.list.list new.space new.cells
+    (pages_of new.pages)
 
 -- the domain stands for some filesets
 abbrev pub StandsForAny : DomainMemory → Type 0

@@ -4,13 +4,15 @@ ghost use Rattle.std.specs.Option.{option_map_or};
 ghost use Rattle.fileset_model.specs.Filesets.{FilesetMap};
 ghost use Rattle.bmt_mcells.specs.Cell.{Cell};
 ghost use Rattle.bmt_mcells.specs.Chain.{StandsAt};
+ghost use Rattle.bitfile_cells.specs.MapChanges.{ChangesAtMost};
 ghost use Rattle.bitfile_core.specs.Files.{says_remove};
 ghost use Rattle.deferred_delete.specs.declared.list.Entry.{Entry as EntryOf};
 ghost use Rattle.domain_layout.specs.CellRules.{says_directory};
 ghost use Rattle.domain_memory.specs.Kept.{KeepsKept};
 ghost use Rattle.domain_memory.specs.Memory.{StandsFor};
 ghost use Rattle.domain_memory.specs.Staged.{IsSettled, MayBeKept, MayGoBack};
-ghost use Rattle.domain_stages.specs.LettingGo.{MayLetGo, StandsForAny, are_plain};
+ghost use Rattle.domain_stages.specs.LettingGo.{LetsListGo, MayLetGo, StandsForAny, are_plain};
+ghost use Rattle.staged_pages.specs.Store.{pages_of};
 
 use bmt_mcells::find_record;
 use deferred_delete::Entry;
@@ -85,11 +87,11 @@ pub fn may_let_go(memory: &DomainMemory) -> bool
         && are_all_plain(&memory.pages, entries)
 }
 
-/// Lets go of things on a domain's list, sixteen at most, with which at most so many pages of
-/// metadata change, five or more, beside those of bitmaps; what no file has any more waits for the
-/// group. It answers how many, 0 exactly where nothing may be let go of. The filesets stay what
-/// they are. No change may be laid over the domain before, and this one is to be kept: the list is
-/// not taken back. There may only be no memory, and then all is as it was.
+/// Lets go of things on a domain's list, one after the other, sixteen at most, with which at most
+/// so many pages of metadata change, five or more; the bits of bitmaps stay for now. What no file
+/// has any more waits for the group. It answers how many, 0 exactly where nothing may be let go of.
+/// The filesets stay what they are. No change may be laid over the domain before, and this one is
+/// to be kept: the list is not taken back. There may only be no memory, and then all is as it was.
 pub fn let_go(
     memory: &mut DomainMemory,
     alloc: Global,
@@ -102,7 +104,11 @@ pub fn let_go(
     requires back { ∥ MayGoBack memory.old ∥₁ }
     ensures ok { (all : FilesetMap) → StandsFor memory.old all
         → OnOk result (MayBeKept memory.new all) }
+    ensures goes { IfOk result (λ count. LetsListGo group count memory.old memory.new) }
     ensures some { IfOk result (λ count. (count ≡ 0) ↔ ¬ MayLetGo memory.old) }
+    ensures most { IfOk result (λ count. count ≤ 16) }
+    ensures few { OnOk result (ChangesAtMost most (pages_of memory.old.pages)
+        (pages_of memory.new.pages)) }
     ensures kept { OnErr result (KeepsKept memory.old memory.new) }
     ensures settled { OnErr result (IsSettled memory.new) }
     ensures back { ∥ MayGoBack memory.new ∥₁ }
@@ -111,6 +117,7 @@ pub fn let_go(
     if !may_let_go(memory) {
         return Ok(0);
     }
+    // no rule of a domain's memory says that the cell at which the last call stopped stands still
     memory.list.start_over();
     match memory.list.release_some(
         alloc,

@@ -1,5 +1,5 @@
 //! Things on a domain's list that are let go of and kept so, and pages that come free.
-ghost use Rattle.std.specs.Prelude.{◌≡◌, ◌↔◌, true, IfOk, sum_by};
+ghost use Rattle.std.specs.Prelude.{◌≡◌, ◌≤◌, ◌↔◌, true, IfOk, sum_by};
 ghost use Rattle.fileset_model.specs.Filesets.{FilesetMap};
 ghost use Rattle.free_space.specs.Spaces.{free_pages};
 ghost use Rattle.deferred_delete.specs.Listing.{IsEmpty};
@@ -15,18 +15,20 @@ use std::alloc::Global;
 /// The group of a log for which pages wait that no file has any more: no log has a group yet.
 const GROUP: u64 = 0;
 
-/// How many pages of metadata change at most in one release, beside those of bitmaps.
+/// How many pages of metadata change at most in what one release lets go of, bitmaps not counted.
 const MOST_PAGES: u32 = 32;
 
-/// Lets go of some of the things on a domain's list, and keeps that: the domain stands for the same
-/// filesets. It answers how many, 0 exactly where nothing may be let go of. There may only be no
-/// memory, and then nothing was let go of.
+/// Lets go of some of the things on a domain's list, sixteen at most, and keeps that: the domain
+/// stands for the same filesets. It answers how many, 0 exactly where nothing may be let go of; no
+/// clause says what is on the list once that is kept. There may only be no memory, and then too the
+/// domain stands for them.
 pub fn release(memory: &mut DomainMemory, alloc: Global) -> Result<u32, OutOfMemory>
     requires settled { IsSettled memory.old }
     requires stands { ∥ StandsForAny memory.old ∥₁ }
     requires back { ∥ MayGoBack memory.old ∥₁ }
     ensures stands { (all : FilesetMap) → StandsFor memory.old all → StandsFor memory.new all }
     ensures some { IfOk result (λ count. (count ≡ 0) ↔ ¬ MayLetGo memory.old) }
+    ensures most { IfOk result (λ count. count ≤ 16) }
     ensures settled { IsSettled memory.new }
     ensures back { ∥ MayGoBack memory.new ∥₁ }
     ensures frame { memory.new.frame ≡ memory.old.frame }
@@ -57,10 +59,10 @@ pub struct Drained {
     pub is_done: bool,
 }
 
-/// Lets go of what is on a domain's list, one release after the other, each of which is kept, until
-/// nothing more may be let go of, after 2^64 - 1 releases at the latest; and frees all pages that
-/// wait then. The domain stands for the same filesets, after an error too, where memory was short
-/// for a release.
+/// Lets go of what is on a domain's list, one release after the other, and frees all pages that
+/// wait then. How far it goes no clause says, but that `is_done` tells whether nothing is on the
+/// list any more. The domain stands for the same filesets, after an error too, where memory was
+/// short for a release.
 pub fn drain(memory: &mut DomainMemory, alloc: Global) -> Result<Drained, OutOfMemory>
     requires settled { IsSettled memory.old }
     requires stands { ∥ StandsForAny memory.old ∥₁ }

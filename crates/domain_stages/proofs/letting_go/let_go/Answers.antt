@@ -1,8 +1,9 @@
-use Rattle.std.proofs.Common.{refl, sym, subst}
+use Rattle.std.proofs.Common.{inl, refl, sym, subst}
 use Rattle.std.proofs.lemmas.Bool.{MatchBool-at_true}
+use Rattle.bitfile_cells.proofs.FewPages.{none_changes}
 use Rattle.deferred_delete.specs.Listing.{Listing}
 use Rattle.deferred_delete.specs.Standing.{Files}
-use Rattle.deferred_delete.specs.Steps.{IsWell, LacksRoom, LetsGo, now_of}
+use Rattle.deferred_delete.specs.Steps.{IsWell, LacksRoom, LetsGo, none, now_of}
 use Rattle.staged_pages.specs.Store.{pages_of}
 use Rattle.domain_memory.specs.declared.memory.DomainMemory.{DomainMemory}
 use Rattle.domain_memory.proofs.SettledKept.{settled_kept}
@@ -13,6 +14,16 @@ use Rattle.domain_stages.proofs.letting_go.let_go.Goals as goal
 
 pub returns-then-not-may_let_go-clause-ok : goal.returns-then-not-may_let_go-clause-ok
 returns-then-not-may_let_go-clause-ok c = λ all stood. settled_kept c.args.memory.now all c.requires.settled stood
+
+pub returns-then-not-may_let_go-clause-goes : goal.returns-then-not-may_let_go-clause-goes
+returns-then-not-may_let_go-clause-goes c = λ files well. inl (record {
+  files = files;
+  steps = none;
+  well = well;
+})
+
+pub returns-then-not-may_let_go-clause-few : goal.returns-then-not-may_let_go-clause-few
+returns-then-not-may_let_go-clause-few c = let pages = pages_of c.args.memory.now.pages in none_changes c.args.most pages pages refl
 
 pub release_some-requires-clause-well : goal.release_some-requires-clause-well
 release_some-requires-clause-well c =
@@ -34,6 +45,12 @@ returns-in-Ok-clause-ok c = λ all stood.
     (λ files well. subst (λ (l : Listing). LetsGo c.args.group memory.frame.version (now_of l files memory.space memory.cells (pages_of memory.pages)) c.in-Ok.count now.list.list now.space now.cells (pages_of now.pages)) c.start_over.ensures.list
     (c.in-Ok.ensures.ok files (subst (λ (l : Listing). IsWell (now_of l files memory.space memory.cells (pages_of memory.pages))) (sym c.start_over.ensures.list) well)))
     all (settled_kept memory all c.requires.settled stood)
+
+pub returns-in-Ok-clause-goes : goal.returns-in-Ok-clause-goes
+returns-in-Ok-clause-goes c = λ files well.
+    let memory = c.args.memory.now in
+    subst (λ (l : Listing). LetsGo c.args.group memory.frame.version (now_of l files memory.space memory.cells (pages_of memory.pages)) c.in-Ok.count c.release_some.new.self.list c.release_some.new.space c.release_some.new.cells (pages_of c.release_some.new.pages)) c.start_over.ensures.list
+    (c.in-Ok.ensures.ok files (subst (λ (l : Listing). IsWell (now_of l files memory.space memory.cells (pages_of memory.pages))) (sym c.start_over.ensures.list) well))
 
 pub returns-in-Ok-clause-back : goal.returns-in-Ok-clause-back
 returns-in-Ok-clause-back c =
