@@ -40,7 +40,8 @@ abbrev pub EndsAs : DomainMemory → FilesetMap → Command → Result Reply Sto
 EndsAs now all command (Ok reply) = IsAnswered now all command reply
 EndsAs now all command (Err stop) = StopsAs all command stop
 
--- the commands that are answered so far, with names of the forms that scripts have
+-- the commands that are answered so far, with names of the forms that scripts have; what gives or
+-- takes away a path is not answered of the root yet
 abbrev pub IsServed : Command → Type 0
 IsServed (Mkfset fileset) = is_fileset_name fileset ≡ true
 IsServed (Rmfset fileset) = Unit {0}

@@ -19,7 +19,8 @@ fn is_new_path(path: &Path) -> bool
 }
 
 /// Whether a command is one of those that are answered so far, with names of the forms that scripts
-/// have: to be asked of each before it is answered.
+/// have: to be asked of each before it is answered. What gives or takes away a path is not answered
+/// of the root yet.
 pub fn is_served(command: &Command) -> bool
     ensures { (result ≡ true) ↔ IsServed command.now }
 {

@@ -4,12 +4,10 @@ ghost use Rattle.std.specs.Prelude.{◌≡◌};
 use domain_base::OutOfMemory as NoMemory;
 use fileset_model::Refusal;
 use page_store::StoreFault;
-use std::error::Error;
-use std::fmt;
 
 /// Why a command that is laid over a domain comes to no answer of its own.
 #[derive(Clone, Copy, Debug, PartialEq, Eq)]
-pub enum Stop {
+pub(crate) enum Stop {
     /// The rules of filesets forbid it as things stand.
     Refused(Refusal),
     /// No page was free that it needed.
@@ -40,15 +38,3 @@ impl From<StoreFault> for Stop {
         }
     }
 }
-
-impl fmt::Display for Stop {
-    fn fmt<W: fmt::Write>(&self, f: &mut fmt::Formatter<W>) -> fmt::Result {
-        f.write_str(match self {
-            Stop::Refused(_) => "the command is refused",
-            Stop::NoPage => "no page is free",
-            Stop::OutOfMemory => "out of memory",
-        })
-    }
-}
-
-impl Error for Stop {}
