@@ -1,5 +1,5 @@
 -- A path that is taken away in a domain's memory, answered.
-use Rattle.std.proofs.Common.{◌≡◌, ◌∙◌, ◌++◌, ◌∷◌, [], ℕ, Bool, true, false, not, List, Option, Some, None, IsSomeAnd, inl, refl, sym, ap, subst, true≢false}
+use Rattle.std.proofs.Common.{◌≡◌, ◌≢◌, ◌∙◌, ◌++◌, ◌∷◌, [], ℕ, Bool, true, false, not, List, Option, Some, None, Result, Ok, Err, IfErr, IsSomeAnd, inl, refl, sym, ap, subst, true≢false}
 use Rattle.std.specs.FinMap.{insert}
 use Rattle.std.specs.List.{list_any}
 use Rattle.domain_base.specs.declared.place.Kind.{Kind}
@@ -9,12 +9,15 @@ use Rattle.fileset_model.specs.Apply.{Changes, answer_of, is_clone, is_named_els
 use Rattle.fileset_model.specs.Filesets.{FilesetMap}
 use Rattle.fileset_model.specs.Paths.{directory_here, file_here, first_refusal, node_at, refuse_if, target_refusal}
 use Rattle.fileset_model.specs.declared.command.Place.{Place}
+use Rattle.fileset_model.specs.declared.fileset.FilesetSlot.{FilesetSlot}
 use Rattle.fileset_model.specs.declared.fileset.Role.{Role}
 use Rattle.fileset_model.specs.declared.reply.Refusal.{Refusal}
 use Rattle.fileset_model.specs.declared.reply.Refusal.TheVariants.{NoFileset, ReadOnly}
 use Rattle.fileset_model.specs.declared.reply.Reply.TheVariants.{Done}
 use Rattle.fileset_table.specs.Table.{has_name}
-use Rattle.name_space.specs.Changes.{taking_checks}
+use Rattle.name_space.specs.Changes.{Checks, taking_checks}
+use Rattle.name_space.specs.declared.fault.NameFault.{NameFault}
+use Rattle.name_space.specs.declared.fault.NameFault.TheVariants as fault
 use Rattle.name_space.specs.Names.{number_of}
 use Rattle.quota_book.specs.Book.{Book, HasAll, Refunds, used}
 use Rattle.quota_book.specs.Sums.{IsBookOf}
@@ -26,14 +29,14 @@ use Rattle.domain_memory.specs.declared.memory.DomainMemory.{DomainMemory}
 use Rattle.domain_stages.specs.Charging.{ChangesOneBook}
 use Rattle.domain_stages.proofs.BooksFollow.{books_follow, one_before, own_book}
 use Rattle.name_stages.specs.Looking.{LeadsTo}
-use Rattle.name_stages.specs.Stages.{KeepsParents, Removes}
+use Rattle.name_stages.specs.Stages.{IsRefused, KeepsParents, Removes}
 use Rattle.page_stages.specs.Stages.{HasFile}
 use Rattle.command_core.specs.Coming.{IsAnswered}
 use Rattle.command_core.specs.Ending.{StopsAs, StopsWith}
 use Rattle.command_core.specs.Leaving.{IsShareOf, taking}
 use Rattle.command_core.specs.declared.leaving.Share.{Share}
 use Rattle.command_core.specs.declared.stop.Stop.{Stop}
-use Rattle.command_core.specs.declared.stop.Stop.TheVariants.{Refused}
+use Rattle.command_core.specs.declared.stop.Stop.TheVariants.{NoPage, Refused}
 use Rattle.command_core.proofs.Given.{Given}
 use Rattle.command_core.proofs.Gone.{IsLast, enough_there, is_last, refunded_there}
 use Rattle.command_core.proofs.Linked.{as_they_are, with_its_tree}
@@ -44,6 +47,19 @@ use Rattle.command_core.proofs.Removal.{refuses_none}
 pub no_taking : (memory : DomainMemory) (place : Place) → IsSettled memory → list_any (has_name place.fileset) memory.table.slots ≡ false → (all : FilesetMap) → StandsFor memory all → (of : Kind) → refusal_of all (taking of place) ≡ Some NoFileset
 no_taking memory place settled none all stands kind.File = refuses_none memory place.fileset settled none all stands (λ s. read_only s ∷ target_refusal s place.path ∷ directory_here s place.path ∷ [])
 no_taking memory place settled none all stands kind.Directory = refuses_none memory place.fileset settled none all stands (λ s. read_only s ∷ target_refusal s place.path ∷ file_here s place.path ∷ not_empty s place.path ∷ [])
+
+-- where no page was wanted below none is wanted
+some_refused : (refusal : Refusal) → Some refusal ≡ None → ⊥
+some_refused refusal e = cc
+
+pub stops_without : (f : NameFault) → f ≢ fault.NoPage → FilesetSlot → (stop : Stop) → ((checks : Checks) (fileset : FilesetSlot) → IsRefused checks fileset f → StopsWith (first_refusal (checks fileset ++ None ∷ [])) stop) → stop ≢ NoPage
+stops_without (fault.Refused refusal) other fileset stop told wanted = some_refused refusal (subst (StopsWith (Some refusal)) wanted (told (λ s. Some refusal ∷ []) fileset refl))
+stops_without fault.NoPage other fileset stop told wanted = other refl
+stops_without fault.OutOfMemory other fileset stop told wanted = some_refused NoFileset (subst (StopsWith (Some NoFileset)) wanted (told (λ s. Some NoFileset ∷ []) fileset tt))
+
+pub never_wanted : {A : Type 0} (P : Type 0) (r : Result A Stop) → IfErr r (λ stop. stop ≢ NoPage) → IfErr r (λ stop. stop ≡ NoPage → P)
+never_wanted P (Ok a) never = tt
+never_wanted P (Err stop) never = λ wanted. absurd (never wanted)
 
 -- whose it is that a path leads to
 pub its_share : (memory : DomainMemory) (number : ℕ) (place : Place) (all : FilesetMap) (g : Given memory number place.fileset all) (tag : Tag) (of : Kind) (share : Share) → LeadsTo place.path g.fileset tag of

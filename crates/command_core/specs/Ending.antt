@@ -57,11 +57,14 @@ IsServed (Rename place to) = (1 ≤ length place.path) × IsNewPath to
 IsServed command = ⊥
 
 -- why a command may want a page, where that is known: of mkfset, that no slot of the table is free;
--- or no page, or one alone and no cell; of setquota, that no cell is free, and no page
+-- or no page, or one alone and no cell; of setquota, that no cell is free, and no page; rmfset,
+-- unlink and rmdir never do. Of other commands on names nothing is said yet
 abbrev pub LacksPage : Command → DomainMemory → Type 0
 LacksPage (Mkfset fileset) memory = (list_any is_free memory.table.slots ≡ false)
     ⊎ BeginsNone memory.space memory.cells fault.NoPage
 LacksPage (Rmfset fileset) memory = ⊥
 LacksPage (Setquota fileset who files blocks) memory =
     LimitsNone memory.space memory.cells fault.NoPage
+LacksPage (Unlink place) memory = ⊥
+LacksPage (Rmdir place) memory = ⊥
 LacksPage command memory = Unit {0}

@@ -17,8 +17,9 @@ use volume_disk::Rack;
 
 /// Answers a command of a client, and adds it to the history with its change: refused as the rules
 /// of filesets say, in their order; or out-of-memory, where nothing changes. Where a page is wanted
-/// and none is free nothing is added, nor changes. The preferred volume is the one of which pages
-/// and cells are taken first.
+/// in vain nothing is added, nor changes: that none was free is shown of mkfset and setquota, that
+/// none is wanted of rmfset, unlink and rmdir, and of other commands on names nothing yet. The
+/// preferred volume is the one of which pages and cells are taken first.
 pub fn command<R: Rack, O: Opening>(
     domain: Domain<R, O>,
     alloc: Global,

@@ -1,5 +1,5 @@
 //! A path that is taken away (unlink, rmdir).
-ghost use Rattle.std.specs.Prelude.{◌≡◌, ◌≤◌, true, IfErr, IfOk, IsSomeAnd, OnOk, length, slice_get};
+ghost use Rattle.std.specs.Prelude.{◌≡◌, ◌≢◌, ◌≤◌, true, IfErr, IfOk, IsSomeAnd, OnOk, length, slice_get};
 ghost use Rattle.domain_layout.specs.CellRules.{of_original};
 ghost use Rattle.domain_memory.specs.Kept.{KeepsKept};
 ghost use Rattle.domain_memory.specs.Memory.{StandsFor};
@@ -10,6 +10,7 @@ ghost use Rattle.fileset_model.specs.declared.fileset.FilesetSlot.{FilesetSlot};
 ghost use Rattle.fileset_table.specs.Table.{has_name};
 ghost use Rattle.fileset_table.specs.declared.slot.FilesetEntry.{FilesetEntry};
 ghost use Rattle.name_space.specs.Changes.{taking_checks};
+ghost use Rattle.name_space.specs.declared.fault.NameFault.TheVariants.{NoPage as IsNoPage};
 ghost use Rattle.name_stages.specs.Looking.{IsLiveIn, LeadsTo};
 ghost use Rattle.name_stages.specs.Stages.{HasFileset, IsRefused, KeepsParents, Removes};
 ghost use Rattle.command_core.specs.Ending.{EndsAs, LacksPage};
@@ -47,6 +48,7 @@ fn take_path(
     ensures err { (all : FilesetMap) (entry : FilesetEntry) (fileset : FilesetSlot)
         → HasFileset memory number all entry fileset
         → IfErr result.1 (IsRefused (taking_checks of path.now) fileset) }
+    ensures pages { IfErr result.1 (λ fault. fault ≢ IsNoPage) }
     ensures parents { OnOk result.1 (KeepsParents memory result.0) }
     ensures table { result.0.table ≡ memory.table }
     ensures counted { staged_books result.0 ≡ staged_books memory }
@@ -89,6 +91,7 @@ fn take_led(
     requires live { IsLiveIn memory number tag kind }
     ensures ends { (all : FilesetMap) → StandsFor memory all
         → EndsAs result.0 all (taking of place.now) result.1 }
+    ensures pages { IfErr result.1 (λ stop. stop ≢ NoPage) }
     ensures kept { ∥ KeepsKept memory result.0 ∥₁ }
     ensures back { ∥ MayGoBack result.0 ∥₁ }
 {

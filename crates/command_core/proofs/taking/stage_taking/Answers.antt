@@ -5,12 +5,12 @@ use Rattle.fileset_table.specs.Table.{Table, has_name}
 use Rattle.domain_memory.proofs.KeptStands.{kept_joined}
 use Rattle.name_stages.specs.Looking.{IsLiveIn, LeadsTo}
 use Rattle.name_stages.proofs.Same.{still_back, still_keeps, still_settled}
-use Rattle.command_core.specs.Ending.{StopsAs}
+use Rattle.command_core.specs.Ending.{LacksPage, StopsAs}
 use Rattle.command_core.specs.Leaving.{taking}
 use Rattle.command_core.proofs.Given.{given, original_of_named}
 use Rattle.command_core.proofs.Removal.{found, staged_some}
 use Rattle.command_core.proofs.Still.{has_still, live_still, stands_still, table_still, turned}
-use Rattle.command_core.proofs.Taken.{no_taking, taking_led}
+use Rattle.command_core.proofs.Taken.{never_wanted, no_taking, taking_led}
 use Rattle.command_core.proofs.taking.stage_taking.Goals as goal
 
 pub returns-in-Err-clause-ends : goal.returns-in-Err-clause-ends
@@ -49,6 +49,9 @@ take_led-requires-clause-live c =
 
 pub returns-in-Ok-led-clause-ends : goal.returns-in-Ok-led-clause-ends
 returns-in-Ok-led-clause-ends c = λ all stands. c.take_led.ensures.ends all (stands_still c.args.memory c.look_at-memory.result.0 c.look_at-memory.ensures.same all stands)
+
+pub returns-in-Ok-led-clause-cause : goal.returns-in-Ok-led-clause-cause
+returns-in-Ok-led-clause-cause c = never_wanted (LacksPage (taking c.args.of c.args.place.now) c.args.memory) c.take_led.result.1 c.take_led.ensures.pages
 
 pub returns-in-Ok-led-clause-kept : goal.returns-in-Ok-led-clause-kept
 returns-in-Ok-led-clause-kept c = ∥∥₁_map c.take_led.ensures.kept (λ k. kept_joined c.args.memory c.look_at-memory.result.0 c.take_led.result.0 (still_keeps c.args.memory c.look_at-memory.result.0 c.look_at-memory.ensures.same) k)

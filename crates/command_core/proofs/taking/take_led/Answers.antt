@@ -1,18 +1,20 @@
-use Rattle.std.proofs.Common.{◌≡◌, true, IfErr, IfOk, OnOk, slice_get, subst, sym}
-use Rattle.std.proofs.Math.Logic.{∥∥₁_map}
+use Rattle.std.proofs.Common.{◌≡◌, ◌≢◌, true, IfErr, IfOk, OnOk, slice_get, subst, sym}
+use Rattle.std.proofs.Math.Logic.{∥∥₁_elim, ∥∥₁_map}
 use Rattle.fileset_table.specs.Table.{Table}
 use Rattle.domain_layout.specs.CellRules.{of_original}
 use Rattle.domain_memory.specs.Kept.{KeepsKept}
 use Rattle.domain_memory.specs.declared.memory.DomainMemory.{DomainMemory}
 use Rattle.domain_memory.proofs.KeptStands.{kept_joined}
 use Rattle.name_space.specs.Changes.{taking_checks}
+use Rattle.name_space.specs.declared.fault.NameFault.TheVariants as fault
 use Rattle.name_stages.proofs.Books.{named_path}
 use Rattle.name_stages.specs.Stages.{IsRefused, KeepsParents, Removes}
 use Rattle.command_core.specs.Ending.{EndsAs}
 use Rattle.command_core.specs.Leaving.{taking}
+use Rattle.command_core.specs.declared.stop.Stop.TheVariants.{NoPage}
 use Rattle.command_core.proofs.Given.{given, original_of_named}
 use Rattle.command_core.proofs.Removal.{found, staged_some}
-use Rattle.command_core.proofs.Taken.{answers_taken, enough_taken, its_share, taking_stops}
+use Rattle.command_core.proofs.Taken.{answers_taken, enough_taken, its_share, stops_without, taking_stops}
 use Rattle.command_core.proofs.taking.take_led.Goals as goal
 use Rattle.command_core.proofs.taking.take_led.Goals.{in-Ok-taken, in-Err-taken}
 
@@ -64,6 +66,14 @@ returns-clause-ends c = λ all stands.
           (w.stop_for.ensures (taking_checks c.args.of c.args.place.now.path) g.fileset
           (subst (λ r. IfErr r (IsRefused (taking_checks c.args.of c.args.place.now.path) g.fileset)) w.in-Err-taken.is (c.take_path-memory.ensures.err all g.entry g.fileset g.has))))
     ]
+
+pub returns-clause-pages : goal.returns-clause-pages
+returns-clause-pages c = elim c.match-taken.branch [
+  | in-Ok-taken w ↦ subst (λ r. IfErr r (λ stop. stop ≢ NoPage)) (sym w.answer-is) tt
+  | in-Err-taken w ↦ subst (λ r. IfErr r (λ stop. stop ≢ NoPage)) (sym w.answer-is) (λ wanted. ∥∥₁_elim c.requires.stands (λ x y. absurd x) (λ s.
+      let g = given c.args.memory c.args.number c.args.place.now.fileset (found c.args.memory c.args.number c.args.place.now.fileset (staged_some c.args.memory c.requires.settled c.requires.stands) c.requires.named) c.requires.settled c.requires.back s.0 s.1 in
+      stops_without w.in-Err-taken.fault (subst (λ r. IfErr r (λ f. f ≢ fault.NoPage)) w.in-Err-taken.is c.take_path-memory.ensures.pages) g.fileset w.stop_for.result w.stop_for.ensures wanted))
+]
 
 pub returns-clause-kept : goal.returns-clause-kept
 returns-clause-kept c =

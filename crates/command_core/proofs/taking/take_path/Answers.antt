@@ -1,6 +1,7 @@
-use Rattle.std.proofs.Common.{true, IfErr, IfOk, subst, sym}
+use Rattle.std.proofs.Common.{◌≢◌, true, IfErr, IfOk, subst, sym}
 use Rattle.domain_base.specs.declared.place.Kind.{Kind}
 use Rattle.name_space.specs.Changes.{rmdir_checks, taking_checks}
+use Rattle.name_space.specs.declared.fault.NameFault.TheVariants.{NoPage}
 use Rattle.name_stages.specs.Stages.{IsRefused, Removes}
 use Rattle.command_core.proofs.taking.take_path.Goals as goal
 
@@ -21,3 +22,6 @@ pub returns-in-Err-clause-err : goal.returns-in-Err-clause-err
 returns-in-Err-clause-err c = λ all entry fileset has.
     subst (λ (k : Kind). IsRefused (taking_checks k c.args.path.now) fileset c.in-Err.fault) (sym c.in-Directory.is)
     (subst (λ r. IfErr r (IsRefused (rmdir_checks c.args.path.now) fileset)) c.in-Err.is (c.remove_directory-memory.ensures.err all entry fileset has))
+
+pub returns-in-Err-clause-pages : goal.returns-in-Err-clause-pages
+returns-in-Err-clause-pages c = subst (λ r. IfErr r (λ fault. fault ≢ NoPage)) c.in-Err.is c.remove_directory-memory.ensures.pages
