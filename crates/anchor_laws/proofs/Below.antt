@@ -6,7 +6,7 @@ use Rattle.bmt_mcells.specs.Chain.{PlacedCell}
 use Rattle.log_ring.specs.Homes.{IsMember}
 use Rattle.free_space.specs.Spaces.{volume_of}
 use Rattle.free_space.specs.VolumeSpace.{VolumeSpace}
-use Rattle.attaching_laws.specs.Space.{IsFreeAt}
+use Rattle.domain_standing.specs.Space.{IsFreeAt}
 use Rattle.deferred_delete.specs.Standing.{Files}
 use Rattle.fileset_model.specs.Filesets.{FilesetMap}
 use Rattle.domain_layout.specs.Layout.{first_tag_of}

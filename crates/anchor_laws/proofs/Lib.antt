@@ -1,3 +1,4 @@
 pub mod Frames
 pub mod Below
 pub mod Beside
+pub use Rattle.domain_standing.proofs.OneMeaning

@@ -7,8 +7,8 @@ use Rattle.fileset_model.specs.declared.command.Owner.TheVariants as owner
 use Rattle.fileset_table.specs.declared.slot.FilesetEntry.{FilesetEntry}
 use Rattle.quota_book.specs.Book.{Book, empty_book}
 use Rattle.quota_book.specs.QuotaCells.{TakesLimits, limits_said, said_by}
-use Rattle.shape_reading.proofs.Said.{limits_there, said_none, said_on}
-use Rattle.shape_reading.specs.Limits.{HasSaid, book_of}
+use Rattle.fileset_shapes.proofs.Said.{limits_there, said_none, said_on}
+use Rattle.fileset_shapes.specs.Limits.{HasSaid, book_of}
 use Rattle.attached_books.specs.Limits.{HasLimitsAlone}
 
 -- a fileset with the limits of a book and nothing else

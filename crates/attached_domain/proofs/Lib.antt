@@ -5,3 +5,4 @@ pub mod Kept
 pub mod MayAttach
 pub mod PartsRead
 pub mod StandsRead
+pub use Rattle.fileset_shapes.proofs.Held

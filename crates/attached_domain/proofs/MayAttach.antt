@@ -19,8 +19,8 @@ use Rattle.fileset_table.specs.declared.slot.SlotItem.{SlotItem}
 use Rattle.fileset_table.specs.declared.slot.SlotItem.TheVariants as slot
 use Rattle.log_recovery.specs.Range.{IsLogInside}
 use Rattle.log_ring.specs.Homes.{IsMember, member_of}
-use Rattle.attaching_laws.specs.Marks.{HasBitmaps}
-use Rattle.attaching_laws.specs.Keeping.{KeepDirectories}
+use Rattle.attached_list.specs.Marks.{HasBitmaps}
+use Rattle.attached_list.specs.Keeping.{KeepDirectories}
 use Rattle.domain_layout.specs.CellRules.{of_clone}
 use Rattle.domain_layout.specs.DirectoryRules.{Has, IsInItem, IsInOriginal}
 use Rattle.domain_layout.specs.Layout.{AreTagPlaces, IsLayout, Layout, first_tag_of}

@@ -15,7 +15,7 @@ use Rattle.domain_layout.specs.Owners.{frame_of}
 use Rattle.domain_layout.specs.Reached.{Frame}
 use Rattle.domain_layout.specs.Read.{ReadsFrom, contents_of}
 use Rattle.domain_layout.specs.Shape.{AreShapesOf, Shapes}
-use Rattle.domain_standing.specs.Standing.{AreBooksOf}
+use Rattle.attached_list.specs.Standing.{AreBooksOf}
 use Rattle.domain_parts.specs.Slots.{kept_book, slot_in}
 use Rattle.domain_parts.specs.declared.slots.SlotFiles.{SlotFiles}
 use Rattle.domain_memory.specs.Memory.{StandsFor, books_in, kept_in, with_was}

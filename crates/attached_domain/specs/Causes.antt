@@ -7,7 +7,7 @@ use Rattle.page_store.specs.Pages.{Pages}
 use Rattle.log_recovery.specs.Range.{IsLogInside}
 use Rattle.log_ring.specs.Homes.{IsMember, member_of}
 use Rattle.fileset_table.specs.declared.slot.SlotItem.{SlotItem}
-use Rattle.attaching_laws.specs.Marks.{HasBitmaps}
+use Rattle.attached_list.specs.Marks.{HasBitmaps}
 use Rattle.domain_layout.specs.CellRules.{of_clone}
 use Rattle.domain_layout.specs.Faults.{HasNoFault}
 use Rattle.domain_layout.specs.Layout.{IsLayout, Layout}
@@ -16,7 +16,7 @@ use Rattle.domain_layout.specs.Reached.{Frame, IsWithin}
 use Rattle.filesets_reading.specs.Good.{IsNamed}
 use Rattle.fileset_shapes.specs.Found.{HasAllPages}
 use Rattle.attached_list.specs.Attached.{HaveQuotasToGo}
-use Rattle.domain_standing.specs.Sources.{HasSource}
+use Rattle.attached_list.specs.Sources.{HasSource}
 use Rattle.attached_domain.specs.Signs.{TagSays}
 use Rattle.attached_domain.specs.declared.signs.Sign.{Sign}
 use Rattle.attached_domain.specs.declared.signs.Sign.TheVariants.{Cut, Removed}

@@ -6,7 +6,7 @@ use Rattle.domain_layout.specs.Layout.{Layout}
 use Rattle.domain_layout.specs.Owners.{frame_of}
 use Rattle.filesets_reading.specs.declared.tables.DomainTables.{DomainTables}
 use Rattle.attached_list.specs.Attached.{HaveQuotasToGo}
-use Rattle.domain_standing.specs.Sources.{HaveNoSource}
+use Rattle.attached_list.specs.Sources.{HaveNoSource}
 use Rattle.attached_domain.specs.Signs.{SlotSays}
 use Rattle.attached_domain.specs.declared.signs.Sign.TheVariants.{Cut, Removed}
 

@@ -17,7 +17,7 @@ use Rattle.domain_layout.specs.Owners.{IsOnTable, frame_of}
 use Rattle.layout_laws.proofs.Named.{link_to, no_cell}
 use Rattle.layout_laws.proofs.OnePage.{some_same}
 use Rattle.layout_laws.proofs.OwnedOnce.{same_cell}
-use Rattle.filesets_reading.proofs.ChainsApart.{index_of, one_before}
+use Rattle.domain_standing.proofs.ChainsApart.{index_of, one_before}
 use Rattle.attached_list.specs.Attached.{IsFirstQuota}
 use Rattle.attached_list.proofs.Begun.{ChainAt, head_of, nowhere, quota_in}
 use Rattle.attached_list.proofs.OnTables.{link_there}

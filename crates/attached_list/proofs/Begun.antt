@@ -21,7 +21,7 @@ use Rattle.domain_layout.specs.TagRules.{quota_of}
 use Rattle.layout_laws.proofs.Named.{link_to}
 use Rattle.layout_laws.proofs.OnePage.{some_same}
 use Rattle.layout_laws.proofs.OwnedOnce.{same_cell}
-use Rattle.filesets_reading.proofs.Ways.{within_of}
+use Rattle.domain_standing.proofs.Ways.{within_of}
 use Rattle.attached_list.specs.Attached.{IsFirstQuota}
 use Rattle.attached_list.proofs.Searched.{Decides, below, in_below, searched}
 use Rattle.attached_list.proofs.OnTables.{link_there, used_or_not}

@@ -22,8 +22,8 @@ use Rattle.bmt_mcells.proofs.CellKinds.{used_not_zeros}
 use Rattle.bmt_mcells.proofs.Unique.{one_stands}
 use Rattle.free_space.specs.Spaces.{volume_of}
 use Rattle.free_space.specs.VolumeSpace.{VolumeSpace, is_among, is_waiting}
-use Rattle.attaching_laws.specs.Marks.{HasBitmaps, IsMarked, IsMarkedAt}
-use Rattle.attaching_laws.specs.Space.{AreCellsOf, AreFew}
+use Rattle.domain_standing.specs.Marks.{HasBitmaps, IsMarked, IsMarkedAt}
+use Rattle.domain_standing.specs.Space.{AreCellsOf, AreFew}
 use Rattle.bitmap_marks.specs.Marks.{bitmap_home, is_marked}
 use Rattle.domain_layout.specs.CellRules.{IsPlace, SaysVolume}
 use Rattle.domain_layout.specs.DirectoryRules.{IsWrongFile}
@@ -35,8 +35,8 @@ use Rattle.domain_layout.proofs.NoTables.{none_of_tables}
 use Rattle.layout_laws.proofs.Named.{no_cell}
 use Rattle.layout_laws.proofs.OwnedOnce.{cell_place, no_files}
 use Rattle.layout_laws.proofs.Reached.{same_number}
-use Rattle.filesets_reading.proofs.OnTables.{contains_at}
-use Rattle.fileset_shapes.proofs.ShapeFacts.{has_first}
+use Rattle.domain_standing.proofs.OnTables.{contains_at}
+use Rattle.domain_standing.proofs.ShapeFacts.{has_first}
 use Rattle.domain_standing.specs.Domain.{DomainNow, layout_of}
 use Rattle.domain_standing.specs.Standing.{HaveParents, IsMarkedBut}
 use Rattle.domain_standing.specs.Tables.{HasVolumeCell, StandTables, first_place}

@@ -15,7 +15,7 @@ use Rattle.domain_layout.specs.Owners.{frame_of}
 use Rattle.domain_layout.specs.TagRules.{IsQuotaOf, quota_of}
 use Rattle.domain_layout.proofs.NoTables.{none_of_extents}
 use Rattle.layout_laws.proofs.OwnedOnce.{no_tags, table_at}
-use Rattle.attaching_laws.proofs.Showing.{at_most}
+use Rattle.domain_standing.proofs.Showing.{at_most}
 use Rattle.domain_standing.specs.Chains.{IsRemoved}
 use Rattle.domain_standing.specs.Domain.{DomainNow, layout_of}
 use Rattle.attached_list.specs.Attached.{IsFirstQuota, IsReadFrom}

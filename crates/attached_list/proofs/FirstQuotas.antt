@@ -19,7 +19,7 @@ use Rattle.domain_layout.specs.Layout.{IsLayout, Layout}
 use Rattle.domain_layout.specs.Owners.{frame_of}
 use Rattle.domain_layout.specs.TagRules.{quota_of}
 use Rattle.layout_laws.proofs.OnePage.{one_of, some_same}
-use Rattle.filesets_reading.proofs.Layouts.{few_slots}
+use Rattle.domain_standing.proofs.Layouts.{few_slots}
 use Rattle.attached_list.specs.Attached.{HaveQuotasToGo, IsFirstQuota}
 use Rattle.attached_list.specs.Going.{IsFirstRead, NamesFirst}
 use Rattle.attached_list.proofs.Begun.{nowhere}

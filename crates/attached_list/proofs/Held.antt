@@ -28,16 +28,16 @@ use Rattle.chain_release.proofs.Once.{file_map, shown_value}
 use Rattle.deferred_delete.proofs.Standings.{no_record}
 use Rattle.deferred_delete.specs.Standing.{IsQuotaCell, IsQuotas, place_in}
 use Rattle.fileset_table.specs.declared.slot.SlotItem.{SlotItem}
-use Rattle.attaching_laws.specs.Space.{IsSpaceAt, IsVolumeSpace}
-use Rattle.attaching_laws.proofs.Indexes.{few}
+use Rattle.domain_standing.specs.Space.{IsSpaceAt, IsVolumeSpace}
+use Rattle.domain_standing.proofs.Indexes.{few}
 use Rattle.domain_layout.specs.CellRules.{IsFirstPlace, is_chain_records}
 use Rattle.domain_layout.specs.Owners.{BelongsTo, HasExtent, HasIndexPage, IsOnTable, IsOwned, Owner, frame_of}
 use Rattle.layout_laws.proofs.Named.{no_cell}
 use Rattle.layout_laws.proofs.OwnedOnce.{used_on}
 use Rattle.domain_standing.specs.Domain.{DomainNow, layout_of}
 use Rattle.domain_standing.specs.Tables.{first_place}
-use Rattle.filesets_reading.proofs.FirstCells.{chain_record}
-use Rattle.filesets_reading.proofs.OnTables.{on_table}
+use Rattle.domain_standing.proofs.FirstCells.{chain_record}
+use Rattle.domain_standing.proofs.OnTables.{on_table}
 use Rattle.domain_standing.specs.Holders.{AreHeldAt, AreHeldOn, Holder, Holds, HoldsOwned, IsUnheld}
 use Rattle.attached_list.specs.Attached.{IsReadFrom}
 use Rattle.attached_list.proofs.Begun.{nowhere}

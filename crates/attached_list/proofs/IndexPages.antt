@@ -10,8 +10,8 @@ use Rattle.domain_layout.specs.DirectoryRules.{IsGoodIndexPage}
 use Rattle.domain_layout.specs.Reached.{Frame, IsRead, IsUnread, Reaches, begins, goes_on, index_way, on_volume}
 use Rattle.layout_laws.proofs.OwnedOnce.{on_a_volume}
 use Rattle.layout_laws.proofs.Reached.{read_after}
-use Rattle.filesets_reading.proofs.Ways.{pushed}
-use Rattle.attaching_laws.proofs.Indexes.{collect}
+use Rattle.domain_standing.proofs.Ways.{pushed}
+use Rattle.domain_standing.proofs.Indexes.{collect}
 use Rattle.attached_list.proofs.Begun.{nowhere}
 
 named_next : (o : Option Home) (onto : Home) → on_volume o ≡ Some onto → o ≡ Some onto

@@ -13,8 +13,8 @@ use Rattle.domain_layout.specs.Owners.{frame_of}
 use Rattle.domain_layout.specs.Reached.{IsRead, IsUnread, begins, index_way}
 use Rattle.layout_laws.proofs.OnePage.{some_same}
 use Rattle.layout_laws.proofs.OwnedOnce.{index_read, no_index, used_on}
-use Rattle.attaching_laws.proofs.Indexes.{are_homes, collect}
-use Rattle.attaching_laws.proofs.Showing.{good_by}
+use Rattle.domain_standing.proofs.Indexes.{are_homes, collect}
+use Rattle.domain_standing.proofs.Showing.{good_by}
 use Rattle.domain_standing.specs.Chains.{IndexesAt}
 use Rattle.domain_standing.specs.Domain.{DomainNow, layout_of}
 use Rattle.attached_list.specs.Attached.{IsReadFrom}

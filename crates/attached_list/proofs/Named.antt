@@ -24,7 +24,7 @@ use Rattle.domain_layout.specs.TagRules.{HasEntry, IsFirstOf}
 use Rattle.layout_laws.proofs.Named.{link_to}
 use Rattle.layout_laws.proofs.OnePage.{some_same}
 use Rattle.layout_laws.proofs.OwnedOnce.{no_tags}
-use Rattle.fileset_shapes.proofs.Roots.{entry_leads}
+use Rattle.domain_standing.proofs.Roots.{entry_leads}
 use Rattle.domain_standing.specs.Chains.{IsQuotaOf, IsSomebodys, IsTagged}
 use Rattle.domain_standing.specs.Domain.{DomainNow, layout_of}
 use Rattle.attached_list.specs.Attached.{IsReadFrom}

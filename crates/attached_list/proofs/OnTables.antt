@@ -22,8 +22,8 @@ use Rattle.layout_laws.proofs.OnePage.{some_same}
 use Rattle.layout_laws.proofs.OneTable.{within_page}
 use Rattle.layout_laws.proofs.OwnedOnce.{used_on}
 use Rattle.layout_laws.proofs.Reached.{member_or_none}
-use Rattle.filesets_reading.proofs.CellTables.{there_at}
-use Rattle.filesets_reading.proofs.OnTables.{contains_at, is_there}
+use Rattle.domain_standing.proofs.CellTables.{there_at}
+use Rattle.domain_standing.proofs.OnTables.{contains_at, is_there}
 use Rattle.attached_list.proofs.Searched.{Decides, HasSome, below, in_below, index_is, number_in, searched}
 
 pub some_kind : (kind : CellKind) → ¬ kind_number kind ≡ 0

@@ -18,9 +18,9 @@ use Rattle.domain_layout.specs.Owners.Owner.{of_cells, of_file}
 use Rattle.domain_layout.specs.Reached.{MayBe}
 use Rattle.layout_laws.proofs.OwnedOnce.{no_extent, owned_once, same_cell}
 use Rattle.layout_laws.proofs.Reached.{may_be_by}
-use Rattle.attaching_laws.proofs.FilePages.{IsSaid, is_said}
-use Rattle.attaching_laws.proofs.Held.{held}
-use Rattle.attaching_laws.proofs.Tables.{allocated, of_member}
+use Rattle.domain_standing.proofs.FilePages.{IsSaid, is_said}
+use Rattle.domain_standing.proofs.Held.{held}
+use Rattle.domain_standing.proofs.Tables.{allocated, of_member}
 use Rattle.domain_standing.specs.Domain.{DomainNow, layout_of}
 use Rattle.attached_list.specs.Attached.{IsReadFrom}
 use Rattle.attached_list.proofs.Apart.{chains_apart}

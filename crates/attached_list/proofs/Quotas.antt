@@ -14,7 +14,7 @@ use Rattle.domain_layout.specs.CellRules.{Follows, IsChainHead, Link, next_in}
 use Rattle.domain_layout.specs.Owners.{IsOnTable, frame_of}
 use Rattle.layout_laws.proofs.Named.{link_to}
 use Rattle.layout_laws.proofs.OnePage.{some_same}
-use Rattle.filesets_reading.proofs.TagPlaces.{equal_by, most_by}
+use Rattle.domain_standing.proofs.TagPlaces.{equal_by, most_by}
 use Rattle.domain_standing.specs.Chains.{AreQuotasOf, IsOfFileset, IsQuotaOf}
 use Rattle.domain_standing.specs.Domain.{DomainNow, layout_of}
 use Rattle.attached_list.specs.Attached.{IsFirstQuota, IsReadFrom}

@@ -26,8 +26,8 @@ use Rattle.domain_layout.specs.TagRules.{HasTags, IsLate}
 use Rattle.layout_laws.proofs.Named.{entry_there, first_there, link_to, no_cell}
 use Rattle.layout_laws.proofs.OnePage.{some_same}
 use Rattle.layout_laws.proofs.OwnedOnce.{no_cells, no_tags, used_on}
-use Rattle.filesets_reading.proofs.CellTables.{there_at}
-use Rattle.filesets_reading.proofs.TagPlaces.{most_by}
+use Rattle.domain_standing.proofs.CellTables.{there_at}
+use Rattle.domain_standing.proofs.TagPlaces.{most_by}
 use Rattle.domain_standing.specs.Domain.{DomainNow, layout_of}
 use Rattle.domain_standing.specs.Rest.{HasNoHoles, IsOfOriginal, SaysTheRest, StaysInOriginal}
 use Rattle.attached_list.specs.Attached.{IsReadFrom}

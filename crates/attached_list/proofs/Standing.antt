@@ -22,8 +22,8 @@ use Rattle.domain_layout.specs.Layout.{IsLayout, Layout}
 use Rattle.domain_layout.specs.Owners.{IsOnTable, frame_of}
 use Rattle.layout_laws.proofs.Named.{no_cell}
 use Rattle.layout_laws.proofs.OwnedOnce.{used_on}
-use Rattle.filesets_reading.proofs.ChainsThere.{FirstFile, first_file}
-use Rattle.attaching_laws.specs.Space.{AreCellsOf}
+use Rattle.domain_standing.proofs.ChainsThere.{FirstFile, first_file}
+use Rattle.domain_standing.specs.Space.{AreCellsOf}
 use Rattle.attached_list.specs.Attached.{IsFirstQuota}
 use Rattle.attached_list.proofs.Begun.{ChainAt, IsNamedQuota, chain_at, files, quota_in}
 use Rattle.attached_list.proofs.Walked.{IsOnWay}

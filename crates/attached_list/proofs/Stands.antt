@@ -3,12 +3,12 @@ use Rattle.std.proofs.Common.{◌≡◌, ℕ, false, Some, IsSomeAnd, subst}
 use Rattle.fileset_model.specs.Filesets.{FilesetMap}
 use Rattle.fileset_table.specs.declared.slot.FilesetEntry.{FilesetEntry}
 use Rattle.fileset_table.specs.declared.slot.SlotItem.TheVariants as slot
-use Rattle.attaching_laws.proofs.OneSet.{a_set}
-use Rattle.attaching_laws.specs.Keeping.{KeepDirectories}
+use Rattle.domain_standing.proofs.OneSet.{a_set}
+use Rattle.domain_standing.specs.Keeping.{KeepDirectories}
 use Rattle.domain_layout.specs.CellRules.{of_clone}
 use Rattle.domain_layout.specs.Filled.{AreFilled}
 use Rattle.domain_layout.specs.Shape.{AreShapesOf, FilesetShape, IsOriginal, Shapes}
-use Rattle.fileset_shapes.specs.Files.{IsWhole}
+use Rattle.domain_standing.specs.Files.{IsWhole}
 use Rattle.domain_standing.specs.Domain.{DomainNow, item_in, layout_of}
 use Rattle.domain_standing.specs.Standing.{StandsDomain}
 use Rattle.attached_list.specs.Attached.{IsReadFrom}

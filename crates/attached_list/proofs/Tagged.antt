@@ -30,7 +30,7 @@ use Rattle.domain_layout.specs.TagRules.{HasTags, IsFirstOf}
 use Rattle.layout_laws.proofs.Named.{first_there}
 use Rattle.layout_laws.proofs.OnePage.{some_same}
 use Rattle.layout_laws.proofs.OwnedOnce.{tag_place}
-use Rattle.filesets_reading.proofs.ChainsThere.{FileThere, file_there}
+use Rattle.domain_standing.proofs.ChainsThere.{FileThere, file_there}
 use Rattle.domain_standing.specs.Chains.{HasFilesAmong, StandsInSlot}
 use Rattle.domain_standing.specs.Domain.{DomainNow, all_of, layout_of}
 use Rattle.attached_list.specs.Attached.{IsReadFrom}

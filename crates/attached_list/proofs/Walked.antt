@@ -15,8 +15,8 @@ use Rattle.domain_layout.specs.Faults.{HasNoTablesFault}
 use Rattle.domain_layout.specs.Layout.{IsLayout, Layout}
 use Rattle.domain_layout.specs.Owners.{IsOnTable, frame_of}
 use Rattle.layout_laws.proofs.Named.{follows_on, link_to, no_cell}
-use Rattle.filesets_reading.proofs.TagPlaces.{most_by}
-use Rattle.filesets_reading.proofs.Ways.{map_pushed, pushed}
+use Rattle.domain_standing.proofs.TagPlaces.{most_by}
+use Rattle.domain_standing.proofs.Ways.{map_pushed, pushed}
 use Rattle.attached_list.proofs.OnTables.{Used, link_used, used_or_not}
 
 -- ---- cells as numbers

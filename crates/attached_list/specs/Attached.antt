@@ -9,7 +9,7 @@ use Rattle.bmt_mcells.specs.Chain.{StandsAt}
 use Rattle.tag_dirs.specs.Directory.{cell_of}
 use Rattle.tag_dirs.specs.declared.dir.TagPlace.{TagPlace}
 use Rattle.fileset_table.specs.Table.{Table}
-use Rattle.attaching_laws.specs.Space.{IsSpaceOf}
+use Rattle.domain_standing.specs.Space.{IsSpaceOf}
 use Rattle.domain_layout.specs.CellRules.{LeadsTo, say_removed}
 use Rattle.domain_layout.specs.Faults.{HasNoFault}
 use Rattle.domain_layout.specs.Reached.{Frame}

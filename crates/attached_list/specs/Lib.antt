@@ -2,3 +2,16 @@ pub mod ToDo
 pub mod Listing
 pub mod Attached
 pub mod Going
+pub use Rattle.domain_standing.specs.Chains
+pub use Rattle.domain_standing.specs.Domain
+pub use Rattle.domain_standing.specs.Holders
+pub use Rattle.domain_standing.specs.Rest
+pub use Rattle.domain_standing.specs.Slots
+pub use Rattle.domain_standing.specs.Standing
+pub use Rattle.domain_standing.specs.Tables
+pub use Rattle.domain_standing.specs.Sources
+pub use Rattle.chain_faults.specs.Links
+pub use Rattle.domain_standing.specs.Keeping
+pub use Rattle.domain_standing.specs.Marks
+pub use Rattle.domain_standing.specs.Found
+pub use Rattle.domain_standing.specs.Good

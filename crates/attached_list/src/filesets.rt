@@ -1,11 +1,11 @@
 //! A domain that is read of pages without a fault stands.
 ghost use Rattle.std.specs.Prelude.{◌≡◌, ℕ, false};
 ghost use Rattle.fileset_model.specs.Filesets.{FilesetMap};
-ghost use Rattle.attaching_laws.specs.Keeping.{KeepDirectories};
+ghost use Rattle.domain_standing.specs.Keeping.{KeepDirectories};
 ghost use Rattle.domain_layout.specs.CellRules.{of_clone};
 ghost use Rattle.domain_layout.specs.Filled.{AreFilled};
 ghost use Rattle.domain_layout.specs.Shape.{AreShapesOf, Shapes};
-ghost use Rattle.fileset_shapes.specs.Files.{IsWhole};
+ghost use Rattle.domain_standing.specs.Files.{IsWhole};
 ghost use Rattle.domain_standing.specs.Domain.{DomainNow, item_in, layout_of};
 ghost use Rattle.domain_standing.specs.Standing.{StandsDomain};
 ghost use Rattle.attached_list.specs.Attached.{IsReadFrom};

@@ -2,8 +2,8 @@
 ghost use Rattle.std.specs.Prelude.{◌≡◌, Some};
 ghost use Rattle.domain_base.specs.declared.place.Home.{Home};
 ghost use Rattle.log_recovery.specs.Range.{IsLogInside};
-ghost use Rattle.attaching_laws.specs.Marks.{HasBitmaps, IsMarked};
-ghost use Rattle.attaching_laws.specs.Space.{AreCellsOf, AreFew};
+ghost use Rattle.domain_standing.specs.Marks.{HasBitmaps, IsMarked};
+ghost use Rattle.domain_standing.specs.Space.{AreCellsOf, AreFew};
 ghost use Rattle.domain_layout.specs.Faults.{HasNoFault};
 ghost use Rattle.domain_layout.specs.Layout.{IsLayout};
 ghost use Rattle.domain_layout.specs.Reached.{IsWithin};

@@ -9,9 +9,9 @@ use Rattle.staged_pages.specs.Store.{before_of, pages_of}
 use Rattle.page_ways.specs.Frame.{frame_in}
 use Rattle.fileset_table.specs.Table.{IsTable}
 use Rattle.cell_links.specs.declared.links.CellLinks.{CellLinks}
-use Rattle.chain_faults.specs.Links.{AreLinks}
-use Rattle.attaching_laws.specs.Marks.{IsMarked}
-use Rattle.attaching_laws.specs.Space.{AreCellsOf}
+use Rattle.attached_list.specs.Links.{AreLinks}
+use Rattle.attached_space.specs.Marks.{IsMarked}
+use Rattle.attached_space.specs.Space.{AreCellsOf}
 use Rattle.domain_layout.specs.Faults.{HasNoTablesFault}
 use Rattle.domain_layout.specs.Layout.{IsLayout, Layout}
 use Rattle.domain_layout.specs.Owners.{frame_of}

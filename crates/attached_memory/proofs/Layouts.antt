@@ -8,8 +8,8 @@ use Rattle.deferred_delete.specs.Listing.{Listing}
 use Rattle.domain_layout.specs.Layout.{IsCellTable, IsLayout, Layout}
 use Rattle.domain_layout.specs.Owners.{IsOnTable, frame_of}
 use Rattle.domain_layout.specs.Reached.{first_cells}
-use Rattle.fileset_shapes.specs.Files.{IsWhole}
-use Rattle.domain_standing.specs.Sources.{HaveNoSource}
+use Rattle.attached_space.specs.Files.{IsWhole}
+use Rattle.attached_list.specs.Sources.{HaveNoSource}
 use Rattle.attached_list.specs.ToDo.{ListsToDo}
 
 -- a layout with other lists of pages of cells

@@ -10,17 +10,17 @@ use Rattle.free_cells.specs.Cells.{table_of}
 use Rattle.staged_pages.specs.Store.{before_of}
 use Rattle.fileset_table.specs.Table.{IsTable}
 use Rattle.fileset_table.specs.declared.slot.SlotItem.{SlotItem}
-use Rattle.attaching_laws.proofs.Marked.{marked_space}
-use Rattle.attaching_laws.specs.Space.{AreCellsOf, IsSpaceOf}
+use Rattle.attached_space.proofs.Marked.{marked_space}
+use Rattle.attached_space.specs.Space.{AreCellsOf, IsSpaceOf}
 use Rattle.domain_layout.specs.Faults.{HasNoFault}
 use Rattle.domain_layout.specs.Filled.{AreFilled}
 use Rattle.domain_layout.specs.Layout.{AreTagPlaces, IsLayout, Layout, first_tag_of}
 use Rattle.domain_layout.specs.Owners.{frame_of}
 use Rattle.domain_layout.specs.Read.{contents_of}
 use Rattle.domain_layout.specs.Shape.{AreShapesOf, Shapes}
-use Rattle.domain_standing.specs.Domain.{DomainNow, layout_of}
-use Rattle.domain_standing.specs.Sources.{StandAlone}
-use Rattle.domain_standing.specs.Standing.{AreBooksOf, HaveParents, IsMarkedBut, StandsDomain}
+use Rattle.attached_list.specs.Domain.{DomainNow, layout_of}
+use Rattle.attached_list.specs.Sources.{StandAlone}
+use Rattle.attached_list.specs.Standing.{AreBooksOf, HaveParents, IsMarkedBut, StandsDomain}
 use Rattle.no_fault_laws.proofs.Faultless.{faultless_sound}
 use Rattle.domain_parts.specs.Slots.{CanGoBack, book_in, kept_book, kept_places, places_in, slot_in}
 use Rattle.domain_parts.specs.declared.slots.SlotFiles.{SlotFiles}

@@ -8,21 +8,21 @@ use Rattle.free_space.specs.Spaces.{kept_spaces}
 use Rattle.staged_pages.specs.Store.{before_of, pages_of}
 use Rattle.page_ways.specs.Frame.{frame_in}
 use Rattle.fileset_table.specs.Table.{IsTable, Table}
-use Rattle.attaching_laws.specs.Keeping.{KeepDirectories}
-use Rattle.attaching_laws.specs.Marks.{HasBitmaps, IsMarked}
-use Rattle.attaching_laws.specs.Space.{AreCellsOf, AreFew}
+use Rattle.attached_space.specs.Keeping.{KeepDirectories}
+use Rattle.attached_space.specs.Marks.{HasBitmaps, IsMarked}
+use Rattle.attached_space.specs.Space.{AreCellsOf, AreFew}
 use Rattle.domain_layout.specs.CellRules.{of_clone}
 use Rattle.domain_layout.specs.Layout.{IsLayout, Layout}
 use Rattle.domain_layout.specs.Owners.{frame_of}
 use Rattle.domain_layout.specs.Faults.{HasNoTablesFault}
 use Rattle.domain_layout.specs.Reached.{Frame, IsWithin}
-use Rattle.fileset_shapes.specs.Files.{IsWhole}
+use Rattle.attached_space.specs.Files.{IsWhole}
 use Rattle.cell_links.specs.declared.links.CellLinks.{CellLinks}
-use Rattle.chain_faults.specs.Links.{AreLinks}
+use Rattle.attached_list.specs.Links.{AreLinks}
 use Rattle.domain_parts.specs.Slots.{HasNumber, places_in, slot_in}
 use Rattle.domain_parts.specs.declared.slots.SlotFiles.{SlotFiles}
 use Rattle.domain_memory.specs.declared.memory.DomainMemory.{DomainMemory}
-use Rattle.domain_standing.specs.Sources.{HaveNoSource}
+use Rattle.attached_list.specs.Sources.{HaveNoSource}
 use Rattle.attached_list.specs.Attached.{HaveQuotasToGo, TagsStay}
 use Rattle.attached_list.specs.ToDo.{ListsToDo}
 

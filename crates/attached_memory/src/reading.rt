@@ -8,7 +8,7 @@ ghost use Rattle.domain_layout.specs.Filled.{AreFilled};
 ghost use Rattle.domain_layout.specs.Layout.{IsLayout, Layout};
 ghost use Rattle.domain_layout.specs.Read.{contents_of};
 ghost use Rattle.domain_layout.specs.Shape.{AreShapesOf, Shapes};
-ghost use Rattle.domain_standing.specs.Standing.{AreBooksOf};
+ghost use Rattle.attached_list.specs.Standing.{AreBooksOf};
 ghost use Rattle.domain_memory.specs.Memory.{StandsFor, books_in, kept_in};
 ghost use Rattle.domain_memory.specs.Staged.{IsSettled, MayGoBack};
 ghost use Rattle.domain_memory.specs.declared.memory.DomainMemory.{DomainMemory};

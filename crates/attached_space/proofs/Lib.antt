@@ -3,3 +3,13 @@ pub mod Spaces
 pub mod OneTable
 pub mod Reading
 pub mod AllTables
+pub use Rattle.attaching_laws.proofs.FilePages
+pub use Rattle.attaching_laws.proofs.Showing
+pub use Rattle.attaching_laws.proofs.OriginalFiles
+pub use Rattle.attaching_laws.proofs.Roots
+pub use Rattle.filesets_reading.proofs.CellTables
+pub use Rattle.filesets_reading.proofs.ChainsThere
+pub use Rattle.filesets_reading.proofs.OnTables
+pub use Rattle.filesets_reading.proofs.Ways
+pub use Rattle.attaching_laws.proofs.Entries
+pub use Rattle.attaching_laws.proofs.Marked

@@ -21,7 +21,7 @@ use Rattle.domain_layout.specs.TagRules.{HasTags, IsFirstOf}
 use Rattle.layout_laws.proofs.Named.{first_there, follows_on, last_link, link_of, link_to}
 use Rattle.layout_laws.proofs.OnePage.{some_same}
 use Rattle.layout_laws.proofs.Reached.{same_number}
-use Rattle.filesets_reading.proofs.OnTables.{on_table}
+use Rattle.fileset_shapes.proofs.OnTables.{on_table}
 use Rattle.attaching_laws.specs.Space.{AreCellsOf}
 
 -- ---- whether a number is in a list

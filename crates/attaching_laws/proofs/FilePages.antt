@@ -39,7 +39,7 @@ use Rattle.domain_layout.proofs.NoTables.{none_of_tables}
 use Rattle.layout_laws.proofs.OnePage.{some_same}
 use Rattle.layout_laws.proofs.OwnedOnce.{no_extent, owned_once, tag_place}
 use Rattle.layout_laws.proofs.Reached.{may_be_by, same_number}
-use Rattle.filesets_reading.proofs.OnTables.{on_table}
+use Rattle.fileset_shapes.proofs.OnTables.{on_table}
 use Rattle.attaching_laws.specs.Space.{AreCellsOf, IsSpaceOf}
 use Rattle.attaching_laws.proofs.FileCells.{IsInUse, chain_used}
 use Rattle.attaching_laws.proofs.Held.{held}

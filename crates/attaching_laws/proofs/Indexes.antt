@@ -17,7 +17,7 @@ use Rattle.domain_layout.specs.Reached.{Frame, IsRead, IsUnread, MayBe, Reaches,
 use Rattle.layout_laws.proofs.OnePage.{some_same}
 use Rattle.layout_laws.proofs.OwnedOnce.{on_a_volume}
 use Rattle.layout_laws.proofs.Reached.{ReadAfter, read_after}
-use Rattle.filesets_reading.proofs.Ways.{pushed}
+use Rattle.fileset_shapes.proofs.Ways.{pushed}
 
 -- ---- homes as numbers
 

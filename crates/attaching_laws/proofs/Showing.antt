@@ -39,7 +39,7 @@ use Rattle.domain_layout.specs.TagRules.{HasTags}
 use Rattle.layout_laws.proofs.OnePage.{some_same}
 use Rattle.layout_laws.proofs.OwnedOnce.{index_read, no_index}
 use Rattle.layout_laws.proofs.Reached.{may_be_by, same_number}
-use Rattle.filesets_reading.proofs.OnTables.{on_table}
+use Rattle.fileset_shapes.proofs.OnTables.{on_table}
 use Rattle.attaching_laws.specs.Space.{AreCellsOf, IsSpaceOf}
 use Rattle.attaching_laws.proofs.FileCells.{IsInUse, chain_used}
 use Rattle.attaching_laws.proofs.FilePages.{IsOfChain, chained, of_chain, of_table, once, tables, tag_page, tag_within, two_chains}

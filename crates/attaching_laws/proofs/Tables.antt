@@ -22,7 +22,7 @@ use Rattle.domain_layout.specs.Owners.Owner.{of_cells, of_volume}
 use Rattle.layout_laws.proofs.OnePage.{HasOne, one_of}
 use Rattle.layout_laws.proofs.OwnedOnce.{cell_place}
 use Rattle.layout_laws.proofs.Reached.{member_or_none}
-use Rattle.filesets_reading.proofs.Ways.{within_of}
+use Rattle.fileset_shapes.proofs.Ways.{within_of}
 use Rattle.attaching_laws.specs.Space.{AreCellsOf, IsFreeAt, IsOpen, IsSpaceOf}
 use Rattle.attaching_laws.proofs.Held.{held, takeable}
 

@@ -46,7 +46,7 @@ use Rattle.domain_layout.proofs.There.{chain_is}
 use Rattle.layout_laws.proofs.OnePage.{some_same}
 use Rattle.layout_laws.proofs.OwnedOnce.{no_index}
 use Rattle.layout_laws.proofs.Reached.{same_number}
-use Rattle.filesets_reading.proofs.Ways.{within_of}
+use Rattle.fileset_shapes.proofs.Ways.{within_of}
 use Rattle.fileset_shapes.specs.Files.{IsWhole}
 use Rattle.fileset_shapes.proofs.Held.{page_held}
 use Rattle.fileset_shapes.proofs.OriginalFiles.{FileOf, Kept, file_of, kept, none_some, right_size}

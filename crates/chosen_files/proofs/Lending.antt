@@ -6,8 +6,8 @@ use Rattle.tag_dirs.specs.declared.dir.TagPlace.{TagPlace}
 use Rattle.fileset_table.specs.declared.slot.FilesetEntry.{FilesetEntry}
 use Rattle.fileset_table.specs.declared.slot.SlotItem.{SlotItem}
 use Rattle.fileset_table.specs.declared.slot.SlotItem.TheVariants as slot
-use Rattle.stored_set.specs.Sets.{HasSet, StandsAsSet}
-use Rattle.stored_set.proofs.StableSet.{has_set}
+use Rattle.names_standing.specs.Sets.{HasSet, StandsAsSet}
+use Rattle.names_standing.proofs.StableSet.{has_set}
 use Rattle.staged_pages.specs.Store.{pages_of}
 use Rattle.domain_layout.specs.CellRules.{of_original}
 use Rattle.names_standing.specs.Domain.{item_in}

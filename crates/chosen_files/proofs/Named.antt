@@ -5,7 +5,7 @@ use Rattle.page_store.specs.Bitfiles.{Bitfiles}
 use Rattle.tag_dirs.specs.declared.dir.TagPlace.{TagPlace}
 use Rattle.free_cells.specs.Cells.{Cells}
 use Rattle.free_space.specs.Spaces.{Spaces}
-use Rattle.stored_set.specs.Sets.{StandsAsSet}
+use Rattle.names_standing.specs.Sets.{StandsAsSet}
 use Rattle.bitfile_store.specs.Shown.{one_set, shown_stands}
 use Rattle.bitfile_store.specs.declared.parts.CallSettings.{CallSettings}
 use Rattle.fileset_model.specs.Filesets.{FilesetMap}

@@ -20,8 +20,8 @@ use Rattle.fileset_model.specs.Filesets.{FilesetMap}
 use Rattle.page_ways.specs.Frame.{frame_in}
 use Rattle.staged_pages.specs.Store.{before_of, pages_of}
 use Rattle.domain_layout.specs.Read.{Means}
-use Rattle.domain_standing.specs.Domain.{DomainNow, layout_of}
-use Rattle.domain_standing.proofs.OneMeaning.{reads_so}
+use Rattle.anchor_laws.specs.Domain.{DomainNow, layout_of}
+use Rattle.anchor_laws.proofs.OneMeaning.{reads_so}
 use Rattle.sound_laws.proofs.WholeDomain.{sound_faultless}
 use Rattle.domain_memory.specs.Memory.{StandsFor, kept_in}
 use Rattle.domain_memory.specs.Staged.{IsSettled as IsSettledMemory}

@@ -23,8 +23,8 @@ use Rattle.fileset_model.specs.declared.fileset.Role.{Role}
 use Rattle.fileset_model.specs.declared.fileset.Role.TheVariants.{Original}
 use Rattle.fileset_model.specs.declared.node.Node.{Node}
 use Rattle.fileset_model.specs.declared.node.Node.TheVariants.{Directory, File}
-use Rattle.fileset_shapes.specs.Found.{HasAllPages}
-use Rattle.fileset_shapes.proofs.Held.{says_table}
+use Rattle.attached_domain.specs.Found.{HasAllPages}
+use Rattle.attached_domain.proofs.Held.{says_table}
 use Rattle.fileset_table.specs.Page.{IsTablePage}
 use Rattle.fileset_table.specs.Table.{Table}
 use Rattle.fileset_table.specs.declared.slot.SlotItem.{SlotItem}
@@ -39,13 +39,13 @@ use Rattle.domain_layout.specs.Seen.{SeenFile, seen_in}
 use Rattle.domain_layout.proofs.NoTables.{none_of_tables}
 use Rattle.domain_layout.proofs.There.{chain_is}
 use Rattle.layout_laws.proofs.OnePage.{one_of, some_same}
-use Rattle.fault_laws.specs.Looks.{IsComeTo, IsOfBitmap, IsOfCells, IsOfFiles, IsOfIndex, IsOfTables, IsOfTags}
-use Rattle.metadata_loading.specs.Loading.{HasWhereRulesLook}
-use Rattle.domain_standing.specs.Domain.{DomainNow, layout_of}
-use Rattle.domain_standing.specs.Standing.{IsMarkedBut, StandsDomain}
-use Rattle.no_fault_laws.proofs.NoTable.{table_is}
-use Rattle.no_fault_laws.proofs.Originals.{is_role}
-use Rattle.no_fault_laws.proofs.Shown.{HasShown, has_shown, inside, page_is}
+use Rattle.domain_bringing.specs.Looks.{IsComeTo, IsOfBitmap, IsOfCells, IsOfFiles, IsOfIndex, IsOfTables, IsOfTags}
+use Rattle.domain_bringing.specs.Loading.{HasWhereRulesLook}
+use Rattle.anchor_laws.specs.Domain.{DomainNow, layout_of}
+use Rattle.anchor_laws.specs.Standing.{IsMarkedBut, StandsDomain}
+use Rattle.sound_laws.proofs.NoTable.{table_is}
+use Rattle.sound_laws.proofs.Originals.{is_role}
+use Rattle.sound_laws.proofs.Shown.{HasShown, has_shown, inside, page_is}
 use Rattle.domain_bringing.specs.Brought.{IsGoodFrame}
 
 -- whether a page is there is decided

@@ -30,10 +30,10 @@ use Rattle.domain_layout.specs.Seen.{IsOwn, IsSource, SeenFile, frozen_of, is_in
 use Rattle.domain_layout.specs.TagRules.{HasTags, IsFirstOf}
 use Rattle.layout_laws.proofs.Named.{InChain, begins_file, goes_along, place_in}
 use Rattle.layout_laws.proofs.OnePage.{some_same}
-use Rattle.fileset_shapes.proofs.OriginalFiles.{Kept, home_kept, kept, none_some}
-use Rattle.fault_laws.proofs.Files.{FirstThere, first_kind, first_used, source_named, tags_of}
-use Rattle.fault_laws.proofs.Owned.{AreTables}
-use Rattle.page_faults.specs.Files.{HasPageAt}
+use Rattle.shape_laws.proofs.OriginalFiles.{Kept, home_kept, kept, none_some}
+use Rattle.metadata_loading.proofs.Files.{FirstThere, first_kind, first_used, source_named, tags_of}
+use Rattle.metadata_loading.proofs.Owned.{AreTables}
+use Rattle.image_loading.specs.Files.{HasPageAt}
 
 -- a cell in use says that the page at a home is one of its file
 abbrev pub IsFilePage : Pages → Frame → Home → Type 0

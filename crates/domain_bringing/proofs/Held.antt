@@ -12,14 +12,14 @@ use Rattle.domain_layout.specs.Layout.{IsLayout, Layout}
 use Rattle.domain_layout.specs.Owners.{frame_of}
 use Rattle.domain_layout.specs.Reached.{Frame, IsWithin}
 use Rattle.domain_layout.proofs.NoTables.{none_of_tables}
-use Rattle.fault_laws.specs.Looks.{AgreeWhereRulesLook}
-use Rattle.fault_laws.proofs.SameFaults.{same_faults, sides}
-use Rattle.fault_laws.proofs.Sides.{AreSides, flipped}
-use Rattle.fileset_shapes.specs.Found.{HasAllPages}
-use Rattle.fileset_shapes.proofs.Held.{says_table}
+use Rattle.metadata_loading.specs.Looks.{AgreeWhereRulesLook}
+use Rattle.metadata_loading.proofs.SameFaults.{same_faults, sides}
+use Rattle.metadata_loading.proofs.Sides.{AreSides, flipped}
+use Rattle.shape_laws.specs.Found.{HasAllPages}
+use Rattle.shape_laws.proofs.Held.{says_table}
 use Rattle.file_runs.specs.declared.run.FileRun.{FileRun}
 use Rattle.metadata_loading.specs.Loading.{HasWhereRulesLook}
-use Rattle.page_faults.specs.Files.{AreFilePages, AreGoodCells}
+use Rattle.image_loading.specs.Files.{AreFilePages, AreGoodCells}
 use Rattle.domain_bringing.specs.Brought.{HasBitmaps, HasDomainPages, IsGoodFrame, IsLaidOut}
 use Rattle.domain_bringing.specs.Files.{HasPagesOfAll}
 use Rattle.domain_bringing.proofs.FileHomes.{IsFilePage, has_said}

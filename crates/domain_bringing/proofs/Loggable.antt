@@ -15,10 +15,10 @@ use Rattle.domain_layout.specs.DirectoryRules.{Has}
 use Rattle.domain_layout.specs.Reached.{Frame, MayBe, first_cells}
 use Rattle.domain_layout.specs.Seen.{SeenFile}
 use Rattle.domain_layout.proofs.NoTables.{none_of_extents, none_of_tables}
-use Rattle.fault_laws.specs.Looks.{IsLookedAt, IsOfBitmap, IsOfDirectory, IsOfFiles, IsOfTables}
+use Rattle.metadata_loading.specs.Looks.{IsLookedAt, IsOfBitmap, IsOfDirectory, IsOfFiles, IsOfTables}
 use Rattle.shape_laws.proofs.MayStand.{has_may}
 use Rattle.image_loading.proofs.NoneBroken.{one_table}
-use Rattle.fileset_shapes.proofs.Held.{says_table}
+use Rattle.shape_laws.proofs.Held.{says_table}
 use Rattle.domain_bringing.specs.Brought.{IsGoodFrame}
 
 -- behind label, anchors and bitmap stand two pages at least

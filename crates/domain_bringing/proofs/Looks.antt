@@ -14,10 +14,10 @@ use Rattle.domain_layout.specs.Seen.{SeenFile}
 use Rattle.domain_layout.specs.TagRules.{HasTags}
 use Rattle.layout_laws.specs.Alike.{AgreeOnWay}
 use Rattle.layout_laws.proofs.CellsAlike.{reaches, used_alike}
-use Rattle.fault_laws.specs.Looks.{IsComeTo, IsLookedAt, IsOfFiles, IsOfTables}
-use Rattle.fault_laws.proofs.Files.{has_alike}
-use Rattle.fault_laws.proofs.Sides.{AreSides}
-use Rattle.fileset_shapes.proofs.Held.{says_table}
+use Rattle.metadata_loading.specs.Looks.{IsComeTo, IsLookedAt, IsOfFiles, IsOfTables}
+use Rattle.metadata_loading.proofs.Files.{has_alike}
+use Rattle.metadata_loading.proofs.Sides.{AreSides}
+use Rattle.shape_laws.proofs.Held.{says_table}
 use Rattle.image_loading.proofs.NoneBroken.{one_table}
 
 module _ (one other : Pages) (layout : Layout) (s : AreSides one other layout) where

@@ -30,9 +30,9 @@ use Rattle.domain_layout.proofs.NoTables.{none_of_extents, none_of_tables}
 use Rattle.layout_laws.specs.Agreeing.{AgreeOn}
 use Rattle.layout_laws.proofs.FilledAlike.{filled_at_homes}
 use Rattle.layout_laws.proofs.OnePage.{some_same}
-use Rattle.fault_laws.specs.Looks.{AgreeWhereRulesLook}
-use Rattle.fault_laws.proofs.SameFaults.{same_faults, same_lists, sides}
-use Rattle.fault_laws.proofs.Sides.{AreSides, flipped}
+use Rattle.metadata_loading.specs.Looks.{AgreeWhereRulesLook}
+use Rattle.metadata_loading.proofs.SameFaults.{same_faults, same_lists, sides}
+use Rattle.metadata_loading.proofs.Sides.{AreSides, flipped}
 use Rattle.shape_laws.proofs.InShapes.{HasSome, in_shapes}
 use Rattle.shape_laws.proofs.MayStand.{has_may}
 use Rattle.shape_laws.proofs.SameShapes.{shapes_alike}

@@ -20,8 +20,8 @@ use Rattle.domain_layout.specs.Read.{ReadsFrom}
 use Rattle.staged_pages.specs.Store.{before_of, pages_of}
 use Rattle.page_ways.specs.Frame.{frame_in}
 use Rattle.filesets_reading.specs.Good.{IsNamed}
-use Rattle.fileset_shapes.specs.Found.{HasAllPages}
-use Rattle.member_laws.specs.Within.{IsInside}
+use Rattle.shape_laws.specs.Found.{HasAllPages}
+use Rattle.image_loading.specs.Within.{IsInside}
 use Rattle.metadata_loading.specs.Loading.{HasWhereRulesLook}
 use Rattle.domain_bringing.specs.declared.bringing.Brought.{Brought}
 

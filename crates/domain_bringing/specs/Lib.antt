@@ -2,3 +2,5 @@ pub mod Range
 pub mod Fault
 pub mod Files
 pub mod Brought
+pub use Rattle.metadata_loading.specs.Loading
+pub use Rattle.metadata_loading.specs.Looks

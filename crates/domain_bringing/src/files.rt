@@ -5,7 +5,7 @@ ghost use Rattle.file_runs.specs.Runs.{home_in};
 ghost use Rattle.filesets_reading.specs.Good.{IsNamed};
 ghost use Rattle.log_ring.specs.Homes.{HasMembers};
 ghost use Rattle.metadata_loading.specs.Loading.{Brings, HasWhereRulesLook, NamesCause};
-ghost use Rattle.page_faults.specs.Files.{AreFilePages};
+ghost use Rattle.image_loading.specs.Files.{AreFilePages};
 ghost use Rattle.page_ways.specs.Frame.{frame_in};
 ghost use Rattle.domain_bringing.specs.Brought.{HasDomainPages, IsLaidOut};
 ghost use Rattle.domain_bringing.specs.Files.{HasPagesOf, HasPagesOfAll, IsThereWithin};

@@ -22,11 +22,11 @@ use Rattle.domain_layout.specs.Read.{contents_of}
 use Rattle.bitmap_marks.specs.Marks.{bitmap_home, is_marked}
 use Rattle.bitmap_marks.specs.Marking.{ChangeBits, IsHeldIn, IsOfBitmap, IsPageIn, SayHeld}
 use Rattle.bitmap_marks.proofs.Volumes.{volume_changed}
-use Rattle.domain_standing.specs.Chains.{IndexesAt}
-use Rattle.domain_standing.specs.Domain.{DomainNow, item_in}
-use Rattle.domain_standing.specs.Holders.{AreHeldAt, Holder, Holds}
-use Rattle.domain_standing.specs.Sources.{StandAlone}
-use Rattle.domain_standing.specs.Standing.{HaveParents, IsMarkedBut, StandsDomain}
+use Rattle.standing_laws.specs.Chains.{IndexesAt}
+use Rattle.standing_laws.specs.Domain.{DomainNow, item_in}
+use Rattle.standing_laws.specs.Holders.{AreHeldAt, Holder, Holds}
+use Rattle.standing_laws.specs.Sources.{StandAlone}
+use Rattle.standing_laws.specs.Standing.{HaveParents, IsMarkedBut, StandsDomain}
 use Rattle.deferred_delete.specs.Standing.{Files}
 use Rattle.page_ways.specs.Frame.{frame_in}
 use Rattle.quota_book.specs.Book.{Book}
@@ -39,7 +39,7 @@ use Rattle.domain_memory.specs.Staged.{IsSettled, IsStaged, IsStagedForSome, May
 use Rattle.domain_memory.specs.declared.memory.DomainMemory.{DomainMemory}
 use Rattle.domain_memory.proofs.KeptSpace.{kept_is}
 use Rattle.domain_memory.proofs.SlotsKept.{book_kept, book_same, places_kept, places_same}
-use Rattle.domain_standing.proofs.SourcesStay.{sources_stay}
+use Rattle.standing_laws.proofs.SourcesStay.{sources_stay}
 use Rattle.standing_laws.specs.Leads.{StandsBelow}
 use Rattle.standing_laws.specs.OtherPages.{KeepsPages, KeepsWhere}
 use Rattle.standing_laws.proofs.MemoryKept.{all_kept_stands, below_kept}

@@ -10,9 +10,9 @@ use Rattle.fileset_table.specs.Table.{IsTable}
 use Rattle.fileset_table.specs.declared.slot.SlotItem.{SlotItem}
 use Rattle.domain_layout.specs.Layout.{AreTagPlaces, first_tag_of}
 use Rattle.layout_laws.proofs.OnePage.{one_of}
-use Rattle.domain_standing.specs.Chains.{StandsInSlot}
-use Rattle.domain_standing.specs.Domain.{DomainNow, item_in}
-use Rattle.domain_standing.specs.Standing.{StandsDomain}
+use Rattle.standing_laws.specs.Chains.{StandsInSlot}
+use Rattle.standing_laws.specs.Domain.{DomainNow, item_in}
+use Rattle.standing_laws.specs.Standing.{StandsDomain}
 use Rattle.domain_parts.specs.Slots.{CanGoBack, ChangesSlot, ChangesSlots, HasNumber, IsKept, IsTakenBack, places_in, slot_in}
 use Rattle.domain_parts.specs.declared.slots.SlotFiles.{SlotFiles}
 use Rattle.domain_parts.proofs.TagsForgotten.{taken_was}

@@ -4,7 +4,7 @@ use Rattle.domain_base.specs.declared.place.CellAt.{CellAt}
 use Rattle.page_store.specs.Pages.{Pages}
 use Rattle.free_cells.specs.Cells.{Cells, is_closed, is_free, table_of}
 use Rattle.log_ring.specs.Homes.{IsMember}
-use Rattle.attaching_laws.specs.Space.{AreCellsOf, IsFreeAt, IsOpen}
+use Rattle.attached_space.specs.Space.{AreCellsOf, IsFreeAt, IsOpen}
 use Rattle.domain_layout.specs.Layout.{Layout}
 
 module _ (pages : Pages) (one other : Layout) (same_anchor : other.anchor ≡ one.anchor) (tables : (vol : ℕ) → IsMember one.anchor vol → other.cells vol ≡ one.cells vol) where

@@ -5,7 +5,7 @@ use Rattle.page_store.specs.Pages.{Pages}
 use Rattle.domain_layout.specs.Reached.{Frame}
 use Rattle.free_space.specs.Spaces.{Spaces, change_volumes, kept_spaces, volume_of}
 use Rattle.free_space.specs.VolumeSpace.{VolumeSpace, as_kept, keeping}
-use Rattle.attaching_laws.specs.Marks.{IsMarked, IsMarkedAt}
+use Rattle.attached_space.specs.Marks.{IsMarked, IsMarkedAt}
 
 kept_once : (o : Option VolumeSpace) → option_map as_kept (option_map keeping o) ≡ option_map keeping o
 kept_once None = refl

@@ -15,10 +15,10 @@ use Rattle.quota_book.specs.Sums.{IsBookOf}
 use Rattle.bitmap_marks.specs.Marks.{is_marked}
 use Rattle.bitmap_marks.proofs.Volumes.{volume_changed}
 use Rattle.domain_layout.specs.Read.{contents_of}
-use Rattle.domain_standing.specs.Domain.{DomainNow}
-use Rattle.domain_standing.specs.Sources.{StandAlone}
-use Rattle.domain_standing.specs.Standing.{AreBooksOf, HaveParents, IsMarkedBut, StandsDomain}
-use Rattle.domain_standing.proofs.SourcesStay.{sources_stay}
+use Rattle.standing_laws.specs.Domain.{DomainNow}
+use Rattle.standing_laws.specs.Sources.{StandAlone}
+use Rattle.standing_laws.specs.Standing.{AreBooksOf, HaveParents, IsMarkedBut, StandsDomain}
+use Rattle.standing_laws.proofs.SourcesStay.{sources_stay}
 use Rattle.standing_laws.proofs.MemoryKept.{all_kept_stands, below_kept}
 use Rattle.standing_laws.specs.Sound.{IsSound}
 use Rattle.standing_laws.proofs.SoundInPlace.{sound_memory}

@@ -11,7 +11,7 @@ use Rattle.storage_bitmap.specs.Bits.{is_set}
 use Rattle.log_ring.specs.Homes.{IsMember, member_of}
 use Rattle.free_space.specs.Spaces.{IsHeld, Spaces, volume_of}
 use Rattle.free_space.specs.VolumeSpace.{VolumeSpace, is_among}
-use Rattle.attaching_laws.specs.Marks.{HasBitmaps, IsMarked, IsMarkedAt}
+use Rattle.attached_space.specs.Marks.{HasBitmaps, IsMarked, IsMarkedAt}
 use Rattle.bitmap_marks.specs.Marks.{bitmap_home, is_marked}
 use Rattle.domain_layout.specs.Reached.{Frame}
 use Rattle.layout_laws.specs.NewDomain.{IsNew, IsNewBitmap, size_of}

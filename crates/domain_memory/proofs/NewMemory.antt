@@ -16,10 +16,10 @@ use Rattle.fileset_table.specs.Table.{IsNewTable}
 use Rattle.fileset_table.specs.declared.slot.SlotItem.TheVariants as slot
 use Rattle.quota_book.specs.Book.{Book}
 use Rattle.deferred_delete.specs.Listing.{IsEmpty}
-use Rattle.filesets_reading.specs.Good.{AreGood}
-use Rattle.attaching_laws.specs.Marks.{IsMarked}
-use Rattle.attaching_laws.specs.Space.{AreCellsOf, AreFew, IsSpaceOf}
-use Rattle.attaching_laws.proofs.Marked.{marked_space}
+use Rattle.attached_space.specs.Good.{AreGood}
+use Rattle.attached_space.specs.Marks.{IsMarked}
+use Rattle.attached_space.specs.Space.{AreCellsOf, AreFew, IsSpaceOf}
+use Rattle.attached_space.proofs.Marked.{marked_space}
 use Rattle.domain_layout.specs.Layout.{IsLayout, Layout}
 use Rattle.domain_layout.specs.Owners.{frame_of}
 use Rattle.domain_layout.specs.Reached.{Frame}
@@ -27,10 +27,10 @@ use Rattle.domain_layout.proofs.NoTables.{none_of_tables}
 use Rattle.layout_laws.specs.NewDomain.{IsNew, IsNewTablePage, firsts, on_first, size_of}
 use Rattle.layout_laws.proofs.NewDomain.{no_fault}
 use Rattle.layout_laws.proofs.NewTags.{all_free, has_none}
-use Rattle.domain_standing.specs.Domain.{DomainNow, layout_of}
-use Rattle.domain_standing.specs.Sources.{StandAlone}
-use Rattle.domain_standing.specs.Standing.{AreBooksOf, HaveParents, IsMarkedBut, StandsDomain}
-use Rattle.domain_standing.proofs.NewDomain.{new_alone, new_stands}
+use Rattle.standing_laws.specs.Domain.{DomainNow, layout_of}
+use Rattle.standing_laws.specs.Sources.{StandAlone}
+use Rattle.standing_laws.specs.Standing.{AreBooksOf, HaveParents, IsMarkedBut, StandsDomain}
+use Rattle.standing_laws.proofs.NewDomain.{new_alone, new_stands}
 use Rattle.standing_laws.specs.Sound.{IsSound}
 use Rattle.domain_making.specs.Making.{new_frame}
 use Rattle.page_ways.specs.Frame.{frame_in}

@@ -21,11 +21,11 @@ use Rattle.deferred_delete.specs.declared.list.Entry.{Entry}
 use Rattle.domain_layout.specs.Faults.{HasNoFault}
 use Rattle.domain_layout.specs.Reached.{IsWithin}
 use Rattle.domain_layout.specs.TagRules.{quota_of}
-use Rattle.domain_standing.specs.Chains.{IsQuotaOf, IsTagged}
-use Rattle.domain_standing.specs.Domain.{DomainNow, item_in}
-use Rattle.domain_standing.specs.Holders.{Holder, Holds}
-use Rattle.domain_standing.specs.Holders.Holder.{of_cells, of_file, of_index, of_log, of_table, of_tags, of_volume}
-use Rattle.domain_standing.specs.Standing.{StandsDomain}
+use Rattle.standing_laws.specs.Chains.{IsQuotaOf, IsTagged}
+use Rattle.standing_laws.specs.Domain.{DomainNow, item_in}
+use Rattle.standing_laws.specs.Holders.{Holder, Holds}
+use Rattle.standing_laws.specs.Holders.Holder.{of_cells, of_file, of_index, of_log, of_table, of_tags, of_volume}
+use Rattle.standing_laws.specs.Standing.{StandsDomain}
 use Rattle.standing_laws.specs.Sound.{IsSound}
 use Rattle.standing_laws.proofs.SoundTables.{faultless_cells, faultless_laters}
 

@@ -4,9 +4,9 @@ use Rattle.fileset_model.specs.Filesets.{FilesetMap}
 use Rattle.page_ways.specs.Frame.{frame_in}
 use Rattle.quota_book.specs.Book.{Book}
 use Rattle.domain_layout.specs.Read.{contents_of}
-use Rattle.domain_standing.specs.Domain.{DomainNow}
-use Rattle.domain_standing.specs.Sources.{StandAlone}
-use Rattle.domain_standing.specs.Standing.{AreBooksOf, HaveParents, IsMarkedBut, StandsDomain}
+use Rattle.standing_laws.specs.Domain.{DomainNow}
+use Rattle.standing_laws.specs.Sources.{StandAlone}
+use Rattle.standing_laws.specs.Standing.{AreBooksOf, HaveParents, IsMarkedBut, StandsDomain}
 use Rattle.standing_laws.specs.Sound.{IsSound}
 use Rattle.domain_parts.specs.Listing.{list_with}
 use Rattle.domain_memory.specs.Memory.{StandsFor, books_in, kept_in, with_was}

@@ -5,7 +5,7 @@ use Rattle.free_cells.specs.Cells.{is_closed, kept_of}
 use Rattle.fileset_table.specs.declared.slot.FilesetEntry.{FilesetEntry}
 use Rattle.fileset_table.specs.declared.slot.SlotItem.TheVariants as slot
 use Rattle.staged_pages.specs.Store.{before_of}
-use Rattle.domain_standing.specs.Domain.{item_in}
+use Rattle.standing_laws.specs.Domain.{item_in}
 use Rattle.domain_parts.specs.Slots.{kept_places, slot_in}
 use Rattle.domain_memory.specs.Memory.{books_in, kept_in, with_was}
 use Rattle.domain_memory.specs.declared.memory.DomainMemory.{DomainMemory}

@@ -8,9 +8,9 @@ use Rattle.staged_pages.specs.Store.{before_of}
 use Rattle.page_ways.specs.Frame.{frame_in}
 use Rattle.quota_book.specs.Book.{Book}
 use Rattle.domain_layout.specs.Read.{contents_of}
-use Rattle.domain_standing.specs.Domain.{DomainNow}
-use Rattle.domain_standing.specs.Sources.{StandAlone}
-use Rattle.domain_standing.specs.Standing.{AreBooksOf, HaveParents, IsMarkedBut, StandsDomain}
+use Rattle.standing_laws.specs.Domain.{DomainNow}
+use Rattle.standing_laws.specs.Sources.{StandAlone}
+use Rattle.standing_laws.specs.Standing.{AreBooksOf, HaveParents, IsMarkedBut, StandsDomain}
 use Rattle.standing_laws.specs.Sound.{IsSound}
 use Rattle.domain_parts.specs.Slots.{kept_book, kept_places, slot_in}
 use Rattle.domain_memory.specs.declared.memory.DomainMemory.{DomainMemory}

@@ -19,8 +19,8 @@ use Rattle.fileset_table.specs.declared.slot.FilesetEntry.{FilesetEntry}
 use Rattle.fileset_table.specs.declared.slot.SlotItem.TheVariants as slot
 use Rattle.quota_book.specs.QuotaCells.{touched}
 use Rattle.quota_chain.specs.QuotaChain.{IsQuotaChain, SetsLimits, TakesIfUntouched, said_in}
-use Rattle.quota_laws.specs.Setting.{IsChainIn, SetsIn}
-use Rattle.quota_laws.proofs.PagesWritten.{still_set, still_starts}
+use Rattle.release_laws.specs.Setting.{IsChainIn, SetsIn}
+use Rattle.release_laws.proofs.PagesWritten.{still_set, still_starts}
 use Rattle.deferred_delete.specs.Standing.{Files, with_file}
 use Rattle.deferred_delete.specs.Steps.{Now}
 use Rattle.domain_layout.specs.TagRules.{quota_of}

@@ -6,3 +6,10 @@ pub mod Slots
 pub mod Rest
 pub mod Sources
 pub mod Standing
+pub use Rattle.attaching_laws.specs.Space
+pub use Rattle.attaching_laws.specs.Sets
+pub use Rattle.attaching_laws.specs.Keeping
+pub use Rattle.attaching_laws.specs.Marks
+pub use Rattle.attaching_laws.specs.Files
+pub use Rattle.attaching_laws.specs.Found
+pub use Rattle.attaching_laws.specs.Good

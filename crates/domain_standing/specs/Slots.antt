@@ -3,7 +3,7 @@ use Rattle.std.specs.Prelude.{◌≡◌, ℕ, false, Some}
 use Rattle.fileset_model.specs.Filesets.{FilesetMap}
 use Rattle.fileset_table.specs.declared.slot.FilesetEntry.{FilesetEntry}
 use Rattle.fileset_table.specs.declared.slot.SlotItem.TheVariants as slot
-use Rattle.stored_set.specs.Sets.{StandsAsSet}
+use Rattle.attaching_laws.specs.Sets.{StandsAsSet}
 use Rattle.domain_layout.specs.CellRules.{of_clone}
 use Rattle.domain_layout.specs.Filled.{AreFilled}
 use Rattle.domain_layout.specs.Shape.{AreShapesOf, FilesetShape, Shapes}

@@ -11,7 +11,7 @@ use Rattle.log_ring.specs.Homes.{IsMember, member_of}
 use Rattle.disk_label.specs.declared.anchor.Anchor.{Anchor}
 use Rattle.fileset_table.specs.Table.{Table}
 use Rattle.history_model.specs.State.{Member, State, rack_of}
-use Rattle.attaching_laws.specs.Space.{IsOpen}
+use Rattle.domain_standing.specs.Space.{IsOpen}
 use Rattle.domain_layout.specs.DirectoryRules.{Has}
 use Rattle.domain_layout.specs.Layout.{IsLayout, Layout}
 use Rattle.domain_layout.specs.Owners.{BelongsTo, frame_of}

@@ -12,7 +12,7 @@ use Rattle.domain_layout.specs.Filled.{Fills, IsFilled, IsRole}
 use Rattle.domain_layout.specs.Read.{contents_of}
 use Rattle.domain_layout.specs.Seen.{SeenFile}
 use Rattle.domain_layout.specs.Shape.{FilesetShape, limits_in}
-use Rattle.filesets_reading.specs.Seen.{IsSeenAs, IsSeenThere}
+use Rattle.shape_reading.specs.Seen.{IsSeenAs, IsSeenThere}
 use Rattle.fileset_laws.proofs.ValidLemmas.{from_some_and, some_inj, to_some_and}
 use Rattle.fileset_laws.specs.Valid.{IsValidFileset, IsValidSlot}
 use Rattle.fileset_model.specs.Fileset.{Fileset}

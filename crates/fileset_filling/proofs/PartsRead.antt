@@ -21,7 +21,7 @@ use Rattle.fileset_model.specs.declared.node.Node.TheVariants as node
 use Rattle.domain_layout.specs.Filled.{IsFilled}
 use Rattle.domain_layout.specs.Read.{contents_of}
 use Rattle.domain_layout.specs.Seen.{SeenFile}
-use Rattle.filesets_reading.specs.Seen.{IsSeenAs, home_in}
+use Rattle.shape_reading.specs.Seen.{IsSeenAs, home_in}
 use Rattle.name_space.specs.Names.{IsNodeOf}
 use Rattle.name_space.proofs.Originals.{tag_itself, tags_same}
 use Rattle.row_paths.specs.Stored.{AreRowPages, IsRowsAt, rows_at, rows_of_homes}

@@ -11,7 +11,7 @@ use Rattle.domain_layout.specs.Filled.{IsFilled}
 use Rattle.domain_layout.specs.Read.{contents_of}
 use Rattle.domain_layout.specs.Seen.{SeenFile}
 use Rattle.fileset_laws.specs.Valid.{HasWholePages}
-use Rattle.filesets_reading.specs.Seen.{IsSeenAs}
+use Rattle.shape_reading.specs.Seen.{IsSeenAs}
 use Rattle.row_paths.specs.Stored.{AreRowPages, rows_of_homes}
 use Rattle.row_paths.specs.declared.led.DirectoryRows.{DirectoryRows}
 use Rattle.fileset_names.specs.declared.parts.TaggedNode.{TaggedNode}

@@ -12,3 +12,13 @@ pub mod SeenShapes
 pub mod ShapeFacts
 pub mod Roots
 pub mod AllShapes
+pub use Rattle.filesets_reading.proofs.OnTables
+pub use Rattle.shape_reading.proofs.Answered
+pub use Rattle.shape_reading.proofs.Said
+pub use Rattle.filesets_reading.proofs.Ways
+pub use Rattle.filesets_reading.proofs.CellTables
+pub use Rattle.filesets_reading.proofs.ChainsApart
+pub use Rattle.filesets_reading.proofs.ChainsThere
+pub use Rattle.filesets_reading.proofs.FirstCells
+pub use Rattle.filesets_reading.proofs.Layouts
+pub use Rattle.filesets_reading.proofs.TagPlaces

@@ -4,3 +4,6 @@ pub mod Indexes
 pub mod Files
 pub mod Sources
 pub mod Shapes
+pub use Rattle.shape_reading.specs.Limits
+pub use Rattle.filesets_reading.specs.Seen
+pub use Rattle.filesets_reading.specs.Good

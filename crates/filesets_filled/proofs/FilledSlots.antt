@@ -16,7 +16,7 @@ use Rattle.fileset_model.specs.Paths.{same_name}
 use Rattle.fileset_table.specs.Table.{HaveOwnNames, Table, entry_of, has_name, share_name}
 use Rattle.fileset_table.specs.declared.slot.FilesetEntry.{FilesetEntry}
 use Rattle.fileset_table.specs.declared.slot.SlotItem.{SlotItem}
-use Rattle.directory_facts.proofs.Decided.{list_decided}
+use Rattle.shows_fileset.proofs.Decided.{list_decided}
 use Rattle.std.proofs.lemmas.Option.{slice_get_within}
 use Rattle.domain_base.specs.declared.place.Home.{Home}
 use Rattle.domain_layout.specs.Reached.{Frame}

@@ -30,10 +30,10 @@ use Rattle.filesets_reading.specs.Tables.{AreTablesOf}
 use Rattle.filesets_reading.specs.declared.tables.DomainTables.{DomainTables}
 use Rattle.fileset_names.specs.Rows.{AreWhole}
 use Rattle.fileset_names.specs.Trees.{MayBeOf}
-use Rattle.directory_facts.specs.Showing.{HaveTheirIndexes, ListsDirectories, ShowsFileset}
-use Rattle.directory_facts.proofs.Entries.{distinct_map, distinct_once, in_map, once_distinct}
-use Rattle.directory_facts.proofs.Indexes.{indexes}
-use Rattle.directory_facts.proofs.RowRules.{all_led, are_rows}
+use Rattle.shows_fileset.specs.Showing.{HaveTheirIndexes, ListsDirectories, ShowsFileset}
+use Rattle.shows_fileset.proofs.Entries.{distinct_map, distinct_once, in_map, once_distinct}
+use Rattle.shows_fileset.proofs.Indexes.{indexes}
+use Rattle.shows_fileset.proofs.RowRules.{all_led, are_rows}
 use Rattle.fileset_shapes.specs.Files.{IsWhole}
 use Rattle.fileset_shapes.proofs.Held.{says_table}
 use Rattle.fileset_shapes.specs.Found.{HasAllPages, HaveOwnTags, SeesFileset, SeesItem, SeesShape, SeesSlot, file_at, shown_by}

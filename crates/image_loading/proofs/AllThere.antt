@@ -18,10 +18,10 @@ use Rattle.domain_layout.specs.Owners.{frame_of}
 use Rattle.domain_layout.specs.Reached.{Frame, IsWithin, cells_way, index_way, tags_way}
 use Rattle.domain_layout.specs.TagRules.{HasTags}
 use Rattle.domain_loading.specs.Tables.{HasTables}
-use Rattle.fault_laws.specs.Looks.{IsLookedAt, IsOfBitmap, IsOfDirectory, IsOfFiles, IsOfIndex, IsOfTables}
-use Rattle.fault_laws.proofs.Files.{has_alike}
-use Rattle.fault_laws.proofs.Owned.{AreTables, layout_alike}
-use Rattle.fault_laws.proofs.TablesAgree.{AgreeOnTables, no_tables_alike, says_alike, table_fault_alike, turned_tables}
+use Rattle.metadata_loading.specs.Looks.{IsLookedAt, IsOfBitmap, IsOfDirectory, IsOfFiles, IsOfIndex, IsOfTables}
+use Rattle.metadata_loading.proofs.Files.{has_alike}
+use Rattle.metadata_loading.proofs.Owned.{AreTables, layout_alike}
+use Rattle.metadata_loading.proofs.TablesAgree.{AgreeOnTables, no_tables_alike, says_alike, table_fault_alike, turned_tables}
 use Rattle.home_sets.specs.Members.{IsIn}
 use Rattle.home_sets.specs.declared.set.HomeSet.{HomeSet}
 use Rattle.index_loading.specs.Indexes.{HasIndexes}

@@ -1,1 +1,3 @@
 pub mod Loaded
+pub use Rattle.index_loading.specs.Files
+pub use Rattle.member_laws.specs.Within

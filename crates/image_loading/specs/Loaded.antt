@@ -11,7 +11,7 @@ use Rattle.domain_layout.specs.Layout.{IsLayout, Layout}
 use Rattle.domain_layout.specs.Owners.{frame_of}
 use Rattle.domain_layout.specs.Reached.{Frame, IsWithin}
 use Rattle.domain_layout.specs.Seen.{SeenFile}
-use Rattle.fault_laws.specs.Looks.{IsOfDirectory}
+use Rattle.metadata_loading.specs.Looks.{IsOfDirectory}
 use Rattle.home_sets.specs.Members.{IsIn}
 use Rattle.home_sets.specs.declared.set.HomeSet.{HomeSet}
 use Rattle.index_loading.specs.Indexes.{HasIndexes}

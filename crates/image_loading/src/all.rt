@@ -2,7 +2,7 @@
 ghost use Rattle.std.specs.Prelude.{◌≡◌, List, OnOk};
 ghost use Rattle.domain_layout.specs.Faults.{HasNoTablesFault};
 ghost use Rattle.domain_loading.specs.Tables.{HasTables};
-ghost use Rattle.fault_laws.specs.Looks.{AgreeWhereRulesLook};
+ghost use Rattle.metadata_loading.specs.Looks.{AgreeWhereRulesLook};
 ghost use Rattle.filesets_reading.specs.Good.{IsNamed};
 ghost use Rattle.image_loading.specs.Loaded.{BringsFiles};
 ghost use Rattle.log_ring.specs.Groups.{Group, redone};

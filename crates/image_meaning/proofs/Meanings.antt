@@ -26,8 +26,8 @@ use Rattle.domain_layout.specs.Owners.{frame_of}
 use Rattle.domain_layout.specs.Reached.{Frame, IsWithin}
 use Rattle.domain_layout.specs.Read.{Means, ReadsFrom}
 use Rattle.fileset_model.specs.Filesets.{FilesetMap}
-use Rattle.fileset_shapes.specs.Found.{HasAllPages}
-use Rattle.filesets_reading.specs.Good.{frame_at}
+use Rattle.member_laws.specs.Found.{HasAllPages}
+use Rattle.member_laws.specs.Good.{frame_at}
 use Rattle.filesets_filled.specs.Slots.{IsLaidOut}
 use Rattle.domain_faults.specs.Rows.{rows_there}
 use Rattle.member_laws.specs.Within.{AgreeWithin, IsInside}

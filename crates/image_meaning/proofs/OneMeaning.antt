@@ -17,7 +17,7 @@ use Rattle.log_recovery.proofs.OneOutcome.{has_one_fault}
 use Rattle.domain_layout.specs.Faults.{AreFaults, AreInOrder, FaultRow, HasNoFault, IsBefore, IsFault}
 use Rattle.domain_layout.specs.Read.{Means}
 use Rattle.domain_layout.specs.Reached.{Frame}
-use Rattle.filesets_reading.specs.Good.{frame_at}
+use Rattle.member_laws.specs.Good.{frame_at}
 use Rattle.layout_laws.proofs.OneMeaning.{means_once}
 use Rattle.layout_laws.proofs.OnePage.{some_same}
 use Rattle.domain_faults.specs.Rows.{rows_there}

@@ -14,7 +14,7 @@ use Rattle.fileset_model.specs.Filesets.{FilesetMap}
 use Rattle.fileset_model.specs.LooksLike.{LooksLike}
 use Rattle.domain_layout.specs.Faults.{AreFaults, FaultRow, HasNoFault}
 use Rattle.domain_layout.specs.Read.{Means, ReadsFrom}
-use Rattle.filesets_reading.specs.Good.{frame_at}
+use Rattle.member_laws.specs.Good.{frame_at}
 use Rattle.filesets_filled.specs.Slots.{IsLaidOut}
 use Rattle.domain_faults.specs.Rows.{rows_there}
 use Rattle.log_recovery.specs.declared.fault.RecoverFault.{RecoverFault}

@@ -3,8 +3,8 @@ ghost use Rattle.std.specs.Prelude.{◌≡◌, ◌↔◌, [], IfErr, IfOk, IsTru
 ghost use Rattle.domain_faults.specs.Rows.{rows_there};
 ghost use Rattle.volume_disk.specs.Disk.{Tells};
 ghost use Rattle.volume_disk.specs.Run.{OnlyReads};
-ghost use Rattle.filesets_reading.specs.Good.{IsNamed, frame_at};
-ghost use Rattle.fileset_shapes.specs.Found.{HasAllPages};
+ghost use Rattle.member_laws.specs.Good.{IsNamed, frame_at};
+ghost use Rattle.member_laws.specs.Found.{HasAllPages};
 ghost use Rattle.log_recovery.specs.Outcome.{IsSound};
 ghost use Rattle.image_meaning.specs.Meaning.{HasMeaning, IsMeaningOf, IsToldBy, Recovered};
 ghost use Rattle.image_meaning.specs.Pages.{HasCause};

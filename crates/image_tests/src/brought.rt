@@ -1,7 +1,7 @@
 //! Images that stand on a rack: of the pages alone at which the rules look, which are brought from
 //! it, the same faults are told as of all pages.
 ghost use Rattle.std.specs.Prelude.{IsTrue};
-ghost use Rattle.filesets_reading.specs.Good.{IsNamed};
+ghost use Rattle.attached_list.specs.Good.{IsNamed};
 ghost use Rattle.image_tests.specs.Members.{HasMember};
 ghost use Rattle.log_ring.specs.Homes.{HasMembers};
 

@@ -15,8 +15,8 @@ use Rattle.cell_links.specs.declared.links.CellLinks.{CellLinks}
 use Rattle.chain_faults.specs.Links.{AreLinks}
 use Rattle.chain_leads.proofs.Each.{AreFound, Entry, SomeBelow}
 use Rattle.file_runs.proofs.ReadRuns.{other_cells}
-use Rattle.filesets_reading.proofs.Ways.{get_pushed}
-use Rattle.tag_faults.proofs.UsedCells.{used_link}
+use Rattle.page_faults.proofs.Ways.{get_pushed}
+use Rattle.page_faults.proofs.UsedCells.{used_link}
 use Rattle.page_faults.proofs.HomesFound.{named_by}
 use Rattle.index_faults.specs.Indexes.{AddsIndex, AreIndexes, IsNamed}
 use Rattle.index_faults.specs.declared.indexes.IndexAt.{IndexAt}

@@ -8,7 +8,7 @@ use Rattle.page_store.specs.Pages.{Pages}
 use Rattle.domain_layout.specs.DirectoryRules.{HasIndexAt, IsGoodIndexPage, IsWrongIndexPage}
 use Rattle.domain_layout.specs.Reached.{Frame, IsRead, IsUnread, index_way}
 use Rattle.page_ways.specs.Walk.{AreRead}
-use Rattle.tag_faults.proofs.Counted.{IsBelow}
+use Rattle.page_faults.proofs.Counted.{IsBelow}
 use Rattle.index_faults.specs.Indexes.{AreIndexes, IsNamed}
 use Rattle.index_faults.specs.Shared.{HasPage, IsFaultBehind, IsWrongAt}
 use Rattle.index_faults.specs.declared.indexes.IndexAt.{IndexAt}

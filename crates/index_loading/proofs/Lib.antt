@@ -1,1 +1,3 @@
 pub mod Named
+pub use Rattle.index_faults.proofs.FilesFound
+pub use Rattle.index_faults.proofs.OneMaps

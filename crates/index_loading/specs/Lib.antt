@@ -1,1 +1,2 @@
 pub mod Indexes
+pub use Rattle.index_faults.specs.Files

@@ -1,6 +1,6 @@
 //! The pages of the indexes that cells name.
 ghost use Rattle.std.specs.Prelude.{◌≡◌, OnOk};
-ghost use Rattle.chain_faults.specs.Links.{AreLinks};
+ghost use Rattle.index_faults.specs.Links.{AreLinks};
 ghost use Rattle.index_loading.specs.Indexes.{HasIndexes};
 ghost use Rattle.log_ring.specs.Homes.{HasMembers};
 ghost use Rattle.metadata_loading.specs.Loading.{Brings, HasCells, NamesCause};

@@ -11,3 +11,4 @@ pub mod RowKeys
 pub mod RowsKeyed
 pub mod Undues
 pub mod WrongFound
+pub use Rattle.index_faults.proofs.HomesFound

@@ -16,7 +16,7 @@ use Rattle.dir_pages.specs.declared.row.Row.{Row}
 use Rattle.dir_rows.specs.Directory.{count_hash}
 use Rattle.directory_facts.proofs.Decided.{dir_page_decided, kind_decided, tag_decided}
 use Rattle.fileset_table.specs.Table.{Table}
-use Rattle.filesets_reading.specs.Seen.{home_in}
+use Rattle.row_faults.specs.Seen.{home_in}
 use Rattle.domain_layout.specs.DirectoryRules.{CountsRows, IsDirectoryPage, IsRow, RowPlace}
 use Rattle.domain_layout.specs.Reached.{Frame, IsWithin}
 use Rattle.row_faults.specs.Rows.{AreRowsIn, place_of, rows_placed}

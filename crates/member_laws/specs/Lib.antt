@@ -1,1 +1,3 @@
 pub mod Within
+pub use Rattle.fileset_shapes.specs.Found
+pub use Rattle.fileset_shapes.specs.Good

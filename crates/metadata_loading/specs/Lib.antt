@@ -1,1 +1,2 @@
 pub mod Loading
+pub use Rattle.fault_laws.specs.Looks

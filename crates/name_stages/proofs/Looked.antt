@@ -12,7 +12,7 @@ use Rattle.bitfile_core.proofs.Created.{one_chains}
 use Rattle.bitfile_store.specs.declared.parts.CallSettings.{CallSettings}
 use Rattle.set_laws.proofs.Stable.{one_number}
 use Rattle.set_laws.proofs.Told.{kind_told}
-use Rattle.stored_set.specs.Sets.{StandsAsSet}
+use Rattle.bitfile_store.specs.Sets.{StandsAsSet}
 use Rattle.fileset_model.specs.Orders.{Path}
 use Rattle.fileset_model.specs.Paths.{is_directory, target_refusal}
 use Rattle.fileset_model.specs.declared.fileset.FilesetSlot.{FilesetSlot}

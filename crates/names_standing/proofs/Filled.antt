@@ -29,15 +29,15 @@ use Rattle.fileset_table.specs.declared.slot.SlotItem.TheVariants as slot
 use Rattle.name_space.specs.Changes.{IsOriginal as MakesOriginal}
 use Rattle.name_space.specs.Names.{IsNodeOf, led_to, number_of}
 use Rattle.name_space.proofs.Originals.{all_shown, is_in, number_at, one_tag, path_at}
-use Rattle.stored_set.specs.Sets.{StandsAsSet}
+use Rattle.set_standing.specs.Sets.{StandsAsSet}
 use Rattle.deferred_delete.proofs.Spread.{none_not, some_same}
 use Rattle.domain_layout.specs.Filled.{IsFilled, IsRole}
 use Rattle.domain_layout.specs.Seen.{SeenFile, seen_in}
 use Rattle.domain_layout.specs.Shape.{FilesetShape, IsOriginal}
-use Rattle.fileset_shapes.proofs.OriginalFiles.{kept}
-use Rattle.domain_standing.specs.Domain.{DomainNow, item_in}
-use Rattle.domain_standing.specs.Tables.{StandTables}
-use Rattle.standing_laws.specs.Slots.{StandsSlot}
+use Rattle.set_standing.proofs.OriginalFiles.{kept}
+use Rattle.set_standing.specs.Domain.{DomainNow, item_in}
+use Rattle.set_standing.specs.Tables.{StandTables}
+use Rattle.set_standing.specs.Slots.{StandsSlot}
 use Rattle.set_standing.specs.Around.{StaysAround}
 use Rattle.set_standing.specs.Follow.{ComesFrom, IsEmptyFile, IsStill, Said, TagsFollow}
 use Rattle.names_standing.specs.Nodes.{IsNewNode, NodesFollow, named_shape}

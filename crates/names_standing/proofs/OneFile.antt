@@ -35,14 +35,14 @@ use Rattle.name_space.specs.Laws.{IsLike}
 use Rattle.name_space.specs.Names.{led_to, number_of}
 use Rattle.name_space.proofs.Likeness.{bytes_free_lem, changes_like_lem}
 use Rattle.name_space.proofs.Originals.{all_shown, is_in, one_tag}
-use Rattle.stored_set.specs.Sets.{StandsAsSet}
+use Rattle.set_standing.specs.Sets.{StandsAsSet}
 use Rattle.domain_layout.specs.Filled.{IsFilled, IsRole}
 use Rattle.domain_layout.specs.Seen.{SeenFile, seen_in}
 use Rattle.domain_layout.specs.Shape.{AreLimits, FilesetShape, IsOriginal}
-use Rattle.node_laws.proofs.Changed.{agree_on}
-use Rattle.domain_standing.specs.Domain.{DomainNow, item_in}
-use Rattle.domain_standing.specs.Tables.{StandTables}
-use Rattle.standing_laws.specs.Slots.{StandsSlot}
+use Rattle.set_standing.proofs.Changed.{agree_on}
+use Rattle.set_standing.specs.Domain.{DomainNow, item_in}
+use Rattle.set_standing.specs.Tables.{StandTables}
+use Rattle.set_standing.specs.Slots.{StandsSlot}
 use Rattle.names_standing.specs.Nodes.{named_shape}
 use Rattle.names_standing.specs.OneFile.{FileFollows, KeepsKind}
 

@@ -11,11 +11,11 @@ ghost use Rattle.fileset_model.specs.declared.node.Node.{Node};
 ghost use Rattle.fileset_table.specs.declared.slot.FilesetEntry.{FilesetEntry};
 ghost use Rattle.fileset_table.specs.declared.slot.SlotItem.TheVariants as slot;
 ghost use Rattle.name_space.specs.Names.{number_of};
-ghost use Rattle.stored_set.specs.Sets.{StandsAsSet};
+ghost use Rattle.set_standing.specs.Sets.{StandsAsSet};
 ghost use Rattle.domain_layout.specs.Shape.{AreLimits, FilesetShape};
-ghost use Rattle.domain_standing.specs.Domain.{DomainNow, item_in};
-ghost use Rattle.domain_standing.specs.Tables.{StandTables};
-ghost use Rattle.standing_laws.specs.Slots.{StandsSlot};
+ghost use Rattle.set_standing.specs.Domain.{DomainNow, item_in};
+ghost use Rattle.set_standing.specs.Tables.{StandTables};
+ghost use Rattle.set_standing.specs.Slots.{StandsSlot};
 ghost use Rattle.names_standing.specs.Nodes.{named_shape};
 ghost use Rattle.names_standing.specs.OneFile.{FileFollows, KeepsKind};
 

@@ -22,12 +22,12 @@ use Rattle.fileset_table.specs.declared.slot.SlotItem.TheVariants as slot
 use Rattle.name_space.specs.Names.{led_to, number_of}
 use Rattle.domain_layout.specs.DirectoryRules.{AreRowsTo, RowPlace}
 use Rattle.layout_laws.proofs.OnePage.{some_same}
-use Rattle.domain_standing.specs.Domain.{DomainNow, item_in}
-use Rattle.domain_standing.specs.Standing.{StandsDomain}
+use Rattle.attached_list.specs.Domain.{DomainNow, item_in}
+use Rattle.attached_list.specs.Standing.{StandsDomain}
 use Rattle.standing_laws.specs.Sound.{StandsSound}
 use Rattle.no_fault_laws.proofs.Originals.{IsOriginalSlot, is_role}
 use Rattle.no_fault_laws.proofs.RowPaths.{IsDirRow, PathRow, dir_row, in_it, its_path, last_parted, leads_number, number_leads, one_path, pages_are, path_row, row_dir, row_on, same_row}
-use Rattle.filesets_reading.proofs.Ways.{get_map}
+use Rattle.attached_space.proofs.Ways.{get_map}
 use Rattle.no_fault_laws.proofs.Ways.{at_of, contains_of, map_at, nothing}
 
 count_more : {X : Type 0} (p : X → Bool) (x : X) (xs : List X) → count_by p (x ∷ xs) ≡ cond (p x) 1 0 + count_by p xs

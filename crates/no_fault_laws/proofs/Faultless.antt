@@ -12,20 +12,20 @@ use Rattle.tag_dirs.specs.TagPage.{next_of}
 use Rattle.bitfile_core.specs.Shown.{index_in, index_of}
 use Rattle.dir_index.specs.Index.{IsIndexPage as IsGoodPage}
 use Rattle.stored_index.specs.Homes.{AreIndexHomes, IsIndexPage}
-use Rattle.attaching_laws.proofs.Showing.{good_by}
+use Rattle.attached_space.proofs.Showing.{good_by}
 use Rattle.fileset_model.specs.Filesets.{FilesetMap}
 use Rattle.domain_layout.proofs.NoTables.{none_of_tables}
 use Rattle.domain_layout.specs.DirectoryRules.{HasIndexAt}
 use Rattle.domain_layout.specs.Faults.{HasNoFault, HasNoTablesFault}
 use Rattle.domain_layout.specs.Owners.{IsOnTable}
 use Rattle.domain_layout.specs.Reached.{Frame, IsRead, IsUnread, IsWithin, Reaches, Way, begins, goes_on, index_way}
-use Rattle.filesets_reading.proofs.Ways.{pushed}
+use Rattle.attached_space.proofs.Ways.{pushed}
 use Rattle.layout_laws.proofs.OnePage.{some_same}
 use Rattle.layout_laws.proofs.OwnedOnce.{index_read, no_extent, no_index, tag_place, used_on}
 use Rattle.layout_laws.proofs.Reached.{is_read, may_be_by}
-use Rattle.domain_standing.specs.Domain.{DomainNow, layout_of}
-use Rattle.domain_standing.specs.Holders.{Holder, Holds}
-use Rattle.domain_standing.specs.Standing.{StandsDomain}
+use Rattle.attached_list.specs.Domain.{DomainNow, layout_of}
+use Rattle.attached_list.specs.Holders.{Holder, Holds}
+use Rattle.attached_list.specs.Standing.{StandsDomain}
 use Rattle.standing_laws.specs.Sound.{IsSound, StandsSound}
 use Rattle.standing_laws.proofs.SoundTables.{faultless_cells, faultless_laters}
 use Rattle.no_fault_laws.proofs.InChains.{chain_is}

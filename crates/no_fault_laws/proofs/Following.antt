@@ -11,9 +11,9 @@ use Rattle.domain_layout.specs.CellRules.{Follows, IsChainHead, IsLink, LeadsTo,
 use Rattle.domain_layout.specs.Owners.{IsOnTable}
 use Rattle.layout_laws.proofs.Named.{link_to}
 use Rattle.layout_laws.proofs.OnePage.{some_same}
-use Rattle.filesets_reading.proofs.Ways.{get_pushed, pushed, within_of}
-use Rattle.domain_standing.specs.Domain.{DomainNow, layout_of}
-use Rattle.domain_standing.specs.Standing.{StandsDomain}
+use Rattle.attached_space.proofs.Ways.{get_pushed, pushed, within_of}
+use Rattle.attached_list.specs.Domain.{DomainNow, layout_of}
+use Rattle.attached_list.specs.Standing.{StandsDomain}
 use Rattle.standing_laws.specs.Sound.{StandsSound}
 use Rattle.no_fault_laws.proofs.InChains.{Found, IsChainOf, all_get, begins_file, chain_is, distinct_at, first_at, in_some_chain, leads_next, may_next, of_quotas}
 use Rattle.no_fault_laws.proofs.OnTables.{LinkOf, link_there, link_used, links_same}

@@ -21,12 +21,12 @@ use Rattle.domain_layout.specs.CellRules.{IsFirstPlace, SaysVolume}
 use Rattle.domain_layout.specs.Owners.{IsOnTable}
 use Rattle.layout_laws.proofs.OnePage.{some_same}
 use Rattle.layout_laws.proofs.Reached.{member_or_none}
-use Rattle.filesets_reading.proofs.Ways.{get_map}
-use Rattle.filesets_reading.proofs.ChainsThere.{later_kind, of_file}
-use Rattle.domain_standing.specs.Chains.{IsInChain}
-use Rattle.domain_standing.specs.Domain.{DomainNow, layout_of}
-use Rattle.domain_standing.specs.Standing.{StandsDomain}
-use Rattle.domain_standing.specs.Tables.{first_place}
+use Rattle.attached_space.proofs.Ways.{get_map}
+use Rattle.attached_space.proofs.ChainsThere.{later_kind, of_file}
+use Rattle.attached_list.specs.Chains.{IsInChain}
+use Rattle.attached_list.specs.Domain.{DomainNow, layout_of}
+use Rattle.attached_list.specs.Standing.{StandsDomain}
+use Rattle.attached_list.specs.Tables.{first_place}
 use Rattle.no_fault_laws.proofs.Ways.{at_of, contains_of, map_at, nothing}
 
 -- ---- cells of a chain, one behind the other

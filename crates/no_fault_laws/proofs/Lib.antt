@@ -26,3 +26,8 @@ pub mod NoRows
 pub mod NoFault
 pub mod Faultless
 pub mod OneSound
+pub use Rattle.standing_laws.proofs.SoundCalled
+pub use Rattle.standing_laws.proofs.SoundGone
+pub use Rattle.standing_laws.proofs.SoundInPlace
+pub use Rattle.standing_laws.proofs.SoundIndexed
+pub use Rattle.standing_laws.proofs.SoundLimited

@@ -11,9 +11,9 @@ use Rattle.bitfile_core.specs.Files.{HasFirstKinds, IsOf, LeadsToFile, is_remove
 use Rattle.deferred_laws.specs.Tags.{start_of}
 use Rattle.fileset_model.specs.Filesets.{FilesetMap}
 use Rattle.domain_layout.specs.Layout.{first_tag_of}
-use Rattle.domain_standing.specs.Chains.{HasFilesAmong, StandsInSlot}
-use Rattle.domain_standing.specs.Domain.{DomainNow, named_by}
-use Rattle.domain_standing.specs.Standing.{StandsDomain}
+use Rattle.attached_list.specs.Chains.{HasFilesAmong, StandsInSlot}
+use Rattle.attached_list.specs.Domain.{DomainNow, named_by}
+use Rattle.attached_list.specs.Standing.{StandsDomain}
 use Rattle.no_fault_laws.proofs.Ways.{nothing}
 
 module _ (d : DomainNow) (all : FilesetMap) (stands : StandsDomain d all) where

@@ -13,9 +13,9 @@ use Rattle.fileset_model.specs.Filesets.{FilesetMap}
 use Rattle.domain_layout.specs.Layout.{IsLayout, Layout}
 use Rattle.domain_layout.specs.Owners.{IsOwned, frame_of}
 use Rattle.domain_layout.specs.PageRules.{IsBitmapFault}
-use Rattle.domain_standing.specs.Domain.{DomainNow, layout_of}
-use Rattle.domain_standing.specs.Holders.{AreHeldAt, IsUnheld}
-use Rattle.domain_standing.specs.Standing.{IsMarkedBut, StandsDomain}
+use Rattle.attached_list.specs.Domain.{DomainNow, layout_of}
+use Rattle.attached_list.specs.Holders.{AreHeldAt, IsUnheld}
+use Rattle.attached_list.specs.Standing.{IsMarkedBut, StandsDomain}
 use Rattle.standing_laws.specs.Sound.{StandsSound}
 use Rattle.no_fault_laws.proofs.OneLayout.{bitmap_here}
 use Rattle.no_fault_laws.proofs.Owners.{held_for, owned_as}

@@ -26,13 +26,13 @@ use Rattle.domain_layout.specs.Layout.{IsPageAt}
 use Rattle.domain_layout.specs.Owners.{IsOnTable}
 use Rattle.layout_laws.proofs.Named.{link_to}
 use Rattle.layout_laws.proofs.OnePage.{some_same}
-use Rattle.filesets_reading.proofs.CellTables.{there_at}
-use Rattle.filesets_reading.proofs.Ways.{get_map, within_of}
-use Rattle.domain_standing.specs.Chains.{AreQuotasOf, IsQuotaOf}
-use Rattle.domain_standing.specs.Domain.{DomainNow, layout_of}
-use Rattle.domain_standing.specs.Rest.{HasNoHoles}
-use Rattle.domain_standing.specs.Standing.{StandsDomain}
-use Rattle.domain_standing.specs.Tables.{first_place}
+use Rattle.attached_space.proofs.CellTables.{there_at}
+use Rattle.attached_space.proofs.Ways.{get_map, within_of}
+use Rattle.attached_list.specs.Chains.{AreQuotasOf, IsQuotaOf}
+use Rattle.attached_list.specs.Domain.{DomainNow, layout_of}
+use Rattle.attached_list.specs.Rest.{HasNoHoles}
+use Rattle.attached_list.specs.Standing.{StandsDomain}
+use Rattle.attached_list.specs.Tables.{first_place}
 use Rattle.standing_laws.specs.Sound.{StandsSound}
 use Rattle.no_fault_laws.proofs.Following.{FollowsIn, IsHead, NextIn, comes_to, follows_in, head_is, next_in, next_there, not_passed}
 use Rattle.no_fault_laws.proofs.InChains.{BeginsFile, all_get, begins_file, chain_is, distinct_at, in_some_chain, is_found, leads_next, may_next, no_volume, of_quotas, one_chain}

@@ -12,9 +12,9 @@ use Rattle.domain_layout.specs.Layout.{IsLayout, Layout}
 use Rattle.domain_layout.specs.Owners.{BelongsTo, HasExtent, Owner, frame_of}
 use Rattle.domain_layout.specs.PageRules.{IsExtentFault, IsWrongExtent}
 use Rattle.layout_laws.proofs.OnePage.{some_same}
-use Rattle.domain_standing.specs.Domain.{DomainNow, layout_of}
-use Rattle.domain_standing.specs.Holders.{Holder, Holds}
-use Rattle.domain_standing.specs.Standing.{StandsDomain}
+use Rattle.attached_list.specs.Domain.{DomainNow, layout_of}
+use Rattle.attached_list.specs.Holders.{Holder, Holds}
+use Rattle.attached_list.specs.Standing.{StandsDomain}
 use Rattle.standing_laws.specs.Sound.{StandsSound}
 use Rattle.no_fault_laws.proofs.OnTables.{may_be}
 use Rattle.no_fault_laws.proofs.OneLayout.{extent_here}

@@ -5,8 +5,8 @@ use Rattle.domain_layout.specs.CellRules.{IsCellsFault}
 use Rattle.domain_layout.specs.DirectoryRules.{IsDirectoryFault, IsIndexFault}
 use Rattle.domain_layout.specs.Faults.{FaultRow, HasNoFault, IsFilesFault, IsTablesFault}
 use Rattle.domain_layout.specs.TagRules.{IsTagsFault}
-use Rattle.domain_standing.specs.Domain.{DomainNow}
-use Rattle.domain_standing.specs.Standing.{HaveParents, IsMarkedBut, StandsDomain}
+use Rattle.attached_list.specs.Domain.{DomainNow}
+use Rattle.attached_list.specs.Standing.{HaveParents, IsMarkedBut, StandsDomain}
 use Rattle.standing_laws.specs.Sound.{StandsSound}
 use Rattle.no_fault_laws.proofs.NoBitmaps.{no_bitmaps}
 use Rattle.no_fault_laws.proofs.NoCells.{no_cells}

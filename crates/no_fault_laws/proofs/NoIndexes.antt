@@ -27,10 +27,10 @@ use Rattle.directory_facts.proofs.Entered.{all_shown}
 use Rattle.domain_layout.specs.DirectoryRules.{AreReadPages, CountsRows, HasIndex, HasIndexAt, HasSecondPage, IsDirectoryPage, IsGoodIndexPage, IsIndexFault, IsWrongIndex, IsWrongIndexEntry, IsWrongIndexOf, IsWrongIndexPage, IsWrongTotal, entries_in, total_in}
 use Rattle.domain_layout.specs.Reached.{index_way}
 use Rattle.domain_layout.specs.Seen.{SeenFile}
-use Rattle.filesets_reading.proofs.Ways.{get_map}
-use Rattle.domain_standing.specs.Domain.{DomainNow}
-use Rattle.domain_standing.specs.Holders.{Holder}
-use Rattle.domain_standing.specs.Standing.{StandsDomain}
+use Rattle.attached_space.proofs.Ways.{get_map}
+use Rattle.attached_list.specs.Domain.{DomainNow}
+use Rattle.attached_list.specs.Holders.{Holder}
+use Rattle.attached_list.specs.Standing.{StandsDomain}
 use Rattle.standing_laws.specs.Sound.{StandsSound}
 use Rattle.no_fault_laws.proofs.InChains.{all_get}
 use Rattle.no_fault_laws.proofs.OfIndexes.{good_at, homes_are, index_is_way, index_named}

@@ -19,8 +19,8 @@ use Rattle.fileset_names.proofs.OneWay.{same_fronts, same_names}
 use Rattle.domain_layout.specs.DirectoryRules.{AreRowsTo, Has, HasOfKind, HasWrongSize, IsDirectoryFault, IsFileFault, IsLostTwice, IsMiscounted, IsMisplaced, IsNameTwice, IsRow, IsWrongFile, IsWrongRow, IsWrongRowPage, RowPlace}
 use Rattle.domain_layout.specs.Seen.{SeenFile}
 use Rattle.layout_laws.proofs.OnePage.{some_same}
-use Rattle.domain_standing.specs.Domain.{DomainNow}
-use Rattle.domain_standing.specs.Standing.{HaveParents, StandsDomain}
+use Rattle.attached_list.specs.Domain.{DomainNow}
+use Rattle.attached_list.specs.Standing.{HaveParents, StandsDomain}
 use Rattle.standing_laws.specs.Sound.{StandsSound}
 use Rattle.no_fault_laws.proofs.CountedRows.{directory_links, file_links}
 use Rattle.no_fault_laws.proofs.RowPaths.{IsDirRow, RowWay, below_root, dir_row, good_page, in_it, its_path, no_circle, one_path, row_way, same_row}

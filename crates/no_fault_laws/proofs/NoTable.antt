@@ -6,8 +6,8 @@ use Rattle.fileset_table.specs.Table.{Table}
 use Rattle.fileset_table.proofs.Unique.{table_unique}
 use Rattle.domain_layout.specs.Faults.{IsTableFault, SaysTable}
 use Rattle.layout_laws.proofs.OnePage.{HasOne, one_of, some_same}
-use Rattle.domain_standing.specs.Domain.{DomainNow}
-use Rattle.domain_standing.specs.Tables.{StandTables}
+use Rattle.attached_list.specs.Domain.{DomainNow}
+use Rattle.attached_list.specs.Tables.{StandTables}
 
 table_at : (d : DomainNow) → StandTables d → HasOne d.frame.anchor.table (λ home. IsSomeAnd (d.pages home) (λ page. IsTablePage page d.table))
 table_at d stands = one_of d.frame.anchor.table (λ home. IsSomeAnd (d.pages home) (λ page. IsTablePage page d.table)) stands.laid.table

@@ -27,10 +27,10 @@ use Rattle.domain_layout.specs.Owners.{IsOnTable}
 use Rattle.domain_layout.specs.Reached.{tags_way}
 use Rattle.domain_layout.specs.TagRules.{HasEntry, HasNoRoot, HasWrongNumber, HasWrongQuota, HasWrongSource, IsFirstOf, IsLateFile, IsNoTagPage, IsNamingFault, IsSharedTagPage, IsTagsFault, IsTagsPage, IsUnnamed, IsUnnamedQuota, IsWrongEntry, IsWrongSlot, IsWrongTagPage, original_slot, quota_of}
 use Rattle.layout_laws.proofs.OnePage.{some_same}
-use Rattle.domain_standing.specs.Chains.{AreQuotasOf, IsQuotaOf}
-use Rattle.domain_standing.specs.Domain.{DomainNow, item_in, layout_of}
-use Rattle.domain_standing.specs.Holders.{Holder}
-use Rattle.domain_standing.specs.Standing.{StandsDomain}
+use Rattle.attached_list.specs.Chains.{AreQuotasOf, IsQuotaOf}
+use Rattle.attached_list.specs.Domain.{DomainNow, item_in, layout_of}
+use Rattle.attached_list.specs.Holders.{Holder}
+use Rattle.attached_list.specs.Standing.{StandsDomain}
 use Rattle.standing_laws.specs.Sound.{StandsSound}
 use Rattle.no_fault_laws.proofs.Following.{IsHead, head_is}
 use Rattle.no_fault_laws.proofs.InChains.{BeginsFile, begins_file, chain_is, in_some_chain}

@@ -22,11 +22,11 @@ use Rattle.domain_layout.specs.Reached.{MayBe, cells_way}
 use Rattle.layout_laws.proofs.Named.{link_to}
 use Rattle.layout_laws.proofs.OnePage.{HasOne, one_of, some_same}
 use Rattle.layout_laws.proofs.OneTable.{within_page}
-use Rattle.filesets_reading.proofs.OnTables.{is_there, on_table}
-use Rattle.filesets_reading.proofs.Ways.{get_map, within_of}
-use Rattle.domain_standing.specs.Domain.{DomainNow, layout_of}
-use Rattle.domain_standing.specs.Holders.{Holder, Holds}
-use Rattle.domain_standing.specs.Standing.{StandsDomain}
+use Rattle.attached_space.proofs.OnTables.{is_there, on_table}
+use Rattle.attached_space.proofs.Ways.{get_map, within_of}
+use Rattle.attached_list.specs.Domain.{DomainNow, layout_of}
+use Rattle.attached_list.specs.Holders.{Holder, Holds}
+use Rattle.attached_list.specs.Standing.{StandsDomain}
 use Rattle.attached_list.proofs.OnTables.{HasPlaceOf, some_kind, used_or_zeros}
 use Rattle.standing_laws.specs.Sound.{StandsSound}
 use Rattle.no_fault_laws.proofs.Ways.{AreWay, IsOnWay, at_of, contains_of, is_read, map_at, nothing}

@@ -18,8 +18,8 @@ use Rattle.domain_layout.specs.PageRules.{IsBitmapFault, IsExtentFault}
 use Rattle.domain_layout.specs.Reached.{Frame}
 use Rattle.layout_laws.proofs.OnePage.{HasOne, one_of}
 use Rattle.attached_space.proofs.OneTable.{one_table}
-use Rattle.domain_standing.specs.Domain.{DomainNow, layout_of}
-use Rattle.domain_standing.specs.Tables.{StandTables}
+use Rattle.attached_list.specs.Domain.{DomainNow, layout_of}
+use Rattle.attached_list.specs.Tables.{StandTables}
 use Rattle.no_fault_laws.proofs.NoTable.{table_is}
 
 -- a layout with the domain's anchor

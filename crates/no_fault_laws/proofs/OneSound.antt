@@ -12,9 +12,9 @@ use Rattle.stored_index.specs.Homes.{AreIndexHomes, next_at}
 use Rattle.fileset_model.specs.Filesets.{FilesetMap}
 use Rattle.domain_layout.specs.Owners.{IsOnTable}
 use Rattle.domain_layout.specs.Reached.{IsWithin}
-use Rattle.domain_standing.specs.Domain.{DomainNow, layout_of}
-use Rattle.domain_standing.specs.Holders.{Holder, Holds}
-use Rattle.domain_standing.specs.Standing.{StandsDomain}
+use Rattle.attached_list.specs.Domain.{DomainNow, layout_of}
+use Rattle.attached_list.specs.Holders.{Holder, Holds}
+use Rattle.attached_list.specs.Standing.{StandsDomain}
 use Rattle.standing_laws.specs.Sound.{StandsSound}
 use Rattle.no_fault_laws.proofs.InChains.{chain_is}
 use Rattle.no_fault_laws.proofs.OfIndexes.{homes_are, index_named}

@@ -18,13 +18,13 @@ use Rattle.fileset_table.specs.declared.slot.FilesetEntry.{FilesetEntry}
 use Rattle.fileset_table.specs.declared.slot.SlotItem.{SlotItem}
 use Rattle.fileset_table.specs.declared.slot.SlotItem.TheVariants as slot
 use Rattle.name_space.specs.Names.{number_of, root_tag}
-use Rattle.stored_set.specs.Sets.{StandsAsSet}
+use Rattle.attached_space.specs.Sets.{StandsAsSet}
 use Rattle.domain_layout.specs.CellRules.{of_original}
 use Rattle.domain_layout.specs.Filled.{Fills, FillsThere, IsRole}
 use Rattle.domain_layout.specs.Shape.{FilesetShape, IsOriginal}
 use Rattle.layout_laws.proofs.OnePage.{HasOne, one_of}
-use Rattle.domain_standing.specs.Domain.{DomainNow, item_in}
-use Rattle.domain_standing.specs.Slots.{StandSlots}
+use Rattle.attached_list.specs.Domain.{DomainNow, item_in}
+use Rattle.attached_list.specs.Slots.{StandSlots}
 
 module _ (d : DomainNow) (all : FilesetMap) (slots : StandSlots d all) where
   -- the original in a slot: its shape, its fileset and its set

@@ -19,9 +19,9 @@ use Rattle.fileset_model.specs.Filesets.{FilesetMap}
 use Rattle.domain_layout.specs.CellRules.{IsFirstPlace}
 use Rattle.domain_layout.specs.Owners.{BelongsTo, HasExtent, HasIndexPage, IsOnTable, IsOwned, Owner}
 use Rattle.domain_layout.specs.Reached.{index_way}
-use Rattle.domain_standing.specs.Domain.{DomainNow, layout_of}
-use Rattle.domain_standing.specs.Holders.{Holder, Holds}
-use Rattle.domain_standing.specs.Standing.{StandsDomain}
+use Rattle.attached_list.specs.Domain.{DomainNow, layout_of}
+use Rattle.attached_list.specs.Holders.{Holder, Holds}
+use Rattle.attached_list.specs.Standing.{StandsDomain}
 use Rattle.standing_laws.specs.Sound.{StandsSound}
 use Rattle.no_fault_laws.proofs.InChains.{Found, chain_is, first_says, is_found, kind_at}
 use Rattle.no_fault_laws.proofs.NoCells.{in_all, limits_of}

@@ -7,7 +7,7 @@ use Rattle.dir_index.specs.Entries.{Rise, is_below}
 use Rattle.dir_index.specs.Index.{entries_from, entries_of}
 use Rattle.dir_index.specs.declared.entry.IndexEntry.{IndexEntry}
 use Rattle.set_laws.specs.Whole.{entries_on, total_on}
-use Rattle.stored_set.proofs.Entries.{shown_entries}
+use Rattle.attached_space.proofs.Entries.{shown_entries}
 use Rattle.domain_layout.specs.DirectoryRules.{IsGoodIndexPage, entries_in}
 use Rattle.layout_laws.proofs.OnePage.{some_same}
 use Rattle.no_fault_laws.proofs.InChains.{all_get}

@@ -27,8 +27,8 @@ use Rattle.directory_facts.proofs.Placed.{placed}
 use Rattle.domain_layout.specs.DirectoryRules.{IsRow, RowPlace, RowsLead}
 use Rattle.domain_layout.specs.DirectoryRules.RowsLead.{one as leads_one, more as leads_more}
 use Rattle.layout_laws.proofs.OnePage.{some_same}
-use Rattle.domain_standing.specs.Domain.{DomainNow, item_in}
-use Rattle.domain_standing.specs.Standing.{StandsDomain}
+use Rattle.attached_list.specs.Domain.{DomainNow, item_in}
+use Rattle.attached_list.specs.Standing.{StandsDomain}
 use Rattle.standing_laws.specs.Sound.{StandsSound}
 use Rattle.no_fault_laws.proofs.InChains.{all_get}
 use Rattle.no_fault_laws.proofs.Originals.{IsOriginalSlot, is_role}

@@ -5,7 +5,7 @@ use Rattle.dir_pages.specs.RowPage.{rows_of}
 use Rattle.dir_pages.specs.declared.row.Row.{Row}
 use Rattle.dir_rows.specs.Directory.{NamesOnce, all_rows}
 use Rattle.layout_laws.proofs.OnePage.{some_same}
-use Rattle.filesets_reading.proofs.Ways.{within_of}
+use Rattle.attached_space.proofs.Ways.{within_of}
 use Rattle.row_paths.proofs.AllLed.{get_front, named_at}
 use Rattle.no_fault_laws.proofs.Ways.{nothing}
 

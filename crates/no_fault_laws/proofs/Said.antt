@@ -10,13 +10,13 @@ use Rattle.tag_dirs.specs.declared.dir.TagPlace.{TagPlace}
 use Rattle.extent_maps.specs.declared.run.PagePlace.TheVariants.{Absent, At}
 use Rattle.bitfile_cells.specs.Files.{places_of}
 use Rattle.deferred_delete.specs.Standing.{place_in}
-use Rattle.attaching_laws.proofs.FilePages.{is_said}
+use Rattle.attached_space.proofs.FilePages.{is_said}
 use Rattle.fileset_model.specs.Filesets.{FilesetMap}
 use Rattle.domain_layout.specs.Layout.{first_tag_of}
 use Rattle.domain_layout.specs.Owners.{BelongsTo, HasExtent, Owner}
-use Rattle.domain_standing.specs.Chains.{StandsInSlot}
-use Rattle.domain_standing.specs.Domain.{DomainNow, layout_of, named_by}
-use Rattle.domain_standing.specs.Standing.{StandsDomain}
+use Rattle.attached_list.specs.Chains.{StandsInSlot}
+use Rattle.attached_list.specs.Domain.{DomainNow, layout_of, named_by}
+use Rattle.attached_list.specs.Standing.{StandsDomain}
 use Rattle.no_fault_laws.proofs.InChains.{HasChain, chain_of}
 use Rattle.no_fault_laws.proofs.Tags.{tags_of}
 use Rattle.no_fault_laws.proofs.Ways.{at_of}

@@ -24,9 +24,9 @@ use Rattle.fileset_table.specs.declared.slot.SlotItem.TheVariants as slot
 use Rattle.domain_layout.specs.DirectoryRules.{Has, IsDirectoryPage, IsInItem}
 use Rattle.domain_layout.specs.Seen.{SeenFile, kept_by, seen_in}
 use Rattle.layout_laws.proofs.OnePage.{one_of, some_same}
-use Rattle.domain_standing.specs.Domain.{DomainNow, item_in}
-use Rattle.domain_standing.specs.Holders.{Holder}
-use Rattle.domain_standing.specs.Standing.{StandsDomain}
+use Rattle.attached_list.specs.Domain.{DomainNow, item_in}
+use Rattle.attached_list.specs.Holders.{Holder}
+use Rattle.attached_list.specs.Standing.{StandsDomain}
 use Rattle.standing_laws.specs.Sound.{StandsSound}
 use Rattle.no_fault_laws.proofs.Originals.{IsOriginalSlot}
 use Rattle.no_fault_laws.proofs.Shown.{AtHome, IsShown, at_home, is_shown, original_shown, page_is}

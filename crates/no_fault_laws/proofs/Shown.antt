@@ -28,7 +28,7 @@ use Rattle.fileset_model.specs.Filesets.{FilesetMap}
 use Rattle.fileset_table.specs.declared.slot.FilesetEntry.{FilesetEntry}
 use Rattle.fileset_table.specs.declared.slot.SlotItem.{SlotItem}
 use Rattle.fileset_table.specs.declared.slot.SlotItem.TheVariants as slot
-use Rattle.fileset_shapes.proofs.OriginalFiles.{Kept, kept}
+use Rattle.attached_space.proofs.OriginalFiles.{Kept, kept}
 use Rattle.domain_layout.specs.CellRules.{of_clone}
 use Rattle.domain_layout.specs.DirectoryRules.{Has, IsInItem, IsInOriginal}
 use Rattle.domain_layout.specs.Seen.{SeenFile, kept_by, seen_in}
@@ -36,9 +36,9 @@ use Rattle.domain_layout.specs.Shape.{HasChains}
 use Rattle.domain_layout.proofs.OneShape.{links_same}
 use Rattle.domain_layout.proofs.There.{chain_is}
 use Rattle.layout_laws.proofs.OnePage.{HasOne, one_of, some_same}
-use Rattle.filesets_reading.proofs.Ways.{within_of}
-use Rattle.domain_standing.specs.Domain.{DomainNow, item_in}
-use Rattle.domain_standing.specs.Standing.{StandsDomain}
+use Rattle.attached_space.proofs.Ways.{within_of}
+use Rattle.attached_list.specs.Domain.{DomainNow, item_in}
+use Rattle.attached_list.specs.Standing.{StandsDomain}
 use Rattle.no_fault_laws.proofs.Named.{NamesChain, names_chain}
 use Rattle.no_fault_laws.proofs.Originals.{IsOriginalSlot, original_of}
 use Rattle.no_fault_laws.proofs.Ways.{nothing}

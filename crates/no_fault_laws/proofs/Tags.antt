@@ -14,17 +14,17 @@ use Rattle.tag_dirs.specs.declared.dir.TagPlace.{TagPlace}
 use Rattle.tag_dirs.proofs.Slots.{found}
 use Rattle.fileset_model.specs.Filesets.{FilesetMap}
 use Rattle.fileset_table.specs.declared.slot.SlotItem.{SlotItem}
-use Rattle.fileset_shapes.proofs.Roots.{entry_leads}
+use Rattle.attached_space.proofs.Roots.{entry_leads}
 use Rattle.domain_layout.specs.Layout.{AreTagPlaces, first_tag_of}
 use Rattle.domain_layout.specs.Reached.{on_volume, tags_way}
 use Rattle.domain_layout.specs.TagRules.{HasEntry, HasTags, IsTagsPage}
 use Rattle.layout_laws.proofs.Named.{entry_by}
 use Rattle.layout_laws.proofs.OnePage.{HasOne, one_of, some_same}
 use Rattle.layout_laws.proofs.OwnedOnce.{on_a_volume}
-use Rattle.filesets_reading.proofs.Ways.{get_map}
-use Rattle.domain_standing.specs.Domain.{DomainNow, item_in, named_by}
-use Rattle.domain_standing.specs.Holders.{Holder}
-use Rattle.domain_standing.specs.Standing.{StandsDomain}
+use Rattle.attached_space.proofs.Ways.{get_map}
+use Rattle.attached_list.specs.Domain.{DomainNow, item_in, named_by}
+use Rattle.attached_list.specs.Holders.{Holder}
+use Rattle.attached_list.specs.Standing.{StandsDomain}
 use Rattle.standing_laws.specs.Sound.{StandsSound}
 use Rattle.no_fault_laws.proofs.OnTables.{may_be}
 use Rattle.no_fault_laws.proofs.Ways.{AreWay, IsOnWay, is_read, map_at, nothing, read_at}

@@ -4,7 +4,7 @@ use Rattle.domain_base.specs.declared.place.Home.{Home}
 use Rattle.page_store.specs.Pages.{Pages}
 use Rattle.domain_layout.specs.Reached.{Frame, IsRead, IsUnread, MayBe, Reaches, Way, begins, goes_on}
 use Rattle.layout_laws.proofs.OnePage.{some_same}
-use Rattle.filesets_reading.proofs.Ways.{get_pushed, pushed, within_of}
+use Rattle.attached_space.proofs.Ways.{get_pushed, pushed, within_of}
 
 -- ---- lists
 

@@ -5,8 +5,8 @@ ghost use Rattle.fileset_model.specs.Filesets.{FilesetMap};
 ghost use Rattle.domain_layout.specs.Layout.{IsLayout, Layout};
 ghost use Rattle.domain_layout.specs.Owners.{frame_of};
 ghost use Rattle.domain_layout.specs.PageRules.{IsBitmapFault, IsExtentFault};
-ghost use Rattle.domain_standing.specs.Domain.{DomainNow};
-ghost use Rattle.domain_standing.specs.Standing.{IsMarkedBut, StandsDomain};
+ghost use Rattle.attached_list.specs.Domain.{DomainNow};
+ghost use Rattle.attached_list.specs.Standing.{IsMarkedBut, StandsDomain};
 ghost use Rattle.standing_laws.specs.Sound.{StandsSound};
 
 /// Where a domain stands, each page that a cell says of a file stands where it may, and is that of

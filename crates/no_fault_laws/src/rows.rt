@@ -2,8 +2,8 @@
 ghost use Rattle.domain_base.specs.declared.place.Home.{Home};
 ghost use Rattle.fileset_model.specs.Filesets.{FilesetMap};
 ghost use Rattle.domain_layout.specs.DirectoryRules.{IsDirectoryFault, IsIndexFault};
-ghost use Rattle.domain_standing.specs.Domain.{DomainNow};
-ghost use Rattle.domain_standing.specs.Standing.{HaveParents, StandsDomain};
+ghost use Rattle.attached_list.specs.Domain.{DomainNow};
+ghost use Rattle.attached_list.specs.Standing.{HaveParents, StandsDomain};
 ghost use Rattle.standing_laws.specs.Sound.{StandsSound};
 
 /// Where a domain stands, each index is one of a directory of more pages than one, whose entries

@@ -5,9 +5,9 @@ ghost use Rattle.fileset_model.specs.Filesets.{FilesetMap};
 ghost use Rattle.domain_layout.specs.CellRules.{IsCellsFault};
 ghost use Rattle.domain_layout.specs.Faults.{IsTableFault};
 ghost use Rattle.domain_layout.specs.TagRules.{IsTagsFault};
-ghost use Rattle.domain_standing.specs.Domain.{DomainNow};
-ghost use Rattle.domain_standing.specs.Standing.{StandsDomain};
-ghost use Rattle.domain_standing.specs.Tables.{StandTables};
+ghost use Rattle.attached_list.specs.Domain.{DomainNow};
+ghost use Rattle.attached_list.specs.Standing.{StandsDomain};
+ghost use Rattle.attached_list.specs.Tables.{StandTables};
 ghost use Rattle.standing_laws.specs.Sound.{StandsSound};
 
 /// Where a domain stands, the page of its fileset table says one, and stands where it may.

@@ -1,8 +1,8 @@
 //! All rules of pages.
 ghost use Rattle.fileset_model.specs.Filesets.{FilesetMap};
 ghost use Rattle.domain_layout.specs.Faults.{HasNoFault};
-ghost use Rattle.domain_standing.specs.Domain.{DomainNow};
-ghost use Rattle.domain_standing.specs.Standing.{HaveParents, IsMarkedBut, StandsDomain};
+ghost use Rattle.attached_list.specs.Domain.{DomainNow};
+ghost use Rattle.attached_list.specs.Standing.{HaveParents, IsMarkedBut, StandsDomain};
 ghost use Rattle.standing_laws.specs.Sound.{StandsSound};
 
 /// A domain that stands, in which each directory says the one in which its row stands, and of which

@@ -4,3 +4,6 @@ pub mod FilesFound
 pub mod HomesFound
 pub mod OneMaps
 pub mod RunsOutside
+pub use Rattle.tag_faults.proofs.Counted
+pub use Rattle.tag_faults.proofs.UsedCells
+pub use Rattle.filesets_reading.proofs.Ways

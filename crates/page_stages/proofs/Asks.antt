@@ -3,8 +3,8 @@ use Rattle.std.proofs.Common.{◌≡◌, ℕ, true, List, Option, Some, None, If
 use Rattle.std.proofs.Math.Logic.{∥∥₁_elim, ∥∥₁_map}
 use Rattle.bitfile_core.specs.Files.{AreFiles, Chains, HasFiles}
 use Rattle.bitfile_core.specs.Together.{HasTogether}
-use Rattle.stored_set.specs.Sets.{HasSet, StandsAsSet}
-use Rattle.stored_set.proofs.StableSet.{has_set as set_there}
+use Rattle.names_standing.specs.Sets.{HasSet, StandsAsSet}
+use Rattle.names_standing.proofs.StableSet.{has_set as set_there}
 use Rattle.fileset_table.specs.declared.slot.FilesetEntry.{FilesetEntry}
 use Rattle.fileset_table.specs.declared.slot.SlotItem.{SlotItem}
 use Rattle.fileset_table.specs.declared.slot.SlotItem.TheVariants as slot

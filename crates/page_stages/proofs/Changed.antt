@@ -21,7 +21,7 @@ use Rattle.bitfile_core.specs.State.{FileState, state_of}
 use Rattle.bitfile_core.proofs.Created.{one_chains}
 use Rattle.bitfile_laws.specs.States.{if_live, is_removing}
 use Rattle.set_laws.proofs.Told.{kind_told}
-use Rattle.stored_set.specs.Sets.{StandsAsSet}
+use Rattle.names_standing.specs.Sets.{StandsAsSet}
 use Rattle.fileset_model.specs.Apply.{with_change}
 use Rattle.fileset_model.specs.Filesets.{FilesetMap}
 use Rattle.fileset_model.specs.Orders.{Path}

@@ -22,7 +22,7 @@ use Rattle.bitfile_core.specs.Together.{AreTogether}
 use Rattle.bitfile_core.specs.Truncation.{HasPageWithin, IsLowered, Truncates, TruncatesTogether, pages_in, pending_cell, says_size, says_truncated}
 use Rattle.bitfile_core.proofs.FirstCell.{find_put}
 use Rattle.bitfile_laws.specs.States.{IsStaleFrom, cut, is_removing}
-use Rattle.stored_set.proofs.Live.{home_is}
+use Rattle.names_standing.proofs.Live.{home_is}
 use Rattle.fileset_laws.specs.Valid.{HasWholePages}
 use Rattle.fileset_model.specs.Filesets.{FilesetMap}
 use Rattle.fileset_model.specs.Orders.{Path}

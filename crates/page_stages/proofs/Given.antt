@@ -15,7 +15,7 @@ use Rattle.bitfile_core.specs.State.{FileState, state_of}
 use Rattle.bitfile_core.specs.Together.{AreTogether}
 use Rattle.bitfile_laws.specs.States.{placed}
 use Rattle.set_laws.proofs.Written.{at_home}
-use Rattle.stored_set.specs.Sets.{GetsPage}
+use Rattle.names_standing.specs.Sets.{GetsPage}
 use Rattle.fileset_model.specs.Filesets.{FilesetMap}
 use Rattle.fileset_model.specs.Orders.{Path}
 use Rattle.fileset_model.specs.declared.fileset.FilesetSlot.{FilesetSlot}

@@ -16,7 +16,7 @@ use Rattle.free_space.proofs.Kept.{kept-with_page}
 use Rattle.bitfile_cells.specs.MapChanges.{TakesOne}
 use Rattle.bitfile_core.specs.Files.{Chains}
 use Rattle.bitfile_core.specs.Pages.{GetsNone, TakesHome}
-use Rattle.stored_set.specs.Sets.{GetsPage}
+use Rattle.names_standing.specs.Sets.{GetsPage}
 use Rattle.fileset_table.specs.Table.{IsTable}
 use Rattle.staged_pages.specs.Store.{before_of}
 use Rattle.domain_parts.specs.Slots.{CanGoBack, HasNumber, kept_book, kept_places, slot_in}

@@ -11,7 +11,7 @@ use Rattle.bitfile_core.specs.Files.{AreFiles, Chains}
 use Rattle.bitfile_core.specs.State.{FileState, state_of}
 use Rattle.bitfile_core.specs.Together.{AreTogether}
 use Rattle.bitfile_laws.specs.States.{described}
-use Rattle.stored_set.specs.Sets.{attributes_at}
+use Rattle.names_standing.specs.Sets.{attributes_at}
 use Rattle.fileset_model.specs.Filesets.{FilesetMap}
 use Rattle.fileset_model.specs.Orders.{Path}
 use Rattle.fileset_model.specs.declared.fileset.FilesetSlot.{FilesetSlot}

@@ -3,7 +3,7 @@ ghost use Rattle.std.specs.Prelude.{◌≡◌, ◌<◌, true, IfErr, IsSomeAnd, 
 ghost use Rattle.bitfile_core.specs.Files.{Chains};
 ghost use Rattle.bitfile_core.specs.Pages.{GetsNone, MayGrow};
 ghost use Rattle.bitfile_core.specs.Together.{AreTogether, HasTogether};
-ghost use Rattle.stored_set.specs.Sets.{GetsPage};
+ghost use Rattle.names_standing.specs.Sets.{GetsPage};
 ghost use Rattle.fileset_model.specs.Filesets.{FilesetMap};
 ghost use Rattle.fileset_model.specs.Orders.{Path};
 ghost use Rattle.fileset_model.specs.declared.fileset.FilesetSlot.{FilesetSlot};

@@ -17,7 +17,7 @@ use Rattle.free_cells.specs.Cells.{is_closed, table_of}
 use Rattle.bitfile_cells.specs.Allocated.{AreAllocated}
 use Rattle.bitfile_core.specs.Files.{Chains}
 use Rattle.bitfile_core.specs.Together.{AreTogether, IsFilePage, IsHeldApart}
-use Rattle.stored_set.specs.Sets.{StandsAsSet}
+use Rattle.domain_standing.specs.Sets.{StandsAsSet}
 use Rattle.fileset_model.specs.Filesets.{FilesetMap}
 use Rattle.deferred_delete.specs.Standing.{Files}
 use Rattle.deferred_delete.specs.Steps.{IsWell}

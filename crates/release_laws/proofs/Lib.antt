@@ -53,3 +53,4 @@ pub use Rattle.standing_laws.proofs.SoundInPlace
 pub use Rattle.standing_laws.proofs.SoundLimited
 pub use Rattle.standing_laws.proofs.SourcesSaid
 pub use Rattle.standing_laws.proofs.TablesTaken
+pub use Rattle.standing_laws.proofs.PagesWritten

@@ -33,7 +33,7 @@ use Rattle.stored_index.proofs.Homes.{kept_same, one_list}
 use Rattle.set_laws.specs.Standing.{StandsShown}
 use Rattle.set_laws.specs.Whole.{IsWholeAt, IsWholeDirectory}
 use Rattle.set_laws.proofs.Kept.{index_kept, page_kept}
-use Rattle.stored_set.specs.Sets.{StandsAsSet}
+use Rattle.domain_standing.specs.Sets.{StandsAsSet}
 use Rattle.fileset_model.specs.declared.fileset.FilesetSlot.{FilesetSlot}
 use Rattle.fileset_table.specs.Table.{Table}
 use Rattle.fileset_table.specs.declared.slot.FilesetEntry.{FilesetEntry}

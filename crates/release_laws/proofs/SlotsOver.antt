@@ -17,7 +17,7 @@ use Rattle.domain_standing.specs.Sources.{StandAlone}
 use Rattle.standing_laws.specs.Leads.{StandsBelow}
 use Rattle.standing_laws.specs.Slots.{StandsSlot}
 use Rattle.standing_laws.proofs.FilesetPut.{StoodIn, stood_in}
-use Rattle.stored_set.specs.Sets.{StandsAsSet}
+use Rattle.domain_standing.specs.Sets.{StandsAsSet}
 use Rattle.release_laws.specs.Released.{Releases}
 use Rattle.release_laws.specs.Trimmed.{TrimsFiles}
 use Rattle.release_laws.proofs.SlotOver.{agree as agree_on, slot_over}

@@ -14,7 +14,7 @@ use Rattle.bitfile_core.proofs.Tags.{directory_same, pages_same}
 use Rattle.fileset_table.specs.Page.{IsTablePage}
 use Rattle.deferred_delete.specs.Standing.{Files}
 use Rattle.deferred_delete.specs.Steps.{IsWell}
-use Rattle.attaching_laws.specs.Space.{AreCellsOf, IsFreeAt, IsOpen}
+use Rattle.domain_standing.specs.Space.{AreCellsOf, IsFreeAt, IsOpen}
 use Rattle.domain_layout.specs.Layout.{AreTagPlaces, IsCellTable, IsPageAt, first_tag_of}
 use Rattle.domain_layout.specs.Reached.{first_cells}
 use Rattle.domain_standing.specs.Chains.{IndexesAt}

@@ -16,3 +16,4 @@ pub use Rattle.standing_laws.specs.NewFileset
 pub use Rattle.standing_laws.specs.SetsQuota
 pub use Rattle.standing_laws.specs.SlotsStay
 pub use Rattle.standing_laws.specs.Sound
+pub use Rattle.standing_laws.specs.Setting

@@ -12,3 +12,5 @@ pub mod RowPlaces
 pub mod RowsRead
 pub mod SizesWrong
 pub mod TagSets
+pub use Rattle.shape_reading.proofs.Answered
+pub use Rattle.shape_reading.proofs.ReadHomes

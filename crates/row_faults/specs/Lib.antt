@@ -8,3 +8,5 @@ pub mod Rows
 pub mod Sizes
 pub mod There
 pub mod Wrong
+pub use Rattle.filesets_reading.specs.Seen
+pub use Rattle.shape_reading.specs.Clones

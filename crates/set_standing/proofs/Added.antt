@@ -28,8 +28,8 @@ use Rattle.bitfile_laws.specs.States.{described as described_state, placed}
 use Rattle.bitfile_laws.proofs.FirstCells.{attributes_said}
 use Rattle.bitfile_laws.proofs.Parts.{file_at}
 use Rattle.bitfile_laws.proofs.Placed.{page_placed}
-use Rattle.stored_set.specs.Sets.{AddsPage, GetsPage, StandsAsSet, attributes_at, long, with_length}
-use Rattle.stored_set.proofs.Lengthened.{can_say, may_grow_any}
+use Rattle.standing_laws.specs.Sets.{AddsPage, GetsPage, StandsAsSet, attributes_at, long, with_length}
+use Rattle.standing_laws.proofs.Lengthened.{can_say, may_grow_any}
 use Rattle.deferred_delete.specs.Standing.{Files, place_in, with_file}
 use Rattle.deferred_delete.proofs.Spread.{some_same}
 use Rattle.deferred_delete.proofs.Standings.{file_other, low_home}
@@ -40,8 +40,8 @@ use Rattle.domain_layout.specs.Filled.{Contents}
 use Rattle.domain_layout.specs.Seen.{SeenFile, seen_in}
 use Rattle.layout_laws.proofs.Reached.{same_number}
 use Rattle.node_laws.specs.Nodes.{seen_of}
-use Rattle.domain_standing.specs.Domain.{DomainNow}
-use Rattle.domain_standing.specs.Holders.Holder.{of_file}
+use Rattle.standing_laws.specs.Domain.{DomainNow}
+use Rattle.standing_laws.specs.Holders.Holder.{of_file}
 use Rattle.standing_laws.specs.Leads.{IsLiveOf, fileset_now}
 use Rattle.standing_laws.proofs.IndexWas.{off_first}
 use Rattle.standing_laws.proofs.OtherSlots.{seen_place}

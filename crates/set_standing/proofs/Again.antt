@@ -19,8 +19,8 @@ use Rattle.deferred_delete.proofs.Standings.{file_other, file_there, same_or_not
 use Rattle.deferred_laws.specs.Tags.{AreAmong, start_of}
 use Rattle.deferred_laws.proofs.Tags.{has_attributes}
 use Rattle.domain_layout.specs.Layout.{first_tag_of}
-use Rattle.domain_standing.specs.Chains.{HasFilesAmong, IndexesAt, IsOfFileset, IsRemoved, StandsInSlot}
-use Rattle.domain_standing.specs.Domain.{DomainNow, all_of}
+use Rattle.standing_laws.specs.Chains.{HasFilesAmong, IndexesAt, IsOfFileset, IsRemoved, StandsInSlot}
+use Rattle.standing_laws.specs.Domain.{DomainNow, all_of}
 use Rattle.standing_laws.specs.IndexCalls.{NamesFile}
 use Rattle.standing_laws.specs.Leads.{StandsBelow}
 use Rattle.standing_laws.proofs.IndexWas.{there_was}

@@ -26,7 +26,7 @@ use Rattle.stored_index.proofs.Homes.{one_list}
 use Rattle.set_laws.specs.Elsewhere.{AllStay}
 use Rattle.set_laws.specs.Standing.{StandsShown}
 use Rattle.set_laws.proofs.AnotherSet.{stands_again}
-use Rattle.stored_set.specs.Sets.{StandsAsSet}
+use Rattle.standing_laws.specs.Sets.{StandsAsSet}
 use Rattle.fileset_model.specs.declared.fileset.FilesetSlot.{FilesetSlot}
 use Rattle.fileset_table.specs.Table.{Table}
 use Rattle.fileset_table.specs.declared.slot.FilesetEntry.{FilesetEntry}
@@ -43,10 +43,10 @@ use Rattle.domain_layout.specs.Seen.{seen_in}
 use Rattle.domain_layout.specs.Shape.{AreLimits, FilesetShape, IsOriginal}
 use Rattle.layout_laws.specs.Agreeing.{AgreeOnShape}
 use Rattle.layout_laws.proofs.FilledAlike.{fills}
-use Rattle.domain_standing.specs.Chains.{AreQuotasOf, HasFilesAmong, IndexesAt, IsOfFileset, IsRemoved, StandsInSlot}
-use Rattle.domain_standing.specs.Domain.{DomainNow, all_of, item_in}
-use Rattle.domain_standing.specs.Holders.{Holder, Holds}
-use Rattle.domain_standing.specs.Holders.Holder.{of_file, of_index, of_tags, of_volume}
+use Rattle.standing_laws.specs.Chains.{AreQuotasOf, HasFilesAmong, IndexesAt, IsOfFileset, IsRemoved, StandsInSlot}
+use Rattle.standing_laws.specs.Domain.{DomainNow, all_of, item_in}
+use Rattle.standing_laws.specs.Holders.{Holder, Holds}
+use Rattle.standing_laws.specs.Holders.Holder.{of_file, of_index, of_tags, of_volume}
 use Rattle.standing_laws.specs.Leads.{StandsBelow, fileset_now}
 use Rattle.standing_laws.specs.SlotParents.{HaveParentsIn, StandsForSome}
 use Rattle.standing_laws.specs.Slots.{StandsSlot}

@@ -9,10 +9,10 @@ use Rattle.free_cells.specs.Cells.{table_of}
 use Rattle.deferred_delete.specs.Standing.{Files, place_in}
 use Rattle.log_ring.specs.Homes.{IsMember}
 use Rattle.layout_laws.proofs.Reached.{member_or_none}
-use Rattle.domain_standing.specs.Chains.{IndexesAt}
-use Rattle.domain_standing.specs.Domain.{DomainNow}
-use Rattle.domain_standing.specs.Holders.{Holder, Holds, IsUnheld}
-use Rattle.domain_standing.specs.Holders.Holder.{of_cells, of_file, of_index, of_log, of_table, of_tags, of_volume}
+use Rattle.standing_laws.specs.Chains.{IndexesAt}
+use Rattle.standing_laws.specs.Domain.{DomainNow}
+use Rattle.standing_laws.specs.Holders.{Holder, Holds, IsUnheld}
+use Rattle.standing_laws.specs.Holders.Holder.{of_cells, of_file, of_index, of_log, of_table, of_tags, of_volume}
 use Rattle.standing_laws.specs.Leads.{StandsBelow}
 use Rattle.standing_laws.proofs.HomeLists.{in_get}
 

@@ -28,14 +28,14 @@ use Rattle.bitfile_laws.specs.States.{described as described_state, new_state, p
 use Rattle.bitfile_laws.proofs.FirstCells.{attributes_said, parent_said}
 use Rattle.bitfile_laws.proofs.Parts.{file_at}
 use Rattle.bitfile_laws.proofs.Placed.{states_made}
-use Rattle.stored_set.specs.Sets.{attributes_at}
+use Rattle.standing_laws.specs.Sets.{attributes_at}
 use Rattle.deferred_delete.specs.Standing.{Files, with_file}
 use Rattle.deferred_delete.proofs.Spread.{some_same}
 use Rattle.deferred_laws.specs.Calls.{Call, SetsFirst, described, made, put_in, refused}
 use Rattle.layout_laws.proofs.Reached.{same_number}
 use Rattle.domain_layout.specs.Seen.{SeenFile, seen_in}
 use Rattle.node_laws.specs.Nodes.{seen_of}
-use Rattle.domain_standing.specs.Domain.{DomainNow}
+use Rattle.standing_laws.specs.Domain.{DomainNow}
 use Rattle.standing_laws.specs.Leads.{IsLiveOf, MayCall, fileset_now}
 use Rattle.standing_laws.specs.Left.{LeavesNothing}
 use Rattle.standing_laws.specs.OtherPages.{KeepsPlaces}

@@ -17,8 +17,8 @@ use Rattle.bitfile_laws.specs.States.{if_live, is_removing}
 use Rattle.bitfile_laws.proofs.Told.{told_attributes}
 use Rattle.stored_index.specs.Homes.{AreIndexHomes}
 use Rattle.set_laws.proofs.Told.{kind_told}
-use Rattle.stored_set.specs.Sets.{StandsAsSet}
-use Rattle.domain_standing.specs.Domain.{DomainNow}
+use Rattle.standing_laws.specs.Sets.{StandsAsSet}
+use Rattle.standing_laws.specs.Domain.{DomainNow}
 use Rattle.standing_laws.specs.Leads.{IsLiveOf}
 use Rattle.set_standing.specs.Around.{StandsAround}
 use Rattle.set_standing.proofs.Again.{there_first}

@@ -17,11 +17,11 @@ use Rattle.bitfile_core.specs.State.{FileState, state_of}
 use Rattle.bitfile_core.specs.Together.{AreTogether}
 use Rattle.bitfile_core.specs.Truncation.{IsLowered, pending_cell, says_truncated}
 use Rattle.bitfile_laws.specs.States.{cut, described, is_removing, placed}
-use Rattle.stored_set.specs.Sets.{GetsPage, attributes_at}
-use Rattle.stored_set.proofs.Lengthened.{can_say}
+use Rattle.standing_laws.specs.Sets.{GetsPage, attributes_at}
+use Rattle.standing_laws.proofs.Lengthened.{can_say}
 use Rattle.deferred_delete.specs.Listing.{Adds, Listing}
 use Rattle.deferred_delete.proofs.Spread.{none_not, some_same}
-use Rattle.domain_standing.specs.Domain.{DomainNow}
+use Rattle.standing_laws.specs.Domain.{DomainNow}
 use Rattle.layout_laws.proofs.Reached.{same_number}
 use Rattle.standing_laws.specs.Leads.{IsLiveOf}
 use Rattle.standing_laws.specs.OtherPages.{KeepsPlaces}

@@ -28,8 +28,8 @@ use Rattle.deferred_delete.proofs.Standings.{file_there}
 use Rattle.deferred_laws.specs.Calls.{cut}
 use Rattle.deferred_laws.specs.Tags.{start_of}
 use Rattle.domain_layout.specs.Filled.{Contents}
-use Rattle.domain_standing.specs.Chains.{IsToDo}
-use Rattle.domain_standing.specs.Domain.{DomainNow}
+use Rattle.standing_laws.specs.Chains.{IsToDo}
+use Rattle.standing_laws.specs.Domain.{DomainNow}
 use Rattle.standing_laws.specs.Leads.{IsLiveOf, LeadsOn, StandsBelow}
 use Rattle.standing_laws.proofs.BelowStands.{below_listed}
 use Rattle.standing_laws.proofs.ChainsGoOn.{size_other}

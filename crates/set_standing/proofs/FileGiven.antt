@@ -25,7 +25,7 @@ use Rattle.bitfile_core.proofs.Grown.{apart_grows, apart_taken}
 use Rattle.bitfile_core.proofs.OneChain.{chain_other, same_tag_itself, tag_after}
 use Rattle.bitfile_laws.specs.States.{placed}
 use Rattle.bitfile_laws.proofs.Placed.{page_placed}
-use Rattle.stored_set.specs.Sets.{GetsPage, StandsAsSet}
+use Rattle.standing_laws.specs.Sets.{GetsPage, StandsAsSet}
 use Rattle.fileset_table.specs.Table.{Table}
 use Rattle.deferred_delete.specs.Standing.{Files, place_in, with_file}
 use Rattle.deferred_delete.proofs.Standings.{low_home}
@@ -33,8 +33,8 @@ use Rattle.deferred_laws.specs.Calls.{Call, PutsPage, given}
 use Rattle.domain_layout.specs.Filled.{Contents}
 use Rattle.domain_layout.specs.CellRules.{of_clone}
 use Rattle.domain_layout.specs.Reached.{Frame, first_cells}
-use Rattle.domain_standing.specs.Domain.{DomainNow}
-use Rattle.domain_standing.specs.Holders.Holder.{of_file}
+use Rattle.standing_laws.specs.Domain.{DomainNow}
+use Rattle.standing_laws.specs.Holders.Holder.{of_file}
 use Rattle.log_ring.specs.Homes.{IsMember}
 use Rattle.standing_laws.specs.Leads.{IsLiveOf, fileset_now}
 use Rattle.standing_laws.proofs.TablesTaken.{unheld_taken}

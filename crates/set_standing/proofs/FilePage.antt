@@ -18,12 +18,12 @@ use Rattle.bitfile_core.specs.State.{FileState, state_of}
 use Rattle.bitfile_core.specs.Together.{AreTogether}
 use Rattle.bitfile_core.proofs.Created.{one_chains}
 use Rattle.set_laws.proofs.Together.{together_away}
-use Rattle.stored_set.specs.Sets.{StandsAsSet}
+use Rattle.standing_laws.specs.Sets.{StandsAsSet}
 use Rattle.deferred_delete.specs.Standing.{place_in}
 use Rattle.deferred_laws.proofs.Tags.{IsNamed, named}
 use Rattle.domain_layout.specs.Filled.{Contents}
-use Rattle.domain_standing.specs.Domain.{DomainNow}
-use Rattle.domain_standing.specs.Holders.Holder.{of_file, of_volume}
+use Rattle.standing_laws.specs.Domain.{DomainNow}
+use Rattle.standing_laws.specs.Holders.Holder.{of_file, of_volume}
 use Rattle.standing_laws.specs.Leads.{IsLiveOf, StandsBelow}
 use Rattle.standing_laws.specs.OtherPages.{KeepsWhere}
 use Rattle.standing_laws.proofs.OthersStand.{others_stand}

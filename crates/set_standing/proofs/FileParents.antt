@@ -20,8 +20,8 @@ use Rattle.deferred_delete.proofs.Spread.{some_same}
 use Rattle.layout_laws.proofs.Reached.{same_number}
 use Rattle.domain_layout.specs.DirectoryRules.{Has, IsInItem, IsInOriginal, IsRow, RowPlace}
 use Rattle.domain_layout.specs.Seen.{SeenFile}
-use Rattle.domain_standing.specs.Domain.{DomainNow, item_in}
-use Rattle.domain_standing.specs.Standing.{HaveParents}
+use Rattle.standing_laws.specs.Domain.{DomainNow, item_in}
+use Rattle.standing_laws.specs.Standing.{HaveParents}
 use Rattle.standing_laws.specs.Leads.{IsLiveOf}
 use Rattle.standing_laws.specs.SlotParents.{HaveParentsIn, StandsForSome}
 use Rattle.standing_laws.proofs.OtherSlots.{seen_place}

@@ -22,12 +22,12 @@ use Rattle.bitfile_laws.specs.States.{cut as cut_state, described as described_s
 use Rattle.bitfile_laws.proofs.FirstCells.{attributes_said, size_said}
 use Rattle.bitfile_laws.proofs.Parts.{file_at}
 use Rattle.set_laws.proofs.FirstTells.{off_tables_still}
-use Rattle.stored_set.specs.Sets.{StandsAsSet}
+use Rattle.standing_laws.specs.Sets.{StandsAsSet}
 use Rattle.deferred_delete.specs.Listing.{Listing}
 use Rattle.deferred_delete.specs.Standing.{Files, with_file}
 use Rattle.deferred_laws.specs.Calls.{Call, cut, described}
 use Rattle.domain_layout.specs.Filled.{Contents}
-use Rattle.domain_standing.specs.Domain.{DomainNow}
+use Rattle.standing_laws.specs.Domain.{DomainNow}
 use Rattle.standing_laws.specs.Leads.{IsLiveOf, fileset_now}
 use Rattle.set_standing.specs.Around.{BytesFollow, ChangesSlot, StandsAround}
 use Rattle.set_standing.specs.Beside.{ChangesOneFile, StaysBeside}

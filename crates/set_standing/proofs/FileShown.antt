@@ -32,7 +32,7 @@ use Rattle.set_laws.specs.Whole.{AreWholeDirectories, IsWholeAt}
 use Rattle.set_laws.proofs.Beside.{stands_beside}
 use Rattle.set_laws.proofs.Kept.{index_kept}
 use Rattle.set_laws.proofs.Told.{kind_told}
-use Rattle.stored_set.specs.Sets.{StandsAsSet}
+use Rattle.standing_laws.specs.Sets.{StandsAsSet}
 use Rattle.standing_laws.specs.Leads.{IsLiveOf}
 
 -- ---- what a chain says, by its state

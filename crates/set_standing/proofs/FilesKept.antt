@@ -27,7 +27,7 @@ use Rattle.domain_layout.specs.Seen.{SeenFile, kept_by, seen_in}
 use Rattle.standing_laws.specs.Leads.{IsLiveOf}
 use Rattle.node_laws.specs.Nodes.{seen_of}
 use Rattle.node_laws.proofs.Seen.{live_seen}
-use Rattle.domain_standing.specs.Domain.{DomainNow}
+use Rattle.standing_laws.specs.Domain.{DomainNow}
 use Rattle.set_standing.specs.Follow.{ComesFrom, FilesFollow, IsEmptyFile, IsStill, IsUnsaid, Said, SaysParent, TagFollows, TagsFollow}
 
 -- ---- what is seen of a chain

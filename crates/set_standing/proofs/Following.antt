@@ -21,7 +21,7 @@ use Rattle.deferred_delete.specs.Standing.{Files}
 use Rattle.deferred_delete.proofs.Spread.{none_not, some_same}
 use Rattle.deferred_laws.proofs.Tags.{IsNamed}
 use Rattle.domain_layout.specs.Seen.{SeenFile, seen_in}
-use Rattle.domain_standing.specs.Domain.{DomainNow}
+use Rattle.standing_laws.specs.Domain.{DomainNow}
 use Rattle.set_standing.specs.Follow.{ComesFrom, IsUnsaid, Said, SaysParent, TagFollows, TagsFollow}
 use Rattle.set_standing.proofs.FilesKept.{KeepsBytesOf, none_unsaid, tag_changed, tag_gone, tag_unsaid}
 

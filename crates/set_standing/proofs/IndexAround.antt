@@ -29,15 +29,15 @@ use Rattle.bitfile_laws.specs.States.{indexed}
 use Rattle.bitfile_laws.proofs.FirstCells.{index_said}
 use Rattle.bitfile_laws.proofs.Parts.{file_at}
 use Rattle.set_laws.proofs.Together.{together_away}
-use Rattle.stored_set.specs.Sets.{AddsIndexPage, WritesIndexPage}
+use Rattle.standing_laws.specs.Sets.{AddsIndexPage, WritesIndexPage}
 use Rattle.deferred_delete.specs.Standing.{Files, source_at, with_file}
 use Rattle.deferred_delete.proofs.Standings.{low_home}
 use Rattle.deferred_laws.specs.Tags.{start_of}
 use Rattle.domain_layout.specs.Filled.{Contents}
-use Rattle.domain_standing.specs.Chains.{IndexesAt}
-use Rattle.domain_standing.specs.Domain.{DomainNow}
-use Rattle.domain_standing.specs.Holders.{IsUnheld}
-use Rattle.domain_standing.specs.Holders.Holder.{of_cells, of_file, of_tags}
+use Rattle.standing_laws.specs.Chains.{IndexesAt}
+use Rattle.standing_laws.specs.Domain.{DomainNow}
+use Rattle.standing_laws.specs.Holders.{IsUnheld}
+use Rattle.standing_laws.specs.Holders.Holder.{of_cells, of_file, of_tags}
 use Rattle.standing_laws.specs.IndexCalls.{KeepsTables, with_index_at, with_said}
 use Rattle.standing_laws.specs.Leads.{StandsBelow}
 use Rattle.standing_laws.specs.OtherPages.{KeepsPlaces}

@@ -6,7 +6,7 @@ use Rattle.log_ring.specs.Homes.{IsMember}
 use Rattle.fileset_table.specs.Table.{Table}
 use Rattle.domain_layout.specs.CellRules.{of_clone}
 use Rattle.domain_layout.specs.Reached.{Frame, first_cells}
-use Rattle.domain_standing.specs.Domain.{DomainNow}
+use Rattle.standing_laws.specs.Domain.{DomainNow}
 use Rattle.set_standing.specs.Around.{GoesOnAround, StandsAround, StaysAround}
 use Rattle.set_standing.specs.Follow.{Said}
 use Rattle.set_standing.proofs.FilesKept.{files_by, files_joined, tag_same}

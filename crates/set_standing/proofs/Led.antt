@@ -17,8 +17,8 @@ use Rattle.deferred_laws.specs.Tags.{start_of}
 use Rattle.deferred_laws.proofs.Tags.{named}
 use Rattle.deferred_laws.proofs.CallsWell.{stands_call}
 use Rattle.deferred_laws.proofs.SourcesStay.{sources_stay}
-use Rattle.domain_standing.specs.Domain.{DomainNow}
-use Rattle.domain_standing.specs.Holders.Holder.{of_file, of_volume}
+use Rattle.standing_laws.specs.Domain.{DomainNow}
+use Rattle.standing_laws.specs.Holders.Holder.{of_file, of_volume}
 use Rattle.standing_laws.specs.Leads.{LeadsOn, MayCall, fileset_now}
 use Rattle.standing_laws.specs.Left.{LeavesNothing}
 use Rattle.standing_laws.proofs.BelowStands.{below_stands}

@@ -9,8 +9,8 @@ use Rattle.bitfile_core.specs.Files.{Chains, place_at}
 use Rattle.deferred_delete.specs.Standing.{Files, place_in}
 use Rattle.deferred_laws.specs.Tags.{start_of}
 use Rattle.layout_laws.proofs.Reached.{same_number}
-use Rattle.domain_standing.specs.Domain.{DomainNow}
-use Rattle.domain_standing.specs.Holders.Holder.{of_file, of_volume}
+use Rattle.standing_laws.specs.Domain.{DomainNow}
+use Rattle.standing_laws.specs.Holders.Holder.{of_file, of_volume}
 use Rattle.standing_laws.specs.Leads.{LeadsOn}
 use Rattle.standing_laws.proofs.OtherSlots.{bytes_same, links_of, slot_stays}
 use Rattle.standing_laws.proofs.ParentsElsewhere.{parents_elsewhere}

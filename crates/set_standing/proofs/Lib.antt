@@ -26,3 +26,14 @@ pub mod FileGiven
 pub mod FileCut
 pub mod FileCalls
 pub mod FileParents
+pub use Rattle.standing_laws.proofs.BitsStay
+pub use Rattle.standing_laws.proofs.BooksStay
+pub use Rattle.standing_laws.proofs.FilesetPut
+pub use Rattle.standing_laws.proofs.OtherSlots
+pub use Rattle.standing_laws.proofs.SoundParted
+pub use Rattle.standing_laws.proofs.SourcesSaid
+pub use Rattle.standing_laws.proofs.OriginalFiles
+pub use Rattle.node_laws.proofs.Changed
+pub use Rattle.standing_laws.proofs.StableSet
+pub use Rattle.standing_laws.proofs.Lengthened
+pub use Rattle.standing_laws.proofs.Live

@@ -20,8 +20,8 @@ use Rattle.deferred_delete.proofs.Spread.{none_not, some_same}
 use Rattle.deferred_delete.proofs.Standings.{at_itself}
 use Rattle.deferred_laws.specs.Calls.{Call, FilesetNow, SetsFirst, cut, described, dropped, given, indexed, made, moved, put_in, refused}
 use Rattle.deferred_laws.specs.Tags.{start_of}
-use Rattle.domain_standing.specs.Chains.{IndexesAt}
-use Rattle.domain_standing.specs.Domain.{DomainNow}
+use Rattle.standing_laws.specs.Chains.{IndexesAt}
+use Rattle.standing_laws.specs.Domain.{DomainNow}
 use Rattle.standing_laws.specs.IndexCalls.{with_index_at}
 use Rattle.standing_laws.specs.Leads.{MayCall}
 use Rattle.standing_laws.specs.Left.{LeavesNothing}

@@ -28,7 +28,7 @@ use Rattle.fileset_table.specs.declared.slot.FilesetEntry.{FilesetEntry}
 use Rattle.deferred_delete.proofs.Spread.{none_not}
 use Rattle.deferred_laws.specs.Tags.{start_of}
 use Rattle.domain_layout.specs.Shape.{FilesetShape}
-use Rattle.domain_standing.specs.Domain.{DomainNow}
+use Rattle.standing_laws.specs.Domain.{DomainNow}
 use Rattle.standing_laws.specs.Slots.{StandsSlot}
 use Rattle.standing_laws.specs.Sound.{IsSound}
 use Rattle.standing_laws.proofs.SoundParted.{sound_whole}

@@ -12,8 +12,8 @@ use Rattle.deferred_delete.specs.Standing.{Files}
 use Rattle.domain_layout.proofs.OneShape.{links_same}
 use Rattle.domain_layout.specs.Shape.{AreLimits, AreQuotas}
 use Rattle.domain_layout.specs.TagRules.{quota_of}
-use Rattle.domain_standing.specs.Chains.{AreQuotasOf, IsQuotaOf}
-use Rattle.domain_standing.specs.Domain.{DomainNow, item_in}
+use Rattle.standing_laws.specs.Chains.{AreQuotasOf, IsQuotaOf}
+use Rattle.standing_laws.specs.Domain.{DomainNow, item_in}
 use Rattle.standing_laws.proofs.OtherSlots.{links_of}
 
 module _ (n : ℕ) (d now : DomainNow) (files : Files) (named : (at : CellAt) → IsQuotaOf d n at → IsSomeAnd (files at) (AreQuotasOf d n at)) (links : (at : CellAt) (cs : List PlacedCell) → files at ≡ Some cs → AreQuotasOf d n at cs → LinksFrom now.pages at cs)

@@ -10,8 +10,8 @@ use Rattle.bitfile_cells.specs.Files.{places_of}
 use Rattle.bitfile_core.specs.Files.{place_at}
 use Rattle.deferred_delete.specs.Standing.{place_in}
 use Rattle.deferred_laws.proofs.Tags.{IsNamed, named}
-use Rattle.domain_standing.specs.Domain.{DomainNow}
-use Rattle.domain_standing.specs.Holders.Holder.{of_file, of_index}
+use Rattle.standing_laws.specs.Domain.{DomainNow}
+use Rattle.standing_laws.specs.Holders.Holder.{of_file, of_index}
 use Rattle.standing_laws.proofs.HomeLists.{in_get}
 use Rattle.standing_laws.proofs.OtherSlots.{seen_place}
 use Rattle.set_standing.specs.Around.{BytesFollow, StandsAround}

@@ -19,7 +19,7 @@ use Rattle.bitfile_core.specs.Files.{AreFiles, Chains, attributes_of, of_live, p
 use Rattle.bitfile_core.specs.Shown.{index_of}
 use Rattle.bitfile_core.specs.Together.{AreTogether}
 use Rattle.stored_index.specs.Homes.{AreIndexHomes}
-use Rattle.stored_set.specs.Sets.{AddsIndexPage, AddsPage, StandsAsSet, WritesIndexPage, attributes_at}
+use Rattle.standing_laws.specs.Sets.{AddsIndexPage, AddsPage, StandsAsSet, WritesIndexPage, attributes_at}
 use Rattle.deferred_delete.specs.Listing.{Listing}
 use Rattle.deferred_laws.specs.Tags.{start_of}
 use Rattle.standing_laws.specs.IndexCalls.{KeepsTables}

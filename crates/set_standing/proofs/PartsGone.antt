@@ -17,9 +17,9 @@ use Rattle.bitfile_core.specs.Together.{AreTogether}
 use Rattle.bitfile_core.proofs.Created.{one_chains}
 use Rattle.bitfile_core.proofs.OneChain.{chain_other}
 use Rattle.stored_index.specs.Homes.{AreIndexHomes}
-use Rattle.stored_set.specs.Sets.{GivesIndexBack, StandsAsSet, without_index, without_index_from}
+use Rattle.standing_laws.specs.Sets.{GivesIndexBack, StandsAsSet, without_index, without_index_from}
 use Rattle.deferred_delete.specs.Listing.{Listing}
-use Rattle.domain_standing.specs.Domain.{DomainNow}
+use Rattle.standing_laws.specs.Domain.{DomainNow}
 use Rattle.standing_laws.proofs.IndexSet.{IsChain}
 use Rattle.set_standing.specs.Around.{GoesOnAround, StandsAround}
 use Rattle.set_standing.specs.Parts.{AddsFiles, KeepsAround, Parts, Surroundings, TagsOf, domain_of}

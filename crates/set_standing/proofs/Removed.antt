@@ -22,7 +22,7 @@ use Rattle.bitfile_core.specs.Index.{says_index}
 use Rattle.bitfile_core.specs.Shown.{index_of}
 use Rattle.bitfile_core.specs.Together.{AreTogether}
 use Rattle.bitfile_core.proofs.OneChain.{chain_same, same_tag_itself}
-use Rattle.stored_set.specs.Sets.{GivesIndexBack, without_index, without_index_from}
+use Rattle.standing_laws.specs.Sets.{GivesIndexBack, without_index, without_index_from}
 use Rattle.deferred_delete.specs.Listed.{IsEntry}
 use Rattle.deferred_delete.specs.Listing.{Adds, Listing}
 use Rattle.deferred_delete.specs.Standing.{Files, ReadsThrough, source_at, with_file}
@@ -31,7 +31,7 @@ use Rattle.deferred_delete.proofs.Standings.{file_there}
 use Rattle.deferred_laws.specs.Tags.{start_of}
 use Rattle.deferred_laws.proofs.FirstWell.{removed_beside}
 use Rattle.domain_layout.specs.Filled.{Contents}
-use Rattle.domain_standing.specs.Domain.{DomainNow}
+use Rattle.standing_laws.specs.Domain.{DomainNow}
 use Rattle.standing_laws.specs.IndexCalls.{KeepsTables, with_index_at, with_removed}
 use Rattle.standing_laws.specs.Leads.{StandsBelow}
 use Rattle.standing_laws.proofs.IndexGone.{gone}

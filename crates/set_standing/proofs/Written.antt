@@ -22,8 +22,8 @@ use Rattle.set_laws.proofs.Together.{together_away}
 use Rattle.deferred_delete.specs.Standing.{place_in}
 use Rattle.deferred_laws.proofs.Tags.{IsNamed, named}
 use Rattle.domain_layout.specs.Filled.{Contents}
-use Rattle.domain_standing.specs.Domain.{DomainNow}
-use Rattle.domain_standing.specs.Holders.Holder.{of_file}
+use Rattle.standing_laws.specs.Domain.{DomainNow}
+use Rattle.standing_laws.specs.Holders.Holder.{of_file}
 use Rattle.standing_laws.specs.Leads.{IsLiveOf, StandsBelow}
 use Rattle.standing_laws.specs.OtherPages.{KeepsPlaces, KeepsWhere}
 use Rattle.standing_laws.proofs.OthersStand.{others_stand}

@@ -14,9 +14,9 @@ use Rattle.deferred_delete.specs.Standing.{Files, source_at}
 use Rattle.deferred_laws.specs.Calls.{StandsWell}
 use Rattle.deferred_laws.specs.Tags.{start_of}
 use Rattle.domain_layout.specs.Shape.{AreLimits, FilesetShape}
-use Rattle.domain_standing.specs.Chains.{IndexesAt, no_files, no_indexes}
-use Rattle.domain_standing.specs.Domain.{DomainNow, item_in}
-use Rattle.domain_standing.specs.Holders.{Holder, Holds}
+use Rattle.standing_laws.specs.Chains.{IndexesAt, no_files, no_indexes}
+use Rattle.standing_laws.specs.Domain.{DomainNow, item_in}
+use Rattle.standing_laws.specs.Holders.{Holder, Holds}
 use Rattle.standing_laws.specs.Leads.{StandsBelow, fileset_now}
 use Rattle.standing_laws.specs.SlotParents.{HaveParentsIn, StandsForSome}
 use Rattle.standing_laws.specs.Slots.{StandsSlot}

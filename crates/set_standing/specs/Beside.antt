@@ -8,14 +8,14 @@ use Rattle.page_store.specs.Bitfiles.{Bitfiles, same_tag}
 use Rattle.extent_maps.specs.declared.run.PagePlace.TheVariants.{At}
 use Rattle.bitfile_core.specs.Files.{AreFiles, Chains, place_at}
 use Rattle.bitfile_core.specs.State.{FileState, state_of}
-use Rattle.stored_set.specs.Sets.{StandsAsSet}
+use Rattle.standing_laws.specs.Sets.{StandsAsSet}
 use Rattle.fileset_model.specs.declared.command.Owner.{Owner}
 use Rattle.fileset_model.specs.declared.fileset.FilesetSlot.{FilesetSlot}
 use Rattle.fileset_model.specs.declared.fileset.Limits.{Limits}
 use Rattle.fileset_table.specs.declared.slot.FilesetEntry.{FilesetEntry}
 use Rattle.fileset_table.specs.declared.slot.SlotItem.TheVariants as slot
 use Rattle.domain_layout.specs.Shape.{AreLimits, FilesetShape}
-use Rattle.domain_standing.specs.Domain.{DomainNow, item_in}
+use Rattle.standing_laws.specs.Domain.{DomainNow, item_in}
 use Rattle.standing_laws.specs.Leads.{IsLiveOf}
 use Rattle.standing_laws.specs.SlotParents.{HaveParentsIn, StandsForSome}
 use Rattle.standing_laws.specs.Slots.{StandsSlot}

@@ -10,7 +10,7 @@ use Rattle.bitfile_core.specs.Creation.{last_sequence}
 use Rattle.bitfile_core.specs.Files.{AreFiles, Chains}
 use Rattle.bitfile_core.specs.State.{parent_of}
 use Rattle.domain_layout.specs.Seen.{SeenFile, seen_in}
-use Rattle.domain_standing.specs.Domain.{DomainNow}
+use Rattle.standing_laws.specs.Domain.{DomainNow}
 
 -- a file has the size, the flag and the pages that it had, and these their bytes
 pub record IsSameFile (d now : DomainNow) (was is : SeenFile) : Type 0 where

@@ -2,3 +2,13 @@ pub mod Follow
 pub mod Around
 pub mod Parts
 pub mod Beside
+pub use Rattle.standing_laws.specs.Leads
+pub use Rattle.standing_laws.specs.SlotParents
+pub use Rattle.standing_laws.specs.Slots
+pub use Rattle.standing_laws.specs.SlotsStay
+pub use Rattle.standing_laws.specs.Sound
+pub use Rattle.standing_laws.specs.Domain
+pub use Rattle.standing_laws.specs.Sources
+pub use Rattle.standing_laws.specs.Standing
+pub use Rattle.standing_laws.specs.Tables
+pub use Rattle.standing_laws.specs.Sets

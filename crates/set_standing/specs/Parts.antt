@@ -11,7 +11,7 @@ use Rattle.fileset_table.specs.Table.{Table}
 use Rattle.deferred_delete.specs.Listing.{Adds, Listing}
 use Rattle.domain_layout.specs.Filled.{Contents}
 use Rattle.domain_layout.specs.Reached.{Frame}
-use Rattle.domain_standing.specs.Domain.{DomainNow}
+use Rattle.standing_laws.specs.Domain.{DomainNow}
 use Rattle.set_standing.specs.Around.{GoesOnAround, StandsAround}
 use Rattle.set_standing.specs.Follow.{Said}
 

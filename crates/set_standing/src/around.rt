@@ -3,7 +3,7 @@ ghost use Rattle.std.specs.Prelude.{None, ℕ};
 ghost use Rattle.fileset_model.specs.declared.fileset.FilesetSlot.{FilesetSlot};
 ghost use Rattle.fileset_table.specs.declared.slot.FilesetEntry.{FilesetEntry};
 ghost use Rattle.domain_layout.specs.Shape.{FilesetShape};
-ghost use Rattle.domain_standing.specs.Domain.{DomainNow};
+ghost use Rattle.standing_laws.specs.Domain.{DomainNow};
 ghost use Rattle.standing_laws.specs.Slots.{StandsSlot};
 ghost use Rattle.standing_laws.specs.Sound.{IsSound};
 ghost use Rattle.set_standing.specs.Around.{GoesOnAround, StandsAround};

@@ -10,8 +10,8 @@ ghost use Rattle.bitfile_core.specs.Creation.{Creates, LeavesBeside, TakesForFil
 ghost use Rattle.bitfile_core.specs.Together.{AreTogether};
 ghost use Rattle.bitfile_core.specs.declared.attributes.Attributes.{Attributes};
 ghost use Rattle.bitfile_core.specs.declared.new_cells.NewFile.{NewFile};
-ghost use Rattle.stored_set.specs.Sets.{attributes_at};
-ghost use Rattle.domain_standing.specs.Domain.{DomainNow};
+ghost use Rattle.standing_laws.specs.Sets.{attributes_at};
+ghost use Rattle.standing_laws.specs.Domain.{DomainNow};
 ghost use Rattle.standing_laws.specs.Leads.{IsLiveOf};
 ghost use Rattle.standing_laws.specs.OtherPages.{KeepsPlaces};
 ghost use Rattle.set_standing.specs.Around.{BytesFollow, ChangesSlot, GoesOnAround, StandsAround};

@@ -4,9 +4,9 @@ ghost use Rattle.domain_base.specs.declared.place.CellAt.{CellAt};
 ghost use Rattle.domain_base.specs.declared.place.Tag.{Tag};
 ghost use Rattle.bitfile_core.specs.Changes.{KeepsSequences, Removes, without_chain};
 ghost use Rattle.bitfile_core.specs.Together.{AreTogether};
-ghost use Rattle.stored_set.specs.Sets.{GivesIndexBack, without_index};
+ghost use Rattle.standing_laws.specs.Sets.{GivesIndexBack, without_index};
 ghost use Rattle.deferred_delete.specs.Listing.{Adds, Listing};
-ghost use Rattle.domain_standing.specs.Domain.{DomainNow};
+ghost use Rattle.standing_laws.specs.Domain.{DomainNow};
 ghost use Rattle.standing_laws.specs.IndexCalls.{KeepsTables};
 ghost use Rattle.set_standing.specs.Around.{BytesFollow, GoesOnAround, StandsAround};
 

@@ -32,7 +32,7 @@ use Rattle.domain_layout.specs.TagRules.{HasTags, IsFirstOf}
 use Rattle.layout_laws.proofs.Named.{InChain, begins_file, goes_along, place_in}
 use Rattle.layout_laws.proofs.OnePage.{some_same}
 use Rattle.layout_laws.proofs.Reached.{may_be_by}
-use Rattle.filesets_reading.proofs.OnTables.{on_table}
+use Rattle.fileset_shapes.proofs.OnTables.{on_table}
 use Rattle.fileset_shapes.proofs.OriginalFiles.{Kept, home_kept, kept, none_some}
 use Rattle.fault_laws.proofs.Files.{FirstThere, first_kind, first_used, source_named, tags_of}
 use Rattle.fault_laws.proofs.Owned.{AreTables}

@@ -4,3 +4,4 @@ pub mod OwnFiles
 pub mod Quotas
 pub mod Said
 pub mod LedBy
+pub use Rattle.filesets_reading.proofs.Ways

@@ -18,7 +18,7 @@ use Rattle.domain_layout.specs.Owners.{frame_of}
 use Rattle.domain_layout.specs.Seen.{SeenFile}
 use Rattle.domain_layout.specs.Shape.{FilesetShape, IsClone, IsSameSeen, IsShapeOf}
 use Rattle.layout_laws.proofs.OnePage.{HasOne, one_of, some_same}
-use Rattle.filesets_reading.specs.Seen.{IsSeenAs, IsSeenThere}
+use Rattle.fileset_shapes.specs.Seen.{IsSeenAs, IsSeenThere}
 use Rattle.directory_facts.specs.Showing.{IsShownOf, ShowsFileset, ShowsIndex}
 use Rattle.fileset_shapes.specs.Files.{IsWhole}
 use Rattle.fileset_shapes.specs.Found.{SeesShape, file_at}

@@ -36,7 +36,7 @@ use Rattle.filesets_reading.specs.Chains.{HasLinks}
 use Rattle.filesets_reading.specs.Tables.{AreTablesOf}
 use Rattle.filesets_reading.specs.declared.tables.DomainTables.{DomainTables}
 use Rattle.filesets_reading.proofs.Unbroken.{unbroken}
-use Rattle.page_faults.proofs.HomesFound.{on_volume}
+use Rattle.index_row_faults.proofs.HomesFound.{on_volume}
 use Rattle.row_faults.specs.There.{AreFilesIn, BeginAt, IsReadFile}
 use Rattle.row_faults.specs.declared.there.FileThere.{FileThere}
 use Rattle.row_faults.proofs.Inserted.{among_at, at_among}

@@ -23,8 +23,8 @@ use Rattle.extent_records.specs.Writing.{places_before}
 use Rattle.filesets_reading.specs.Chains.{HasLinks}
 use Rattle.filesets_reading.proofs.Originals.{none_behind}
 use Rattle.filesets_reading.proofs.Ways.{map_pushed}
-use Rattle.shape_reading.specs.Clones.{HasVolume}
-use Rattle.shape_reading.proofs.ReadHomes.{read_nowhere}
+use Rattle.row_faults.specs.Clones.{HasVolume}
+use Rattle.row_faults.proofs.ReadHomes.{read_nowhere}
 use Rattle.slot_files.specs.Said.{first_there, home_said, place_in, place_there, run_there, runs_there, said_in}
 use Rattle.slot_files.specs.declared.said.SaidHome.{SaidHome}
 use Rattle.slot_files.specs.declared.said.SaidPlace.{SaidPlace}

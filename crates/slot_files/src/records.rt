@@ -5,7 +5,7 @@ ghost use Rattle.bitfile_core.specs.Files.{attributes_in as attributes_there, at
 ghost use Rattle.bitfile_core.specs.State.{parent_in as parent_there, parent_of};
 ghost use Rattle.domain_layout.specs.Seen.{frozen_in as frozen_there, frozen_of, is_in_sync as in_sync_there, source_in as source_there, source_of};
 ghost use Rattle.filesets_reading.specs.Chains.{HasLinks};
-ghost use Rattle.shape_reading.specs.Clones.{HasVolume};
+ghost use Rattle.row_faults.specs.Clones.{HasVolume};
 
 use bitfile_core::Attributes;
 use bmt_mcells::find_record;

@@ -2,10 +2,10 @@
 use Rattle.fileset_model.specs.Filesets.{FilesetMap}
 use Rattle.layout_laws.specs.NewDomain.{IsNew}
 use Rattle.layout_laws.proofs.NewDomain.{no_fault}
-use Rattle.domain_standing.specs.Domain.{DomainNow}
-use Rattle.domain_standing.specs.Standing.{StandsDomain}
-use Rattle.attached_list.specs.Attached.{IsReadFrom}
-use Rattle.standing_laws.specs.Sound.{StandsSound}
+use Rattle.no_fault_laws.specs.Domain.{DomainNow}
+use Rattle.no_fault_laws.specs.Standing.{StandsDomain}
+use Rattle.no_fault_laws.specs.Attached.{IsReadFrom}
+use Rattle.no_fault_laws.specs.Sound.{StandsSound}
 use Rattle.no_fault_laws.proofs.Faultless.{faultless}
 
 pub sound_new : (d : DomainNow) (all : FilesetMap) (stands : StandsDomain d all) → IsNew d.pages d.frame → StandsSound d stands.files stands.indexes

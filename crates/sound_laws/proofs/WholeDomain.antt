@@ -1,9 +1,9 @@
 -- A domain that is as rules ask beside that it stands has no fault.
 use Rattle.fileset_model.specs.Filesets.{FilesetMap}
 use Rattle.domain_layout.specs.Faults.{HasNoFault}
-use Rattle.domain_standing.specs.Domain.{DomainNow}
-use Rattle.domain_standing.specs.Standing.{HaveParents, IsMarkedBut, StandsDomain}
-use Rattle.standing_laws.specs.Sound.{IsSound}
+use Rattle.no_fault_laws.specs.Domain.{DomainNow}
+use Rattle.no_fault_laws.specs.Standing.{HaveParents, IsMarkedBut, StandsDomain}
+use Rattle.no_fault_laws.specs.Sound.{IsSound}
 use Rattle.no_fault_laws.proofs.NoFault.{no_fault}
 
 pub sound_faultless : (d : DomainNow) (all : FilesetMap) → StandsDomain d all → IsSound d → HaveParents d → IsMarkedBut d → HasNoFault d.pages d.frame

@@ -6,14 +6,14 @@ ghost use Rattle.dir_index.specs.Index.{IsIndexPage};
 ghost use Rattle.bitfile_core.specs.Changes.{Removes};
 ghost use Rattle.bitfile_core.specs.Files.{Chains};
 ghost use Rattle.bitfile_core.specs.Index.{says_index};
-ghost use Rattle.stored_set.specs.Sets.{AddsIndexPage, GivesIndexBack, WritesIndexPage, without_index};
+ghost use Rattle.no_fault_laws.specs.Sets.{AddsIndexPage, GivesIndexBack, WritesIndexPage, without_index};
 ghost use Rattle.deferred_delete.specs.Listing.{Listing};
 ghost use Rattle.deferred_delete.specs.Standing.{Files};
-ghost use Rattle.domain_standing.specs.Chains.{IndexesAt};
-ghost use Rattle.domain_standing.specs.Domain.{DomainNow};
-ghost use Rattle.standing_laws.specs.IndexCalls.{KeepsTables, NamesFile, with_index_at, with_removed, with_said};
-ghost use Rattle.standing_laws.specs.Leads.{StandsBelow};
-ghost use Rattle.standing_laws.specs.Sound.{StandsSound};
+ghost use Rattle.no_fault_laws.specs.Chains.{IndexesAt};
+ghost use Rattle.no_fault_laws.specs.Domain.{DomainNow};
+ghost use Rattle.no_fault_laws.specs.IndexCalls.{KeepsTables, NamesFile, with_index_at, with_removed, with_said};
+ghost use Rattle.no_fault_laws.specs.Leads.{StandsBelow};
+ghost use Rattle.no_fault_laws.specs.Sound.{StandsSound};
 
 /// A page that is well formed is put in place of one of a directory's index.
 pub fn soundness_stays_where_an_index_page_is_written()

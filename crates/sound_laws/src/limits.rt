@@ -1,11 +1,11 @@
 //! Limits of owners.
 ghost use Rattle.std.specs.Prelude.{ℕ};
 ghost use Rattle.deferred_delete.specs.Standing.{Files};
-ghost use Rattle.domain_standing.specs.Chains.{IndexesAt};
-ghost use Rattle.domain_standing.specs.Domain.{DomainNow};
-ghost use Rattle.standing_laws.specs.Leads.{StandsBelow};
-ghost use Rattle.standing_laws.specs.SetsQuota.{SetsQuota};
-ghost use Rattle.standing_laws.specs.Sound.{StandsSound};
+ghost use Rattle.no_fault_laws.specs.Chains.{IndexesAt};
+ghost use Rattle.no_fault_laws.specs.Domain.{DomainNow};
+ghost use Rattle.no_fault_laws.specs.Leads.{StandsBelow};
+ghost use Rattle.no_fault_laws.specs.SetsQuota.{SetsQuota};
+ghost use Rattle.no_fault_laws.specs.Sound.{StandsSound};
 
 /// An owner's limits are set: a page that a table of cells gets is one of a member's, and what
 /// changes are quota cells.

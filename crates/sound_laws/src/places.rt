@@ -6,14 +6,14 @@ ghost use Rattle.fileset_model.specs.declared.fileset.Limits.{Limits};
 ghost use Rattle.fileset_table.specs.declared.slot.FilesetEntry.{FilesetEntry};
 ghost use Rattle.deferred_delete.specs.Listing.{Listing};
 ghost use Rattle.deferred_delete.specs.Standing.{Files};
-ghost use Rattle.domain_standing.specs.Chains.{IndexesAt};
-ghost use Rattle.domain_standing.specs.Domain.{DomainNow};
-ghost use Rattle.standing_laws.specs.BoundedFileset.{BoundsFileset};
-ghost use Rattle.standing_laws.specs.GoingFileset.{BeginsToGo};
-ghost use Rattle.standing_laws.specs.Leads.{StandsBelow};
-ghost use Rattle.standing_laws.specs.NewFileset.{JoinsEmpty};
-ghost use Rattle.standing_laws.specs.OtherPages.{KeepsPlaces, KeepsWhere};
-ghost use Rattle.standing_laws.specs.Sound.{StandsSound};
+ghost use Rattle.no_fault_laws.specs.Chains.{IndexesAt};
+ghost use Rattle.no_fault_laws.specs.Domain.{DomainNow};
+ghost use Rattle.no_fault_laws.specs.BoundedFileset.{BoundsFileset};
+ghost use Rattle.no_fault_laws.specs.GoingFileset.{BeginsToGo};
+ghost use Rattle.no_fault_laws.specs.Leads.{StandsBelow};
+ghost use Rattle.no_fault_laws.specs.NewFileset.{JoinsEmpty};
+ghost use Rattle.no_fault_laws.specs.OtherPages.{KeepsPlaces, KeepsWhere};
+ghost use Rattle.no_fault_laws.specs.Sound.{StandsSound};
 
 /// Pages of files and of bitmaps change, and those that are held for nothing.
 pub fn soundness_stays_where_other_pages_change()

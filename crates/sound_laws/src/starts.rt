@@ -1,10 +1,10 @@
 //! Domains that are made and read.
 ghost use Rattle.fileset_model.specs.Filesets.{FilesetMap};
 ghost use Rattle.layout_laws.specs.NewDomain.{IsNew};
-ghost use Rattle.domain_standing.specs.Domain.{DomainNow};
-ghost use Rattle.domain_standing.specs.Standing.{StandsDomain};
-ghost use Rattle.attached_list.specs.Attached.{IsReadFrom};
-ghost use Rattle.standing_laws.specs.Sound.{StandsSound};
+ghost use Rattle.no_fault_laws.specs.Domain.{DomainNow};
+ghost use Rattle.no_fault_laws.specs.Standing.{StandsDomain};
+ghost use Rattle.no_fault_laws.specs.Attached.{IsReadFrom};
+ghost use Rattle.no_fault_laws.specs.Sound.{StandsSound};
 
 /// A domain that was just made is as rules ask beside that it stands.
 pub fn a_new_domain_is_sound()

@@ -1,9 +1,9 @@
 //! What a domain is that is so.
 ghost use Rattle.fileset_model.specs.Filesets.{FilesetMap};
 ghost use Rattle.domain_layout.specs.Faults.{HasNoFault};
-ghost use Rattle.domain_standing.specs.Domain.{DomainNow};
-ghost use Rattle.domain_standing.specs.Standing.{HaveParents, IsMarkedBut, StandsDomain};
-ghost use Rattle.standing_laws.specs.Sound.{IsSound};
+ghost use Rattle.no_fault_laws.specs.Domain.{DomainNow};
+ghost use Rattle.no_fault_laws.specs.Standing.{HaveParents, IsMarkedBut, StandsDomain};
+ghost use Rattle.no_fault_laws.specs.Sound.{IsSound};
 
 /// A domain that stands for filesets and is so, in which directories say their parents and the bits
 /// of bitmaps are kept, has no fault.

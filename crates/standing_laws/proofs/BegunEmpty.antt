@@ -36,15 +36,15 @@ use Rattle.name_space.specs.Laws.{IsRootAlone}
 use Rattle.name_space.specs.Names.{led_to, number_of}
 use Rattle.name_space.proofs.CreatedNames.{by_tag}
 use Rattle.name_space.proofs.Roots.{root_original_lem}
-use Rattle.stored_set.specs.Sets.{StandsAsSet}
-use Rattle.stored_set.proofs.Making.{made_shown}
+use Rattle.domain_standing.specs.Sets.{StandsAsSet}
+use Rattle.domain_standing.proofs.Making.{made_shown}
 use Rattle.deferred_delete.specs.Standing.{Files, place_in}
 use Rattle.deferred_delete.proofs.Spread.{none_not, some_same}
 use Rattle.deferred_laws.specs.Calls.{Makes, StandsWell}
 use Rattle.domain_layout.specs.Filled.{IsFilled}
 use Rattle.domain_layout.specs.Seen.{SeenFile, seen_in}
 use Rattle.domain_layout.specs.Shape.{AreQuotas, FilesetShape, IsOriginal, limits_in}
-use Rattle.fileset_shapes.proofs.OriginalFiles.{kept}
+use Rattle.domain_standing.proofs.OriginalFiles.{kept}
 use Rattle.domain_standing.specs.Chains.{IndexesAt}
 use Rattle.domain_standing.specs.Domain.{DomainNow, item_in}
 use Rattle.domain_standing.specs.Slots.{StandSlots}

@@ -57,7 +57,7 @@ use Rattle.deferred_laws.specs.Tags.{AreAmong}
 use Rattle.deferred_laws.proofs.StillAmong.{file_of_tag}
 use Rattle.deferred_laws.proofs.Tags.{has_attributes}
 use Rattle.layout_laws.proofs.Reached.{member_or_none}
-use Rattle.attaching_laws.specs.Space.{IsFreeAt}
+use Rattle.domain_standing.specs.Space.{IsFreeAt}
 use Rattle.domain_layout.specs.CellRules.{IsFirstPlace, has_first_records, has_its_kinds, has_kind, is_good_first, item_of, keeps_well, of_clone, of_original, say_removed}
 use Rattle.domain_layout.specs.Filled.{Contents}
 use Rattle.domain_layout.specs.Layout.{AreTagPlaces, IsCellTable, IsPageAt, first_tag_of}

@@ -17,7 +17,7 @@ use Rattle.fileset_table.specs.declared.slot.SlotItem.TheVariants as slot
 use Rattle.fileset_table.proofs.Leaving.{get_other}
 use Rattle.quota_book.specs.Book.{Book}
 use Rattle.quota_book.specs.Sums.{IsBookOf}
-use Rattle.stored_set.specs.Sets.{StandsAsSet}
+use Rattle.domain_standing.specs.Sets.{StandsAsSet}
 use Rattle.deferred_delete.specs.Standing.{Files}
 use Rattle.deferred_delete.proofs.Spread.{some_same}
 use Rattle.domain_layout.specs.CellRules.{has_first_records, has_its_kinds, has_kind, is_good_first, keeps_well, of_clone, of_original, say_removed}

@@ -18,7 +18,7 @@ use Rattle.deferred_laws.specs.Calls.{FilesetNow, StandsWell}
 use Rattle.deferred_laws.proofs.CallTables.{call_places, call_tables}
 use Rattle.deferred_laws.proofs.CallsWell.{stands_call}
 use Rattle.domain_layout.specs.Reached.{Frame, first_cells}
-use Rattle.attaching_laws.specs.Space.{IsOpen}
+use Rattle.domain_standing.specs.Space.{IsOpen}
 use Rattle.domain_standing.specs.Chains.{IndexesAt}
 use Rattle.domain_standing.specs.Domain.{DomainNow}
 use Rattle.domain_standing.specs.Holders.{AreHeldAt, AreHeldOn, Holder, Holds, HoldsOwned, IsUnheld}

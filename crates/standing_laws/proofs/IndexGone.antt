@@ -21,7 +21,7 @@ use Rattle.bitfile_core.specs.Together.{AreTogether}
 use Rattle.bitfile_core.proofs.FirstCell.{find_other}
 use Rattle.bitfile_core.proofs.OneChain.{chain_same, same_tag_itself}
 use Rattle.stored_index.specs.Homes.{AreIndexHomes}
-use Rattle.stored_set.specs.Sets.{GivesIndexBack, without_index, without_index_from}
+use Rattle.domain_standing.specs.Sets.{GivesIndexBack, without_index, without_index_from}
 use Rattle.fileset_table.specs.declared.slot.FilesetEntry.{FilesetEntry}
 use Rattle.fileset_table.specs.declared.slot.SlotItem.TheVariants as slot
 use Rattle.deferred_delete.specs.Listed.{IsEntry, left_of, leftover_in}

@@ -27,7 +27,7 @@ use Rattle.stored_index.specs.Homes.{AreIndexHomes}
 use Rattle.stored_index.proofs.Dropped.{low_from}
 use Rattle.stored_index.proofs.Held.{in_inserted}
 use Rattle.set_laws.proofs.Together.{together_away}
-use Rattle.stored_set.specs.Sets.{AddsIndexPage, SaysIndex, WritesIndexPage}
+use Rattle.domain_standing.specs.Sets.{AddsIndexPage, SaysIndex, WritesIndexPage}
 use Rattle.fileset_model.specs.declared.fileset.FilesetSlot.{FilesetSlot}
 use Rattle.fileset_table.specs.declared.slot.FilesetEntry.{FilesetEntry}
 use Rattle.fileset_table.specs.declared.slot.SlotItem.TheVariants as slot

@@ -24,7 +24,7 @@ use Rattle.fileset_table.specs.declared.slot.SlotItem.TheVariants as slot
 use Rattle.deferred_delete.specs.Standing.{Files}
 use Rattle.deferred_delete.proofs.Spread.{some_same}
 use Rattle.deferred_delete.proofs.Standings.{same_or_not}
-use Rattle.attaching_laws.specs.Space.{AreCellsOf, IsFreeAt}
+use Rattle.domain_standing.specs.Space.{AreCellsOf, IsFreeAt}
 use Rattle.domain_layout.specs.Filled.{Contents}
 use Rattle.domain_layout.specs.Layout.{AreTagPlaces, IsCellTable, IsPageAt, first_tag_of}
 use Rattle.domain_layout.specs.Reached.{first_cells}

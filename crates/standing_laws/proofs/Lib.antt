@@ -69,3 +69,10 @@ pub mod SoundShown
 pub mod SoundIndexed
 pub mod SoundGone
 pub mod SoundTables
+pub use Rattle.domain_standing.proofs.Lengthened
+pub use Rattle.domain_standing.proofs.OriginalFiles
+pub use Rattle.domain_standing.proofs.NewDomain
+pub use Rattle.domain_standing.proofs.SourcesStay
+pub use Rattle.domain_standing.proofs.StableSet
+pub use Rattle.domain_standing.proofs.Live
+pub use Rattle.quota_laws.proofs.PagesWritten

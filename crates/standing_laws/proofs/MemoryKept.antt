@@ -22,12 +22,12 @@ use Rattle.bitfile_cells.specs.FileChanges.{AreOnTables}
 use Rattle.bitfile_core.specs.Files.{Chains}
 use Rattle.bitfile_core.specs.Together.{AreTogether, IsFilePage, IsHeldApart}
 use Rattle.set_laws.specs.Standing.{Indexes, StandsShown}
-use Rattle.stored_set.specs.Sets.{StandsAsSet}
+use Rattle.domain_standing.specs.Sets.{StandsAsSet}
 use Rattle.deferred_delete.specs.Standing.{Files, IsStanding, StandTogether}
 use Rattle.deferred_delete.specs.Steps.{IsWell}
 use Rattle.deferred_laws.specs.Tags.{AreAmong}
 use Rattle.fileset_model.specs.Filesets.{FilesetMap}
-use Rattle.attaching_laws.specs.Space.{AreCellsOf, IsFreeAt}
+use Rattle.domain_standing.specs.Space.{AreCellsOf, IsFreeAt}
 use Rattle.domain_layout.specs.Layout.{IsCellTable, first_tag_of}
 use Rattle.domain_layout.specs.Owners.{IsOnTable}
 use Rattle.domain_layout.specs.Reached.{first_cells}

@@ -36,7 +36,7 @@ use Rattle.deferred_delete.proofs.Standings.{chain_by, each_from, quota_first, s
 use Rattle.deferred_laws.proofs.StillAmong.{file_of_tag}
 use Rattle.deferred_laws.proofs.Tags.{has_attributes}
 use Rattle.layout_laws.proofs.Reached.{member_or_none}
-use Rattle.attaching_laws.specs.Space.{IsFreeAt}
+use Rattle.domain_standing.specs.Space.{IsFreeAt}
 use Rattle.domain_layout.specs.CellRules.{is_good_first, of_original}
 use Rattle.domain_layout.specs.Filled.{Contents}
 use Rattle.domain_layout.specs.Layout.{AreTagPlaces, IsCellTable, IsPageAt, first_tag_of}

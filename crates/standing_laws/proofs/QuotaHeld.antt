@@ -21,7 +21,7 @@ use Rattle.deferred_delete.proofs.Standings.{place_by, quota_place, same_or_not}
 use Rattle.quota_chain.specs.QuotaChain.{TakesIfUntouched, said_in}
 use Rattle.quota_laws.proofs.AllWell.{tables_grow}
 use Rattle.domain_layout.specs.Reached.{Frame, first_cells}
-use Rattle.attaching_laws.specs.Space.{IsOpen}
+use Rattle.domain_standing.specs.Space.{IsOpen}
 use Rattle.domain_standing.specs.Chains.{IndexesAt}
 use Rattle.domain_standing.specs.Domain.{DomainNow, all_of}
 use Rattle.domain_standing.specs.Holders.{AreHeldAt, AreHeldOn, Holder, Holds, HoldsOwned, IsUnheld}

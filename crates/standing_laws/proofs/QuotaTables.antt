@@ -18,7 +18,7 @@ use Rattle.deferred_delete.specs.Standing.{Files}
 use Rattle.deferred_delete.proofs.Lists.{last_in}
 use Rattle.deferred_delete.proofs.Spread.{none_not, some_same}
 use Rattle.layout_laws.proofs.Reached.{member_or_none}
-use Rattle.attaching_laws.specs.Space.{AreCellsOf, IsFreeAt, IsOpen}
+use Rattle.domain_standing.specs.Space.{AreCellsOf, IsFreeAt, IsOpen}
 use Rattle.domain_layout.specs.Layout.{AreTagPlaces, IsCellTable, IsPageAt, first_tag_of}
 use Rattle.domain_layout.specs.Reached.{first_cells}
 use Rattle.domain_standing.specs.Chains.{IndexesAt}

@@ -23,7 +23,7 @@ use Rattle.stored_index.specs.Homes.{AreIndexHomes}
 use Rattle.stored_index.proofs.Homes.{one_list}
 use Rattle.set_laws.specs.Elsewhere.{AllStay}
 use Rattle.set_laws.proofs.AnotherSet.{stands_again}
-use Rattle.stored_set.specs.Sets.{StandsAsSet}
+use Rattle.domain_standing.specs.Sets.{StandsAsSet}
 use Rattle.fileset_model.specs.Filesets.{FilesetMap}
 use Rattle.fileset_table.specs.Table.{entry_of}
 use Rattle.fileset_table.specs.declared.slot.FilesetEntry.{FilesetEntry}

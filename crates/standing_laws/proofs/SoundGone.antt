@@ -25,7 +25,7 @@ use Rattle.bitfile_core.specs.Index.{says_index}
 use Rattle.bitfile_core.specs.Shown.{index_of}
 use Rattle.bitfile_core.proofs.FirstTogether.{runs_kept}
 use Rattle.bitfile_core.proofs.OneChain.{chain_same, same_tag_itself}
-use Rattle.stored_set.specs.Sets.{GivesIndexBack, without_index, without_index_from}
+use Rattle.domain_standing.specs.Sets.{GivesIndexBack, without_index, without_index_from}
 use Rattle.fileset_table.specs.declared.slot.FilesetEntry.{FilesetEntry}
 use Rattle.fileset_table.specs.declared.slot.SlotItem.TheVariants as slot
 use Rattle.deferred_delete.specs.Listing.{Listing}

@@ -32,7 +32,7 @@ use Rattle.bitfile_core.proofs.OneChain.{chain_same, same_tag_itself}
 use Rattle.stored_index.specs.Homes.{shown_at}
 use Rattle.stored_index.proofs.Dropped.{low_from}
 use Rattle.stored_index.proofs.Held.{in_inserted}
-use Rattle.stored_set.specs.Sets.{AddsIndexPage, SaysIndex, WritesIndexPage}
+use Rattle.domain_standing.specs.Sets.{AddsIndexPage, SaysIndex, WritesIndexPage}
 use Rattle.fileset_table.specs.declared.slot.FilesetEntry.{FilesetEntry}
 use Rattle.fileset_table.specs.declared.slot.SlotItem.TheVariants as slot
 use Rattle.deferred_delete.specs.Standing.{Files, place_in, with_file}

@@ -27,7 +27,7 @@ use Rattle.deferred_delete.proofs.Spread.{none_not, some_same}
 use Rattle.deferred_laws.specs.Calls.{Call, FilesetNow, StandsWell, cut, described, dropped, given, indexed, made, moved, put_in, refused}
 use Rattle.deferred_laws.proofs.TagCalls.{StandsTogether, together_call}
 use Rattle.layout_laws.proofs.Reached.{member_or_none}
-use Rattle.attaching_laws.specs.Space.{AreCellsOf, IsFreeAt, IsOpen}
+use Rattle.domain_standing.specs.Space.{AreCellsOf, IsFreeAt, IsOpen}
 use Rattle.domain_layout.specs.Layout.{AreTagPlaces, IsCellTable, IsPageAt, first_tag_of}
 use Rattle.domain_layout.specs.Reached.{first_cells}
 use Rattle.domain_standing.specs.Chains.{IndexesAt}

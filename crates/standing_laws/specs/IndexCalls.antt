@@ -8,7 +8,7 @@ use Rattle.bmt_mcells.specs.Cell.{Cell}
 use Rattle.bmt_mcells.specs.Chain.{is_at}
 use Rattle.bitfile_core.specs.Changes.{says_removed, with_first}
 use Rattle.bitfile_core.specs.Files.{Chains}
-use Rattle.stored_set.specs.Sets.{without_index}
+use Rattle.domain_standing.specs.Sets.{without_index}
 use Rattle.fileset_table.specs.declared.slot.FilesetEntry.{FilesetEntry}
 use Rattle.fileset_table.specs.declared.slot.SlotItem.TheVariants as slot
 use Rattle.deferred_delete.specs.Standing.{Files, with_file}

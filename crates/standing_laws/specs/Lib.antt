@@ -10,3 +10,11 @@ pub mod SlotParents
 pub mod Slots
 pub mod SlotsStay
 pub mod Sound
+pub use Rattle.domain_standing.specs.Chains
+pub use Rattle.domain_standing.specs.Domain
+pub use Rattle.domain_standing.specs.Holders
+pub use Rattle.domain_standing.specs.Standing
+pub use Rattle.domain_standing.specs.Sets
+pub use Rattle.domain_standing.specs.Sources
+pub use Rattle.domain_standing.specs.Tables
+pub use Rattle.quota_laws.specs.Setting

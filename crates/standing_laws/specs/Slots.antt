@@ -3,7 +3,7 @@ use Rattle.std.specs.Prelude.{◌≡◌, ℕ, Some}
 use Rattle.fileset_model.specs.declared.fileset.FilesetSlot.{FilesetSlot}
 use Rattle.fileset_table.specs.declared.slot.FilesetEntry.{FilesetEntry}
 use Rattle.fileset_table.specs.declared.slot.SlotItem.TheVariants as slot
-use Rattle.stored_set.specs.Sets.{StandsAsSet}
+use Rattle.domain_standing.specs.Sets.{StandsAsSet}
 use Rattle.domain_layout.specs.Filled.{Fills}
 use Rattle.domain_layout.specs.Shape.{FilesetShape, IsOriginal, Shapes}
 use Rattle.layout_laws.specs.Agreeing.{AgreeOnShape}

@@ -6,7 +6,7 @@ ghost use Rattle.domain_base.specs.declared.place.Tag.{Tag};
 ghost use Rattle.bitfile_core.specs.Changes.{Removes, without_chain};
 ghost use Rattle.bitfile_core.specs.Files.{Chains};
 ghost use Rattle.bitfile_core.specs.Together.{AreTogether};
-ghost use Rattle.stored_set.specs.Sets.{AddsIndexPage, GivesIndexBack, WritesIndexPage, without_index};
+ghost use Rattle.domain_standing.specs.Sets.{AddsIndexPage, GivesIndexBack, WritesIndexPage, without_index};
 ghost use Rattle.fileset_model.specs.Filesets.{FilesetMap};
 ghost use Rattle.fileset_model.specs.declared.fileset.FilesetSlot.{FilesetSlot};
 ghost use Rattle.fileset_table.specs.declared.slot.FilesetEntry.{FilesetEntry};

@@ -6,7 +6,7 @@ ghost use Rattle.bitfile_core.specs.Changes.{Removes, without_chain};
 ghost use Rattle.bitfile_core.specs.Files.{Chains};
 ghost use Rattle.bitfile_core.specs.Index.{says_index};
 ghost use Rattle.bitfile_core.specs.Together.{AreTogether};
-ghost use Rattle.stored_set.specs.Sets.{AddsIndexPage, GivesIndexBack, WritesIndexPage, without_index};
+ghost use Rattle.domain_standing.specs.Sets.{AddsIndexPage, GivesIndexBack, WritesIndexPage, without_index};
 ghost use Rattle.deferred_delete.specs.Listed.{IsEntry};
 ghost use Rattle.deferred_delete.specs.Listing.{Adds, Listing};
 ghost use Rattle.deferred_delete.specs.Standing.{Files};

@@ -11,7 +11,7 @@ use Rattle.free_space.specs.Spaces.{Spaces}
 use Rattle.bitfile_core.specs.Together.{AreTogether}
 use Rattle.bitfile_core.proofs.OneChain.{same_tag_itself}
 use Rattle.set_laws.specs.Standing.{AreTagsOnVolumes}
-use Rattle.stored_set.specs.Sets.{StandsAsSet}
+use Rattle.bitfile_store.specs.Sets.{StandsAsSet}
 use Rattle.name_space.specs.Changes.{HasOriginal}
 use Rattle.name_space.specs.Names.{root_tag}
 use Rattle.name_space.proofs.Roots.{root_original_lem}

@@ -1,6 +1,6 @@
 //! What files stand in, once calls on names have changed them and a set is taken apart.
 ghost use Rattle.memory_store.specs.Homes.{pages_of};
-ghost use Rattle.stored_set.specs.Sets.{HasSet};
+ghost use Rattle.bitfile_store.specs.Sets.{HasSet};
 
 use crate::roots::{ROOT, root_alone};
 use bitfile_set::BitfileSet;

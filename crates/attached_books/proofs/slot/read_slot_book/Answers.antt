@@ -1,5 +1,5 @@
 use Rattle.attached_books.proofs.OneOriginal.{any_book, read_there, some_there}
-use Rattle.shape_reading.proofs.Answered.{if_ok}
+use Rattle.fileset_shapes.proofs.Answered.{if_ok}
 use Rattle.attached_books.proofs.slot.read_slot_book.Goals as goal
 
 pub unreachable-requires : goal.unreachable-requires

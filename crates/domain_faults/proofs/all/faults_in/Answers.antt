@@ -1,6 +1,6 @@
 use Rattle.std.proofs.Common.{ap, subst}
 use Rattle.page_ways.specs.Frame.{frame_in}
-use Rattle.shape_reading.proofs.Answered.{if_ok}
+use Rattle.row_faults.proofs.Answered.{if_ok}
 use Rattle.table_faults.specs.Read.{IsTableRead}
 use Rattle.domain_faults.specs.Rows.{rows_there}
 use Rattle.domain_faults.proofs.ToldFaults.{all_told, told_table, told_unnamed}

@@ -2,7 +2,7 @@ use Rattle.std.proofs.Common.{List, sym, subst}
 use Rattle.page_ways.specs.Frame.{frame_in}
 use Rattle.row_faults.specs.There.{AreFilesIn}
 use Rattle.row_faults.specs.declared.there.FileThere.{FileThere}
-use Rattle.shape_reading.proofs.Answered.{on_ok}
+use Rattle.row_faults.proofs.Answered.{on_ok}
 use Rattle.domain_faults.proofs.directories.insert_slot_faults.Goals as goal
 
 pub returns : goal.returns

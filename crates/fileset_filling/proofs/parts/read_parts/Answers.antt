@@ -1,7 +1,7 @@
 use Rattle.std.proofs.Common.{◌≡◌, ◌∙◌, ◌+◌, ◌++◌, List, [], ◌∷◌, Some, map, slice_get, take, subst, sym, ap}
 use Rattle.std.proofs.lemmas.List.{take_more}
 use Rattle.std.proofs.lemmas.Option.{slice_get-get_or}
-use Rattle.filesets_reading.proofs.Ways.{map_pushed}
+use Rattle.shape_reading.proofs.Ways.{map_pushed}
 use Rattle.fileset_shapes.specs.declared.found.TaggedFile.{TaggedFile}
 use Rattle.fileset_filling.specs.Parts.{directory_seen}
 use Rattle.fileset_filling.proofs.PartsRead.{AreNodesUpTo, nodes_more}

@@ -1,6 +1,6 @@
 use Rattle.std.proofs.Common.{◌≡◌, ◌∙◌, [], false, true, ap, subst, sym}
 use Rattle.domain_layout.specs.Faults.{AreFaults, HasNoFault}
-use Rattle.filesets_reading.specs.Good.{frame_at}
+use Rattle.member_laws.specs.Good.{frame_at}
 use Rattle.domain_faults.specs.Rows.{rows_there}
 use Rattle.domain_faults.proofs.ToldFaults.{none_told}
 use Rattle.image_meaning.proofs.meaning.meaning_of_pages.Goals as goal

@@ -1,6 +1,6 @@
 use Rattle.std.proofs.Common.{subst, sym}
 use Rattle.domain_layout.specs.Faults.{HasNoFault}
-use Rattle.fileset_shapes.specs.Found.{HasAllPages}
+use Rattle.attached_list.specs.Found.{HasAllPages}
 use Rattle.page_store.specs.Pages.{Pages}
 use Rattle.page_ways.specs.Frame.{frame_in}
 use Rattle.image_tests.proofs.fetched.tell_brought.Goals as goal

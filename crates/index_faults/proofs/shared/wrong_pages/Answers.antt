@@ -3,7 +3,7 @@ use Rattle.std.proofs.lemmas.Option.{slice_get_read}
 use Rattle.domain_base.specs.declared.place.Home.{Home}
 use Rattle.page_ways.specs.Frame.{frame_in}
 use Rattle.home_sets.specs.Members.{IsIn}
-use Rattle.tag_faults.proofs.Counted.{IsBelow, number_more}
+use Rattle.page_faults.proofs.Counted.{IsBelow, number_more}
 use Rattle.index_faults.specs.Shared.{HasPage, IsFaultBehind}
 use Rattle.index_faults.specs.declared.indexes.IndexAt.{IndexAt}
 use Rattle.index_faults.proofs.PagesShared.{HasPageAt, IsFaultAt, from_rule, same_behind, to_rule}

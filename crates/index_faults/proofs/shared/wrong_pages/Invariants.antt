@@ -2,7 +2,7 @@ use Rattle.std.proofs.Common.{◌↔◌}
 use Rattle.domain_base.specs.declared.place.Home.{Home}
 use Rattle.page_ways.specs.Frame.{frame_in}
 use Rattle.home_sets.specs.Members.{IsIn}
-use Rattle.tag_faults.proofs.Counted.{IsBelow}
+use Rattle.page_faults.proofs.Counted.{IsBelow}
 use Rattle.index_faults.proofs.PagesShared.{HasPageAt, IsFaultAt}
 use Rattle.index_faults.proofs.shared.wrong_pages.Given as goal
 

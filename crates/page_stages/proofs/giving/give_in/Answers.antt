@@ -2,8 +2,8 @@ use Rattle.std.proofs.Common.{IsSomeAnd, refl, subst, sym}
 use Rattle.page_store.specs.Pages.{Pages}
 use Rattle.bitfile_core.specs.Pages.{GetsNone}
 use Rattle.bitfile_core.specs.Together.{AreTogether}
-use Rattle.stored_set.specs.Sets.{GetsPage}
-use Rattle.stored_set.proofs.Lengthened.{gets_page}
+use Rattle.names_standing.specs.Sets.{GetsPage}
+use Rattle.names_standing.proofs.Lengthened.{gets_page}
 use Rattle.page_stages.proofs.Calls.{err_and, grown}
 use Rattle.page_stages.proofs.giving.give_in.Goals as goal
 

@@ -3,7 +3,7 @@ use Rattle.extent_maps.specs.declared.run.PagePlace.{PagePlace}
 use Rattle.extent_maps.specs.declared.run.PagePlace.TheVariants.{At}
 use Rattle.domain_base.specs.declared.place.Home.{Home}
 use Rattle.extent_maps.specs.Runs.{home_at}
-use Rattle.stored_set.proofs.Live.{home_is}
+use Rattle.names_standing.proofs.Live.{home_is}
 use Rattle.domain_parts.specs.Slots.{slot_in}
 use Rattle.domain_parts.specs.declared.slots.SlotFiles.{SlotFiles}
 use Rattle.page_stages.proofs.Asks.{files_by, files_in, has_files, there}

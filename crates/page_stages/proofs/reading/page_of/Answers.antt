@@ -4,7 +4,7 @@ use Rattle.domain_memory.specs.Staged.{staged_in}
 use Rattle.extent_maps.specs.Runs.{home_at}
 use Rattle.domain_parts.specs.Slots.{slot_in}
 use Rattle.domain_parts.specs.declared.slots.SlotFiles.{SlotFiles}
-use Rattle.stored_set.proofs.Live.{home_is}
+use Rattle.names_standing.proofs.Live.{home_is}
 use Rattle.page_stages.proofs.Asks.{files_by, files_in, has_files, there}
 use Rattle.page_stages.proofs.Looked.{there as page_there}
 use Rattle.page_stages.proofs.Paged.{far_page, near_page, page_is}

@@ -5,7 +5,7 @@ use Rattle.bitfile_core.specs.declared.attributes.Attributes.{Attributes}
 use Rattle.bitfile_core.specs.Changes.{CanSay}
 use Rattle.bitfile_core.specs.Files.{attributes_of, of_live}
 use Rattle.staged_pages.specs.Store.{pages_of}
-use Rattle.stored_set.proofs.Lengthened.{can_say}
+use Rattle.names_standing.proofs.Lengthened.{can_say}
 use Rattle.domain_parts.specs.Slots.{slot_in}
 use Rattle.domain_parts.specs.declared.slots.SlotFiles.{SlotFiles}
 use Rattle.page_stages.proofs.Asks.{files_in, has_files, its_number, there}

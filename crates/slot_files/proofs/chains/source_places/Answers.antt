@@ -1,7 +1,7 @@
 use Rattle.std.proofs.Common.{IfSome, sym, subst}
 use Rattle.domain_layout.specs.Seen.{IsSource}
 use Rattle.filesets_reading.specs.Chains.{HasLinks}
-use Rattle.shape_reading.proofs.Answered.{if_ok}
+use Rattle.row_faults.proofs.Answered.{if_ok}
 use Rattle.slot_files.specs.Said.{place_in}
 use Rattle.slot_files.proofs.ReadFiles.{source_there}
 use Rattle.slot_files.proofs.chains.source_places.Goals as goal

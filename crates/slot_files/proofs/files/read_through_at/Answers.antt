@@ -1,6 +1,6 @@
 use Rattle.std.proofs.Common.{◌∙◌, sym}
 use Rattle.page_ways.specs.Frame.{frame_in}
-use Rattle.shape_reading.proofs.Answered.{if_ok}
+use Rattle.row_faults.proofs.Answered.{if_ok}
 use Rattle.slot_files.proofs.ReadFiles.{through_late, through_none, through_read}
 use Rattle.slot_files.proofs.files.read_through_at.Goals as goal
 

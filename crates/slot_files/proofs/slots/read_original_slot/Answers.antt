@@ -1,7 +1,7 @@
 use Rattle.std.proofs.Common.{refl}
 use Rattle.fileset_table.specs.declared.slot.SlotItem.TheVariants as slot
 use Rattle.page_ways.specs.Frame.{frame_in}
-use Rattle.shape_reading.proofs.Answered.{if_ok}
+use Rattle.row_faults.proofs.Answered.{if_ok}
 use Rattle.slot_files.proofs.SlotFiles.{directory_at, files_of_original, whole_at}
 use Rattle.slot_files.proofs.slots.read_original_slot.Goals as goal
 

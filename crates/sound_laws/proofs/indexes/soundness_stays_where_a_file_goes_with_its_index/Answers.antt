@@ -1,4 +1,4 @@
-use Rattle.standing_laws.proofs.SoundGone.{sound_gone}
+use Rattle.no_fault_laws.proofs.SoundGone.{sound_gone}
 use Rattle.sound_laws.proofs.indexes.soundness_stays_where_a_file_goes_with_its_index.Goals as goal
 
 pub returns : goal.returns

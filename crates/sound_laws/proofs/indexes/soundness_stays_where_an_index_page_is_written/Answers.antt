@@ -1,4 +1,4 @@
-use Rattle.standing_laws.proofs.SoundIndexed.{sound_written}
+use Rattle.no_fault_laws.proofs.SoundIndexed.{sound_written}
 use Rattle.sound_laws.proofs.indexes.soundness_stays_where_an_index_page_is_written.Goals as goal
 
 pub returns : goal.returns

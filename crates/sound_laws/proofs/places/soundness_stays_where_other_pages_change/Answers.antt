@@ -1,4 +1,4 @@
-use Rattle.standing_laws.proofs.SoundInPlace.{sound_elsewhere}
+use Rattle.no_fault_laws.proofs.SoundInPlace.{sound_elsewhere}
 use Rattle.sound_laws.proofs.places.soundness_stays_where_other_pages_change.Goals as goal
 
 pub returns : goal.returns

@@ -1,12 +1,12 @@
 use Rattle.std.proofs.Common.{◌≡◌, ◌∙◌, refl, sym, ap, subst}
 use Rattle.page_store.specs.Pages.{Pages}
-use Rattle.attaching_laws.specs.Marks.{IsMarked}
-use Rattle.attaching_laws.specs.Space.{AreCellsOf}
+use Rattle.attached_space.specs.Marks.{IsMarked}
+use Rattle.attached_space.specs.Space.{AreCellsOf}
 use Rattle.domain_layout.specs.Layout.{IsLayout, Layout}
 use Rattle.domain_layout.specs.Owners.{frame_of}
 use Rattle.domain_layout.specs.Reached.{Frame}
 use Rattle.domain_making.specs.Making.{new_frame}
-use Rattle.filesets_reading.specs.Good.{AreGood}
+use Rattle.attached_space.specs.Good.{AreGood}
 use Rattle.layout_laws.specs.NewDomain.{IsNew}
 use Rattle.staged_pages.specs.Store.{pages_of}
 use Rattle.domain_memory.proofs.NewMemory.{new_is_good, stands_for}

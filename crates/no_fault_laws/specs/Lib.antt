@@ -1,0 +1,13 @@
+pub use Rattle.standing_laws.specs.BoundedFileset
+pub use Rattle.standing_laws.specs.GoingFileset
+pub use Rattle.standing_laws.specs.IndexCalls
+pub use Rattle.standing_laws.specs.Leads
+pub use Rattle.standing_laws.specs.NewFileset
+pub use Rattle.standing_laws.specs.OtherPages
+pub use Rattle.standing_laws.specs.SetsQuota
+pub use Rattle.standing_laws.specs.Sound
+pub use Rattle.attached_list.specs.Attached
+pub use Rattle.attached_list.specs.Chains
+pub use Rattle.attached_list.specs.Domain
+pub use Rattle.attached_list.specs.Standing
+pub use Rattle.attached_space.specs.Sets

@@ -1,0 +1,1 @@
+pub use Rattle.directory_facts.specs.Showing
