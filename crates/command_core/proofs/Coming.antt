@@ -1,5 +1,6 @@
 -- What a client is answered may be committed with its change.
 use Rattle.std.proofs.Common.{◌≡◌, ◌∙◌, ◌≤◌, ◌&&◌, ℕ, Bool, false, List, Option, Contains, All, map, Ordering, Equal, Greater, Less, inl, inr, slice_get, refl, sym, ap, subst}
+use Rattle.std.proofs.Math.Logic.{∥∥₁_elim}
 use Rattle.std.specs.FinMap.{contains_key, get}
 use Rattle.std.specs.Option.{option_map_or}
 use Rattle.std.specs.Ordering.{nat_cmp, ordering_then}
@@ -12,6 +13,7 @@ use Rattle.fileset_model.specs.declared.command.Actor.{Actor}
 use Rattle.fileset_model.specs.declared.command.Command.{Command}
 use Rattle.fileset_model.specs.declared.entry.Entry.{Entry}
 use Rattle.fileset_model.specs.declared.reply.Refusal.TheVariants.{Panicked}
+use Rattle.fileset_model.specs.declared.reply.Reply.{Reply}
 use Rattle.fileset_model.specs.declared.reply.Reply.TheVariants.{Refused}
 use Rattle.history_model.specs.Legal.{IsForActor, MayFollow}
 use Rattle.history_model.specs.Point.{Point, running_job}
@@ -20,14 +22,16 @@ use Rattle.history_model.specs.Step.{Step}
 use Rattle.history_model.specs.Step.Step.{out_of_memory}
 use Rattle.history_laws.specs.GoingOn.{ComesTo, LeadsOn}
 use Rattle.history_laws.proofs.GoesOn.{command_steps}
+use Rattle.history_laws.proofs.NoPanic.{never_panics}
 use Rattle.history_laws.proofs.PlainLemmas.{there_itself}
 use Rattle.domain_layout.specs.Reached.{Frame}
 use Rattle.domain_memory.specs.Kept.{KeepsKept}
+use Rattle.domain_memory.specs.Memory.{StandsFor}
 use Rattle.domain_memory.specs.Staged.{MayBeKept}
 use Rattle.fileset_table.specs.Table.{Table}
 use Rattle.domain_memory.specs.declared.memory.DomainMemory.{DomainMemory}
-use Rattle.domain_state.specs.History.{MayCommit}
-use Rattle.command_core.specs.Coming.{ComesNext}
+use Rattle.domain_state.specs.History.{IsCalm, MayCommit, StandsForSome}
+use Rattle.command_core.specs.Coming.{ComesNext, IsAnswered}
 
 -- ---- no file is striped where none was
 
@@ -81,6 +85,11 @@ may_commit pages frame sizes memory entries job e all now kept next means = reco
   kept = kept;
   step = λ start is point comes same. leads start entries job e all now next is.striped point comes same means;
 }
+
+-- such an answer tells of no volume that panicked
+pub answered_calm : (memory : DomainMemory) (command : Command) (reply : Reply) → ∥ StandsForSome memory ∥₁ → ((all : FilesetMap) → StandsFor memory all → IsAnswered memory all command reply) → IsCalm reply
+answered_calm memory command reply stands answered volume is =
+    ∥∥₁_elim stands (λ x y. absurd x) (λ some. let a = answered some.0 some.1 in never_panics some.0 command reply a.now volume a.means is)
 
 -- ---- over what was kept
 

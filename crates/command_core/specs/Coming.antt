@@ -1,22 +1,16 @@
 -- An entry of a client's that comes next.
-use Rattle.std.specs.Prelude.{◌≡◌, ◌≤◌, ◌++◌, ◌∷◌, ℕ, false, List, [], map, All, Contains}
+use Rattle.std.specs.Prelude.{◌≡◌, ◌≤◌, ◌++◌, ◌∷◌, ℕ, false, List, [], All}
 use Rattle.fileset_model.specs.Apply.{AnswersIfMemory}
 use Rattle.fileset_model.specs.Filesets.{FilesetMap}
 use Rattle.fileset_model.specs.declared.command.Actor.TheVariants.{Client}
 use Rattle.fileset_model.specs.declared.command.Command.{Command}
 use Rattle.fileset_model.specs.declared.entry.Entry.{Entry}
-use Rattle.fileset_model.specs.declared.reply.Refusal.TheVariants.{Panicked}
 use Rattle.fileset_model.specs.declared.reply.Reply.{Reply}
-use Rattle.fileset_model.specs.declared.reply.Reply.TheVariants.{Refused}
 use Rattle.history_model.specs.VolumeReply.{is_movers}
 use Rattle.domain_memory.specs.Memory.{StandsFor}
 use Rattle.domain_memory.specs.Staged.{IsSettled, MayBeKept}
 use Rattle.domain_memory.specs.declared.memory.DomainMemory.{DomainMemory}
-
--- none of these was answered by panicked
-abbrev pub NonePanicked : List Entry → Type 0
-NonePanicked entries = (volume : ℕ)
-    → ¬ Contains (map (λ before. before.reply) entries) (Refused (Panicked volume))
+use Rattle.domain_state.specs.History.{NonePanicked}
 
 -- an entry of a client's may come after these: none has a greater stamp, and none panicked
 pub record ComesNext (entries : List Entry) (e : Entry) : Type 0 where

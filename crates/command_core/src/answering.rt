@@ -6,7 +6,7 @@ ghost use Rattle.fileset_model.specs.declared.reply.Refusal.TheVariants.{OutOfMe
 ghost use Rattle.history_model.specs.VolumeReply.{is_movers};
 ghost use Rattle.domain_memory.specs.Memory.{StandsFor};
 ghost use Rattle.domain_memory.specs.Staged.{IsSettled};
-ghost use Rattle.command_core.specs.Coming.{AddsNone, AddsOne, IsAnswered, NonePanicked};
+ghost use Rattle.command_core.specs.Coming.{AddsNone, AddsOne, IsAnswered};
 ghost use Rattle.command_core.specs.Ending.{EndsAs};
 ghost use Rattle.command_core.specs.declared.stop.Stop.TheVariants.{NoPage};
 
@@ -25,7 +25,6 @@ fn add_answer<R: Rack, O: Opening>(
 ) -> Domain<R, O>
     requires first { ⟦<Domain<R, O> as Told>⟧.rests domain }
     requires room { 1 ≤ ⟦<Domain<R, O> as Told>⟧.room domain }
-    requires calm { NonePanicked (⟦<Domain<R, O> as Told>⟧.history domain) }
     requires clients { is_movers command ≡ false }
     requires answered { (all : FilesetMap) → StandsFor domain.memory all
         → IsAnswered domain.memory all command reply }
@@ -77,7 +76,6 @@ fn add_refusal<R: Rack, O: Opening>(
 ) -> Domain<R, O>
     requires first { ⟦<Domain<R, O> as Told>⟧.rests domain }
     requires room { 1 ≤ ⟦<Domain<R, O> as Told>⟧.room domain }
-    requires calm { NonePanicked (⟦<Domain<R, O> as Told>⟧.history domain) }
     requires clients { is_movers command ≡ false }
     requires refused { (all : FilesetMap) → StandsFor domain.memory all
         → (refusal_of all command ≡ Some refusal) ⊎ (refusal ≡ OutOfMemory) }
@@ -104,7 +102,6 @@ pub(crate) fn answer<R: Rack, O: Opening>(
 ) -> Result<Domain<R, O>, Domain<R, O>>
     requires first { ⟦<Domain<R, O> as Told>⟧.rests domain }
     requires room { 1 ≤ ⟦<Domain<R, O> as Told>⟧.room domain }
-    requires calm { NonePanicked (⟦<Domain<R, O> as Told>⟧.history domain) }
     requires clients { is_movers command ≡ false }
     requires ends { (all : FilesetMap) → StandsFor domain.memory all
         → EndsAs domain.memory all command staged }

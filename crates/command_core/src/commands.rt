@@ -4,7 +4,7 @@ ghost use Rattle.fileset_model.specs.Apply.{refusal_of};
 ghost use Rattle.fileset_model.specs.Filesets.{FilesetMap};
 ghost use Rattle.domain_memory.specs.Memory.{StandsFor};
 ghost use Rattle.domain_memory.specs.Staged.{IsSettled};
-ghost use Rattle.command_core.specs.Coming.{AddsNone, AddsOne, NonePanicked};
+ghost use Rattle.command_core.specs.Coming.{AddsNone, AddsOne};
 ghost use Rattle.command_core.specs.Ending.{IsServed, LacksPage};
 
 use crate::answering::answer;
@@ -30,7 +30,6 @@ pub fn command<R: Rack, O: Opening>(
     requires first { ⟦<Domain<R, O> as Told>⟧.rests domain }
     requires room { 1 ≤ ⟦<Domain<R, O> as Told>⟧.room domain }
     requires settled { IsSettled domain.memory }
-    requires calm { NonePanicked (⟦<Domain<R, O> as Told>⟧.history domain) }
     requires served { IsServed command }
     ensures adds { IfOk result (λ now. AddsOne client command domain.memory now.memory
         (⟦<Domain<R, O> as Told>⟧.history domain) (⟦<Domain<R, O> as Told>⟧.history now)) }

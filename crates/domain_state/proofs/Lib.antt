@@ -1,4 +1,5 @@
 pub mod Beginning
+pub mod Calm
 pub mod Committing
 pub mod NoClones
 pub mod Unmoved

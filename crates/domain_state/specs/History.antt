@@ -1,9 +1,12 @@
 -- The history of a domain since it was opened.
-use Rattle.std.specs.Prelude.{ℕ, ◌-◌, ◌<◌, ◌≤◌, Bool, List, [], ◌∷◌, Option, get_or, if◌then◌else◌, length}
+use Rattle.std.specs.Prelude.{◌≡◌, ℕ, ◌-◌, ◌<◌, ◌≤◌, Bool, List, [], ◌∷◌, Contains, Option, get_or, if◌then◌else◌, length, map}
 use Rattle.page_store.specs.Pages.{Pages}
 use Rattle.fileset_model.specs.Filesets.{FilesetMap}
 use Rattle.fileset_model.specs.declared.command.Command.{Command}
 use Rattle.fileset_model.specs.declared.entry.Entry.{Entry}
+use Rattle.fileset_model.specs.declared.reply.Refusal.TheVariants.{Panicked}
+use Rattle.fileset_model.specs.declared.reply.Reply.{Reply}
+use Rattle.fileset_model.specs.declared.reply.Reply.TheVariants.{Refused}
 use Rattle.history_model.specs.Legal.{Legal}
 use Rattle.history_model.specs.State.{State}
 use Rattle.domain_layout.specs.Reached.{Frame}
@@ -41,6 +44,17 @@ pub record MayCommit (pages : Pages) (frame : Frame) (sizes : List ℕ) (memory 
   pub step : (start : State) → IsStartOf pages frame sizes start
       → MayGoOnFrom start entries job (record start { filesets = all }) e
       (record start { filesets = now })
+
+-- ** Volumes that panicked
+
+-- a reply does not tell that a volume panicked
+abbrev pub IsCalm : Reply → Type 0
+IsCalm reply = (volume : ℕ) → ¬ (reply ≡ Refused (Panicked volume))
+
+-- none of these was answered so
+abbrev pub NonePanicked : List Entry → Type 0
+NonePanicked entries = (volume : ℕ)
+    → ¬ Contains (map (λ before. before.reply) entries) (Refused (Panicked volume))
 
 -- ** Stamps
 

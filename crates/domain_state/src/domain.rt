@@ -10,7 +10,7 @@ ghost use Rattle.fileset_model.specs.Filesets.{FilesetMap};
 ghost use Rattle.domain_memory.specs.Memory.{StandsFor, books_in, kept_in};
 ghost use Rattle.domain_memory.specs.Staged.{IsSettled, MayBeKept, MayGoBack};
 ghost use Rattle.history_laws.specs.GoingOn.{job_left};
-ghost use Rattle.domain_state.specs.History.{GoesOn, MayCommit, with_last_stamped};
+ghost use Rattle.domain_state.specs.History.{GoesOn, IsCalm, MayCommit, with_last_stamped};
 ghost use Rattle.domain_state.specs.Rest.{IsAtRest};
 
 use crate::Attached;
@@ -111,11 +111,13 @@ impl<R: Rack, O: Opening> Domain<R, O> {
     }
 
     /// Keeps the change that is laid over the domain, and adds the command whose change it is, with
-    /// its reply: one in each event, which gets its stamp where that ends. The mover's own entry
-    /// ends its job. It takes no memory, and the time of what the change has changed.
+    /// its reply, which tells of no volume that panicked: one in each event, which gets its stamp
+    /// where that ends. The mover's own entry ends its job. It takes no memory, and the time of
+    /// what the change has changed.
     pub fn commit(&mut self, entry: Entry)
         requires first { ⟦<Domain<R, O> as Told>⟧.rests self.old }
         requires room { 1 ≤ ⟦<Domain<R, O> as Told>⟧.room self.old }
+        requires calm { IsCalm entry.reply }
         requires step { (all : FilesetMap) → StandsFor self.old.memory all → MayCommit O.pages
             O.frame O.sizes self.old.memory (⟦<Domain<R, O> as Told>⟧.history self.old)
             (⟦<Domain<R, O> as Told>⟧.begun self.old) entry all }

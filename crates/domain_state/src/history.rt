@@ -1,7 +1,7 @@
 //! The commands of a domain since it was opened, beside what is kept in memory of it.
 ghost use Rattle.std.specs.Prelude.{◌≡◌, ◌+◌, ◌-◌, ◌≤◌, ◌∷◌, ◌++◌, [], None, OnOk, false, true, if◌then◌else◌, length, vec_capacity};
 ghost use Rattle.history_laws.specs.GoingOn.{job_left};
-ghost use Rattle.domain_state.specs.History.{AreStamped, with_last_stamped};
+ghost use Rattle.domain_state.specs.History.{AreStamped, IsCalm, NonePanicked, with_last_stamped};
 
 use domain_base::OutOfMemory;
 use fileset_model::{Actor, Command, Entry};
@@ -9,7 +9,7 @@ use std::alloc::Global;
 use volume_disk::Rack;
 
 /// The commands of a domain since it was opened, with their replies, how many of them last, the
-/// mover's job that runs, and the domain's rack.
+/// mover's job that runs, and the domain's rack. No reply tells that a volume panicked.
 #[derive(Drop)]
 pub struct History<R: Rack> {
     pub(crate) rack: R,
@@ -20,6 +20,7 @@ pub struct History<R: Rack> {
     pub(crate) added: bool,
     ghost lasts: { durable ≤ length entries.items },
     ghost stamps: { AreStamped added (R.disk rack).calls entries.items },
+    ghost calm: { NonePanicked entries.items },
 }
 
 /// Ends the mover's job with its own entry.
@@ -85,6 +86,7 @@ impl<R: Rack> History<R> {
     /// Adds the entry of the event that goes on, of which there is none yet. It takes no memory.
     pub(crate) fn add(&mut self, entry: Entry)
         requires first { self.old.added ≡ false }
+        requires calm { IsCalm entry.reply }
         requires room { 1 ≤ vec_capacity self.old.entries - length self.old.entries.items }
         ensures entries { self.new.entries.items ≡ self.old.entries.items ++ entry ∷ [] }
         ensures room { vec_capacity self.old.entries - length self.old.entries.items

@@ -236,6 +236,11 @@ calm_history : (start : FilesetMap) (history : List Entry) (all : FilesetMap) �
 calm_history start _ _ none = All-nil (λ e. IsCalmReply e.reply)
 calm_history start _ _ (entry {history} {all} before e new is) = All-push (λ e. IsCalmReply e.reply) history e (calm_history start history all before) (answered all e.command e.reply new is)
 
+-- what a command means for filesets is no panic
+pub never_panics : (all : FilesetMap) (c : Command) (r : Reply) (new : FilesetMap) (volume : ℕ) → AnswersIfMemory all c r new → r ≡ Refused (Panicked volume) → ⊥
+unfolding IsCalm IsCalmReply
+never_panics all c r new volume means is = subst IsCalmReply is (answered all c r new means)
+
 -- no reply of such a history is a panic
 pub no_panic : (start : FilesetMap) (history : List Entry) (all : FilesetMap) (e : Entry) (volume : ℕ) → PlainRun start history all
     → Contains (map (λ before. before.reply) history) (Refused (Panicked volume)) → ⊥

@@ -1,2 +1,1 @@
 pub mod Synced
-pub mod Calm

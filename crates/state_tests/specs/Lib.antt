@@ -1,2 +1,1 @@
 pub mod Sync
-pub mod Calm

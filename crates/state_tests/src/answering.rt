@@ -1,40 +1,14 @@
 //! Commands of a client that are answered in a domain.
-ghost use Rattle.std.specs.Prelude.{◌≡◌, ◌≤◌, true};
-ghost use Rattle.std.specs.List.{list_any};
+ghost use Rattle.std.specs.Prelude.{◌≤◌};
 ghost use Rattle.domain_memory.specs.Staged.{IsSettled};
-ghost use Rattle.command_core.specs.Coming.{NonePanicked};
 ghost use Rattle.command_core.specs.Ending.{IsServed};
-ghost use Rattle.state_tests.specs.Calm.{is_panicked};
 
 use command_core::{command, is_served};
 use domain_base::VolIx;
 use domain_state::{Domain, Opening};
-use fileset_model::{Command, Entry, Refusal, Reply, Told};
+use fileset_model::{Command, Told};
 use std::alloc::Global;
 use volume_disk::Rack;
-
-fn is_panicked(entry: &Entry) -> bool
-    ensures { result ≡ is_panicked entry.now.reply }
-{
-    matches!(entry.reply, Reply::Refused(Refusal::Panicked { .. }))
-}
-
-fn has_panicked(entries: &[Entry]) -> bool
-    ensures { result ≡ list_any (λ entry. is_panicked entry.reply) entries.now }
-{
-    entries.iter().any(|entry| is_panicked(entry))
-}
-
-/// Whether a command is one of those that are answered so far, and no volume of the domain panicked.
-fn may_answer<R: Rack + Drop, O: Opening>(domain: &Domain<R, O>, asked: &Command) -> bool
-    ensures served { result ≡ true → IsServed asked.now }
-    ensures calm { result ≡ true → NonePanicked (⟦<Domain<R, O> as Told>⟧.history domain.now) }
-{
-    if has_panicked(domain.entries()) {
-        return false;
-    }
-    is_served(asked)
-}
 
 /// Answers a command for which the history has room, and ends its event.
 fn answered_with<R: Rack + Drop, O: Opening>(
@@ -46,7 +20,6 @@ fn answered_with<R: Rack + Drop, O: Opening>(
     requires rests { ⟦<Domain<R, O> as Told>⟧.rests domain }
     requires room { 1 ≤ ⟦<Domain<R, O> as Told>⟧.room domain }
     requires settled { IsSettled domain.memory }
-    requires calm { NonePanicked (⟦<Domain<R, O> as Told>⟧.history domain) }
     requires served { IsServed asked }
     ensures rests { ⟦<Domain<R, O> as Told>⟧.rests result }
     ensures settled { IsSettled result.memory }
@@ -65,7 +38,6 @@ fn answered_if_room<R: Rack + Drop, O: Opening>(
 ) -> Domain<R, O>
     requires rests { ⟦<Domain<R, O> as Told>⟧.rests domain }
     requires settled { IsSettled domain.memory }
-    requires calm { NonePanicked (⟦<Domain<R, O> as Told>⟧.history domain) }
     requires served { IsServed asked }
     ensures rests { ⟦<Domain<R, O> as Told>⟧.rests result }
     ensures settled { IsSettled result.memory }
@@ -90,7 +62,7 @@ pub fn answered<R: Rack + Drop, O: Opening>(
     ensures rests { ⟦<Domain<R, O> as Told>⟧.rests result }
     ensures settled { IsSettled result.memory }
 {
-    if may_answer(&domain, &asked) {
+    if is_served(&asked) {
         answered_if_room(domain, alloc, asked)
     } else {
         domain

@@ -1,7 +1,8 @@
 use Rattle.std.proofs.Common.{refl}
+use Rattle.std.proofs.Math.Logic.{∥∥₁_map}
 use Rattle.fileset_model.specs.declared.command.Actor.TheVariants.{Client}
 use Rattle.fileset_model.specs.declared.entry.Entry.{Entry}
-use Rattle.command_core.proofs.Coming.{may_commit}
+use Rattle.command_core.proofs.Coming.{answered_calm, may_commit}
 use Rattle.command_core.proofs.answering.add_answer.Goals as goal
 
 pub commit-requires-clause-step : goal.commit-requires-clause-step
@@ -11,8 +12,11 @@ commit-requires-clause-step g c = λ all stands.
     let e : Entry = record { actor = Client c.args.client; command = c.args.command; reply = c.args.reply; stamp = c.calls-stamp.result } in
     let a = c.requires.answered all stands in
     may_commit o.pages o.frame o.sizes it.memory it.history.entries.items it.history.job e all a.now a.kept
-    (record { stamp = c.calls-stamp.ensures.stamps c.requires.first; calm = c.requires.calm; client = c.args.client; actor = refl; command = c.requires.clients })
+    (record { stamp = c.calls-stamp.ensures.stamps c.requires.first; calm = it.history.calm; client = c.args.client; actor = refl; command = c.requires.clients })
     a.means
+
+pub commit-requires-clause-calm : goal.commit-requires-clause-calm
+commit-requires-clause-calm g c = answered_calm c.args.domain.memory c.args.command c.args.reply (∥∥₁_map c.args.domain.stands (λ goes. (goes.all, goes.stands))) c.requires.answered
 
 pub returns-clause-adds : goal.returns-clause-adds
 returns-clause-adds g c = record {

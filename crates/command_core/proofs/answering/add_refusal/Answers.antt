@@ -1,12 +1,8 @@
-use Rattle.std.proofs.Common.{◌∙◌, ◌++◌, ◌∷◌, [], List, ap, sym, subst}
+use Rattle.std.proofs.Common.{◌∙◌, ◌++◌, ◌∷◌, [], List, ap}
 use Rattle.fileset_model.specs.declared.command.Actor.TheVariants.{Client}
 use Rattle.fileset_model.specs.declared.entry.Entry.{Entry}
-use Rattle.command_core.specs.Coming.{NonePanicked}
 use Rattle.command_core.proofs.Limits.{settled_refused}
 use Rattle.command_core.proofs.answering.add_refusal.Goals as goal
-
-pub add_answer-requires-clause-calm : goal.add_answer-requires-clause-calm
-add_answer-requires-clause-calm g c = subst NonePanicked (sym c.take_back.ensures.none.same) c.requires.calm
 
 pub add_answer-requires-clause-answered : goal.add_answer-requires-clause-answered
 add_answer-requires-clause-answered g c = settled_refused c.take_back.result.memory c.args.command c.args.refusal c.take_back.ensures.none.settled (λ all stands. c.requires.refused all (c.take_back.ensures.was all stands))

@@ -4,7 +4,6 @@ use Rattle.domain_memory.proofs.KeptStands.{stands_so}
 use Rattle.domain_memory.specs.Memory.{StandsFor}
 use Rattle.domain_memory.specs.declared.memory.DomainMemory.{DomainMemory}
 use Rattle.domain_state.proofs.Resting.{rests_kept}
-use Rattle.command_core.specs.Coming.{NonePanicked}
 use Rattle.command_core.specs.Ending.{LacksPage}
 use Rattle.command_core.specs.declared.stop.Stop.TheVariants.{NoPage}
 use Rattle.command_core.proofs.KeptAtHand.{kept_at_hand}
@@ -28,9 +27,6 @@ together-domain-requires-clause-stands g c = ∥∥₁_map c.apart-memory.ensure
 
 pub answer-requires-clause-clients : goal.answer-requires-clause-clients
 answer-requires-clause-clients g c = served_client c.args.command c.requires.served
-
-pub answer-requires-clause-calm : goal.answer-requires-clause-calm
-answer-requires-clause-calm g c = subst NonePanicked (ap (λ h. h.entries.items) (sym (c.together-domain.ensures.history ∙ c.apart-memory.ensures.history))) c.requires.calm
 
 pub answer-requires-clause-ends : goal.answer-requires-clause-ends
 answer-requires-clause-ends g c =

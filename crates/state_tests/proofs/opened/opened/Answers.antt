@@ -1,5 +1,5 @@
 use Rattle.std.proofs.Common.{◌∙◌}
-use Rattle.state_tests.proofs.Synced.{may_sync}
+use Rattle.state_tests.proofs.Synced.{is_calm, may_sync}
 use Rattle.state_tests.proofs.opened.opened.Goals as goal
 
 pub commit-requires-clause-step : goal.commit-requires-clause-step
@@ -8,3 +8,6 @@ commit-requires-clause-step g c =
     (c.discard.ensures.history ∙ c.reserve_history.ensures.history ∙ c.begin-domain.ensures.history)
     (c.discard.ensures.begun ∙ c.reserve_history.ensures.begun ∙ c.begin-domain.ensures.begun)
     c.synced.ensures c.discard.ensures.settled
+
+pub commit-requires-clause-calm : goal.commit-requires-clause-calm
+commit-requires-clause-calm g c = is_calm _ c.synced.ensures

@@ -1,6 +1,7 @@
 use Rattle.std.proofs.Common.{◌≡◌, ◌∙◌, true, false, List, ap, arith, length, subst, sym}
 use Rattle.fileset_model.specs.declared.entry.Entry.{Entry}
-use Rattle.domain_state.specs.History.{AreStamped, with_last_stamped}
+use Rattle.domain_state.specs.History.{AreStamped, NonePanicked, with_last_stamped}
+use Rattle.domain_state.proofs.Calm.{stamped_calm}
 use Rattle.domain_state.proofs.Stamping.{all_stamped, length_stamped}
 use Rattle.domain_state.proofs.history.History.end_event.Goals as goal
 
@@ -13,6 +14,7 @@ invariant_of-self g c =
     c.stamp_last.ensures.items ∙ ap (λ n. with_last_stamped n old) c.calls.ensures in
     let held : AreStamped true calls old = subst (λ b. AreStamped b calls old) c.if-self.true it.stamps in
     record {
+      calm = subst NonePanicked (sym is) (stamped_calm calls old it.calm);
       lasts = omega (arith, it.lasts, ap (λ (l : List Entry). length l) is, length_stamped calls old);
       stamps = subst (AreStamped false calls) (sym is) (all_stamped calls old held);
     }
