@@ -1,5 +1,6 @@
 //! A domain with the history of its commands.
-ghost use Rattle.std.specs.Prelude.{◌≡◌, ◌+◌, ◌-◌, ◌≤◌, ◌∷◌, ◌++◌, ℕ, [], All, List, None, OnOk, false, if◌then◌else◌, length, vec_capacity};
+ghost use Rattle.std.specs.Prelude.{◌≡◌, ◌+◌, ◌-◌, ◌≤◌, ◌∷◌, ◌++◌, ℕ, [], All, List, None, OnOk, false, if◌then◌else◌, is_some, length, vec_capacity};
+ghost use Rattle.std.specs.Option.{option_copied};
 ghost use Rattle.domain_base.specs.declared.version.Version.TheVariants.{Four};
 ghost use Rattle.page_store.specs.Pages.{Pages, no_pages};
 ghost use Rattle.domain_layout.specs.Reached.{Frame};
@@ -10,12 +11,12 @@ ghost use Rattle.fileset_model.specs.Filesets.{FilesetMap};
 ghost use Rattle.domain_memory.specs.Memory.{StandsFor, books_in, kept_in};
 ghost use Rattle.domain_memory.specs.Staged.{IsSettled, MayBeKept, MayGoBack};
 ghost use Rattle.history_laws.specs.GoingOn.{job_left};
-ghost use Rattle.domain_state.specs.History.{GoesOn, IsCalm, MayCommit, with_last_stamped};
+ghost use Rattle.domain_state.specs.History.{GoesOn, IsCalm, MayCommit, NonePanicked, with_last_stamped};
 ghost use Rattle.domain_state.specs.Rest.{IsAtRest};
 
 use crate::Attached;
 use crate::history::History;
-use domain_base::OutOfMemory;
+use domain_base::{Home, OutOfMemory, Page, VolIx};
 use domain_memory::DomainMemory;
 use fileset_model::{Entry, Told};
 use std::alloc::Global;
@@ -183,6 +184,37 @@ impl<R: Rack, O: Opening> Domain<R, O> {
         ensures { result.now ≡ ⟦<Domain<R, O> as Told>⟧.history self.now }
     {
         self.history.entries.as_slice()
+    }
+
+    /// For how many entries more the history has room.
+    pub fn spare(&self) -> usize
+        ensures { result ≡ ⟦<Domain<R, O> as Told>⟧.room self.now }
+    {
+        self.history.entries.capacity() - self.history.entries.len()
+    }
+
+    /// Whether a job of the mover's has begun, and has no entry yet.
+    pub fn job_runs(&self) -> bool
+        ensures { result ≡ is_some (⟦<Domain<R, O> as Told>⟧.begun self.now) }
+    {
+        self.history.job.is_some()
+    }
+
+    /// The volume that panicked, if one did. It is none as long as events make no calls of devices,
+    /// so that no write and no sync of a volume can fail in one.
+    pub fn panicked(&self) -> Option<VolIx>
+        ensures none { result ≡ None }
+        ensures calm { NonePanicked (⟦<Domain<R, O> as Told>⟧.history self.now) }
+    {
+        None
+    }
+
+    /// The page at a home, if one is kept in memory there: as it was before the change that is laid
+    /// over the domain.
+    pub fn read_page(&self, home: Home) -> Option<&Page>
+        ensures { option_copied result ≡ before_of self.now.memory.pages home }
+    {
+        self.memory.pages.before(home)
     }
 
     /// How many calls the rack has had: no entry has a greater stamp, where no event goes on that has
