@@ -6,7 +6,9 @@ pub mod NoPanic
 pub mod PlaceLemmas
 pub mod PlainLemmas
 pub mod Restamped
+pub mod RoomLemmas
 pub mod ShownLemmas
+pub mod SumLemmas
 pub mod SyncedLemmas
 pub mod UntouchedLemmas
 pub mod ValidChainLemmas

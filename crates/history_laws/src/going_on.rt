@@ -1,12 +1,14 @@
 //! Laws of legal histories that go on by one entry more.
-ghost use Rattle.std.specs.Prelude.{◌≡◌, ◌≤◌, ◌++◌, ◌∷◌, [], ℕ, All, List, None, Option};
+ghost use Rattle.std.specs.Prelude.{◌≡◌, ◌≤◌, ◌++◌, ◌∷◌, [], ℕ, All, List, None, Option, length};
 ghost use Rattle.fileset_model.specs.declared.command.Command.{Command};
 ghost use Rattle.fileset_model.specs.declared.entry.Entry.{Entry};
 ghost use Rattle.history_model.specs.Legal.{Legal};
 ghost use Rattle.history_model.specs.Point.{Point};
+ghost use Rattle.history_model.specs.Room.{room};
 ghost use Rattle.history_model.specs.State.{Apply, LooksLikeState, State};
 ghost use Rattle.history_model.specs.Step.{Step};
 ghost use Rattle.history_laws.specs.GoingOn.{
+  ComesTo,
   HaveNoClone,
   MayGoOn,
   MayGoOnFrom,
@@ -50,4 +52,14 @@ pub fn the_last_entry_may_be_stamped_anew()
         (stamp : ℕ) → Legal start (history ++ e ∷ []) job now
         → All (λ before. before.stamp ≤ stamp) history
         → Legal start (history ++ stamped stamp e ∷ []) job now }
+{}
+
+/// At each point to which a history may have come as many entries were answered as it has, and what
+/// the state there may take is within the greatest that any state has had so far.
+pub fn a_point_has_room_for_its_state()
+    ensures answered { (start : State) (history : List Entry) (job : Option Command)
+        (point : Point) → ComesTo start history job point
+        → length point.past ≡ length history }
+    ensures room { (start : State) (history : List Entry) (job : Option Command) (point : Point)
+        → ComesTo start history job point → room point.state ≤ point.most }
 {}

@@ -26,8 +26,9 @@ ghost use Rattle.history_model.specs.State.{State, new_domain};
 ghost use Rattle.history_laws.specs.Valid.{IsValid};
 
 pub use going_on::{
-    a_history_begins, a_legal_history_goes_on, states_without_clones_look_like_themselves,
-    the_last_entry_may_be_stamped_anew, what_a_command_means_is_a_step,
+    a_history_begins, a_legal_history_goes_on, a_point_has_room_for_its_state,
+    states_without_clones_look_like_themselves, the_last_entry_may_be_stamped_anew,
+    what_a_command_means_is_a_step,
 };
 
 /// A history of clients whose commands are answered in turn as they mean for filesets without
