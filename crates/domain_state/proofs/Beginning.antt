@@ -50,7 +50,7 @@ module _ (memory : DomainMemory) (sizes : List ℕ) where
       ∣ legal_none start all (reads_once d.pages there.value start.filesets all (is.filesets there.value there.there) reads) ∣₁
 
   goes_on : ∥ StandsForSome memory ∥₁ → ∥ GoesOn (before_of memory.pages) (frame_in memory.frame) sizes memory [] None ∥₁
-  goes_on held = ∥∥₁_map held (λ some. record { all = some.0; stands = some.1; leads = leads_none some.0 some.1 })
+  goes_on held = ∥∥₁_map held (λ some. record { same = refl; all = some.0; stands = some.1; leads = leads_none some.0 some.1 })
 
   -- the same by other names
   pub begun : (pages : Pages) (frame : Frame) → pages ≡ before_of memory.pages → frame ≡ frame_in memory.frame → ∥ StandsForSome memory ∥₁ → ∥ GoesOn pages frame sizes memory [] None ∥₁

@@ -5,3 +5,4 @@ pub mod NoClones
 pub mod Unmoved
 pub mod Stamping
 pub mod Resting
+pub mod MemberSums

@@ -58,6 +58,7 @@ module _ (calls : ℕ) (front : List Entry) (last : Entry) (stamps : AreStamped 
 module _ (pages : Pages) (frame : Frame) (sizes : List ℕ) (memory : DomainMemory) (job : Option Command) (calls : ℕ) where
   ended_front : (front : List Entry) (last : Entry) → AreStamped true calls (front ++ last ∷ []) → ∥ GoesOn pages frame sizes memory (front ++ last ∷ []) job ∥₁ → ∥ GoesOn pages frame sizes memory (front ++ stamped calls last ∷ []) job ∥₁
   ended_front front last stamps held = ∥∥₁_map held (λ goes. record {
+    same = goes.same;
     all = goes.all;
     stands = goes.stands;
     leads = λ start is. ∥∥₁_map (goes.leads start is) (λ legal. restamped start (record start { filesets = goes.all }) front job last calls legal (front_stamped calls front last stamps));

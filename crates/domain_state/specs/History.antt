@@ -9,6 +9,7 @@ use Rattle.fileset_model.specs.declared.reply.Reply.{Reply}
 use Rattle.fileset_model.specs.declared.reply.Reply.TheVariants.{Refused}
 use Rattle.history_model.specs.Legal.{Legal}
 use Rattle.history_model.specs.State.{State}
+use Rattle.page_ways.specs.Frame.{frame_in}
 use Rattle.domain_layout.specs.Reached.{Frame}
 use Rattle.domain_memory.specs.Memory.{StandsFor}
 use Rattle.domain_memory.specs.Staged.{MayBeKept}
@@ -26,9 +27,10 @@ LeadsTo pages frame sizes entries job all = (start : State) → IsStartOf pages 
 abbrev pub StandsForSome : DomainMemory → Type 0
 StandsForSome memory = (all : FilesetMap) × StandsFor memory all
 
--- and the entries lead to them
+-- with the anchor and version with which it was opened, and the entries lead to them
 pub record GoesOn (pages : Pages) (frame : Frame) (sizes : List ℕ) (memory : DomainMemory)
     (entries : List Entry) (job : Option Command) : Type 0 where
+  pub same : frame_in memory.frame ≡ frame
   pub all : FilesetMap
   pub stands : StandsFor memory all
   pub leads : LeadsTo pages frame sizes entries job all
@@ -55,6 +57,14 @@ IsCalm reply = (volume : ℕ) → ¬ (reply ≡ Refused (Panicked volume))
 abbrev pub NonePanicked : List Entry → Type 0
 NonePanicked entries = (volume : ℕ)
     → ¬ Contains (map (λ before. before.reply) entries) (Refused (Panicked volume))
+
+-- an entry leads from these filesets to themselves, at each point to which the history may have come
+abbrev pub MayCommitUnchanged : Pages → Frame → List ℕ → List Entry → Option Command → Entry
+    → FilesetMap → Type 0
+MayCommitUnchanged pages frame sizes entries job e all = (start : State)
+    → IsStartOf pages frame sizes start
+    → MayGoOnFrom start entries job (record start { filesets = all }) e
+    (record start { filesets = all })
 
 -- ** Stamps
 

@@ -1,3 +1,4 @@
 pub mod Opening
 pub mod History
 pub mod Rest
+pub mod Members

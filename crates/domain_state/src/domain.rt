@@ -1,5 +1,6 @@
 //! A domain with the history of its commands.
 ghost use Rattle.std.specs.Prelude.{◌≡◌, ◌+◌, ◌-◌, ◌≤◌, ◌∷◌, ◌++◌, ℕ, [], All, List, None, OnOk, false, if◌then◌else◌, is_some, length, vec_capacity};
+ghost use Rattle.std.specs.FinMap.{len};
 ghost use Rattle.std.specs.Option.{option_copied};
 ghost use Rattle.domain_base.specs.declared.version.Version.TheVariants.{Four};
 ghost use Rattle.page_store.specs.Pages.{Pages, no_pages};
@@ -10,12 +11,24 @@ ghost use Rattle.domain_making.specs.Making.{new_frame};
 ghost use Rattle.fileset_model.specs.Filesets.{FilesetMap};
 ghost use Rattle.domain_memory.specs.Memory.{StandsFor, books_in, kept_in};
 ghost use Rattle.domain_memory.specs.Staged.{IsSettled, MayBeKept, MayGoBack};
+ghost use Rattle.history_model.specs.Room.{open_pages};
+ghost use Rattle.history_model.specs.State.{State};
 ghost use Rattle.history_laws.specs.GoingOn.{job_left};
-ghost use Rattle.domain_state.specs.History.{GoesOn, IsCalm, MayCommit, NonePanicked, with_last_stamped};
+ghost use Rattle.domain_state.specs.History.{
+  GoesOn,
+  IsCalm,
+  MayCommit,
+  MayCommitUnchanged,
+  NonePanicked,
+  StandsForSome,
+  with_last_stamped,
+};
+ghost use Rattle.domain_state.specs.Opening.{IsStartOf};
 ghost use Rattle.domain_state.specs.Rest.{IsAtRest};
 
 use crate::Attached;
 use crate::history::History;
+use crate::members::{count_members, open_pages};
 use domain_base::{Home, OutOfMemory, Page, VolIx};
 use domain_memory::DomainMemory;
 use fileset_model::{Entry, Told};
@@ -139,6 +152,29 @@ impl<R: Rack, O: Opening> Domain<R, O> {
         self.history.add(entry);
     }
 
+    /// Adds a command that changed nothing, with its reply, which tells of no volume that panicked:
+    /// one in each event, which gets its stamp where that ends. What is kept in memory stays, with
+    /// the change that is laid over it. It takes no memory.
+    pub fn commit_unchanged(&mut self, entry: Entry)
+        requires first { ⟦<Domain<R, O> as Told>⟧.rests self.old }
+        requires room { 1 ≤ ⟦<Domain<R, O> as Told>⟧.room self.old }
+        requires calm { IsCalm entry.reply }
+        requires step { (all : FilesetMap) → StandsFor self.old.memory all → MayCommitUnchanged
+            O.pages O.frame O.sizes (⟦<Domain<R, O> as Told>⟧.history self.old)
+            (⟦<Domain<R, O> as Told>⟧.begun self.old) entry all }
+        ensures history { ⟦<Domain<R, O> as Told>⟧.history self.new
+            ≡ ⟦<Domain<R, O> as Told>⟧.history self.old ++ entry ∷ [] }
+        ensures begun { ⟦<Domain<R, O> as Told>⟧.begun self.new
+            ≡ job_left entry.actor (⟦<Domain<R, O> as Told>⟧.begun self.old) }
+        ensures room { ⟦<Domain<R, O> as Told>⟧.room self.old
+            ≤ ⟦<Domain<R, O> as Told>⟧.room self.new + 1 }
+        ensures rack { self.new.history.rack ≡ self.old.history.rack }
+        ensures memory { self.new.memory ≡ self.old.memory }
+        ensures durable { self.new.history.durable ≡ self.old.history.durable }
+    {
+        self.history.add(entry);
+    }
+
     /// Takes the change back that is laid over the domain. It takes no memory, and the time of what
     /// the change has changed.
     pub fn discard(&mut self)
@@ -215,6 +251,30 @@ impl<R: Rack, O: Opening> Domain<R, O> {
         ensures { option_copied result ≡ before_of self.now.memory.pages home }
     {
         self.memory.pages.before(home)
+    }
+
+    /// What is kept in memory of the domain, with the change that is laid over it.
+    pub fn memory(&self) -> &DomainMemory
+        ensures memory { result.now ≡ self.now.memory }
+        ensures stands { ∥ StandsForSome self.now.memory ∥₁ }
+    {
+        &self.memory
+    }
+
+    /// How many pages the open members have together.
+    pub fn open_pages(&self) -> u64
+        ensures { (start : State) → IsStartOf O.pages O.frame O.sizes start
+            → result ≡ open_pages start }
+    {
+        open_pages(&self.memory.frame)
+    }
+
+    /// How many members there are.
+    pub fn count_members(&self) -> u64
+        ensures { (start : State) → IsStartOf O.pages O.frame O.sizes start
+            → result ≡ len start.members }
+    {
+        count_members(&self.memory.frame)
     }
 
     /// How many calls the rack has had: no entry has a greater stamp, where no event goes on that has

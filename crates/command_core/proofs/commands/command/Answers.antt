@@ -1,5 +1,6 @@
 use Rattle.std.proofs.Common.{◌≡◌, ◌∙◌, IfErr, ap, sym, subst}
 use Rattle.std.proofs.Math.Logic.{∥∥₁_map}
+use Rattle.page_ways.specs.Frame.{frame_in}
 use Rattle.domain_memory.proofs.KeptStands.{stands_so}
 use Rattle.domain_memory.specs.Memory.{StandsFor}
 use Rattle.domain_memory.specs.declared.memory.DomainMemory.{DomainMemory}
@@ -20,6 +21,7 @@ together-domain-requires-clause-rest g c =
 
 pub together-domain-requires-clause-stands : goal.together-domain-requires-clause-stands
 together-domain-requires-clause-stands g c = ∥∥₁_map c.apart-memory.ensures.stands (λ goes. record {
+  same = ap frame_in (kept_at_hand c.apart-memory.result.0 c.stage-memory.result.0 c.stage-memory.ensures.kept).frame ∙ goes.same;
   all = goes.all;
   stands = stands_so c.apart-memory.result.0 c.stage-memory.result.0 (kept_at_hand c.apart-memory.result.0 c.stage-memory.result.0 c.stage-memory.ensures.kept) goes.all goes.stands;
   leads = goes.leads;

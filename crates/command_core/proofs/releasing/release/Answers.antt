@@ -1,5 +1,6 @@
-use Rattle.std.proofs.Common.{sym, subst}
+use Rattle.std.proofs.Common.{◌∙◌, ap, sym, subst}
 use Rattle.std.proofs.Math.Logic.{∥∥₁_map}
+use Rattle.page_ways.specs.Frame.{frame_in}
 use Rattle.domain_memory.specs.Memory.{StandsFor}
 use Rattle.domain_memory.specs.declared.memory.DomainMemory.{DomainMemory}
 use Rattle.command_core.proofs.releasing.release.Goals as goal
@@ -9,6 +10,7 @@ release-released-requires-clause-stands g c = ∥∥₁_map c.apart-memory.ensur
 
 pub together-requires-clause-stands : goal.together-requires-clause-stands
 together-requires-clause-stands g c = ∥∥₁_map c.apart-memory.ensures.stands (λ goes. record {
+  same = ap frame_in c.release-released.ensures.frame ∙ goes.same;
   all = goes.all;
   stands = c.release-released.ensures.stands goes.all goes.stands;
   leads = goes.leads;

@@ -25,7 +25,7 @@ invariant_of-self g c =
       stands =
           subst (λ (entries : List Entry). ∥ GoesOn o.pages o.frame o.sizes new entries c.add.new.self.job ∥₁) (sym c.add.ensures.entries)
           (subst (λ (job : Option Command). ∥ GoesOn o.pages o.frame o.sizes new (it.history.entries.items ++ c.args.entry ∷ []) job ∥₁) (sym c.add.ensures.job)
-          (committed o.pages o.frame o.sizes it.memory it.history.entries.items it.history.job c.args.entry it.stands c.requires.step new c.keep.ensures.stands));
+          (committed o.pages o.frame o.sizes it.memory it.history.entries.items it.history.job c.args.entry it.stands c.requires.step new c.keep.ensures.frame c.keep.ensures.stands));
       back = c.keep.ensures.back;
       rest = rests_still (g.R.Rack.disk it.history.rack) (g.R.Rack.disk c.add.new.self.rack) it.memory.frame.anchor new.frame.anchor (ap g.R.Rack.disk c.add.ensures.rack) (ap (λ (f : DomainFrame). f.anchor) c.keep.ensures.frame) it.rest;
     }
