@@ -1,5 +1,5 @@
 //! Things on a domain's list that are let go of, between commands.
-ghost use Rattle.std.specs.Prelude.{◌≡◌, ◌↔◌, true, IfOk, sum_by};
+ghost use Rattle.std.specs.Prelude.{◌≡◌, ◌↔◌, true, IfOk, OnOk, sum_by};
 ghost use Rattle.fileset_model.specs.Filesets.{FilesetMap};
 ghost use Rattle.free_space.specs.Spaces.{free_pages};
 ghost use Rattle.deferred_delete.specs.Listing.{IsEmpty};
@@ -37,7 +37,8 @@ pub fn release<R: Rack, O: Opening>(
 /// Lets go of what is on a domain's list, as far as that may be, each release kept by itself, and
 /// frees all pages that wait then: the domain stands for the same filesets, and no entry is added
 /// to its history. It answers how many pages are free then, and whether nothing is on the list any
-/// more. Where memory is short for a release, those in front of it are kept.
+/// more: where that is not so, what is on it cannot be let go of yet. Where memory is short for a
+/// release, those in front of it are kept.
 pub fn drain<R: Rack, O: Opening>(
     domain: Domain<R, O>,
     alloc: Global,
@@ -45,6 +46,7 @@ pub fn drain<R: Rack, O: Opening>(
     requires settled { IsSettled domain.memory }
     ensures stands { (all : FilesetMap) → StandsFor domain.memory all
         → StandsFor result.0.memory all }
+    ensures ends { OnOk result.1 (¬ MayLetGo result.0.memory) }
     ensures none { IfOk result.1 (λ drained. NoneWaits result.0.memory.space) }
     ensures free { IfOk result.1 (λ drained. drained.free
         ≡ sum_by free_pages result.0.memory.space.volumes) }

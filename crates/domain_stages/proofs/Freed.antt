@@ -11,6 +11,7 @@ use Rattle.free_space.specs.VolumeSpace.{VolumeSpace, with_none_waiting}
 use Rattle.free_space.proofs.Kept.{kept-with_none_waiting, volume_of-changed}
 use Rattle.page_ways.specs.Frame.{frame_in}
 use Rattle.quota_book.specs.Sums.{IsBookOf}
+use Rattle.deferred_delete.specs.Listing.{IsEmpty}
 use Rattle.staged_pages.specs.Store.{before_of, pages_of}
 use Rattle.domain_layout.specs.Read.{contents_of}
 use Rattle.release_laws.specs.Domain.{DomainNow, item_in}
@@ -24,7 +25,7 @@ use Rattle.domain_memory.specs.Staged.{IsSettled, MayGoBack}
 use Rattle.domain_memory.specs.declared.memory.DomainMemory.{DomainMemory}
 use Rattle.release_laws.specs.Freed.{freed}
 use Rattle.release_laws.proofs.FreedPages.{below_freed, bits_freed, slots_freed}
-use Rattle.domain_stages.specs.LettingGo.{NoneWaits}
+use Rattle.domain_stages.specs.LettingGo.{HavePlain, MayLetGo, NoneWaits}
 
 pub none_waits : (space : Spaces) → NoneWaits (change_volumes with_none_waiting space)
 none_waits space vol = subst (λ o. IfSome o (λ v. v.waiting ≡ [])) (sym (volume_of-changed with_none_waiting space vol)) (by_volume (volume_of space vol))
@@ -42,6 +43,14 @@ module _ (old new : DomainMemory) (same : new ≡ record old { space = new.space
     };
     table = subst (λ (x : DomainMemory). IsTable (with_was x.was x.table)) (sym same) m.table;
     slots = subst (λ (x : DomainMemory). (number : ℕ) → IfSome (slot_in x.slots.items number) CanGoBack) (sym same) m.slots;
+  })
+
+  -- and nothing more may be let go of
+  pub none_more : ¬ MayLetGo old → ¬ MayLetGo new
+  none_more none may = none (record {
+    some = subst (λ (x : DomainMemory). ¬ IsEmpty x.list.list) same may.some;
+    tag_pages = subst (λ (x : DomainMemory). x.list.list.tag_pages ≡ []) same may.tag_pages;
+    plain = subst (λ (x : DomainMemory). HavePlain x x.list.list.entries) same may.plain;
   })
 
 module _ (old new : DomainMemory) (same : new ≡ record old { space = new.space }) (space : new.space ≡ change_volumes with_none_waiting old.space) (settled : IsSettled old) where

@@ -106,6 +106,7 @@ pub fn let_go(
         → OnOk result (MayBeKept memory.new all) }
     ensures goes { IfOk result (λ count. LetsListGo group count memory.old memory.new) }
     ensures some { IfOk result (λ count. (count ≡ 0) ↔ ¬ MayLetGo memory.old) }
+    ensures none { IfOk result (λ count. count ≡ 0 → memory.new ≡ memory.old) }
     ensures most { IfOk result (λ count. count ≤ 16) }
     ensures few { OnOk result (ChangesAtMost most (pages_of memory.old.pages)
         (pages_of memory.new.pages)) }

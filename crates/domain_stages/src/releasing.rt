@@ -1,5 +1,5 @@
 //! Things on a domain's list that are let go of and kept so, and pages that come free.
-ghost use Rattle.std.specs.Prelude.{◌≡◌, ◌≤◌, ◌↔◌, true, IfOk, sum_by};
+ghost use Rattle.std.specs.Prelude.{◌≡◌, ◌≤◌, ◌↔◌, true, IfOk, OnOk, sum_by};
 ghost use Rattle.fileset_model.specs.Filesets.{FilesetMap};
 ghost use Rattle.free_space.specs.Spaces.{free_pages};
 ghost use Rattle.deferred_delete.specs.Listing.{IsEmpty};
@@ -19,21 +19,25 @@ const GROUP: u64 = 0;
 const MOST_PAGES: u32 = 32;
 
 /// Lets go of some of the things on a domain's list, sixteen at most, and keeps that: the domain
-/// stands for the same filesets. It answers how many, 0 exactly where nothing may be let go of; no
-/// clause says what is on the list once that is kept. There may only be no memory, and then too the
-/// domain stands for them.
+/// stands for the same filesets. It answers how many, 0 exactly where nothing may be let go of, and
+/// then nothing changes; no clause says what is on the list once something was let go of. There may
+/// only be no memory, and then too the domain stands for them.
 pub fn release(memory: &mut DomainMemory, alloc: Global) -> Result<u32, OutOfMemory>
     requires settled { IsSettled memory.old }
     requires stands { ∥ StandsForAny memory.old ∥₁ }
     requires back { ∥ MayGoBack memory.old ∥₁ }
     ensures stands { (all : FilesetMap) → StandsFor memory.old all → StandsFor memory.new all }
     ensures some { IfOk result (λ count. (count ≡ 0) ↔ ¬ MayLetGo memory.old) }
+    ensures none { IfOk result (λ count. count ≡ 0 → memory.new ≡ memory.old) }
     ensures most { IfOk result (λ count. count ≤ 16) }
     ensures settled { IsSettled memory.new }
     ensures back { ∥ MayGoBack memory.new ∥₁ }
     ensures frame { memory.new.frame ≡ memory.old.frame }
 {
     let count = let_go(memory, alloc, GROUP, MOST_PAGES)?;
+    if count == 0 {
+        return Ok(0);
+    }
     memory.keep();
     Ok(count)
 }
@@ -59,15 +63,35 @@ pub struct Drained {
     pub is_done: bool,
 }
 
-/// Lets go of what is on a domain's list, one release after the other, and frees all pages that
-/// wait then. How far it goes no clause says, but that `is_done` tells whether nothing is on the
-/// list any more. The domain stands for the same filesets, after an error too, where memory was
-/// short for a release.
+/// Frees all pages that wait, and tells what is left.
+fn tell_drained(memory: &mut DomainMemory) -> Drained
+    requires settled { IsSettled memory.old }
+    ensures stands { (all : FilesetMap) → StandsFor memory.old all → StandsFor memory.new all }
+    ensures none { NoneWaits memory.new.space }
+    ensures free { result.free ≡ sum_by free_pages memory.new.space.volumes }
+    ensures done { (result.is_done ≡ true) ↔ IsEmpty memory.new.list.list }
+    ensures settled { IsSettled memory.new }
+    ensures same { memory.new ≡ record memory.old { space = memory.new.space } }
+{
+    free_waiting(memory);
+    Drained {
+        free: memory.space.free_now(),
+        is_done: memory.list.is_empty(),
+    }
+}
+
+/// Lets go of what is on a domain's list, one release after the other, until nothing on it may be
+/// let go of, and frees all pages that wait then. So where `is_done` is false, something is on the
+/// list that cannot be let go of yet. The domain stands for the same filesets, after an error too.
+///
+/// `OutOfMemory` comes where memory was short for a release, and where 2^64 - 1 releases were not
+/// enough, which no domain has to let go of.
 pub fn drain(memory: &mut DomainMemory, alloc: Global) -> Result<Drained, OutOfMemory>
     requires settled { IsSettled memory.old }
     requires stands { ∥ StandsForAny memory.old ∥₁ }
     requires back { ∥ MayGoBack memory.old ∥₁ }
     ensures stands { (all : FilesetMap) → StandsFor memory.old all → StandsFor memory.new all }
+    ensures ends { OnOk result (¬ MayLetGo memory.new) }
     ensures none { IfOk result (λ drained. NoneWaits memory.new.space) }
     ensures free { IfOk result (λ drained. drained.free
         ≡ sum_by free_pages memory.new.space.volumes) }
@@ -78,13 +102,10 @@ pub fn drain(memory: &mut DomainMemory, alloc: Global) -> Result<Drained, OutOfM
     ensures frame { memory.new.frame ≡ memory.old.frame }
 {
     for _ in 0..u64::MAX {
-        if release(memory, alloc)? == 0 {
-            break;
+        let count = release(memory, alloc)?;
+        if count == 0 {
+            return Ok(tell_drained(memory));
         }
     }
-    free_waiting(memory);
-    Ok(Drained {
-        free: memory.space.free_now(),
-        is_done: memory.list.is_empty(),
-    })
+    Err(OutOfMemory)
 }

@@ -1,7 +1,7 @@
 use Rattle.std.proofs.Common.{inl, refl, sym, subst}
 use Rattle.std.proofs.lemmas.Bool.{MatchBool-at_true}
 use Rattle.bitfile_cells.proofs.FewPages.{none_changes}
-use Rattle.deferred_delete.specs.Listing.{Listing}
+use Rattle.deferred_delete.specs.Listing.{IsEmpty, Listing}
 use Rattle.deferred_delete.specs.Standing.{Files}
 use Rattle.deferred_delete.specs.Steps.{IsWell, LacksRoom, LetsGo, none, now_of}
 use Rattle.staged_pages.specs.Store.{pages_of}
@@ -61,3 +61,9 @@ pub returns-in-Err-OutOfMemory-clause-back : goal.returns-in-Err-OutOfMemory-cla
 returns-in-Err-OutOfMemory-clause-back c =
     let memory = c.args.memory.now in
     back_stays memory (record memory { pages = c.release_some.new.pages; space = c.release_some.new.space; cells = c.release_some.new.cells; list = c.release_some.new.self }) refl c.requires.back
+
+pub returns-in-Ok-clause-none : goal.returns-in-Ok-clause-none
+returns-in-Ok-clause-none c = λ zero.
+    let memory = c.args.memory.now in
+    let may = MatchBool-at_true (MayLetGo memory) (¬ MayLetGo memory) c.if-not-may_let_go.false c.may_let_go.ensures in
+    absurd (may.some (subst IsEmpty c.start_over.ensures.list (c.in-Ok.ensures.some.0 zero)))
