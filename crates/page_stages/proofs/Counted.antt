@@ -28,7 +28,7 @@ sum_next f run runs = sum_by-append f (run ∷ []) runs ∙ omega arith
 next_is : (n : ℕ) → suc n ≡ n + 1
 next_is n = omega arith
 
-count_parts : (p : ℕ → Bool) (from a b all : ℕ) → a + b ≡ all → count_by p (range_with_len from all) ≡ count_by p (range_with_len from a) + count_by p (range_with_len (from + a) b)
+pub count_parts : (p : ℕ → Bool) (from a b all : ℕ) → a + b ≡ all → count_by p (range_with_len from all) ≡ count_by p (range_with_len from a) + count_by p (range_with_len (from + a) b)
 count_parts p from a zero all e =
     let same : all ≡ a = omega (arith, e) in
     ap (λ n. count_by p (range_with_len from n)) same ∙ omega arith
@@ -56,7 +56,7 @@ count_all p from (suc n) always =
     ∙ count_by-range_with_len_more p from n (from + n) refl
     ∙ omega (arith, last, count_all p from n (λ q low high. always q low (omega (arith, high))))
 
-count_same : (p r : ℕ → Bool) (from n : ℕ) → ((q : ℕ) → from ≤ q → q < from + n → p q ≡ r q) → count_by p (range_with_len from n) ≡ count_by r (range_with_len from n)
+pub count_same : (p r : ℕ → Bool) (from n : ℕ) → ((q : ℕ) → from ≤ q → q < from + n → p q ≡ r q) → count_by p (range_with_len from n) ≡ count_by r (range_with_len from n)
 count_same p r from zero same = refl
 count_same p r from (suc n) same =
     let last : cond (p (from + n)) 1 0 ≡ cond (r (from + n)) 1 0 = ap {B = ℕ} (λ b. cond b 1 0) (same (from + n) (omega arith) (omega arith)) in
@@ -82,7 +82,7 @@ some_len pages q there = ⊎_elim (λ none. absurd (not_empty (map.empty_of_len 
     not_empty is = true≢false (sym there ∙ ap (λ (m : Pages). contains_key m q) is ∙ ap is_some (map.get-empty nat_cmp q))
 
 -- those of numbers in front of one are counted
-keys_counted : (has : ℕ → Bool) (keep : ℕ) (pages : Pages) → ((q : ℕ) → q < keep → contains_key pages q ≡ has q) → ((q : ℕ) → keep ≤ q → contains_key pages q ≡ false) → len pages ≡ count_by has (range_with_len 0 keep)
+pub keys_counted : (has : ℕ → Bool) (keep : ℕ) (pages : Pages) → ((q : ℕ) → q < keep → contains_key pages q ≡ has q) → ((q : ℕ) → keep ≤ q → contains_key pages q ≡ false) → len pages ≡ count_by has (range_with_len 0 keep)
 keys_counted has zero pages near far = ap len (no_key pages (λ q. far q (omega arith))) ∙ map.len-empty nat_cmp (List ℕ)
 keys_counted has (suc k) pages near far =
     let less = remove pages k in

@@ -29,7 +29,7 @@ page_other : (page q : ℕ) (bytes : List ℕ) (node : Node) → page < q → ge
 page_other page q bytes (File uid gid size logged pages) below = get-insert_other nat_cmp_total maps.nat_cmp-IsAntisymmetric pages page bytes q (λ same. omega (arith, below, same))
 page_other page q bytes (Directory uid gid) below = refl
 
-each_other : (f : ℕ → List ℕ) (first n q : ℕ) → first + n ≤ q → (node : Node) → get (pages_in (with_each (map (λ p. (p, f p)) (range_with_len first n)) node)) q ≡ get (pages_in node) q
+pub each_other : (f : ℕ → List ℕ) (first n q : ℕ) → first + n ≤ q → (node : Node) → get (pages_in (with_each (map (λ p. (p, f p)) (range_with_len first n)) node)) q ≡ get (pages_in node) q
 each_other f first zero q far node = refl
 each_other f first (suc n) q far node =
     each_other f (first + 1) n q (omega (arith, far)) (with_page first (f first) node) ∙ page_other first q (f first) node (omega (arith, far))
@@ -114,6 +114,12 @@ pages_are offset len some = ap (λ b. cond b [] (range_with_len (offset / 8192) 
   where
     next : (n : ℕ) → suc n ≡ n + 1
     next n = omega arith
+
+pub pages_none : (offset len q : ℕ) → len ≡ 0 → Contains (pages_of offset len) q → ⊥
+pages_none offset len q none has = no_page (subst (λ n. Contains (pages_of offset n) q) none has)
+  where
+    no_page : Contains (pages_of offset 0) q → ⊥
+    no_page is = omega (arith, is.1)
 
 pub pages_have : (offset len q : ℕ) → 1 ≤ len → offset / 8192 ≤ q → q < (offset + len - 1) / 8192 + 1 → Contains (pages_of offset len) q
 pages_have offset len q some low high = subst (λ qs. Contains qs q) (sym (pages_are offset len some)) (in_range (offset / 8192) ((offset + len - 1) / 8192 + 1 - offset / 8192) q low (omega (arith, low, high)))

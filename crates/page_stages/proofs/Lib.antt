@@ -19,3 +19,5 @@ pub mod Opened
 pub mod Steps
 pub mod Paged
 pub mod Counted
+pub mod Wanted
+pub mod HowMany

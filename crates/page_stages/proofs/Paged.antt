@@ -1,6 +1,6 @@
 -- The pages of a file's node, by what is told of its pages in memory.
-use Rattle.std.proofs.Common.{◌≡◌, ◌∙◌, ◌-◌, ◌<◌, ◌≤◌, ℕ, Bool, true, false, cond, count_by, map, min, nat_lt, not, ◌+◌, List, [], Option, Some, None, IsSome, IsSomeAnd, is_some, slice_get, unwrap_or, refl, sym, ap, arith, subst, lt-ltb, true≢false}
-use Rattle.std.proofs.lemmas.Bool.{le-ltb}
+use Rattle.std.proofs.Common.{◌≡◌, ◌∙◌, ◌-◌, ◌<◌, ◌≤◌, ℕ, Bool, true, false, cond, count_by, map, min, nat_lt, not, ◌+◌, List, [], Option, Some, None, IsSome, IsSomeAnd, is_some, slice_get, unwrap_or, refl, sym, ap, arith, subst, lt-ltb, true≢false, ⊎_elim}
+use Rattle.std.proofs.lemmas.Bool.{cases_lt, le-ltb}
 use Rattle.std.specs.FinMap.{contains_key, empty, get, get-empty}
 use Rattle.std.specs.List.{range_with_len}
 use Rattle.std.specs.Option.{option_and_then, option_map, option_map_or}
@@ -12,7 +12,7 @@ use Rattle.domain_base.specs.declared.place.Tag.{Tag}
 use Rattle.bmt_mcells.specs.Chain.{PlacedCell}
 use Rattle.extent_maps.specs.Runs.{home_at}
 use Rattle.extent_maps.specs.declared.run.PagePlace.{PagePlace}
-use Rattle.extent_maps.specs.declared.run.PagePlace.TheVariants.{Absent, At}
+use Rattle.extent_maps.specs.declared.run.PagePlace.TheVariants.{Absent, At, Hole}
 use Rattle.extent_records.specs.Writing.{places_before}
 use Rattle.bitfile_cells.specs.Files.{places_of}
 use Rattle.bitfile_core.specs.declared.attributes.Attributes.{Attributes}
@@ -114,6 +114,18 @@ module _ (memory : DomainMemory) (number : ℕ) (tag : Tag) (path : Path) (all :
     pub page_lacking : (page : ℕ) → MayGrow tag page chains → contains_key (pages_at fileset.tree path) page ≡ false
     page_lacking page is = by_kept page (λ q. contains_key (pages_at fileset.tree path) q ≡ false) is.kept (λ keep kept near. ap is_some (near_page keep page kept near ∙ ap (λ place. option_map contents (home_at place)) is.absent))
 
+    -- one that it neither has nor may get is none of them
+    pub page_closed : (page : ℕ) → ¬ IsPageOf tag page chains → contains_key (pages_at fileset.tree path) page ≡ false
+    page_closed page none = ⊎_elim
+        (λ near. by_place near (place_at chains tag page) refl)
+        (λ past. ap is_some (far_page its_pages.keep page its_pages.kept (omega (arith, past))))
+        (cases_lt page its_pages.keep)
+      where
+        by_place : page < its_pages.keep → (place : PagePlace) → place_at chains tag page ≡ place → contains_key (pages_at fileset.tree path) page ≡ false
+        by_place near (At home) at = absurd (none (record { kept = subst (λ o. IsSomeAnd o (λ keep. page < keep)) (sym its_pages.kept) near; home = home; there = at }))
+        by_place near Hole at = ap is_some (near_page its_pages.keep page its_pages.kept near ∙ ap (λ place. option_map contents (home_at place)) at)
+        by_place near Absent at = ap is_some (near_page its_pages.keep page its_pages.kept near ∙ ap (λ place. option_map contents (home_at place)) at)
+
     -- what stands at the home of one that it has
     there_as : (o : Option (List ℕ)) → IsSome o → Some (unwrap_or o []) ≡ o
     there_as None some = absurd (true≢false (sym some))
@@ -175,5 +187,11 @@ module _ (memory : DomainMemory) (number : ℕ) (tag : Tag) (path : Path) (all :
   pub absent_lacking : LacksPage memory number tag page → count_by (λ q. not (contains_key (pages_at fileset.tree path) q)) (range_with_len first n) + 1 ≡ count_by (λ q. not (contains_key (pages_at fileset.tree path) q)) (range_with_len first (n + 1))
   absent_lacking lacks =
       let is : cond (not (contains_key (pages_at fileset.tree path) page)) 1 0 ≡ 1 = ap {B = ℕ} (λ b. cond (not b) 1 0) (page_lacking memory number tag path all entry fileset has file around.chains around.well.together.files page (lacks around.chains around.well.together.files)) in
+      let more = count_by-range_with_len_more (λ q. not (contains_key (pages_at fileset.tree path) q)) first n page next in
+      omega (arith, is, more)
+
+  pub absent_closed : ((chains : Chains) → AreFilesIn memory number chains → ¬ IsPageOf tag page chains) → count_by (λ q. not (contains_key (pages_at fileset.tree path) q)) (range_with_len first n) + 1 ≡ count_by (λ q. not (contains_key (pages_at fileset.tree path) q)) (range_with_len first (n + 1))
+  absent_closed closed =
+      let is : cond (not (contains_key (pages_at fileset.tree path) page)) 1 0 ≡ 1 = ap {B = ℕ} (λ b. cond (not b) 1 0) (page_closed memory number tag path all entry fileset has file around.chains around.well.together.files page (closed around.chains around.well.together.files)) in
       let more = count_by-range_with_len_more (λ q. not (contains_key (pages_at fileset.tree path) q)) first n page next in
       omega (arith, is, more)

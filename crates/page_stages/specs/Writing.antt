@@ -1,16 +1,24 @@
 -- What becomes of a file that is written, page by page.
-use Rattle.std.specs.Prelude.{◌≡◌, ◌/◌, ℕ, List, map}
-use Rattle.std.specs.FinMap.{get}
+use Rattle.std.specs.Prelude.{◌≡◌, ◌-◌, ◌/◌, ℕ, false, Contains, List, length, map}
+use Rattle.std.specs.FinMap.{contains_key, get}
+use Rattle.std.specs.List.{range_with_len}
 use Rattle.std.specs.Option.{option_map_or}
 use Rattle.domain_base.specs.declared.limits.TheConstants.{PAGE_BYTES}
-use Rattle.fileset_model.specs.Pages.{page_after}
+use Rattle.domain_base.specs.declared.place.Tag.{Tag}
+use Rattle.page_store.specs.declared.fault.StoreFault.TheVariants.{NoPage}
+use Rattle.fileset_model.specs.Filesets.{FilesetMap}
+use Rattle.fileset_model.specs.Orders.{Path}
+use Rattle.fileset_model.specs.Pages.{page_after, pages_of}
+use Rattle.fileset_model.specs.declared.fileset.FilesetSlot.{FilesetSlot}
 use Rattle.fileset_model.specs.declared.node.Node.{Node}
+use Rattle.fileset_table.specs.declared.slot.FilesetEntry.{FilesetEntry}
 use Rattle.node_laws.specs.Commands.{with_each, zeros_behind}
 use Rattle.node_laws.specs.Nodes.{with_page}
 use Rattle.domain_memory.specs.Kept.{KeepsKept}
 use Rattle.domain_memory.specs.Staged.{MayGoBack, staged_books}
 use Rattle.domain_memory.specs.declared.memory.DomainMemory.{DomainMemory}
-use Rattle.page_stages.specs.Reading.{pages_in}
+use Rattle.page_stages.specs.Reading.{pages_at, pages_in}
+use Rattle.page_stages.specs.Stages.{GivesNone, HasFile, LacksPage, StandsChanged}
 
 -- a file with those pages of these numbers that a write makes of what it has
 abbrev pub with_written : List ℕ → ℕ → List ℕ → Node → Node
@@ -30,3 +38,30 @@ pub record StaysElse (old new : DomainMemory) : Type 0 where
   pub back : ∥ MayGoBack new ∥₁
   pub table : new.table ≡ old.table
   pub books : staged_books new ≡ staged_books old
+
+-- ** Where no page is given
+
+-- a file keeps a page and does not have it, and none is given
+pub record WantsAt (memory : DomainMemory) (number : ℕ) (tag : Tag) (page : ℕ) : Type 0 where
+  pub lacks : LacksPage memory number tag page
+  pub none : GivesNone memory number tag page NoPage
+
+-- the pages from that of an offset on, up to one
+abbrev pub pages_before : ℕ → ℕ → List ℕ
+pages_before offset page =
+    range_with_len (offset / PAGE_BYTES) (page - offset / PAGE_BYTES)
+
+-- one of the pages of a write is absent, and none is given once those in front of it are written
+pub record WantsPage (old : DomainMemory) (number : ℕ) (tag : Tag) (offset : ℕ) (bytes : List ℕ)
+    : Type 0 where
+  pub page : ℕ
+  pub within : Contains (pages_of offset (length bytes)) page
+  pub absent : (path : Path) (all : FilesetMap) (entry : FilesetEntry) (fileset : FilesetSlot)
+      → HasFile old number tag path all entry fileset
+      → contains_key (pages_at fileset.tree path) page ≡ false
+  pub mid : DomainMemory
+  pub so_far : (path : Path) (all : FilesetMap) (entry : FilesetEntry) (fileset : FilesetSlot)
+      → HasFile old number tag path all entry fileset
+      → StandsChanged path (with_written (pages_before offset page) offset bytes) all entry
+      fileset mid
+  pub wants : WantsAt mid number tag page

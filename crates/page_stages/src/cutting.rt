@@ -55,6 +55,9 @@ fn clear_rest(
     ensures parents { (path : Path) (all : FilesetMap) (entry : FilesetEntry)
         (fileset : FilesetSlot) → HasFile memory.old number tag path all entry fileset
         → HaveParents (staged_in memory.old) → OnOk result (HaveParents (staged_in memory.new)) }
+    ensures file { (path : Path) (all : FilesetMap) (entry : FilesetEntry) (fileset : FilesetSlot)
+        → HasFile memory.old number tag path all entry fileset
+        → OnOk result (IsFileIn memory.new number tag) }
     ensures rest { StaysElse memory.old memory.new }
 {
     let page = size / PAGE_BYTES as u64;
@@ -89,6 +92,9 @@ pub fn cut_file(
     ensures parents { (path : Path) (all : FilesetMap) (entry : FilesetEntry)
         (fileset : FilesetSlot) → HasFile memory.old number tag path all entry fileset
         → HaveParents (staged_in memory.old) → OnOk result (HaveParents (staged_in memory.new)) }
+    ensures file { (path : Path) (all : FilesetMap) (entry : FilesetEntry) (fileset : FilesetSlot)
+        → HasFile memory.old number tag path all entry fileset
+        → OnOk result (IsFileIn memory.new number tag) }
     ensures kept { KeepsKept memory.old memory.new }
     ensures back { ∥ MayGoBack memory.new ∥₁ }
     ensures table { memory.new.table ≡ memory.old.table }

@@ -22,4 +22,4 @@ pub use putting::put_page;
 pub use reading::{page_of, read_bytes};
 pub use sizing::set_size;
 pub use truncating::truncate;
-pub use writing::{absent_pages, write_bytes};
+pub use writing::{PagesWanted, absent_pages, write_bytes};

@@ -1,8 +1,9 @@
 //! Bytes that are written to a file.
-ghost use Rattle.std.specs.Prelude.{◌*◌, ◌+◌, ◌-◌, ◌/◌, ◌<◌, ◌^◌, ◌≡◌, ◌≤◌, IfNone, IfOk, IfSome, OnOk, length, slice_get, true, unwrap_or};
+ghost use Rattle.std.specs.Prelude.{◌*◌, ◌+◌, ◌-◌, ◌/◌, ◌<◌, ◌^◌, ◌≡◌, ◌↔◌, ◌≤◌, IfErr, IfOk, OnOk, false, length, slice_get, true, unwrap_or};
 ghost use Rattle.std.specs.FinMap.{get};
 ghost use Rattle.domain_base.specs.Page.{zero_bytes};
 ghost use Rattle.domain_base.specs.declared.limits.TheConstants.{FILE_BYTES};
+ghost use Rattle.page_store.specs.declared.fault.StoreFault.TheVariants.{NoPage};
 ghost use Rattle.fileset_model.specs.Apply.{written_node};
 ghost use Rattle.fileset_model.specs.Filesets.{FilesetMap};
 ghost use Rattle.fileset_model.specs.Orders.{Path};
@@ -16,7 +17,7 @@ ghost use Rattle.domain_memory.specs.Kept.{KeepsKept};
 ghost use Rattle.domain_memory.specs.Staged.{IsStagedForSome, MayGoBack, staged_books, staged_in};
 ghost use Rattle.page_stages.specs.Reading.{AreOpen, IsOpen, KeepsOpen, pages_at};
 ghost use Rattle.page_stages.specs.Stages.{HasFile, IsFileIn, StandsChanged};
-ghost use Rattle.page_stages.specs.Writing.{StaysElse, with_written};
+ghost use Rattle.page_stages.specs.Writing.{StaysElse, WantsAt, WantsPage, with_written};
 
 use crate::describing::describe;
 use crate::giving::give_page;
@@ -30,41 +31,55 @@ use domain_memory::DomainMemory;
 use page_store::StoreFault;
 use std::alloc::Global;
 
-/// How many of the pages are absent that so many bytes of a file from an offset on lie in, if each
-/// of them may be written; None where the file neither has one nor can get it now, as pages behind
-/// those that it keeps are still to be let go of. It takes no memory.
+/// What a write wants of the pages that its bytes lie in.
+#[derive(Clone, Copy)]
+pub struct PagesWanted {
+    /// How many of them the file does not have.
+    pub absent: u64,
+    /// Whether the file has or may get each of them: it cannot get one that it does not keep, as
+    /// pages behind those that it keeps are still to be let go of.
+    pub are_open: bool,
+}
+
+/// How many of the pages are absent that so many bytes of a file from an offset on lie in, and
+/// whether each of them may be written. It takes no memory.
 pub fn absent_pages(
     memory: &DomainMemory,
     number: FilesetNo,
     tag: Tag,
     offset: u64,
     len: u64,
-) -> Option<u64>
+) -> PagesWanted
     requires stands { ∥ IsStagedForSome memory.now ∥₁ }
     requires back { ∥ MayGoBack memory.now ∥₁ }
     requires original { of_original (slice_get memory.now.table.slots number) ≡ true }
     requires file { IsFileIn memory.now number tag }
     requires fits { offset + len ≤ FILE_BYTES }
-    ensures writable { IfSome result (λ count. AreOpen memory.now number tag offset len) }
     ensures count { (path : Path) (all : FilesetMap) (entry : FilesetEntry) (fileset : FilesetSlot)
         → HasFile memory.now number tag path all entry fileset
-        → IfSome result (λ count. count ≡ absent_of (pages_at fileset.tree path) offset len) }
-    ensures closed { IfNone result (¬ AreOpen memory.now number tag offset len) }
+        → result.absent ≡ absent_of (pages_at fileset.tree path) offset len }
+    ensures few { result.absent ≤ FILE_PAGES }
+    ensures opened { (result.are_open ≡ true) ↔ AreOpen memory.now number tag offset len }
+    ensures closed { result.are_open ≡ false → 1 ≤ result.absent }
 {
+    let mut absent = 0;
+    let mut are_open = true;
     if len == 0 {
-        return Some(0);
+        return PagesWanted { absent, are_open };
     }
     let first = offset / PAGE_BYTES as u64;
     let end = (offset + len - 1) / PAGE_BYTES as u64 + 1;
-    let mut absent = 0;
     for page in first..end {
         match look_at_page(memory, number, tag, page as u32) {
             FilePage::There => {}
             FilePage::Lacking => absent += 1,
-            FilePage::Closed | FilePage::NoFile => return None,
+            FilePage::Closed | FilePage::NoFile => {
+                absent += 1;
+                are_open = false;
+            }
         }
     }
-    Some(absent)
+    PagesWanted { absent, are_open }
 }
 
 /// Puts bytes on a page that a file has or may get.
@@ -89,10 +104,11 @@ fn place_page(
     ensures parents { (path : Path) (all : FilesetMap) (entry : FilesetEntry)
         (fileset : FilesetSlot) → HasFile memory.old number tag path all entry fileset
         → HaveParents (staged_in memory.old) → OnOk result (HaveParents (staged_in memory.new)) }
-    ensures open_still { (path : Path) (all : FilesetMap) (entry : FilesetEntry) (fileset : FilesetSlot)
-        → HasFile memory.old number tag path all entry fileset
+    ensures open_still { (path : Path) (all : FilesetMap) (entry : FilesetEntry)
+        (fileset : FilesetSlot) → HasFile memory.old number tag path all entry fileset
         → OnOk result (KeepsOpen number tag memory.old memory.new) }
     ensures rest { StaysElse memory.old memory.new }
+    ensures cause { IfErr result (λ fault. fault ≡ NoPage → WantsAt memory.old number tag page) }
 {
     match look_at_page(memory, number, tag, page) {
         FilePage::There => {
@@ -184,10 +200,11 @@ fn write_page(
     ensures parents { (path : Path) (all : FilesetMap) (entry : FilesetEntry)
         (fileset : FilesetSlot) → HasFile memory.old number tag path all entry fileset
         → HaveParents (staged_in memory.old) → OnOk result (HaveParents (staged_in memory.new)) }
-    ensures open_still { (path : Path) (all : FilesetMap) (entry : FilesetEntry) (fileset : FilesetSlot)
-        → HasFile memory.old number tag path all entry fileset
+    ensures open_still { (path : Path) (all : FilesetMap) (entry : FilesetEntry)
+        (fileset : FilesetSlot) → HasFile memory.old number tag path all entry fileset
         → OnOk result (KeepsOpen number tag memory.old memory.new) }
     ensures rest { StaysElse memory.old memory.new }
+    ensures cause { IfErr result (λ fault. fault ≡ NoPage → WantsAt memory.old number tag page) }
 {
     let after = page_after(memory, alloc, number, tag, offset, bytes, page)?;
     place_page(memory, alloc, number, tag, page as u32, after, prefer)
@@ -218,6 +235,8 @@ fn write_pages(
         → HaveParents (staged_in memory.old) → OnOk result (HaveParents (staged_in memory.new)) }
     ensures file { OnOk result (IsFileIn memory.new number tag) }
     ensures rest { StaysElse memory.old memory.new }
+    ensures cause { IfErr result (λ fault. fault ≡ NoPage
+        → WantsPage memory.old number tag offset bytes.now) }
 {
     if bytes.is_empty() {
         return Ok(());
@@ -233,8 +252,9 @@ fn write_pages(
 /// Writes bytes to a file of the fileset in a slot, an original, from an offset on: it reaches to
 /// the last of them then, if it did not; pages that it did not have are free ones, looked for on
 /// the preferred volume first, with zeros where no byte is written. Each page that they lie in is
-/// one that the file has or may get, as absent_pages tells. There may be no page free, or no memory.
-/// After an Err the change may be half made: it is to be taken back; what was kept stays.
+/// one that the file has or may get, as absent_pages tells. There may be no page free, which is so
+/// only where one of them is absent, or no memory. After an Err the change may be half made: it is
+/// to be taken back; what was kept stays.
 pub fn write_bytes(
     memory: &mut DomainMemory,
     alloc: Global,
@@ -260,6 +280,8 @@ pub fn write_bytes(
     ensures back { ∥ MayGoBack memory.new ∥₁ }
     ensures table { memory.new.table ≡ memory.old.table }
     ensures counted { staged_books memory.new ≡ staged_books memory.old }
+    ensures cause { IfErr result (λ fault. fault ≡ NoPage
+        → WantsPage memory.old number tag offset bytes.now) }
 {
     write_pages(memory, alloc, number, tag, offset, bytes, prefer)?;
     let what = describe(memory, number, tag);

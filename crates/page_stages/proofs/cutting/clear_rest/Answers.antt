@@ -39,3 +39,6 @@ returns-clause-ok c = λ path all entry fileset has.
     (ap (λ (b : List ℕ). with_page (size / 8192) b n.node) c.in_ok-after.ensures
     ∙ ap (λ (o : Option (List ℕ)). option_map_or (λ bytes. with_page (size / 8192) (zeros_behind size (size / 8192) bytes) n.node) o n.node) there)
     (c.put_page.ensures.stands path all entry fileset has)
+
+pub returns-clause-file : goal.returns-clause-file
+returns-clause-file c = λ path all entry fileset has. (c.put_page.ensures.open_still path all entry fileset has).file

@@ -36,3 +36,11 @@ returns-clause-parents c = λ path all entry fileset has had.
     let stood = c.in_ok-truncate.ensures.ok path all entry fileset has in
     c.clear_rest.ensures.parents path _ entry _ (has_between memory mid c.args.number c.args.tag path all entry fileset has n.node n.there (cut_to c.args.size) stood c.truncate.ensures.table)
     (c.in_ok-truncate.ensures.parents path all entry fileset has had)
+
+pub returns-clause-file : goal.returns-clause-file
+returns-clause-file c = λ path all entry fileset has.
+    let memory = c.args.memory.now in
+    let mid = c.truncate.new.memory in
+    let n = has_node memory c.args.number c.args.tag path all entry fileset has in
+    let stood = c.in_ok-truncate.ensures.ok path all entry fileset has in
+    c.clear_rest.ensures.file path _ entry _ (has_between memory mid c.args.number c.args.tag path all entry fileset has n.node n.there (cut_to c.args.size) stood c.truncate.ensures.table)

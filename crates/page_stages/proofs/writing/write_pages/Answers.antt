@@ -2,10 +2,12 @@ use Rattle.std.proofs.Common.{◌≡◌, ◌∙◌, ◌+◌, ◌-◌, ◌/◌, �
 use Rattle.std.proofs.lemmas.Bool.{cases_lt, eq-eqb, eqb-true}
 use Rattle.std.specs.List.{range_with_len}
 use Rattle.fileset_model.specs.Pages.{pages_of}
+use Rattle.page_stages.proofs.Calls.{err_and}
 use Rattle.page_stages.proofs.Laid.{pages_are, pages_have}
 use Rattle.page_stages.proofs.Steps.{WritesSoFar, none_so_far, one_more}
 use Rattle.page_stages.specs.Stages.{StandsChanged}
 use Rattle.page_stages.specs.Writing.{with_written}
+use Rattle.page_stages.proofs.Wanted.{wants_page}
 use Rattle.page_stages.proofs.writing.write_pages.Goals as goal
 
 pub returns-then-is_empty-clause-ok : goal.returns-then-is_empty-clause-ok
@@ -54,3 +56,11 @@ returns-clause-ok c = λ path all entry fileset has.
     subst (λ (qs : List ℕ). StandsChanged path (with_written qs c.args.offset bytes) all entry fileset c.loop-page.memory)
     (ap (λ n. range_with_len first n) whole ∙ sym (pages_are c.args.offset (length bytes) some))
     (c.loop-page.invariant.done path all entry fileset has)
+
+pub returns-in_err-write_page-clause-cause : goal.returns-in_err-write_page-clause-cause
+returns-in_err-write_page-clause-cause c =
+    let page = c.loop-page.page in
+    let bytes = c.args.bytes.now in
+    let some = ne-zero (length bytes) (sym c.is_empty.ensures ∙ c.if-is_empty.false) in
+    err_and (λ fault same is. wants_page c.args.memory.now c.args.number c.args.tag c.args.offset bytes page (omega (arith, c.loop-page.auto.page)) (pages_have c.args.offset (length bytes) page some c.loop-page.auto.page c.loop-page-test.true) c.loop-page.memory c.loop-page.invariant
+    (c.in_err-write_page.ensures.cause (sym same ∙ is))) c.from_residual.result c.from_residual.ensures.1
