@@ -17,3 +17,4 @@ pub mod Renamed
 pub mod Shares
 pub mod Still
 pub mod Placed
+pub mod Listed

@@ -98,7 +98,7 @@ told : (o : Option Node) (b : Bool) → option_map is_directory o ≡ Some b →
 told None b is = absurd (none_not b is)
 told (Some node) b is = some_same (is_directory node) b is
 
-told_not : (o : Option Node) (b : Bool) → option_map is_directory o ≡ Some b → option_map_or (λ node. not (is_directory node)) o false ≡ not b
+pub told_not : (o : Option Node) (b : Bool) → option_map is_directory o ≡ Some b → option_map_or (λ node. not (is_directory node)) o false ≡ not b
 told_not None b is = absurd (none_not b is)
 told_not (Some node) b is = ap not (some_same (is_directory node) b is)
 
@@ -109,7 +109,7 @@ module _ (memory : DomainMemory) (all : FilesetMap) (place : Place) (number : �
   directory_is : directory_here p.fileset place.path ≡ refuse_if (is_directory_kind of) IsDirectory
   directory_is = ap (λ b. refuse_if b IsDirectory) (told (node_at p.fileset.tree place.path) (is_directory_kind of) p.leads.kind)
 
-  in_step : out_of_sync p.fileset place.path ≡ None
+  pub in_step : out_of_sync p.fileset place.path ≡ None
   in_step =
       ap (λ (o : Option ℕ). refuse_if (option_map_or (is_out_of_sync p.fileset.role) o false) OutOfSync) p.leads.at
       ∙ ap (λ (r : Role). refuse_if (is_out_of_sync r (number_of tag)) OutOfSync) p.role
@@ -146,3 +146,14 @@ there_in memory number tag of live = λ chains are. by_option (option_and_then (
     by_option : (o : Option Attributes) → IsSomeAnd o (λ is. is.kind ≡ of) → IsSome o
     by_option None none = absurd none
     by_option (Some what) some = refl
+
+-- the same, of a kind that is told
+pub placed_as : (memory : DomainMemory) (all : FilesetMap) (place : Place) (number : ℕ) (tag : Tag) (of other : Kind) → of ≡ other → IsPlaced memory all place number tag of → IsPlaced memory all place number tag other
+placed_as memory all place number tag of other same p = record {
+  entry = p.entry;
+  fileset = p.fileset;
+  has = p.has;
+  here = p.here;
+  role = p.role;
+  leads = subst (LeadsTo place.path p.fileset tag) same p.leads;
+}

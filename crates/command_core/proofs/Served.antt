@@ -21,6 +21,8 @@ pub data Serving : Command → Type 0 where
   unlink : (place : Place) → Serving (command.Unlink place)
   rmdir : (place : Place) → Serving (command.Rmdir place)
   rename : (place : Place) (to : Path) → Serving (command.Rename place to)
+  list : (place : Place) → Serving (command.List place)
+  stat : (place : Place) → Serving (command.Stat place)
 
 pub serving : (c : Command) → IsServed c → Serving c
 serving (command.Mkfset fileset) is = Serving.mkfset fileset
@@ -39,8 +41,8 @@ serving (command.Link place to) is = Serving.link place to
 serving (command.Links place) is = Serving.links place
 serving (command.Unlink place) is = Serving.unlink place
 serving (command.Rmdir place) is = Serving.rmdir place
-serving (command.List place) is = absurd is
-serving (command.Stat place) is = absurd is
+serving (command.List place) is = Serving.list place
+serving (command.Stat place) is = Serving.stat place
 serving (command.Fsync place) is = absurd is
 serving (command.Chfile place logged) is = absurd is
 serving (command.Stripe width place) is = absurd is
@@ -69,6 +71,8 @@ clients c (Serving.links place) = refl
 clients c (Serving.unlink place) = refl
 clients c (Serving.rmdir place) = refl
 clients c (Serving.rename place to) = refl
+clients c (Serving.list place) = refl
+clients c (Serving.stat place) = refl
 
 pub served_client : (c : Command) → IsServed c → is_movers c ≡ false
 served_client c is = clients c (serving c is)

@@ -6,7 +6,7 @@ use Rattle.page_store.specs.declared.fault.StoreFault.TheVariants as fault
 use Rattle.fileset_model.specs.Apply.{refusal_of}
 use Rattle.fileset_model.specs.Filesets.{FilesetMap}
 use Rattle.fileset_model.specs.declared.command.Command.{Command}
-use Rattle.fileset_model.specs.declared.command.Command.TheVariants.{Create, Link, Mkdir, Mkfset, Rename, Rmdir, Rmfset, Setquota, Unlink, Links, Read}
+use Rattle.fileset_model.specs.declared.command.Command.TheVariants.{Create, Link, Mkdir, Mkfset, Rename, Rmdir, Rmfset, Setquota, Unlink, Links, List as ListNames, Read, Stat}
 use Rattle.fileset_model.specs.declared.reply.Refusal.{Refusal}
 use Rattle.fileset_model.specs.declared.reply.Reply.{Reply}
 use Rattle.fileset_table.specs.Table.{is_free}
@@ -54,6 +54,8 @@ IsServed (Links place) = Unit {0}
 IsServed (Unlink place) = 1 ≤ length place.path
 IsServed (Rmdir place) = 1 ≤ length place.path
 IsServed (Rename place to) = (1 ≤ length place.path) × IsNewPath to
+IsServed (ListNames place) = Unit {0}
+IsServed (Stat place) = Unit {0}
 IsServed command = ⊥
 
 -- why a command may want a page, where that is known: of mkfset, that no slot of the table is free;

@@ -11,6 +11,7 @@ mod laws;
 mod leaving;
 mod limiting;
 mod linking;
+mod listing;
 mod looking;
 mod placing;
 mod releasing;

@@ -12,6 +12,7 @@ use crate::beginning::stage_fileset;
 use crate::creating::stage_creation;
 use crate::limiting::stage_limits;
 use crate::linking::stage_link;
+use crate::listing::{stage_list, stage_stat};
 use crate::looking::{stage_links, stage_read};
 use crate::removing::stage_removal;
 use crate::renaming::stage_rename;
@@ -80,6 +81,8 @@ pub(crate) fn stage(
         Command::Rename { place, to } => {
             return stage_rename(memory, alloc, place, to, prefer);
         }
+        Command::List { place } => return stage_list(memory, alloc, place, prefer),
+        Command::Stat { place } => return stage_stat(memory, alloc, place, prefer),
         _ => unreachable!(),
     };
     (memory, answer)

@@ -33,3 +33,9 @@ returns-in-Read-clause-ends c = λ all stands. ends_same c.stage_read.result.0 _
 
 pub returns-in-Links-clause-ends : goal.returns-in-Links-clause-ends
 returns-in-Links-clause-ends c = λ all stands. ends_same c.stage_links.result.0 _ all c.args.command.now _ c.stage_links.result.1 _ refl c.in-Links.is refl (c.stage_links.ensures.ends all stands)
+
+pub returns-in-List-clause-ends : goal.returns-in-List-clause-ends
+returns-in-List-clause-ends c = λ all stands. ends_same c.stage_list.result.0 _ all c.args.command.now _ c.stage_list.result.1 _ refl c.in-List.is refl (c.stage_list.ensures.ends all stands)
+
+pub returns-in-Stat-clause-ends : goal.returns-in-Stat-clause-ends
+returns-in-Stat-clause-ends c = λ all stands. ends_same c.stage_stat.result.0 _ all c.args.command.now _ c.stage_stat.result.1 _ refl c.in-Stat.is refl (c.stage_stat.ensures.ends all stands)
