@@ -18,3 +18,6 @@ pub mod Shares
 pub mod Still
 pub mod Placed
 pub mod Listed
+pub mod Told
+pub mod Shown
+pub mod QuotaTold

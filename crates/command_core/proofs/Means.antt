@@ -76,7 +76,7 @@ module _ (d : DomainNow) (all : FilesetMap) (stand : StandSlots d all) where
 
 -- ---- no fileset is a clone
 
-abbrev nothing : FilesetSlot → Option Name
+abbrev pub nothing : FilesetSlot → Option Name
 nothing s = None
 
 none_among : (name : Name) (es : List (Name × FilesetSlot)) → list_any (λ (e : Name × Option Name). option_map_or (same_name name) e.1 false) (images name_cmp nothing es) ≡ false
@@ -92,17 +92,17 @@ no_original : (o : Option FilesetSlot) → ((s : FilesetSlot) → o ≡ Some s �
 no_original None is = refl
 no_original (Some s) is = ap (λ (r : Role). Some (original_of r)) (is s refl)
 
+pub none_original : (all : FilesetMap) → HaveNoClone all → images name_cmp (λ (s : FilesetSlot). original_of s.role) (map.entries all) ≡ images name_cmp nothing (map.entries all)
+none_original all none =
+    sym (ap (images name_cmp (λ (s : FilesetSlot). original_of s.role)) (where_all name_cmp (map.entries all)))
+    ∙ same_images name_cmp name_cmp-total name_cmp-IsAntisymmetric (λ (s : FilesetSlot). original_of s.role) nothing (λ _. true) all all (λ q _. no_original (map.get all q) (none q))
+    ∙ ap (images name_cmp nothing) (where_all name_cmp (map.entries all))
+
 pub none_cloned : (all : FilesetMap) (name : Name) → HaveNoClone all → has_clone all name ≡ false
 none_cloned all name none =
     clone_among name (map.entries all)
-    ∙ ap (list_any (λ (e : Name × Option Name). option_map_or (same_name name) e.1 false)) same
+    ∙ ap (list_any (λ (e : Name × Option Name). option_map_or (same_name name) e.1 false)) (none_original all none)
     ∙ none_among name (map.entries all)
-  where
-    same : images name_cmp (λ (s : FilesetSlot). original_of s.role) (map.entries all) ≡ images name_cmp nothing (map.entries all)
-    same =
-        sym (ap (images name_cmp (λ (s : FilesetSlot). original_of s.role)) (where_all name_cmp (map.entries all)))
-        ∙ same_images name_cmp name_cmp-total name_cmp-IsAntisymmetric (λ (s : FilesetSlot). original_of s.role) nothing (λ _. true) all all (λ q _. no_original (map.get all q) (none q))
-        ∙ ap (images name_cmp nothing) (where_all name_cmp (map.entries all))
 
 -- ---- what is refused
 

@@ -41,7 +41,7 @@ pub record HasNamed (o : Option SlotItem) (name : List ℕ) : Type 0 where
   pub has : o ≡ Some (slot.Original entry)
   pub named : entry.name ≡ name
 
-has_named : (o : Option SlotItem) (name : List ℕ) → IsSomeAnd o (λ item. has_name name item ≡ true) → of_clone o ≡ false → HasNamed o name
+pub has_named : (o : Option SlotItem) (name : List ℕ) → IsSomeAnd o (λ item. has_name name item ≡ true) → of_clone o ≡ false → HasNamed o name
 has_named None name is none = absurd is
 has_named (Some slot.Free) name is none = absurd (true≢false (sym is))
 has_named (Some (slot.Removed first_tag quota)) name is none = absurd (true≢false (sym is))

@@ -12,7 +12,9 @@ use Rattle.command_core.specs.Ending.{IsServed}
 pub data Serving : Command → Type 0 where
   mkfset : (fileset : Name) → Serving (command.Mkfset fileset)
   rmfset : (fileset : Name) → Serving (command.Rmfset fileset)
+  showfsets : Serving command.Showfsets
   setquota : (fileset : Name) (who : Owner) (files blocks : ℕ) → Serving (command.Setquota fileset who files blocks)
+  showquota : (fileset : Name) (who : Owner) → Serving (command.Showquota fileset who)
   create : (place : Place) (uid gid : ℕ) → Serving (command.Create place uid gid)
   mkdir : (place : Place) (uid gid : ℕ) → Serving (command.Mkdir place uid gid)
   read : (place : Place) (offset count : ℕ) → Serving (command.Read place offset count)
@@ -23,14 +25,17 @@ pub data Serving : Command → Type 0 where
   rename : (place : Place) (to : Path) → Serving (command.Rename place to)
   list : (place : Place) → Serving (command.List place)
   stat : (place : Place) → Serving (command.Stat place)
+  fsync : (place : Place) → Serving (command.Fsync place)
+  sync : Serving command.Sync
+  cancel : Serving command.Cancel
 
 pub serving : (c : Command) → IsServed c → Serving c
 serving (command.Mkfset fileset) is = Serving.mkfset fileset
 serving (command.Rmfset fileset) is = Serving.rmfset fileset
 serving (command.Setquota fileset who files blocks) is = Serving.setquota fileset who files blocks
 serving (command.Clonefset fileset new_name) is = absurd is
-serving command.Showfsets is = absurd is
-serving (command.Showquota fileset who) is = absurd is
+serving command.Showfsets is = Serving.showfsets
+serving (command.Showquota fileset who) is = Serving.showquota fileset who
 serving (command.Create place uid gid) is = Serving.create place uid gid
 serving (command.Mkdir place uid gid) is = Serving.mkdir place uid gid
 serving (command.Write place offset bytes) is = absurd is
@@ -43,11 +48,11 @@ serving (command.Unlink place) is = Serving.unlink place
 serving (command.Rmdir place) is = Serving.rmdir place
 serving (command.List place) is = Serving.list place
 serving (command.Stat place) is = Serving.stat place
-serving (command.Fsync place) is = absurd is
+serving (command.Fsync place) is = Serving.fsync place
 serving (command.Chfile place logged) is = absurd is
 serving (command.Stripe width place) is = absurd is
-serving command.Sync is = absurd is
-serving command.Cancel is = absurd is
+serving command.Sync is = Serving.sync
+serving command.Cancel is = Serving.cancel
 serving command.Showfdmn is = absurd is
 serving (command.Showfile place) is = absurd is
 serving (command.Migrate place first count from to) is = absurd is
@@ -62,7 +67,9 @@ serving (command.Defragment place) is = absurd is
 clients : (c : Command) → Serving c → is_movers c ≡ false
 clients c (Serving.mkfset fileset) = refl
 clients c (Serving.rmfset fileset) = refl
+clients c Serving.showfsets = refl
 clients c (Serving.setquota fileset who files blocks) = refl
+clients c (Serving.showquota fileset who) = refl
 clients c (Serving.create place uid gid) = refl
 clients c (Serving.mkdir place uid gid) = refl
 clients c (Serving.read place offset count) = refl
@@ -73,6 +80,9 @@ clients c (Serving.rmdir place) = refl
 clients c (Serving.rename place to) = refl
 clients c (Serving.list place) = refl
 clients c (Serving.stat place) = refl
+clients c (Serving.fsync place) = refl
+clients c Serving.sync = refl
+clients c Serving.cancel = refl
 
 pub served_client : (c : Command) → IsServed c → is_movers c ≡ false
 served_client c is = clients c (serving c is)

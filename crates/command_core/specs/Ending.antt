@@ -6,7 +6,7 @@ use Rattle.page_store.specs.declared.fault.StoreFault.TheVariants as fault
 use Rattle.fileset_model.specs.Apply.{refusal_of}
 use Rattle.fileset_model.specs.Filesets.{FilesetMap}
 use Rattle.fileset_model.specs.declared.command.Command.{Command}
-use Rattle.fileset_model.specs.declared.command.Command.TheVariants.{Create, Link, Mkdir, Mkfset, Rename, Rmdir, Rmfset, Setquota, Unlink, Links, List as ListNames, Read, Stat}
+use Rattle.fileset_model.specs.declared.command.Command.TheVariants.{Create, Link, Mkdir, Mkfset, Rename, Rmdir, Rmfset, Setquota, Unlink, Links, List as ListNames, Read, Showfsets, Showquota, Stat, Fsync, Sync, Cancel}
 use Rattle.fileset_model.specs.declared.reply.Refusal.{Refusal}
 use Rattle.fileset_model.specs.declared.reply.Reply.{Reply}
 use Rattle.fileset_table.specs.Table.{is_free}
@@ -45,7 +45,9 @@ EndsAs now all command (Err stop) = StopsAs all command stop
 abbrev pub IsServed : Command → Type 0
 IsServed (Mkfset fileset) = is_fileset_name fileset ≡ true
 IsServed (Rmfset fileset) = Unit {0}
+IsServed Showfsets = Unit {0}
 IsServed (Setquota fileset who files blocks) = Unit {0}
+IsServed (Showquota fileset who) = Unit {0}
 IsServed (Create place uid gid) = IsNewPath place.path
 IsServed (Mkdir place uid gid) = IsNewPath place.path
 IsServed (Read place offset count) = Unit {0}
@@ -56,6 +58,9 @@ IsServed (Rmdir place) = 1 ≤ length place.path
 IsServed (Rename place to) = (1 ≤ length place.path) × IsNewPath to
 IsServed (ListNames place) = Unit {0}
 IsServed (Stat place) = Unit {0}
+IsServed (Fsync place) = Unit {0}
+IsServed Sync = Unit {0}
+IsServed Cancel = Unit {0}
 IsServed command = ⊥
 
 -- why a command may want a page, where that is known: of mkfset, that no slot of the table is free;

@@ -27,8 +27,10 @@ pub fn is_served(command: &Command) -> bool
     match command {
         Command::Mkfset { fileset } => is_fileset_name(fileset.as_slice()),
         Command::Rmfset { .. } | Command::Setquota { .. } => true,
+        Command::Showfsets | Command::Showquota { .. } => true,
         Command::Read { .. } | Command::Links { .. } => true,
-        Command::List { .. } | Command::Stat { .. } => true,
+        Command::List { .. } | Command::Stat { .. } | Command::Fsync { .. } => true,
+        Command::Sync | Command::Cancel => true,
         Command::Create { place, .. } | Command::Mkdir { place, .. } => is_new_path(&place.path),
         Command::Link { place, to } | Command::Rename { place, to } => {
             !place.path.as_slice().is_empty() && is_new_path(to)

@@ -10,12 +10,14 @@ ghost use Rattle.command_core.specs.declared.stop.Stop.TheVariants.{NoPage};
 
 use crate::beginning::stage_fileset;
 use crate::creating::stage_creation;
+use crate::lasting::{stage_fsync, stage_nothing};
 use crate::limiting::stage_limits;
 use crate::linking::stage_link;
 use crate::listing::{stage_list, stage_stat};
 use crate::looking::{stage_links, stage_read};
 use crate::removing::stage_removal;
 use crate::renaming::stage_rename;
+use crate::showing::{stage_showfsets, stage_showquota};
 use crate::stop::Stop;
 use crate::taking::stage_taking;
 use domain_base::{Kind, VolIx};
@@ -45,6 +47,7 @@ pub(crate) fn stage(
     let answer = match command {
         Command::Mkfset { fileset } => stage_fileset(&mut memory, alloc, fileset, prefer),
         Command::Rmfset { fileset } => stage_removal(&mut memory, alloc, fileset),
+        Command::Showfsets => return stage_showfsets(memory, alloc),
         Command::Setquota {
             fileset,
             who,
@@ -56,6 +59,9 @@ pub(crate) fn stage(
                 blocks: *blocks,
             };
             stage_limits(&mut memory, alloc, fileset, *who, limits, prefer)
+        }
+        Command::Showquota { fileset, who } => {
+            return stage_showquota(memory, fileset, *who);
         }
         Command::Create { place, uid, gid } => {
             return stage_creation(memory, alloc, place, Kind::File, *uid, *gid, prefer);
@@ -83,6 +89,9 @@ pub(crate) fn stage(
         }
         Command::List { place } => return stage_list(memory, alloc, place, prefer),
         Command::Stat { place } => return stage_stat(memory, alloc, place, prefer),
+        Command::Fsync { place } => return stage_fsync(memory, place, prefer),
+        Command::Sync => return stage_nothing(memory),
+        Command::Cancel => return stage_nothing(memory),
         _ => unreachable!(),
     };
     (memory, answer)

@@ -39,3 +39,18 @@ returns-in-List-clause-ends c = λ all stands. ends_same c.stage_list.result.0 _
 
 pub returns-in-Stat-clause-ends : goal.returns-in-Stat-clause-ends
 returns-in-Stat-clause-ends c = λ all stands. ends_same c.stage_stat.result.0 _ all c.args.command.now _ c.stage_stat.result.1 _ refl c.in-Stat.is refl (c.stage_stat.ensures.ends all stands)
+
+pub returns-in-Showfsets-clause-ends : goal.returns-in-Showfsets-clause-ends
+returns-in-Showfsets-clause-ends c = λ all stands. ends_same c.stage_showfsets.result.0 _ all c.args.command.now _ c.stage_showfsets.result.1 _ refl c.in-Showfsets.is refl (c.stage_showfsets.ensures.ends all stands)
+
+pub returns-in-Showquota-clause-ends : goal.returns-in-Showquota-clause-ends
+returns-in-Showquota-clause-ends c = λ all stands. ends_same c.stage_showquota.result.0 _ all c.args.command.now _ c.stage_showquota.result.1 _ refl c.in-Showquota.is refl (c.stage_showquota.ensures.ends all stands)
+
+pub returns-in-Fsync-clause-ends : goal.returns-in-Fsync-clause-ends
+returns-in-Fsync-clause-ends c = λ all stands. ends_same c.stage_fsync.result.0 _ all c.args.command.now _ c.stage_fsync.result.1 _ refl c.in-Fsync.is refl (c.stage_fsync.ensures.ends all stands)
+
+pub returns-in-Sync-clause-ends : goal.returns-in-Sync-clause-ends
+returns-in-Sync-clause-ends c = λ all stands. ends_same c.stage_nothing.result.0 _ all c.args.command.now _ c.stage_nothing.result.1 _ refl c.in-Sync.is refl (c.stage_nothing.ensures.sync all stands)
+
+pub returns-in-Cancel-clause-ends : goal.returns-in-Cancel-clause-ends
+returns-in-Cancel-clause-ends c = λ all stands. ends_same c.stage_nothing-in-Cancel.result.0 _ all c.args.command.now _ c.stage_nothing-in-Cancel.result.1 _ refl c.in-Cancel.is refl (c.stage_nothing-in-Cancel.ensures.cancel all stands)

@@ -1,0 +1,48 @@
+-- What an owner uses, told of an original.
+use Rattle.std.proofs.Common.{◌≡◌, ◌∙◌, ℕ, List, Option, Some, None, IsSomeAnd, slice_get, unwrap_or, sym, ap, subst}
+use Rattle.std.specs.FinMap as map
+use Rattle.std.specs.Option.{option_map_or}
+use Rattle.fileset_model.specs.Apply.{answer_of, quota_of, refusal_of}
+use Rattle.fileset_model.specs.Fileset.{Fileset}
+use Rattle.fileset_model.specs.Filesets.{FilesetMap}
+use Rattle.fileset_model.specs.Orders.{Name, owner_cmp}
+use Rattle.fileset_model.specs.Usage.{limits_of}
+use Rattle.fileset_model.specs.declared.command.Command.TheVariants.{Showquota}
+use Rattle.fileset_model.specs.declared.command.Owner.{Owner}
+use Rattle.fileset_model.specs.declared.fileset.FilesetSlot.{FilesetSlot}
+use Rattle.fileset_model.specs.declared.fileset.Limits.{Limits}
+use Rattle.fileset_model.specs.declared.fileset.Usage.{Usage}
+use Rattle.fileset_model.specs.declared.reply.Reply.TheVariants.{Done, Quota}
+use Rattle.quota_book.specs.Book.{Book, limits_in, used}
+use Rattle.quota_book.specs.Sums.{IsBookOf}
+use Rattle.domain_memory.specs.Memory.{StandsFor}
+use Rattle.domain_memory.specs.Staged.{IsSettled, staged_books, staged_in}
+use Rattle.domain_memory.specs.declared.memory.DomainMemory.{DomainMemory}
+use Rattle.domain_memory.proofs.SettledKept.{settled_kept}
+use Rattle.command_core.specs.Placing.{RepliesAs}
+use Rattle.command_core.proofs.Limits.{allows_limits}
+use Rattle.command_core.proofs.Means.{there}
+use Rattle.command_core.proofs.Removal.{HasNamed}
+
+-- what a book says of an owner
+of_book : (book : Book) (tree : Fileset) (who : Owner) → IsBookOf book tree → Quota (used book who).files (limits_in book who).files (used book who).blocks (limits_in book who).blocks ≡ quota_of tree who
+of_book book tree who is =
+    let limits : limits_in book who ≡ limits_of tree who = ap (λ (m : map.FinMap owner_cmp Limits). unwrap_or (map.get m who) (record { files = 0; blocks = 0 })) is.limits in
+    λ i. Quota (is.files who i) (limits i).files (is.blocks who i) (limits i).blocks
+
+book_there : (book : Book) (o : Option FilesetSlot) (fileset : FilesetSlot) → o ≡ Some fileset → IsSomeAnd o (λ f. IsBookOf book f.tree) → IsBookOf book fileset.tree
+book_there book o fileset is holds = subst (λ (x : Option FilesetSlot). IsSomeAnd x (λ f. IsBookOf book f.tree)) is holds
+
+pub quota_told : (memory : DomainMemory) (number : ℕ) (name : Name) (h : HasNamed (slice_get memory.table.slots number) name) → IsSettled memory → (who : Owner) (usage : Usage) (limits : Limits)
+    → usage ≡ used (staged_books memory number) who → limits ≡ limits_in (staged_books memory number) who → (all : FilesetMap) → StandsFor memory all
+    → (refusal_of all (Showquota name who) ≡ None) × (Quota usage.files limits.files usage.blocks limits.blocks ≡ answer_of all (Showquota name who))
+quota_told memory number name h settled who usage limits is bound all stands =
+    let kept = settled_kept memory all settled stands in
+    let fileset = there (staged_in memory) all kept.staged.stands.slots number h.entry h.has in
+    let of = book_there (staged_books memory number) (map.get all h.entry.name) fileset.0 fileset.1 (kept.books number h.entry h.has) in (
+      allows_limits memory number name who 0 0 h settled all stands,
+      (λ i. Quota (is i).files (bound i).files (is i).blocks (bound i).blocks)
+          ∙ of_book (staged_books memory number) fileset.0.tree who of
+          ∙ sym (ap (λ (o : Option FilesetSlot). option_map_or (λ (s : FilesetSlot). quota_of s.tree who) o Done) fileset.1)
+          ∙ ap (λ (n : Name). answer_of all (Showquota n who)) h.named,
+    )

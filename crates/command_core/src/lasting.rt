@@ -1,0 +1,55 @@
+//! Commands that ask that something lasts, or that the mover's job stops (fsync, sync, cancel).
+ghost use Rattle.std.specs.Prelude.{◌≡◌, IfErr};
+ghost use Rattle.fileset_model.specs.Filesets.{FilesetMap};
+ghost use Rattle.fileset_model.specs.declared.command.Command.TheVariants.{Cancel, Fsync, Sync};
+ghost use Rattle.domain_memory.specs.Kept.{KeepsKept};
+ghost use Rattle.domain_memory.specs.Memory.{StandsFor};
+ghost use Rattle.domain_memory.specs.Staged.{IsSettled, MayGoBack};
+ghost use Rattle.domain_state.specs.History.{StandsForSome};
+ghost use Rattle.command_core.specs.Ending.{EndsAs, LacksPage};
+ghost use Rattle.command_core.specs.declared.stop.Stop.TheVariants.{NoPage};
+
+use crate::placing::find_place;
+use crate::stop::Stop;
+use domain_base::VolIx;
+use domain_memory::DomainMemory;
+use fileset_model::{Place, Reply};
+
+/// Asks that a file or directory lasts: it is refused as the rules of filesets say, in their order.
+/// Memory stays as it is, and nothing is written yet.
+pub(crate) fn stage_fsync(
+    memory: DomainMemory,
+    place: &Place,
+    prefer: VolIx,
+) -> (DomainMemory, Result<Reply, Stop>)
+    requires settled { IsSettled memory }
+    requires stands { ∥ StandsForSome memory ∥₁ }
+    requires back { ∥ MayGoBack memory ∥₁ }
+    ensures ends { (all : FilesetMap) → StandsFor memory all
+        → EndsAs result.0 all (Fsync place.now) result.1 }
+    ensures kept { ∥ KeepsKept memory result.0 ∥₁ }
+    ensures back { ∥ MayGoBack result.0 ∥₁ }
+    ensures cause { IfErr result.1 (λ stop. stop ≡ NoPage → LacksPage (Fsync place.now) memory) }
+{
+    let (memory, found) = find_place(memory, place, prefer);
+    let answer = match found {
+        Ok(_) => Ok(Reply::Done),
+        Err(stop) => Err(stop),
+    };
+    (memory, answer)
+}
+
+/// Answers a command that nothing refuses and that changes nothing: sync, of which nothing is written
+/// yet, and cancel, which the mover's job sees in the history. Memory stays as it is.
+pub(crate) fn stage_nothing(memory: DomainMemory) -> (DomainMemory, Result<Reply, Stop>)
+    requires settled { IsSettled memory }
+    requires back { ∥ MayGoBack memory ∥₁ }
+    ensures sync { (all : FilesetMap) → StandsFor memory all → EndsAs result.0 all Sync result.1 }
+    ensures cancel { (all : FilesetMap) → StandsFor memory all
+        → EndsAs result.0 all Cancel result.1 }
+    ensures kept { ∥ KeepsKept memory result.0 ∥₁ }
+    ensures back { ∥ MayGoBack result.0 ∥₁ }
+    ensures cause { IfErr result.1 (λ stop. ¬ stop ≡ NoPage) }
+{
+    (memory, Ok(Reply::Done))
+}
