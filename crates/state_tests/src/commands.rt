@@ -23,9 +23,19 @@ fn made_and_told(alloc: Global, rows: &[Row]) -> Result<Vec<u8>, Fail> {
     }
 }
 
-static NAMES: [Row; 14] = [
+static NAMES: [Row; 53] = [
     ("create home:/a 10 20", "E1 no-fileset"),
+    ("list home:/", "E1 no-fileset"),
+    ("stat home:/", "E1 no-fileset"),
+    ("fsync home:/a", "E1 no-fileset"),
+    ("showfsets", "ok"),
+    ("sync", "ok"),
+    ("cancel", "ok"),
     ("mkfset home", "ok"),
+    ("showfsets", "ok home"),
+    ("list home:/", "ok"),
+    ("stat home:/", "ok dir 0 0 0"),
+    ("fsync home:/", "ok"),
     ("mkdir home:/d 10 20", "ok"),
     ("create home:/d/a 10 20", "ok"),
     ("create home:/d/a 10 20", "E4 exists"),
@@ -36,15 +46,48 @@ static NAMES: [Row; 14] = [
     ("link home:/d/a /b", "E4 exists"),
     ("link home:/d /c", "E6 is-directory"),
     ("link home:/c /e", "E3 no-path"),
+    ("mkdir home:/a 11 21", "ok"),
+    ("list home:/", "ok a/ b d/"),
+    ("list home:/d", "ok a"),
+    ("list home:/a", "ok"),
+    ("list home:/b", "E5 not-directory"),
+    ("list home:/c", "E3 no-path"),
+    ("list home:/b/x", "E5 not-directory"),
+    ("stat home:/", "ok dir 0 0 3"),
+    ("stat home:/d", "ok dir 10 20 1"),
+    ("stat home:/a", "ok dir 11 21 0"),
+    ("stat home:/b", "ok file 10 20 0 0 -"),
+    ("stat home:/d/a", "ok file 10 20 0 0 -"),
+    ("stat home:/c", "E3 no-path"),
+    ("stat home:/b/x", "E5 not-directory"),
+    ("fsync home:/d", "ok"),
+    ("fsync home:/b", "ok"),
+    ("fsync home:/c", "E3 no-path"),
+    ("fsync home:/b/x", "E5 not-directory"),
+    ("sync", "ok"),
+    ("cancel", "ok"),
+    ("mkfset a.b", "ok"),
+    ("mkfset a", "ok"),
+    ("mkfset Z", "ok"),
+    ("mkfset -x", "ok"),
+    ("showfsets", "ok -x Z a a.b home"),
     ("rmfset home", "ok"),
+    ("showfsets", "ok -x Z a a.b"),
+    ("mkfset 0", "ok"),
+    ("showfsets", "ok -x 0 Z a a.b"),
     ("mkdir home:/e 10 20", "E1 no-fileset"),
+    ("list home:/d", "E1 no-fileset"),
 ];
 
-static QUOTAS: [Row; 16] = [
+static QUOTAS: [Row; 27] = [
+    ("showquota home user 10", "E1 no-fileset"),
     ("mkfset home", "ok"),
+    ("showquota home fileset 0", "ok files 0 0 blocks 0 0"),
     ("mkdir home:/d 10 20", "ok"),
     ("create home:/d/a 10 20", "ok"),
     ("setquota home user 10 3 0", "ok"),
+    ("showquota home user 10", "ok files 2 3 blocks 0 0"),
+    ("showquota home group 20", "ok files 2 0 blocks 0 0"),
     ("create home:/c 10 20", "ok"),
     ("create home:/e 10 20", "E11 quota-files limit=3 used=3"),
     ("mkdir home:/e 10 20", "E11 quota-files limit=3 used=3"),
@@ -57,9 +100,16 @@ static QUOTAS: [Row; 16] = [
     ("mkdir home:/g 11 21", "ok"),
     ("setquota home fileset 0 6 0", "ok"),
     ("create home:/h 30 31", "E11 quota-files limit=6 used=6"),
+    ("setquota home user 10 0 64", "ok"),
+    ("showquota home user 10", "ok files 4 0 blocks 0 64"),
+    ("showquota home user 11", "ok files 2 0 blocks 0 0"),
+    ("showquota home group 20", "ok files 5 5 blocks 0 0"),
+    ("showquota home group 21", "ok files 1 0 blocks 0 0"),
+    ("showquota home fileset 0", "ok files 6 6 blocks 0 0"),
+    ("showquota home user 12", "ok files 0 0 blocks 0 0"),
 ];
 
-static MOVES: [Row; 43] = [
+static MOVES: [Row; 47] = [
     ("mkfset home", "ok"),
     ("create home:/a 10 20", "ok"),
     ("link home:/a /b", "ok"),
@@ -81,9 +131,13 @@ static MOVES: [Row; 43] = [
     ("rmdir home:/d", "E7 not-empty"),
     ("rename home:/d /d/f", "E13 into-itself"),
     ("rename home:/d /g", "ok"),
+    ("list home:/", "ok b g/"),
+    ("stat home:/g/e", "ok file 11 21 0 0 -"),
     ("links home:/g/e", "ok 1"),
     ("links home:/d/e", "E3 no-path"),
     ("rename home:/g/e /b", "ok"),
+    ("stat home:/b", "ok file 11 21 0 0 -"),
+    ("list home:/g", "ok"),
     ("links home:/b", "ok 1"),
     ("links home:/g/e", "E3 no-path"),
     ("rmdir home:/g", "ok"),
@@ -105,7 +159,7 @@ static MOVES: [Row; 43] = [
     ("unlink home:/b", "E3 no-path"),
 ];
 
-static SHARES: [Row; 17] = [
+static SHARES: [Row; 20] = [
     ("mkfset home", "ok"),
     ("setquota home user 10 2 0", "ok"),
     ("create home:/a 10 20", "ok"),
@@ -123,6 +177,9 @@ static SHARES: [Row; 17] = [
     ("rmdir home:/f", "ok"),
     ("create home:/g 10 20", "ok"),
     ("create home:/h 10 20", "E11 quota-files limit=2 used=2"),
+    ("showquota home user 10", "ok files 2 2 blocks 0 0"),
+    ("showquota home user 11", "ok files 1 0 blocks 0 0"),
+    ("list home:/", "ok b d g"),
 ];
 
 #[test]
