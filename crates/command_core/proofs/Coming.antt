@@ -55,12 +55,12 @@ none_striped all = same_set numbered_cmp-total numbers_are (still_striped all em
 
 -- ---- the step
 
-looks_itself : (s : State) → LooksLikeState s s
+pub looks_itself : (s : State) → LooksLikeState s s
 looks_itself s = record { filesets = λ name. there_itself (get s.filesets name); rest = refl }
 
 module _ (start : State) (entries : List Entry) (job : Option Command) (e : Entry) (all now : FilesetMap) (next : ComesNext entries e) (unstriped : start.striped ≡ empty) (point : Point) (comes : ComesTo start entries job point)
     (same : point.state ≡ record start { filesets = all }) where
-  follows : MayFollow point e
+  pub follows : MayFollow point e
   follows = record {
     stamp = subst (λ h. All (λ before. before.stamp ≤ e.stamp) h) (sym comes.answered) next.stamp;
     panicked = λ volume there. absurd (next.calm volume (subst (λ h. Contains (map (λ (before : Entry). before.reply) h) (Refused (Panicked volume))) comes.answered there));

@@ -80,7 +80,7 @@ unfolding IsDistinct
 rest_own x xs own = own.1
 
 -- where the first slot has no fileset, the others name all
-rest_name : (x : SlotItem) (xs : List SlotItem) (all : FilesetMap) → ((entry : FilesetEntry) → ¬ x ≡ slot.Original entry) → NamesAll (x ∷ xs) all → NamesAll xs all
+pub rest_name : (x : SlotItem) (xs : List SlotItem) (all : FilesetMap) → ((entry : FilesetEntry) → ¬ x ≡ slot.Original entry) → NamesAll (x ∷ xs) all → NamesAll xs all
 rest_name x xs all none names = record {
   own = rest_own x xs names.own;
   originals = λ n. names.originals (suc n);
@@ -96,7 +96,7 @@ rest_name x xs all none names = record {
         by_number (suc n) at = record { number = n; entry = h.entry; has = at; named = h.named }
 
 -- where it has one, they name all but that
-rest_names : (entry : FilesetEntry) (xs : List SlotItem) (all : FilesetMap) → NamesAll (slot.Original entry ∷ xs) all → NamesAll xs (map.remove all entry.name)
+pub rest_names : (entry : FilesetEntry) (xs : List SlotItem) (all : FilesetMap) → NamesAll (slot.Original entry ∷ xs) all → NamesAll xs (map.remove all entry.name)
 rest_names entry xs all names = record {
   own = rest_own (slot.Original entry) xs names.own;
   originals = λ n. names.originals (suc n);
@@ -158,13 +158,16 @@ module _ (d : DomainNow) (all : FilesetMap) (stands : StandsDomain d all) where
       by_shape None none fills = absurd (no_value FilesetSlot (subst IsSome fills is))
       by_shape (Some shape) has fills = of_found name (slots.are.only name (is_there (slots.shapes name) shape has))
 
-  pub filesets_counted : map.len all ≡ count_by is_fileset d.table.slots
-  filesets_counted = counted d.table.slots all (record {
+  pub names_all : NamesAll d.table.slots all
+  names_all = record {
     own = own_names d stands.tables;
     originals = slots.no_clone;
     each = λ number entry has. let at = there d all slots number entry has in is_there (map.get all entry.name) at.0 at.1;
     only = only;
-  })
+  }
+
+  pub filesets_counted : map.len all ≡ count_by is_fileset d.table.slots
+  filesets_counted = counted d.table.slots all names_all
 
   -- 16 are all that there may be
   pub is_full : (name : Name) → list_any (has_name name) d.table.slots ≡ false → 16 ≤ count_by is_fileset d.table.slots → refusal_of all (Mkfset name) ≡ Some FilesetsFull

@@ -21,3 +21,5 @@ pub mod Listed
 pub mod Told
 pub mod Shown
 pub mod QuotaTold
+pub mod Present
+pub mod Wanted

@@ -1,15 +1,20 @@
 -- An entry of a client's that comes next.
-use Rattle.std.specs.Prelude.{◌≡◌, ◌≤◌, ◌++◌, ◌∷◌, ℕ, false, List, [], All}
-use Rattle.fileset_model.specs.Apply.{AnswersIfMemory}
+use Rattle.std.specs.Prelude.{◌≡◌, ◌≤◌, ◌⊎◌, None, ◌++◌, ◌∷◌, ℕ, false, List, [], All}
+use Rattle.fileset_model.specs.Apply.{AnswersIfMemory, refusal_of}
 use Rattle.fileset_model.specs.Filesets.{FilesetMap}
 use Rattle.fileset_model.specs.declared.command.Actor.TheVariants.{Client}
 use Rattle.fileset_model.specs.declared.command.Command.{Command}
 use Rattle.fileset_model.specs.declared.entry.Entry.{Entry}
+use Rattle.fileset_model.specs.declared.reply.Refusal.TheVariants.{NoSpace}
 use Rattle.fileset_model.specs.declared.reply.Reply.{Reply}
+use Rattle.fileset_model.specs.declared.reply.Reply.TheVariants.{Refused}
+use Rattle.history_model.specs.Room.{need}
+use Rattle.history_model.specs.Step.{TakesSpace}
 use Rattle.history_model.specs.VolumeReply.{is_movers}
 use Rattle.domain_memory.specs.Memory.{StandsFor}
 use Rattle.domain_memory.specs.Staged.{IsSettled, MayBeKept}
 use Rattle.domain_memory.specs.declared.memory.DomainMemory.{DomainMemory}
+use Rattle.command_core.specs.Wanting.{IsShort, free_in}
 use Rattle.domain_state.specs.History.{NonePanicked}
 
 -- an entry of a client's may come after these: none has a greater stamp, and none panicked
@@ -32,7 +37,7 @@ pub record IsAnswered (memory : DomainMemory) (all : FilesetMap) (command : Comm
 
 -- a domain's history has one entry more, of a client's with this command; the domain stands for
 -- what its reply means
-pub record AddsOne (client : ℕ) (command : Command) (old new : DomainMemory)
+pub record AddsAnswer (client : ℕ) (command : Command) (old new : DomainMemory)
     (before after : List Entry) : Type 0 where
   pub reply : Reply
   pub stamp : ℕ
@@ -44,6 +49,29 @@ pub record AddsOne (client : ℕ) (command : Command) (old new : DomainMemory)
   } ∷ []
   pub means : (all : FilesetMap) → StandsFor old all
       → (now : FilesetMap) × AnswersIfMemory all command reply now × StandsFor new now
+
+-- it has one of this command that was answered no-space, with the pages that are free now and those
+-- that the command may need; it takes space and no rule refuses it, but the domain is short of
+-- pages, and stands for what it stood for
+pub record AddsNoSpace (client : ℕ) (command : Command) (old new : DomainMemory)
+    (before after : List Entry) : Type 0 where
+  pub stamp : ℕ
+  pub adds : after ≡ before ++ record {
+    actor = Client client;
+    command = command;
+    reply = Refused (NoSpace (free_in new) (need command));
+    stamp = stamp;
+  } ∷ []
+  pub short : IsShort new command
+  pub takes : (all : FilesetMap) → StandsFor old all → TakesSpace all command
+  pub allowed : (all : FilesetMap) → StandsFor old all → refusal_of all command ≡ None
+  pub stands : (all : FilesetMap) → StandsFor old all → StandsFor new all
+
+-- one of the two
+abbrev pub AddsOne : ℕ → Command → DomainMemory → DomainMemory → List Entry → List Entry → Type 0
+AddsOne client command old new before after =
+    AddsAnswer client command old new before after
+    ⊎ AddsNoSpace client command old new before after
 
 -- a domain's history has no entry more, and it stands for what it stood for, with no change over it
 pub record AddsNone (old new : DomainMemory) (before after : List Entry) : Type 0 where

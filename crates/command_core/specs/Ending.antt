@@ -6,11 +6,13 @@ use Rattle.page_store.specs.declared.fault.StoreFault.TheVariants as fault
 use Rattle.fileset_model.specs.Apply.{refusal_of}
 use Rattle.fileset_model.specs.Filesets.{FilesetMap}
 use Rattle.fileset_model.specs.declared.command.Command.{Command}
-use Rattle.fileset_model.specs.declared.command.Command.TheVariants.{Create, Link, Mkdir, Mkfset, Rename, Rmdir, Rmfset, Setquota, Unlink, Links, List as ListNames, Read, Showfsets, Showquota, Stat, Fsync, Sync, Cancel}
+use Rattle.fileset_model.specs.declared.command.Command.TheVariants.{Create, Link, Mkdir, Mkfset, Rename, Rmdir, Rmfset, Setquota, Unlink, Links, List as ListNames, Read, Showfsets, Showquota, Stat, Fsync, Sync, Cancel, Write}
 use Rattle.fileset_model.specs.declared.reply.Refusal.{Refusal}
 use Rattle.fileset_model.specs.declared.reply.Reply.{Reply}
 use Rattle.fileset_table.specs.Table.{is_free}
 use Rattle.word_forms.specs.Forms.{is_fileset_name}
+use Rattle.history_model.specs.Step.{TakesSpace}
+use Rattle.domain_memory.specs.Memory.{StandsFor}
 use Rattle.domain_memory.specs.declared.memory.DomainMemory.{DomainMemory}
 use Rattle.domain_stages.specs.Beginning.{BeginsNone}
 use Rattle.domain_stages.specs.Limits.{LimitsNone}
@@ -65,13 +67,16 @@ IsServed command = ⊥
 
 -- why a command may want a page, where that is known: of mkfset, that no slot of the table is free;
 -- or no page, or one alone and no cell; of setquota, that no cell is free, and no page; rmfset,
--- unlink and rmdir never do. Of other commands on names nothing is said yet
+-- unlink and rmdir never do; of write, that a page is absent that its bytes lie in. Of other
+-- commands on names nothing is said yet
 abbrev pub LacksPage : Command → DomainMemory → Type 0
 LacksPage (Mkfset fileset) memory = (list_any is_free memory.table.slots ≡ false)
     ⊎ BeginsNone memory.space memory.cells fault.NoPage
 LacksPage (Rmfset fileset) memory = ⊥
 LacksPage (Setquota fileset who files blocks) memory =
     LimitsNone memory.space memory.cells fault.NoPage
+LacksPage (Write place offset bytes) memory =
+    (all : FilesetMap) → StandsFor memory all → TakesSpace all (Write place offset bytes)
 LacksPage (Unlink place) memory = ⊥
 LacksPage (Rmdir place) memory = ⊥
 LacksPage command memory = Unit {0}

@@ -3,3 +3,4 @@ pub mod Ending
 pub mod Naming
 pub mod Leaving
 pub mod Placing
+pub mod Wanting

@@ -1,12 +1,12 @@
 //! What a client is answered, with the change that is laid over a domain.
-ghost use Rattle.std.specs.Prelude.{◌≡◌, ◌⊎◌, ◌≤◌, ◌+◌, false, Err, IfErr, IfOk, Some};
+ghost use Rattle.std.specs.Prelude.{◌≡◌, ◌≢◌, ◌⊎◌, ◌≤◌, ◌+◌, false, Err, Some};
 ghost use Rattle.fileset_model.specs.Apply.{refusal_of};
 ghost use Rattle.fileset_model.specs.Filesets.{FilesetMap};
 ghost use Rattle.fileset_model.specs.declared.reply.Refusal.TheVariants.{OutOfMemory};
 ghost use Rattle.history_model.specs.VolumeReply.{is_movers};
 ghost use Rattle.domain_memory.specs.Memory.{StandsFor};
 ghost use Rattle.domain_memory.specs.Staged.{IsSettled};
-ghost use Rattle.command_core.specs.Coming.{AddsNone, AddsOne, IsAnswered};
+ghost use Rattle.command_core.specs.Coming.{AddsNone, AddsAnswer, IsAnswered};
 ghost use Rattle.command_core.specs.Ending.{EndsAs};
 ghost use Rattle.command_core.specs.declared.stop.Stop.TheVariants.{NoPage};
 
@@ -28,7 +28,7 @@ fn add_answer<R: Rack, O: Opening>(
     requires clients { is_movers command ≡ false }
     requires answered { (all : FilesetMap) → StandsFor domain.memory all
         → IsAnswered domain.memory all command reply }
-    ensures adds { AddsOne client command domain.memory result.memory
+    ensures adds { AddsAnswer client command domain.memory result.memory
         (⟦<Domain<R, O> as Told>⟧.history domain) (⟦<Domain<R, O> as Told>⟧.history result) }
     ensures settled { IsSettled result.memory }
     ensures begun { ⟦<Domain<R, O> as Told>⟧.begun result ≡ ⟦<Domain<R, O> as Told>⟧.begun domain }
@@ -49,7 +49,7 @@ fn add_answer<R: Rack, O: Opening>(
 }
 
 /// Takes the change back that is laid over a domain.
-fn take_back<R: Rack, O: Opening>(domain: Domain<R, O>) -> Domain<R, O>
+pub(crate) fn take_back<R: Rack, O: Opening>(domain: Domain<R, O>) -> Domain<R, O>
     ensures none { AddsNone domain.memory result.memory
         (⟦<Domain<R, O> as Told>⟧.history domain) (⟦<Domain<R, O> as Told>⟧.history result) }
     ensures was { (all : FilesetMap) → StandsFor result.memory all
@@ -68,7 +68,7 @@ fn take_back<R: Rack, O: Opening>(domain: Domain<R, O>) -> Domain<R, O>
 
 /// Takes the change back that is laid over a domain, and adds a client's command to its history with
 /// a refusal: that of the rules of filesets, or out-of-memory.
-fn add_refusal<R: Rack, O: Opening>(
+pub(crate) fn add_refusal<R: Rack, O: Opening>(
     domain: Domain<R, O>,
     client: u8,
     command: Command,
@@ -79,7 +79,7 @@ fn add_refusal<R: Rack, O: Opening>(
     requires clients { is_movers command ≡ false }
     requires refused { (all : FilesetMap) → StandsFor domain.memory all
         → (refusal_of all command ≡ Some refusal) ⊎ (refusal ≡ OutOfMemory) }
-    ensures adds { AddsOne client command domain.memory result.memory
+    ensures adds { AddsAnswer client command domain.memory result.memory
         (⟦<Domain<R, O> as Told>⟧.history domain) (⟦<Domain<R, O> as Told>⟧.history result) }
     ensures settled { IsSettled result.memory }
     ensures begun { ⟦<Domain<R, O> as Told>⟧.begun result ≡ ⟦<Domain<R, O> as Told>⟧.begun domain }
@@ -91,49 +91,39 @@ fn add_refusal<R: Rack, O: Opening>(
     add_answer(take_back(domain), client, command, Reply::Refused(refusal))
 }
 
-/// Ends a client's command with the change that is laid over a domain: adds it to the history with
-/// its answer, or with no change where it is refused or memory was short. Where a page is wanted
-/// nothing is added, and the change is taken back.
+/// Ends a client's command that found the pages that it needs, with the change that is laid over a
+/// domain: adds it to the history with its answer, or with no change where it is refused or memory
+/// was short.
 pub(crate) fn answer<R: Rack, O: Opening>(
     domain: Domain<R, O>,
     client: u8,
     command: Command,
     staged: Result<Reply, Stop>,
-) -> Result<Domain<R, O>, Domain<R, O>>
+) -> Domain<R, O>
     requires first { ⟦<Domain<R, O> as Told>⟧.rests domain }
     requires room { 1 ≤ ⟦<Domain<R, O> as Told>⟧.room domain }
     requires clients { is_movers command ≡ false }
+    requires found { staged ≢ Err NoPage }
     requires ends { (all : FilesetMap) → StandsFor domain.memory all
         → EndsAs domain.memory all command staged }
-    ensures adds { IfOk result (λ now. AddsOne client command domain.memory now.memory
-        (⟦<Domain<R, O> as Told>⟧.history domain) (⟦<Domain<R, O> as Told>⟧.history now)) }
-    ensures settled { IfOk result (λ now. IsSettled now.memory) }
-    ensures begun { IfOk result (λ now. ⟦<Domain<R, O> as Told>⟧.begun now
-        ≡ ⟦<Domain<R, O> as Told>⟧.begun domain) }
-    ensures room { IfOk result (λ now. ⟦<Domain<R, O> as Told>⟧.room domain
-        ≤ ⟦<Domain<R, O> as Told>⟧.room now + 1) }
-    ensures rack { IfOk result (λ now. now.history.rack ≡ domain.history.rack) }
-    ensures durable { IfOk result (λ now. now.history.durable ≡ domain.history.durable) }
-    ensures rests { IfErr result ⟦<Domain<R, O> as Told>⟧.rests }
-    ensures begun_none { IfErr result (λ now. ⟦<Domain<R, O> as Told>⟧.begun now
-        ≡ ⟦<Domain<R, O> as Told>⟧.begun domain) }
-    ensures room_none { IfErr result (λ now. ⟦<Domain<R, O> as Told>⟧.room now
-        ≡ ⟦<Domain<R, O> as Told>⟧.room domain) }
-    ensures rack_none { IfErr result (λ now. now.history.rack ≡ domain.history.rack) }
-    ensures durable_none { IfErr result (λ now. now.history.durable ≡ domain.history.durable) }
-    ensures none { IfErr result (λ now. AddsNone domain.memory now.memory
-        (⟦<Domain<R, O> as Told>⟧.history domain) (⟦<Domain<R, O> as Told>⟧.history now)) }
-    ensures cause { IfErr result (λ now. staged ≡ Err NoPage) }
+    ensures adds { AddsAnswer client command domain.memory result.memory
+        (⟦<Domain<R, O> as Told>⟧.history domain) (⟦<Domain<R, O> as Told>⟧.history result) }
+    ensures settled { IsSettled result.memory }
+    ensures begun { ⟦<Domain<R, O> as Told>⟧.begun result ≡ ⟦<Domain<R, O> as Told>⟧.begun domain }
+    ensures room { ⟦<Domain<R, O> as Told>⟧.room domain
+        ≤ ⟦<Domain<R, O> as Told>⟧.room result + 1 }
+    ensures rack { result.history.rack ≡ domain.history.rack }
+    ensures durable { result.history.durable ≡ domain.history.durable }
 {
     match staged {
-        Ok(reply) => Ok(add_answer(domain, client, command, reply)),
+        Ok(reply) => add_answer(domain, client, command, reply),
         Err(stop) => match stop {
-            Stop::Refused(refusal) => Ok(add_refusal(domain, client, command, refusal)),
-            Stop::NoPage => Err(take_back(domain)),
+            Stop::Refused(refusal) => add_refusal(domain, client, command, refusal),
             Stop::OutOfMemory => {
                 let short = Refusal::OutOfMemory;
-                Ok(add_refusal(domain, client, command, short))
+                add_refusal(domain, client, command, short)
             }
+            Stop::NoPage => unreachable!(),
         },
     }
 }

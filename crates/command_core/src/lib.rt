@@ -18,11 +18,13 @@ mod placing;
 mod releasing;
 mod removing;
 mod renaming;
+mod room;
 mod serving;
 mod showing;
 mod staging;
 mod stop;
 mod taking;
+mod wanting;
 
 pub use commands::command;
 pub use laws::{

@@ -24,7 +24,7 @@ fn answered_with<R: Rack + Drop, O: Opening>(
     ensures rests { ⟦<Domain<R, O> as Told>⟧.rests result }
     ensures settled { IsSettled result.memory }
 {
-    let (Ok(mut domain) | Err(mut domain)) = command(domain, alloc, 1, asked, prefer);
+    let mut domain = command(domain, alloc, 1, asked, prefer);
     domain.end_event();
     domain
 }

@@ -1,4 +1,4 @@
-use Rattle.std.proofs.Common.{Result, inl, subst}
+use Rattle.std.proofs.Common.{◌∙◌, Result, Err, ap, inl, subst}
 use Rattle.fileset_model.specs.declared.reply.Reply.{Reply}
 use Rattle.command_core.specs.Ending.{EndsAs, StopsAs}
 use Rattle.command_core.specs.declared.stop.Stop.{Stop}
@@ -10,3 +10,6 @@ add_answer-requires-clause-answered g c = λ all stands. subst (λ (r : Result R
 pub add_refusal-requires-clause-refused : goal.add_refusal-requires-clause-refused
 add_refusal-requires-clause-refused g c = λ all stands.
     inl (subst (λ (s : Stop). StopsAs all c.args.command s) c.in-Refused.is (subst (λ (r : Result Reply Stop). EndsAs c.args.domain.memory all c.args.command r) c.in-Err.is (c.requires.ends all stands)))
+
+pub unreachable-requires : goal.unreachable-requires
+unreachable-requires g c = c.requires.found (c.in-Err.is ∙ ap Err c.in-NoPage.is)

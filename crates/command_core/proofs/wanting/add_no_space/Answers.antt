@@ -1,0 +1,47 @@
+use Rattle.std.proofs.Common.{◌≡◌, ◌∙◌, ◌++◌, ◌∷◌, ◌<◌, [], ℕ, refl, sym, ap, subst}
+use Rattle.fileset_model.specs.declared.command.Actor.TheVariants.{Client}
+use Rattle.fileset_model.specs.declared.entry.Entry.{Entry}
+use Rattle.fileset_model.specs.declared.reply.Refusal.TheVariants.{NoSpace}
+use Rattle.fileset_model.specs.declared.reply.Reply.TheVariants.{Refused}
+use Rattle.history_model.specs.Room.{need}
+use Rattle.domain_memory.specs.Memory.{StandsFor}
+use Rattle.domain_memory.specs.declared.memory.DomainMemory.{DomainMemory}
+use Rattle.command_core.specs.Wanting.{IsShort, MayLackPages, free_in}
+use Rattle.command_core.proofs.Wanted.{goes_unchanged, no_movers, taking}
+use Rattle.command_core.proofs.wanting.add_no_space.Goals as goal
+
+pub commit_unchanged-requires-clause-step : goal.commit_unchanged-requires-clause-step
+commit_unchanged-requires-clause-step g c = λ all stands.
+    let o = g.O.Opening in
+    let it = c.args.domain in
+    let want = c.args.want in
+    let e : Entry = record { actor = Client c.args.client; command = c.args.command; reply = Refused (NoSpace want.free want.need); stamp = c.calls-stamp.result } in
+    let kind = taking c.args.command c.requires.may in
+    goes_unchanged o.pages o.frame o.sizes it.history.entries.items it.history.job e all
+    (record { stamp = c.calls-stamp.ensures.stamps c.requires.first; calm = it.history.calm; client = c.args.client; actor = refl; command = no_movers c.args.command kind })
+    want.free (ap (λ n. Refused (NoSpace want.free n)) c.requires.need) (subst (λ n. want.free < n) c.requires.need c.requires.few) (c.requires.takes all stands) (c.requires.allowed all stands) kind
+    (subst (λ n. MayLackPages o.pages o.frame o.sizes it.history.entries.items it.history.job all n) c.requires.need (c.requires.lacks all stands))
+
+pub commit_unchanged-requires-clause-calm : goal.commit_unchanged-requires-clause-calm
+commit_unchanged-requires-clause-calm g c = λ volume is. absurd (cc)
+
+pub returns-clause-adds : goal.returns-clause-adds
+returns-clause-adds g c =
+    let it = c.args.domain in
+    let want = c.args.want in
+    let new = c.commit_unchanged.new.self.memory in
+    let same : new ≡ it.memory = c.commit_unchanged.ensures.memory in
+    let free : want.free ≡ free_in new = c.requires.free ∙ ap free_in (sym same) in
+    let entry : ℕ → ℕ → Entry = λ n m. record { actor = Client c.args.client; command = c.args.command; reply = Refused (NoSpace n m); stamp = c.calls-stamp.result } in
+    record {
+      stamp = c.calls-stamp.result;
+      adds = c.commit_unchanged.ensures.history ∙ (λ i. it.history.entries.items ++ entry (free i) (c.requires.need i) ∷ []);
+      short = subst (λ (m : DomainMemory). IsShort m c.args.command) (sym same) (record {
+        few = subst (λ n. free_in it.memory < n) c.requires.need (subst (λ n. n < want.need) c.requires.free c.requires.few);
+        none_waits = c.requires.waits;
+        none_goes = c.requires.goes;
+      });
+      takes = c.requires.takes;
+      allowed = c.requires.allowed;
+      stands = λ all stood. subst (λ (m : DomainMemory). StandsFor m all) (sym same) stood;
+    }

@@ -1,0 +1,46 @@
+use Rattle.std.proofs.Common.{◌≡◌, ◌∙◌, IfErr, ap, subst}
+use Rattle.std.proofs.Math.Logic.{∥∥₁_map}
+use Rattle.domain_memory.proofs.KeptStands.{stands_so}
+use Rattle.domain_memory.specs.Memory.{StandsFor}
+use Rattle.domain_memory.specs.declared.memory.DomainMemory.{DomainMemory}
+use Rattle.domain_state.proofs.Resting.{rests_kept}
+use Rattle.page_ways.specs.Frame.{frame_in}
+use Rattle.command_core.specs.Ending.{LacksPage}
+use Rattle.command_core.specs.declared.stop.Stop.TheVariants.{NoPage}
+use Rattle.command_core.proofs.KeptAtHand.{kept_at_hand}
+use Rattle.command_core.proofs.Laid.{ends_laid, laid_stands, was_stands}
+use Rattle.command_core.proofs.wanting.lay.Goals as goal
+
+pub stage-memory-requires-clause-stands : goal.stage-memory-requires-clause-stands
+stage-memory-requires-clause-stands g c = ∥∥₁_map c.apart-memory.ensures.stands (λ goes. (goes.all, goes.stands))
+
+pub together-requires-clause-rest : goal.together-requires-clause-rest
+together-requires-clause-rest g c =
+    rests_kept (g.R.Rack.disk c.apart-memory.result.1.rack) c.apart-memory.result.0 c.stage-memory.result.0 (kept_at_hand c.apart-memory.result.0 c.stage-memory.result.0 c.stage-memory.ensures.kept) c.apart-memory.ensures.rest
+
+pub together-requires-clause-stands : goal.together-requires-clause-stands
+together-requires-clause-stands g c =
+    let kept = kept_at_hand c.apart-memory.result.0 c.stage-memory.result.0 c.stage-memory.ensures.kept in
+    ∥∥₁_map c.apart-memory.ensures.stands (λ goes. record {
+      same = ap frame_in kept.frame ∙ goes.same;
+      all = goes.all;
+      stands = stands_so c.apart-memory.result.0 c.stage-memory.result.0 kept goes.all goes.stands;
+      leads = goes.leads;
+    })
+
+pub returns-clause-ends : goal.returns-clause-ends
+returns-clause-ends g c =
+    ends_laid c.args.domain.memory c.apart-memory.result.0 c.stage-memory.result.0 c.together.result.memory c.apart-memory.ensures.memory (kept_at_hand c.apart-memory.result.0 c.stage-memory.result.0 c.stage-memory.ensures.kept) c.together.ensures.memory
+    c.args.command.now c.stage-memory.result.1 c.stage-memory.ensures.ends
+
+pub returns-clause-stands : goal.returns-clause-stands
+returns-clause-stands g c =
+    laid_stands c.args.domain.memory c.apart-memory.result.0 c.stage-memory.result.0 c.together.result.memory c.apart-memory.ensures.memory (kept_at_hand c.apart-memory.result.0 c.stage-memory.result.0 c.stage-memory.ensures.kept) c.together.ensures.memory
+
+pub returns-clause-stood : goal.returns-clause-stood
+returns-clause-stood g c = λ all stands.
+    subst (λ (m : DomainMemory). StandsFor m all) c.apart-memory.ensures.memory
+    (was_stands c.args.domain.memory c.apart-memory.result.0 c.stage-memory.result.0 c.together.result.memory c.apart-memory.ensures.memory (kept_at_hand c.apart-memory.result.0 c.stage-memory.result.0 c.stage-memory.ensures.kept) c.together.ensures.memory all stands)
+
+pub returns-clause-cause : goal.returns-clause-cause
+returns-clause-cause g c = subst (λ (m : DomainMemory). IfErr c.stage-memory.result.1 (λ stop. stop ≡ NoPage → LacksPage c.args.command.now m)) c.apart-memory.ensures.memory c.stage-memory.ensures.cause

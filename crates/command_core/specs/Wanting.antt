@@ -1,0 +1,56 @@
+-- Want of pages.
+use Rattle.std.specs.Prelude.{◌≡◌, ◌<◌, ◌/◌, ℕ, List, Option, if◌then◌else◌, slice_get, sum_by}
+use Rattle.page_store.specs.Pages.{Pages}
+use Rattle.domain_base.specs.Limits.{blocks_per_page}
+use Rattle.free_space.specs.Spaces.{free_pages}
+use Rattle.quota_book.specs.Book.{used}
+use Rattle.fileset_model.specs.Filesets.{FilesetMap}
+use Rattle.fileset_model.specs.declared.command.Command.{Command}
+use Rattle.fileset_model.specs.declared.command.Command.TheVariants.{Create, Link, Mkdir, Mkfset, Rename, Setquota, Write}
+use Rattle.fileset_model.specs.declared.command.Owner.TheVariants.{Fileset}
+use Rattle.fileset_model.specs.declared.entry.Entry.{Entry}
+use Rattle.history_model.specs.Point.{Point, Tight}
+use Rattle.history_model.specs.Room.{need}
+use Rattle.history_model.specs.State.{State}
+use Rattle.history_laws.specs.GoingOn.{ComesTo}
+use Rattle.domain_layout.specs.CellRules.{of_original}
+use Rattle.domain_layout.specs.Reached.{Frame}
+use Rattle.domain_memory.specs.Staged.{staged_books}
+use Rattle.domain_memory.specs.declared.memory.DomainMemory.{DomainMemory}
+use Rattle.domain_stages.specs.LettingGo.{MayLetGo, NoneWaits}
+use Rattle.domain_state.specs.Opening.{IsStartOf}
+
+-- the commands that may be answered no-space, of those that are answered here
+abbrev pub MayTake : Command → Type 0
+MayTake (Mkfset fileset) = Unit {0}
+MayTake (Setquota fileset who files blocks) = Unit {0}
+MayTake (Create place uid gid) = Unit {0}
+MayTake (Mkdir place uid gid) = Unit {0}
+MayTake (Write place offset bytes) = Unit {0}
+MayTake (Rename place to) = Unit {0}
+MayTake (Link place to) = Unit {0}
+MayTake command = ⊥
+
+-- how many pages are free, on all volumes that are open
+abbrev pub free_in : DomainMemory → ℕ
+free_in memory = sum_by free_pages memory.space.volumes
+
+-- how many pages the files of the fileset in a slot have, as its book says
+abbrev pub pages_at : DomainMemory → ℕ → ℕ
+pages_at memory number = if of_original (slice_get memory.table.slots number)
+    then (used (staged_books memory number) Fileset).blocks / blocks_per_page else 0
+
+-- fewer pages are free than a command may need, no page waits, and nothing on the list may be let go
+-- of
+pub record IsShort (memory : DomainMemory) (command : Command) : Type 0 where
+  pub few : free_in memory < need command
+  pub none_waits : NoneWaits memory.space
+  pub none_goes : ¬ MayLetGo memory
+
+-- wherever this history may have come with these filesets, from a state that the pages at the
+-- opening mean, the open members have fewer pages than may be needed, and so many more
+abbrev pub MayLackPages : Pages → Frame → List ℕ → List Entry → Option Command → FilesetMap → ℕ
+    → Type 0
+MayLackPages pages frame sizes history job all more = (start : State)
+    → IsStartOf pages frame sizes start → (point : Point) → ComesTo start history job point
+    → point.state ≡ record start { filesets = all } → Tight point point.state more

@@ -1,0 +1,346 @@
+//! A command that finds no page: the domain is drained, and it is laid over it once more.
+ghost use Rattle.std.specs.Prelude.{◌≡◌, ◌≢◌, ◌+◌, ◌<◌, ◌≤◌, false, true, Err, IfErr, IfSome, None};
+ghost use Rattle.fileset_model.specs.Apply.{refusal_of};
+ghost use Rattle.fileset_model.specs.Filesets.{FilesetMap};
+ghost use Rattle.history_model.specs.Room.{need};
+ghost use Rattle.history_model.specs.Step.{TakesSpace};
+ghost use Rattle.history_model.specs.VolumeReply.{is_movers};
+ghost use Rattle.domain_memory.specs.Memory.{StandsFor};
+ghost use Rattle.domain_memory.specs.Staged.{IsSettled};
+ghost use Rattle.domain_stages.specs.LettingGo.{MayLetGo, NoneWaits};
+ghost use Rattle.domain_state.specs.History.{StandsForSome};
+ghost use Rattle.command_core.specs.Coming.{AddsAnswer, AddsNoSpace, AddsOne};
+ghost use Rattle.command_core.specs.Ending.{EndsAs, IsServed, LacksPage};
+ghost use Rattle.command_core.specs.Wanting.{MayLackPages, MayTake, free_in};
+ghost use Rattle.command_core.specs.declared.stop.Stop.TheVariants.{NoPage};
+
+use crate::answering::{add_refusal, answer, take_back};
+use crate::releasing::{drain, release};
+use crate::room::{may_lack, may_take, need_of};
+use crate::staging::stage;
+use crate::stop::Stop;
+use domain_base::VolIx;
+use domain_memory::DomainMemory;
+use domain_stages::may_let_go;
+use domain_state::{Domain, Opening};
+use fileset_model::{Actor, Command, Entry, Refusal, Reply, Told};
+use std::alloc::Global;
+use volume_disk::Rack;
+
+/// Lays a client's command over a domain.
+pub(crate) fn lay<R: Rack, O: Opening>(
+    domain: Domain<R, O>,
+    alloc: Global,
+    command: &Command,
+    prefer: VolIx,
+) -> (Domain<R, O>, Result<Reply, Stop>)
+    requires settled { IsSettled domain.memory }
+    requires served { IsServed command.now }
+    ensures ends { (all : FilesetMap) → StandsFor result.0.memory all
+        → EndsAs result.0.memory all command.now result.1 }
+    ensures stands { (all : FilesetMap) → StandsFor domain.memory all
+        → StandsFor result.0.memory all }
+    ensures stood { (all : FilesetMap) → StandsFor result.0.memory all
+        → StandsFor domain.memory all }
+    ensures history { result.0.history ≡ domain.history }
+    ensures cause { IfErr result.1 (λ stop. stop ≡ NoPage
+        → LacksPage command.now domain.memory) }
+{
+    let (memory, history) = domain.apart();
+    let (memory, staged) = stage(memory, alloc, command, prefer);
+    (Domain::together(memory, history), staged)
+}
+
+/// Whether a command that was laid over a domain found no page.
+pub(crate) fn wants_page(staged: &Result<Reply, Stop>) -> bool
+    ensures wants { result ≡ true → staged.now ≡ Err NoPage }
+    ensures found { result ≡ false → staged.now ≢ Err NoPage }
+{
+    matches!(staged, Err(Stop::NoPage))
+}
+
+/// Whether a command changes nothing in any fileset, whatever it is answered.
+fn only_looks(command: &Command) -> bool {
+    matches!(
+        command,
+        Command::Showfsets
+            | Command::Showquota { .. }
+            | Command::Read { .. }
+            | Command::Links { .. }
+            | Command::List { .. }
+            | Command::Stat { .. }
+            | Command::Fsync { .. }
+            | Command::Sync
+            | Command::Cancel
+    )
+}
+
+/// Lets go of some of the things on a domain's list, unless a command only looked at filesets. Where
+/// memory is short nothing is let go of.
+fn release_unless<R: Rack, O: Opening>(
+    domain: Domain<R, O>,
+    alloc: Global,
+    looks: bool,
+) -> Domain<R, O>
+    requires settled { IsSettled domain.memory }
+    ensures stands { (all : FilesetMap) → StandsFor domain.memory all
+        → StandsFor result.memory all }
+    ensures settled { IsSettled result.memory }
+    ensures history { result.history ≡ domain.history }
+{
+    if looks {
+        domain
+    } else {
+        let (domain, _) = release(domain, alloc);
+        domain
+    }
+}
+
+/// Ends a command that found the pages that it needs, and lets go of something on the list of the
+/// domain behind one that changes filesets.
+pub(crate) fn answer_found<R: Rack, O: Opening>(
+    domain: Domain<R, O>,
+    alloc: Global,
+    client: u8,
+    command: Command,
+    staged: Result<Reply, Stop>,
+) -> Domain<R, O>
+    requires first { ⟦<Domain<R, O> as Told>⟧.rests domain }
+    requires room { 1 ≤ ⟦<Domain<R, O> as Told>⟧.room domain }
+    requires clients { is_movers command ≡ false }
+    requires found { staged ≢ Err NoPage }
+    requires ends { (all : FilesetMap) → StandsFor domain.memory all
+        → EndsAs domain.memory all command staged }
+    ensures adds { AddsAnswer client command domain.memory result.memory
+        (⟦<Domain<R, O> as Told>⟧.history domain) (⟦<Domain<R, O> as Told>⟧.history result) }
+    ensures settled { IsSettled result.memory }
+    ensures begun { ⟦<Domain<R, O> as Told>⟧.begun result ≡ ⟦<Domain<R, O> as Told>⟧.begun domain }
+    ensures room { ⟦<Domain<R, O> as Told>⟧.room domain
+        ≤ ⟦<Domain<R, O> as Told>⟧.room result + 1 }
+    ensures rack { result.history.rack ≡ domain.history.rack }
+    ensures durable { result.history.durable ≡ domain.history.durable }
+{
+    let looks = only_looks(&command);
+    let domain = answer(domain, client, command, staged);
+    release_unless(domain, alloc, looks)
+}
+
+/// Pages that are free, and those that a command may need.
+#[derive(Clone, Copy)]
+struct Want {
+    free: u64,
+    need: u64,
+}
+
+/// Whether no page of any volume waits.
+fn none_waits(memory: &DomainMemory) -> bool
+    ensures { result ≡ true → NoneWaits memory.now.space }
+{
+    memory.space.waiting() == 0
+}
+
+/// Whether fewer pages are free than are needed, no page of a domain waits, and nothing on its list
+/// may be let go of.
+fn is_short(memory: &DomainMemory, want: Want) -> bool
+    requires settled { IsSettled memory.now }
+    requires stands { ∥ StandsForSome memory.now ∥₁ }
+    ensures few { result ≡ true → want.free < want.need }
+    ensures waits { result ≡ true → NoneWaits memory.now.space }
+    ensures goes { result ≡ true → ¬ MayLetGo memory.now }
+{
+    want.free < want.need && none_waits(memory) && !may_let_go(memory)
+}
+
+/// Whether a command that wants a page in vain may be answered no-space: it takes space, the domain
+/// is short of pages, and wherever its history has come its open members may have too few.
+fn may_refuse<R: Rack, O: Opening>(domain: &Domain<R, O>, command: &Command, want: Want) -> bool
+    requires settled { IsSettled domain.now.memory }
+    ensures few { result ≡ true → want.free < want.need }
+    ensures waits { result ≡ true → NoneWaits domain.now.memory.space }
+    ensures goes { result ≡ true → ¬ MayLetGo domain.now.memory }
+    ensures takes { result ≡ true → MayTake command.now }
+    ensures lacks { result ≡ true → (all : FilesetMap) → StandsFor domain.now.memory all
+        → MayLackPages O.pages O.frame O.sizes (⟦<Domain<R, O> as Told>⟧.history domain.now)
+        (⟦<Domain<R, O> as Told>⟧.begun domain.now) all want.need }
+{
+    may_take(command) && is_short(domain.memory(), want) && may_lack(domain, want.need)
+}
+
+/// The pages that are free in a domain, and those that a command may need; None where these pass
+/// what a number of 64 bits counts.
+fn want_of(memory: &DomainMemory, command: &Command) -> Option<Want>
+    ensures free { IfSome result (λ want. want.free ≡ free_in memory.now) }
+    ensures need { IfSome result (λ want. want.need ≡ need command.now) }
+{
+    let need = need_of(command)?;
+    let free = u64::from(memory.space.free_now());
+    Some(Want { free, need })
+}
+
+/// Adds a client's command to a domain's history that is answered no-space.
+fn add_no_space<R: Rack, O: Opening>(
+    domain: Domain<R, O>,
+    client: u8,
+    command: Command,
+    want: Want,
+) -> Domain<R, O>
+    requires first { ⟦<Domain<R, O> as Told>⟧.rests domain }
+    requires room { 1 ≤ ⟦<Domain<R, O> as Told>⟧.room domain }
+    requires free { want.free ≡ free_in domain.memory }
+    requires need { want.need ≡ need command }
+    requires few { want.free < want.need }
+    requires waits { NoneWaits domain.memory.space }
+    requires goes { ¬ MayLetGo domain.memory }
+    requires may { MayTake command }
+    requires lacks { (all : FilesetMap) → StandsFor domain.memory all
+        → MayLackPages O.pages O.frame O.sizes (⟦<Domain<R, O> as Told>⟧.history domain)
+        (⟦<Domain<R, O> as Told>⟧.begun domain) all want.need }
+    requires takes { (all : FilesetMap) → StandsFor domain.memory all → TakesSpace all command }
+    requires allowed { (all : FilesetMap) → StandsFor domain.memory all
+        → refusal_of all command ≡ None }
+    ensures adds { AddsNoSpace client command domain.memory result.memory
+        (⟦<Domain<R, O> as Told>⟧.history domain) (⟦<Domain<R, O> as Told>⟧.history result) }
+    ensures memory { result.memory ≡ domain.memory }
+    ensures begun { ⟦<Domain<R, O> as Told>⟧.begun result ≡ ⟦<Domain<R, O> as Told>⟧.begun domain }
+    ensures room { ⟦<Domain<R, O> as Told>⟧.room domain
+        ≤ ⟦<Domain<R, O> as Told>⟧.room result + 1 }
+    ensures rack { result.history.rack ≡ domain.history.rack }
+    ensures durable { result.history.durable ≡ domain.history.durable }
+{
+    let stamp = domain.calls();
+    let mut domain = domain;
+    domain.commit_unchanged(Entry {
+        actor: Actor::Client(client),
+        command,
+        reply: Reply::Refused(Refusal::NoSpace {
+            free: want.free,
+            need: want.need,
+        }),
+        stamp,
+    });
+    domain
+}
+
+/// Ends a client's command that no rule refuses, and that found no page in a domain that was
+/// drained: no-space, or out-of-memory where it may not be answered so.
+fn refuse_want<R: Rack, O: Opening>(
+    domain: Domain<R, O>,
+    client: u8,
+    command: Command,
+    want: Want,
+) -> Domain<R, O>
+    requires first { ⟦<Domain<R, O> as Told>⟧.rests domain }
+    requires room { 1 ≤ ⟦<Domain<R, O> as Told>⟧.room domain }
+    requires settled { IsSettled domain.memory }
+    requires clients { is_movers command ≡ false }
+    requires free { want.free ≡ free_in domain.memory }
+    requires need { want.need ≡ need command }
+    requires takes { MayTake command → (all : FilesetMap) → StandsFor domain.memory all
+        → TakesSpace all command }
+    requires allowed { (all : FilesetMap) → StandsFor domain.memory all
+        → refusal_of all command ≡ None }
+    ensures adds { AddsOne client command domain.memory result.memory
+        (⟦<Domain<R, O> as Told>⟧.history domain) (⟦<Domain<R, O> as Told>⟧.history result) }
+    ensures settled { IsSettled result.memory }
+    ensures begun { ⟦<Domain<R, O> as Told>⟧.begun result ≡ ⟦<Domain<R, O> as Told>⟧.begun domain }
+    ensures room { ⟦<Domain<R, O> as Told>⟧.room domain
+        ≤ ⟦<Domain<R, O> as Told>⟧.room result + 1 }
+    ensures rack { result.history.rack ≡ domain.history.rack }
+    ensures durable { result.history.durable ≡ domain.history.durable }
+{
+    let is_refused = may_refuse(&domain, &command, want);
+    if is_refused {
+        add_no_space(domain, client, command, want)
+    } else {
+        add_refusal(domain, client, command, Refusal::OutOfMemory)
+    }
+}
+
+/// The same, where what is wanted is still to be counted.
+fn refuse_for_want<R: Rack, O: Opening>(
+    domain: Domain<R, O>,
+    client: u8,
+    command: Command,
+) -> Domain<R, O>
+    requires first { ⟦<Domain<R, O> as Told>⟧.rests domain }
+    requires room { 1 ≤ ⟦<Domain<R, O> as Told>⟧.room domain }
+    requires settled { IsSettled domain.memory }
+    requires clients { is_movers command ≡ false }
+    requires takes { MayTake command → (all : FilesetMap) → StandsFor domain.memory all
+        → TakesSpace all command }
+    requires allowed { (all : FilesetMap) → StandsFor domain.memory all
+        → refusal_of all command ≡ None }
+    ensures adds { AddsOne client command domain.memory result.memory
+        (⟦<Domain<R, O> as Told>⟧.history domain) (⟦<Domain<R, O> as Told>⟧.history result) }
+    ensures settled { IsSettled result.memory }
+    ensures begun { ⟦<Domain<R, O> as Told>⟧.begun result ≡ ⟦<Domain<R, O> as Told>⟧.begun domain }
+    ensures room { ⟦<Domain<R, O> as Told>⟧.room domain
+        ≤ ⟦<Domain<R, O> as Told>⟧.room result + 1 }
+    ensures rack { result.history.rack ≡ domain.history.rack }
+    ensures durable { result.history.durable ≡ domain.history.durable }
+{
+    let want = want_of(domain.memory(), &command);
+    match want {
+        Some(want) => refuse_want(domain, client, command, want),
+        None => add_refusal(domain, client, command, Refusal::OutOfMemory),
+    }
+}
+
+/// Lays a client's command over a domain that was drained, and ends it.
+fn answer_last<R: Rack, O: Opening>(
+    domain: Domain<R, O>,
+    alloc: Global,
+    client: u8,
+    command: Command,
+    prefer: VolIx,
+) -> Domain<R, O>
+    requires first { ⟦<Domain<R, O> as Told>⟧.rests domain }
+    requires room { 1 ≤ ⟦<Domain<R, O> as Told>⟧.room domain }
+    requires settled { IsSettled domain.memory }
+    requires served { IsServed command }
+    ensures adds { AddsOne client command domain.memory result.memory
+        (⟦<Domain<R, O> as Told>⟧.history domain) (⟦<Domain<R, O> as Told>⟧.history result) }
+    ensures settled { IsSettled result.memory }
+    ensures begun { ⟦<Domain<R, O> as Told>⟧.begun result ≡ ⟦<Domain<R, O> as Told>⟧.begun domain }
+    ensures room { ⟦<Domain<R, O> as Told>⟧.room domain
+        ≤ ⟦<Domain<R, O> as Told>⟧.room result + 1 }
+    ensures rack { result.history.rack ≡ domain.history.rack }
+    ensures durable { result.history.durable ≡ domain.history.durable }
+{
+    let (domain, staged) = lay(domain, alloc, &command, prefer);
+    if wants_page(&staged) {
+        refuse_for_want(take_back(domain), client, command)
+    } else {
+        answer_found(domain, alloc, client, command, staged)
+    }
+}
+
+/// Lays a client's command once more over a domain, behind a first time that found no page: drained
+/// before, so that no page waits, and ends it. Where memory is short for that it is out-of-memory.
+pub(crate) fn answer_drained<R: Rack, O: Opening>(
+    domain: Domain<R, O>,
+    alloc: Global,
+    client: u8,
+    command: Command,
+    prefer: VolIx,
+) -> Domain<R, O>
+    requires first { ⟦<Domain<R, O> as Told>⟧.rests domain }
+    requires room { 1 ≤ ⟦<Domain<R, O> as Told>⟧.room domain }
+    requires settled { IsSettled domain.memory }
+    requires served { IsServed command }
+    ensures adds { AddsOne client command domain.memory result.memory
+        (⟦<Domain<R, O> as Told>⟧.history domain) (⟦<Domain<R, O> as Told>⟧.history result) }
+    ensures settled { IsSettled result.memory }
+    ensures begun { ⟦<Domain<R, O> as Told>⟧.begun result ≡ ⟦<Domain<R, O> as Told>⟧.begun domain }
+    ensures room { ⟦<Domain<R, O> as Told>⟧.room domain
+        ≤ ⟦<Domain<R, O> as Told>⟧.room result + 1 }
+    ensures rack { result.history.rack ≡ domain.history.rack }
+    ensures durable { result.history.durable ≡ domain.history.durable }
+{
+    let (domain, drained) = drain(domain, alloc);
+    if drained.is_err() {
+        add_refusal(domain, client, command, Refusal::OutOfMemory)
+    } else {
+        answer_last(domain, alloc, client, command, prefer)
+    }
+}
