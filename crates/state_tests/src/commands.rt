@@ -11,9 +11,9 @@ use std::marker::Brand;
 use std::test::Fail;
 use volume_disk::Rack;
 
-/// The history of a domain that is made on a rack of one volume.
-fn made_and_told(alloc: Global, rows: &[Row]) -> Result<Vec<u8>, Fail> {
-    let rack = MemoryRack::new(alloc, &[512], &[], false)?;
+/// The history of a domain that is made on a rack of one volume of so many pages.
+fn made_and_told(alloc: Global, pages: u32, rows: &[Row]) -> Result<Vec<u8>, Fail> {
+    let rack = MemoryRack::new(alloc, &[pages], &[], false)?;
     if rack.volumes() != 1 {
         return Err(Fail::from("one volume"));
     }
@@ -182,10 +182,73 @@ static SHARES: [Row; 20] = [
     ("list home:/", "ok b d g"),
 ];
 
+static SHORT: [Row; 60] = [
+    ("mkfset home", "ok"),
+    ("mkdir home:/d0 0 0", "ok"),
+    ("create home:/d0/a 0 0", "ok"),
+    ("mkdir home:/d1 0 0", "ok"),
+    ("create home:/d1/a 0 0", "ok"),
+    ("mkdir home:/d2 0 0", "ok"),
+    ("create home:/d2/a 0 0", "ok"),
+    ("mkdir home:/d3 0 0", "ok"),
+    ("create home:/d3/a 0 0", "ok"),
+    ("mkdir home:/d4 0 0", "ok"),
+    ("create home:/d4/a 0 0", "ok"),
+    ("mkdir home:/d5 0 0", "ok"),
+    ("create home:/d5/a 0 0", "ok"),
+    ("mkdir home:/d6 0 0", "ok"),
+    ("create home:/d6/a 0 0", "ok"),
+    ("mkdir home:/d7 0 0", "ok"),
+    ("create home:/d7/a 0 0", "ok"),
+    ("mkdir home:/d8 0 0", "ok"),
+    ("create home:/d8/a 0 0", "ok"),
+    ("mkdir home:/d9 0 0", "ok"),
+    ("create home:/d9/a 0 0", "ok"),
+    ("mkdir home:/d10 0 0", "ok"),
+    ("create home:/d10/a 0 0", "ok"),
+    ("mkdir home:/d11 0 0", "ok"),
+    ("create home:/d11/a 0 0", "ok"),
+    ("mkdir home:/d12 0 0", "ok"),
+    ("create home:/d12/a 0 0", "ok"),
+    ("mkdir home:/d13 0 0", "ok"),
+    ("create home:/d13/a 0 0", "ok"),
+    ("mkdir home:/d14 0 0", "ok"),
+    ("create home:/d14/a 0 0", "ok"),
+    ("mkdir home:/d15 0 0", "ok"),
+    ("create home:/d15/a 0 0", "ok"),
+    ("mkdir home:/d16 0 0", "ok"),
+    ("create home:/d16/a 0 0", "ok"),
+    ("mkdir home:/d17 0 0", "ok"),
+    ("create home:/d17/a 0 0", "ok"),
+    ("mkdir home:/d18 0 0", "ok"),
+    ("create home:/d18/a 0 0", "ok"),
+    ("mkdir home:/d19 0 0", "ok"),
+    ("create home:/d19/a 0 0", "ok"),
+    ("mkdir home:/d20 0 0", "ok"),
+    ("create home:/d20/a 0 0", "ok"),
+    ("mkdir home:/d21 0 0", "ok"),
+    ("create home:/d21/a 0 0", "ok"),
+    ("mkdir home:/d22 0 0", "ok"),
+    ("create home:/d22/a 0 0", "ok"),
+    ("mkdir home:/d23 0 0", "ok"),
+    ("create home:/d23/a 0 0", "ok"),
+    ("mkdir home:/e 0 0", "ok"),
+    ("create home:/e/a 0 0", "E20 no-space free=0 need=16"),
+    ("create home:/e/a 0 0", "E20 no-space free=0 need=16"),
+    ("create home:/x/a 0 0", "E3 no-path"),
+    ("links home:/e/a", "E3 no-path"),
+    ("unlink home:/d0/a", "ok"),
+    ("rmdir home:/d0", "ok"),
+    ("create home:/e/a 0 0", "ok"),
+    ("links home:/e/a", "ok 1"),
+    ("mkdir home:/f 0 0", "ok"),
+    ("create home:/f/a 0 0", "E20 no-space free=0 need=16"),
+];
+
 #[test]
 fn files_and_directories_are_made_and_linked(rt: HostRuntime) -> Result<(), Fail> {
     let alloc = rt.alloc();
-    let found = made_and_told(alloc, &NAMES)?;
+    let found = made_and_told(alloc, 512, &NAMES)?;
     assert_eq!(rt; found.as_slice(), wanted(alloc, &NAMES)?.as_slice());
     Ok(())
 }
@@ -193,7 +256,7 @@ fn files_and_directories_are_made_and_linked(rt: HostRuntime) -> Result<(), Fail
 #[test]
 fn quotas_refuse_files_of_owners(rt: HostRuntime) -> Result<(), Fail> {
     let alloc = rt.alloc();
-    let found = made_and_told(alloc, &QUOTAS)?;
+    let found = made_and_told(alloc, 512, &QUOTAS)?;
     assert_eq!(rt; found.as_slice(), wanted(alloc, &QUOTAS)?.as_slice());
     Ok(())
 }
@@ -201,7 +264,7 @@ fn quotas_refuse_files_of_owners(rt: HostRuntime) -> Result<(), Fail> {
 #[test]
 fn files_and_directories_are_moved_and_taken_away(rt: HostRuntime) -> Result<(), Fail> {
     let alloc = rt.alloc();
-    let found = made_and_told(alloc, &MOVES)?;
+    let found = made_and_told(alloc, 512, &MOVES)?;
     assert_eq!(rt; found.as_slice(), wanted(alloc, &MOVES)?.as_slice());
     Ok(())
 }
@@ -209,7 +272,15 @@ fn files_and_directories_are_moved_and_taken_away(rt: HostRuntime) -> Result<(),
 #[test]
 fn what_is_taken_away_counts_for_its_owner_no_more(rt: HostRuntime) -> Result<(), Fail> {
     let alloc = rt.alloc();
-    let found = made_and_told(alloc, &SHARES)?;
+    let found = made_and_told(alloc, 512, &SHARES)?;
     assert_eq!(rt; found.as_slice(), wanted(alloc, &SHARES)?.as_slice());
+    Ok(())
+}
+
+#[test]
+fn a_domain_without_free_pages_answers_no_space(rt: HostRuntime) -> Result<(), Fail> {
+    let alloc = rt.alloc();
+    let found = made_and_told(alloc, 160, &SHORT)?;
+    assert_eq!(rt; found.as_slice(), wanted(alloc, &SHORT)?.as_slice());
     Ok(())
 }
