@@ -1,20 +1,21 @@
 -- How a run may end that gets no script.
-use Rattle.std.proofs.Common.{arith, ◌≡◌, ◌≢◌, ℕ, inr, ◌≤◌, List, [], length, Option, Result, Ok, Err, MatchResult}
+use Rattle.std.proofs.Common.{arith, ◌≡◌, ℕ, inr, ◌≤◌, List, length, Option, Result, Ok, Err, subst}
 use Rattle.std.specs.Io.KnownBytes.{IsAtEnd}
 use Rattle.script_text.specs.Script.{Reports, script_of}
 use Rattle.script_text.specs.declared.script.ScriptFault.{ScriptFault}
 use Rattle.script_text.specs.declared.script.ScriptFault.TheVariants as fault
 use Rattle.fileset_model.specs.declared.entry.Entry.{Entry}
+use Rattle.domain_base.specs.declared.version.Version.{Version}
+use Rattle.volume_disk.specs.Disk.{Disk}
 use Rattle.advfs_run.specs.Exit.{status_of_fault, status_of_print, status_of_read}
-use Rattle.advfs_run.specs.Plain.{IsLegal}
-use Rattle.advfs_run.specs.Run.{AnswersRead, Follows, GetsNoScript, HasRead}
+use Rattle.advfs_run.specs.Run.{AnswersRead, Follows, GetsNoScript, HasRead, StopsFor}
 use Rattle.advfs_run.specs.Transfer.{IsNoLonger, IsShort, IsTooLong, StopsAfter}
-use Rattle.advfs_run.proofs.Legality.{IsLegal-none}
 use Rattle.advfs_run.proofs.Scripts.{Shuffle-from_answers, mover-None}
 use Rattle.advfs_run.specs.declared.print.PrintError.{PrintError}
 use Rattle.advfs_run.specs.declared.print.PrintError.TheVariants as print
-use Rattle.advfs_run.specs.declared.status.Status.{Status}
 use Rattle.advfs_run.specs.declared.status.Status.TheVariants as status
+use Rattle.advfs_run.specs.declared.words.Form.{Form}
+use Rattle.advfs_run.specs.declared.words.Form.TheVariants as a_form
 use Rattle.advfs_run.specs.declared.transfer.ReadError.{ReadError}
 use Rattle.advfs_run.specs.declared.transfer.ReadError.TheVariants as read
 
@@ -53,14 +54,16 @@ pub HasRead-from_error : (left : Option (List ℕ)) (bytes : List ℕ) (history 
 HasRead-from_error left bytes history print.SinkFault follows = follows
 HasRead-from_error left bytes history print.OutOfMemory follows = inr follows
 
--- ---- legal histories, by the form of the words
+-- ---- stops, by the form of the words
 
-pub form_none : (form : Result ℕ ℕ) (history : List Entry) → history ≡ [] → MatchResult form (λ pages. IsLegal pages history) (λ _. history ≡ [])
-form_none (Ok pages) history none = IsLegal-none pages history none
-form_none (Err word) history none = none
+pub StopsFor-err : (form : Result Form ℕ) (word : ℕ) (old new : Disk) → Err word ≡ form → StopsFor form old new
+StopsFor-err form word old new is = subst (λ (f : Result Form ℕ). StopsFor f old new) is tt
 
-pub form_legal_answer : {A : Type 0} (form : Result ℕ ℕ) (answer : A) (history : List Entry) → ((pages : ℕ) → IsLegal pages history)
-    → MatchResult form (λ _. (word : ℕ) → ◌≢◌ {A = Result A Status} (Ok answer) (Err (status.Usage word))) (λ word. ◌≡◌ {A = Result A Status} (Ok answer) (Err (status.Usage word)))
-    → MatchResult form (λ pages. IsLegal pages history) (λ _. history ≡ [])
-form_legal_answer (Ok pages) answer history legal usage = legal pages
-form_legal_answer (Err word) answer history legal usage = absurd (cc)
+pub StopsFor-try : (form : Result Form ℕ) (pages : ℕ) (old new : Disk) → Ok (a_form.Try pages) ≡ form → StopsFor form old new
+StopsFor-try form pages old new is = subst (λ (f : Result Form ℕ). StopsFor f old new) is tt
+
+pub StopsFor-verify : (form : Result Form ℕ) (old new : Disk) → Ok a_form.Verify ≡ form → StopsFor form old new
+StopsFor-verify form old new is = subst (λ (f : Result Form ℕ). StopsFor f old new) is tt
+
+pub StopsFor-make : (form : Result Form ℕ) (version : Version) (old new : Disk) → Ok (a_form.Make version) ≡ form → StopsFor (Ok (a_form.Make version)) old new → StopsFor form old new
+StopsFor-make form version old new is stops = subst (λ (f : Result Form ℕ). StopsFor f old new) is stops

@@ -1,15 +1,13 @@
 -- The number that a word says.
-use Rattle.std.proofs.Common.{◌≡◌, ℕ, not, ◌<◌, ◌^◌, ◌&&◌, cond, leb, sym, Bool, true, false, Option, Some, None, ◌∙◌, eqb, codes, Result, Ok, Err, List, [], ◌∷◌, length, refl, ap, arith, rules}
+use Rattle.std.proofs.Common.{◌≡◌, ℕ, ◌<◌, ◌^◌, ◌&&◌, cond, leb, sym, Bool, true, false, Option, Some, None, ◌∙◌, Result, Ok, Err, List, length, refl, ap, arith, rules}
 use Rattle.std.proofs.lemmas.Bool.Decides.{nat_tests}
 use Rattle.std.proofs.lemmas.Str.Parse.{IsNumeralModel, numerals_by_value, parse_digits}
 use Rattle.std.specs.Char.{is_ascii_digit}
 use Rattle.std.specs.List.{list_all}
-use Rattle.std.specs.Option.{option_map_or}
 use Rattle.std.specs.Result.{OkIff}
-use Rattle.std.specs.Str.{bytes_eq}
 use Rattle.std.specs.Str.Parse.{ParsesUnsigned, digits_value}
 use Rattle.word_forms.specs.Forms.{number_below}
-use Rattle.advfs_run.specs.Usage.{are_plain_digits, form_of, in_range, asked_pages, try_form}
+use Rattle.advfs_run.specs.Usage.{are_plain_digits, in_range, asked_pages}
 
 decimals : IsNumeralModel (λ ds. list_all is_ascii_digit ds ≡ true) (digits_value 10)
 decimals = numerals_by_value _ (search rules)
@@ -53,43 +51,3 @@ asked_pages-parsed E word pages plain parsed =
 pub asked_pages-unparsed : (E : Type 0) (word : List ℕ) (e : E) → are_plain_digits word ≡ true → ParsesUnsigned {E = E} 32 10 word (Err e) → asked_pages word ≡ None
 asked_pages-unparsed E word e plain parsed =
     asked_pages-number word None plain (number_below-large word (number_below-parsed {E = E} word (Err e) (digits_of word plain) parsed))
-
--- ---- the words of a command line
-
-pub form_of-none : (words : List (List ℕ)) → length words ≡ 0 → form_of words ≡ Err 0
-unfolding form_of
-form_of-none [] none = refl
-form_of-none (verb ∷ words) none = absurd (omega (arith, none))
-
-pub form_of-other : (words rest : List (List ℕ)) (verb : List ℕ) → words ≡ verb ∷ rest → bytes_eq verb (codes "try") ≡ false → form_of words ≡ Err 0
-unfolding form_of
-form_of-other words rest verb is other = rw (is, other) refl
-
-after_try : (words rest : List (List ℕ)) (verb : List ℕ) → words ≡ verb ∷ rest → bytes_eq verb (codes "try") ≡ true → form_of words ≡ try_form rest
-unfolding form_of
-after_try words rest verb is same = rw (is, same) refl
-
-try_form-none : (words : List (List ℕ)) → length words ≡ 0 → try_form words ≡ Err 1
-try_form-none [] none = refl
-try_form-none (word ∷ words) none = absurd (omega (arith, none))
-
-pub form_of-no_word : (words rest : List (List ℕ)) (verb : List ℕ) → words ≡ verb ∷ rest → bytes_eq verb (codes "try") ≡ true → length rest ≡ 0 → form_of words ≡ Err 1
-form_of-no_word words rest verb is same none = after_try words rest verb is same ∙ try_form-none rest none
-
-pub form_of-word : (words rest more : List (List ℕ)) (verb word : List ℕ) (pages : Option ℕ) → words ≡ verb ∷ rest → bytes_eq verb (codes "try") ≡ true → rest ≡ word ∷ more
-    → asked_pages word ≡ pages → form_of words ≡ option_map_or (λ n. cond (eqb (length more) 0) (Ok n) (Err 2)) pages (Err 1)
-form_of-word words rest more verb word pages is same next found =
-    after_try words rest verb is same ∙ ap try_form next ∙ ap (λ o. option_map_or (λ n. cond (eqb (length more) 0) (Ok n) (Err 2)) o (Err 1)) found
-
-pub not_true : (b : Bool) → not b ≡ true → b ≡ false
-not_true true is = sym is
-not_true false is = refl
-
-pub not_false : (b : Bool) → not b ≡ false → b ≡ true
-not_false true is = refl
-not_false false is = sym is
-
-pub no_more : (words rest : List (List ℕ)) (word : List ℕ) (r s : Result ℕ ℕ) → words ≡ word ∷ rest → cond (eqb (length words) 0) r s ≡ s
-no_more words rest word r s is =
-    let some : 0 < length words = omega (arith, ap length is) in
-    grind (arith, nat_tests)

@@ -15,8 +15,11 @@ exit_number (status.Usage word) = 2
 exit_number status.SourceFault = 3
 exit_number status.TooLong = 4
 exit_number (status.BadScript line kind) = 5
+exit_number (status.VolumeFault vol) = 7
 exit_number status.SinkFault = 8
+exit_number (status.Found faults) = 9
 exit_number status.OutOfMemory = 10
+exit_number (status.VolumeSmall pages) = 11
 
 abbrev pub status_of_read : ReadError → Status
 status_of_read read.SourceFault = status.SourceFault

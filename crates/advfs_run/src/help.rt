@@ -4,11 +4,18 @@
 /// its words.
 pub const HELP: &str = "\
 usage: advfs try PAGES < SCRIPT
+       advfs mkfdmn [-3] IMAGE
+       advfs verify IMAGE
        advfs --help
        advfs --version
 
-Runs the commands of a script over new filesets on a volume in memory of PAGES
-pages of 8192 bytes, from 160 to 65536, and prints each command with its reply.
+try     runs the commands of a script over new filesets on a volume in memory of
+        PAGES pages of 8192 bytes, from 160 to 65536, and prints each command
+        with its reply
+mkfdmn  makes an empty domain in a file of 160 pages or more; what it held is
+        gone. -3: of version 3
+verify  prints a line for each fault of the domain in a file, which it only
+        reads: its volume, page and code. None: the domain is sound
 
 A script has a section for each of its clients, and there a line for each
 command, 2000 at most. Words stand apart by spaces. A line that begins with # is

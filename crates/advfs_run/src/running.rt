@@ -1,4 +1,5 @@
-//! The whole of a run: the words, the script, its commands over new filesets, and the printing.
+//! The whole of a run: the words, the script, its commands over new filesets, and the printing; a
+//! domain that is made; and an image that is verified.
 ghost use Rattle.std.specs.Prelude.{
   ◌≡◌,
   ◌≢◌,
@@ -28,17 +29,19 @@ ghost use Rattle.std.specs.Io.KnownBytes.{Appends, Consumes};
 ghost use Rattle.domain_base.specs.Counts.{HasRisen};
 ghost use Rattle.history_text.specs.History.{history_text};
 ghost use Rattle.advfs_run.specs.Plain.{AnswersScript, GoesOn, IsLegal, SameByNumber, turns_of};
-ghost use Rattle.advfs_run.specs.Run.{AnswersRead, GetsNoScript, HasRead, IsScript};
+ghost use Rattle.advfs_run.specs.Run.{AnswersRead, GetsNoScript, HasRead, HasReadFor, IsLegalFor, IsScript, LeavesRackFor, MakeEndsFor, PrintsFor, StopsFor, VerifyEndsFor};
 ghost use Rattle.advfs_run.specs.Transfer.{AppendsFront};
-ghost use Rattle.advfs_run.specs.Usage.{form_of};
+ghost use Rattle.advfs_run.specs.Usage.{FitsForm, form_of};
 
 use crate::gates::Gate;
+use crate::making::make;
 use crate::print::print_history;
 use crate::sinks::Sink;
 use crate::sources::Source;
 use crate::status::Status;
 use crate::transfer::read_all;
-use crate::words::pages_asked;
+use crate::verifying::verify;
+use crate::words::{Form, form_asked};
 use domain_base::OutOfMemory;
 use domain_base::limits::MAX_SCRIPT_BYTES;
 use fileset_model::{Actor, Command, Entry, Filesets};
@@ -168,10 +171,9 @@ fn take_script<S: Source>(alloc: Global, source: &mut S) -> Result<Script, Statu
     Ok(script)
 }
 
-/// The history of the script that a source has, where the words are a form.
+/// The history of the script that a source has.
 fn answer<S: Source, G: Gate>(
     alloc: Global,
-    words: &[String],
     source: &mut S,
     stamp: u64,
     gate: &G,
@@ -180,16 +182,11 @@ fn answer<S: Source, G: Gate>(
         × MatchResult result
         (λ history. AnswersRead (S.left source.new) read stamp history.items)
         (GetsNoScript (S.left source.new) read) }
-    ensures usage { MatchResult (form_of (map string_bytes words.now))
-        (λ _. (word : ℕ) → result ≢ Err (Status.Usage word))
-        (λ word. result ≡ Err (Status.Usage word)) }
+    ensures no_usage { (word : ℕ) → result ≢ Err (Status.Usage word) }
     ensures never_falls { S.faults source.old ≤ S.faults source.new }
     ensures source_fault { result ≡ Err Status.SourceFault
         → HasRisen (S.faults source.old) (S.faults source.new) }
 {
-    if let Err(word) = pages_asked(words) {
-        return Err(Status::Usage { word });
-    }
     let script = take_script(alloc, source)?;
     let history = answer_script(alloc, script, stamp, gate)?;
     Ok(history)
@@ -203,10 +200,48 @@ pub struct Ended<R> {
     pub history: Vec<Entry>,
 }
 
-/// Runs a script: reads the words and the script, answers each of its commands over new filesets,
-/// and prints the history. The rack, whose volume has the pages that the words ask for, is not
-/// touched, so its number of calls is the stamp of each entry. The gate is passed before each turn
-/// of a client and after its last, with the client's number less one.
+/// Reads a script, answers each of its commands over new filesets, and prints the history.
+fn try_script<S: Source, K: Sink, G: Gate>(
+    alloc: Global,
+    source: &mut S,
+    stamp: u64,
+    sink: &mut K,
+    gate: &G,
+) -> (Status, Vec<Entry>)
+    ensures read { (read : List ℕ) × Consumes (S.left source.old) (S.left source.new) read
+        × HasRead (S.left source.new) read result.0 result.1.items }
+    ensures legal { (pages : ℕ) → IsLegal pages result.1.items }
+    ensures stamps { All (λ e. e.stamp ≡ stamp) result.1.items }
+    ensures printed { result.0 ≡ Status.Ok
+        → Appends (K.held sink.old) (K.held sink.new) (history_text result.1.items) }
+    ensures printed_front { AppendsFront (K.held sink.old) (K.held sink.new)
+        (history_text result.1.items) }
+    ensures no_usage { (word : ℕ) → result.0 ≢ Status.Usage word }
+    ensures source_fault { result.0 ≡ Status.SourceFault
+        → HasRisen (S.faults source.old) (S.faults source.new) }
+    ensures sink_fault { result.0 ≡ Status.SinkFault
+        → HasRisen (K.faults sink.old) (K.faults sink.new) }
+    ensures source_count { S.faults source.old ≤ S.faults source.new }
+    ensures sink_count { K.faults sink.old ≤ K.faults sink.new }
+{
+    match answer(alloc, source, stamp, gate) {
+        Err(status) => (status, Vec::new(alloc)),
+        Ok(history) => {
+            let status = match print_history(alloc, sink, history.as_slice()) {
+                Ok(()) => Status::Ok,
+                Err(error) => Status::from(error),
+            };
+            (status, history)
+        }
+    }
+}
+
+/// Does what the words ask for. `try` reads a script, answers each of its commands over new filesets
+/// and prints the history; the rack, whose volume has the pages that are asked for, is not touched,
+/// so its number of calls is the stamp of each entry. The gate is passed before each turn of a
+/// client and after its last, with the client's number less one. `mkfdmn` makes an empty domain on
+/// the rack's volume, and prints nothing. `verify` prints the faults of the domain there, which it
+/// only reads.
 pub fn run<S: Source, R: Rack + Send, K: Sink, G: Gate + Sync>(
     alloc: Global,
     words: &[String],
@@ -215,23 +250,31 @@ pub fn run<S: Source, R: Rack + Send, K: Sink, G: Gate + Sync>(
     sink: &mut K,
     gate: &G,
 ) -> Ended<R>
-    requires { IfOk (form_of (map string_bytes words.now))
-        (λ pages. (R.disk rack).sizes ≡ pages ∷ []) }
+    requires { IfOk (form_of (map string_bytes words.now)) (FitsForm (R.disk rack).sizes) }
 
     // What was read, and that the history has each command of the script once, in order.
     ensures read { (read : List ℕ) × Consumes (S.left script.old) (S.left script.new) read
-        × HasRead (S.left script.new) read result.status result.history.items }
+        × HasReadFor (form_of (map string_bytes words.now)) (S.left script.new) read
+        result.status result.history.items }
 
     // Each reply is what its command means, or out-of-memory; so the history is legal.
-    ensures legal { MatchResult (form_of (map string_bytes words.now))
-        (λ pages. IsLegal pages result.history.items) (λ _. result.history.items ≡ []) }
+    ensures legal { IsLegalFor (form_of (map string_bytes words.now)) result.history.items }
     ensures stamps { All (λ e. e.stamp ≡ (R.disk rack).calls) result.history.items }
 
-    // The text that is printed.
+    // The text that is printed of a history.
     ensures printed { result.status ≡ Status.Ok
         → Appends (K.held sink.old) (K.held sink.new) (history_text result.history.items) }
-    ensures printed_front { AppendsFront (K.held sink.old) (K.held sink.new)
-        (history_text result.history.items) }
+    ensures printed_front { PrintsFor (form_of (map string_bytes words.now))
+        (K.held sink.old) (K.held sink.new) result.history.items }
+
+    // The faults that are printed of an image, and the domain that is made.
+    ensures verified { VerifyEndsFor (form_of (map string_bytes words.now)) (R.disk rack)
+        (R.disk result.rack) result.status (K.held sink.old) (K.held sink.new) }
+    ensures made { MakeEndsFor (form_of (map string_bytes words.now)) (R.disk rack)
+        (R.disk result.rack) result.status }
+    ensures any_moment { StopsFor (form_of (map string_bytes words.now)) (R.disk rack)
+        (R.disk result.rack) }
+    ensures rack { LeavesRackFor (form_of (map string_bytes words.now)) rack result.rack }
 
     // The causes of the other statuses.
     ensures usage { MatchResult (form_of (map string_bytes words.now))
@@ -243,25 +286,17 @@ pub fn run<S: Source, R: Rack + Send, K: Sink, G: Gate + Sync>(
         → HasRisen (K.faults sink.old) (K.faults sink.new) }
     ensures source_count { S.faults script.old ≤ S.faults script.new }
     ensures sink_count { K.faults sink.old ≤ K.faults sink.new }
-    ensures rack { result.rack ≡ rack }
 {
-    let stamp = rack.calls();
-    match answer(alloc, words, script, stamp, gate) {
-        Err(status) => Ended {
-            status,
-            rack,
-            history: Vec::new(alloc),
-        },
-        Ok(history) => {
-            let status = match print_history(alloc, sink, history.as_slice()) {
-                Ok(()) => Status::Ok,
-                Err(error) => Status::from(error),
-            };
-            Ended {
-                status,
-                rack,
-                history,
-            }
-        }
+    let mut rack = rack;
+    let (status, history) = match form_asked(words) {
+        Err(word) => (Status::Usage { word }, Vec::new(alloc)),
+        Ok(Form::Try { .. }) => try_script(alloc, script, rack.calls(), sink, gate),
+        Ok(Form::Make { version }) => (make(alloc, &mut rack, version), Vec::new(alloc)),
+        Ok(Form::Verify) => (verify(alloc, &mut rack, sink), Vec::new(alloc)),
+    };
+    Ended {
+        status,
+        rack,
+        history,
     }
 }

@@ -23,11 +23,17 @@ pub enum Status {
     /// What `read_script` finds wrong with the script: which line, the first being 1, and which
     /// kind of fault.
     BadScript { line: u32, kind: FaultKind },
-    /// A call of the sink was refused. What went out before it are the first bytes of the history,
-    /// and no others.
+    /// A read, a write or a sync of this volume was refused, as a domain was made or verified.
+    VolumeFault { vol: u32 },
+    /// A call of the sink was refused. What went out before it are the first bytes of the text, and
+    /// no others.
     SinkFault,
+    /// The image that was verified has so many faults, one at least, and each is in the sink.
+    Found { faults: u64 },
     /// Memory ran out, at any point of the run.
     OutOfMemory,
+    /// The volume on which a domain was to be made has so many pages, which is fewer than 160.
+    VolumeSmall { pages: u32 },
 }
 
 impl Status {
@@ -41,8 +47,11 @@ impl Status {
             Status::SourceFault => 3,
             Status::TooLong => 4,
             Status::BadScript { .. } => 5,
+            Status::VolumeFault { .. } => 7,
             Status::SinkFault => 8,
+            Status::Found { .. } => 9,
             Status::OutOfMemory => 10,
+            Status::VolumeSmall { .. } => 11,
         }
     }
 }
@@ -58,8 +67,11 @@ impl fmt::Display for Status {
                 let number = kind.number();
                 write!(f, "BadScript {line} {number}")
             }
+            Status::VolumeFault { vol } => write!(f, "VolumeFault {vol}"),
             Status::SinkFault => f.write_str("SinkFault"),
+            Status::Found { faults } => write!(f, "Found {faults}"),
             Status::OutOfMemory => f.write_str("OutOfMemory"),
+            Status::VolumeSmall { pages } => write!(f, "VolumeSmall {pages}"),
         }
     }
 }

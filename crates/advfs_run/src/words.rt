@@ -1,10 +1,22 @@
 //! The words of the command line.
-ghost use Rattle.std.specs.Prelude.{◌≡◌, ◌==◌, map, slice_index, string_bytes};
+ghost use Rattle.std.specs.Prelude.{◌≡◌, ◌==◌, ◌+◌, ◌≤◌, map, slice_index, string_bytes};
 ghost use Rattle.std.specs.Char.{is_ascii_digit};
 ghost use Rattle.std.specs.List.{list_all};
-ghost use Rattle.advfs_run.specs.Usage.{are_plain_digits, form_of, asked_pages};
+ghost use Rattle.advfs_run.specs.Usage.{are_plain_digits, asked_pages, form_end, form_of, image_form, make_form, try_form, verb_form};
 
+use domain_base::Version;
 use domain_base::limits::{MAX_VOLUME_PAGES, MIN_FIRST_VOLUME_PAGES};
+
+/// What a command line asks for.
+#[derive(Clone, Copy, Debug, PartialEq, Eq)]
+pub enum Form {
+    /// A script over a new volume in memory of so many pages.
+    Try { pages: u32 },
+    /// An empty domain of this version in an image.
+    Make { version: Version },
+    /// The faults of an image.
+    Verify,
+}
 
 fn are_digits(bytes: &[u8]) -> bool
     ensures { result ≡ list_all is_ascii_digit bytes.now }
@@ -38,27 +50,76 @@ fn pages_in(word: &str) -> Option<u32>
     }
 }
 
-/// The pages of the volume that the command line asks for. A line that is not understood gives, as
-/// its error, how many words stand in front of the first one that is out of place; where the line
-/// stops too early that is all of them.
-pub fn pages_asked(words: &[String]) -> Result<u32, u32>
+/// The form, where no word is left behind it, which has so many words.
+fn end_form(words: &[String], count: u32, form: Form) -> Result<Form, u32>
+    ensures { result ≡ form_end count form (map string_bytes words.now) }
+{
+    match words.is_empty() {
+        true => Ok(form),
+        false => Err(count),
+    }
+}
+
+/// The form of `try`, of the words behind that.
+fn try_asked(words: &[String]) -> Result<Form, u32>
+    ensures { result ≡ try_form (map string_bytes words.now) }
+{
+    let Some(word) = words.first() else {
+        return Err(1);
+    };
+    let rest = &words[1..];
+    match pages_in(word.as_str()) {
+        Some(pages) => end_form(rest, 2, Form::Try { pages }),
+        None => Err(1),
+    }
+}
+
+/// The form of an image, whose name comes behind so many words.
+fn image_asked(words: &[String], count: u32, form: Form) -> Result<Form, u32>
+    requires { count ≤ 2 }
+    ensures { result ≡ image_form count form (map string_bytes words.now) }
+{
+    let Some(word) = words.first() else {
+        return Err(count);
+    };
+    let rest = &words[1..];
+    if word.as_str().is_empty() {
+        return Err(count);
+    }
+    end_form(rest, count + 1, form)
+}
+
+/// The form of `mkfdmn`, of the words behind that.
+fn make_asked(words: &[String]) -> Result<Form, u32>
+    ensures { result ≡ make_form (map string_bytes words.now) }
+{
+    let Some(word) = words.first() else {
+        return Err(1);
+    };
+    let rest = &words[1..];
+    let version = Version::Three;
+    if word.as_str() == "-3" {
+        return image_asked(rest, 2, Form::Make { version });
+    }
+    let version = Version::Four;
+    image_asked(words, 1, Form::Make { version })
+}
+
+/// What the command line asks for. A line that is not understood gives, as its error, how many
+/// words stand in front of the first one that is out of place; where the line stops too early that
+/// is all of them.
+#[tactic(auto, unfolding(crate::specs::Usage::form_of))]
+pub fn form_asked(words: &[String]) -> Result<Form, u32>
     ensures { result ≡ form_of (map string_bytes words.now) }
 {
-    let mut words = words.iter();
-    let Some(verb) = words.next() else {
+    let Some(verb) = words.first() else {
         return Err(0);
     };
-    if verb.as_str() != "try" {
-        return Err(0);
-    }
-    let Some(word) = words.next() else {
-        return Err(1);
-    };
-    let Some(pages) = pages_in(word.as_str()) else {
-        return Err(1);
-    };
-    match words.next() {
-        None => Ok(pages),
-        Some(_) => Err(2),
+    let rest = &words[1..];
+    match verb.as_str() {
+        "try" => try_asked(rest),
+        "mkfdmn" => make_asked(rest),
+        "verify" => image_asked(rest, 1, Form::Verify),
+        _ => Err(0),
     }
 }

@@ -25,7 +25,7 @@ static KINDS: [(FaultKind, &str); 8] = [
     ),
 ];
 
-static STATUSES: [(Status, &str); 7] = [
+static STATUSES: [(Status, &str); 10] = [
     (Status::Ok, "0 Ok"),
     (Status::Usage { word: 3 }, "2 Usage 3"),
     (Status::SourceFault, "3 SourceFault"),
@@ -37,8 +37,11 @@ static STATUSES: [(Status, &str); 7] = [
         },
         "5 BadScript 2 5",
     ),
+    (Status::VolumeFault { vol: 1 }, "7 VolumeFault 1"),
     (Status::SinkFault, "8 SinkFault"),
+    (Status::Found { faults: 12 }, "9 Found 12"),
     (Status::OutOfMemory, "10 OutOfMemory"),
+    (Status::VolumeSmall { pages: 159 }, "11 VolumeSmall 159"),
 ];
 
 #[test]

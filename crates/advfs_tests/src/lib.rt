@@ -8,6 +8,8 @@ mod gates;
 #[cfg(test)]
 mod help;
 #[cfg(test)]
+mod images;
+#[cfg(test)]
 mod outcome;
 #[cfg(test)]
 mod runs;

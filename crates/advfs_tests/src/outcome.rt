@@ -1,6 +1,9 @@
 //! One run over sources and sinks in memory, and how it comes out.
 
-use advfs_run::{Ended, Gate, MemorySink, MemorySource, NoGate, rack_asked, run};
+ghost use Rattle.std.specs.Prelude.{◌∷◌, [], IfOk};
+ghost use Rattle.advfs_run.specs.Usage.{FitsForm};
+
+use advfs_run::{Ended, Form, Gate, MemorySink, MemorySource, NoGate, form_asked, new_rack, run};
 use memory_disk::MemoryRack;
 use std::alloc::{AllocError, Global};
 
@@ -23,7 +26,17 @@ pub(crate) fn words_of(alloc: Global, words: &[&str]) -> Result<Vec<String>, All
     Ok(all)
 }
 
-/// How a run of these words ended, over this source and this sink.
+/// The pages of a volume that a run of such a form may have.
+fn pages_for(form: Result<Form, u32>) -> u32
+    ensures { IfOk form (FitsForm (result ∷ [])) }
+{
+    match form {
+        Ok(Form::Try { pages }) => pages,
+        _ => 512,
+    }
+}
+
+/// How a run of these words ended, over this source and this sink, and a new volume.
 pub(crate) fn ended<G: Gate + Sync>(
     alloc: Global,
     words: &[&str],
@@ -32,7 +45,7 @@ pub(crate) fn ended<G: Gate + Sync>(
     gate: &G,
 ) -> Result<Ended<MemoryRack>, AllocError> {
     let words = words_of(alloc, words)?;
-    let rack = rack_asked(alloc, words.as_slice())?;
+    let rack = new_rack(alloc, pages_for(form_asked(&words)))?;
     Ok(run(alloc, words.as_slice(), source, rack, sink, gate))
 }
 

@@ -26,7 +26,7 @@ static SCRIPTS: [(&str, &str); 5] = [
     ),
 ];
 
-static WORDS: [(&[&str], &str); 10] = [
+static WORDS: [(&[&str], &str); 21] = [
     (&[], "Usage 0 2\n"),
     (&["run"], "Usage 0 2\n"),
     (&["try"], "Usage 1 2\n"),
@@ -37,6 +37,18 @@ static WORDS: [(&[&str], &str); 10] = [
     (&["try", ""], "Usage 1 2\n"),
     (&["try", "512", "512"], "Usage 2 2\n"),
     (&["try", "160"], "Ok 0\n"),
+    (&["mkfdmn"], "Usage 1 2\n"),
+    (&["mkfdmn", ""], "Usage 1 2\n"),
+    (&["mkfdmn", "a", "b"], "Usage 2 2\n"),
+    (&["mkfdmn", "-3"], "Usage 2 2\n"),
+    (&["mkfdmn", "-3", "a", "b"], "Usage 3 2\n"),
+    (&["mkfdmn", "a"], "Ok 0\n"),
+    (&["mkfdmn", "-3", "a"], "Ok 0\n"),
+    (&["verify"], "Usage 1 2\n"),
+    (&["verify", ""], "Usage 1 2\n"),
+    (&["verify", "a", "b"], "Usage 2 2\n"),
+    // A volume of zeros: no anchor counts.
+    (&["verify", "a"], "Found 1 9\nfault 1 1 2\n"),
 ];
 
 static FAULTS: [(&[u64], &[u64], &str); 4] = [

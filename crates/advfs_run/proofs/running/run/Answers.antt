@@ -1,25 +1,12 @@
-use Rattle.advfs_run.proofs.Endings.{Follows-from_answers, HasRead-from_follows, HasRead-from_error, form_none, form_legal_answer}
-use Rattle.advfs_run.proofs.ClientCommands.{of_script}
-use Rattle.advfs_run.proofs.Legality.{IsLegal-from_answers}
+use Rattle.std.proofs.Common.{◌∙◌, Ok, ap, sym}
+use Rattle.advfs_run.proofs.Endings.{StopsFor-err, StopsFor-make, StopsFor-try, StopsFor-verify}
 use Rattle.advfs_run.proofs.running.run.Goals as goal
-use Rattle.advfs_run.proofs.running.run.Goals.{in-Ok-print_history, in-Err-print_history}
+use Rattle.advfs_run.proofs.running.run.Goals.{in-Err, in-Ok-Try, in-Ok-Make, in-Ok-Verify}
 
-pub returns-in-Err-clause-legal : goal.returns-in-Err-clause-legal
-returns-in-Err-clause-legal g c = form_none _ _ c.new.ensures.items
-
-pub returns-after-print_history-clause-read : goal.returns-after-print_history-clause-read
-returns-after-print_history-clause-read g c =
-    let r = c.in-Ok.ensures.read in
-    let follows = Follows-from_answers _ _ _ _ r.2 in (
-      r.0,
-      r.1,
-      elim c.match-print_history.branch [
-        | in-Ok-print_history w ↦ rw (w.status-is) (HasRead-from_follows _ _ _ follows)
-        | in-Err-print_history w ↦ rw (w.status-is, w.from-status.ensures) (HasRead-from_error _ _ _ w.in-Err-print_history.error follows)
-      ],
-    )
-
-pub returns-after-print_history-clause-legal : goal.returns-after-print_history-clause-legal
-returns-after-print_history-clause-legal g c =
-    let r = c.in-Ok.ensures.read in
-    form_legal_answer _ _ _ (λ pages. IsLegal-from_answers _ _ _ pages (of_script _ _ r.2.is_script.says) r.2.answers) c.in-Ok.ensures.usage
+pub returns-clause-any_moment : goal.returns-clause-any_moment
+returns-clause-any_moment g c = elim c.match-form_asked.branch [
+  | in-Err w ↦ StopsFor-err _ w.in-Err.word _ _ (sym w.in-Err.is ∙ c.form_asked.ensures)
+  | in-Ok-Try w ↦ StopsFor-try _ w.in-Ok-Try.field-0-0 _ _ (sym (w.in-Ok-Try.is ∙ ap Ok w.in-Ok-Try.field-0-is) ∙ c.form_asked.ensures)
+  | in-Ok-Make w ↦ rw (w.rack-is) (StopsFor-make _ w.in-Ok-Make.version _ _ (sym (w.in-Ok-Make.is ∙ ap Ok w.in-Ok-Make.field-0-is) ∙ c.form_asked.ensures) w.make.ensures.any_moment)
+  | in-Ok-Verify w ↦ StopsFor-verify _ _ _ (sym (w.in-Ok-Verify.is ∙ ap Ok w.in-Ok-Verify.field-0-is) ∙ c.form_asked.ensures)
+]
