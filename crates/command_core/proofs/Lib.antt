@@ -21,5 +21,9 @@ pub mod Listed
 pub mod Told
 pub mod Shown
 pub mod QuotaTold
+pub mod Filed
+pub mod FileAnswers
+pub mod Refunded
+pub mod Written
 pub mod Present
 pub mod Wanted

@@ -44,6 +44,7 @@ same_itself memory = record { same = refl; slots = refl; listed = refl }
 pub is_placed : (memory : DomainMemory) (number : ℕ) (place : Place) (all : FilesetMap) (g : Given memory number place.fileset all) (tag : Tag) (of : Kind) → LeadsTo place.path g.fileset tag of → IsPlaced memory all place number tag of
 is_placed memory number place all g tag of leads = record {
   entry = g.entry;
+  named = g.named;
   fileset = g.fileset;
   has = g.has;
   here = g.here;
@@ -80,6 +81,7 @@ module _ (memory last : DomainMemory) (same : IsSame memory last) where
   pub placed_is : (all : FilesetMap) (place : Place) (number : ℕ) (tag : Tag) (of : Kind) → IsPlaced memory all place number tag of → IsPlaced last all place number tag of
   placed_is all place number tag of p = record {
     entry = p.entry;
+    named = p.named;
     fileset = p.fileset;
     has = record {
       staged = still_staged memory last same all p.has.staged;
@@ -106,7 +108,7 @@ module _ (memory : DomainMemory) (all : FilesetMap) (place : Place) (number : �
   pub file_of : HasFile memory number tag place.path all p.entry p.fileset
   file_of = record { staged = p.has.staged; original = p.has.original; there = p.has.there; at = p.leads.at }
 
-  directory_is : directory_here p.fileset place.path ≡ refuse_if (is_directory_kind of) IsDirectory
+  pub directory_is : directory_here p.fileset place.path ≡ refuse_if (is_directory_kind of) IsDirectory
   directory_is = ap (λ b. refuse_if b IsDirectory) (told (node_at p.fileset.tree place.path) (is_directory_kind of) p.leads.kind)
 
   pub in_step : out_of_sync p.fileset place.path ≡ None

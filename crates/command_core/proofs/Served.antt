@@ -1,5 +1,5 @@
 -- The commands that are answered so far.
-use Rattle.std.proofs.Common.{◌≡◌, ℕ, false, refl}
+use Rattle.std.proofs.Common.{◌≡◌, ℕ, Bool, false, List, refl}
 use Rattle.fileset_model.specs.Orders.{Name, Path}
 use Rattle.fileset_model.specs.declared.command.Command.{Command}
 use Rattle.fileset_model.specs.declared.command.Command.TheVariants as command
@@ -17,7 +17,9 @@ pub data Serving : Command → Type 0 where
   showquota : (fileset : Name) (who : Owner) → Serving (command.Showquota fileset who)
   create : (place : Place) (uid gid : ℕ) → Serving (command.Create place uid gid)
   mkdir : (place : Place) (uid gid : ℕ) → Serving (command.Mkdir place uid gid)
+  write : (place : Place) (offset : ℕ) (bytes : List ℕ) → Serving (command.Write place offset bytes)
   read : (place : Place) (offset count : ℕ) → Serving (command.Read place offset count)
+  truncate : (place : Place) (size : ℕ) → Serving (command.Truncate place size)
   link : (place : Place) (to : Path) → Serving (command.Link place to)
   links : (place : Place) → Serving (command.Links place)
   unlink : (place : Place) → Serving (command.Unlink place)
@@ -26,6 +28,7 @@ pub data Serving : Command → Type 0 where
   list : (place : Place) → Serving (command.List place)
   stat : (place : Place) → Serving (command.Stat place)
   fsync : (place : Place) → Serving (command.Fsync place)
+  chfile : (place : Place) (logged : Bool) → Serving (command.Chfile place logged)
   sync : Serving command.Sync
   cancel : Serving command.Cancel
 
@@ -38,9 +41,9 @@ serving command.Showfsets is = Serving.showfsets
 serving (command.Showquota fileset who) is = Serving.showquota fileset who
 serving (command.Create place uid gid) is = Serving.create place uid gid
 serving (command.Mkdir place uid gid) is = Serving.mkdir place uid gid
-serving (command.Write place offset bytes) is = absurd is
+serving (command.Write place offset bytes) is = Serving.write place offset bytes
 serving (command.Read place offset count) is = Serving.read place offset count
-serving (command.Truncate place size) is = absurd is
+serving (command.Truncate place size) is = Serving.truncate place size
 serving (command.Rename place to) is = Serving.rename place to
 serving (command.Link place to) is = Serving.link place to
 serving (command.Links place) is = Serving.links place
@@ -49,7 +52,7 @@ serving (command.Rmdir place) is = Serving.rmdir place
 serving (command.List place) is = Serving.list place
 serving (command.Stat place) is = Serving.stat place
 serving (command.Fsync place) is = Serving.fsync place
-serving (command.Chfile place logged) is = absurd is
+serving (command.Chfile place logged) is = Serving.chfile place logged
 serving (command.Stripe width place) is = absurd is
 serving command.Sync is = Serving.sync
 serving command.Cancel is = Serving.cancel
@@ -72,7 +75,9 @@ clients c (Serving.setquota fileset who files blocks) = refl
 clients c (Serving.showquota fileset who) = refl
 clients c (Serving.create place uid gid) = refl
 clients c (Serving.mkdir place uid gid) = refl
+clients c (Serving.write place offset bytes) = refl
 clients c (Serving.read place offset count) = refl
+clients c (Serving.truncate place size) = refl
 clients c (Serving.link place to) = refl
 clients c (Serving.links place) = refl
 clients c (Serving.unlink place) = refl
@@ -81,6 +86,7 @@ clients c (Serving.rename place to) = refl
 clients c (Serving.list place) = refl
 clients c (Serving.stat place) = refl
 clients c (Serving.fsync place) = refl
+clients c (Serving.chfile place logged) = refl
 clients c Serving.sync = refl
 clients c Serving.cancel = refl
 

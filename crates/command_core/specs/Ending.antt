@@ -6,12 +6,12 @@ use Rattle.page_store.specs.declared.fault.StoreFault.TheVariants as fault
 use Rattle.fileset_model.specs.Apply.{refusal_of}
 use Rattle.fileset_model.specs.Filesets.{FilesetMap}
 use Rattle.fileset_model.specs.declared.command.Command.{Command}
-use Rattle.fileset_model.specs.declared.command.Command.TheVariants.{Create, Link, Mkdir, Mkfset, Rename, Rmdir, Rmfset, Setquota, Unlink, Links, List as ListNames, Read, Showfsets, Showquota, Stat, Fsync, Sync, Cancel, Write}
+use Rattle.fileset_model.specs.declared.command.Command.TheVariants.{Cancel, Chfile, Create, Fsync, Link, Links, List as ListNames, Mkdir, Mkfset, Read, Rename, Rmdir, Rmfset, Setquota, Showfsets, Showquota, Stat, Sync, Truncate, Unlink, Write}
 use Rattle.fileset_model.specs.declared.reply.Refusal.{Refusal}
 use Rattle.fileset_model.specs.declared.reply.Reply.{Reply}
 use Rattle.fileset_table.specs.Table.{is_free}
-use Rattle.word_forms.specs.Forms.{is_fileset_name}
 use Rattle.history_model.specs.Step.{TakesSpace}
+use Rattle.word_forms.specs.Forms.{is_fileset_name}
 use Rattle.domain_memory.specs.Memory.{StandsFor}
 use Rattle.domain_memory.specs.declared.memory.DomainMemory.{DomainMemory}
 use Rattle.domain_stages.specs.Beginning.{BeginsNone}
@@ -52,7 +52,9 @@ IsServed (Setquota fileset who files blocks) = Unit {0}
 IsServed (Showquota fileset who) = Unit {0}
 IsServed (Create place uid gid) = IsNewPath place.path
 IsServed (Mkdir place uid gid) = IsNewPath place.path
+IsServed (Write place offset bytes) = Unit {0}
 IsServed (Read place offset count) = Unit {0}
+IsServed (Truncate place size) = Unit {0}
 IsServed (Link place to) = (1 ≤ length place.path) × IsNewPath to
 IsServed (Links place) = Unit {0}
 IsServed (Unlink place) = 1 ≤ length place.path
@@ -61,14 +63,15 @@ IsServed (Rename place to) = (1 ≤ length place.path) × IsNewPath to
 IsServed (ListNames place) = Unit {0}
 IsServed (Stat place) = Unit {0}
 IsServed (Fsync place) = Unit {0}
+IsServed (Chfile place logged) = Unit {0}
 IsServed Sync = Unit {0}
 IsServed Cancel = Unit {0}
 IsServed command = ⊥
 
 -- why a command may want a page, where that is known: of mkfset, that no slot of the table is free;
--- or no page, or one alone and no cell; of setquota, that no cell is free, and no page; rmfset,
--- unlink and rmdir never do; of write, that a page is absent that its bytes lie in. Of other
--- commands on names nothing is said yet
+-- or no page, or one alone and no cell; of setquota, that no cell is free, and no page; of write,
+-- that the file lacks a page that its bytes lie in; rmfset, truncate, unlink, rmdir and chfile
+-- never do. Of other commands on names nothing is said yet
 abbrev pub LacksPage : Command → DomainMemory → Type 0
 LacksPage (Mkfset fileset) memory = (list_any is_free memory.table.slots ≡ false)
     ⊎ BeginsNone memory.space memory.cells fault.NoPage
@@ -77,6 +80,8 @@ LacksPage (Setquota fileset who files blocks) memory =
     LimitsNone memory.space memory.cells fault.NoPage
 LacksPage (Write place offset bytes) memory =
     (all : FilesetMap) → StandsFor memory all → TakesSpace all (Write place offset bytes)
+LacksPage (Truncate place size) memory = ⊥
 LacksPage (Unlink place) memory = ⊥
 LacksPage (Rmdir place) memory = ⊥
+LacksPage (Chfile place logged) memory = ⊥
 LacksPage command memory = Unit {0}

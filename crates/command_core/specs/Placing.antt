@@ -13,6 +13,7 @@ use Rattle.fileset_model.specs.declared.fileset.Role.TheVariants.{Original}
 use Rattle.fileset_model.specs.declared.reply.Refusal.{Refusal}
 use Rattle.fileset_model.specs.declared.reply.Reply.{Reply}
 use Rattle.fileset_table.specs.declared.slot.FilesetEntry.{FilesetEntry}
+use Rattle.domain_memory.specs.Memory.{StandsFor}
 use Rattle.domain_memory.specs.declared.memory.DomainMemory.{DomainMemory}
 use Rattle.name_stages.specs.Looking.{LeadsTo}
 use Rattle.name_stages.specs.Stages.{HasFileset}
@@ -23,11 +24,20 @@ use Rattle.command_core.specs.declared.stop.Stop.{Stop}
 pub record IsPlaced (memory : DomainMemory) (all : FilesetMap) (place : Place) (number : ℕ)
     (tag : Tag) (of : Kind) : Type 0 where
   pub entry : FilesetEntry
+  pub named : entry.name ≡ place.fileset
   pub fileset : FilesetSlot
   pub has : HasFileset memory number all entry fileset
   pub here : get all place.fileset ≡ Some fileset
   pub role : fileset.role ≡ Original
   pub leads : LeadsTo place.path fileset tag of
+
+-- so it is for some filesets that memory stands for, and some place
+pub record IsPlacedForSome (memory : DomainMemory) (number : ℕ) (tag : Tag) (of : Kind) : Type 0
+  where
+    pub all : FilesetMap
+    pub stands : StandsFor memory all
+    pub place : Place
+    pub placed : IsPlaced memory all place number tag of
 
 -- no path leads there, whatever is asked behind that
 abbrev pub IsLost : FilesetMap → Place → Stop → Type 0

@@ -6,6 +6,7 @@ mod answering;
 mod beginning;
 mod commands;
 mod creating;
+mod filing;
 mod finding;
 mod lasting;
 mod laws;
@@ -25,6 +26,7 @@ mod staging;
 mod stop;
 mod taking;
 mod wanting;
+mod writing;
 
 pub use commands::command;
 pub use laws::{

@@ -28,6 +28,7 @@ pub fn is_served(command: &Command) -> bool
         Command::Mkfset { fileset } => is_fileset_name(fileset.as_slice()),
         Command::Rmfset { .. } | Command::Setquota { .. } => true,
         Command::Showfsets | Command::Showquota { .. } => true,
+        Command::Write { .. } | Command::Truncate { .. } | Command::Chfile { .. } => true,
         Command::Read { .. } | Command::Links { .. } => true,
         Command::List { .. } | Command::Stat { .. } | Command::Fsync { .. } => true,
         Command::Sync | Command::Cancel => true,

@@ -10,6 +10,7 @@ ghost use Rattle.command_core.specs.declared.stop.Stop.TheVariants.{NoPage};
 
 use crate::beginning::stage_fileset;
 use crate::creating::stage_creation;
+use crate::filing::{stage_chfile, stage_truncate};
 use crate::lasting::{stage_fsync, stage_nothing};
 use crate::limiting::stage_limits;
 use crate::linking::stage_link;
@@ -20,6 +21,7 @@ use crate::renaming::stage_rename;
 use crate::showing::{stage_showfsets, stage_showquota};
 use crate::stop::Stop;
 use crate::taking::stage_taking;
+use crate::writing::stage_write;
 use domain_base::{Kind, VolIx};
 use domain_memory::DomainMemory;
 use fileset_model::{Command, Limits, Reply};
@@ -69,12 +71,22 @@ pub(crate) fn stage(
         Command::Mkdir { place, uid, gid } => {
             return stage_creation(memory, alloc, place, Kind::Directory, *uid, *gid, prefer);
         }
+        Command::Write {
+            place,
+            offset,
+            bytes,
+        } => {
+            return stage_write(memory, alloc, place, *offset, bytes, prefer);
+        }
         Command::Read {
             place,
             offset,
             count,
         } => {
             return stage_read(memory, alloc, place, *offset, *count, prefer);
+        }
+        Command::Truncate { place, size } => {
+            return stage_truncate(memory, alloc, place, *size, prefer);
         }
         Command::Link { place, to } => return stage_link(memory, alloc, place, to, prefer),
         Command::Links { place } => return stage_links(memory, place, prefer),
@@ -90,6 +102,9 @@ pub(crate) fn stage(
         Command::List { place } => return stage_list(memory, alloc, place, prefer),
         Command::Stat { place } => return stage_stat(memory, alloc, place, prefer),
         Command::Fsync { place } => return stage_fsync(memory, place, prefer),
+        Command::Chfile { place, logged } => {
+            return stage_chfile(memory, alloc, place, *logged, prefer);
+        }
         Command::Sync => return stage_nothing(memory),
         Command::Cancel => return stage_nothing(memory),
         _ => unreachable!(),

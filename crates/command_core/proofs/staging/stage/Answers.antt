@@ -1,4 +1,7 @@
-use Rattle.std.proofs.Common.{refl}
+use Rattle.std.proofs.Common.{◌≡◌, IfErr, refl, subst, sym}
+use Rattle.fileset_model.specs.declared.command.Command.{Command}
+use Rattle.command_core.specs.Ending.{LacksPage}
+use Rattle.command_core.specs.declared.stop.Stop.TheVariants.{NoPage}
 use Rattle.command_core.proofs.Stops.{ends_same}
 use Rattle.command_core.proofs.staging.stage.Goals as goal
 use Rattle.command_core.proofs.staging.stage.Goals.{in-Mkfset, in-Rmfset, in-Setquota}
@@ -54,3 +57,15 @@ returns-in-Sync-clause-ends c = λ all stands. ends_same c.stage_nothing.result.
 
 pub returns-in-Cancel-clause-ends : goal.returns-in-Cancel-clause-ends
 returns-in-Cancel-clause-ends c = λ all stands. ends_same c.stage_nothing-in-Cancel.result.0 _ all c.args.command.now _ c.stage_nothing-in-Cancel.result.1 _ refl c.in-Cancel.is refl (c.stage_nothing-in-Cancel.ensures.cancel all stands)
+
+pub returns-in-Write-clause-ends : goal.returns-in-Write-clause-ends
+returns-in-Write-clause-ends c = λ all stands. ends_same c.stage_write.result.0 _ all c.args.command.now _ c.stage_write.result.1 _ refl c.in-Write.is refl (c.stage_write.ensures.ends all stands)
+
+pub returns-in-Truncate-clause-ends : goal.returns-in-Truncate-clause-ends
+returns-in-Truncate-clause-ends c = λ all stands. ends_same c.stage_truncate.result.0 _ all c.args.command.now _ c.stage_truncate.result.1 _ refl c.in-Truncate.is refl (c.stage_truncate.ensures.ends all stands)
+
+pub returns-in-Chfile-clause-ends : goal.returns-in-Chfile-clause-ends
+returns-in-Chfile-clause-ends c = λ all stands. ends_same c.stage_chfile.result.0 _ all c.args.command.now _ c.stage_chfile.result.1 _ refl c.in-Chfile.is refl (c.stage_chfile.ensures.ends all stands)
+
+pub returns-in-Write-clause-cause : goal.returns-in-Write-clause-cause
+returns-in-Write-clause-cause c = subst (λ (x : Command). IfErr c.stage_write.result.1 (λ stop. stop ≡ NoPage → LacksPage x c.args.memory)) (sym c.in-Write.is) c.stage_write.ensures.cause
