@@ -27,3 +27,6 @@ pub mod Refunded
 pub mod Written
 pub mod Present
 pub mod Wanted
+pub mod WaysSplit
+pub mod AtRoot
+pub mod RootMoved

@@ -96,7 +96,7 @@ module _ (memory last : DomainMemory) (same : IsSame memory last) where
 
 -- ---- what is asked of a place
 
-told : (o : Option Node) (b : Bool) → option_map is_directory o ≡ Some b → option_map_or is_directory o false ≡ b
+pub told : (o : Option Node) (b : Bool) → option_map is_directory o ≡ Some b → option_map_or is_directory o false ≡ b
 told None b is = absurd (none_not b is)
 told (Some node) b is = some_same (is_directory node) b is
 

@@ -1,5 +1,5 @@
 -- How a command ends that is laid over a domain's memory.
-use Rattle.std.specs.Prelude.{◌≡◌, ◌⊎◌, ◌≤◌, true, false, None, Option, Result, Ok, Err, Some, length}
+use Rattle.std.specs.Prelude.{◌≡◌, ◌⊎◌, true, false, None, Option, Result, Ok, Err, Some}
 use Rattle.std.specs.List.{list_any}
 use Rattle.page_store.specs.declared.fault.StoreFault.{StoreFault}
 use Rattle.page_store.specs.declared.fault.StoreFault.TheVariants as fault
@@ -17,7 +17,7 @@ use Rattle.domain_memory.specs.declared.memory.DomainMemory.{DomainMemory}
 use Rattle.domain_stages.specs.Beginning.{BeginsNone}
 use Rattle.domain_stages.specs.Limits.{LimitsNone}
 use Rattle.command_core.specs.Coming.{IsAnswered}
-use Rattle.command_core.specs.Naming.{IsNewPath}
+use Rattle.command_core.specs.Naming.{IsPathToGet}
 use Rattle.command_core.specs.declared.stop.Stop.{Stop}
 use Rattle.command_core.specs.declared.stop.Stop.TheVariants.{NoPage, OutOfMemory, Refused}
 
@@ -42,24 +42,23 @@ abbrev pub EndsAs : DomainMemory → FilesetMap → Command → Result Reply Sto
 EndsAs now all command (Ok reply) = IsAnswered now all command reply
 EndsAs now all command (Err stop) = StopsAs all command stop
 
--- the commands that are answered so far, with names of the forms that scripts have; what gives or
--- takes away a path is not answered of the root yet
+-- the commands that are answered so far, with names of the forms that scripts have
 abbrev pub IsServed : Command → Type 0
 IsServed (Mkfset fileset) = is_fileset_name fileset ≡ true
 IsServed (Rmfset fileset) = Unit {0}
 IsServed Showfsets = Unit {0}
 IsServed (Setquota fileset who files blocks) = Unit {0}
 IsServed (Showquota fileset who) = Unit {0}
-IsServed (Create place uid gid) = IsNewPath place.path
-IsServed (Mkdir place uid gid) = IsNewPath place.path
+IsServed (Create place uid gid) = IsPathToGet place.path
+IsServed (Mkdir place uid gid) = IsPathToGet place.path
 IsServed (Write place offset bytes) = Unit {0}
 IsServed (Read place offset count) = Unit {0}
 IsServed (Truncate place size) = Unit {0}
-IsServed (Link place to) = (1 ≤ length place.path) × IsNewPath to
+IsServed (Link place to) = IsPathToGet to
 IsServed (Links place) = Unit {0}
-IsServed (Unlink place) = 1 ≤ length place.path
-IsServed (Rmdir place) = 1 ≤ length place.path
-IsServed (Rename place to) = (1 ≤ length place.path) × IsNewPath to
+IsServed (Unlink place) = Unit {0}
+IsServed (Rmdir place) = Unit {0}
+IsServed (Rename place to) = IsPathToGet to
 IsServed (ListNames place) = Unit {0}
 IsServed (Stat place) = Unit {0}
 IsServed (Fsync place) = Unit {0}

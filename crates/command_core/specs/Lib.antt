@@ -4,3 +4,4 @@ pub mod Naming
 pub mod Leaving
 pub mod Placing
 pub mod Wanting
+pub mod Rooted

@@ -1,5 +1,5 @@
 -- Commands that change names.
-use Rattle.std.specs.Prelude.{◌≡◌, ◌≤◌, ℕ, true, length}
+use Rattle.std.specs.Prelude.{◌≡◌, ◌⊎◌, ◌≤◌, ℕ, true, [], length}
 use Rattle.domain_base.specs.declared.place.Kind.{Kind}
 use Rattle.domain_base.specs.declared.place.Kind.TheVariants as kind
 use Rattle.dir_pages.specs.Rows.{is_row_name}
@@ -12,6 +12,10 @@ use Rattle.name_space.specs.Changes.{last_name}
 -- a path that something may get: its last name is one that a row may have
 abbrev pub IsNewPath : Path → Type 0
 IsNewPath path = (1 ≤ length path) × (is_row_name (last_name path) ≡ true)
+
+-- such a path, or the root's
+abbrev pub IsPathToGet : Path → Type 0
+IsPathToGet path = (path ≡ []) ⊎ IsNewPath path
 
 -- the command that makes a thing of a kind
 abbrev pub creation : Kind → Place → ℕ → ℕ → Command

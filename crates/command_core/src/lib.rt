@@ -20,6 +20,7 @@ mod releasing;
 mod removing;
 mod renaming;
 mod room;
+mod rooted;
 mod serving;
 mod showing;
 mod staging;

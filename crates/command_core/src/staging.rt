@@ -9,18 +9,15 @@ ghost use Rattle.command_core.specs.Ending.{EndsAs, IsServed, LacksPage};
 ghost use Rattle.command_core.specs.declared.stop.Stop.TheVariants.{NoPage};
 
 use crate::beginning::stage_fileset;
-use crate::creating::stage_creation;
 use crate::filing::{stage_chfile, stage_truncate};
 use crate::lasting::{stage_fsync, stage_nothing};
 use crate::limiting::stage_limits;
-use crate::linking::stage_link;
 use crate::listing::{stage_list, stage_stat};
 use crate::looking::{stage_links, stage_read};
 use crate::removing::stage_removal;
-use crate::renaming::stage_rename;
+use crate::rooted::{stage_leaving, stage_linking, stage_making, stage_moving};
 use crate::showing::{stage_showfsets, stage_showquota};
 use crate::stop::Stop;
-use crate::taking::stage_taking;
 use crate::writing::stage_write;
 use domain_base::{Kind, VolIx};
 use domain_memory::DomainMemory;
@@ -66,10 +63,10 @@ pub(crate) fn stage(
             return stage_showquota(memory, fileset, *who);
         }
         Command::Create { place, uid, gid } => {
-            return stage_creation(memory, alloc, place, Kind::File, *uid, *gid, prefer);
+            return stage_making(memory, alloc, place, Kind::File, *uid, *gid, prefer);
         }
         Command::Mkdir { place, uid, gid } => {
-            return stage_creation(memory, alloc, place, Kind::Directory, *uid, *gid, prefer);
+            return stage_making(memory, alloc, place, Kind::Directory, *uid, *gid, prefer);
         }
         Command::Write {
             place,
@@ -88,16 +85,16 @@ pub(crate) fn stage(
         Command::Truncate { place, size } => {
             return stage_truncate(memory, alloc, place, *size, prefer);
         }
-        Command::Link { place, to } => return stage_link(memory, alloc, place, to, prefer),
+        Command::Link { place, to } => return stage_linking(memory, alloc, place, to, prefer),
         Command::Links { place } => return stage_links(memory, place, prefer),
         Command::Unlink { place } => {
-            return stage_taking(memory, alloc, place, Kind::File, prefer);
+            return stage_leaving(memory, alloc, place, Kind::File, prefer);
         }
         Command::Rmdir { place } => {
-            return stage_taking(memory, alloc, place, Kind::Directory, prefer);
+            return stage_leaving(memory, alloc, place, Kind::Directory, prefer);
         }
         Command::Rename { place, to } => {
-            return stage_rename(memory, alloc, place, to, prefer);
+            return stage_moving(memory, alloc, place, to, prefer);
         }
         Command::List { place } => return stage_list(memory, alloc, place, prefer),
         Command::Stat { place } => return stage_stat(memory, alloc, place, prefer),

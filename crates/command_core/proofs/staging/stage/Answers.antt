@@ -14,22 +14,22 @@ returns-clause-ends c = λ all stands. elim c.match-command.branch [
 ]
 
 pub returns-in-Create-clause-ends : goal.returns-in-Create-clause-ends
-returns-in-Create-clause-ends c = λ all stands. ends_same c.stage_creation.result.0 _ all c.args.command.now _ c.stage_creation.result.1 _ refl c.in-Create.is refl (c.stage_creation.ensures.ends all stands)
+returns-in-Create-clause-ends c = λ all stands. ends_same c.stage_making.result.0 _ all c.args.command.now _ c.stage_making.result.1 _ refl c.in-Create.is refl (c.stage_making.ensures.ends all stands)
 
 pub returns-in-Mkdir-clause-ends : goal.returns-in-Mkdir-clause-ends
-returns-in-Mkdir-clause-ends c = λ all stands. ends_same c.stage_creation-in-Mkdir.result.0 _ all c.args.command.now _ c.stage_creation-in-Mkdir.result.1 _ refl c.in-Mkdir.is refl (c.stage_creation-in-Mkdir.ensures.ends all stands)
+returns-in-Mkdir-clause-ends c = λ all stands. ends_same c.stage_making-in-Mkdir.result.0 _ all c.args.command.now _ c.stage_making-in-Mkdir.result.1 _ refl c.in-Mkdir.is refl (c.stage_making-in-Mkdir.ensures.ends all stands)
 
 pub returns-in-Link-clause-ends : goal.returns-in-Link-clause-ends
-returns-in-Link-clause-ends c = λ all stands. ends_same c.stage_link.result.0 _ all c.args.command.now _ c.stage_link.result.1 _ refl c.in-Link.is refl (c.stage_link.ensures.ends all stands)
+returns-in-Link-clause-ends c = λ all stands. ends_same c.stage_linking.result.0 _ all c.args.command.now _ c.stage_linking.result.1 _ refl c.in-Link.is refl (c.stage_linking.ensures.ends all stands)
 
 pub returns-in-Unlink-clause-ends : goal.returns-in-Unlink-clause-ends
-returns-in-Unlink-clause-ends c = λ all stands. ends_same c.stage_taking.result.0 _ all c.args.command.now _ c.stage_taking.result.1 _ refl c.in-Unlink.is refl (c.stage_taking.ensures.ends all stands)
+returns-in-Unlink-clause-ends c = λ all stands. ends_same c.stage_leaving.result.0 _ all c.args.command.now _ c.stage_leaving.result.1 _ refl c.in-Unlink.is refl (c.stage_leaving.ensures.ends all stands)
 
 pub returns-in-Rmdir-clause-ends : goal.returns-in-Rmdir-clause-ends
-returns-in-Rmdir-clause-ends c = λ all stands. ends_same c.stage_taking-in-Rmdir.result.0 _ all c.args.command.now _ c.stage_taking-in-Rmdir.result.1 _ refl c.in-Rmdir.is refl (c.stage_taking-in-Rmdir.ensures.ends all stands)
+returns-in-Rmdir-clause-ends c = λ all stands. ends_same c.stage_leaving-in-Rmdir.result.0 _ all c.args.command.now _ c.stage_leaving-in-Rmdir.result.1 _ refl c.in-Rmdir.is refl (c.stage_leaving-in-Rmdir.ensures.ends all stands)
 
 pub returns-in-Rename-clause-ends : goal.returns-in-Rename-clause-ends
-returns-in-Rename-clause-ends c = λ all stands. ends_same c.stage_rename.result.0 _ all c.args.command.now _ c.stage_rename.result.1 _ refl c.in-Rename.is refl (c.stage_rename.ensures.ends all stands)
+returns-in-Rename-clause-ends c = λ all stands. ends_same c.stage_moving.result.0 _ all c.args.command.now _ c.stage_moving.result.1 _ refl c.in-Rename.is refl (c.stage_moving.ensures.ends all stands)
 
 pub returns-in-Read-clause-ends : goal.returns-in-Read-clause-ends
 returns-in-Read-clause-ends c = λ all stands. ends_same c.stage_read.result.0 _ all c.args.command.now _ c.stage_read.result.1 _ refl c.in-Read.is refl (c.stage_read.ensures.ends all stands)
