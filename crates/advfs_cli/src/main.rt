@@ -1,4 +1,4 @@
-//! The program: reads a script, runs its commands over new filesets, and prints the history.
+//! The program: runs scripts over new filesets, makes domains in images, and verifies these.
 #![tactic(auto)]
 
 use advfs_run::program;

@@ -157,5 +157,6 @@ placed_as memory all place number tag of other same p = record {
   has = p.has;
   here = p.here;
   role = p.role;
+  named = p.named;
   leads = subst (LeadsTo place.path p.fileset tag) same p.leads;
 }

@@ -40,8 +40,8 @@ abbrev pub pages_at : DomainMemory → ℕ → ℕ
 pages_at memory number = if of_original (slice_get memory.table.slots number)
     then (used (staged_books memory number) Fileset).blocks / blocks_per_page else 0
 
--- fewer pages are free than a command may need, no page waits, and nothing on the list may be let go
--- of
+-- fewer pages are free than a command may need, no page waits, and nothing on the list may be let
+-- go of
 pub record IsShort (memory : DomainMemory) (command : Command) : Type 0 where
   pub few : free_in memory < need command
   pub none_waits : NoneWaits memory.space

@@ -66,8 +66,8 @@ pub(crate) fn take_back<R: Rack, O: Opening>(domain: Domain<R, O>) -> Domain<R, 
     domain
 }
 
-/// Takes the change back that is laid over a domain, and adds a client's command to its history with
-/// a refusal: that of the rules of filesets, or out-of-memory.
+/// Takes the change back that is laid over a domain, and adds a client's command to its history
+/// with a refusal: that of the rules of filesets, or out-of-memory.
 pub(crate) fn add_refusal<R: Rack, O: Opening>(
     domain: Domain<R, O>,
     client: u8,

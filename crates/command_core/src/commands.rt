@@ -16,7 +16,7 @@ use volume_disk::Rack;
 /// of filesets say, in their order; or out-of-memory, where nothing changes. Where a page is wanted
 /// in vain the domain is drained, and the command laid over it once more; where a page is wanted
 /// again it is answered no-space with the pages that are free and those that it may need, if fewer
-/// are free and the open members have no more than all that may be needed by now, and else
+/// are free and the open members have fewer than all that may be needed with it by now, and else
 /// out-of-memory. Behind a command that changes something, things on the list are let go of. The
 /// preferred volume is the one of which pages and cells are taken first.
 pub fn command<R: Rack, O: Opening>(

@@ -27,8 +27,8 @@ use name_space::NameFault;
 use name_stages::{create, settings_of};
 use std::alloc::Global;
 
-/// Why nothing is made that a quota may refuse too: that is refused behind what names refuse, and in
-/// front of want of a page.
+/// Why nothing is made that a quota may refuse too: that is refused behind what names refuse, and
+/// in front of want of a page.
 pub(crate) fn stop_for(fault: NameFault, over: Option<Refusal>) -> Stop
     ensures { (checks : Checks) (fileset : FilesetSlot) → IsRefused checks fileset fault
         → StopsWith (first_refusal (checks fileset ++ over ∷ [])) result }

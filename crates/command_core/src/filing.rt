@@ -61,7 +61,7 @@ fn flag_found(
 }
 
 /// Says of a file whether its data is logged: it is refused as the rules of filesets say, in their
-/// order. It wants no page. Where it stops nothing has changed.
+/// order. It wants no page, and nothing is written yet.
 pub(crate) fn stage_chfile(
     memory: DomainMemory,
     alloc: Global,

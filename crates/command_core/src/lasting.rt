@@ -39,8 +39,8 @@ pub(crate) fn stage_fsync(
     (memory, answer)
 }
 
-/// Answers a command that nothing refuses and that changes nothing: sync, of which nothing is written
-/// yet, and cancel, which the mover's job sees in the history. Memory stays as it is.
+/// Answers a command that nothing refuses and that changes nothing: sync, of which nothing is
+/// written yet, and cancel, which the mover's job sees in the history. Memory stays as it is.
 pub(crate) fn stage_nothing(memory: DomainMemory) -> (DomainMemory, Result<Reply, Stop>)
     requires settled { IsSettled memory }
     requires back { ∥ MayGoBack memory ∥₁ }

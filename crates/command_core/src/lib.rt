@@ -1,5 +1,5 @@
-//! Commands of clients: each is laid over a domain's memory by a function of its own, which stops at
-//! the first refusal, and all are answered and added to the domain's history by one.
+//! Commands of clients: each is laid over a domain's memory by a function of its own, which stops
+//! at the first refusal, and all are answered and added to the domain's history by one.
 #![tactic(auto)]
 
 mod answering;

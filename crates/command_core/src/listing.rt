@@ -115,8 +115,8 @@ fn stat_at(
     }
 }
 
-/// Lists a directory: it is refused as the rules of filesets say, in their order. Memory stays as it
-/// is.
+/// Lists a directory: it is refused as the rules of filesets say, in their order. Memory stays as
+/// it is.
 pub(crate) fn stage_list(
     memory: DomainMemory,
     alloc: Global,

@@ -23,8 +23,8 @@ pub(crate) struct Placed {
     pub(crate) kind: Kind,
 }
 
-/// What stands at a place; no-fileset where the domain has no such fileset, and else what is refused
-/// on the way to it. Memory stays as it is.
+/// What stands at a place; no-fileset where the domain has no such fileset, and else what is
+/// refused on the way to it. Memory stays as it is.
 pub(crate) fn find_place(
     memory: DomainMemory,
     place: &Place,

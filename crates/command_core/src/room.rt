@@ -21,8 +21,8 @@ use volume_disk::Rack;
 /// An offset that no file has, and more bytes than one write may have.
 const FARTHEST: u64 = 1 << 40;
 
-/// How many pages so many bytes from an offset on lie in; None where these are more, or farther off,
-/// than any file has.
+/// How many pages so many bytes from an offset on lie in; None where these are more, or farther
+/// off, than any file has.
 fn pages_of_bytes(offset: u64, bytes: u64) -> Option<u64>
     ensures count { IfSome result (λ count. count ≡ length (pages_of offset bytes)) }
     ensures few { IfSome result (λ count. count ≤ 2 ^ 42) }

@@ -170,8 +170,8 @@ pub(crate) fn stage_making(
     stage_creation(memory, alloc, place, kind, uid, gid, prefer)
 }
 
-/// Lays over a domain's memory that a path of a file is taken away, or a directory: it is refused as
-/// the rules of filesets say, in their order. Where it stops the change may be half made.
+/// Lays over a domain's memory that a path of a file is taken away, or a directory: it is refused
+/// as the rules of filesets say, in their order. Where it stops the change may be half made.
 pub(crate) fn stage_leaving(
     memory: DomainMemory,
     alloc: Global,

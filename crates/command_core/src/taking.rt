@@ -111,8 +111,8 @@ fn take_led(
     (memory, answer)
 }
 
-/// Lays over a domain's memory that a path of a file is taken away, or a directory: it is refused as
-/// the rules of filesets say, in their order. Where it stops the change may be half made.
+/// Lays over a domain's memory that a path of a file is taken away, or a directory: it is refused
+/// as the rules of filesets say, in their order. Where it stops the change may be half made.
 pub(crate) fn stage_taking(
     memory: DomainMemory,
     alloc: Global,

@@ -75,8 +75,8 @@ fn only_looks(command: &Command) -> bool {
     )
 }
 
-/// Lets go of some of the things on a domain's list, unless a command only looked at filesets. Where
-/// memory is short nothing is let go of.
+/// Lets go of some of the things on a domain's list, unless a command only looked at filesets.
+/// Where memory is short nothing is let go of.
 fn release_unless<R: Rack, O: Opening>(
     domain: Domain<R, O>,
     alloc: Global,
@@ -256,7 +256,8 @@ fn refuse_want<R: Rack, O: Opening>(
     }
 }
 
-/// The same, where what is wanted is still to be counted.
+/// Refuses a command that finds no page in a domain that was drained, once what it may need is
+/// counted.
 fn refuse_for_want<R: Rack, O: Opening>(
     domain: Domain<R, O>,
     client: u8,
