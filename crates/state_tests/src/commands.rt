@@ -245,6 +245,30 @@ static SHORT: [Row; 60] = [
     ("create home:/f/a 0 0", "E20 no-space free=0 need=16"),
 ];
 
+static WRITES: [Row; 18] = [
+    ("mkfset home", "ok"),
+    ("write home:/a 0 61", "E3 no-path"),
+    ("create home:/a 10 20", "ok"),
+    ("setquota home user 10 0 16", "ok"),
+    ("write home:/a 0 61.62.63", "ok 3"),
+    ("read home:/a 1 100", "ok 62.63"),
+    (
+        "write home:/a 8192 61",
+        "E12 quota-blocks limit=16 used=16 asked=16",
+    ),
+    ("write home:/a 536870911 61.62", "E14 too-far"),
+    ("chfile -L on home:/a", "ok"),
+    ("chfile -L off home:/b", "E3 no-path"),
+    ("truncate home:/a 2", "ok"),
+    ("read home:/a 0 4", "ok 61.62"),
+    ("mkdir home:/d 10 20", "ok"),
+    ("write home:/d 0 61", "E6 is-directory"),
+    ("truncate home:/d 0", "E6 is-directory"),
+    ("chfile -L on home:/d", "E6 is-directory"),
+    ("truncate home:/a 536870913", "E14 too-far"),
+    ("write other:/a 0 61", "E1 no-fileset"),
+];
+
 #[test]
 fn files_and_directories_are_made_and_linked(rt: HostRuntime) -> Result<(), Fail> {
     let alloc = rt.alloc();
@@ -282,5 +306,13 @@ fn a_domain_without_free_pages_answers_no_space(rt: HostRuntime) -> Result<(), F
     let alloc = rt.alloc();
     let found = made_and_told(alloc, 160, &SHORT)?;
     assert_eq!(rt; found.as_slice(), wanted(alloc, &SHORT)?.as_slice());
+    Ok(())
+}
+
+#[test]
+fn files_are_written_truncated_and_flagged(rt: HostRuntime) -> Result<(), Fail> {
+    let alloc = rt.alloc();
+    let found = made_and_told(alloc, 512, &WRITES)?;
+    assert_eq!(rt; found.as_slice(), wanted(alloc, &WRITES)?.as_slice());
     Ok(())
 }
