@@ -158,6 +158,13 @@ impl FreeCells {
         self.give_back(&at);
     }
 
+    /// The pages of the volume's table, in their order.
+    pub fn table(&self, vol: VolIx) -> &[u32]
+        ensures { result.now ≡ table_of self.now vol }
+    {
+        self.volumes[vol.index()].table()
+    }
+
     /// Closes the volume: no cell of it is handed out until it is activated.
     pub fn close_volume(&mut self, vol: VolIx)
         ensures value { Holds (table_of self.old)

@@ -191,6 +191,13 @@ impl VolumeCells {
         self.is_closed = false;
     }
 
+    /// The pages of the table, in their order.
+    pub fn table(&self) -> &[u32]
+        ensures { result.now ≡ self.now.table }
+    {
+        self.table.as_slice()
+    }
+
     /// How many pages the table has.
     pub fn page_count(&self) -> usize
         ensures { result ≡ length self.now.table }
