@@ -140,7 +140,7 @@ module _ (number : ℕ) (tag : Tag) (page : ℕ) (bytes : List ℕ) (prefer : �
 
   off_first_cell : (home : Home) → has_home_in (d.tags number) home ≡ true → adds.said home ≡ d.pages home
   off_first_cell home has = changes_first.1 home
-      (off_first d around.files around.indexes around.below number around.entry around.original tag around.chains around.well h.first h.rest h.is home (around.well.together.tag_pages home has).off_table)
+      (off_first d around.files around.indexes around.below number tag around.chains around.well h.first h.rest h.is home (around.well.together.tag_pages home has).off_table)
     where
       changes_first : ChangesFirst (Some (h.first ∷ h.rest)) d.pages adds.said
       changes_first = subst (λ o. ChangesFirst o d.pages adds.said) h.is adds.first

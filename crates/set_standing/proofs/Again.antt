@@ -25,7 +25,7 @@ use Rattle.standing_laws.specs.IndexCalls.{NamesFile}
 use Rattle.standing_laws.specs.Leads.{StandsBelow}
 use Rattle.standing_laws.proofs.IndexWas.{there_was}
 use Rattle.standing_laws.specs.Sound.{StandsSoundBut}
-use Rattle.set_standing.specs.Around.{IsNamedIn, StandsAround}
+use Rattle.set_standing.specs.Around.{IsNamedIn, StandsAround, StandsAtSlot}
 
 pub its_number : (number : ℕ) (tag : Tag) (cs : List PlacedCell) → IsOf number tag cs → IsOfFileset number cs
 its_number number tag [] of = of
@@ -58,10 +58,22 @@ module _ (number : ℕ) (d : DomainNow) (entry : FilesetEntry) (original : slice
     sound = sound;
   }
 
+-- an original's slot is one of these
+abbrev pub at_slot : (number : ℕ) (d : DomainNow) → StandsAround number d → StandsAtSlot number d
+at_slot number d around = record {
+  files = around.files;
+  indexes = around.indexes;
+  below = around.below;
+  chains = around.chains;
+  well = around.well;
+  alone = around.alone;
+  sound = around.sound;
+}
+
 -- the file that a tag of the slot names
-module _ (number : ℕ) (tag : Tag) (d : DomainNow) (around : StandsAround number d) (first : PlacedCell) (rest : List PlacedCell) (is : around.chains tag ≡ Some (first ∷ rest)) where
+module _ (number : ℕ) (tag : Tag) (d : DomainNow) (around : StandsAtSlot number d) (first : PlacedCell) (rest : List PlacedCell) (is : around.chains tag ≡ Some (first ∷ rest)) where
   pub there_first : around.files first.at ≡ Some (first ∷ rest)
-  there_first = there_was d around.files around.indexes around.below number around.entry around.original tag around.chains around.well first rest is
+  there_first = there_was d around.files around.indexes around.below number tag around.chains around.well first rest is
 
   pub number_first : IsOfFileset number (first ∷ rest)
   number_first = its_number number tag (first ∷ rest) (subst (λ o. IfSome o (LeadsToFile number (d.tags number) d.pages tag)) is (around.well.together.files.some tag)).is_of
@@ -69,9 +81,6 @@ module _ (number : ℕ) (tag : Tag) (d : DomainNow) (around : StandsAround numbe
   -- its first cell has attributes
   pub says_first : ¬ first_record 1 (first ∷ rest) ≡ None
   says_first = says_some d.pages (cell_of d.pages (d.tags number) tag) (first ∷ rest) (subst (λ o. IfSome o (LeadsToFile number (d.tags number) d.pages tag)) is (around.well.together.files.some tag)).leads
-
-  pub names_first : NamesFile number tag first.at d around.chains around.files
-  names_first = record { entry = around.entry; original = around.original; well = around.well; begins = ap (option_and_then start_of) is }
 
   -- it is read through none, whatever its first cell says beside
   pub alone_said : (says : Cell → Cell) → record_of 2 (says first.cell).records ≡ record_of 2 first.cell.records → (at : CellAt) → source_at (with_file first.at (Some (with_first says (first ∷ rest))) around.files) at ≡ None
@@ -83,3 +92,7 @@ module _ (number : ℕ) (tag : Tag) (d : DomainNow) (around : StandsAround numbe
       ∙ around.alone first.at)
       (λ apart. ap (option_and_then source_of) (file_other first.at (Some (with_first says (first ∷ rest))) around.files at apart) ∙ around.alone at)
       (same_or_not at first.at)
+
+-- and that of an original
+pub names_first : (number : ℕ) (tag : Tag) (d : DomainNow) (around : StandsAround number d) (first : PlacedCell) (rest : List PlacedCell) → around.chains tag ≡ Some (first ∷ rest) → NamesFile number tag first.at d around.chains around.files
+names_first number tag d around first rest is = record { entry = around.entry; original = around.original; well = around.well; begins = ap (option_and_then start_of) is }

@@ -192,7 +192,7 @@ module _ (number : ℕ) (start : CellAt) (d now : DomainNow) (files : Files) (in
               at = m.at;
               other = other_start t (first ∷ rest) some;
               inside = there_too;
-              low = index_low_was d files indexes below n entry slot_there t its well first rest some home (subst (λ (a : CellAt). Contains (indexes a) home) (sym same) there_too);
+              low = index_low_was d files indexes below n t its well first rest some home (subst (λ (a : CellAt). Contains (indexes a) home) (sym same) there_too);
             }
 
         by_chain : (o : Option (List PlacedCell)) → its t ≡ o → IndexThere home

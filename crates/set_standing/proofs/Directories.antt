@@ -21,7 +21,7 @@ use Rattle.standing_laws.specs.Sets.{StandsAsSet}
 use Rattle.standing_laws.specs.Domain.{DomainNow}
 use Rattle.standing_laws.specs.Leads.{IsLiveOf}
 use Rattle.set_standing.specs.Around.{StandsAround}
-use Rattle.set_standing.proofs.Again.{there_first}
+use Rattle.set_standing.proofs.Again.{at_slot, there_first}
 use Rattle.set_standing.proofs.CallsAround.{HasFirst, first_of}
 
 -- what a set shows at a tag, and which file that is
@@ -56,7 +56,7 @@ module _ (number : ℕ) (d : DomainNow) (around : StandsAround number d) (set : 
   first_there = first_of number d around tag (λ (a : Attributes). a.kind ≡ Directory) is_live
 
   pub index_there : AreIndexHomes d.pages (option_and_then index_of (around.chains tag)) (around.indexes first_there.first.at)
-  index_there = subst (λ o. AreIndexHomes d.pages (option_and_then index_of o) (around.indexes first_there.first.at)) (there_first number tag d around first_there.first first_there.rest first_there.is ∙ sym first_there.is)
+  index_there = subst (λ o. AreIndexHomes d.pages (option_and_then index_of o) (around.indexes first_there.first.at)) (there_first number tag d (at_slot number d around) first_there.first first_there.rest first_there.is ∙ sym first_there.is)
       (around.below.chains.indexed first_there.first.at)
 
 -- ---- a directory stays one

@@ -39,7 +39,7 @@ use Rattle.standing_laws.proofs.SoundKept.{but_kept}
 use Rattle.standing_laws.proofs.SoundParted.{sound_more}
 use Rattle.set_standing.specs.Around.{BytesFollow, IsNamedIn, StandsAround}
 use Rattle.set_standing.specs.Beside.{ChangesOneFile, StaysBeside}
-use Rattle.set_standing.proofs.Again.{alone_said, around_of}
+use Rattle.set_standing.proofs.Again.{alone_said, around_of, at_slot}
 use Rattle.set_standing.proofs.CallsAround.{sets}
 use Rattle.set_standing.proofs.FileSaid.{file_said, h, its_file, mine, said_files}
 use Rattle.set_standing.proofs.FileShown.{IsShownAlike}
@@ -112,7 +112,7 @@ module _ (number : ℕ) (tag : Tag) (d : DomainNow) (around : StandsAround numbe
         ∙ size_other size (Some keep) first.cell 2 (λ e. cc)
 
     alone_now : (at : CellAt) → source_at files_now at ≡ None
-    alone_now = alone_said number tag d around first rest is (says_truncated size lowered) (source_same lowered)
+    alone_now = alone_said number tag d (at_slot number d around) first rest is (says_truncated size lowered) (source_same lowered)
 
     there_now : files_now first.at ≡ Some (with_first (says_truncated size lowered) (first ∷ rest))
     there_now = file_there first.at (Some (with_first (says_truncated size lowered) (first ∷ rest))) around.files

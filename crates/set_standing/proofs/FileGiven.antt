@@ -40,6 +40,7 @@ use Rattle.standing_laws.specs.Leads.{IsLiveOf, fileset_now}
 use Rattle.standing_laws.proofs.TablesTaken.{unheld_taken}
 use Rattle.set_standing.specs.Around.{BytesFollow, ChangesSlot, StandsAround}
 use Rattle.set_standing.specs.Beside.{ChangesOneFile, StaysBeside}
+use Rattle.set_standing.proofs.Again.{at_slot}
 use Rattle.set_standing.proofs.FilePage.{around_put, beside_put}
 use Rattle.set_standing.proofs.FileShown.{HasState, live_alike, shown_again, state_there}
 use Rattle.set_standing.proofs.Led.{KeepsOthers, around_now, leads, other_page}
@@ -133,7 +134,7 @@ module _ (number : ℕ) (tag : Tag) (page : ℕ) (bytes : List ℕ) (prefer : �
   page_same at k home there = put_apart home (not_it at k home there) ∙ other_page number tag d held around same_slot chains_held files_held is_given absent tt at k home there
 
   own_same : (t : Tag) (k : ℕ) (home : Home) → place_at around.chains t k ≡ At home → pages home ≡ d.pages home
-  own_same t k home at = let h = held_for number d around t k home at in page_same h.name.at k home h.placed
+  own_same t k home at = let h = held_for number d (at_slot number d around) t k home at in page_same h.name.at k home h.placed
 
   place_of_it : (home : Home) → ¬ place_at around_held.chains tag page ≡ At home → pages home ≡ gets.between home
   place_of_it home none = put_apart home (false_from_ne_true (same_home home gets.home) (λ here. none (its_place ∙ ap At (sym (homes_same home gets.home here)))))

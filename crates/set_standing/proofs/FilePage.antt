@@ -30,7 +30,7 @@ use Rattle.standing_laws.proofs.OthersStand.{others_stand}
 use Rattle.standing_laws.proofs.SoundInPlace.{but_elsewhere}
 use Rattle.set_standing.specs.Around.{BytesFollow, IsNamedIn, StandsAround}
 use Rattle.set_standing.specs.Beside.{ChangesOneFile, StaysBeside}
-use Rattle.set_standing.proofs.Again.{its_number, says_some}
+use Rattle.set_standing.proofs.Again.{at_slot, its_number, says_some}
 use Rattle.set_standing.proofs.Aside.{own_quotas, parents_aside, slot_aside}
 use Rattle.set_standing.proofs.Besides.{IsOff, is_off}
 use Rattle.set_standing.proofs.FileShown.{HasState, shown_again, state_there}
@@ -89,7 +89,7 @@ module _ (number : ℕ) (tag : Tag) (page : ℕ) (d : DomainNow) (around : Stand
   -- the page is of no other tag's file
   pub page_elsewhere : (t : Tag) (k : ℕ) (home : Home) → same_tag t tag ≡ false → place_at around.chains t k ≡ At home → pages home ≡ d.pages home
   page_elsewhere t k home differ at = elsewhere home (λ mine.
-      let h = held_for number d around t k home at in
+      let h = held_for number d (at_slot number d around) t k home at in
       other_begins number (d.tags number) d.pages around.chains around.well.together.files around.files t tag h.cells cs h.there some differ h.name m
       (one_start h.name.at k m.at page (around.below.owned.once home (of_file h.name.at k) (of_file m.at page) h.placed (place_there home mine))))
     where

@@ -51,7 +51,7 @@ use Rattle.standing_laws.proofs.SoundIndexed.{but_added, but_written}
 use Rattle.standing_laws.proofs.SoundParted.{sound_more}
 use Rattle.set_standing.specs.Around.{BytesFollow, GoesOnAround, IsNamedIn, StandsAround}
 use Rattle.set_standing.specs.Follow.{FilesFollow}
-use Rattle.set_standing.proofs.Again.{alone_said, around_of, names_first, number_first, says_first, there_first}
+use Rattle.set_standing.proofs.Again.{alone_said, around_of, at_slot, names_first, number_first, says_first, there_first}
 use Rattle.set_standing.proofs.Aside.{stays_aside}
 use Rattle.set_standing.proofs.FilesKept.{comes_changed, files_by, parent_kept}
 use Rattle.set_standing.proofs.Following.{chain_changed, kept_sequences, same_sequences}
@@ -60,13 +60,13 @@ use Rattle.set_standing.proofs.OwnPages.{held_for, not_in_index, page_bytes}
 
 module _ (number : ℕ) (tag : Tag) (d : DomainNow) (around : StandsAround number d) (first : PlacedCell) (rest : List PlacedCell) (is : around.chains tag ≡ Some (first ∷ rest)) where
   off_its_cells : (home : Home) → Contains (around.indexes first.at) home → ¬ Contains (table_of d.cells home.vol) home.page
-  off_its_cells = off_cells d around.files around.indexes around.below number around.entry around.original tag around.chains around.well first rest is
+  off_its_cells = off_cells d around.files around.indexes around.below number tag around.chains around.well first rest is
 
   off_its_tags : (home : Home) → Contains (around.indexes first.at) home → ¬ has_home (d.tags number) home ≡ true
-  off_its_tags = off_tags d around.files around.indexes around.below number around.entry around.original tag around.chains around.well first rest is number
+  off_its_tags = off_tags d around.files around.indexes around.below number tag around.chains around.well first rest is number
 
   off_its_first : (home : Home) → ¬ Contains (table_of d.cells home.vol) home.page → same_home home (home_of first.at) ≡ false
-  off_its_first = off_first d around.files around.indexes around.below number around.entry around.original tag around.chains around.well first rest is
+  off_its_first = off_first d around.files around.indexes around.below number tag around.chains around.well first rest is
 
   -- the tag names the file, whatever the first cell says
   named_first : IsNamedIn around.chains first.at
@@ -78,11 +78,11 @@ module _ (number : ℕ) (tag : Tag) (d : DomainNow) (around : StandsAround numbe
 
   -- where its first cell says an index
   said_files : (says : Cell → Cell) → with_said first.at says around.files ≡ with_file first.at (Some (with_first says (first ∷ rest))) around.files
-  said_files says = ap (λ o. with_file first.at (option_map (with_first says) o) around.files) (there_first number tag d around first rest is)
+  said_files says = ap (λ o. with_file first.at (option_map (with_first says) o) around.files) (there_first number tag d (at_slot number d around) first rest is)
 
   alone_now : (index : Option IndexPlace) (at : CellAt) → source_at (with_said first.at (says_index index) around.files) at ≡ None
   alone_now index at =
-      ap (λ (f : Files). source_at f at) (said_files (says_index index)) ∙ alone_said number tag d around first rest is (says_index index) (index_other index first.cell 2 (λ e. omega (arith, e))) at
+      ap (λ (f : Files). source_at f at) (said_files (says_index index)) ∙ alone_said number tag d (at_slot number d around) first rest is (says_index index) (index_other index first.cell 2 (λ e. omega (arith, e))) at
 
   -- what tags name follows where only its first cell says something of its index
   index_follows : (now : DomainNow) (says : Cell → Cell) (index : Option IndexPlace) → says ≡ says_index index → now.tags number ≡ d.tags number → AreFiles number (d.tags number) now.pages (with_chain tag (with_first says) around.chains) → ((home : Home) → has_home (d.tags number) home ≡ true → now.pages home ≡ d.pages home)
@@ -90,10 +90,10 @@ module _ (number : ℕ) (tag : Tag) (d : DomainNow) (around : StandsAround numbe
   index_follows now says index said same_tags are tag_pages bytes stays =
       files_by number d now [] (same_tags ∙ sym (append-nil (d.tags number))) (same_sequences number d now same_tags (kept_sequences d.pages now.pages (d.tags number) around.well.together.files.directory tag_pages))
       around.chains (with_chain tag (with_first says) around.chains) around.well.together.files (subst (λ (ps : List TagPlace). AreFiles number ps now.pages (with_chain tag (with_first says) around.chains)) (sym same_tags) are)
-      (chain_changed number d now around.chains tag (with_first says) (first ∷ rest) is (λ t cells differ there. page_bytes number d around now bytes t cells there (stays t))
+      (chain_changed number d now around.chains tag (with_first says) (first ∷ rest) is (λ t cells differ there. page_bytes number d (at_slot number d around) now bytes t cells there (stays t))
       (comes_changed d now (first ∷ rest) (with_first says (first ∷ rest)) (indexed index) (λ s. refl) (λ state seen. record { kind = refl; uid = refl; gid = refl; size = refl; logged = refl; homes = λ page. refl })
       its_state
-      (page_bytes number d around now bytes tag (first ∷ rest) is (stays tag)))
+      (page_bytes number d (at_slot number d around) now bytes tag (first ∷ rest) is (stays tag)))
       (parent_kept tag (first ∷ rest) (with_first says (first ∷ rest)) (indexed index) (λ s. refl) (λ s. refl) its_state))
     where
       its_file : AreFile d.pages first rest
@@ -131,7 +131,7 @@ module _ (number : ℕ) (tag : Tag) (d : DomainNow) (around : StandsAround numbe
     off_tag home has = put_apart home (λ inside. off_its_tags home inside has) ∙ changes.1 home (off_its_first home (around.well.together.tag_pages home has).off_table)
 
     file_stays : (t : Tag) (k : ℕ) (home : Home) → place_at around.chains t k ≡ At home → pages home ≡ d.pages home
-    file_stays t k home at = put_apart home (not_in_index number d around first t k home at) ∙ changes.1 home (off_its_first home (around.well.together.file_pages t k home at).apart.off_table)
+    file_stays t k home at = put_apart home (not_in_index number d (at_slot number d around) first t k home at) ∙ changes.1 home (off_its_first home (around.well.together.file_pages t k home at).apart.off_table)
 
     sound_then : StandsSoundBut (IsNamedIn (with_chain tag (with_first says) around.chains)) then (with_said first.at says around.files) around.indexes
     sound_then = named_said says then (with_said first.at says around.files) around.indexes
@@ -140,7 +140,7 @@ module _ (number : ℕ) (tag : Tag) (d : DomainNow) (around : StandsAround numbe
     page_written : BytesFollow d then → GoesOnAround None number d then
     page_written follow = (
       around_of number then around.entry around.original (with_said first.at says around.files) around.indexes below_then (with_chain tag (with_first says) around.chains) together_then (alone_now (Some writes.says.index)) sound_then,
-      stays_aside number first.at d then around.files around.indexes around.below (first ∷ rest) (there_first number tag d around first rest is) (number_first number tag d around first rest is) (says_first number tag d around first rest is) (λ n differ. refl) refl below_then.chains.well.together.allocated
+      stays_aside number first.at d then around.files around.indexes around.below (first ∷ rest) (there_first number tag d (at_slot number d around) first rest is) (number_first number tag d (at_slot number d around) first rest is) (says_first number tag d (at_slot number d around) first rest is) (λ n differ. refl) refl below_then.chains.well.together.allocated
           (λ at on other. ap (λ (o : Option (List ℕ)). cell_at (λ _. o) at) (on_table (home_of at) on) ∙ changes.0 at other)
           (λ home off. put_apart home off.no_index ∙ changes.1 home (off_its_first home off.off_table))
           (λ home off held. held) follow refl refl (index_follows then says (Some writes.says.index) refl refl together_then.files off_tag follow file_stays),
@@ -173,7 +173,7 @@ module _ (number : ℕ) (tag : Tag) (d : DomainNow) (around : StandsAround numbe
     on_table_more : (home : Home) → Contains (table_of d.cells home.vol) home.page → pages home ≡ adds.said home
     on_table_more home on =
         put_beside home (low_table d.cells home.vol home.page on) (λ inside. off_its_cells home inside on)
-        (λ none. none of_cells (member_on d around.files around.indexes around.below number around.entry around.original tag around.chains around.well first rest is home.vol home.page on, on))
+        (λ none. none of_cells (member_on d around.files around.indexes around.below number tag around.chains around.well first rest is home.vol home.page on, on))
 
     below_more : StandsBelow more (with_said first.at says_more around.files) indexes_more
     below_more = added number tag d more around.chains around.files around.indexes place prefer bytes around.below refl first.at (names_first number tag d around first rest is) adds
@@ -192,8 +192,8 @@ module _ (number : ℕ) (tag : Tag) (d : DomainNow) (around : StandsAround numbe
 
     file_stays_more : (t : Tag) (k : ℕ) (home : Home) → place_at around.chains t k ≡ At home → pages home ≡ d.pages home
     file_stays_more t k home at =
-        let h = held_for number d around t k home at in
-        put_beside home (low_home d.space d.cells d.pages around.files around.below.chains.well.together h.name.at k home h.placed) (not_in_index number d around first t k home at) (λ none. none (of_file h.name.at k) h.placed)
+        let h = held_for number d (at_slot number d around) t k home at in
+        put_beside home (low_home d.space d.cells d.pages around.files around.below.chains.well.together h.name.at k home h.placed) (not_in_index number d (at_slot number d around) first t k home at) (λ none. none (of_file h.name.at k) h.placed)
         ∙ changes_more.1 home (off_its_first home (around.well.together.file_pages t k home at).apart.off_table)
 
     sound_then_more : StandsSoundBut (IsNamedIn (with_chain tag (with_first says_more) around.chains)) more (with_said first.at says_more around.files) indexes_more
@@ -203,7 +203,7 @@ module _ (number : ℕ) (tag : Tag) (d : DomainNow) (around : StandsAround numbe
     page_put : BytesFollow d more → GoesOnAround None number d more
     page_put follow = (
       around_of number more around.entry around.original (with_said first.at says_more around.files) indexes_more below_more (with_chain tag (with_first says_more) around.chains) together_more (alone_now (Some adds.says.index)) sound_then_more,
-      stays_aside number first.at d more around.files around.indexes around.below (first ∷ rest) (there_first number tag d around first rest is) (number_first number tag d around first rest is) (says_first number tag d around first rest is) (λ n differ. refl) refl below_more.chains.well.together.allocated
+      stays_aside number first.at d more around.files around.indexes around.below (first ∷ rest) (there_first number tag d (at_slot number d around) first rest is) (number_first number tag d (at_slot number d around) first rest is) (says_first number tag d (at_slot number d around) first rest is) (λ n differ. refl) refl below_more.chains.well.together.allocated
           (λ at on other. ap (λ (o : Option (List ℕ)). cell_at (λ _. o) at) (on_table_more (home_of at) on) ∙ changes_more.0 at other)
           (λ home off. put_beside home off.low off.no_index off.held ∙ changes_more.1 home (off_its_first home off.off_table))
           (λ home off held. held_more home held) follow refl refl (index_follows more says_more (Some adds.says.index) refl refl together_more.files off_tag_more follow file_stays_more),

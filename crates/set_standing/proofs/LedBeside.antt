@@ -18,6 +18,7 @@ use Rattle.standing_laws.proofs.SlotsStand.{quotas_stay}
 use Rattle.standing_laws.proofs.TablesTaken.{page_stays}
 use Rattle.set_standing.specs.Around.{BytesFollow, StandsAround}
 use Rattle.set_standing.specs.Beside.{StaysBeside}
+use Rattle.set_standing.proofs.Again.{at_slot}
 use Rattle.set_standing.proofs.OwnLimits.{limits_still}
 use Rattle.set_standing.proofs.OwnPages.{held_for}
 
@@ -27,7 +28,7 @@ module _ (number : ℕ) (tag : Tag) (d now : DomainNow) (around : StandsAround n
   file_page at page home there = page_stays number tag d now around.chains chains_now around.files files_now around.indexes around.below leads (of_file at page) home there (λ e. cc) (λ e. cc)
 
   pub own_page : (t : Tag) (page : ℕ) (home : Home) → place_at around.chains t page ≡ At home → now.pages home ≡ d.pages home
-  own_page t page home at = let h = held_for number d around t page home at in file_page h.name.at page home h.placed
+  own_page t page home at = let h = held_for number d (at_slot number d around) t page home at in file_page h.name.at page home h.placed
 
   pub beside_as : ((at : CellAt) (page : ℕ) (home : Home) → ¬ option_and_then start_of (around.chains tag) ≡ Some at → place_in around.files at page ≡ At home → d.contents home ≡ now.contents home) → now.tags number ≡ d.tags number → StaysBeside number d now
   beside_as kept same_tags = record {

@@ -17,6 +17,7 @@ pub mod PartsCalls
 pub mod PartsGone
 pub mod PartsKept
 pub mod Removed
+pub mod SlotLeft
 pub mod Written
 pub mod FileShown
 pub mod LedBeside

@@ -14,13 +14,13 @@ use Rattle.standing_laws.specs.Domain.{DomainNow}
 use Rattle.standing_laws.specs.Holders.Holder.{of_file, of_index}
 use Rattle.standing_laws.proofs.HomeLists.{in_get}
 use Rattle.standing_laws.proofs.OtherSlots.{seen_place}
-use Rattle.set_standing.specs.Around.{BytesFollow, StandsAround}
+use Rattle.set_standing.specs.Around.{BytesFollow, StandsAtSlot}
 use Rattle.set_standing.proofs.FilesKept.{KeepsBytesOf}
 
 absent_not : (home : Home) → ¬ Absent ≡ At home
 absent_not home is = cc
 
-module _ (number : ℕ) (d : DomainNow) (around : StandsAround number d) where
+module _ (number : ℕ) (d : DomainNow) (around : StandsAtSlot number d) where
   -- a page of a tag's file is held for that
   pub record IsHeldFor (k : ℕ) (home : Home) (t : Tag) : Type 0 where
     pub cells : List PlacedCell

@@ -23,7 +23,7 @@ use Rattle.standing_laws.specs.Domain.{DomainNow}
 use Rattle.standing_laws.proofs.IndexSet.{IsChain}
 use Rattle.set_standing.specs.Around.{GoesOnAround, StandsAround}
 use Rattle.set_standing.specs.Parts.{AddsFiles, KeepsAround, Parts, Surroundings, TagsOf, domain_of}
-use Rattle.set_standing.proofs.Again.{there_first}
+use Rattle.set_standing.proofs.Again.{at_slot, there_first}
 use Rattle.set_standing.proofs.PartsKept.{same_tags}
 use Rattle.set_standing.proofs.Removed.{is_gone, removed_chain}
 
@@ -73,11 +73,11 @@ module _ (number : ℕ) (version : Version) (born : ℕ) (p : Parts) (pages : Pa
           (subst (λ (c : Chains). AreTogether number p.tags space p.cells pages c) chains_now stood.stands.together)
 
       indexed : AreIndexHomes p.pages (option_and_then index_of (around.chains tag)) (around.indexes at)
-      indexed = by_chain (removed_chain number tag d around pages at removes_there)
+      indexed = by_chain (removed_chain number tag d (at_slot number d around) pages at removes_there)
         where
           by_chain : IsChain around.chains tag at → AreIndexHomes p.pages (option_and_then index_of (around.chains tag)) (around.indexes at)
           by_chain c = subst (λ (a : CellAt). AreIndexHomes p.pages (option_and_then index_of (around.chains tag)) (around.indexes a)) c.at
-              (subst (λ o. AreIndexHomes p.pages (option_and_then index_of o) (around.indexes c.first.at)) (there_first number tag d around c.first c.rest c.is ∙ sym c.is) (around.below.chains.indexed c.first.at))
+              (subst (λ o. AreIndexHomes p.pages (option_and_then index_of o) (around.indexes c.first.at)) (there_first number tag d (at_slot number d around) c.first c.rest c.is ∙ sym c.is) (around.below.chains.indexed c.first.at))
 
       gives_there : GivesIndexBack group (tags number) (around.chains tag) (around.indexes at) p.space space p.pages pages
       gives_there = subst (λ (ts : List TagPlace). GivesIndexBack group ts (around.chains tag) (around.indexes at) p.space space p.pages pages) (sym of.was) (gives around.chains (around.indexes at) are indexed)

@@ -30,7 +30,7 @@ use Rattle.standing_laws.proofs.OthersStand.{others_stand}
 use Rattle.standing_laws.proofs.SoundInPlace.{but_elsewhere}
 use Rattle.set_standing.specs.Around.{BytesFollow, GoesOnAround, IsNamedIn, StandsAround}
 use Rattle.set_standing.specs.Follow.{FilesFollow, TagFollows}
-use Rattle.set_standing.proofs.Again.{its_number, says_some}
+use Rattle.set_standing.proofs.Again.{at_slot, its_number, says_some}
 use Rattle.set_standing.proofs.Aside.{stays_aside}
 use Rattle.set_standing.proofs.FilesKept.{KeepsBytesOf, files_by, seen_directory, tag_same}
 use Rattle.set_standing.proofs.Following.{kept_sequences, other_begins, same_sequences}
@@ -92,7 +92,7 @@ module _ (number : ℕ) (tag : Tag) (page : ℕ) (d : DomainNow) (around : Stand
       -- the page is of no other tag's file
       page_elsewhere : (t : Tag) (k : ℕ) (home : Home) → same_tag t tag ≡ false → place_at around.chains t k ≡ At home → pages home ≡ d.pages home
       page_elsewhere t k home differ at = elsewhere home (λ mine.
-          let h = held_for number d around t k home at in
+          let h = held_for number d (at_slot number d around) t k home at in
           other_begins number (d.tags number) d.pages around.chains around.well.together.files around.files t tag h.cells cs h.there some differ h.name m
           (one_start h.name.at k m.at page (around.below.owned.once home (of_file h.name.at k) (of_file m.at page) h.placed (place_there home mine))))
         where
@@ -112,7 +112,7 @@ module _ (number : ℕ) (tag : Tag) (page : ℕ) (d : DomainNow) (around : Stand
                   let live = subst (IsLiveOf Directory) (sym (ap around.chains (tags_same t tag same)) ∙ there) directory in
                   let e : File ≡ Directory = sym file ∙ seen_directory cells seen live is in
                   absurd (cc)
-              by_tag cells there false differ = page_bytes number d around now bytes t cells there (λ k home placed. page_elsewhere t k home differ placed)
+              by_tag cells there false differ = page_bytes number d (at_slot number d around) now bytes t cells there (λ k home placed. page_elsewhere t k home differ placed)
 
       file_written : GoesOnAround None number d now
       file_written = (

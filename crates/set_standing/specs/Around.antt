@@ -20,7 +20,7 @@ use Rattle.standing_laws.specs.Holders.{Holder, Holds}
 use Rattle.standing_laws.specs.Leads.{StandsBelow, fileset_now}
 use Rattle.standing_laws.specs.SlotParents.{HaveParentsIn, StandsForSome}
 use Rattle.standing_laws.specs.Slots.{StandsSlot}
-use Rattle.standing_laws.specs.Sound.{StandsSoundBut}
+use Rattle.standing_laws.specs.Sound.{StandsSound, StandsSoundBut}
 use Rattle.set_standing.specs.Follow.{FilesFollow, Said}
 
 -- a tag names the file that begins there
@@ -46,6 +46,16 @@ pub record StandsAround (number : ℕ) (d : DomainNow) : Type 0 where
 abbrev pub IsOfVolume : DomainNow → Home → Type 0
 IsOfVolume d home = Holds d no_files no_indexes Holder.of_volume home
 
+-- the same of what is in any slot, be it an original or what is being removed
+pub record StandsAtSlot (number : ℕ) (d : DomainNow) : Type 0 where
+  pub files : Files
+  pub indexes : IndexesAt
+  pub below : StandsBelow d files indexes
+  pub chains : Chains
+  pub well : StandsWell number (fileset_now d number chains files)
+  pub alone : (at : CellAt) → source_at files at ≡ None
+  pub sound : StandsSoundBut (IsNamedIn chains) d files indexes
+
 -- all that is not of the slot is as it was: the frame and the table, the tags of other slots, what
 -- they stand for and what their directories say of parents, and the first pages of volumes; and the
 -- slot's own files keep what they have, its owners their limits, and its directories say what they
@@ -65,7 +75,14 @@ pub record StaysAround (said : Said) (number : ℕ) (d now : DomainNow) : Type 0
       → item_in d number ≡ Some (slot.Original entry) → AreLimits d.pages entry limits
       → AreLimits now.pages entry limits
 
--- and the domain stands around the slot
+-- and the domain stands with what is in the slot, as rules of pages ask of its indexes too, if they
+-- did
+abbrev pub GoesOnAtSlot : Said → (number : ℕ) → (d now : DomainNow) → StandsAtSlot number d → Type 0
+GoesOnAtSlot said number d now at =
+    (then : StandsAtSlot number now) × StaysAround said number d now
+    × (StandsSound d at.files at.indexes → StandsSound now then.files then.indexes)
+
+-- or around the original in it
 abbrev pub GoesOnAround : Said → ℕ → DomainNow → DomainNow → Type 0
 GoesOnAround said number d now = StandsAround number now × StaysAround said number d now
 

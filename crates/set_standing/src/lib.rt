@@ -26,4 +26,8 @@ pub use pages::{
     all_stands_around_a_directory_that_gets_a_page, all_stands_around_a_page_that_is_written,
 };
 pub use parts::{changes_of_parts_join, parts_that_stay_keep_all_around};
-pub use removing::all_stands_around_a_file_that_is_taken_away;
+pub use removing::{
+    all_goes_on_where_a_file_of_any_slot_is_taken_away,
+    all_stands_around_a_file_that_is_taken_away, files_of_any_slot_belong_together,
+    filesets_stay_where_a_file_of_what_is_removed_goes,
+};

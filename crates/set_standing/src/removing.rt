@@ -6,9 +6,17 @@ ghost use Rattle.bitfile_core.specs.Changes.{KeepsSequences, Removes, without_ch
 ghost use Rattle.bitfile_core.specs.Together.{AreTogether};
 ghost use Rattle.standing_laws.specs.Sets.{GivesIndexBack, without_index};
 ghost use Rattle.deferred_delete.specs.Listing.{Adds, Listing};
-ghost use Rattle.standing_laws.specs.Domain.{DomainNow};
+ghost use Rattle.deferred_delete.specs.Standing.{Files, source_at};
+ghost use Rattle.fileset_model.specs.Filesets.{FilesetMap};
+ghost use Rattle.free_space.specs.Spaces.{Spaces};
+ghost use Rattle.standing_laws.specs.Chains.{HasFilesAmong, IndexesAt, IsRemoved};
+ghost use Rattle.standing_laws.specs.Domain.{DomainNow, item_in};
 ghost use Rattle.standing_laws.specs.IndexCalls.{KeepsTables};
-ghost use Rattle.set_standing.specs.Around.{BytesFollow, GoesOnAround, StandsAround};
+ghost use Rattle.standing_laws.specs.Leads.{StandsBelow};
+ghost use Rattle.standing_laws.specs.Sound.{IsSound, StandsSound};
+ghost use Rattle.standing_laws.specs.Sources.{StandAlone};
+ghost use Rattle.standing_laws.specs.Standing.{HaveParents, IsMarkedBut, StandsDomain};
+ghost use Rattle.set_standing.specs.Around.{BytesFollow, GoesOnAround, GoesOnAtSlot, StandsAround, StandsAtSlot};
 
 /// Where a file or directory is taken away, and its index with it, once it is put on the list: no
 /// clone's file is given, as no file of the domain is read through another.
@@ -23,4 +31,45 @@ pub fn all_stands_around_a_file_that_is_taken_away()
         → (listed : Listing)
         → Adds start None d.list.entries listed.entries → listed.tag_pages ≡ d.list.tag_pages
         → GoesOnAround None number d (record now { list = listed }) }
+{}
+
+/// The files that the tags of any slot name, be it an original's or of what is being removed, belong
+/// together with its tag directory, where the domain is as rules of pages ask.
+pub fn files_of_any_slot_belong_together()
+    ensures { (number : ℕ) (d : DomainNow) (files : Files) (indexes : IndexesAt)
+        → StandsBelow d files indexes → StandsSound d files indexes
+        → ((at : CellAt) → source_at files at ≡ None) → HasFilesAmong d files number
+        → StandsAtSlot number d }
+{}
+
+/// Where a file or directory is taken away of what is in any slot, all goes on around it.
+pub fn all_goes_on_where_a_file_of_any_slot_is_taken_away()
+    ensures { (number : ℕ) (tag : Tag) (start : CellAt) (group : ℕ) (d now : DomainNow)
+        → (at : StandsAtSlot number d) → KeepsTables d now → BytesFollow d now
+        → AreTogether number (d.tags number) now.space d.cells now.pages
+        (without_chain tag at.chains)
+        → Removes number (d.tags number) tag start (without_index tag at.chains) now.pages
+        → GivesIndexBack group (d.tags number) (at.chains tag) (at.indexes start) d.space
+        now.space d.pages now.pages → KeepsSequences (d.tags number) d.pages now.pages
+        → (listed : Listing)
+        → Adds start None d.list.entries listed.entries → listed.tag_pages ≡ d.list.tag_pages
+        → GoesOnAtSlot None number d (record now { list = listed }) at }
+{}
+
+/// So where it is taken of what is being removed, the domain stands for the same filesets, and is as
+/// rules of pages ask where it was.
+pub fn filesets_stay_where_a_file_of_what_is_removed_goes()
+    ensures stands { (number : ℕ) (d now : DomainNow) (at : StandsAtSlot number d)
+        → IsRemoved (item_in d number) → GoesOnAtSlot None number d now at
+        → (all : FilesetMap) → StandsDomain d all → StandsDomain now all }
+    ensures alone { (number : ℕ) (d now : DomainNow) (at : StandsAtSlot number d)
+        → GoesOnAtSlot None number d now at → StandAlone now }
+    ensures sound { (number : ℕ) (d now : DomainNow) (at : StandsAtSlot number d)
+        → GoesOnAtSlot None number d now at → StandsSound d at.files at.indexes → IsSound now }
+    ensures marked { (number : ℕ) (d now : DomainNow) (at : StandsAtSlot number d)
+        → GoesOnAtSlot None number d now at → (space : Spaces)
+        → IsMarkedBut (record d { space = space }) → IsMarkedBut (record now { space = space }) }
+    ensures parents { (number : ℕ) (d now : DomainNow) (at : StandsAtSlot number d)
+        → IsRemoved (item_in d number) → GoesOnAtSlot None number d now at
+        → (all : FilesetMap) → StandsDomain d all → HaveParents d → HaveParents now }
 {}

@@ -25,15 +25,15 @@ use Rattle.deferred_delete.specs.Standing.{Files, IsFileOrQuotas, IsQuotas, IsSt
 use Rattle.deferred_delete.specs.Steps.{IsWell}
 use Rattle.deferred_delete.proofs.Spread.{none_not, some_same}
 use Rattle.deferred_delete.proofs.Standings.{at_itself, is_file, quota_first, same_or_not, standing}
-use Rattle.deferred_laws.specs.Tags.{start_of}
+use Rattle.deferred_laws.specs.Tags.{AreAmong, start_of}
 use Rattle.deferred_laws.proofs.FirstWell.{StaysLive}
 use Rattle.deferred_laws.proofs.Tags.{IsNamed, file_start, has_attributes, named}
 use Rattle.domain_layout.specs.CellRules.{IsFirstPlace}
 use Rattle.domain_layout.specs.Filled.{Contents}
 use Rattle.domain_layout.specs.Layout.{AreTagPlaces, first_tag_of}
 use Rattle.domain_layout.specs.Owners.{IsOnTable}
-use Rattle.domain_standing.specs.Chains.{AreQuotasOf, HasEmptyTags, HasFilesAmong, IndexesAt, IsInChain, IsOnList, IsQuotaOf, IsQuotaToGo, IsRemoved, IsSomebodys, IsTagged, IsToDo, StandsInSlot}
-use Rattle.domain_standing.specs.Domain.{DomainNow, all_of, item_in, layout_of, named_by}
+use Rattle.domain_standing.specs.Chains.{AreQuotasOf, HasEmptyTags, HasFilesAmong, IndexesAt, IsInChain, IsOnList, IsQuotaOf, IsQuotaToGo, IsSomebodys, IsTagged, IsToDo, StandsInSlot}
+use Rattle.domain_standing.specs.Domain.{DomainNow, all_of, layout_of, named_by}
 use Rattle.domain_standing.specs.Holders.Holder.{of_index}
 use Rattle.standing_laws.specs.Leads.{StandsBelow}
 use Rattle.standing_laws.proofs.ChainsNamed.{leads_there}
@@ -182,20 +182,21 @@ module _ (d : DomainNow) (files : Files) (indexes : IndexesAt) (below : StandsBe
       };
     }
 
-  own_slot : HasFilesAmong now files_then t.number
-  own_slot =
+  pub among_own : AreAmong (all_of now files_then) (d.tags t.number) t.chains_now
+  among_own =
       let among = among_now d files indexes below pages contents space homes t in
-      record {
-        chains = t.chains_now;
-        are = t.are;
-        among = record { same = among.same; live = among.live; trimmed = among.trimmed; low = among.low; no_tags = among.no_tags; not_listed = among.not_listed };
-      }
+      record { same = among.same; live = among.live; trimmed = among.trimmed; low = among.low; no_tags = among.no_tags; not_listed = among.not_listed }
 
-  not_removed : (n : ℕ) → IsRemoved (item_in d n) → ¬ n ≡ t.number
-  not_removed n removed same = subst IsRemoved (ap (slice_get d.table.slots) same ∙ t.original) removed
+  own_slot : HasFilesAmong now files_then t.number
+  own_slot = record { chains = t.chains_now; are = t.are; among = among_own }
+
+  -- the file's tag leads to a cell, so its slot has tags
+  not_empty : (n : ℕ) → HasEmptyTags d n → ¬ n ≡ t.number
+  not_empty n empty same = none_not t.first.at
+      (sym (empty.none t.tag) ∙ ap (λ (k : ℕ). cell_of d.pages (d.tags k) t.tag) same ∙ leads_there t.number (d.tags t.number) d.pages t.chains t.well.together.files t.tag (t.first ∷ t.rest) t.first.at t.is refl)
 
   empty_now : (n : ℕ) → HasEmptyTags d n → HasEmptyTags now n
-  empty_now n empty = record { removed = empty.removed; none = λ tag. cells_lead n (not_removed n empty.removed) tag ∙ empty.none tag; listed = empty.listed }
+  empty_now n empty = record { removed = empty.removed; none = λ tag. cells_lead n (not_empty n empty) tag ∙ empty.none tag; listed = empty.listed }
 
   by_first : (n : ℕ) → ¬ n ≡ t.number → (o : Option Home) → StandsInSlot d files n o → StandsInSlot now files_then n o
   by_first n differ None none = none
@@ -207,10 +208,14 @@ module _ (d : DomainNow) (files : Files) (indexes : IndexesAt) (below : StandsBe
       (λ apart. inr (λ same. both_ways (n == t.number) apart (eq-eqb n t.number same)))
       (cases_Bool (n == t.number))
 
+  own_stands : (o : Option Home) → StandsInSlot d files t.number o → StandsInSlot now files_then t.number o
+  own_stands None none = none
+  own_stands (Some first) stood = inl own_slot
+
   slots_told : (n : ℕ) → StandsInSlot now files_then n (named_by first_tag_of d n)
   slots_told n = ⊎_elim
       (λ same. subst (λ (k : ℕ). StandsInSlot now files_then k (named_by first_tag_of d k)) (sym same)
-      (subst (λ o. StandsInSlot now files_then t.number (option_and_then first_tag_of o)) (sym t.original) (inl own_slot)))
+      (own_stands (named_by first_tag_of d t.number) (below.chains.slots t.number)))
       (λ differ. by_first n differ (named_by first_tag_of d n) (below.chains.slots n))
       (number_or_not n)
 

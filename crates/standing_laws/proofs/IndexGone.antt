@@ -1,11 +1,12 @@
 -- A domain stands on where a file is taken away, and with it its index.
-use Rattle.std.proofs.Common.{◌≡◌, ◌∙◌, inr, ℕ, false, List, [], ◌∷◌, Option, Some, None, IsSomeAnd, cond, is_some, slice_get, refl, sym, ap, subst, arith}
+use Rattle.std.proofs.Common.{◌≡◌, ◌∙◌, inr, ℕ, true, false, List, [], ◌∷◌, Option, Some, None, IsSomeAnd, cond, is_some, slice_get, refl, sym, ap, subst, arith}
 use Rattle.std.specs.Option.{option_and_then, option_map}
 use Rattle.domain_base.specs.declared.place.CellAt.{CellAt}
 use Rattle.domain_base.specs.declared.place.Home.{Home}
 use Rattle.domain_base.specs.declared.place.Tag.{Tag}
 use Rattle.page_store.specs.Pages.{Pages}
 use Rattle.record_table.specs.declared.record.Leftover.TheVariants.{Remove}
+use Rattle.record_table.specs.declared.record.Record.{Record}
 use Rattle.record_table.specs.declared.record.Record.TheVariants as written
 use Rattle.bmt_mcells.specs.Cell.{Cell, record_of}
 use Rattle.bmt_mcells.specs.CellPage.{cell_at, home_of}
@@ -22,44 +23,48 @@ use Rattle.bitfile_core.proofs.FirstCell.{find_other}
 use Rattle.bitfile_core.proofs.OneChain.{chain_same, same_tag_itself}
 use Rattle.stored_index.specs.Homes.{AreIndexHomes}
 use Rattle.domain_standing.specs.Sets.{GivesIndexBack, without_index, without_index_from}
-use Rattle.fileset_table.specs.declared.slot.FilesetEntry.{FilesetEntry}
-use Rattle.fileset_table.specs.declared.slot.SlotItem.TheVariants as slot
 use Rattle.deferred_delete.specs.Listed.{IsEntry, left_of, leftover_in}
 use Rattle.deferred_delete.specs.Listing.{Adds, Listing}
 use Rattle.deferred_delete.specs.Standing.{Files, with_file}
 use Rattle.deferred_laws.specs.Calls.{StandsWell}
+use Rattle.deferred_laws.specs.Tags.{AreAmong, start_of}
 use Rattle.deferred_laws.proofs.FirstWell.{SaysBeside, removed_beside}
+use Rattle.domain_layout.specs.CellRules.{is_good_first, of_original}
 use Rattle.domain_layout.specs.Filled.{Contents}
+use Rattle.domain_layout.specs.TagRules.{IsLate}
 use Rattle.domain_standing.specs.Chains.{IndexesAt, IsToDo}
-use Rattle.domain_standing.specs.Domain.{DomainNow, item_in}
+use Rattle.domain_standing.specs.Domain.{DomainNow, all_of, item_in}
 use Rattle.standing_laws.specs.IndexCalls.{KeepsTables, NamesFile, with_index_at, with_removed}
 use Rattle.standing_laws.specs.SlotsStay.{OthersStand}
 use Rattle.standing_laws.specs.Leads.{StandsBelow, fileset_now}
 use Rattle.standing_laws.proofs.BelowStands.{owned_listed, rest_listed, tables_listed}
-use Rattle.standing_laws.proofs.IndexChains.{chains_told}
+use Rattle.standing_laws.proofs.IndexChains.{among_own, chains_told}
 use Rattle.standing_laws.proofs.IndexHeld.{owned_told}
-use Rattle.standing_laws.proofs.IndexListed.{chains_listed}
+use Rattle.standing_laws.proofs.IndexListed.{among_listed, chains_listed}
 use Rattle.standing_laws.proofs.IndexRest.{rest_told}
 use Rattle.standing_laws.proofs.IndexOthers.{slot_listed}
-use Rattle.standing_laws.proofs.IndexSaid.{gone_beside, gone_none, gone_there, gone_well, index_firsts, removed_firsts, says_gone}
+use Rattle.standing_laws.proofs.IndexSaid.{gone_beside, gone_good, gone_known, gone_none, gone_there, gone_well, index_firsts, removed_firsts, says_gone}
 use Rattle.standing_laws.proofs.IndexSet.{IsChain, chain_at}
 use Rattle.standing_laws.proofs.IndexSpaces.{Among, NoHome, SpacesMove, moves_away}
 use Rattle.standing_laws.proofs.IndexTables.{tables_told}
 use Rattle.standing_laws.proofs.IndexTold.{Told, files_now, indexes_now, led, there_now}
-use Rattle.standing_laws.proofs.IndexWas.{file_was, firsts_was, index_low_was, live_was, off_cells, off_first, well_was}
-use Rattle.standing_laws.proofs.RestFirst.{AreFirsts, SaysWell, removed_well}
+use Rattle.standing_laws.proofs.IndexWas.{file_was, firsts_was, good_was, index_low_was, known_was, live_was, off_cells, off_first, well_was}
+use Rattle.standing_laws.proofs.RestFirst.{AreFirsts, AreKnown, SaysWell, removed_good, removed_known, removed_well}
 
 -- what the first cell says then is well, and that all goes, and it names no index
-pub record SaysGone (d : DomainNow) (says : Cell → Cell) (cell : Cell) : Type 0 where
+pub record SaysGone (d : DomainNow) (number : ℕ) (says : Cell → Cell) (cell : Cell) : Type 0 where
+  pub head : (says cell).head ≡ cell.head
   pub beside : SaysBeside says cell
-  pub told : SaysWell d.frame.version d.table (says cell)
+  pub known : AreKnown d.frame.version (says cell).records
+  pub good : is_good_first d.table (says cell) ≡ true
+  pub births : of_original (item_in d number) ≡ true → (value : Record) → record_of 1 (says cell).records ≡ Some value → ¬ IsLate d.table.made value
   pub firsts : AreFirsts (says cell).records
   pub gone : record_of 6 (says cell).records ≡ Some (written.Pending Remove)
   pub no_index : option_and_then index_in (record_of 9 (says cell).records) ≡ None
 
-module _ (d : DomainNow) (files : Files) (indexes : IndexesAt) (below : StandsBelow d files indexes) (number : ℕ) (entry : FilesetEntry) (original : item_in d number ≡ Some (slot.Original entry)) (tag : Tag) (chains : Chains) (well : StandsWell number (fileset_now d number chains files)) (first : PlacedCell) (rest : List PlacedCell)
+module _ (d : DomainNow) (files : Files) (indexes : IndexesAt) (below : StandsBelow d files indexes) (number : ℕ) (tag : Tag) (chains : Chains) (well : StandsWell number (fileset_now d number chains files)) (first : PlacedCell) (rest : List PlacedCell)
     (is : chains tag ≡ Some (first ∷ rest)) (group : ℕ) (space : Spaces) (pages : Pages) (contents : Contents) (together : AreTogether number (d.tags number) space d.cells pages (without_chain tag chains)) (gives : GivesIndexBack group (d.tags number) (chains tag) (indexes first.at) d.space space d.pages pages) where
-  module _ (says : Cell → Cell) (gone : SaysGone d says first.cell) (file : IsFile pages first.at (with_first says (first ∷ rest))) where
+  module _ (says : Cell → Cell) (gone : SaysGone d number says first.cell) (file : IsFile pages first.at (with_first says (first ∷ rest))) where
     no_chain : without_chain tag chains tag ≡ None
     no_chain = ap (λ b. cond b None (chains tag)) (same_tag_itself tag)
 
@@ -69,8 +74,6 @@ module _ (d : DomainNow) (files : Files) (indexes : IndexesAt) (below : StandsBe
     told : Told d files indexes pages space []
     told = record {
       number = number;
-      entry = entry;
-      original = original;
       tag = tag;
       chains = chains;
       well = well;
@@ -78,8 +81,11 @@ module _ (d : DomainNow) (files : Files) (indexes : IndexesAt) (below : StandsBe
       rest = rest;
       is = is;
       says = says;
+      head = gone.head;
       beside = gone.beside;
-      told = gone.told;
+      known = gone.known;
+      good = gone.good;
+      births = gone.births;
       firsts = gone.firsts;
       file = file;
       chains_now = without_chain tag chains;
@@ -89,11 +95,11 @@ module _ (d : DomainNow) (files : Files) (indexes : IndexesAt) (below : StandsBe
       comes = NoHome;
       goes = Among (indexes first.at);
       cells = λ at on other.
-          ap (λ (o : Option (List ℕ)). cell_at (λ _. o) at) (gives.drops.others (home_of at) (λ inside. off_cells d files indexes below number entry original tag chains well first rest is (home_of at) inside on))
+          ap (λ (o : Option (List ℕ)). cell_at (λ _. o) at) (gives.drops.others (home_of at) (λ inside. off_cells d files indexes below number tag chains well first rest is (home_of at) inside on))
           ∙ beside.cells at other;
       stay = λ home off no_tags none no_come.
           gives.drops.others home none
-          ∙ beside.pages home (off_slot (d.tags number) first.cell.head.slot home no_tags) (off_first d files indexes below number entry original tag chains well first rest is home off);
+          ∙ beside.pages home (off_slot (d.tags number) first.cell.head.slot home no_tags) (off_first d files indexes below number tag chains well first rest is home off);
       belong = together.allocated.belong;
       ends = together.allocated.ends;
       indexed = subst (λ o. AreIndexHomes pages o []) (sym gone.no_index) tt;
@@ -103,7 +109,7 @@ module _ (d : DomainNow) (files : Files) (indexes : IndexesAt) (below : StandsBe
       came = λ home none. absurd none;
       gone = λ home inside. (inside, λ none. omega (arith, none.1));
       spaces = subst (SpacesMove NoHome (Among (indexes first.at)) d.space) (sym gives.drops.waits)
-          (moves_away (indexes first.at) group d.space (index_low_was d files indexes below number entry original tag chains well first rest is));
+          (moves_away (indexes first.at) group d.space (index_low_was d files indexes below number tag chains well first rest is));
     }
       where
         no_place : (j : ℕ) (home : Home) → ¬ slice_get [] j ≡ Some home
@@ -135,9 +141,17 @@ module _ (d : DomainNow) (files : Files) (indexes : IndexesAt) (below : StandsBe
     unfolding told
     gone_slots clone listed may adds same bytes n differ other shape fileset there stood = slot_listed d files indexes below pages contents space [] told bytes n differ listed (gone_stands clone listed may adds same) other shape fileset there stood
 
+    -- the files of the slot's other tags are among the domain's
+    gone_among : (clone : Option CellAt) (listed : Listing) → IsEntry files_then (record { at = first.at; clone = clone }) → Adds first.at clone d.list.entries listed.entries → listed.tag_pages ≡ d.list.tag_pages
+        → AreAmong (all_of (record now { list = listed }) files_then) (d.tags number) (without_chain tag chains)
+    unfolding told
+    gone_among clone listed may adds same =
+        among_listed now files_then indexes_then first.at (chains_told d files indexes below pages contents space [] told) clone listed to_do may adds same number
+        (record { chains = without_chain tag chains; are = together.files; among = among_own d files indexes below pages contents space [] told })
+
     gone_both : (clone : Option CellAt) (listed : Listing) → IsEntry files_then (record { at = first.at; clone = clone }) → Adds first.at clone d.list.entries listed.entries → listed.tag_pages ≡ d.list.tag_pages
-        → StandsBelow (record now { list = listed }) files_then indexes_then × OthersStand number d (record now { list = listed })
-    gone_both clone listed may adds same = (gone_stands clone listed may adds same, gone_slots clone listed may adds same)
+        → StandsBelow (record now { list = listed }) files_then indexes_then × OthersStand number d (record now { list = listed }) × AreAmong (all_of (record now { list = listed }) files_then) (d.tags number) (without_chain tag chains)
+    gone_both clone listed may adds same = (gone_stands clone listed may adds same, gone_slots clone listed may adds same, gone_among clone listed may adds same)
 
   -- ---- by what its first cell said
 
@@ -146,26 +160,36 @@ module _ (d : DomainNow) (files : Files) (indexes : IndexesAt) (below : StandsBe
   Going o = (clone : Option CellAt) (listed : Listing) → IsEntry (with_file first.at (option_map (with_first says_removed) o) files) (record { at = first.at; clone = clone }) → Adds first.at clone d.list.entries listed.entries → listed.tag_pages ≡ d.list.tag_pages
       → StandsBelow (record d { pages = pages; contents = contents; space = space; list = listed }) (with_file first.at (option_map (with_first says_removed) o) files) (with_index_at first.at [] indexes)
       × OthersStand number d (record d { pages = pages; contents = contents; space = space; list = listed })
+      × AreAmong (all_of (record d { pages = pages; contents = contents; space = space; list = listed }) (with_file first.at (option_map (with_first says_removed) o) files)) (d.tags number) (without_chain tag chains)
 
   old_file : AreFile d.pages first rest
-  old_file = file_was d files indexes below number entry original tag chains well first rest is
+  old_file = file_was d files indexes below number tag chains well first rest is
 
-  old_well : SaysWell d.frame.version d.table first.cell
-  old_well = well_was d files indexes below number entry original tag chains well first rest is
+  old_known : AreKnown d.frame.version first.cell.records
+  old_known = known_was d files indexes below number tag chains well first rest is
+
+  old_good : is_good_first d.table first.cell ≡ true
+  old_good = good_was d files indexes below number tag chains well first rest is
+
+  old_well : of_original (item_in d number) ≡ true → SaysWell d.frame.version d.table first.cell
+  old_well = well_was d files indexes below number tag chains well first rest is
 
   old_firsts : AreFirsts first.cell.records
-  old_firsts = firsts_was d files indexes below number entry original tag chains well first rest is
+  old_firsts = firsts_was d files indexes below number tag chains well first rest is
 
   old_live : is_removed (first ∷ rest) ≡ false
-  old_live = live_was d files indexes below number entry original tag chains well first rest is
+  old_live = live_was d files indexes below number tag chains well first rest is
 
   -- it named none
   none_goes : index_of (first ∷ rest) ≡ None → IsFile pages first.at (with_first says_removed (first ∷ rest)) → Going (Some (first ∷ rest))
   unfolding told
   none_goes none file = gone_both says_removed
       (record {
+        head = refl;
         beside = removed_beside d.pages first rest old_file;
-        told = removed_well d.frame.version d.table first rest old_well old_firsts old_live (removed_firsts first.cell old_firsts);
+        known = removed_known d.frame.version first.cell old_known;
+        good = removed_good d.table first.cell old_good old_firsts (removed_firsts first.cell old_firsts);
+        births = λ original. (removed_well d.frame.version d.table first rest (old_well original) old_firsts old_live (removed_firsts first.cell old_firsts)).births;
         firsts = removed_firsts first.cell old_firsts;
         gone = gone_there first.cell;
         no_index = ap (option_and_then index_in) (find_other 6 9 (Some (written.Pending Remove)) first.cell.records (λ e. omega (arith, e)) refl) ∙ none;
@@ -177,8 +201,11 @@ module _ (d : DomainNow) (files : Files) (indexes : IndexesAt) (below : StandsBe
   unfolding told
   some_goes file = gone_both says_gone
       (record {
+        head = refl;
         beside = gone_beside d.pages first rest old_file;
-        told = gone_well d.frame.version d.table first rest old_well old_firsts old_live;
+        known = gone_known d.frame.version first.cell old_known;
+        good = gone_good d.table first.cell old_good old_firsts;
+        births = λ original. (gone_well d.frame.version d.table first rest (old_well original) old_firsts old_live).births;
         firsts = removed_firsts (says_index None first.cell) (index_firsts None first.cell old_firsts);
         gone = gone_there (says_index None first.cell);
         no_index = ap (option_and_then index_in) (gone_none first.cell);
@@ -204,14 +231,20 @@ module _ (number : ℕ) (tag : Tag) (d now : DomainNow) (chains : Chains) (files
   GoesAt a = Removes number (d.tags number) tag a (without_index tag chains) now.pages → GivesIndexBack group (d.tags number) (chains tag) (indexes a) d.space now.space d.pages now.pages
       → (clone : Option CellAt) (listed : Listing) → IsEntry (with_removed a tag chains files) (record { at = a; clone = clone }) → Adds a clone d.list.entries listed.entries → listed.tag_pages ≡ d.list.tag_pages
       → StandsBelow (record now { list = listed }) (with_removed a tag chains files) (with_index_at a [] indexes) × OthersStand number d (record now { list = listed })
+      × AreAmong (all_of (record now { list = listed }) (with_removed a tag chains files)) (d.tags number) (without_chain tag chains)
 
-  goes_first : (first : PlacedCell) (rest : List PlacedCell) → chains tag ≡ Some (first ∷ rest) → NamesFile number tag first.at d chains files → GoesAt first.at
-  goes_first first rest is names removes gives clone listed may adds same_pages =
-      subst (λ (x : DomainNow). StandsBelow (record x { list = listed }) (with_removed first.at tag chains files) (with_index_at first.at [] indexes) × OthersStand number d (record x { list = listed })) (sym same)
-      (goes d files indexes below number names.entry names.original tag chains names.well first rest is group now.space now.pages now.contents together gives removes.pending clone listed may adds same_pages)
+  goes_first : (first : PlacedCell) (rest : List PlacedCell) → chains tag ≡ Some (first ∷ rest) → StandsWell number (fileset_now d number chains files) → GoesAt first.at
+  goes_first first rest is well removes gives clone listed may adds same_pages =
+      subst (λ (x : DomainNow). StandsBelow (record x { list = listed }) (with_removed first.at tag chains files) (with_index_at first.at [] indexes) × OthersStand number d (record x { list = listed })
+      × AreAmong (all_of (record x { list = listed }) (with_removed first.at tag chains files)) (d.tags number) (without_chain tag chains)) (sym same)
+      (goes d files indexes below number tag chains well first rest is group now.space now.pages now.contents together gives removes.pending clone listed may adds same_pages)
 
-  pub gone : (start : CellAt) → NamesFile number tag start d chains files → GoesAt start
-  gone start names = by_start (chain_at chains tag start names.begins)
+  -- of what is in any slot
+  pub gone_in : (start : CellAt) → StandsWell number (fileset_now d number chains files) → option_and_then start_of (chains tag) ≡ Some start → GoesAt start
+  gone_in start well begins = by_start (chain_at chains tag start begins)
     where
       by_start : IsChain chains tag start → GoesAt start
-      by_start c = subst GoesAt c.at (goes_first c.first c.rest c.is (subst (λ (a : CellAt). NamesFile number tag a d chains files) (sym c.at) names))
+      by_start c = subst GoesAt c.at (goes_first c.first c.rest c.is well)
+
+  pub gone : (start : CellAt) → NamesFile number tag start d chains files → GoesAt start
+  gone start names = gone_in start names.well names.begins

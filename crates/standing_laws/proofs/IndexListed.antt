@@ -13,7 +13,7 @@ use Rattle.deferred_delete.specs.declared.list.Entry.{Entry}
 use Rattle.deferred_delete.specs.Listed.{IsEntry, left_of}
 use Rattle.deferred_delete.specs.Listing.{Adds, Listing}
 use Rattle.deferred_delete.specs.Standing.{Files}
-use Rattle.deferred_laws.specs.Tags.{start_of}
+use Rattle.deferred_laws.specs.Tags.{AreAmong, start_of}
 use Rattle.deferred_laws.proofs.Listing.{entry_among, entry_listed, which_entry}
 use Rattle.deferred_laws.proofs.StillAmong.{file_of_tag}
 use Rattle.domain_layout.specs.Layout.{first_tag_of}
@@ -57,10 +57,13 @@ module _ (d : DomainNow) (files : Files) (indexes : IndexesAt) (start : CellAt) 
     empty_listed : (n : ℕ) → HasEmptyTags d n → HasEmptyTags with_entry n
     empty_listed n empty = record { removed = empty.removed; none = empty.none; listed = empty.listed ∙ sym same }
 
+    pub among_listed : (n : ℕ) (has : HasFilesAmong d files n) → AreAmong (all_of with_entry files) (d.tags n) has.chains
+    among_listed n has = entry_among (all_of d files) listed (d.tags n) has.chains has.among start clone adds same (tags_trimmed n has)
+
     slot_listed : (n : ℕ) (o : Option Home) → StandsInSlot d files n o → StandsInSlot with_entry files n o
     slot_listed n None none = none
     slot_listed n (Some first) stood = ⊎_elim
-        (λ has. inl (record { chains = has.chains; are = has.are; among = entry_among (all_of d files) listed (d.tags n) has.chains has.among start clone adds same (tags_trimmed n has) }))
+        (λ has. inl (record { chains = has.chains; are = has.are; among = among_listed n has }))
         (λ empty. inr (empty_listed n empty))
         stood
 

@@ -1,8 +1,7 @@
 -- What is asked of single cells once the first cell of a file and its index have changed.
-use Rattle.std.proofs.Common.{◌≡◌, ◌∙◌, ◌≤◌, ⊎_elim, ℕ, true, false, List, [], ◌∷◌, Option, Some, None, IfSome, IsSomeAnd, Contains, slice_get, refl, sym, ap, subst}
+use Rattle.std.proofs.Common.{◌≡◌, ◌∙◌, ◌≤◌, ⊎_elim, ℕ, true, false, List, [], ◌∷◌, Option, Some, None, IfSome, IsSomeAnd, Contains, refl, sym, ap, subst}
 use Rattle.std.proofs.lemmas.Bool.{cases_Bool}
 use Rattle.std.specs.List.{AllByRecursion}
-use Rattle.std.specs.Option.{option_and_then}
 use Rattle.domain_base.specs.declared.place.CellAt.{CellAt}
 use Rattle.domain_base.specs.declared.place.Home.{Home}
 use Rattle.domain_base.specs.declared.place.Tag.{Tag}
@@ -21,7 +20,6 @@ use Rattle.free_space.specs.Spaces.{Spaces}
 use Rattle.bitfile_cells.specs.Files.{IsFile}
 use Rattle.bitfile_core.specs.Files.{LeadsToFile, is_removed}
 use Rattle.bitfile_core.proofs.OneFile.{tags_same}
-use Rattle.fileset_table.specs.declared.slot.SlotItem.TheVariants as slot
 use Rattle.deferred_delete.specs.Standing.{Files}
 use Rattle.deferred_delete.proofs.Spread.{none_not, some_same}
 use Rattle.deferred_delete.proofs.Standings.{same_or_not}
@@ -33,11 +31,11 @@ use Rattle.domain_layout.specs.Layout.{first_tag_of}
 use Rattle.domain_layout.specs.Owners.{IsOnTable}
 use Rattle.domain_layout.specs.TagRules.{IsLate}
 use Rattle.domain_standing.specs.Chains.{HasFilesAmong, IndexesAt, StandsInSlot}
-use Rattle.domain_standing.specs.Domain.{DomainNow, layout_of, named_by}
+use Rattle.domain_standing.specs.Domain.{DomainNow, item_in, layout_of, named_by}
 use Rattle.domain_standing.specs.Rest.{HasNoHoles, IsOfOriginal, SaysTheRest, StaysInOriginal}
 use Rattle.standing_laws.specs.Leads.{StandsBelow}
 use Rattle.standing_laws.proofs.ChainsNamed.{leads_there}
-use Rattle.standing_laws.proofs.IndexChains.{cells_lead, its, its_fileset, number_or_not, one_fileset}
+use Rattle.standing_laws.proofs.IndexChains.{cells_lead, its, number_or_not, one_fileset}
 use Rattle.standing_laws.proofs.IndexTold.{Told, after, cell_was, files_now, led, other_now, standing_was, stands_now, start, there_now, there_was, was}
 use Rattle.standing_laws.proofs.RestRecords.{first_no_holes}
 
@@ -67,38 +65,38 @@ module _ (d : DomainNow) (files : Files) (indexes : IndexesAt) (below : StandsBe
   -- ---- births
 
   -- a tag of the fileset, but the file's
-  own_other : (tag : Tag) → same_tag tag t.tag ≡ false → (first : PlacedCell) (rest : List PlacedCell) → t.chains_now tag ≡ Some (first ∷ rest) → (value : Record) → record_of 1 first.cell.records ≡ Some value → ¬ IsLate d.table.made value
-  own_other tag other first rest is value has =
+  own_other : of_original (item_in d t.number) ≡ true → (tag : Tag) → same_tag tag t.tag ≡ false → (first : PlacedCell) (rest : List PlacedCell) → t.chains_now tag ≡ Some (first ∷ rest) → (value : Record) → record_of 1 first.cell.records ≡ Some value → ¬ IsLate d.table.made value
+  own_other original tag other first rest is value has =
       let is_was : t.chains tag ≡ Some (first ∷ rest) = sym (t.others tag other) ∙ is in
       below.rest.births first.at first.cell value
       (record {
         number = t.number;
-        original = ap of_original t.original;
+        original = original;
         tag = tag;
         leads = leads_there t.number (d.tags t.number) d.pages t.chains t.well.together.files tag (first ∷ rest) first.at is_was refl;
       })
       (are_file t.number (d.tags t.number) d.pages t.chains t.well.together.files tag first rest is_was).links.stands has
 
-  own_births : (tag : Tag) (first : PlacedCell) (rest : List PlacedCell) → t.chains_now tag ≡ Some (first ∷ rest) → (value : Record) → record_of 1 first.cell.records ≡ Some value → ¬ IsLate d.table.made value
-  own_births tag first rest is value has = ⊎_elim
+  own_births : of_original (item_in d t.number) ≡ true → (tag : Tag) (first : PlacedCell) (rest : List PlacedCell) → t.chains_now tag ≡ Some (first ∷ rest) → (value : Record) → record_of 1 first.cell.records ≡ Some value → ¬ IsLate d.table.made value
+  own_births original tag first rest is value has = ⊎_elim
       (λ same.
       let here : t.chains_now t.tag ≡ Some (first ∷ rest) = ap t.chains_now (sym (tags_same tag t.tag same)) ∙ is in
       ⊎_elim
-      (λ live. t.told.births value (ap (λ (c : PlacedCell). record_of 1 c.cell.records) (first_is (some_same chain_now (first ∷ rest) (sym live.0 ∙ here))) ∙ has))
+      (λ live. t.births original value (ap (λ (c : PlacedCell). record_of 1 c.cell.records) (first_is (some_same chain_now (first ∷ rest) (sym live.0 ∙ here))) ∙ has))
       (λ gone. absurd (none_not (first ∷ rest) (sym gone.0 ∙ here)))
       t.whose)
-      (λ other. own_other tag other first rest is value has)
+      (λ other. own_other original tag other first rest is value has)
       (cases_Bool (same_tag tag t.tag))
     where
       first_is : chain_now ≡ first ∷ rest → record { at = begins; cell = t.says t.first.cell } ≡ first
       first_is e = cc
 
-  own_late : (tag : Tag) (at : CellAt) (cell : Cell) (value : Record) → cell_of pages (d.tags t.number) tag ≡ Some at → StandsAt pages at cell → record_of 1 cell.records ≡ Some value → ¬ IsLate d.table.made value
-  own_late tag at cell value leads stands has = by_chain (t.chains_now tag) refl
+  own_late : of_original (item_in d t.number) ≡ true → (tag : Tag) (at : CellAt) (cell : Cell) (value : Record) → cell_of pages (d.tags t.number) tag ≡ Some at → StandsAt pages at cell → record_of 1 cell.records ≡ Some value → ¬ IsLate d.table.made value
+  own_late original tag at cell value leads stands has = by_chain (t.chains_now tag) refl
     where
       by_list : (cs : List PlacedCell) → t.chains_now tag ≡ Some cs → IsFile pages at cs → ¬ IsLate d.table.made value
       by_list [] is file = absurd file
-      by_list (first ∷ rest) is file = own_births tag first rest is value
+      by_list (first ∷ rest) is file = own_births original tag first rest is value
           (ap (λ (c : Cell). record_of 1 c.records) (one_stands pages at first.cell cell (subst (λ (a : CellAt). StandsAt pages a first.cell) file.0 file.1.links.stands) stands) ∙ has)
 
       by_chain : (o : Option (List PlacedCell)) → t.chains_now tag ≡ o → ¬ IsLate d.table.made value
@@ -134,7 +132,7 @@ module _ (d : DomainNow) (files : Files) (indexes : IndexesAt) (below : StandsBe
 
   births_told : (at : CellAt) (cell : Cell) (value : Record) → IsOfOriginal now at → StandsAt pages at cell → record_of 1 cell.records ≡ Some value → ¬ IsLate d.table.made value
   births_told at cell value o stands has = ⊎_elim
-      (λ same. own_late o.tag at cell value (ap (λ (k : ℕ). cell_of pages (d.tags k) o.tag) (sym same) ∙ o.leads) stands has)
+      (λ same. own_late (ap (λ (k : ℕ). of_original (item_in d k)) (sym same) ∙ o.original) o.tag at cell value (ap (λ (k : ℕ). cell_of pages (d.tags k) o.tag) (sym same) ∙ o.leads) stands has)
       (λ differ.
       let leads : cell_of d.pages (d.tags o.number) o.tag ≡ Some at = sym (cells_lead d files indexes below pages contents space homes t o.number differ o.tag) ∙ o.leads in
       below.rest.births at cell value (record { number = o.number; original = o.original; tag = o.tag; leads = leads })
@@ -143,26 +141,28 @@ module _ (d : DomainNow) (files : Files) (indexes : IndexesAt) (below : StandsBe
 
   -- ---- holes
 
-  item_was : item_of d.table t.first.cell.head ≡ Some (slot.Original t.entry)
-  item_was = ap (option_and_then (slice_get d.table.slots)) (its_fileset d files indexes below pages contents space homes t).is_of.2 ∙ t.original
-
   live_was : is_removed chain ≡ false
   live_was = subst (λ o. IfSome o (λ cs. is_removed cs ≡ false)) t.is (t.well.among.live t.tag)
 
-  holes_was : AllByRecursion HasNoHoles chain
-  holes_was = below.rest.holes begins chain (there_was d files indexes below pages contents space homes t) (ap of_original item_was, live_was)
+  holes_was : of_original (item_of d.table t.first.cell.head) ≡ true → AllByRecursion HasNoHoles chain
+  holes_was original = below.rest.holes begins chain (there_was d files indexes below pages contents space homes t) (original, live_was)
+
+  -- its first cell is of the same fileset
+  stays_was : StaysInOriginal now chain_now → of_original (item_of d.table t.first.cell.head) ≡ true
+  stays_was stays = subst (λ h. of_original (item_of d.table h) ≡ true) t.head stays.0
 
   holes_told : (at : CellAt) (cs : List PlacedCell) → files_then at ≡ Some cs → StaysInOriginal now cs → AllByRecursion HasNoHoles cs
   holes_told at cs is stays = ⊎_elim
-      (λ same. subst (AllByRecursion HasNoHoles) (some_same chain_now cs (sym (there_now d files indexes below pages contents space homes t) ∙ ap files_then (sym same) ∙ is))
-      (first_no_holes (t.says t.first.cell).records t.firsts, holes_was.1))
+      (λ same.
+      let here : chain_now ≡ cs = some_same chain_now cs (sym (there_now d files indexes below pages contents space homes t) ∙ ap files_then (sym same) ∙ is) in
+      subst (AllByRecursion HasNoHoles) here (first_no_holes (t.says t.first.cell).records t.firsts, (holes_was (stays_was (subst (StaysInOriginal now) (sym here) stays))).1))
       (λ apart. below.rest.holes at cs (sym (other_now d files indexes below pages contents space homes t at apart) ∙ is) stays)
       (same_or_not at begins)
 
   pub rest_told : SaysTheRest now files_then
   rest_told = record {
-    kinds = λ at cell on. by_cell (λ c. AllByRecursion (λ r. kind_of r ≤ last_kind d.frame.version) c.records) at cell on (λ before. below.rest.kinds at cell before) t.told.known;
-    firsts = λ at cell on primary. by_cell (λ c. c.head.kind ≡ Primary → is_good_first d.table c ≡ true) at cell on (λ before. below.rest.firsts at cell before) (λ first. t.told.good) primary;
+    kinds = λ at cell on. by_cell (λ c. AllByRecursion (λ r. kind_of r ≤ last_kind d.frame.version) c.records) at cell on (λ before. below.rest.kinds at cell before) t.known;
+    firsts = λ at cell on primary. by_cell (λ c. c.head.kind ≡ Primary → is_good_first d.table c ≡ true) at cell on (λ before. below.rest.firsts at cell before) (λ first. t.good) primary;
     births = births_told;
     holes = holes_told;
   }

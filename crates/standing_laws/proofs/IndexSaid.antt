@@ -17,8 +17,8 @@ use Rattle.bitfile_core.proofs.FirstCell.{find_other, find_put, map_stays}
 use Rattle.bitfile_core.proofs.FirstTogether.{index_keeps, not_of, rows}
 use Rattle.fileset_table.specs.Table.{Table}
 use Rattle.deferred_laws.proofs.FirstWell.{SaysBeside}
-use Rattle.domain_layout.specs.CellRules.{keeps_well, says_directory}
-use Rattle.standing_laws.proofs.RestFirst.{AreFirsts, SaysWell, low_kind, removed_well}
+use Rattle.domain_layout.specs.CellRules.{is_good_first, keeps_well, says_directory}
+use Rattle.standing_laws.proofs.RestFirst.{AreFirsts, AreKnown, SaysWell, low_kind, removed_good, removed_known, removed_well}
 use Rattle.standing_laws.proofs.RestRecords.{all_first, first_alike, kinds_put}
 
 pub of_nine : (o : Option IndexPlace) → IfSome (option_map index_record o) (λ r. kind_of r ≡ 9)
@@ -35,10 +35,19 @@ index_firsts o cell firsts = kinds_put (λ k. is_first_kind k ≡ true) 9 (optio
     by_index None = tt
     by_index (Some index) = refl
 
-pub index_well : (version : Version) (table : Table) (o : Option IndexPlace) (cell : Cell) → SaysWell version table cell → AreFirsts cell.records → SaysWell version table (says_index o cell)
-index_well version table o cell was firsts = record {
-  known = kinds_put (λ k. k ≤ last_kind version) 9 (option_map index_record o) cell.records was.known (by_index o);
-  good = first_alike table cell (says_index o cell) refl (record {
+module _ (o : Option IndexPlace) (cell : Cell) where
+  other : (k : ℕ) → ¬ k ≡ 9 → record_of k (says_index o cell).records ≡ record_of k cell.records
+  other = index_other o cell
+
+  pub index_known : (version : Version) → AreKnown version cell.records → AreKnown version (says_index o cell).records
+  index_known version was = kinds_put (λ k. k ≤ last_kind version) 9 (option_map index_record o) cell.records was (by_index o)
+    where
+      by_index : (o : Option IndexPlace) → IfSome (option_map index_record o) (λ r. kind_of r ≤ last_kind version)
+      by_index None = tt
+      by_index (Some index) = low_kind version 9 (omega arith)
+
+  pub index_good : (table : Table) → is_good_first table cell ≡ true → AreFirsts cell.records → is_good_first table (says_index o cell) ≡ true
+  index_good table was firsts = first_alike table cell (says_index o cell) refl (record {
     one = ap is_some (other 1 (λ e. omega (arith, e)));
     clone = ap is_some (other 2 (λ e. omega (arith, e)));
     four = ap is_some (other 4 (λ e. omega (arith, e)));
@@ -48,16 +57,14 @@ index_well version table o cell was firsts = record {
     directory = ap (λ o. option_map_or says_directory o false) (other 1 (λ e. omega (arith, e)));
     removed = ap (λ o. option_map_or says_remove o false) (other 6 (λ e. omega (arith, e)));
     keeps = λ i. option_map_or (λ r. keeps_well r (is_some (other 6 (λ e. omega (arith, e)) i))) (other 1 (λ e. omega (arith, e)) i) false;
-  }) ∙ was.good;
-  births = λ value is. was.births value (sym (other 1 (λ e. omega (arith, e))) ∙ is);
-}
-  where
-    other : (k : ℕ) → ¬ k ≡ 9 → record_of k (says_index o cell).records ≡ record_of k cell.records
-    other = index_other o cell
+  }) ∙ was
 
-    by_index : (o : Option IndexPlace) → IfSome (option_map index_record o) (λ r. kind_of r ≤ last_kind version)
-    by_index None = tt
-    by_index (Some index) = low_kind version 9 (omega arith)
+pub index_well : (version : Version) (table : Table) (o : Option IndexPlace) (cell : Cell) → SaysWell version table cell → AreFirsts cell.records → SaysWell version table (says_index o cell)
+index_well version table o cell was firsts = record {
+  known = index_known o cell version was.known;
+  good = index_good o cell table was.good firsts;
+  births = λ value is. was.births value (sym (index_other o cell 1 (λ e. omega (arith, e))) ∙ is);
+}
 
 -- ---- a file that is to be removed, and has no index then
 
@@ -81,6 +88,12 @@ gone_beside pages first rest file = record {
   maps = map_stays 6 (Some (written.Pending Remove)) (says_index None first.cell).records file.value (index_keeps pages first rest file None ∙ file.map.only) (not_of file.value 6 (rows pages first rest file) refl) refl ∙ sym file.map.only;
   source = find_other 6 2 (Some (written.Pending Remove)) (says_index None first.cell).records (λ e. omega (arith, e)) refl ∙ index_other None first.cell 2 (λ e. omega (arith, e));
 }
+
+pub gone_known : (version : Version) (cell : Cell) → AreKnown version cell.records → AreKnown version (says_gone cell).records
+gone_known version cell was = removed_known version (says_index None cell) (index_known None cell version was)
+
+pub gone_good : (table : Table) (cell : Cell) → is_good_first table cell ≡ true → AreFirsts cell.records → is_good_first table (says_gone cell) ≡ true
+gone_good table cell was firsts = removed_good table (says_index None cell) (index_good None cell table was firsts) (index_firsts None cell firsts) (removed_firsts (says_index None cell) (index_firsts None cell firsts))
 
 -- it names no index
 pub gone_none : (cell : Cell) → record_of 9 (says_gone cell).records ≡ None

@@ -53,12 +53,12 @@ use Rattle.standing_laws.proofs.IndexHeld.{owned_told}
 use Rattle.standing_laws.proofs.IndexOthers.{slot_told}
 use Rattle.standing_laws.proofs.IndexListed.{chains_all}
 use Rattle.standing_laws.proofs.IndexRest.{rest_told}
-use Rattle.standing_laws.proofs.IndexSaid.{index_firsts, index_other, index_well}
+use Rattle.standing_laws.proofs.IndexSaid.{index_firsts, index_good, index_known, index_other, index_well}
 use Rattle.standing_laws.proofs.IndexSpaces.{Is, NoHome, SpacesMove, moves_page, moves_same}
 use Rattle.standing_laws.proofs.IndexTables.{tables_told}
 use Rattle.standing_laws.proofs.HomeLists.{get_in, in_get}
 use Rattle.standing_laws.proofs.IndexTold.{Told, files_now, indexes_now, led, there_now}
-use Rattle.standing_laws.proofs.IndexWas.{begins_low, file_was, firsts_was, member_on, off_cells, off_first, off_tags, once_was, there_was, well_was}
+use Rattle.standing_laws.proofs.IndexWas.{begins_low, file_was, firsts_was, member_on, off_cells, off_first, off_tags, good_was, known_was, once_was, there_was, well_was}
 use Rattle.standing_laws.proofs.TablesTaken.{unheld_taken}
 
 -- ---- lists with one more
@@ -109,7 +109,7 @@ more_once (x ∷ homes) (suc place) onto none once = joined_once x (insert homes
 
 -- ---- the first cell says the index, and pages of it are others
 
-module _ (d : DomainNow) (files : Files) (indexes : IndexesAt) (below : StandsBelow d files indexes) (number : ℕ) (entry : FilesetEntry) (original : item_in d number ≡ Some (slot.Original entry)) (tag : Tag) (chains : Chains) (well : StandsWell number (fileset_now d number chains files)) (first : PlacedCell) (rest : List PlacedCell)
+module _ (d : DomainNow) (files : Files) (indexes : IndexesAt) (below : StandsBelow d files indexes) (number : ℕ) (tag : Tag) (chains : Chains) (well : StandsWell number (fileset_now d number chains files)) (first : PlacedCell) (rest : List PlacedCell)
     (is : chains tag ≡ Some (first ∷ rest)) (between space : Spaces) (said pages : Pages) (homes : List Home) (comes : Home → Type 0) (says : SaysIndex number (d.tags number) between d.cells tag chains d.pages said)
     (others : (home : Home) → ¬ Contains (indexes first.at) home → ¬ comes home → pages home ≡ said home) (came : (home : Home) → comes home → Contains homes home × MayTake d.space home) (are : AreIndexHomes pages (Some says.index.first) homes)
     (once : AreOnce homes) (back : (home : Home) → Contains homes home → Contains (indexes first.at) home ⊎ comes home) (on : (home : Home) → Contains (indexes first.at) home → Contains homes home) (spaces : SpacesMove comes NoHome d.space space) where
@@ -128,12 +128,12 @@ module _ (d : DomainNow) (files : Files) (indexes : IndexesAt) (below : StandsBe
 
   on_table : (home : Home) → Contains (table_of d.cells home.vol) home.page → pages home ≡ said home
   on_table home on_cells =
-      others home (λ inside. off_cells d files indexes below number entry original tag chains well first rest is home inside on_cells)
-      (λ comes_it. fresh home comes_it of_cells (member_on d files indexes below number entry original tag chains well first rest is home.vol home.page on_cells, on_cells))
+      others home (λ inside. off_cells d files indexes below number tag chains well first rest is home inside on_cells)
+      (λ comes_it. fresh home comes_it of_cells (member_on d files indexes below number tag chains well first rest is home.vol home.page on_cells, on_cells))
 
   on_tag : (home : Home) → has_home (d.tags number) home ≡ true → pages home ≡ said home
   on_tag home has =
-      others home (λ inside. off_tags d files indexes below number entry original tag chains well first rest is number home inside has)
+      others home (λ inside. off_tags d files indexes below number tag chains well first rest is number home inside has)
       (λ comes_it. fresh home comes_it (of_tags number) has)
 
   away : AreTogether number (d.tags number) between d.cells pages chains_then
@@ -158,8 +158,6 @@ module _ (d : DomainNow) (files : Files) (indexes : IndexesAt) (below : StandsBe
   pub told : Told d files indexes pages space homes
   told = record {
     number = number;
-    entry = entry;
-    original = original;
     tag = tag;
     chains = chains;
     well = well;
@@ -167,18 +165,21 @@ module _ (d : DomainNow) (files : Files) (indexes : IndexesAt) (below : StandsBe
     rest = rest;
     is = is;
     says = says_it;
-    beside = index_beside d.pages first rest (file_was d files indexes below number entry original tag chains well first rest is) (Some says.index);
-    told = index_well d.frame.version d.table (Some says.index) first.cell (well_was d files indexes below number entry original tag chains well first rest is) (firsts_was d files indexes below number entry original tag chains well first rest is);
-    firsts = index_firsts (Some says.index) first.cell (firsts_was d files indexes below number entry original tag chains well first rest is);
+    head = refl;
+    beside = index_beside d.pages first rest (file_was d files indexes below number tag chains well first rest is) (Some says.index);
+    known = index_known (Some says.index) first.cell d.frame.version (known_was d files indexes below number tag chains well first rest is);
+    good = index_good (Some says.index) first.cell d.table (good_was d files indexes below number tag chains well first rest is) (firsts_was d files indexes below number tag chains well first rest is);
+    births = λ original. (index_well d.frame.version d.table (Some says.index) first.cell (well_was d files indexes below number tag chains well first rest is original) (firsts_was d files indexes below number tag chains well first rest is)).births;
+    firsts = index_firsts (Some says.index) first.cell (firsts_was d files indexes below number tag chains well first rest is);
     file = file_now;
     chains_now = chains_then;
     are = away.files;
     others = chain_other tag change chains;
-    whose = inl (tag_now, index_live d.pages first rest (file_was d files indexes below number entry original tag chains well first rest is) (Some says.index));
+    whose = inl (tag_now, index_live d.pages first rest (file_was d files indexes below number tag chains well first rest is) (Some says.index));
     comes = comes;
     goes = NoHome;
     cells = λ at on_cells other. ap (λ (o : Option (List ℕ)). cell_at (λ _. o) at) (on_table (home_of at) on_cells) ∙ changes.0 at other;
-    stay = λ home off no_tags none no_come. others home none no_come ∙ changes.1 home (off_first d files indexes below number entry original tag chains well first rest is home off);
+    stay = λ home off no_tags none no_come. others home none no_come ∙ changes.1 home (off_first d files indexes below number tag chains well first rest is home off);
     belong = away.allocated.belong;
     ends = away.allocated.ends;
     indexed = subst (λ o. AreIndexHomes pages o homes) (sym begins) are;
@@ -207,7 +208,7 @@ module _ (d : DomainNow) (files : Files) (indexes : IndexesAt) (below : StandsBe
     on_list : IsToDo files_then first.at → IsOnList now first.at
     unfolding told
     on_list left =
-        let there = there_was d files indexes below number entry original tag chains well first rest is in
+        let there = there_was d files indexes below number tag chains well first rest is in
         let was_left : IsToDo files first.at = ap (λ o. is_some (option_and_then left_of o)) there ∙ sym (ap is_some same_left) ∙ sym (ap (λ o. is_some (option_and_then left_of o)) (there_now d files indexes below pages contents space homes told)) ∙ left in
         let on_it = below.chains.to_do first.at was_left in
         (on_it.0, on_it.1, on_it.2)
@@ -251,9 +252,9 @@ module _ (number : ℕ) (tag : Tag) (d now : DomainNow) (chains : Chains) (files
 
     stands : StandsBelow (record d { pages = now.pages; contents = now.contents; space = now.space }) (with_file first.at (Some (with_first says (first ∷ rest))) files) (with_index_at first.at (indexes first.at) indexes)
     unfolding told
-    stands = set_stands d files indexes below number names.entry names.original tag chains names.well first rest is d.space now.space writes.said now.pages (indexes first.at) NoHome writes.says
+    stands = set_stands d files indexes below number tag chains names.well first rest is d.space now.space writes.said now.pages (indexes first.at) NoHome writes.says
         (λ home none no_come. writes.puts.others home (λ at. none (get_in (indexes first.at) page home at)))
-        (λ home none. absurd none) writes.puts.are (once_was d files indexes below number names.entry names.original tag chains names.well first rest is)
+        (λ home none. absurd none) writes.puts.are (once_was d files indexes below number tag chains names.well first rest is)
         (λ home inside. inl inside) (λ home inside. inside) (moves_same d.space now.space same_space) now.contents
 
     -- the same indexes, and the file as the domain has it
@@ -269,15 +270,15 @@ module _ (number : ℕ) (tag : Tag) (d now : DomainNow) (chains : Chains) (files
         subst (λ (x : DomainNow). StandsBelow x (with_said first.at says files) indexes) (sym same)
         (subst (StandsBelow (record d { pages = now.pages; contents = now.contents; space = now.space }) (with_said first.at says files)) same_indexes
         (subst (λ o. StandsBelow (record d { pages = now.pages; contents = now.contents; space = now.space }) (with_file first.at (option_map (with_first says) o) files) (with_index_at first.at (indexes first.at) indexes))
-        (sym (there_was d files indexes below number names.entry names.original tag chains names.well first rest is)) stands))
+        (sym (there_was d files indexes below number tag chains names.well first rest is)) stands))
 
     slots_written : OthersStand number d now
     unfolding told
     slots_written bytes n differ other shape fileset there stood =
         subst (λ (x : DomainNow). StandsSlot x n other shape fileset) (sym same)
-        (set_slot d files indexes below number names.entry names.original tag chains names.well first rest is d.space now.space writes.said now.pages (indexes first.at) NoHome writes.says
+        (set_slot d files indexes below number tag chains names.well first rest is d.space now.space writes.said now.pages (indexes first.at) NoHome writes.says
         (λ home none no_come. writes.puts.others home (λ at. none (get_in (indexes first.at) page home at)))
-        (λ home none. absurd none) writes.puts.are (once_was d files indexes below number names.entry names.original tag chains names.well first rest is)
+        (λ home none. absurd none) writes.puts.are (once_was d files indexes below number tag chains names.well first rest is)
         (λ home inside. inl inside) (λ home inside. inside) (moves_same d.space now.space same_space) now.contents bytes n differ other shape fileset there stood)
 
   pub written : (start : CellAt) → NamesFile number tag start d chains files → (writes : WritesIndexPage number (d.tags number) d.space d.cells tag page bytes chains (indexes start) d.pages now.pages) → StandsBelow now (with_said start (says_index (Some writes.says.index)) files) indexes
@@ -329,11 +330,11 @@ module _ (number : ℕ) (tag : Tag) (d now : DomainNow) (chains : Chains) (files
 
     stands_more : StandsBelow (record d { pages = now.pages; contents = now.contents; space = now.space }) (with_file first.at (Some (with_first says_more (first ∷ rest))) files) (with_index_at first.at more indexes)
     unfolding told
-    stands_more = set_stands d files indexes below number names.entry names.original tag chains names.well first rest is now.space now.space adds.said now.pages more (Is adds.home) adds.says
+    stands_more = set_stands d files indexes below number tag chains names.well first rest is now.space now.space adds.said now.pages more (Is adds.home) adds.says
         (λ home none no_come. adds.inserts.others home none (false_from_ne_true (same_home home adds.home) (λ here. no_come (homes_same home adds.home here))))
         (λ home here. (subst (Contains more) (sym here) (in_more (indexes first.at) place adds.home), subst (MayTake d.space) (sym here) (low, adds.free)))
         adds.inserts.are
-        (more_once (indexes first.at) place adds.home not_in (once_was d files indexes below number names.entry names.original tag chains names.well first rest is))
+        (more_once (indexes first.at) place adds.home not_in (once_was d files indexes below number tag chains names.well first rest is))
         (λ home inside. ⊎_elim (λ here. inr (sym here)) (λ was. inl was) (in_inserted (indexes first.at) place adds.home home inside))
         (λ home inside. in_still (indexes first.at) place adds.home home inside) (moves_page d.space now.space adds.home low adds.taken) now.contents
 
@@ -341,17 +342,17 @@ module _ (number : ℕ) (tag : Tag) (d now : DomainNow) (chains : Chains) (files
     added_first =
         subst (λ (x : DomainNow). StandsBelow x (with_said first.at says_more files) (with_index_at first.at more indexes)) (sym same)
         (subst (λ o. StandsBelow (record d { pages = now.pages; contents = now.contents; space = now.space }) (with_file first.at (option_map (with_first says_more) o) files) (with_index_at first.at more indexes))
-        (sym (there_was d files indexes below number names.entry names.original tag chains names.well first rest is)) stands_more)
+        (sym (there_was d files indexes below number tag chains names.well first rest is)) stands_more)
 
     slots_added : OthersStand number d now
     unfolding told
     slots_added bytes n differ other shape fileset there stood =
         subst (λ (x : DomainNow). StandsSlot x n other shape fileset) (sym same)
-        (set_slot d files indexes below number names.entry names.original tag chains names.well first rest is now.space now.space adds.said now.pages more (Is adds.home) adds.says
+        (set_slot d files indexes below number tag chains names.well first rest is now.space now.space adds.said now.pages more (Is adds.home) adds.says
         (λ home none no_come. adds.inserts.others home none (false_from_ne_true (same_home home adds.home) (λ here. no_come (homes_same home adds.home here))))
         (λ home here. (subst (Contains more) (sym here) (in_more (indexes first.at) place adds.home), subst (MayTake d.space) (sym here) (low, adds.free)))
         adds.inserts.are
-        (more_once (indexes first.at) place adds.home not_in (once_was d files indexes below number names.entry names.original tag chains names.well first rest is))
+        (more_once (indexes first.at) place adds.home not_in (once_was d files indexes below number tag chains names.well first rest is))
         (λ home inside. ⊎_elim (λ here. inr (sym here)) (λ was. inl was) (in_inserted (indexes first.at) place adds.home home inside))
         (λ home inside. in_still (indexes first.at) place adds.home home inside) (moves_page d.space now.space adds.home low adds.taken) now.contents bytes n differ other shape fileset there stood)
 

@@ -20,9 +20,7 @@ use Rattle.bitfile_cells.proofs.Added.{used_of}
 use Rattle.bitfile_core.proofs.Tags.{directory_same, pages_same}
 use Rattle.fileset_table.specs.Page.{IsTablePage}
 use Rattle.fileset_table.specs.declared.slot.SlotItem.{SlotItem}
-use Rattle.fileset_table.specs.declared.slot.SlotItem.TheVariants as slot
 use Rattle.deferred_delete.specs.Standing.{Files}
-use Rattle.deferred_delete.proofs.Spread.{some_same}
 use Rattle.deferred_delete.proofs.Standings.{same_or_not}
 use Rattle.domain_standing.specs.Space.{AreCellsOf, IsFreeAt}
 use Rattle.domain_layout.specs.Filled.{Contents}
@@ -126,8 +124,9 @@ module _ (d : DomainNow) (files : Files) (indexes : IndexesAt) (below : StandsBe
 
   -- ---- tag directories
 
-  own_tags : AreTagPlaces pages (first_tag_of (slot.Original t.entry)) (d.tags t.number)
-  own_tags = record { directory = t.are.directory; begins = (below.tables.laid.tags t.number (slot.Original t.entry) t.original).begins }
+  own_tags : (first : Option Home) → AreTagPlaces d.pages first (d.tags t.number) → AreTagPlaces pages first (d.tags t.number)
+  own_tags None are = are
+  own_tags (Some first) are = record { directory = t.are.directory; begins = are.begins }
 
   other_tags : (other : ℕ) → ¬ other ≡ t.number → (first : Option Home) → AreTagPlaces d.pages first (d.tags other) → AreTagPlaces pages first (d.tags other)
   other_tags other differ None are = are
@@ -140,8 +139,8 @@ module _ (d : DomainNow) (files : Files) (indexes : IndexesAt) (below : StandsBe
   tags_now other item there = ⊎_elim
       (λ same.
       let is : other ≡ t.number = eqb-true other t.number same in
-      let it : slot.Original t.entry ≡ item = some_same (slot.Original t.entry) item (sym t.original ∙ sym (ap (slice_get d.table.slots) is) ∙ there) in
-      subst (λ (k : ℕ). AreTagPlaces pages (first_tag_of item) (d.tags k)) (sym is) (subst (λ (x : SlotItem). AreTagPlaces pages (first_tag_of x) (d.tags t.number)) it own_tags))
+      subst (λ (k : ℕ). AreTagPlaces pages (first_tag_of item) (d.tags k)) (sym is)
+      (own_tags (first_tag_of item) (below.tables.laid.tags t.number item (sym (ap (slice_get d.table.slots) is) ∙ there))))
       (λ not_same.
       let differ : ¬ other ≡ t.number = λ e. true≢false (sym (eq-eqb other t.number e) ∙ not_same) in
       other_tags other differ (first_tag_of item) (below.tables.laid.tags other item there))

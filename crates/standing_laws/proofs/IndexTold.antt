@@ -10,7 +10,8 @@ use Rattle.log_ring.specs.Homes.{IsMember}
 use Rattle.page_store.specs.Bitfiles.{same_tag}
 use Rattle.page_store.specs.Pages.{Pages}
 use Rattle.record_table.specs.declared.record.Leftover.TheVariants.{Remove}
-use Rattle.bmt_mcells.specs.Cell.{Cell}
+use Rattle.record_table.specs.declared.record.Record.{Record}
+use Rattle.bmt_mcells.specs.Cell.{Cell, record_of}
 use Rattle.bmt_mcells.specs.CellPage.{cell_at}
 use Rattle.bmt_mcells.specs.Chain.{PlacedCell, StandsAt, is_at}
 use Rattle.tag_dirs.specs.Directory.{has_home}
@@ -26,15 +27,15 @@ use Rattle.bitfile_core.specs.Files.{AreFiles, Chains}
 use Rattle.bitfile_core.specs.Shown.{index_of}
 use Rattle.bitfile_core.proofs.FirstTogether.{runs_kept}
 use Rattle.stored_index.specs.Homes.{AreIndexHomes}
-use Rattle.fileset_table.specs.declared.slot.FilesetEntry.{FilesetEntry}
-use Rattle.fileset_table.specs.declared.slot.SlotItem.TheVariants as slot
 use Rattle.deferred_delete.specs.Listed.{left_of}
 use Rattle.deferred_delete.specs.Standing.{Files, IsStanding, place_in, with_file}
 use Rattle.deferred_delete.proofs.Standings.{file_other, file_there, place_by, same_or_not, standing}
 use Rattle.deferred_laws.specs.Calls.{StandsWell}
 use Rattle.deferred_laws.proofs.FirstWell.{SaysBeside, StaysLive, are_file}
 use Rattle.deferred_laws.proofs.TagFile.{file_is}
+use Rattle.domain_layout.specs.CellRules.{is_good_first, of_original}
 use Rattle.domain_layout.specs.Filled.{Contents}
+use Rattle.domain_layout.specs.TagRules.{IsLate}
 use Rattle.layout_laws.proofs.Reached.{member_or_none}
 use Rattle.domain_standing.specs.Chains.{IndexesAt}
 use Rattle.domain_standing.specs.Domain.{DomainNow, item_in}
@@ -45,7 +46,7 @@ use Rattle.standing_laws.specs.Leads.{StandsBelow, fileset_now}
 use Rattle.standing_laws.proofs.HeldHolders.{MayTake}
 use Rattle.standing_laws.proofs.HomeLists.{in_get}
 use Rattle.standing_laws.proofs.IndexSpaces.{SpacesMove}
-use Rattle.standing_laws.proofs.RestFirst.{AreFirsts, SaysWell}
+use Rattle.standing_laws.proofs.RestFirst.{AreFirsts, AreKnown}
 use Rattle.standing_laws.proofs.TablesTaken.{unheld_taken}
 
 -- with these pages, this free space, and these homes of the pages of the index, of which some come
@@ -53,8 +54,6 @@ use Rattle.standing_laws.proofs.TablesTaken.{unheld_taken}
 pub record Told (d : DomainNow) (files : Files) (indexes : IndexesAt) (pages : Pages) (space : Spaces) (homes : List Home) : Type 1 where
   -- the file
   pub number : ℕ
-  pub entry : FilesetEntry
-  pub original : item_in d number ≡ Some (slot.Original entry)
   pub tag : Tag
   pub chains : Chains
   pub well : StandsWell number (fileset_now d number chains files)
@@ -63,8 +62,11 @@ pub record Told (d : DomainNow) (files : Files) (indexes : IndexesAt) (pages : P
   pub is : chains tag ≡ Some (first ∷ rest)
   -- its first cell
   pub says : Cell → Cell
+  pub head : (says first.cell).head ≡ first.cell.head
   pub beside : SaysBeside says first.cell
-  pub told : SaysWell d.frame.version d.table (says first.cell)
+  pub known : AreKnown d.frame.version (says first.cell).records
+  pub good : is_good_first d.table (says first.cell) ≡ true
+  pub births : of_original (item_in d number) ≡ true → (value : Record) → record_of 1 (says first.cell).records ≡ Some value → ¬ IsLate d.table.made value
   pub firsts : AreFirsts (says first.cell).records
   pub file : IsFile pages first.at (with_first says (first ∷ rest))
   -- the fileset's files

@@ -1,4 +1,4 @@
--- The file that a tag of an original names, before a call on its index.
+-- The file that a tag names, before a call on its index.
 use Rattle.std.proofs.Common.{◌≡◌, ⊎_elim, ℕ, ◌≤◌, true, false, List, ◌∷◌, length, Option, Some, None, IfSome, Contains, slice_get, refl, sym, ap, subst, arith}
 use Rattle.std.proofs.lemmas.Bool.{cases_Bool}
 use Rattle.std.specs.Option.{option_and_then}
@@ -21,15 +21,13 @@ use Rattle.bitfile_core.specs.Shown.{index_in, index_of}
 use Rattle.bitfile_core.proofs.Room.{allowed_found}
 use Rattle.stored_index.specs.Homes.{AreIndexHomes}
 use Rattle.stored_index.proofs.Dropped.{low_from}
-use Rattle.fileset_table.specs.declared.slot.FilesetEntry.{FilesetEntry}
-use Rattle.fileset_table.specs.declared.slot.SlotItem.TheVariants as slot
 use Rattle.deferred_delete.specs.Standing.{Files}
 use Rattle.deferred_laws.specs.Calls.{StandsWell}
 use Rattle.deferred_laws.proofs.FirstWell.{are_file}
 use Rattle.deferred_laws.proofs.TagFile.{file_is}
 use Rattle.layout_laws.proofs.Reached.{member_or_none}
 use Rattle.log_ring.specs.Homes.{IsMember}
-use Rattle.domain_layout.specs.CellRules.{of_original}
+use Rattle.domain_layout.specs.CellRules.{is_good_first, of_original}
 use Rattle.domain_layout.specs.Owners.{IsOnTable}
 use Rattle.domain_standing.specs.Chains.{IndexesAt}
 use Rattle.domain_standing.specs.Domain.{DomainNow, item_in, layout_of}
@@ -37,7 +35,7 @@ use Rattle.domain_standing.specs.Holders.Holder.{of_cells, of_index, of_tags}
 use Rattle.standing_laws.specs.Leads.{StandsBelow, fileset_now}
 use Rattle.standing_laws.proofs.ChainsNamed.{leads_there}
 use Rattle.standing_laws.proofs.HomeLists.{in_get}
-use Rattle.standing_laws.proofs.RestFirst.{AreFirsts, SaysWell}
+use Rattle.standing_laws.proofs.RestFirst.{AreFirsts, AreKnown, SaysWell}
 
 index_low : (r : Record) → Allowed r → IfSome (index_in r) (λ h. 1 ≤ h.vol)
 unfolding Allowed
@@ -52,7 +50,7 @@ begins_low pages first rest file = by_record (record_of 9 first.cell.records) re
     by_record None is = tt
     by_record (Some r) is = index_low r (allowed_found 9 first.cell.records r is file.links.stands.is.well_formed.allowed)
 
-module _ (d : DomainNow) (files : Files) (indexes : IndexesAt) (below : StandsBelow d files indexes) (number : ℕ) (entry : FilesetEntry) (original : item_in d number ≡ Some (slot.Original entry)) (tag : Tag) (chains : Chains) (well : StandsWell number (fileset_now d number chains files)) (first : PlacedCell) (rest : List PlacedCell)
+module _ (d : DomainNow) (files : Files) (indexes : IndexesAt) (below : StandsBelow d files indexes) (number : ℕ) (tag : Tag) (chains : Chains) (well : StandsWell number (fileset_now d number chains files)) (first : PlacedCell) (rest : List PlacedCell)
     (is : chains tag ≡ Some (first ∷ rest)) where
   pub file_was : AreFile d.pages first rest
   file_was = are_file number (d.tags number) d.pages chains well.together.files tag first rest is
@@ -78,14 +76,20 @@ module _ (d : DomainNow) (files : Files) (indexes : IndexesAt) (below : StandsBe
   pub firsts_was : AreFirsts first.cell.records
   firsts_was = led_was.kinds
 
-  pub well_was : SaysWell d.frame.version d.table first.cell
-  well_was = record {
-    known = below.rest.kinds first.at first.cell first_on;
-    good = below.rest.firsts first.at first.cell first_on file_was.primary;
+  pub known_was : AreKnown d.frame.version first.cell.records
+  known_was = below.rest.kinds first.at first.cell first_on
+
+  pub good_was : is_good_first d.table first.cell ≡ true
+  good_was = below.rest.firsts first.at first.cell first_on file_was.primary
+
+  pub well_was : of_original (item_in d number) ≡ true → SaysWell d.frame.version d.table first.cell
+  well_was original = record {
+    known = known_was;
+    good = good_was;
     births = λ value has. below.rest.births first.at first.cell value
         (record {
           number = number;
-          original = ap of_original original;
+          original = original;
           tag = tag;
           leads = leads_there number (d.tags number) d.pages chains well.together.files tag (first ∷ rest) first.at is refl;
         })

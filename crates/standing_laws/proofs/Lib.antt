@@ -1,3 +1,4 @@
+pub mod AllStay
 pub mod BegunDomain
 pub mod BegunEmpty
 pub mod BelowStands
@@ -43,6 +44,7 @@ pub mod RestStands
 pub mod RootMade
 pub mod RootParents
 pub mod SlotStays
+pub mod SlotTogether
 pub mod SlotsKept
 pub mod SlotsStand
 pub mod SourcesSaid

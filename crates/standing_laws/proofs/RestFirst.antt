@@ -138,6 +138,31 @@ module _ (version : Version) (table : Table) (a : Cell) (was : SaysWell version 
             ∙ ap (λ o. option_map_or (λ r. keeps_well r (has_kind 6 a.records)) o false) one_put
             ∙ by_found (has_kind 6 a.records) (record_of 1 a.records)
 
+-- ---- a first cell that says that its file is to be removed
+
+removed_other : (cell : Cell) (k : ℕ) → ¬ k ≡ 6 → record_of k (says_removed cell).records ≡ record_of k cell.records
+removed_other cell k six = find_other 6 k (Some (written.Pending Remove)) cell.records six refl
+
+pub removed_known : (version : Version) (cell : Cell) → AreKnown version cell.records → AreKnown version (says_removed cell).records
+removed_known version cell was = kinds_put (λ k. k ≤ last_kind version) 6 (Some (written.Pending Remove)) cell.records was (low_kind version 6 (omega arith))
+
+pub removed_good : (table : Table) (cell : Cell) → is_good_first table cell ≡ true → AreFirsts cell.records → AreFirsts (says_removed cell).records → is_good_first table (says_removed cell) ≡ true
+removed_good table cell was firsts firsts_now =
+    good_removed table (says_removed cell) records_now (ap (λ o. option_map_or says_remove o false) (find_put 6 (Some (written.Pending Remove)) cell.records refl))
+  where
+    kinds : list_all (λ r. is_first_kind (kind_of r)) (says_removed cell).records ≡ list_all (λ r. is_first_kind (kind_of r)) cell.records
+    kinds = all_first (says_removed cell).records firsts_now ∙ sym (all_first cell.records firsts)
+
+    same_records : has_first_records (says_removed cell).records ≡ has_first_records cell.records
+    same_records = λ i. is_some (removed_other cell 1 (λ e. omega (arith, e)) i)
+        && not (agree (is_some (removed_other cell 4 (λ e. omega (arith, e)) i)) (is_some (removed_other cell 14 (λ e. omega (arith, e)) i)))
+        && kinds i
+
+    records_now : has_first_records (says_removed cell).records ≡ true
+    records_now = same_records ∙ good_records table cell was
+
+-- ---- what a live file's first cell says
+
 module _ (version : Version) (table : Table) (first : PlacedCell) (rest : List PlacedCell) (was : SaysWell version table first.cell) (firsts : AreFirsts first.cell.records) (live : is_removed (first ∷ rest) ≡ false) where
   pub described_well : (value : Attributes) → IsSomeAnd (option_and_then (of_live attributes_of) (Some (first ∷ rest))) (λ was. was.kind ≡ value.kind) → AreFirsts (says_attributes value first.cell).records → SaysWell version table (says_attributes value first.cell)
   described_well value can firsts_now =
@@ -258,21 +283,7 @@ module _ (version : Version) (table : Table) (first : PlacedCell) (rest : List P
 
   pub removed_well : AreFirsts (says_removed first.cell).records → SaysWell version table (says_removed first.cell)
   removed_well firsts_now = record {
-    known = kinds_put (λ k. k ≤ last_kind version) 6 (Some (written.Pending Remove)) first.cell.records was.known (low_kind version 6 (omega arith));
-    good = good_removed table (says_removed first.cell) records_now (ap (λ o. option_map_or says_remove o false) (find_put 6 (Some (written.Pending Remove)) first.cell.records refl));
-    births = λ value is. was.births value (sym (other 1 (λ e. omega (arith, e))) ∙ is);
+    known = removed_known version first.cell was.known;
+    good = removed_good table first.cell was.good firsts firsts_now;
+    births = λ value is. was.births value (sym (removed_other first.cell 1 (λ e. omega (arith, e))) ∙ is);
   }
-    where
-      other : (k : ℕ) → ¬ k ≡ 6 → record_of k (says_removed first.cell).records ≡ record_of k first.cell.records
-      other k six = find_other 6 k (Some (written.Pending Remove)) first.cell.records six refl
-
-      kinds : list_all (λ r. is_first_kind (kind_of r)) (says_removed first.cell).records ≡ list_all (λ r. is_first_kind (kind_of r)) first.cell.records
-      kinds = all_first (says_removed first.cell).records firsts_now ∙ sym (all_first first.cell.records firsts)
-
-      same_records : has_first_records (says_removed first.cell).records ≡ has_first_records first.cell.records
-      same_records = λ i. is_some (other 1 (λ e. omega (arith, e)) i)
-          && not (agree (is_some (other 4 (λ e. omega (arith, e)) i)) (is_some (other 14 (λ e. omega (arith, e)) i)))
-          && kinds i
-
-      records_now : has_first_records (says_removed first.cell).records ≡ true
-      records_now = same_records ∙ good_records table first.cell was.good

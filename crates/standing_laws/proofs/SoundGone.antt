@@ -26,19 +26,18 @@ use Rattle.bitfile_core.specs.Shown.{index_of}
 use Rattle.bitfile_core.proofs.FirstTogether.{runs_kept}
 use Rattle.bitfile_core.proofs.OneChain.{chain_same, same_tag_itself}
 use Rattle.domain_standing.specs.Sets.{GivesIndexBack, without_index, without_index_from}
-use Rattle.fileset_table.specs.declared.slot.FilesetEntry.{FilesetEntry}
-use Rattle.fileset_table.specs.declared.slot.SlotItem.TheVariants as slot
 use Rattle.deferred_delete.specs.Listing.{Listing}
 use Rattle.deferred_delete.specs.Standing.{Files, place_in, with_file}
 use Rattle.deferred_delete.proofs.Standings.{at_itself, file_other, file_there, place_by, same_or_not}
 use Rattle.deferred_laws.specs.Calls.{StandsWell}
+use Rattle.deferred_laws.specs.Tags.{start_of}
 use Rattle.deferred_laws.proofs.FirstWell.{removed_beside}
 use Rattle.domain_layout.specs.CellRules.{is_chain_records}
 use Rattle.domain_layout.specs.Filled.{Contents}
 use Rattle.domain_layout.specs.Owners.{IsOnTable}
 use Rattle.domain_layout.specs.Reached.{IsWithin}
 use Rattle.domain_standing.specs.Chains.{IndexesAt}
-use Rattle.domain_standing.specs.Domain.{DomainNow, item_in, layout_of}
+use Rattle.domain_standing.specs.Domain.{DomainNow, layout_of}
 use Rattle.domain_standing.specs.Holders.{Holder, Holds}
 use Rattle.domain_standing.specs.Holders.Holder.{of_cells, of_file, of_index, of_log, of_table, of_tags, of_volume}
 use Rattle.standing_laws.specs.IndexCalls.{KeepsTables, NamesFile, with_index_at, with_removed}
@@ -52,7 +51,7 @@ use Rattle.standing_laws.proofs.SoundParted.{NoFile, good_by, sound_but, sound_n
 use Rattle.standing_laws.proofs.HomeLists.{in_get}
 use Rattle.deferred_delete.proofs.Spread.{none_not}
 
-module _ (d : DomainNow) (files : Files) (indexes : IndexesAt) (apart : CellAt → Type 0) (below : StandsBelow d files indexes) (sound : StandsSoundBut apart d files indexes) (number : ℕ) (entry : FilesetEntry) (original : item_in d number ≡ Some (slot.Original entry)) (tag : Tag) (chains : Chains)
+module _ (d : DomainNow) (files : Files) (indexes : IndexesAt) (apart : CellAt → Type 0) (below : StandsBelow d files indexes) (sound : StandsSoundBut apart d files indexes) (number : ℕ) (tag : Tag) (chains : Chains)
     (well : StandsWell number (fileset_now d number chains files)) (first : PlacedCell) (rest : List PlacedCell) (is : chains tag ≡ Some (first ∷ rest)) (group : ℕ) (space : Spaces) (pages : Pages) (contents : Contents) (listed : Listing)
     (gives : GivesIndexBack group (d.tags number) (chains tag) (indexes first.at) d.space space d.pages pages)
   where
@@ -66,7 +65,7 @@ module _ (d : DomainNow) (files : Files) (indexes : IndexesAt) (apart : CellAt �
     beside = subst (λ o. ChangesBeside (d.tags number) o d.pages gives.said) is gives.beside
 
     on_table : (home : Home) → Contains (table_of d.cells home.vol) home.page → pages home ≡ gives.said home
-    on_table home on = gives.drops.others home (λ inside. off_cells d files indexes below number entry original tag chains well first rest is home inside on)
+    on_table home on = gives.drops.others home (λ inside. off_cells d files indexes below number tag chains well first rest is home inside on)
 
     cell_stays : (at : CellAt) → Contains (table_of d.cells at.vol) at.page → is_at first.at at ≡ false → cell_at pages at ≡ cell_at d.pages at
     cell_stays at on other = ap (λ (o : Option (List ℕ)). cell_at (λ _. o) at) (on_table (home_of at) on) ∙ beside.cells at other
@@ -81,7 +80,7 @@ module _ (d : DomainNow) (files : Files) (indexes : IndexesAt) (apart : CellAt �
 
     other_page : (at : CellAt) (k : ℕ) (home : Home) → is_at at first.at ≡ false → slice_get (indexes at) k ≡ Some home → pages home ≡ d.pages home
     other_page at k home other held =
-        gives.drops.others home not_in ∙ beside.pages home (off_slot (d.tags number) first.cell.head.slot home no_tags) (off_first d files indexes below number entry original tag chains well first rest is home off)
+        gives.drops.others home not_in ∙ beside.pages home (off_slot (d.tags number) first.cell.head.slot home no_tags) (off_first d files indexes below number tag chains well first rest is home off)
       where
         not_in : ¬ Contains (indexes first.at) home
         not_in inside =
@@ -96,7 +95,7 @@ module _ (d : DomainNow) (files : Files) (indexes : IndexesAt) (apart : CellAt �
         tags_apart e = cc
 
         off : ¬ Contains (table_of d.cells home.vol) home.page
-        off on = cells_apart (below.owned.once home (of_index at k) of_cells held (member_on d files indexes below number entry original tag chains well first rest is home.vol home.page on, on))
+        off on = cells_apart (below.owned.once home (of_index at k) of_cells held (member_on d files indexes below number tag chains well first rest is home.vol home.page on, on))
 
         no_tags : has_home (d.tags number) home ≡ false
         no_tags = ⊎_elim (λ has. absurd (tags_apart (below.owned.once home (of_index at k) (of_tags number) held has))) (λ none. none) (cases_Bool (has_home (d.tags number) home))
@@ -148,7 +147,7 @@ module _ (d : DomainNow) (files : Files) (indexes : IndexesAt) (apart : CellAt �
       places_same a p = ⊎_elim
           (λ here.
           ap (λ (b : CellAt). place_in files_then b p) here ∙ place_by files_then first.at after p (file_there first.at (Some after) files) ∙ ap (λ rs. place_of rs p) (runs_kept says first rest maps)
-          ∙ sym (place_by files first.at (first ∷ rest) p (there_was d files indexes below number entry original tag chains well first rest is)) ∙ sym (ap (λ (b : CellAt). place_in files b p) here))
+          ∙ sym (place_by files first.at (first ∷ rest) p (there_was d files indexes below number tag chains well first rest is)) ∙ sym (ap (λ (b : CellAt). place_in files b p) here))
           (λ differ. ap (λ o. option_map_or (λ cs. places_of cs p) o Absent) (file_other first.at (Some after) files a differ))
           (same_or_not a first.at)
 
@@ -170,7 +169,7 @@ module _ (d : DomainNow) (files : Files) (indexes : IndexesAt) (apart : CellAt �
     Going o = StandsSoundBut apart now (with_file first.at (option_map (with_first says_removed) o) files) indexes_then
 
     old_file : AreFile d.pages first rest
-    old_file = file_was d files indexes below number entry original tag chains well first rest is
+    old_file = file_was d files indexes below number tag chains well first rest is
 
     -- it named no index
     none_goes : IsFile pages first.at (with_first says_removed (first ∷ rest)) → Going (Some (first ∷ rest))
@@ -195,16 +194,20 @@ module _ (number : ℕ) (tag : Tag) (d now : DomainNow) (chains : Chains) (files
   GoesAt a = Removes number (d.tags number) tag a (without_index tag chains) now.pages → GivesIndexBack group (d.tags number) (chains tag) (indexes a) d.space now.space d.pages now.pages
       → StandsSoundBut apart (record now { list = listed }) (with_removed a tag chains files) (with_index_at a [] indexes)
 
-  goes_first : (first : PlacedCell) (rest : List PlacedCell) → chains tag ≡ Some (first ∷ rest) → NamesFile number tag first.at d chains files → GoesAt first.at
-  goes_first first rest is names removes gives =
+  goes_first : (first : PlacedCell) (rest : List PlacedCell) → chains tag ≡ Some (first ∷ rest) → StandsWell number (fileset_now d number chains files) → GoesAt first.at
+  goes_first first rest is well removes gives =
       subst (λ (x : DomainNow). StandsSoundBut apart (record x { list = listed }) (with_removed first.at tag chains files) (with_index_at first.at [] indexes)) (sym same)
-      (gone_sound d files indexes apart below sound number names.entry names.original tag chains names.well first rest is group now.space now.pages now.contents listed gives removes.pending)
+      (gone_sound d files indexes apart below sound number tag chains well first rest is group now.space now.pages now.contents listed gives removes.pending)
 
-  pub but_gone : (start : CellAt) → NamesFile number tag start d chains files → GoesAt start
-  but_gone start names = by_start (chain_at chains tag start names.begins)
+  -- of what is in any slot
+  pub but_gone_in : (start : CellAt) → StandsWell number (fileset_now d number chains files) → option_and_then start_of (chains tag) ≡ Some start → GoesAt start
+  but_gone_in start well begins = by_start (chain_at chains tag start begins)
     where
       by_start : IsChain chains tag start → GoesAt start
-      by_start c = subst GoesAt c.at (goes_first c.first c.rest c.is (subst (λ (a : CellAt). NamesFile number tag a d chains files) (sym c.at) names))
+      by_start c = subst GoesAt c.at (goes_first c.first c.rest c.is well)
+
+  pub but_gone : (start : CellAt) → NamesFile number tag start d chains files → GoesAt start
+  but_gone start names = but_gone_in start names.well names.begins
 
 pub sound_gone : (number : ℕ) (tag : Tag) (d now : DomainNow) (chains : Chains) (files : Files) (indexes : IndexesAt) (group : ℕ) → StandsBelow d files indexes → StandsSound d files indexes → KeepsTables d now → (listed : Listing)
     → (start : CellAt) → NamesFile number tag start d chains files → Removes number (d.tags number) tag start (without_index tag chains) now.pages

@@ -33,8 +33,6 @@ use Rattle.stored_index.specs.Homes.{shown_at}
 use Rattle.stored_index.proofs.Dropped.{low_from}
 use Rattle.stored_index.proofs.Held.{in_inserted}
 use Rattle.domain_standing.specs.Sets.{AddsIndexPage, SaysIndex, WritesIndexPage}
-use Rattle.fileset_table.specs.declared.slot.FilesetEntry.{FilesetEntry}
-use Rattle.fileset_table.specs.declared.slot.SlotItem.TheVariants as slot
 use Rattle.deferred_delete.specs.Standing.{Files, place_in, with_file}
 use Rattle.deferred_delete.proofs.Standings.{at_itself, file_other, file_there, place_by, same_or_not}
 use Rattle.deferred_laws.specs.Calls.{StandsWell}
@@ -44,7 +42,7 @@ use Rattle.domain_layout.specs.Filled.{Contents}
 use Rattle.domain_layout.specs.Owners.{IsOnTable}
 use Rattle.domain_layout.specs.Reached.{IsWithin}
 use Rattle.domain_standing.specs.Chains.{IndexesAt}
-use Rattle.domain_standing.specs.Domain.{DomainNow, item_in, layout_of}
+use Rattle.domain_standing.specs.Domain.{DomainNow, layout_of}
 use Rattle.domain_standing.specs.Holders.{Holder, Holds, IsUnheld}
 use Rattle.domain_standing.specs.Holders.Holder.{of_cells, of_file, of_index, of_log, of_table, of_tags, of_volume}
 use Rattle.standing_laws.specs.IndexCalls.{KeepsTables, NamesFile, with_index_at, with_said}
@@ -66,7 +64,7 @@ at_apart a b apart = false_from_ne_true (is_at a b) (λ same. apart (at_same a b
 
 -- ---- the first cell of a file says its index anew, and pages of that are others
 
-module _ (d : DomainNow) (files : Files) (indexes : IndexesAt) (apart : CellAt → Type 0) (below : StandsBelow d files indexes) (sound : StandsSoundBut apart d files indexes) (number : ℕ) (entry : FilesetEntry) (original : item_in d number ≡ Some (slot.Original entry)) (tag : Tag) (chains : Chains)
+module _ (d : DomainNow) (files : Files) (indexes : IndexesAt) (apart : CellAt → Type 0) (below : StandsBelow d files indexes) (sound : StandsSoundBut apart d files indexes) (number : ℕ) (tag : Tag) (chains : Chains)
     (well : StandsWell number (fileset_now d number chains files)) (first : PlacedCell) (rest : List PlacedCell) (is : chains tag ≡ Some (first ∷ rest)) (between : Spaces) (said : Pages) (says : SaysIndex number (d.tags number) between d.cells tag chains d.pages said)
   where
     abbrev says_it : Cell → Cell
@@ -86,11 +84,11 @@ module _ (d : DomainNow) (files : Files) (indexes : IndexesAt) (apart : CellAt �
 
     -- a page of an index, but for what changes of that one, is as it was
     pub said_same : (home : Home) → ¬ Contains (table_of d.cells home.vol) home.page → said home ≡ d.pages home
-    said_same home off = changes.1 home (off_first d files indexes below number entry original tag chains well first rest is home off)
+    said_same home off = changes.1 home (off_first d files indexes below number tag chains well first rest is home off)
 
     pub its_said : ((home : Home) → Contains (indexes first.at) home → IsSomeAnd (d.pages home) IsIndexPage) → (home : Home) → Contains (indexes first.at) home → IsSomeAnd (said home) IsIndexPage
     its_said good home inside =
-        subst (λ o. IsSomeAnd o IsIndexPage) (sym (said_same home (off_cells d files indexes below number entry original tag chains well first rest is home inside))) (good home inside)
+        subst (λ o. IsSomeAnd o IsIndexPage) (sym (said_same home (off_cells d files indexes below number tag chains well first rest is home inside))) (good home inside)
 
     module _ (pages : Pages) (comes : Home → Type 0) (fresh : (home : Home) → comes home → IsUnheld d files indexes home) (homes : List Home) (others : (home : Home) → ¬ Contains (indexes first.at) home → ¬ comes home → pages home ≡ said home)
         (inside_frame : (home : Home) → Contains homes home → IsWithin d.frame home) (good : (home : Home) → Contains homes home → apart first.at ⊎ IsSomeAnd (pages home) IsIndexPage) (space : Spaces) (contents : Contents)
@@ -105,12 +103,12 @@ module _ (d : DomainNow) (files : Files) (indexes : IndexesAt) (apart : CellAt �
         indexes_then = with_index_at first.at homes indexes
 
         on_table : (home : Home) → Contains (table_of d.cells home.vol) home.page → pages home ≡ said home
-        on_table home on = others home (λ inside. off_cells d files indexes below number entry original tag chains well first rest is home inside on)
-            (λ come. fresh home come of_cells (member_on d files indexes below number entry original tag chains well first rest is home.vol home.page on, on))
+        on_table home on = others home (λ inside. off_cells d files indexes below number tag chains well first rest is home inside on)
+            (λ come. fresh home come of_cells (member_on d files indexes below number tag chains well first rest is home.vol home.page on, on))
 
         stands_now : StandsAt pages first.at (says_it first.cell)
         stands_now =
-            stands_by_page said pages first.at (says_it first.cell) (on_table (home_of first.at) (on_was d files indexes below number entry original tag chains well first rest is).0) file_said.links.stands
+            stands_by_page said pages first.at (says_it first.cell) (on_table (home_of first.at) (on_was d files indexes below number tag chains well first rest is).0) file_said.links.stands
 
         laters : (at : CellAt) (cell : Cell) → IsOnTable pages (layout_of now) at cell → cell.head.kind ≡ Chain → is_chain_records cell.records ≡ true
         laters at cell on chain = ⊎_elim here elsewhere (same_or_not at first.at)
@@ -129,8 +127,8 @@ module _ (d : DomainNow) (files : Files) (indexes : IndexesAt) (apart : CellAt �
         places_same a p = ⊎_elim
             (λ here.
             ap (λ (b : CellAt). place_in files_then b p) here ∙ place_by files_then first.at after p (file_there first.at (Some after) files)
-            ∙ ap (λ rs. place_of rs p) (runs_kept says_it first rest (index_beside d.pages first rest (file_was d files indexes below number entry original tag chains well first rest is) (Some says.index)).maps)
-            ∙ sym (place_by files first.at (first ∷ rest) p (there_was d files indexes below number entry original tag chains well first rest is)) ∙ sym (ap (λ (b : CellAt). place_in files b p) here))
+            ∙ ap (λ rs. place_of rs p) (runs_kept says_it first rest (index_beside d.pages first rest (file_was d files indexes below number tag chains well first rest is) (Some says.index)).maps)
+            ∙ sym (place_by files first.at (first ∷ rest) p (there_was d files indexes below number tag chains well first rest is)) ∙ sym (ap (λ (b : CellAt). place_in files b p) here))
             (λ differ. ap (λ o. option_map_or (λ cs. places_of cs p) o Absent) (file_other first.at (Some after) files a differ))
             (same_or_not a first.at)
 
@@ -155,7 +153,7 @@ module _ (d : DomainNow) (files : Files) (indexes : IndexesAt) (apart : CellAt �
             cells_apart e = cc
 
             off : ¬ Contains (table_of d.cells home.vol) home.page
-            off on = cells_apart (below.owned.once home (of_index at k) of_cells held (member_on d files indexes below number entry original tag chains well first rest is home.vol home.page on, on))
+            off on = cells_apart (below.owned.once home (of_index at k) of_cells held (member_on d files indexes below number tag chains well first rest is home.vol home.page on, on))
 
         good_then : (at : CellAt) (home : Home) → Contains (indexes_then at) home → apart at ⊎ IsSomeAnd (pages home) IsIndexPage
         good_then at home inside = by_test (is_at at first.at) refl
@@ -211,13 +209,13 @@ module _ (number : ℕ) (tag : Tag) (d now : DomainNow) (chains : Chains) (files
             (subst (AllByRecursion IsIndexPage) (sym writes.puts.shown)
             (all_entry IsIndexPage (shown_at writes.said (indexes first.at)) page (shown_index bytes)
             (shown_good writes.said (indexes first.at)
-            (its_said d files indexes apart below sound number names.entry names.original tag chains names.well first rest is d.space writes.said writes.says is_good.1))
+            (its_said d files indexes apart below sound number tag chains names.well first rest is d.space writes.said writes.says is_good.1))
             (one_good bytes is_good.0))) home inside))
             well_formed
 
         stands_one : StandsSoundBut apart (record d { pages = now.pages; contents = now.contents; space = now.space }) (with_file first.at (Some (with_first says_one (first ∷ rest))) files) (with_index_at first.at (indexes first.at) indexes)
         stands_one =
-            said_sound d files indexes apart below sound number names.entry names.original tag chains names.well first rest is d.space writes.said writes.says now.pages (λ home. ⊥) (λ home none. absurd none) (indexes first.at)
+            said_sound d files indexes apart below sound number tag chains names.well first rest is d.space writes.said writes.says now.pages (λ home. ⊥) (λ home none. absurd none) (indexes first.at)
             (λ home none no_come. writes.puts.others home (λ at. none (get_in (indexes first.at) page home at))) within_one good_one now.space now.contents
 
         same_indexes : with_index_at first.at (indexes first.at) indexes ≡ indexes
@@ -232,7 +230,7 @@ module _ (number : ℕ) (tag : Tag) (d now : DomainNow) (chains : Chains) (files
             subst (λ (x : DomainNow). StandsSoundBut apart x (with_said first.at says_one files) indexes) (sym same)
             (subst (StandsSoundBut apart (record d { pages = now.pages; contents = now.contents; space = now.space }) (with_said first.at says_one files)) same_indexes
             (subst (λ o. StandsSoundBut apart (record d { pages = now.pages; contents = now.contents; space = now.space }) (with_file first.at (option_map (with_first says_one) o) files) (with_index_at first.at (indexes first.at) indexes))
-            (sym (there_was d files indexes below number names.entry names.original tag chains names.well first rest is)) stands_one))
+            (sym (there_was d files indexes below number tag chains names.well first rest is)) stands_one))
 
     pub but_written : (start : CellAt) → NamesFile number tag start d chains files → IsGoodOr apart d indexes start bytes
         → (writes : WritesIndexPage number (d.tags number) d.space d.cells tag page bytes chains (indexes start) d.pages now.pages) → StandsSoundBut apart now (with_said start (says_index (Some writes.says.index)) files) indexes
@@ -277,7 +275,7 @@ module _ (number : ℕ) (tag : Tag) (d now : DomainNow) (chains : Chains) (files
         low : 1 ≤ adds.home.vol
         low = low_from now.pages (Some adds.says.index.first) more adds.inserts.are
             (subst (λ o. IfSome o (λ (h : Home). 1 ≤ h.vol)) begins_more
-            (begins_low adds.said (record { at = first.at; cell = says_more first.cell }) rest (file_said d files indexes apart below sound number names.entry names.original tag chains names.well first rest is now.space adds.said adds.says)))
+            (begins_low adds.said (record { at = first.at; cell = says_more first.cell }) rest (file_said d files indexes apart below sound number tag chains names.well first rest is now.space adds.said adds.says)))
             adds.home (in_more (indexes first.at) place adds.home)
 
         within_more : (home : Home) → Contains more home → IsWithin d.frame home
@@ -294,13 +292,13 @@ module _ (number : ℕ) (tag : Tag) (d now : DomainNow) (chains : Chains) (files
             (subst (AllByRecursion IsIndexPage) (sym adds.inserts.shown)
             (all_insert IsIndexPage (shown_at adds.said (indexes first.at)) place (shown_index bytes)
             (shown_good adds.said (indexes first.at)
-            (its_said d files indexes apart below sound number names.entry names.original tag chains names.well first rest is now.space adds.said adds.says is_good.1))
+            (its_said d files indexes apart below sound number tag chains names.well first rest is now.space adds.said adds.says is_good.1))
             (one_good bytes is_good.0))) home inside))
             well_formed
 
         stands_more : StandsSoundBut apart (record d { pages = now.pages; contents = now.contents; space = now.space }) (with_file first.at (Some (with_first says_more (first ∷ rest))) files) (with_index_at first.at more indexes)
         stands_more =
-            said_sound d files indexes apart below sound number names.entry names.original tag chains names.well first rest is now.space adds.said adds.says now.pages (λ home. home ≡ adds.home)
+            said_sound d files indexes apart below sound number tag chains names.well first rest is now.space adds.said adds.says now.pages (λ home. home ≡ adds.home)
             (λ home here. subst (IsUnheld d files indexes) (sym here) (unheld_taken d files indexes below.owned adds.home low adds.free)) more
             (λ home none no_come. adds.inserts.others home none (false_from_ne_true (same_home home adds.home) (λ here. no_come (homes_same home adds.home here)))) within_more good_more now.space now.contents
 
@@ -308,7 +306,7 @@ module _ (number : ℕ) (tag : Tag) (d now : DomainNow) (chains : Chains) (files
         added_first =
             subst (λ (x : DomainNow). StandsSoundBut apart x (with_said first.at says_more files) (with_index_at first.at more indexes)) (sym same)
             (subst (λ o. StandsSoundBut apart (record d { pages = now.pages; contents = now.contents; space = now.space }) (with_file first.at (option_map (with_first says_more) o) files) (with_index_at first.at more indexes))
-            (sym (there_was d files indexes below number names.entry names.original tag chains names.well first rest is)) stands_more)
+            (sym (there_was d files indexes below number tag chains names.well first rest is)) stands_more)
 
     pub but_added : (start : CellAt) → NamesFile number tag start d chains files → IsGoodOr apart d indexes start bytes
         → (adds : AddsIndexPage number (d.tags number) d.cells tag place bytes prefer chains (indexes start) d.space now.space d.pages now.pages)
