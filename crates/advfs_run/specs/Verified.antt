@@ -8,7 +8,7 @@ use Rattle.fileset_model.specs.Filesets.{FilesetMap}
 use Rattle.domain_layout.specs.Faults.{FaultRow}
 use Rattle.domain_layout.specs.Read.{Means}
 use Rattle.domain_faults.specs.Rows.{rows_there}
-use Rattle.image_meaning.specs.Meaning.{HasFaults}
+use Rattle.image_meaning.specs.Faulty.{HasFaults}
 use Rattle.image_meaning.specs.declared.meaning.Meaning.{Meaning}
 use Rattle.image_meaning.specs.declared.meaning.Meaning.TheVariants.{Faulty, Filesets, NoDomain}
 use Rattle.image_meaning.specs.declared.fault.ReadFault.{ReadFault}

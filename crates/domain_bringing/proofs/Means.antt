@@ -38,7 +38,7 @@ use Rattle.shape_laws.proofs.MayStand.{has_may}
 use Rattle.shape_laws.proofs.SameShapes.{shapes_alike}
 use Rattle.filesets_reading.specs.Good.{IsNamed}
 use Rattle.metadata_loading.specs.Loading.{Brings, HasWhereRulesLook}
-use Rattle.image_meaning.specs.Meaning.{HasFaults}
+use Rattle.filesets_reading.specs.Faulty.{HasFaults}
 use Rattle.domain_bringing.specs.Brought.{ArePagesOf, HasDomainPages, IsBroughtFrom, IsGoodFrame, images_alone}
 use Rattle.domain_bringing.specs.Fault.{BeginsAt, HasFirstRow, IsNoDomain}
 use Rattle.domain_bringing.proofs.Loggable.{looks_loggable, may_loggable}

@@ -12,7 +12,7 @@ use Rattle.domain_layout.specs.Faults.{AreFaults, FaultRow}
 use Rattle.domain_layout.specs.Reached.{Frame}
 use Rattle.metadata_loading.specs.declared.fault.LoadFault.{LoadFault}
 use Rattle.metadata_loading.specs.declared.fault.LoadFault.TheVariants as loading
-use Rattle.image_meaning.specs.Meaning.{HasFaults}
+use Rattle.filesets_reading.specs.Faulty.{HasFaults}
 use Rattle.domain_bringing.specs.declared.fault.BringFault.{BringFault}
 use Rattle.domain_bringing.specs.declared.fault.BringFault.TheVariants.{Fault, NotADomain, OutOfMemory}
 

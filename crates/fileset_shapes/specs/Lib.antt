@@ -7,3 +7,4 @@ pub mod Shapes
 pub use Rattle.shape_reading.specs.Limits
 pub use Rattle.filesets_reading.specs.Seen
 pub use Rattle.filesets_reading.specs.Good
+pub use Rattle.filesets_reading.specs.Faulty

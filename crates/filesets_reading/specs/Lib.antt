@@ -1,4 +1,5 @@
 pub mod Good
+pub mod Faulty
 pub mod Tables
 pub mod Chains
 pub mod Domain

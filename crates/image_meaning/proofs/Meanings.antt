@@ -34,7 +34,8 @@ use Rattle.member_laws.specs.Within.{AgreeWithin, IsInside}
 use Rattle.member_laws.proofs.FaultsWithin.{faults_within}
 use Rattle.member_laws.proofs.FilesetsWithin.{filesets_within}
 use Rattle.layout_laws.proofs.OnePage.{HasOne, one_of}
-use Rattle.image_meaning.specs.Meaning.{HasFaults, HasFilesets, HasMeaning, IsMeaningOf, IsToldBy}
+use Rattle.member_laws.specs.Faulty.{HasFaults}
+use Rattle.image_meaning.specs.Meaning.{HasFilesets, HasMeaning, IsMeaningOf, IsToldBy}
 use Rattle.image_meaning.specs.Pages.{HasCause, IsReadAt}
 use Rattle.image_meaning.specs.declared.fault.ReadFault.{ReadFault}
 use Rattle.image_meaning.specs.declared.fault.ReadFault.TheVariants.{Fault, OutOfMemory}

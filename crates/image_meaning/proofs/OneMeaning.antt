@@ -21,7 +21,8 @@ use Rattle.member_laws.specs.Good.{frame_at}
 use Rattle.layout_laws.proofs.OneMeaning.{means_once}
 use Rattle.layout_laws.proofs.OnePage.{some_same}
 use Rattle.domain_faults.specs.Rows.{rows_there}
-use Rattle.image_meaning.specs.Meaning.{AreSameMeaning, HasFaults, IsMeaningOf}
+use Rattle.member_laws.specs.Faulty.{HasFaults}
+use Rattle.image_meaning.specs.Meaning.{AreSameMeaning, IsMeaningOf}
 use Rattle.image_meaning.specs.declared.meaning.Meaning.{Meaning}
 use Rattle.image_meaning.specs.declared.meaning.Meaning.TheVariants.{Faulty, Filesets, NoDomain}
 

@@ -1,2 +1,3 @@
 pub mod Meaning
 pub mod Pages
+pub use Rattle.member_laws.specs.Faulty

@@ -1,19 +1,19 @@
 -- What an image of volumes means.
 use Rattle.std.specs.Prelude.{◌≡◌, ℕ, List, [], Some, Result, Ok, Err}
-use Rattle.domain_base.specs.Version.{number_of}
 use Rattle.domain_base.specs.declared.place.Home.{Home}
 use Rattle.domain_base.specs.declared.version.Version.{Version}
 use Rattle.page_store.specs.Pages.{Pages}
 use Rattle.volume_disk.specs.Disk.{Disk}
 use Rattle.volume_disk.specs.Image.{Image}
 use Rattle.disk_label.specs.declared.anchor.Anchor.{Anchor}
-use Rattle.log_ring.specs.Groups.{Group, HasLog, redone}
+use Rattle.log_ring.specs.Groups.{Group}
 use Rattle.log_recovery.specs.Outcome.{HasRecovered, IsFirstFault}
 use Rattle.log_recovery.specs.declared.redone.Redone.{Redone}
 use Rattle.fileset_model.specs.Filesets.{FilesetMap}
 use Rattle.fileset_model.specs.LooksLike.{LooksLike}
 use Rattle.domain_layout.specs.Faults.{AreFaults, FaultRow, HasNoFault}
 use Rattle.domain_layout.specs.Read.{Means, ReadsFrom}
+use Rattle.member_laws.specs.Faulty.{HasFaults}
 use Rattle.member_laws.specs.Good.{frame_at}
 use Rattle.filesets_filled.specs.Slots.{IsLaidOut}
 use Rattle.domain_faults.specs.Rows.{rows_there}
@@ -23,18 +23,6 @@ use Rattle.image_meaning.specs.declared.fault.ReadFault.{ReadFault}
 use Rattle.image_meaning.specs.declared.fault.ReadFault.TheVariants as fault
 use Rattle.image_meaning.specs.declared.meaning.Meaning.{Meaning}
 use Rattle.image_meaning.specs.declared.meaning.Meaning.TheVariants.{Faulty, Filesets, NoDomain}
-
--- an image of a rack with volumes of these sizes has a domain, and the pages of that have these
--- faults once its log is redone, one at least
-pub record HasFaults (sizes : List ℕ) (image : Image) (rows : List FaultRow) : Type 0 where
-  pub anchor : Anchor
-  pub groups : List Group
-  pub version : Version
-  pub log : HasLog sizes anchor groups image
-  pub is_version : anchor.version ≡ number_of version
-  pub no_first : (vol at : ℕ) → ¬ IsFirstFault sizes image vol at
-  pub faults : AreFaults (redone groups image) (frame_at anchor version) rows
-  pub some : ¬ rows ≡ []
 
 -- an image means this: it has no domain, from this page on; its domain has these faults; or it
 -- has none, and its filesets are these
