@@ -20,4 +20,4 @@ pub use laws::{
 };
 pub use pages::{count_pages_of, page_of, write_page};
 pub use reading::{kind_of, links_of};
-pub use removing::remove;
+pub use removing::{remove, take_out};

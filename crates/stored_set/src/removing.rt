@@ -22,10 +22,10 @@ use page_store::MetaPages;
 use std::alloc::Global;
 use stored_index::drop_index;
 
-/// Takes a live tag out of use, once its first cell names no index. It answers that cell, which
-/// then says that all of the file or directory is to be let go of. At an Err nothing but room has
-/// changed.
-fn take_out<M: MetaPages>(
+/// Takes a live tag out of use, once its first cell names no index: the pages of that are the
+/// caller's to give up then. It answers that cell, which then says that all of the file or directory
+/// is to be let go of. At an Err nothing but room has changed.
+pub fn take_out<M: MetaPages>(
     alloc: Global,
     pages: &mut M,
     files: &mut Bitfiles,
