@@ -1,5 +1,5 @@
 //! What a client is answered, with the change that is laid over a domain.
-ghost use Rattle.std.specs.Prelude.{◌≡◌, ◌≢◌, ◌⊎◌, ◌≤◌, ◌+◌, false, Err, Some};
+ghost use Rattle.std.specs.Prelude.{◌≡◌, ◌≢◌, ◌⊎◌, ◌≤◌, ◌+◌, false, true, Err, Some};
 ghost use Rattle.fileset_model.specs.Apply.{refusal_of};
 ghost use Rattle.fileset_model.specs.Filesets.{FilesetMap};
 ghost use Rattle.fileset_model.specs.declared.reply.Refusal.TheVariants.{OutOfMemory};
@@ -36,6 +36,7 @@ fn add_answer<R: Rack, O: Opening>(
         ≤ ⟦<Domain<R, O> as Told>⟧.room result + 1 }
     ensures rack { result.history.rack ≡ domain.history.rack }
     ensures durable { result.history.durable ≡ domain.history.durable }
+    ensures added { result.history.added ≡ true }
 {
     let stamp = domain.calls();
     let mut domain = domain;
@@ -87,6 +88,7 @@ pub(crate) fn add_refusal<R: Rack, O: Opening>(
         ≤ ⟦<Domain<R, O> as Told>⟧.room result + 1 }
     ensures rack { result.history.rack ≡ domain.history.rack }
     ensures durable { result.history.durable ≡ domain.history.durable }
+    ensures added { result.history.added ≡ true }
 {
     add_answer(take_back(domain), client, command, Reply::Refused(refusal))
 }
@@ -114,6 +116,7 @@ pub(crate) fn answer<R: Rack, O: Opening>(
         ≤ ⟦<Domain<R, O> as Told>⟧.room result + 1 }
     ensures rack { result.history.rack ≡ domain.history.rack }
     ensures durable { result.history.durable ≡ domain.history.durable }
+    ensures added { result.history.added ≡ true }
 {
     match staged {
         Ok(reply) => add_answer(domain, client, command, reply),

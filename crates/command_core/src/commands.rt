@@ -1,5 +1,5 @@
 //! A command of a client that is answered.
-ghost use Rattle.std.specs.Prelude.{◌≡◌, ◌+◌, ◌≤◌};
+ghost use Rattle.std.specs.Prelude.{◌≡◌, ◌+◌, ◌≤◌, true};
 ghost use Rattle.domain_memory.specs.Staged.{IsSettled};
 ghost use Rattle.command_core.specs.Coming.{AddsOne};
 ghost use Rattle.command_core.specs.Ending.{IsServed};
@@ -38,6 +38,7 @@ pub fn command<R: Rack, O: Opening>(
         ≤ ⟦<Domain<R, O> as Told>⟧.room result + 1 }
     ensures rack { result.history.rack ≡ domain.history.rack }
     ensures durable { result.history.durable ≡ domain.history.durable }
+    ensures added { result.history.added ≡ true }
 {
     let (domain, staged) = lay(domain, alloc, &command, prefer);
     if wants_page(&staged) {

@@ -119,6 +119,7 @@ pub(crate) fn answer_found<R: Rack, O: Opening>(
         ≤ ⟦<Domain<R, O> as Told>⟧.room result + 1 }
     ensures rack { result.history.rack ≡ domain.history.rack }
     ensures durable { result.history.durable ≡ domain.history.durable }
+    ensures added { result.history.added ≡ true }
 {
     let looks = only_looks(&command);
     let domain = answer(domain, client, command, staged);
@@ -206,6 +207,7 @@ fn add_no_space<R: Rack, O: Opening>(
         ≤ ⟦<Domain<R, O> as Told>⟧.room result + 1 }
     ensures rack { result.history.rack ≡ domain.history.rack }
     ensures durable { result.history.durable ≡ domain.history.durable }
+    ensures added { result.history.added ≡ true }
 {
     let stamp = domain.calls();
     let mut domain = domain;
@@ -247,6 +249,7 @@ fn refuse_want<R: Rack, O: Opening>(
         ≤ ⟦<Domain<R, O> as Told>⟧.room result + 1 }
     ensures rack { result.history.rack ≡ domain.history.rack }
     ensures durable { result.history.durable ≡ domain.history.durable }
+    ensures added { result.history.added ≡ true }
 {
     let is_refused = may_refuse(&domain, &command, want);
     if is_refused {
@@ -279,6 +282,7 @@ fn refuse_for_want<R: Rack, O: Opening>(
         ≤ ⟦<Domain<R, O> as Told>⟧.room result + 1 }
     ensures rack { result.history.rack ≡ domain.history.rack }
     ensures durable { result.history.durable ≡ domain.history.durable }
+    ensures added { result.history.added ≡ true }
 {
     let want = want_of(domain.memory(), &command);
     match want {
@@ -307,6 +311,7 @@ fn answer_last<R: Rack, O: Opening>(
         ≤ ⟦<Domain<R, O> as Told>⟧.room result + 1 }
     ensures rack { result.history.rack ≡ domain.history.rack }
     ensures durable { result.history.durable ≡ domain.history.durable }
+    ensures added { result.history.added ≡ true }
 {
     let (domain, staged) = lay(domain, alloc, &command, prefer);
     if wants_page(&staged) {
@@ -337,6 +342,7 @@ pub(crate) fn answer_drained<R: Rack, O: Opening>(
         ≤ ⟦<Domain<R, O> as Told>⟧.room result + 1 }
     ensures rack { result.history.rack ≡ domain.history.rack }
     ensures durable { result.history.durable ≡ domain.history.durable }
+    ensures added { result.history.added ≡ true }
 {
     let (domain, drained) = drain(domain, alloc);
     if drained.is_err() {

@@ -1,5 +1,5 @@
 //! A domain with the history of its commands.
-ghost use Rattle.std.specs.Prelude.{◌≡◌, ◌+◌, ◌-◌, ◌≤◌, ◌∷◌, ◌++◌, ℕ, [], All, List, None, OnOk, false, if◌then◌else◌, is_some, length, vec_capacity};
+ghost use Rattle.std.specs.Prelude.{◌≡◌, ◌+◌, ◌-◌, ◌≤◌, ◌∷◌, ◌++◌, ℕ, [], All, List, None, OnOk, false, true, if◌then◌else◌, is_some, length, vec_capacity};
 ghost use Rattle.std.specs.FinMap.{len};
 ghost use Rattle.std.specs.Option.{option_copied};
 ghost use Rattle.domain_base.specs.declared.version.Version.TheVariants.{Four};
@@ -147,6 +147,7 @@ impl<R: Rack, O: Opening> Domain<R, O> {
         ensures rack { self.new.history.rack ≡ self.old.history.rack }
         ensures frame { self.new.memory.frame ≡ self.old.memory.frame }
         ensures durable { self.new.history.durable ≡ self.old.history.durable }
+        ensures added { self.new.history.added ≡ true }
     {
         self.memory.keep();
         self.history.add(entry);
@@ -171,6 +172,7 @@ impl<R: Rack, O: Opening> Domain<R, O> {
         ensures rack { self.new.history.rack ≡ self.old.history.rack }
         ensures memory { self.new.memory ≡ self.old.memory }
         ensures durable { self.new.history.durable ≡ self.old.history.durable }
+        ensures added { self.new.history.added ≡ true }
     {
         self.history.add(entry);
     }
