@@ -4,6 +4,8 @@ ghost use Rattle.std.specs.FinMap.{empty};
 ghost use Rattle.domain_base.specs.Version.{most_pages};
 ghost use Rattle.disk_label.specs.FirstPages.{first_pages};
 ghost use Rattle.page_ways.specs.Frame.{frame_in};
+ghost use Rattle.staged_pages.specs.Store.{before_of};
+ghost use Rattle.layout_laws.specs.NewDomain.{IsNew};
 ghost use Rattle.domain_making.specs.Making.{new_frame};
 ghost use Rattle.domain_making.specs.Pages.{AreNew};
 ghost use Rattle.domain_memory.specs.Memory.{StandsFor};
@@ -33,6 +35,8 @@ impl DomainMemory {
         requires room { (first_pages version pages).table < pages }
         requires most { pages ≤ most_pages version }
         requires new { AreNew version pages new.now }
+        ensures new { IfOk result (λ memory. IsNew (before_of memory.pages)
+            (new_frame version pages)) }
         ensures stands { IfOk result (λ memory. StandsFor memory empty) }
         ensures settled { IfOk result IsSettled }
         ensures back { IfOk result MayGoBack }

@@ -4,6 +4,8 @@ ghost use Rattle.std.specs.FinMap.{empty};
 ghost use Rattle.domain_base.specs.Limits.{min_first_volume_pages};
 ghost use Rattle.volume_disk.specs.Disk.{HasVolume, Tells, volume_pages};
 ghost use Rattle.volume_disk.specs.Run.{LeavesOnly, Touches};
+ghost use Rattle.staged_pages.specs.Store.{before_of};
+ghost use Rattle.layout_laws.specs.NewDomain.{IsNew};
 ghost use Rattle.page_ways.specs.Frame.{frame_in};
 ghost use Rattle.domain_making.specs.Fault.{HasCause};
 ghost use Rattle.domain_making.specs.Making.{
@@ -38,6 +40,8 @@ fn new_memory<R: Rack>(
 ) -> Result<DomainMemory, MakeFault>
     requires large { IsLarge (R.disk rack.now).sizes }
     requires new { AreNew version (pages_in_use version (R.disk rack.now).sizes) new.now }
+    ensures new { IfOk result (λ memory. IsNew (before_of memory.pages)
+        (new_frame version (pages_in_use version (R.disk rack.now).sizes))) }
     ensures stands { IfOk result (λ memory. StandsFor memory empty) }
     ensures settled { IfOk result IsSettled }
     ensures back { IfOk result MayGoBack }
@@ -67,6 +71,9 @@ pub fn make<R: Rack>(
     ensures made { let pages = pages_in_use version (R.disk rack).sizes in
         IfOk result (λ attached. Tells (R.disk rack)
         → IsMade (R.disk attached.rack) (new_anchor version pages)) }
+    ensures new { let pages = pages_in_use version (R.disk rack).sizes in
+        IfOk result (λ attached. IsNew (before_of attached.memory.pages)
+        (new_frame version pages)) }
     ensures empty { IfOk result (λ attached. StandsFor attached.memory empty) }
     ensures frame { let pages = pages_in_use version (R.disk rack).sizes in
         IfOk result (λ attached. frame_in attached.memory.frame ≡ new_frame version pages) }

@@ -40,3 +40,6 @@ returns-clause-settled c =
 
 pub returns-clause-back : goal.returns-clause-back
 returns-clause-back c = none_to_take_back _ c.in_ok-new.ensures.good c.in_ok-free_slots.ensures refl
+
+pub returns-clause-new : goal.returns-clause-new
+returns-clause-new c = subst (λ (p : Pages). IsNew p (new_frame c.args.version c.args.pages)) (sym c.keep.ensures.before) c.in_ok-bring_into.ensures.new
