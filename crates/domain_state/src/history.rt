@@ -69,6 +69,15 @@ impl<R: Rack> History<R> {
         rack
     }
 
+    /// The rack as it is, and the entries. Nothing is written.
+    pub fn into_parts(self) -> (R, Vec<Entry>)
+        ensures rack { result.0 ≡ self.rack }
+        ensures entries { result.1 ≡ self.entries }
+    {
+        let History { rack, entries, .. } = self;
+        (rack, entries)
+    }
+
     /// Makes room for so many entries more. Nothing else changes, at an error either.
     pub(crate) fn reserve(&mut self, more: usize) -> Result<(), OutOfMemory>
         ensures room { OnOk result (more
