@@ -5,3 +5,4 @@ pub mod Leaving
 pub mod Placing
 pub mod Wanting
 pub mod Rooted
+pub use Rattle.domain_memory.specs.Staged
