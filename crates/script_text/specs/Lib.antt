@@ -1,3 +1,4 @@
 pub mod Reading
 pub mod Script
+pub mod Turns
 pub mod Words

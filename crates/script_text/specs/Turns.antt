@@ -1,0 +1,18 @@
+-- Who gives which command.
+use Rattle.std.specs.Prelude.{List, map}
+use Rattle.fileset_model.specs.declared.command.Actor.{Actor}
+use Rattle.fileset_model.specs.declared.command.Actor.TheVariants.{Client}
+use Rattle.fileset_model.specs.declared.command.Command.{Command}
+use Rattle.fileset_model.specs.declared.entry.Entry.{Entry}
+use Rattle.script_text.specs.declared.script.Section.{Section}
+
+-- who gives a command, and the command
+abbrev pub Turn : Type 0
+Turn = Actor × Command
+
+abbrev pub turn_of : Entry → Turn
+turn_of e = (e.actor, e.command)
+
+-- the commands of a client's section, in order
+abbrev pub turns_of : Section → List Turn
+turns_of section = map (λ command. (Client section.number, command)) section.commands
