@@ -35,6 +35,8 @@ pub use Rattle.standing_laws.proofs.FilesetBounded
 pub use Rattle.standing_laws.proofs.FilesetGoes
 pub use Rattle.standing_laws.proofs.FilesetPut
 pub use Rattle.standing_laws.proofs.HeldSpaces
+pub use Rattle.standing_laws.proofs.IndexSet
+pub use Rattle.standing_laws.proofs.IndexWas
 pub use Rattle.standing_laws.proofs.OtherSlots
 pub use Rattle.standing_laws.proofs.ParentsBegin
 pub use Rattle.standing_laws.proofs.QuotaAlone
@@ -47,6 +49,7 @@ pub use Rattle.standing_laws.proofs.QuotaSlots
 pub use Rattle.standing_laws.proofs.QuotaTables
 pub use Rattle.standing_laws.proofs.RootMade
 pub use Rattle.standing_laws.proofs.RootParents
+pub use Rattle.standing_laws.proofs.SlotTogether
 pub use Rattle.standing_laws.proofs.SlotsKept
 pub use Rattle.standing_laws.proofs.SoundCalled
 pub use Rattle.standing_laws.proofs.SoundInPlace
