@@ -73,13 +73,13 @@ module _ (fileset : ℕ) (places : List TagPlace) (pages : Pages) (chains : Chai
 -- ---- free space in which pages wait
 
 module _ (group : ℕ) where
-  held_while : (homes : List Home) (space : Spaces) (h : Home) → ((x : Home) → Contains homes x → 1 ≤ x.vol) → 1 ≤ h.vol → ¬ Contains homes h → IsHeld space h.vol h.page → IsHeld (with_waiting_at homes group space) h.vol h.page
+  pub held_while : (homes : List Home) (space : Spaces) (h : Home) → ((x : Home) → Contains homes x → 1 ≤ x.vol) → 1 ≤ h.vol → ¬ Contains homes h → IsHeld space h.vol h.page → IsHeld (with_waiting_at homes group space) h.vol h.page
   held_while [] space h low own off held = held
   held_while (x ∷ more) space h low own off held =
       held_while more (change_volume (with_waiting (record { page = x.page; kind = Metadata; group = group })) space x.vol) h (λ y inside. low y (tail_there x more y inside)) own (λ inside. off (tail_there x more h inside))
       (held_beside group space x h (low x (head_there x more)) own (λ e. off (subst (Contains (x ∷ more)) e (head_there x more))) held)
 
-  allocated_while : (homes : List Home) (space : Spaces) (cells : Cells) (pages : Pages) → ((x : Home) → Contains homes x → 1 ≤ x.vol) → ((x : Home) → Contains homes x → ¬ Contains (table_of cells x.vol) x.page)
+  pub allocated_while : (homes : List Home) (space : Spaces) (cells : Cells) (pages : Pages) → ((x : Home) → Contains homes x → 1 ≤ x.vol) → ((x : Home) → Contains homes x → ¬ Contains (table_of cells x.vol) x.page)
       → AreAllocated space cells pages → AreAllocated (with_waiting_at homes group space) cells pages
   allocated_while [] space cells pages low off are = are
   allocated_while (x ∷ more) space cells pages low off are =
