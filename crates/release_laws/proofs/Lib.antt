@@ -57,3 +57,11 @@ pub use Rattle.standing_laws.proofs.SoundLimited
 pub use Rattle.standing_laws.proofs.SourcesSaid
 pub use Rattle.standing_laws.proofs.TablesTaken
 pub use Rattle.standing_laws.proofs.PagesWritten
+pub use Rattle.standing_laws.proofs.AllStay
+pub use Rattle.standing_laws.proofs.HomeLists
+pub use Rattle.standing_laws.proofs.IndexSpaces
+pub use Rattle.standing_laws.proofs.IndexWell
+pub use Rattle.standing_laws.proofs.ParentsElsewhere
+pub use Rattle.standing_laws.proofs.SlotStays
+pub use Rattle.standing_laws.proofs.SoundKept
+pub use Rattle.standing_laws.proofs.TablesStand

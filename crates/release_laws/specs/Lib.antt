@@ -5,6 +5,7 @@ pub mod AtHand
 pub use Rattle.domain_standing.specs.Chains
 pub use Rattle.domain_standing.specs.Domain
 pub use Rattle.domain_standing.specs.Holders
+pub use Rattle.domain_standing.specs.Rest
 pub use Rattle.domain_standing.specs.Slots
 pub use Rattle.domain_standing.specs.Sources
 pub use Rattle.domain_standing.specs.Standing
@@ -14,6 +15,7 @@ pub use Rattle.standing_laws.specs.GoingFileset
 pub use Rattle.standing_laws.specs.Leads
 pub use Rattle.standing_laws.specs.NewFileset
 pub use Rattle.standing_laws.specs.SetsQuota
+pub use Rattle.standing_laws.specs.SlotParents
 pub use Rattle.standing_laws.specs.SlotsStay
 pub use Rattle.standing_laws.specs.Sound
 pub use Rattle.standing_laws.specs.Setting
