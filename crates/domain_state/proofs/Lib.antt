@@ -6,3 +6,4 @@ pub mod Unmoved
 pub mod Stamping
 pub mod Resting
 pub mod MemberSums
+pub mod NewStart

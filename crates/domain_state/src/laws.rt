@@ -6,7 +6,12 @@ ghost use Rattle.domain_memory.specs.Kept.{KeepsKept};
 ghost use Rattle.domain_memory.specs.declared.memory.DomainMemory.{DomainMemory};
 ghost use Rattle.fileset_model.specs.declared.command.Command.{Command};
 ghost use Rattle.fileset_model.specs.declared.entry.Entry.{Entry};
+ghost use Rattle.domain_base.specs.declared.version.Version.{Version};
+ghost use Rattle.layout_laws.specs.NewDomain.{IsNew};
+ghost use Rattle.domain_making.specs.Making.{new_frame, pages_in_use};
+ghost use Rattle.history_model.specs.State.{new_domain};
 ghost use Rattle.domain_state.specs.History.{GoesOn};
+ghost use Rattle.domain_state.specs.Opening.{IsStartOf};
 
 /// The history of a domain leads to the filesets for which it stands, whatever change is laid over
 /// its memory, as long as what was kept of that stays.
@@ -14,4 +19,12 @@ pub fn a_history_goes_on_over_changes()
     ensures { (pages : Pages) (frame : Frame) (sizes : List ℕ) (old new : DomainMemory)
         (entries : List Entry) (job : Option Command) → KeepsKept old new
         → GoesOn pages frame sizes old entries job → GoesOn pages frame sizes new entries job }
+{}
+
+/// The pages of a domain that was just made mean the empty state.
+pub fn a_new_domain_is_a_start()
+    ensures { (version : Version) (sizes : List ℕ) (pages : Pages)
+        → IsNew pages (new_frame version (pages_in_use version sizes))
+        → IsStartOf pages (new_frame version (pages_in_use version sizes)) sizes
+        (new_domain version sizes) }
 {}

@@ -1,0 +1,124 @@
+-- The pages of a domain that was just made mean the empty state.
+use Rattle.std.proofs.Common.{inl, inr, ◌≡◌, ◌∙◌, ◌↔◌, ℕ, zero, suc, ◌<◌, Bool, true, false, List, [], ◌∷◌, Option, Some, None, Contains, IsSomeAnd, length, min, slice_get, slice_index, refl, sym, ap, subst, arith, ⊎_elim}
+use Rattle.std.specs.FinMap as map
+use Rattle.std.specs.FinMap.{empty, get, nat_cmp-IsAntisymmetric}
+use Rattle.std.specs.Ordering.{nat_cmp}
+use Rattle.std.specs.Cmp.{nat_cmp_total}
+use Rattle.domain_base.specs.Version.{most_pages}
+use Rattle.domain_base.specs.declared.place.CellAt.{CellAt}
+use Rattle.domain_base.specs.declared.place.Home.{Home}
+use Rattle.domain_base.specs.declared.version.Version.{Version}
+use Rattle.page_store.specs.Pages.{Pages}
+use Rattle.tag_dirs.specs.Directory.{has_home}
+use Rattle.disk_label.specs.declared.anchor.Anchor.{Anchor}
+use Rattle.log_ring.specs.Homes.{IsMember, member_of}
+use Rattle.fileset_model.proofs.MapLemmas.{get-insert_same, got-insert}
+use Rattle.fileset_table.specs.Page.{IsTablePage}
+use Rattle.fileset_table.specs.Table.{IsNewTable, Table}
+use Rattle.history_model.specs.State.{Member, new_domain}
+use Rattle.domain_layout.specs.Layout.{AreTagPlaces, IsLayout, Layout, first_tag_of}
+use Rattle.domain_layout.specs.Owners.{HasTagPage, frame_of}
+use Rattle.domain_layout.specs.Read.{ReadsFrom}
+use Rattle.domain_layout.specs.Reached.{Frame}
+use Rattle.layout_laws.specs.NewDomain.{IsNew, IsNewCells, IsNewTablePage, firsts, on_first}
+use Rattle.layout_laws.proofs.NewDomain.{reads_none}
+use Rattle.layout_laws.proofs.NewPages.{no_extent, no_index}
+use Rattle.layout_laws.proofs.NewTags.{all_free}
+use Rattle.layout_laws.proofs.OnePage.{HasOne, one_of, some_same}
+use Rattle.layout_laws.proofs.OneTable.{one_in, used_there}
+use Rattle.domain_making.specs.Making.{new_anchor, new_frame, pages_in_use}
+use Rattle.domain_memory.proofs.NewLayout.{laid_with, layout_with}
+use Rattle.domain_memory.proofs.NewMemory.{first_table}
+use Rattle.domain_state.specs.Opening.{CountsOld, IsMemberAs, IsOldPage, IsStartOf}
+
+-- ---- its one page of cells is all that is old
+
+module _ (pages : Pages) (frame : Frame) (new : IsNew pages frame) (table : Table) (fresh : IsNewTable table) (laid : IsLayout pages (layout_with frame table (first_table frame))) where
+  abbrev layout : Layout
+  layout = layout_with frame table (first_table frame)
+
+  abbrev cells : Home
+  cells = on_first (firsts frame).cells
+
+  one_page : HasOne (pages cells) (IsNewCells frame)
+  one_page = one_of (pages cells) (IsNewCells frame) new.cells
+
+  no_tags : (number : ℕ) (home : Home) → ¬ HasTagPage layout number home
+  no_tags number home has = let e : false ≡ true = has.has in absurd (cc)
+
+  only_cells : (home : Home) → IsOldPage pages layout home → home ≡ cells
+  only_cells home =
+      let page = one_page in
+      ⊎_elim (λ of_cells.
+      let vol : home.vol ≡ 1 = new.anchor.alone home.vol of_cells.0 in
+      let number : home.page ≡ (firsts frame).cells = one_in (firsts frame).cells home.page of_cells.1 in
+      λ i. record { vol = vol i; page = number i })
+      (⊎_elim (λ of_tags. absurd (no_tags of_tags.0 home of_tags.1))
+      (⊎_elim (λ of_index.
+      let has = of_index.2 in
+      absurd (no_index pages layout new.anchor page.value page.there page.is fresh laid of_index.0 has.cell has.value
+      (used_there pages layout new.anchor page.value page.there page.is.good page.is.indexed page.is.last (laid.cells 1 new.anchor.member) of_index.0 has.cell has.on) has.there))
+      (λ of_file. absurd (no_extent pages layout new.anchor page.value page.there page.is fresh laid of_file.0 of_file.1 home of_file.2))))
+
+  is_old : (home : Home) → home ≡ cells → IsOldPage pages layout home
+  is_old home same = subst (IsOldPage pages layout) (sym same) (inl (new.anchor.member, (0, omega arith, refl)))
+
+  at_first : (k : ℕ) (home : Home) → slice_get (cells ∷ []) k ≡ Some home → k ≡ 0
+  at_first zero home there = refl
+  at_first (suc k) home there = let e : None ≡ Some home = there in absurd (cc)
+
+  counts_one : CountsOld pages frame 1
+  counts_one = record {
+    layout = layout;
+    same = refl;
+    laid = laid;
+    homes = cells ∷ [];
+    each = λ home. (λ among. is_old home (one_in cells home among), λ old. (0, omega arith, sym (only_cells home old)));
+    once = λ j k home at also. at_first j home at ∙ sym (at_first k home also);
+    counted = refl;
+  }
+
+-- ---- and it is the empty state
+
+module _ (version : Version) (sizes : List ℕ) (pages : Pages) (new : IsNew pages (new_frame version (pages_in_use version sizes))) where
+  abbrev frame : Frame
+  frame = new_frame version (pages_in_use version sizes)
+
+  abbrev one : Member
+  one = record { pages = min (slice_index sizes 0) (most_pages version); is_open = true }
+
+  as_one : IsMemberAs frame.anchor 1 one
+  as_one = record { there = new.anchor.member; pages = refl; opened = (λ _. refl, λ _. refl) }
+
+  as_member : (vol : ℕ) (member : Member) → get (map.insert {R = nat_cmp} map.empty 1 one) vol ≡ Some member → IsMemberAs frame.anchor vol member
+  as_member vol member at =
+      ⊎_elim (λ here. subst (λ v. IsMemberAs frame.anchor v member) (sym here.0) (subst (IsMemberAs frame.anchor 1) (some_same one member (sym here.1)) as_one))
+      (λ other. let e : None ≡ Some member = sym (map.get-empty nat_cmp vol) ∙ other.1 in absurd (cc))
+      (got-insert nat_cmp_total nat_cmp-IsAntisymmetric map.empty 1 one vol (Some member) at)
+
+  same_one : (member : Member) → IsMemberAs frame.anchor 1 member → one ≡ member
+  same_one member is =
+      let opened : member.is_open ≡ true = is.opened.1 refl in
+      λ i. record { pages = sym is.pages i; is_open = sym opened i }
+
+  there_one : (member : Member) → IsMemberAs frame.anchor 1 member → get (map.insert {R = nat_cmp} map.empty 1 one) 1 ≡ Some member
+  there_one member is = get-insert_same nat_cmp_total nat_cmp-IsAntisymmetric map.empty 1 one ∙ ap Some (same_one member is)
+
+  as_there : (vol : ℕ) (member : Member) → IsMemberAs frame.anchor vol member → get (map.insert {R = nat_cmp} map.empty 1 one) vol ≡ Some member
+  as_there vol member is =
+      let first : vol ≡ 1 = new.anchor.alone vol is.there in
+      subst (λ v. get (map.insert {R = nat_cmp} map.empty 1 one) v ≡ Some member) (sym first)
+      (there_one member (subst (λ v. IsMemberAs frame.anchor v member) first is))
+
+  pub is_start : IsStartOf pages frame sizes (new_domain version sizes)
+  is_start =
+      let table = one_of (pages (on_first (firsts frame).table)) IsNewTablePage new.table in
+      record {
+        filesets = λ home at. subst (λ h. ReadsFrom pages h empty) (some_same (on_first (firsts frame).table) home (sym new.anchor.table ∙ at)) (reads_none pages frame new);
+        rack = refl;
+        members = λ vol member. (as_member vol member, as_there vol member);
+        log_volume = refl;
+        version = refl;
+        striped = refl;
+        old_pages = counts_one pages frame new table.is.table table.is.fresh (laid_with pages frame new refl table.is.table table.is.fresh (first_table frame) refl);
+      }
