@@ -12,4 +12,6 @@ mod filesets;
 #[cfg(test)]
 mod opened;
 #[cfg(test)]
+mod rooted;
+#[cfg(test)]
 mod telling;
