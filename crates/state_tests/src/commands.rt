@@ -342,6 +342,42 @@ rename h:/d / -> E7 not-empty
 rename h:/x / -> E3 no-path
 ";
 
+/// What is done once no page is free: there are 800 pages, of which 133 are used in a domain that
+/// was just made, one has tags, one the rows of the root, and 400 and 265 the bytes of two files.
+static FULL: &str = "
+write home:/a 3276800 61 -> E20 no-space free=0 need=20
+write home:/b 2170880 61 -> E20 no-space free=0 need=20
+write home:/b 2170879 61 -> ok 1
+create home:/c 10 20 -> ok
+write home:/c 8191 61.62 -> E20 no-space free=0 need=24
+unlink home:/b -> ok
+write home:/a 3276800 62 -> ok 1
+read home:/a 3276799 2 -> ok 00.62
+write home:/c 8191 61.62 -> ok 2
+";
+
+/// Puts rows that write one byte to each of so many first pages of a file, page by page.
+fn push_writes(alloc: Global, table: &mut String, file: char, pages: u32) -> Result<(), Fail> {
+    for page in 0..pages {
+        let row = format!(in alloc;
+            "write home:/{file} {} 61 -> ok 1\n",
+            8192 * u64::from(page)
+        )?;
+        table.push_str(row.as_str())?;
+    }
+    Ok(())
+}
+
+/// A table that writes until no page is free, and goes on then.
+fn full_table(alloc: Global) -> Result<String, Fail> {
+    let mut table = String::new(alloc);
+    table.push_str("mkfset home -> ok\ncreate home:/a 10 20 -> ok\ncreate home:/b 10 20 -> ok\n")?;
+    push_writes(alloc, &mut table, 'a', 400)?;
+    push_writes(alloc, &mut table, 'b', 265)?;
+    table.push_str(FULL)?;
+    Ok(table)
+}
+
 #[test]
 fn files_and_directories_are_made_and_linked(rt: HostRuntime) -> Result<(), Fail> {
     let alloc = rt.alloc();
@@ -411,5 +447,14 @@ fn the_root_is_neither_made_nor_moved_nor_taken_away(rt: HostRuntime) -> Result<
     let alloc = rt.alloc();
     let found = made_and_told(alloc, 512, ROOTS)?;
     assert_eq!(rt; found.as_slice(), wanted(alloc, ROOTS)?.as_slice());
+    Ok(())
+}
+
+#[test]
+fn a_large_domain_without_free_pages_answers_no_space(rt: HostRuntime) -> Result<(), Fail> {
+    let alloc = rt.alloc();
+    let table = full_table(alloc)?;
+    let found = made_and_told(alloc, 800, table.as_str())?;
+    assert_eq!(rt; found.as_slice(), wanted(alloc, table.as_str())?.as_slice());
     Ok(())
 }
