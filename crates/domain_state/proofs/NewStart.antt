@@ -9,7 +9,6 @@ use Rattle.domain_base.specs.declared.place.CellAt.{CellAt}
 use Rattle.domain_base.specs.declared.place.Home.{Home}
 use Rattle.domain_base.specs.declared.version.Version.{Version}
 use Rattle.page_store.specs.Pages.{Pages}
-use Rattle.tag_dirs.specs.Directory.{has_home}
 use Rattle.disk_label.specs.declared.anchor.Anchor.{Anchor}
 use Rattle.log_ring.specs.Homes.{IsMember, member_of}
 use Rattle.fileset_model.proofs.MapLemmas.{get-insert_same, got-insert}
