@@ -1,0 +1,4 @@
+pub mod Taken
+mod Names
+mod Commands
+pub mod Scripts
