@@ -1,5 +1,5 @@
 -- Pages that are brought home.
-use Rattle.std.proofs.Common.{◌≤◌, ◌≡◌, ◌∙◌, ◌⊎◌, ℕ, ◌+◌, ◌*◌, true, false, List, Option, Some, None, IfSome, inl, inr, sym, ap, subst, arith, ⊎_elim}
+use Rattle.std.proofs.Common.{◌≤◌, ◌≡◌, ◌∙◌, ◌⊎◌, ℕ, ◌+◌, ◌<◌, ◌*◌, true, false, List, Option, Some, None, IfSome, inl, inr, sym, ap, subst, arith, ⊎_elim}
 use Rattle.std.proofs.lemmas.Bool.{both_ways, cases_Bool, cases_lt}
 use Rattle.domain_base.specs.declared.place.Home.{Home}
 use Rattle.page_store.specs.Pages.{Pages, same_home}
@@ -13,7 +13,7 @@ use Rattle.disk_label.specs.declared.anchor.Anchor.{Anchor}
 use Rattle.log_ring.specs.Homes.{HasMembers, IsHomeOf, IsLoggable, member_of}
 use Rattle.log_ring.specs.Settling.{IsOnPage}
 use Rattle.log_ring.proofs.HomePages.{one_page, page-same}
-use Rattle.domain_attaching.specs.Closing.{AreHome, AreHomeBelow, AreHomeOn, HasCloseCause, HasFailed, IsHome, IsOnLoggable, StayHome}
+use Rattle.domain_attaching.specs.Closing.{AreTheseHome, HasCloseCause, HasFailed, IsHome, IsOnThese, StayHome}
 use Rattle.domain_attaching.specs.declared.closing_fault.CloseFault.{CloseFault}
 use Rattle.domain_attaching.specs.declared.closing_fault.CloseFault.TheVariants.{OutOfMemory, Read, Write}
 
@@ -55,9 +55,13 @@ home_there sizes anchor home members is =
       limit = omega (arith, within, most);
     }
 
--- a page of it that is written is one of those
-pub on_loggable : (old new : Disk) (anchor : Anchor) (home : Home) → IsLoggable anchor home → Touches old new (IsOnPage home) → Touches old new (IsOnLoggable anchor)
-on_loggable old new anchor home is touches = touches-wider old new (IsOnPage home) (IsOnLoggable anchor) (λ v k on. (home, is, on)) touches
+-- a page that is written, and is one of those, is all that they have written
+pub on_these : (old new : Disk) (These : Home → Type 0) (home : Home) → These home → Touches old new (IsOnPage home) → Touches old new (IsOnThese These)
+on_these old new These home is touches = touches-wider old new (IsOnPage home) (IsOnThese These) (λ v k on. (home, is, on)) touches
+
+-- more of them are written at most
+pub these_wider : (old new : Disk) (These Those : Home → Type 0) → ((home : Home) → These home → Those home) → Touches old new (IsOnThese These) → Touches old new (IsOnThese Those)
+these_wider old new These Those each touches = touches-wider old new (IsOnThese These) (IsOnThese Those) (λ v k on. (on.0, each on.0 on.1, on.2)) touches
 
 module _ (pages : Pages) (anchor : Anchor) where
   -- the page of a home that is none of those is of no matter
@@ -93,23 +97,33 @@ module _ (pages : Pages) (anchor : Anchor) where
           was
 
   -- of a volume
-  pub one_home_more : (image : Image) (vol n : ℕ) → AreHomeOn vol n pages anchor image → IsHome pages anchor image (record { vol = vol; page = n }) → AreHomeOn vol (n + 1) pages anchor image
-  one_home_more image vol n are next home on below =
-      ⊎_elim (λ less. are home on less) (λ last. let at : home.page ≡ n = omega (arith, last, below) in subst (IsHome pages anchor image) (sym (λ i. record { vol = on i; page = at i })) next) (cases_lt home.page n)
+  module _ (These : Home → Type 0) where
+    pub one_home_more : (image : Image) (vol n : ℕ) → AreTheseHome (λ home. (home.vol ≡ vol) × (home.page < n) × These home) pages anchor image → (These (record { vol = vol; page = n }) → IsHome pages anchor image (record { vol = vol; page = n }))
+        → AreTheseHome (λ home. (home.vol ≡ vol) × (home.page < n + 1) × These home) pages anchor image
+    one_home_more image vol n are next home is =
+        let below = is.1 in
+        ⊎_elim (λ less. are home (is.0, less, is.2))
+        (λ last.
+        let at : home.page ≡ n = omega (arith, last, below) in
+        let same : home ≡ record { vol = vol; page = n } = λ i. record { vol = is.0 i; page = at i } in
+        subst (IsHome pages anchor image) (sym same) (next (subst These same is.2)))
+        (cases_lt home.page n)
 
-  -- those are all of it
-  pub all_home_on : (image : Image) (vol n : ℕ) → (member_of anchor vol).pages ≤ n → AreHomeOn vol n pages anchor image → (home : Home) → home.vol ≡ vol → IsHome pages anchor image home
-  all_home_on image vol n most are home on is =
-      let within = is.within in
-      let count : (member_of anchor home.vol).pages ≡ (member_of anchor vol).pages = ap (λ v. (member_of anchor v).pages) on in
-      are home on (omega (arith, within, count, most)) is
+    -- those are all of it
+    pub all_home_on : (image : Image) (vol n : ℕ) → (member_of anchor vol).pages ≤ n → AreTheseHome (λ home. (home.vol ≡ vol) × (home.page < n) × These home) pages anchor image → AreTheseHome (λ home. (home.vol ≡ vol) × These home) pages anchor image
+    all_home_on image vol n most are home is loggable =
+        let within = loggable.within in
+        let count : (member_of anchor home.vol).pages ≡ (member_of anchor vol).pages = ap (λ v. (member_of anchor v).pages) is.0 in
+        are home (is.0, omega (arith, within, count, most), is.1) loggable
 
-  -- and of volumes
-  pub one_volume_more : (image : Image) (vol : ℕ) → AreHomeBelow vol pages anchor image → ((home : Home) → home.vol ≡ vol → IsHome pages anchor image home) → AreHomeBelow (vol + 1) pages anchor image
-  one_volume_more image vol are next home below = ⊎_elim (λ less. are home less) (λ last. next home (omega (arith, last, below))) (cases_lt home.vol vol)
+    -- and of volumes
+    pub one_volume_more : (image : Image) (vol : ℕ) → AreTheseHome (λ home. (home.vol < vol) × These home) pages anchor image → AreTheseHome (λ home. (home.vol ≡ vol) × These home) pages anchor image → AreTheseHome (λ home. (home.vol < vol + 1) × These home) pages anchor image
+    one_volume_more image vol are next home is =
+        let below = is.0 in
+        ⊎_elim (λ less. are home (less, is.1)) (λ last. let at : home.vol ≡ vol = omega (arith, last, below) in next home (at, is.1)) (cases_lt home.vol vol)
 
-  pub all_home : (image : Image) → AreHomeBelow 9 pages anchor image → AreHome pages anchor image
-  all_home image are home is = let last = is.last_volume in are home (omega (arith, last)) is
+    pub all_home : (image : Image) → AreTheseHome (λ home. (home.vol < 9) × These home) pages anchor image → AreTheseHome These pages anchor image
+    all_home image are home is loggable = let last = loggable.last_volume in are home (omega (arith, last), is) loggable
 
 -- ---- calls one after the other
 

@@ -3,7 +3,10 @@ pub mod Rested
 pub mod Since
 pub mod Mapped
 pub mod HomeKept
+pub mod InOrder
+pub mod Marked
+pub mod TablesMarked
 pub mod ItsPages
-pub mod Closed
+pub mod AtClose
 pub mod MayRead
 pub mod Converted

@@ -1,18 +1,23 @@
 -- The pages of a domain in memory, brought home.
-use Rattle.std.specs.Prelude.{◌≡◌, ◌<◌, ℕ, IfSome}
+use Rattle.std.specs.Prelude.{◌≡◌, ◌⊎◌, ℕ, Bool, IfSome}
 use Rattle.domain_base.specs.declared.place.Home.{Home}
 use Rattle.page_store.specs.Pages.{Pages}
 use Rattle.volume_disk.specs.Disk.{Disk, IsSettled, MayLeave, Tells, raised_at}
 use Rattle.volume_disk.specs.Image.{Image, Places, page_at}
+use Rattle.volume_disk.specs.Run.{Touches}
 use Rattle.disk_label.specs.declared.anchor.Anchor.{Anchor}
 use Rattle.log_ring.specs.Homes.{IsLoggable}
 use Rattle.log_ring.specs.Settling.{IsOnPage}
 use Rattle.log_settling.specs.Settling.{HasNoGroup}
 use Rattle.fileset_model.specs.Filesets.{FilesetMap}
 use Rattle.domain_layout.specs.Read.{Means}
-use Rattle.staged_pages.specs.Store.{before_of}
+use Rattle.anchor_laws.specs.Domain.{layout_of}
+use Rattle.staged_pages.specs.Store.{before_of, pages_of}
 use Rattle.domain_memory.specs.Memory.{StandsFor}
+use Rattle.domain_memory.specs.Staged.{staged_in}
 use Rattle.domain_memory.specs.declared.memory.DomainMemory.{DomainMemory}
+use Rattle.domain_attaching.specs.Tables.{IsTableHome, is_table}
+use Rattle.domain_attaching.specs.declared.tables.TablePages.{TablePages}
 use Rattle.domain_attaching.specs.declared.closing_fault.CloseFault.{CloseFault}
 use Rattle.domain_attaching.specs.declared.closing_fault.CloseFault.TheVariants.{OutOfMemory, Read, Write}
 
@@ -20,22 +25,30 @@ use Rattle.domain_attaching.specs.declared.closing_fault.CloseFault.TheVariants.
 abbrev pub IsOnLoggable : Anchor → Places
 IsOnLoggable anchor v k = (home : Home) × IsLoggable anchor home × IsOnPage home v k
 
+-- the bytes of pages that have a property
+abbrev pub IsOnThese : (Home → Type 0) → Places
+IsOnThese These v k = (home : Home) × These home × IsOnPage home v k
+
+-- a page that may be written, and is or is not of a table; and one of a volume
+abbrev pub IsChosen : Anchor → TablePages → Bool → Home → Type 0
+IsChosen anchor tables of_tables home =
+    IsLoggable anchor home × (is_table tables home ≡ of_tables)
+
+abbrev pub IsChosenOn : ℕ → Anchor → TablePages → Bool → Home → Type 0
+IsChosenOn vol anchor tables of_tables home =
+    (home.vol ≡ vol) × IsChosen anchor tables of_tables home
+
 -- such a page that is in memory stands at its home on an image
 abbrev pub IsHome : Pages → Anchor → Image → Home → Type 0
 IsHome pages anchor image home = IsLoggable anchor home
     → IfSome (pages home) (λ page. page_at image home.vol home.page ≡ page)
 
--- so do all of them; those of the volumes below one; and the first ones of a volume
+-- so do all of them, and those that have a property
 abbrev pub AreHome : Pages → Anchor → Image → Type 0
 AreHome pages anchor image = (home : Home) → IsHome pages anchor image home
 
-abbrev pub AreHomeBelow : ℕ → Pages → Anchor → Image → Type 0
-AreHomeBelow vol pages anchor image =
-    (home : Home) → home.vol < vol → IsHome pages anchor image home
-
-abbrev pub AreHomeOn : ℕ → ℕ → Pages → Anchor → Image → Type 0
-AreHomeOn vol n pages anchor image =
-    (home : Home) → home.vol ≡ vol → home.page < n → IsHome pages anchor image home
+abbrev pub AreTheseHome : (Home → Type 0) → Pages → Anchor → Image → Type 0
+AreTheseHome These pages anchor image = (home : Home) → These home → IsHome pages anchor image home
 
 -- each that stood at its home still does
 abbrev pub StayHome : Pages → Anchor → Disk → Disk → Type 0
@@ -69,3 +82,29 @@ pub record IsClosed (disk : Disk) (memory : DomainMemory) : Type 0 where
 abbrev pub MeansKept : Disk → DomainMemory → Type 0
 MeansKept disk memory = (all : FilesetMap) → StandsFor memory all
     → (image : Image) → MayLeave disk.now image → ∥ Means disk.sizes image all ∥₁
+
+-- ** The order in which pages are written
+
+-- the pages of data, and those of tables, which may be written
+abbrev pub IsData : DomainMemory → Home → Type 0
+IsData memory home = IsLoggable memory.frame.anchor home
+    × ¬ IsTableHome (layout_of (staged_in memory)) home
+
+abbrev pub IsOfTables : DomainMemory → Home → Type 0
+IsOfTables memory home = IsLoggable memory.frame.anchor home
+    × IsTableHome (layout_of (staged_in memory)) home
+
+-- first pages are written that are none of tables, then all are synced, and then pages of tables
+-- are written, so that none of these is written before what it names is there to stay
+pub record IsInOrder (old new : Disk) (memory : DomainMemory) : Type 0 where
+  pub between : Disk
+  pub first : Touches old between (IsOnThese (IsData memory))
+  pub home : Tells old → AreTheseHome (IsData memory) (pages_of memory.pages) memory.frame.anchor
+      between.now.contents
+  pub settled : Tells old → IsSettled between.now
+  pub last : Touches between new (IsOnThese (IsOfTables memory))
+
+-- where a call failed, so far as it has come
+abbrev pub IsInOrderSoFar : Disk → Disk → DomainMemory → Type 0
+IsInOrderSoFar old new memory =
+    Touches old new (IsOnThese (IsData memory)) ⊎ IsInOrder old new memory

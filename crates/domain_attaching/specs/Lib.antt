@@ -1,3 +1,4 @@
 pub mod Settling
 pub mod Attaching
+pub mod Tables
 pub mod Closing

@@ -3,20 +3,20 @@ ghost use Rattle.std.specs.Prelude.{◌≡◌, ◌↔◌, ◌+◌, IfErr, IfSome
 ghost use Rattle.disk_label.specs.Fault.{HasPassed};
 ghost use Rattle.log_ring.specs.Homes.{HasMembers, IsHomeOf, IsLoggable};
 ghost use Rattle.log_ring.specs.Settling.{IsOnPage};
-ghost use Rattle.page_store.specs.Pages.{Pages};
 ghost use Rattle.staged_pages.specs.Store.{pages_of};
 ghost use Rattle.volume_disk.specs.Disk.{Tells};
 ghost use Rattle.volume_disk.specs.Image.{page_at};
 ghost use Rattle.volume_disk.specs.Run.{NamesWriteFault, OnlyWrites, Touches};
-ghost use Rattle.domain_attaching.specs.Closing.{AreHome, AreHomeBelow, AreHomeOn, HasFailed, IsHome, IsOnLoggable, StayHome};
+ghost use Rattle.domain_attaching.specs.Closing.{AreTheseHome, HasFailed, IsChosen, IsChosenOn, IsHome, IsOnThese, StayHome};
 
 use crate::closing_fault::CloseFault;
+use crate::tables::TablePages;
 use disk_label::ANCHORS_PAGE;
 use domain_base::limits::{BLOCKS_PER_PAGE, MAX_VOLUMES, PAGE_BYTES};
 use domain_base::{Home, Page, VolIx};
+use domain_memory::DomainMemory;
 use page_store::MetaPages;
 use page_ways::DomainFrame;
-use staged_pages::StagedPages;
 use volume_disk::{Rack, read_blocks, write_blocks};
 
 /// Whether a page is one of a member, behind its label and anchors and outside of the log.
@@ -25,6 +25,13 @@ fn is_loggable(frame: &DomainFrame, home: &Home) -> bool
 {
     prove!(1 <= home.vol.number() && home.vol.number() <= MAX_VOLUMES);
     frame.is_within(home) && ANCHORS_PAGE < home.page && !frame.is_log_page(home)
+}
+
+/// Whether a page may be written, and is or is not of a table, as is asked.
+fn is_chosen(memory: &DomainMemory, tables: &TablePages, of_tables: bool, home: &Home) -> bool
+    ensures { IsTrue result ↔ IsChosen memory.now.frame.anchor tables.now of_tables home.now }
+{
+    is_loggable(&memory.frame, home) && tables.has(home) == of_tables
 }
 
 /// Writes a page to its home.
@@ -67,30 +74,33 @@ fn bring_page_home<R: Rack>(
     }
 }
 
-/// The same of the page that is in memory for a home, where there is one that may be written.
+/// The same of the page that is in memory for a home, where there is one that may be written, and
+/// that is or is not of a table.
 fn bring_home_at<R: Rack>(
     rack: &mut R,
-    frame: &DomainFrame,
-    pages: &StagedPages,
+    memory: &DomainMemory,
+    tables: &TablePages,
+    of_tables: bool,
     home: &Home,
     found: &mut [u8],
 ) -> Result<(), CloseFault>
-    requires members { HasMembers (R.disk rack.old).sizes frame.now.anchor }
+    requires members { HasMembers (R.disk rack.old).sizes memory.now.frame.anchor }
     requires buffer { length found.old ≡ PAGE_BYTES }
     ensures buffer { length found.new ≡ PAGE_BYTES }
     ensures touches { Touches (R.disk rack.old) (R.disk rack.new)
-        (IsOnLoggable frame.now.anchor) }
-    ensures stays { OnOk result (StayHome (pages_of pages.now) frame.now.anchor
+        (IsOnThese (IsChosen memory.now.frame.anchor tables.now of_tables)) }
+    ensures stays { OnOk result (StayHome (pages_of memory.now.pages) memory.now.frame.anchor
         (R.disk rack.old) (R.disk rack.new)) }
-    ensures there { OnOk result (Tells (R.disk rack.old) → IsHome (pages_of pages.now)
-        frame.now.anchor (R.disk rack.new).now.contents home.now) }
+    ensures there { let new = R.disk rack.new in OnOk result (Tells (R.disk rack.old)
+        → IsChosen memory.now.frame.anchor tables.now of_tables home.now
+        → IsHome (pages_of memory.now.pages) memory.now.frame.anchor new.now.contents home.now) }
     ensures passed { OnOk result (HasPassed (R.disk rack.old) (R.disk rack.new)) }
     ensures cause { IfErr result (HasFailed (R.disk rack.old) (R.disk rack.new)) }
 {
-    if !is_loggable(frame, home) {
+    if !is_chosen(memory, tables, of_tables, home) {
         return Ok(());
     }
-    match pages.get(*home) {
+    match memory.pages.get(*home) {
         Some(page) => bring_page_home(rack, home, page, found),
         None => Ok(()),
     }
@@ -99,43 +109,50 @@ fn bring_home_at<R: Rack>(
 /// The same of all homes of a volume.
 fn bring_home_on<R: Rack>(
     rack: &mut R,
-    frame: &DomainFrame,
-    pages: &StagedPages,
+    memory: &DomainMemory,
+    tables: &TablePages,
+    of_tables: bool,
     vol: VolIx,
     found: &mut [u8],
 ) -> Result<(), CloseFault>
-    requires members { HasMembers (R.disk rack.old).sizes frame.now.anchor }
+    requires members { HasMembers (R.disk rack.old).sizes memory.now.frame.anchor }
     requires buffer { length found.old ≡ PAGE_BYTES }
     ensures buffer { length found.new ≡ PAGE_BYTES }
     ensures touches { Touches (R.disk rack.old) (R.disk rack.new)
-        (IsOnLoggable frame.now.anchor) }
-    ensures home { let old = R.disk rack.old in let new = R.disk rack.new in
-        OnOk result (Tells old
-        → AreHomeBelow vol (pages_of pages.now) frame.now.anchor old.now.contents
-        → AreHomeBelow (vol + 1) (pages_of pages.now) frame.now.anchor new.now.contents) }
+        (IsOnThese (IsChosen memory.now.frame.anchor tables.now of_tables)) }
+    ensures stays { OnOk result (StayHome (pages_of memory.now.pages) memory.now.frame.anchor
+        (R.disk rack.old) (R.disk rack.new)) }
+    ensures home { let new = R.disk rack.new in OnOk result (Tells (R.disk rack.old)
+        → AreTheseHome (IsChosenOn vol memory.now.frame.anchor tables.now of_tables)
+        (pages_of memory.now.pages) memory.now.frame.anchor new.now.contents) }
     ensures passed { OnOk result (HasPassed (R.disk rack.old) (R.disk rack.new)) }
     ensures cause { IfErr result (HasFailed (R.disk rack.old) (R.disk rack.new)) }
 {
-    for page in 0..frame.member(vol).pages {
-        bring_home_at(rack, frame, pages, &Home { vol, page }, found)?;
+    for page in 0..memory.frame.member(vol).pages {
+        bring_home_at(rack, memory, tables, of_tables, &Home { vol, page }, found)?;
     }
     Ok(())
 }
 
-/// Writes each page in memory that may be written to its home, once, where another one stands
-/// there.
+/// Writes each page in memory that may be written, and that is or is not of a table, to its home,
+/// once, where another one stands there.
 pub(crate) fn bring_pages_home<R: Rack>(
     rack: &mut R,
-    frame: &DomainFrame,
-    pages: &StagedPages,
+    memory: &DomainMemory,
+    tables: &TablePages,
+    of_tables: bool,
     found: &mut [u8],
 ) -> Result<(), CloseFault>
-    requires members { HasMembers (R.disk rack.old).sizes frame.now.anchor }
+    requires members { HasMembers (R.disk rack.old).sizes memory.now.frame.anchor }
     requires buffer { length found.old ≡ PAGE_BYTES }
+    ensures buffer { length found.new ≡ PAGE_BYTES }
     ensures touches { Touches (R.disk rack.old) (R.disk rack.new)
-        (IsOnLoggable frame.now.anchor) }
-    ensures home { OnOk result (Tells (R.disk rack.old)
-        → AreHome (pages_of pages.now) frame.now.anchor (R.disk rack.new).now.contents) }
+        (IsOnThese (IsChosen memory.now.frame.anchor tables.now of_tables)) }
+    ensures stays { OnOk result (StayHome (pages_of memory.now.pages) memory.now.frame.anchor
+        (R.disk rack.old) (R.disk rack.new)) }
+    ensures home { let new = R.disk rack.new in OnOk result (Tells (R.disk rack.old)
+        → AreTheseHome (IsChosen memory.now.frame.anchor tables.now of_tables)
+        (pages_of memory.now.pages) memory.now.frame.anchor new.now.contents) }
     ensures passed { OnOk result (HasPassed (R.disk rack.old) (R.disk rack.new)) }
     ensures cause { IfErr result (HasFailed (R.disk rack.old) (R.disk rack.new)) }
 {
@@ -143,7 +160,7 @@ pub(crate) fn bring_pages_home<R: Rack>(
         let Some(vol) = VolIx::new(number) else {
             unreachable!()
         };
-        bring_home_on(rack, frame, pages, vol, found)?;
+        bring_home_on(rack, memory, tables, of_tables, vol, found)?;
     }
     Ok(())
 }

@@ -9,9 +9,10 @@ mod closing_fault;
 mod fault;
 mod homeward;
 mod settling;
+mod tables;
 
 pub use attaching::attach;
 pub use bringing::{BroughtMemory, bring_memory};
-pub use closing::close;
+pub use closing::{Closed, close};
 pub use closing_fault::CloseFault;
 pub use fault::AttachFault;

@@ -34,8 +34,8 @@ fn closed<R: Rack + Drop, O: Opening>(
         return Err(Fail::from("each reply"));
     }
     match close(alloc, domain) {
-        Ok(rack) => Ok(rack),
-        Err((_rack, fault)) => Err(Fail::from(fault)),
+        Ok(closed) => Ok(closed.rack),
+        Err((_closed, fault)) => Err(Fail::from(fault)),
     }
 }
 

@@ -1,0 +1,43 @@
+-- Which pages of a domain are those of tables.
+use Rattle.std.specs.Prelude.{◌≡◌, ◌⊎◌, ◌↔◌, ◌-◌, ◌<◌, ◌≤◌, ℕ, true, false, Bool, List, Some, Contains, length, map, slice_get, slice_index_or}
+use Rattle.std.specs.Option.{option_map_or}
+use Rattle.domain_base.specs.Limits.{max_volumes}
+use Rattle.domain_base.specs.declared.place.Home.{Home}
+use Rattle.log_ring.specs.Homes.{member_of}
+use Rattle.domain_layout.specs.Layout.{Layout}
+use Rattle.domain_attaching.specs.declared.tables.TablePages.{TablePages}
+
+-- a page of the tag directory of what is in a slot
+abbrev pub HasTagPage : Layout → ℕ → Home → Type 0
+HasTagPage layout number home = Contains (map (λ place. place.home) (layout.tags number)) home
+
+-- a page of a table of cells or of a tag directory, or that of the fileset table
+abbrev pub IsTableHome : Layout → Home → Type 0
+IsTableHome layout home = Contains (layout.cells home.vol) home.page
+    ⊎ ((number : ℕ) × HasTagPage layout number home)
+    ⊎ (layout.anchor.table ≡ Some home)
+
+-- ** Marks, one a page of a volume
+
+-- those pages are marked that were, and those with P
+pub record Marks (P : ℕ → Type 0) (old new : List Bool) : Type 0 where
+  pub count : length new ≡ length old
+  pub each : (page : ℕ) → page < length old → (slice_index_or new page false ≡ true)
+      ↔ ((slice_index_or old page false ≡ true) ⊎ P page)
+
+-- those of tables are marked
+abbrev pub AreTablesOn : Layout → ℕ → List Bool → Type 0
+AreTablesOn layout vol marks = (page : ℕ) → page < length marks
+    → (slice_index_or marks page false ≡ true)
+    ↔ IsTableHome layout (record { vol = vol; page = page })
+
+-- whether the page at a home is marked
+abbrev pub is_table : TablePages → Home → Bool
+is_table tables home = option_map_or (λ marks. slice_index_or marks.items home.page false)
+    (slice_get tables.volumes.items (home.vol - 1)) false
+
+-- of the pages of members those of tables are marked
+abbrev pub AreTables : Layout → TablePages → Type 0
+AreTables layout tables = (home : Home) → 1 ≤ home.vol → home.vol ≤ max_volumes
+    → home.page < (member_of layout.anchor home.vol).pages
+    → (is_table tables home ≡ true) ↔ IsTableHome layout home
