@@ -11,6 +11,7 @@ mod homeward;
 mod settling;
 mod tables;
 
+pub use attached_domain::Unfit;
 pub use attaching::attach;
 pub use bringing::{BroughtMemory, bring_memory};
 pub use closing::{Closed, close};
