@@ -1,0 +1,2 @@
+pub use Rattle.command_core.specs.Ending
+pub use Rattle.command_core.specs.Staged
