@@ -25,6 +25,7 @@ pub mod Filed
 pub mod FileAnswers
 pub mod Refunded
 pub mod Written
+pub mod PathsCounted
 pub mod Present
 pub mod Wanted
 pub mod WaysSplit

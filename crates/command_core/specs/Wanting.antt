@@ -1,5 +1,5 @@
 -- Want of pages.
-use Rattle.std.specs.Prelude.{◌≡◌, ◌<◌, ◌/◌, ℕ, List, Option, if◌then◌else◌, slice_get, sum_by}
+use Rattle.std.specs.Prelude.{◌≡◌, ◌+◌, ◌*◌, ◌<◌, ◌/◌, ℕ, List, Option, if◌then◌else◌, slice_get, sum_by}
 use Rattle.page_store.specs.Pages.{Pages}
 use Rattle.domain_base.specs.Limits.{blocks_per_page}
 use Rattle.free_space.specs.Spaces.{free_pages}
@@ -9,6 +9,7 @@ use Rattle.fileset_model.specs.declared.command.Command.{Command}
 use Rattle.fileset_model.specs.declared.command.Command.TheVariants.{Create, Link, Mkdir, Mkfset, Rename, Setquota, Write}
 use Rattle.fileset_model.specs.declared.command.Owner.TheVariants.{Fileset}
 use Rattle.fileset_model.specs.declared.entry.Entry.{Entry}
+use Rattle.fileset_model.specs.declared.fileset.Usage.{Usage}
 use Rattle.history_model.specs.Point.{Point, Tight}
 use Rattle.history_model.specs.Room.{need}
 use Rattle.history_model.specs.State.{State}
@@ -35,10 +36,15 @@ MayTake command = ⊥
 abbrev pub free_in : DomainMemory → ℕ
 free_in memory = sum_by free_pages memory.space.volumes
 
--- how many pages the files of the fileset in a slot have, as its book says
-abbrev pub pages_at : DomainMemory → ℕ → ℕ
-pages_at memory number = if of_original (slice_get memory.table.slots number)
-    then (used (staged_books memory number) Fileset).blocks / blocks_per_page else 0
+-- how many pages may be taken for files and directories of which so much is used: 3 for each page
+-- of a file, and 4 for a path to each
+abbrev pub room_used : Usage → ℕ
+room_used usage = 3 * (usage.blocks / blocks_per_page) + 4 * usage.files
+
+-- for those of the fileset in a slot, as its book says
+abbrev pub room_at : DomainMemory → ℕ → ℕ
+room_at memory number = if of_original (slice_get memory.table.slots number)
+    then room_used (used (staged_books memory number) Fileset) else 0
 
 -- fewer pages are free than a command may need, no page waits, and nothing on the list may be let
 -- go of

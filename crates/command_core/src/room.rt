@@ -2,19 +2,19 @@
 ghost use Rattle.std.specs.Prelude.{◌≡◌, ◌+◌, ◌*◌, ◌^◌, ◌<◌, ◌≤◌, true, IfSome, Some, length};
 ghost use Rattle.fileset_model.specs.Filesets.{FilesetMap};
 ghost use Rattle.fileset_model.specs.Pages.{pages_of};
-ghost use Rattle.history_model.specs.Room.{need, present_pages};
+ghost use Rattle.history_model.specs.Room.{need, path_count, present_pages};
 ghost use Rattle.domain_layout.specs.CellRules.{of_original};
 ghost use Rattle.domain_memory.specs.Memory.{StandsFor};
 ghost use Rattle.domain_memory.specs.Staged.{IsSettled};
 ghost use Rattle.domain_state.specs.History.{StandsForSome};
-ghost use Rattle.command_core.specs.Wanting.{MayLackPages, MayTake, pages_at};
+ghost use Rattle.command_core.specs.Wanting.{MayLackPages, MayTake, room_at, room_used};
 
 use domain_base::FilesetNo;
 use domain_base::limits::{BLOCKS_PER_PAGE, FILESET_SLOTS, PAGE_BYTES};
 use domain_memory::DomainMemory;
 use domain_stages::used_by;
 use domain_state::{Domain, Opening};
-use fileset_model::{Command, Entry, Owner, Told};
+use fileset_model::{Command, Entry, Owner, Told, Usage};
 use fileset_table::SlotItem;
 use volume_disk::Rack;
 
@@ -75,46 +75,55 @@ fn is_original(item: &SlotItem) -> bool
     matches!(item, SlotItem::Original { .. })
 }
 
-/// How many pages the files of the fileset in a slot have, as its book says, and 0 for a slot with
-/// none.
-fn pages_in(memory: &DomainMemory, number: FilesetNo) -> u64
+/// How many pages may be taken for files and directories of which so much is used: 3 for each page
+/// of a file, and 4 for a path to each.
+fn room_used(usage: &Usage) -> u64
+    ensures { result ≤ room_used usage.now }
+{
+    let pages = usage.blocks / u64::from(BLOCKS_PER_PAGE);
+    pages
+        .saturating_mul(3)
+        .saturating_add(usage.files.saturating_mul(4))
+}
+
+/// The same of the fileset in a slot, as its book says, and 0 for a slot with none.
+fn room_in(memory: &DomainMemory, number: FilesetNo) -> u64
     requires settled { IsSettled memory.now }
     requires stands { ∥ StandsForSome memory.now ∥₁ }
-    ensures pages { result ≡ pages_at memory.now number }
+    ensures room { result ≤ room_at memory.now number }
     ensures whole { length memory.now.table.slots ≡ 32 }
 {
     if is_original(memory.table.slot(number)) {
         let (usage, _) = used_by(memory, number, Owner::Fileset);
-        usage.blocks / u64::from(BLOCKS_PER_PAGE)
+        room_used(&usage)
     } else {
         0
     }
 }
 
-/// How many pages the files of all filesets have, as their books say: as many are there at least.
-fn present_pages(memory: &DomainMemory) -> u64
+/// The same of all filesets: their pages and their paths may take as much at least.
+fn room_of_files(memory: &DomainMemory) -> u64
     requires settled { IsSettled memory.now }
     requires stands { ∥ StandsForSome memory.now ∥₁ }
-    ensures { (all : FilesetMap) → StandsFor memory.now all → result ≤ present_pages all }
+    ensures { (all : FilesetMap) → StandsFor memory.now all
+        → result ≤ 3 * present_pages all + 4 * path_count all }
 {
     let mut count: u64 = 0;
     for n in 0..FILESET_SLOTS {
         let Some(number) = FilesetNo::new(n) else {
             unreachable!();
         };
-        count = count.saturating_add(pages_in(memory, number));
+        count = count.saturating_add(room_in(memory, number));
     }
     count
 }
 
-/// Whether open members with so many pages have fewer than 24 for each entry, 3 for each page of a
-/// file, 64 for each member, 512, and so many more.
-fn are_fewer(there: u64, entries: &[Entry], pages: u64, members: u64, more: u64) -> bool
-    ensures { result ≡ true
-        → there < 24 * length entries.now + 3 * pages + 64 * members + 512 + more }
+/// Whether open members with so many pages have fewer than 24 for each entry, those that files may
+/// take, 64 for each member, 512, and so many more.
+fn are_fewer(there: u64, entries: &[Entry], taken: u64, members: u64, more: u64) -> bool
+    ensures { result ≡ true → there < 24 * length entries.now + taken + 64 * members + 512 + more }
 {
-    let room = pages
-        .saturating_mul(3)
+    let room = taken
         .saturating_add(members.saturating_mul(64))
         .saturating_add(512);
     let peak = (entries.len() as u64)
@@ -124,19 +133,20 @@ fn are_fewer(there: u64, entries: &[Entry], pages: u64, members: u64, more: u64)
 }
 
 /// Whether the open members of a domain have fewer pages than all that may be needed where its
-/// history has come to, and so many more. Of what may be needed paths are not counted, nor what
-/// there was when the domain was opened: so they may have fewer where this says that they have not.
+/// history has come to, and so many more. Of what may be needed one path is counted for each file
+/// and directory, though it may have more, and nothing of what there was when the domain was
+/// opened: so they may have fewer where this says that they have not.
 pub(crate) fn may_lack<R: Rack, O: Opening>(domain: &Domain<R, O>, more: u64) -> bool
     requires settled { IsSettled domain.now.memory }
     ensures { result ≡ true → (all : FilesetMap) → StandsFor domain.now.memory all
         → MayLackPages O.pages O.frame O.sizes (⟦<Domain<R, O> as Told>⟧.history domain.now)
         (⟦<Domain<R, O> as Told>⟧.begun domain.now) all more }
 {
-    let pages = present_pages(domain.memory());
+    let taken = room_of_files(domain.memory());
     are_fewer(
         domain.open_pages(),
         domain.entries(),
-        pages,
+        taken,
         domain.count_members(),
         more,
     )
