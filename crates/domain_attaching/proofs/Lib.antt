@@ -10,3 +10,4 @@ pub mod ItsPages
 pub mod AtClose
 pub mod MayRead
 pub mod Converted
+pub use Rattle.anchor_laws.proofs.OneMeaning
