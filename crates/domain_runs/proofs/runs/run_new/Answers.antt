@@ -1,0 +1,20 @@
+use Rattle.std.proofs.Common.{◌≡◌}
+use Rattle.log_settling.specs.Settling.{Anywhere}
+use Rattle.log_settling.proofs.Settled.{anywhere_then}
+use Rattle.domain_making.specs.Making.{IsOnFirst}
+use Rattle.run_parts.specs.declared.status.Status.TheVariants as status
+use Rattle.domain_runs.proofs.Running.{runs_new}
+use Rattle.domain_runs.proofs.runs.run_new.Goals as goal
+
+pub returns-in-Ok-run_attached-clause-legal : goal.returns-in-Ok-run_attached-clause-legal
+returns-in-Ok-run_attached-clause-legal g c =
+    let disk = g.R.Rack.disk in
+    let made = c.in-Ok.made in
+    let ran = c.in-Ok-run_attached.ran in
+    runs_new c.args.version (disk c.args.rack) (disk made.rack) (disk ran.rack) made.memory ran.history.items (ran.end ≡ status.Ok) c.in-Ok.ensures.touches c.in-Ok.ensures.new c.in-Ok.ensures.frame
+    c.in-Ok-run_attached.ensures.legal
+
+pub returns-in-Ok-run_attached-clause-touches : goal.returns-in-Ok-run_attached-clause-touches
+returns-in-Ok-run_attached-clause-touches g c =
+    let disk = g.R.Rack.disk in
+    anywhere_then (disk c.args.rack) (disk c.in-Ok.made.rack) (disk c.in-Ok-run_attached.ran.rack) IsOnFirst Anywhere c.in-Ok.ensures.touches c.in-Ok-run_attached.ensures.touches

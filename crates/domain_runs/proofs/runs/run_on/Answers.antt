@@ -1,0 +1,25 @@
+use Rattle.std.proofs.Common.{◌≡◌, refl}
+use Rattle.log_settling.specs.Settling.{Anywhere}
+use Rattle.log_settling.proofs.Settled.{anywhere_then}
+use Rattle.run_parts.specs.declared.status.Status.TheVariants as status
+use Rattle.domain_runs.proofs.Faults.{begins_with}
+use Rattle.domain_runs.proofs.Running.{runs_from}
+use Rattle.domain_runs.proofs.runs.run_on.Goals as goal
+
+pub returns-in-Ok-run_attached-clause-legal : goal.returns-in-Ok-run_attached-clause-legal
+returns-in-Ok-run_attached-clause-legal g c =
+    let disk = g.R.Rack.disk in
+    let attached = c.in-Ok.attached in
+    let ran = c.in-Ok-run_attached.ran in
+    runs_from (disk c.args.rack) (disk attached.rack) (disk ran.rack) attached.memory (disk attached.rack).sizes ran.history.items (ran.end ≡ status.Ok) c.in-Ok.ensures.touches refl c.in-Ok.ensures.from
+    c.in-Ok.ensures.means c.in-Ok-run_attached.ensures.legal
+
+pub returns-in-Ok-run_attached-clause-touches : goal.returns-in-Ok-run_attached-clause-touches
+returns-in-Ok-run_attached-clause-touches g c =
+    let disk = g.R.Rack.disk in
+    anywhere_then (disk c.args.rack) (disk c.in-Ok.attached.rack) (disk c.in-Ok-run_attached.ran.rack) Anywhere Anywhere c.in-Ok.ensures.touches c.in-Ok-run_attached.ensures.touches
+
+pub returns-in-Err-clause-none : goal.returns-in-Err-clause-none
+returns-in-Err-clause-none g c =
+    let is = c.in-Err.ensures in
+    begins_with (g.R.Rack.disk c.args.rack) _ _ c.status_of_attaching.result c.status_of_attaching.ensures is.cause is.refused is.wrong is.unfit

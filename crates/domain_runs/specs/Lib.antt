@@ -1,0 +1,4 @@
+pub mod Runs
+pub mod Statuses
+pub use Rattle.domain_attaching.specs.Fault
+pub use Rattle.client_turns.specs.Ending

@@ -1,0 +1,115 @@
+-- Runs of commands over a domain.
+use Rattle.std.specs.Prelude.{◌≡◌, ◌⊎◌, ◌<◌, ◌≤◌, ℕ, List, MatchOption, None, Option, Some, All}
+use Rattle.domain_base.specs.Counts.{HasRisen}
+use Rattle.domain_base.specs.Limits.{min_first_volume_pages}
+use Rattle.domain_base.specs.declared.place.Home.{Home}
+use Rattle.domain_base.specs.declared.version.Version.{Version}
+use Rattle.page_store.specs.Pages.{Pages}
+use Rattle.volume_disk.specs.Disk.{Disk, MayLeave, Tells, volume_pages}
+use Rattle.volume_disk.specs.Image.{Image}
+use Rattle.volume_disk.specs.Run.{OnlyReads}
+use Rattle.fileset_model.specs.Filesets.{FilesetMap}
+use Rattle.fileset_model.specs.declared.entry.Entry.{Entry}
+use Rattle.history_model.specs.Legal.{Legal}
+use Rattle.history_model.specs.State.{State, new_domain}
+use Rattle.log_recovery.specs.declared.redone.Redone.{Redone}
+use Rattle.domain_layout.specs.Reached.{Frame}
+use Rattle.domain_layout.specs.Read.{Means, ReadsFrom}
+use Rattle.domain_attaching.specs.Brought.{IsBroughtFrom}
+use Rattle.domain_attaching.specs.Fault.{IsNoDomain}
+use Rattle.domain_attaching.specs.unfit.Unfit.{Unfit}
+use Rattle.domain_attaching.specs.unfit.Unfit.TheVariants as unfit
+use Rattle.domain_state.specs.Opening.{IsStartOf}
+use Rattle.domain_attaching.specs.Attaching.{IsUnfitDomain}
+use Rattle.domain_attaching.specs.Settling.{LacksNumbers, rested_anchor}
+use Rattle.run_parts.specs.declared.status.Status.{Status}
+use Rattle.run_parts.specs.declared.status.Status.TheVariants as status
+use Rattle.run_parts.specs.declared.status.Unattached.{Unattached}
+use Rattle.run_parts.specs.declared.status.Unattached.TheVariants as why
+
+-- ** Where a run leads
+
+-- an image that a stop may leave now means these filesets, whichever it is
+abbrev pub Keeps : Disk → FilesetMap → Type 0
+Keeps disk all =
+    (image : Image) → MayLeave disk.now image → ∥ Means disk.sizes image all ∥₁
+
+-- from each state that pages with this anchor mean the entries lead to some filesets; these are on
+-- the rack where it holds that the domain was closed
+pub record LeadsFrom (pages : Pages) (frame : Frame) (sizes : List ℕ) (entries : List Entry)
+    (new : Disk) (closed : Type 0) : Type 0 where
+  pub all : FilesetMap
+  pub leads : (start : State) → IsStartOf pages frame sizes start
+      → ∥ Legal start entries None (record start { filesets = all }) ∥₁
+  pub kept : closed → Keeps new all
+
+-- the same from the state of a domain that was just made
+pub record LeadsFromNew (version : Version) (sizes : List ℕ) (entries : List Entry) (new : Disk)
+    (closed : Type 0) : Type 0 where
+  pub all : FilesetMap
+  pub leads : ∥ Legal (new_domain version sizes) entries None
+      (record (new_domain version sizes) { filesets = all }) ∥₁
+  pub kept : closed → Keeps new all
+
+-- pages with this anchor are those of an image once its log is redone and at rest
+abbrev pub AreOpenedFrom : List ℕ → Image → Pages → Frame → Type 0
+AreOpenedFrom sizes image pages frame = (found : Redone)
+    × (frame.anchor ≡ rested_anchor found) × IsBroughtFrom sizes image pages found
+
+-- the entries lead from what a rack had to what it has now: the pages at the start are those of its
+-- contents, and mean what these meant
+pub record RunsFrom (old new : Disk) (entries : List Entry) (closed : Type 0) : Type 0 where
+  pub pages : Pages
+  pub frame : Frame
+  pub opened : Tells old → AreOpenedFrom old.sizes old.now.contents pages frame
+  pub meant : Tells old → (all : FilesetMap) → Means old.sizes old.now.contents all
+      → (home : Home) → frame.anchor.table ≡ Some home → ReadsFrom pages home all
+  pub leads : ∥ LeadsFrom pages frame old.sizes entries new (Tells old × closed) ∥₁
+
+-- each entry was answered after so many calls of the rack, and at most so many
+abbrev pub AreStampedWithin : Disk → Disk → List Entry → Type 0
+AreStampedWithin old new entries = All (λ e. (old.calls ≤ e.stamp) × (e.stamp ≤ new.calls)) entries
+
+-- ** Why a run does not begin, or its domain is not closed
+
+-- a read of the volume has failed, or a write or a sync
+abbrev pub HasFailed : Disk → Disk → ℕ → Type 0
+HasFailed old new vol = HasRisen (old.read_faults vol) (new.read_faults vol)
+    ⊎ HasRisen (old.write_faults vol) (new.write_faults vol)
+
+-- what is so of the pages of a domain without a fault that is not attached; None: its log has no
+-- numbers left
+abbrev pub unfit_as : Unattached → Option Unfit
+unfit_as why.Cloned = Some unfit.Cloned
+unfit_as why.ReadThrough = Some unfit.ReadThrough
+unfit_as why.WrongQuotas = Some unfit.WrongQuotas
+unfit_as why.RemovedFile = Some unfit.RemovedFile
+unfit_as why.CutDirectory = Some unfit.CutDirectory
+unfit_as why.NoNumbers = None
+
+-- the domain that a rack has was not attached, for the cause that the status tells: the first page
+-- at which no domain is seen, and then the rack was only read; a call that failed; what is so of the
+-- domain; or want of memory
+abbrev pub BeginsNot : Disk → Disk → Status → Type 0
+BeginsNot old new (status.NotADomain vol at) =
+    OnlyReads old new × (Tells old → IsNoDomain old.sizes old.now.contents vol at)
+BeginsNot old new (status.VolumeFault vol) = HasFailed old new vol
+BeginsNot old new (status.Unfit why) = MatchOption (unfit_as why) (LacksNumbers old)
+    (λ unfit. OnlyReads old new × (Tells old → IsUnfitDomain old.sizes old.now.contents unfit))
+BeginsNot old new status.OutOfMemory = Unit {0}
+BeginsNot old new other = ⊥
+
+-- none was made: the volume is too small, and nothing was done; a call failed; or want of memory
+abbrev pub MakesNone : Disk → Disk → Status → Type 0
+MakesNone old new (status.VolumeSmall pages) = (pages ≡ volume_pages old.sizes 1)
+    × (pages < min_first_volume_pages) × (new ≡ old)
+MakesNone old new (status.VolumeFault vol) = HasFailed old new vol
+MakesNone old new status.OutOfMemory = Unit {0}
+MakesNone old new other = ⊥
+
+-- a domain was closed, or not: a call failed, or want of memory
+abbrev pub ClosesAs : Disk → Disk → Status → Type 0
+ClosesAs old new status.Ok = Unit {0}
+ClosesAs old new (status.VolumeFault vol) = HasFailed old new vol
+ClosesAs old new status.OutOfMemory = Unit {0}
+ClosesAs old new other = ⊥

@@ -1,0 +1,228 @@
+//! Runs of clients' commands over a domain.
+ghost use Rattle.std.specs.Prelude.{◌≡◌, ◌≤◌, ◌<◌, [], Err, IfErr, IfOk, IfSome, None, All, flat_map, length, map, sum_by};
+ghost use Rattle.volume_disk.specs.Disk.{HasVolume, Tells, volume_pages};
+ghost use Rattle.volume_disk.specs.Run.{Touches};
+ghost use Rattle.log_settling.specs.Settling.{Anywhere};
+ghost use Rattle.page_ways.specs.Frame.{frame_in};
+ghost use Rattle.staged_pages.specs.Store.{before_of};
+ghost use Rattle.domain_base.specs.Limits.{min_first_volume_pages};
+ghost use Rattle.domain_making.specs.Making.{HasNoOtherAnchor};
+ghost use Rattle.client_turns.specs.Staged.{IsSettled};
+ghost use Rattle.client_turns.specs.Ending.{IsServed};
+ghost use Rattle.script_text.specs.Turns.{turn_of, turns_of};
+ghost use Rattle.domain_runs.specs.Runs.{AreStampedWithin, BeginsNot, ClosesAs, LeadsFrom, LeadsFromNew, MakesNone, RunsFrom};
+ghost use Rattle.run_parts.specs.declared.status.Status.TheVariants as status;
+
+use crate::statuses::{status_of_attaching, status_of_closing, status_of_making};
+use client_turns::{Gate, answer_sections};
+use domain_attaching::{Closed, attach, close};
+use domain_base::{Version, VolIx};
+use domain_state::{Attached, Domain, Opening, make};
+use fileset_model::{Entry, Told};
+use run_parts::Status;
+use script_text::Section;
+use std::alloc::Global;
+use std::marker::Brand;
+use volume_disk::Rack;
+
+/// A run that has begun: the rack as it is then, the commands with their replies, and how the domain
+/// was closed.
+#[derive(Drop)]
+pub struct Ran<R> {
+    pub rack: R,
+    pub history: Vec<Entry>,
+    pub end: Status,
+}
+
+/// How many commands the sections have; None where these are 2^64 or more.
+fn count_commands(sections: &[Section]) -> Option<usize>
+    ensures { IfSome result
+        (λ count. count ≡ sum_by (λ section. length section.commands) sections.now) }
+{
+    let mut count: usize = 0;
+    for section in sections {
+        count = count.checked_add(section.commands.as_slice().len())?;
+    }
+    Some(count)
+}
+
+/// Closes a domain in which commands were answered.
+fn end_run<R: Rack, O: Opening>(alloc: Global, domain: Domain<R, O>) -> Ran<R>
+    requires settled { IsSettled domain.memory }
+    requires begun { ⟦<Domain<R, O> as Told>⟧.begun domain ≡ None }
+    ensures history { result.history.items ≡ ⟦<Domain<R, O> as Told>⟧.history domain }
+    ensures legal { ∥ LeadsFrom O.pages O.frame O.sizes (⟦<Domain<R, O> as Told>⟧.history domain)
+        (R.disk result.rack) (Tells (R.disk domain.history.rack) × (result.end ≡ status.Ok)) ∥₁ }
+    ensures touches { Touches (R.disk domain.history.rack) (R.disk result.rack) Anywhere }
+    ensures ends { ClosesAs (R.disk domain.history.rack) (R.disk result.rack) result.end }
+{
+    match close(alloc, domain) {
+        Ok(Closed { rack, history }) => Ran {
+            rack,
+            history,
+            end: Status::Ok,
+        },
+        Err((Closed { rack, history }, fault)) => Ran {
+            rack,
+            history,
+            end: status_of_closing(&fault),
+        },
+    }
+}
+
+/// Answers the commands of sections in a domain whose history has begun with room for all of them,
+/// and closes it.
+fn run_begun<R: Rack, O: Opening, G: Gate>(
+    alloc: Global,
+    domain: Domain<R, O>,
+    sections: Vec<Section>,
+    gate: &G,
+) -> Ran<R>
+    requires rests { ⟦<Domain<R, O> as Told>⟧.rests domain }
+    requires room { sum_by (λ section. length section.commands) sections.items
+        ≤ ⟦<Domain<R, O> as Told>⟧.room domain }
+    requires settled { IsSettled domain.memory }
+    requires first { ⟦<Domain<R, O> as Told>⟧.history domain ≡ [] }
+    requires begun { ⟦<Domain<R, O> as Told>⟧.begun domain ≡ None }
+    requires served { All (λ section. All IsServed section.commands) sections.items }
+    ensures turns { map turn_of result.history.items ≡ flat_map turns_of sections.items }
+    ensures stamps { AreStampedWithin (R.disk domain.history.rack) (R.disk result.rack)
+        result.history.items }
+    ensures legal { ∥ LeadsFrom O.pages O.frame O.sizes result.history.items (R.disk result.rack)
+        (Tells (R.disk domain.history.rack) × (result.end ≡ status.Ok)) ∥₁ }
+    ensures touches { Touches (R.disk domain.history.rack) (R.disk result.rack) Anywhere }
+    ensures ends { ClosesAs (R.disk domain.history.rack) (R.disk result.rack) result.end }
+{
+    let Some(first) = VolIx::new(1) else {
+        unreachable!();
+    };
+    let domain = answer_sections(domain, alloc, sections, first, gate);
+    end_run(alloc, domain)
+}
+
+/// Begins the history of a domain that was attached or made, with room for so many entries; where
+/// that is not to be had its rack comes back.
+fn begin_run<R: Rack, O: Opening>(
+    alloc: Global,
+    attached: Attached<R>,
+    count: usize,
+) -> Result<Domain<R, O>, R>
+    requires pages { O.pages ≡ before_of attached.memory.pages }
+    requires frame { O.frame ≡ frame_in attached.memory.frame }
+    requires sizes { O.sizes ≡ (R.disk attached.rack).sizes }
+    ensures rests { IfOk result (λ domain. ⟦<Domain<R, O> as Told>⟧.rests domain) }
+    ensures room { IfOk result (λ domain. count ≤ ⟦<Domain<R, O> as Told>⟧.room domain) }
+    ensures settled { IfOk result (λ domain. IsSettled domain.memory) }
+    ensures first { IfOk result (λ domain. ⟦<Domain<R, O> as Told>⟧.history domain ≡ []) }
+    ensures begun { IfOk result (λ domain. ⟦<Domain<R, O> as Told>⟧.begun domain ≡ None) }
+    ensures rack { IfOk result (λ domain. domain.history.rack ≡ attached.rack) }
+    ensures back { IfErr result (λ rack. rack ≡ attached.rack) }
+{
+    let mut domain: Domain<R, O> = Domain::begin(alloc, attached);
+    domain.discard();
+    match domain.reserve_history(count) {
+        Ok(()) => Ok(domain),
+        Err(_) => Err(domain.into_rack()),
+    }
+}
+
+/// Answers the commands of sections over a domain that was attached or made, and closes it. Room for
+/// all of them is taken before the first; where that is not to be had the rack comes back.
+fn run_attached<R: Rack, O: Opening, G: Gate>(
+    alloc: Global,
+    attached: Attached<R>,
+    sections: Vec<Section>,
+    gate: &G,
+) -> Result<Ran<R>, R>
+    requires pages { O.pages ≡ before_of attached.memory.pages }
+    requires frame { O.frame ≡ frame_in attached.memory.frame }
+    requires sizes { O.sizes ≡ (R.disk attached.rack).sizes }
+    requires served { All (λ section. All IsServed section.commands) sections.items }
+    ensures turns { IfOk result
+        (λ ran. map turn_of ran.history.items ≡ flat_map turns_of sections.items) }
+    ensures stamps { IfOk result (λ ran. AreStampedWithin (R.disk attached.rack) (R.disk ran.rack)
+        ran.history.items) }
+    ensures legal { IfOk result (λ ran. ∥ LeadsFrom O.pages O.frame O.sizes ran.history.items
+        (R.disk ran.rack) (Tells (R.disk attached.rack) × (ran.end ≡ status.Ok)) ∥₁) }
+    ensures touches { IfOk result (λ ran.
+        Touches (R.disk attached.rack) (R.disk ran.rack) Anywhere) }
+    ensures ends { IfOk result (λ ran. ClosesAs (R.disk attached.rack) (R.disk ran.rack) ran.end) }
+    ensures back { IfErr result (λ rack. rack ≡ attached.rack) }
+{
+    let Some(count) = count_commands(sections.as_slice()) else {
+        return Err(attached.into_rack());
+    };
+    match begin_run::<R, O>(alloc, attached, count) {
+        Ok(domain) => Ok(run_begun(alloc, domain, sections, gate)),
+        Err(rack) => Err(rack),
+    }
+}
+
+/// Runs the commands of sections over the domain that a rack has: attaches it, answers them, one
+/// section after another, and closes it. Each has a served command alone.
+///
+/// Where the domain is not attached, the status tells why: `NotADomain`, `Unfit`, `VolumeFault` or
+/// `OutOfMemory`, which comes also where there is no room for the history. No command was answered
+/// then. `VolumeFault` and `OutOfMemory` of closing come behind the history.
+pub fn run_on<R: Rack, G: Gate>(
+    alloc: Global,
+    rack: R,
+    sections: Vec<Section>,
+    gate: &G,
+) -> Result<Ran<R>, (R, Status)>
+    requires served { All (λ section. All IsServed section.commands) sections.items }
+    ensures turns { IfOk result
+        (λ ran. map turn_of ran.history.items ≡ flat_map turns_of sections.items) }
+    ensures stamps { IfOk result (λ ran. AreStampedWithin (R.disk rack) (R.disk ran.rack)
+        ran.history.items) }
+    ensures legal { IfOk result (λ ran. RunsFrom (R.disk rack) (R.disk ran.rack) ran.history.items
+        (ran.end ≡ status.Ok)) }
+    ensures touches { IfOk result (λ ran. Touches (R.disk rack) (R.disk ran.rack) Anywhere) }
+    ensures ends { IfOk result (λ ran. ClosesAs (R.disk rack) (R.disk ran.rack) ran.end) }
+    ensures none { IfErr result (λ back. BeginsNot (R.disk rack) (R.disk back.0) back.1) }
+{
+    match attach(alloc, rack) {
+        Ok(attached) => match run_attached::<R, Brand, G>(alloc, attached, sections, gate) {
+            Ok(ran) => Ok(ran),
+            Err(rack) => Err((rack, Status::OutOfMemory)),
+        },
+        Err((rack, fault)) => Err((rack, status_of_attaching(&fault))),
+    }
+}
+
+/// Makes an empty domain of this version on a rack's first volume, whatever that held, and runs the
+/// commands of sections over it as `run_on` does.
+///
+/// Where no domain is made, the status tells why: `VolumeSmall` exactly where the volume has fewer
+/// than 160 pages, `VolumeFault`, or `OutOfMemory`, which comes also where there is no room for the
+/// history.
+pub fn run_new<R: Rack, G: Gate>(
+    alloc: Global,
+    rack: R,
+    version: Version,
+    sections: Vec<Section>,
+    gate: &G,
+) -> Result<Ran<R>, (R, Status)>
+    requires there { HasVolume (R.disk rack) 1 }
+    requires others { Tells (R.disk rack) → HasNoOtherAnchor (R.disk rack) }
+    requires served { All (λ section. All IsServed section.commands) sections.items }
+    ensures turns { IfOk result
+        (λ ran. map turn_of ran.history.items ≡ flat_map turns_of sections.items) }
+    ensures stamps { IfOk result (λ ran. AreStampedWithin (R.disk rack) (R.disk ran.rack)
+        ran.history.items) }
+    ensures legal { IfOk result (λ ran. ∥ LeadsFromNew version (R.disk rack).sizes
+        ran.history.items (R.disk ran.rack) (Tells (R.disk rack) × (ran.end ≡ status.Ok)) ∥₁) }
+    ensures touches { IfOk result (λ ran. Touches (R.disk rack) (R.disk ran.rack) Anywhere) }
+    ensures ends { IfOk result (λ ran. ClosesAs (R.disk rack) (R.disk ran.rack) ran.end) }
+    ensures small { let pages = volume_pages (R.disk rack).sizes 1 in
+        pages < min_first_volume_pages → result ≡ Err (rack, status.VolumeSmall pages) }
+    ensures none { IfErr result (λ back. MakesNone (R.disk rack) (R.disk back.0) back.1) }
+{
+    match make(alloc, rack, version) {
+        Ok(made) => match run_attached::<R, Brand, G>(alloc, made, sections, gate) {
+            Ok(ran) => Ok(ran),
+            Err(rack) => Err((rack, Status::OutOfMemory)),
+        },
+        Err((rack, fault)) => Err((rack, status_of_making(&fault))),
+    }
+}

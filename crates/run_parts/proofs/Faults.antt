@@ -1,0 +1,51 @@
+-- The text of faults, line by line.
+use Rattle.std.proofs.Common.{◌≡◌, inl, inr, ℕ, ◌+◌, ◌<◌, Option, List, [], ◌∷◌, ◌++◌, length, take, get_or, refl, sym, ap, ◌∙◌, add-one}
+use Rattle.std.proofs.Math.Seq.{take-suc}
+use Rattle.std.proofs.lemmas.Grind.{flat_map-append}
+use Rattle.std.proofs.lemmas.List.{append-nil}
+use Rattle.volume_disk.specs.Disk.{Disk, Tells}
+use Rattle.domain_layout.specs.Faults.{FaultRow}
+use Rattle.domain_faults.specs.Rows.{row_there, rows_there}
+use Rattle.domain_faults.specs.declared.rows.FaultRow.{FaultRow as Told}
+use Rattle.image_meaning.specs.Meaning.{IsMeaningOf}
+use Rattle.image_meaning.specs.declared.meaning.Meaning.{Meaning}
+use Rattle.image_meaning.specs.declared.meaning.Meaning.TheVariants.{Faulty, Filesets, NoDomain}
+use Rattle.run_parts.specs.Verified.{ListsFaults, PrintEnds, VerifyEnds, fault_line, faults_text, rows_of}
+use Rattle.run_parts.specs.declared.status.Status.{Status}
+use Rattle.run_parts.specs.declared.status.Status.TheVariants as status
+
+rows_pushed : (rows : List Told) (row : Told) → rows_there (rows ++ row ∷ []) ≡ rows_there rows ++ row_there row ∷ []
+rows_pushed [] row = refl
+rows_pushed (other ∷ rows) row = ap (λ l. row_there other ∷ l) (rows_pushed rows row)
+
+-- the text of one fault more
+pub faults_more : (rows : List Told) (k : ℕ) (row : Told) → k < length rows → row ≡ get_or rows k row
+    → faults_text (rows_there (take (k + 1) rows)) ≡ faults_text (rows_there (take k rows)) ++ fault_line (row_there row)
+faults_more rows k row within here =
+    ap (λ n. faults_text (rows_there (take n rows))) (add-one k)
+    ∙ ap (λ l. faults_text (rows_there l)) (take-suc rows k row within)
+    ∙ ap faults_text (rows_pushed (take k rows) (get_or rows k row))
+    ∙ flat_map-append fault_line (rows_there (take k rows)) (row_there (get_or rows k row) ∷ [])
+    ∙ ap (λ l. faults_text (rows_there (take k rows)) ++ l) (append-nil (fault_line (row_there (get_or rows k row))) ∙ ap (λ r. fault_line (row_there r)) (sym here))
+
+-- ---- what is listed, and how verifying ends
+
+pub faults_listed : (disk : Disk) (meaning : Meaning) → (Tells disk → IsMeaningOf disk.sizes disk.now.contents meaning) → ListsFaults disk (rows_of meaning)
+faults_listed disk (NoDomain vol at) means tells = inl (vol, at, means tells, refl)
+faults_listed disk (Faulty rows) means tells = inr (inl (means tells))
+faults_listed disk (Filesets all) means tells = inr (inr (refl, all, means tells))
+
+pub verified : (old new : Disk) (rows : List FaultRow) (s : Status) (before after : Option (List ℕ)) → ListsFaults old rows → PrintEnds rows s before after
+    → VerifyEnds old new s before after
+verified old new rows status.Ok before after lists prints = (rows, lists, prints)
+verified old new rows (status.Found faults) before after lists prints = (rows, lists, prints)
+verified old new rows status.SinkFault before after lists prints = (rows, lists, prints)
+verified old new rows status.OutOfMemory before after lists prints = prints
+verified old new rows (status.VolumeFault vol) before after lists prints = absurd prints
+verified old new rows (status.Usage word) before after lists prints = absurd prints
+verified old new rows status.SourceFault before after lists prints = absurd prints
+verified old new rows status.TooLong before after lists prints = absurd prints
+verified old new rows (status.BadScript line kind) before after lists prints = absurd prints
+verified old new rows (status.VolumeSmall pages) before after lists prints = absurd prints
+verified old new rows (status.NotADomain vol at) before after lists prints = absurd prints
+verified old new rows (status.Unfit why) before after lists prints = absurd prints

@@ -1,0 +1,6 @@
+pub mod Faults
+pub mod Pieces
+pub mod Printed
+pub mod Reading
+pub mod Shuffled
+pub mod WordLemmas

@@ -1,0 +1,8 @@
+pub mod Answering
+pub mod Exit
+pub mod Made
+pub mod Reading
+pub mod Scripted
+pub mod Transfer
+pub mod Usage
+pub mod Verified

@@ -1,0 +1,77 @@
+-- Which words of a command line are a form.
+use Rattle.std.specs.Prelude.{ℕ, suc, ◌≡◌, ◌^◌, Bool, ◌&&◌, not, if◌then◌else◌, nat_le, ◌==◌, length, slice_index, Option, Some, None, option_and_then, Result, Ok, Err, List, [], ◌∷◌, codes}
+use Rattle.std.specs.Char.{is_ascii_digit}
+use Rattle.std.specs.List.{list_all}
+use Rattle.std.specs.Option.{option_map_or}
+use Rattle.std.specs.Str.{bytes_eq}
+use Rattle.domain_base.specs.declared.version.Version.TheVariants.{Three, Four}
+use Rattle.word_forms.specs.Forms.{number_below}
+use Rattle.run_parts.specs.declared.words.Form.{Form}
+use Rattle.run_parts.specs.declared.words.Form.TheVariants.{Try, Run, Make, Verify}
+
+-- decimal digits, of which the first is not 0
+abbrev pub are_plain_digits : List ℕ → Bool
+are_plain_digits word = list_all is_ascii_digit word && not (slice_index word 0 == 48)
+
+-- the number, where a volume may have so many pages
+abbrev pub in_range : Option ℕ → Option ℕ
+in_range number =
+    option_and_then (λ n. if nat_le 64 n && nat_le n 65_536 then Some n else None) number
+
+-- how many pages a word asks for, without leading zeros
+abbrev pub asked_pages : List ℕ → Option ℕ
+asked_pages word = if are_plain_digits word then in_range (number_below (2 ^ 32) word) else None
+
+-- What is asked for, or how many words of the line stand in front of the first one that is out of
+-- place; that is all of them where one is missing.
+
+-- of the words behind a form that is whole, so many words in front of them
+abbrev pub form_end : ℕ → Form → List (List ℕ) → Result Form ℕ
+form_end count form [] = Ok form
+form_end count form (word ∷ words) = Err count
+
+-- the words after `try`: how many pages the volume has
+abbrev pub try_form : List (List ℕ) → Result Form ℕ
+try_form [] = Err 1
+try_form (word ∷ words) =
+    option_map_or (λ pages. form_end 2 (Try pages) words) (asked_pages word) (Err 1)
+
+-- the name of an image, so many words in front of it
+abbrev pub image_form : ℕ → Form → List (List ℕ) → Result Form ℕ
+image_form count form [] = Err count
+image_form count form ([] ∷ words) = Err count
+image_form count form ((byte ∷ bytes) ∷ words) = form_end (suc count) form words
+
+-- the words after `run`: the name of a script, and an image
+abbrev pub run_form : List (List ℕ) → Result Form ℕ
+run_form [] = Err 1
+run_form ([] ∷ words) = Err 1
+run_form ((byte ∷ bytes) ∷ words) = image_form 2 Run words
+
+-- the words after `mkfdmn`: an image, behind `-3` for a domain of version 3
+abbrev pub make_form : List (List ℕ) → Result Form ℕ
+make_form [] = Err 1
+make_form (word ∷ words) =
+    if bytes_eq word (codes "-3") then image_form 2 (Make Three) words
+    else image_form 1 (Make Four) (word ∷ words)
+
+-- the words after a verb
+abbrev pub verb_form : List ℕ → List (List ℕ) → Result Form ℕ
+verb_form verb words =
+    if bytes_eq verb (codes "try") then try_form words
+    else if bytes_eq verb (codes "run") then run_form words
+    else if bytes_eq verb (codes "mkfdmn") then make_form words
+    else if bytes_eq verb (codes "verify") then image_form 1 Verify words
+    else Err 0
+
+-- a whole command line
+unfoldable pub form_of : List (List ℕ) → Result Form ℕ
+form_of [] = Err 0
+form_of (verb ∷ words) = verb_form verb words
+
+-- the volumes that a rack has for a form
+abbrev pub FitsForm : List ℕ → Form → Type 0
+FitsForm sizes (Try pages) = sizes ≡ pages ∷ []
+FitsForm sizes Run = length sizes ≡ 1
+FitsForm sizes (Make version) = length sizes ≡ 1
+FitsForm sizes Verify = length sizes ≡ 1

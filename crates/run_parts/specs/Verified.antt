@@ -1,0 +1,82 @@
+-- What is printed of an image that is verified.
+use Rattle.std.specs.Prelude.{◌≡◌, ◌⊎◌, ◌==◌, ◌++◌, ℕ, ◌∷◌, [], List, Option, codes, decimal, flat_map, if◌then◌else◌, length}
+use Rattle.std.specs.Io.KnownBytes.{Appends}
+use Rattle.volume_disk.specs.Disk.{Disk, Tells, raised_at}
+use Rattle.volume_disk.specs.Image.{Image}
+use Rattle.log_recovery.specs.Outcome.{IsFirstFault}
+use Rattle.fileset_model.specs.Filesets.{FilesetMap}
+use Rattle.domain_layout.specs.Faults.{FaultRow}
+use Rattle.domain_layout.specs.Read.{Means}
+use Rattle.domain_faults.specs.Rows.{rows_there}
+use Rattle.image_meaning.specs.Faulty.{HasFaults}
+use Rattle.image_meaning.specs.declared.meaning.Meaning.{Meaning}
+use Rattle.image_meaning.specs.declared.meaning.Meaning.TheVariants.{Faulty, Filesets, NoDomain}
+use Rattle.image_meaning.specs.declared.fault.ReadFault.{ReadFault}
+use Rattle.image_meaning.specs.declared.fault.ReadFault.TheVariants as fault
+use Rattle.run_parts.specs.Transfer.{AppendsFront}
+use Rattle.run_parts.specs.declared.status.Status.{Status}
+use Rattle.run_parts.specs.declared.status.Status.TheVariants as status
+
+-- ** The list of an image's faults
+
+-- the code at the first page that is none of a domain: that of a label, of the anchors, or of a
+-- group of the log
+abbrev pub first_code : ℕ → ℕ
+first_code at = if at == 0 then 1 else if at == 1 then 2 else 3
+
+abbrev pub first_row : ℕ → ℕ → FaultRow
+first_row vol at = record { code = first_code at; home = record { vol = vol; page = at } }
+
+-- the first page that is none of a domain is listed alone; else the faults of the domain's pages,
+-- once its log is redone; and none where the image means filesets
+abbrev pub AreFaultsOf : List ℕ → Image → List FaultRow → Type 0
+AreFaultsOf sizes image rows =
+    ((vol at : ℕ) × IsFirstFault sizes image vol at × (rows ≡ first_row vol at ∷ []))
+    ⊎ HasFaults sizes image rows
+    ⊎ ((rows ≡ []) × (all : FilesetMap) × Means sizes image all)
+
+-- those of a meaning
+abbrev pub rows_of : Meaning → List FaultRow
+rows_of (NoDomain vol at) = first_row vol at ∷ []
+rows_of (Faulty rows) = rows_there rows.items
+rows_of (Filesets all) = []
+
+-- ** Their text
+
+-- a line for each: the word fault, its volume, page and code
+abbrev pub fault_line : FaultRow → List ℕ
+fault_line row = codes "fault " ++ decimal row.home.vol ++ 32 ∷ decimal row.home.page ++ 32
+    ∷ decimal row.code ++ 10 ∷ []
+
+abbrev pub faults_text : List FaultRow → List ℕ
+faults_text rows = flat_map fault_line rows
+
+-- ** How it ends
+
+-- these are the faults of what the rack holds, if it tells that
+abbrev pub ListsFaults : Disk → List FaultRow → Type 0
+ListsFaults disk rows = Tells disk → AreFaultsOf disk.sizes disk.now.contents rows
+
+-- the status where it is not known what an image means
+abbrev pub status_of_read_fault : ReadFault → Status
+status_of_read_fault (fault.Fault vol) = status.VolumeFault vol
+status_of_read_fault fault.OutOfMemory = status.OutOfMemory
+
+-- these faults are printed, and there is none, or so many; or those in front; or nothing, for want
+-- of memory
+abbrev pub PrintEnds : List FaultRow → Status → Option (List ℕ) → Option (List ℕ) → Type 0
+PrintEnds rows status.Ok before after = (rows ≡ []) × Appends before after []
+PrintEnds rows (status.Found faults) before after =
+    (length rows ≡ faults) × (¬ rows ≡ []) × Appends before after (faults_text rows)
+PrintEnds rows status.SinkFault before after = AppendsFront before after (faults_text rows)
+PrintEnds rows status.OutOfMemory before after = after ≡ before
+PrintEnds rows other before after = ⊥
+
+-- so the faults of what a rack holds are printed; or nothing, where a read failed of the volume that
+-- is named
+abbrev pub VerifyEnds : Disk → Disk → Status → Option (List ℕ) → Option (List ℕ) → Type 0
+VerifyEnds old new (status.VolumeFault vol) before after =
+    (new.read_faults ≡ raised_at old.read_faults vol) × (after ≡ before)
+VerifyEnds old new status.OutOfMemory before after = after ≡ before
+VerifyEnds old new other before after = (rows : List FaultRow)
+    × ListsFaults old rows × PrintEnds rows other before after

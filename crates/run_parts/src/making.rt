@@ -1,0 +1,40 @@
+//! A domain that is made in an image.
+ghost use Rattle.std.specs.Prelude.{◌≡◌, length};
+ghost use Rattle.volume_disk.specs.Disk.{Tells};
+ghost use Rattle.volume_disk.specs.Run.{LeavesOnly, Touches};
+ghost use Rattle.domain_making.specs.Making.{AreSlotsReady, IsNoneOrEmpty, IsOnFirst, pages_in_use};
+ghost use Rattle.run_parts.specs.Made.{MakeEnds, status_of_make_fault};
+
+use crate::status::Status;
+use domain_base::Version;
+use domain_making::{MakeFault, make_domain};
+use std::alloc::Global;
+use volume_disk::Rack;
+
+/// How making ends where no domain is made.
+fn status_of(fault: &MakeFault) -> Status
+    ensures { result ≡ status_of_make_fault fault.now }
+{
+    match fault {
+        MakeFault::VolumeSmall { pages } => Status::VolumeSmall { pages: *pages },
+        MakeFault::Fault { vol } => Status::VolumeFault { vol: vol.number() },
+        MakeFault::OutOfMemory => Status::OutOfMemory,
+    }
+}
+
+/// Makes an empty domain of this version on a rack's only volume, whatever that held. Where no
+/// anchor could count before, each image that a stop leaves meanwhile has none, or is the empty
+/// domain.
+pub fn make<R: Rack>(alloc: Global, rack: &mut R, version: Version) -> Status
+    requires { length (R.disk rack.old).sizes ≡ 1 }
+    ensures touches { Touches (R.disk rack.old) (R.disk rack.new) IsOnFirst }
+    ensures ends { MakeEnds version (R.disk rack.old) (R.disk rack.new) result }
+    ensures any_moment { let old = R.disk rack.old in
+        let pages = pages_in_use version old.sizes in Tells old → AreSlotsReady old
+        → LeavesOnly old (R.disk rack.new) (IsNoneOrEmpty old.sizes version pages) }
+{
+    match make_domain(alloc, rack, version) {
+        Ok(_) => Status::Ok,
+        Err(fault) => status_of(&fault),
+    }
+}

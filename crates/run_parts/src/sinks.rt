@@ -1,0 +1,142 @@
+//! Where a history is printed.
+ghost use Rattle.std.specs.Prelude.{◌≡◌, ℕ, ◌≤◌, ◌<◌, ◌+◌, List, [], Option, Some, None, OnOk, IfOk, OnErr, IsErr, Contains, min, length};
+ghost use Rattle.std.specs.Io.{WritesAtMost};
+ghost use Rattle.std.specs.Io.KnownBytes.{WriteAppends};
+ghost use Rattle.domain_base.specs.Counts.{HasRisen, raised};
+
+use domain_base::Failed;
+use std::alloc::Global;
+use std::io::Write;
+use std::marker::Model;
+
+/// An output of bytes, written piece by piece.
+pub trait Sink {
+    /// What was written so far. A sink whose bytes contracts do not see has None.
+    ghost held: { Self → Option (List ℕ) };
+
+    /// How many calls were refused.
+    ghost faults: { Self → ℕ };
+
+    /// Writes a part of the piece, from its front, and answers how many bytes that are, which is
+    /// none only for an empty piece. A call that is refused writes nothing.
+    fn write(&mut self, bytes: &[u8]) -> Result<usize, Failed>
+        ensures bound { WritesAtMost result bytes.now }
+        ensures takes { IfOk result (λ count. 0 < length bytes.now → 0 < count) }
+        ensures bytes { WriteAppends (held self.old) (held self.new) result bytes.now }
+        ensures never_falls { faults self.old ≤ faults self.new }
+        ensures failed { OnErr result (HasRisen (faults self.old) (faults self.new)) };
+
+    /// How many calls were refused so far. The number only rises, and stops at 2^64 - 1.
+    fn faults(&self) -> u64
+        ensures { result ≡ faults self.now };
+}
+
+/// A sink that keeps its bytes in memory. It refuses the calls that it was told to refuse, and
+/// those for which memory runs out.
+#[derive(Debug, Drop)]
+pub struct MemorySink {
+    bytes: Vec<u8>,
+    fails: Vec<u64>,
+    calls: u64,
+    faults: u64,
+}
+
+impl Model for MemorySink {
+    ghost use Rattle.run_parts.specs.Scripted.{Store};
+
+    ghost Value = { Store };
+
+    ghost view = { λ s. record {
+      held = s.bytes.items;
+      fails = s.fails.items;
+      calls = s.calls;
+      faults = s.faults;
+    } };
+}
+
+impl MemorySink {
+    /// A sink with nothing in it. `fails` names the calls that it refuses, the first call by 1.
+    pub fn new(alloc: Global, fails: Vec<u64>) -> Self
+        ensures { result ≡ record { held = []; fails = fails.items; calls = 0; faults = 0 } }
+    {
+        MemorySink {
+            bytes: Vec::new(alloc),
+            fails,
+            calls: 0,
+            faults: 0,
+        }
+    }
+
+    /// All that was written so far.
+    pub fn bytes(&self) -> &[u8]
+        ensures { result.now ≡ self.now.held }
+    {
+        self.bytes.as_slice()
+    }
+}
+
+impl Sink for MemorySink {
+    ghost held = { λ s. Some s.held };
+
+    ghost faults = { λ s. s.faults };
+
+    fn write(&mut self, bytes: &[u8]) -> Result<usize, Failed>
+        ensures bound { WritesAtMost result bytes.now }
+        ensures takes { IfOk result (λ count. 0 < length bytes.now → 0 < count) }
+        ensures bytes { WriteAppends (Some self.old.held) (Some self.new.held) result bytes.now }
+        ensures never_falls { self.old.faults ≤ self.new.faults }
+        ensures failed { OnErr result (HasRisen self.old.faults self.new.faults) }
+        ensures listed { Contains self.old.fails (raised self.old.calls) → IsErr result }
+        ensures calls { self.new.calls ≡ raised self.old.calls }
+        ensures same_fails { self.new.fails ≡ self.old.fails }
+    {
+        self.calls = self.calls.saturating_add(1);
+        if self.fails.contains(&self.calls) || self.bytes.extend_from_slice(bytes).is_err() {
+            self.faults = self.faults.saturating_add(1);
+            return Err(Failed);
+        }
+        Ok(bytes.len())
+    }
+
+    fn faults(&self) -> u64 {
+        self.faults
+    }
+}
+
+/// Makes a sink of a writer, as standard output is one. Contracts see none of its bytes.
+#[derive(Debug, Drop)]
+pub struct WriterSink<T> {
+    writer: T,
+    faults: u64,
+}
+
+impl<T> WriterSink<T> {
+    /// A sink that hands everything on to the writer, with no call refused so far.
+    pub fn new(writer: T) -> Self
+        ensures kept { result.writer ≡ writer }
+        ensures faults { result.faults ≡ 0 }
+    {
+        WriterSink { writer, faults: 0 }
+    }
+}
+
+impl<T: Write> Sink for WriterSink<T> {
+    ghost held = { λ _. None };
+
+    ghost faults = { λ s. s.faults };
+
+    fn write(&mut self, bytes: &[u8]) -> Result<usize, Failed> {
+        let written = self.writer.write(bytes);
+        match written {
+            Ok(count) if count > 0 || bytes.is_empty() => Ok(count),
+            _ => {
+                self.faults = self.faults.saturating_add(1);
+                Err(Failed)
+            }
+        }
+    }
+
+    fn faults(&self) -> u64 {
+        self.faults
+    }
+}

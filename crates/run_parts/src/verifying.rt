@@ -1,0 +1,119 @@
+//! The faults of an image, printed.
+ghost use Rattle.std.specs.Prelude.{◌≡◌, ◌≤◌, ◌++◌, IfOk, OnOk, length};
+ghost use Rattle.domain_base.specs.Counts.{HasRisen};
+ghost use Rattle.volume_disk.specs.Run.{OnlyReads};
+ghost use Rattle.domain_faults.specs.Rows.{rows_there};
+ghost use Rattle.run_parts.specs.Verified.{PrintEnds, VerifyEnds, fault_line, faults_text, first_code, rows_of, status_of_read_fault};
+
+use crate::sinks::Sink;
+use crate::status::Status;
+use crate::transfer::write_all;
+use domain_base::OutOfMemory;
+use domain_faults::FaultRow;
+use image_meaning::{Meaning, ReadFault, read_image};
+use std::alloc::Global;
+use volume_disk::Rack;
+use word_forms::push_number;
+
+/// The code of the fault at the first page that is none of a domain: of a label, of the anchors, or
+/// of a group of the log.
+fn first_code(at: u32) -> u32
+    ensures { result ≡ first_code at }
+{
+    match at {
+        0 => 1,
+        1 => 2,
+        _ => 3,
+    }
+}
+
+/// Adds the line of a fault.
+fn push_fault(out: &mut Vec<u8>, vol: u32, page: u32, code: u32) -> Result<(), OutOfMemory>
+    ensures { OnOk result (out.new.items ≡ out.old.items ++ fault_line (record {
+      code = code;
+      home = record { vol = vol; page = page };
+    })) }
+{
+    out.extend_from_slice(b"fault ")?;
+    push_number(out, u64::from(vol))?;
+    out.push(b' ')?;
+    push_number(out, u64::from(page))?;
+    out.push(b' ')?;
+    push_number(out, u64::from(code))?;
+    out.push(b'\n')?;
+    Ok(())
+}
+
+/// Adds the lines of these faults.
+fn push_faults(out: &mut Vec<u8>, rows: &[FaultRow]) -> Result<(), OutOfMemory>
+    ensures { OnOk result (out.new.items
+        ≡ out.old.items ++ faults_text (rows_there rows.now)) }
+{
+    for row in rows {
+        push_fault(out, row.home.vol.number(), row.home.page, row.rule.code())?;
+    }
+    Ok(())
+}
+
+/// The lines of the faults of what an image means, and how many these are.
+fn lines_of(alloc: Global, meaning: &Meaning) -> Result<(Vec<u8>, u64), OutOfMemory>
+    ensures { IfOk result (λ told. (told.0.items ≡ faults_text (rows_of meaning.now))
+        × (told.1 ≡ length (rows_of meaning.now))) }
+{
+    let mut lines = Vec::new(alloc);
+    let count = match meaning {
+        Meaning::NoDomain { vol, at } => {
+            push_fault(&mut lines, *vol, *at, first_code(*at))?;
+            1
+        }
+        Meaning::Faulty { rows } => {
+            push_faults(&mut lines, rows)?;
+            rows.len() as u64
+        }
+        Meaning::Filesets { .. } => 0,
+    };
+    Ok((lines, count))
+}
+
+/// How verifying ends where it is not known what an image means.
+fn status_of(fault: &ReadFault) -> Status
+    ensures { result ≡ status_of_read_fault fault.now }
+{
+    match fault {
+        ReadFault::Fault { vol } => Status::VolumeFault { vol: vol.number() },
+        ReadFault::OutOfMemory => Status::OutOfMemory,
+    }
+}
+
+/// Prints the lines of the faults of what an image means.
+fn print_faults<K: Sink>(alloc: Global, sink: &mut K, meaning: &Meaning) -> Status
+    ensures ends { PrintEnds (rows_of meaning.now) result (K.held sink.old) (K.held sink.new) }
+    ensures sink_fault { result ≡ Status.SinkFault
+        → HasRisen (K.faults sink.old) (K.faults sink.new) }
+    ensures never_falls { K.faults sink.old ≤ K.faults sink.new }
+{
+    let Ok((lines, faults)) = lines_of(alloc, meaning) else {
+        return Status::OutOfMemory;
+    };
+    match write_all(sink, lines.as_slice()) {
+        Ok(()) if faults == 0 => Status::Ok,
+        Ok(()) => Status::Found { faults },
+        Err(_) => Status::SinkFault,
+    }
+}
+
+/// Prints a line for each fault of the domain on a rack, which is only read: `Found` tells how many
+/// these are, and `Ok` comes where there is none. Nothing is printed where a read failed.
+pub fn verify<R: Rack, K: Sink>(alloc: Global, rack: &mut R, sink: &mut K) -> Status
+    ensures reads { OnlyReads (R.disk rack.old) (R.disk rack.new) }
+    ensures ends { VerifyEnds (R.disk rack.old) (R.disk rack.new) result
+        (K.held sink.old) (K.held sink.new) }
+    ensures sink_fault { result ≡ Status.SinkFault
+        → HasRisen (K.faults sink.old) (K.faults sink.new) }
+    ensures never_falls { K.faults sink.old ≤ K.faults sink.new }
+{
+    match read_image(alloc, rack) {
+        Ok(meaning) => print_faults(alloc, sink, &meaning),
+        Err(fault) => status_of(&fault),
+    }
+}
