@@ -1,66 +1,322 @@
--- How a run may end that gets no script.
-use Rattle.std.proofs.Common.{arith, ◌≡◌, ℕ, inr, ◌≤◌, List, length, Option, Result, Ok, Err, subst}
-use Rattle.std.specs.Io.KnownBytes.{IsAtEnd}
-use Rattle.script_text.specs.Script.{Reports, script_of}
-use Rattle.script_text.specs.declared.script.ScriptFault.{ScriptFault}
-use Rattle.script_text.specs.declared.script.ScriptFault.TheVariants as fault
-use Rattle.fileset_model.specs.declared.entry.Entry.{Entry}
+-- How a run ends, by its parts.
+use Rattle.std.proofs.Common.{inl, inr, ◌≡◌, ◌∙◌, ◌⊎◌, ℕ, List, [], ◌∷◌, ◌++◌, Option, Some, None, Result, Ok, Err, All, refl, sym, ap, subst, ⊎_elim, map}
+use Rattle.std.proofs.Math.Logic.{∥∥₁_map}
+use Rattle.std.proofs.lemmas.List.{append-nil}
+use Rattle.std.proofs.lemmas.List.Elements.{All-nil}
+use Rattle.std.specs.Io.KnownBytes.{Appends}
+use Rattle.std.specs.List.{flat_map}
 use Rattle.domain_base.specs.declared.version.Version.{Version}
-use Rattle.volume_disk.specs.Disk.{Disk}
-use Rattle.advfs_run.specs.Exit.{status_of_fault, status_of_print, status_of_read}
-use Rattle.advfs_run.specs.Run.{AnswersRead, Follows, GetsNoScript, HasRead, StopsFor}
-use Rattle.advfs_run.specs.Transfer.{IsNoLonger, IsShort, IsTooLong, StopsAfter}
-use Rattle.advfs_run.proofs.Scripts.{Shuffle-from_answers, mover-None}
-use Rattle.advfs_run.specs.declared.print.PrintError.{PrintError}
-use Rattle.advfs_run.specs.declared.print.PrintError.TheVariants as print
-use Rattle.advfs_run.specs.declared.status.Status.TheVariants as status
-use Rattle.advfs_run.specs.declared.words.Form.{Form}
-use Rattle.advfs_run.specs.declared.words.Form.TheVariants as a_form
-use Rattle.advfs_run.specs.declared.transfer.ReadError.{ReadError}
-use Rattle.advfs_run.specs.declared.transfer.ReadError.TheVariants as read
+use Rattle.domain_base.specs.declared.version.Version.TheVariants.{Four}
+use Rattle.volume_disk.specs.Disk.{Disk, Tells}
+use Rattle.fileset_model.specs.declared.entry.Entry.{Entry}
+use Rattle.history_text.specs.History.{history_text}
+use Rattle.script_text.specs.Turns.{turn_of, turns_of}
+use Rattle.script_text.specs.declared.script.Section.{Section}
+use Rattle.domain_runs.specs.Runs.{AreStampedWithin, ClosesAs, LeadsFrom, LeadsFromNew, RunsFrom}
+use Rattle.run_parts.specs.Reading.{Follows, GetsNoScript, HasRead}
+use Rattle.run_parts.specs.Transfer.{AppendsFront}
+use Rattle.run_parts.proofs.Reading.{Follows-from_answers, IsNoLonger-from_short}
+use Rattle.run_parts.specs.declared.words.Form.{Form}
+use Rattle.run_parts.specs.declared.words.Form.TheVariants as a_form
+use Rattle.run_parts.specs.declared.status.Status.{Status}
+use Rattle.run_parts.specs.declared.status.Status.TheVariants as status
+use Rattle.advfs_run.specs.Run.{EndsFor, HasBegun, HasSections, IsLargeFor, IsPrinted, IsRun, LeadsFor, NotBegun, PrintsAs, RunsFor, StopsFor}
 
-pub IsShort-from_bound : (bytes : List ℕ) → length bytes ≤ 33_554_432 → IsShort bytes
-unfolding IsShort
-IsShort-from_bound bytes within = within
+-- ---- no command was answered
 
-pub IsNoLonger-from_short : (bytes : List ℕ) → IsShort bytes → IsNoLonger bytes
-unfolding IsNoLonger IsShort
-IsNoLonger-from_short bytes short = omega (arith, short)
+pub none_appended : (held : Option (List ℕ)) (history : List Entry) → history ≡ [] → Appends held held (history_text history)
+none_appended None history none = tt
+none_appended (Some bytes) history none = sym (append-nil bytes) ∙ ap (λ h. bytes ++ history_text h) (sym none)
 
-pub GetsNoScript-from_read : (left : Option (List ℕ)) (bytes : List ℕ) (e : ReadError) → StopsAfter 33_554_432 e bytes → GetsNoScript left bytes (status_of_read e)
-unfolding IsNoLonger IsShort IsTooLong
-GetsNoScript-from_read left bytes read.SourceFault stops = stops
-GetsNoScript-from_read left bytes read.TooLong stops = stops
-GetsNoScript-from_read left bytes read.OutOfMemory stops = stops
-
-pub GetsNoScript-from_fault : (left : Option (List ℕ)) (bytes : List ℕ) (f : ScriptFault) → IsShort bytes → IsAtEnd left → Reports f (script_of bytes)
-    → GetsNoScript left bytes (status_of_fault f)
-GetsNoScript-from_fault left bytes (fault.Bad line kind) short ended reports = (short, ended, reports)
-GetsNoScript-from_fault left bytes fault.OutOfMemory short ended reports = IsNoLonger-from_short bytes short
-
--- ---- a run that has its script
-
-pub Follows-from_answers : (left : Option (List ℕ)) (bytes : List ℕ) (stamp : ℕ) (history : List Entry) → AnswersRead left bytes stamp history → Follows left bytes history
-Follows-from_answers left bytes stamp history answers = record {
-  script = answers.script;
-  is_script = answers.is_script;
-  shuffle = Shuffle-from_answers answers.script stamp history (mover-None bytes answers.script answers.is_script.says) answers.answers;
+pub none_front : (held : Option (List ℕ)) (history : List Entry) → history ≡ [] → AppendsFront held held (history_text history)
+none_front held history none = record {
+  front = history_text history;
+  rest = [];
+  whole = sym (append-nil (history_text history));
+  grown = none_appended held history none;
 }
 
-pub HasRead-from_follows : (left : Option (List ℕ)) (bytes : List ℕ) (history : List Entry) → Follows left bytes history → HasRead left bytes status.Ok history
-HasRead-from_follows left bytes history follows = follows
+pub none_stamped : (old new : Disk) (history : List Entry) → history ≡ [] → AreStampedWithin old new history
+none_stamped old new history none = subst (AreStampedWithin old new) (sym none) (All-nil _)
 
-pub HasRead-from_error : (left : Option (List ℕ)) (bytes : List ℕ) (history : List Entry) (e : PrintError) → Follows left bytes history → HasRead left bytes (status_of_print e) history
-HasRead-from_error left bytes history print.SinkFault follows = follows
-HasRead-from_error left bytes history print.OutOfMemory follows = inr follows
+-- for want of a script
+
+module _ (left : Option (List ℕ)) (read : List ℕ) (history : List Entry) (none : history ≡ []) where
+  pub unread : (s : Status) → GetsNoScript left read s → HasRead left read s history
+  unread status.Ok gets = absurd gets
+  unread (status.Usage word) gets = (none, gets)
+  unread status.SourceFault gets = (none, gets)
+  unread status.TooLong gets = (none, gets)
+  unread (status.BadScript line kind) gets = (none, gets)
+  unread (status.NotADomain vol at) gets = absurd gets
+  unread (status.VolumeFault vol) gets = absurd gets
+  unread status.SinkFault gets = absurd gets
+  unread (status.Found faults) gets = absurd gets
+  unread status.OutOfMemory gets = inl (none, gets)
+  unread (status.VolumeSmall pages) gets = absurd gets
+  unread (status.Unfit why) gets = absurd gets
+
+  pub unread_begun : (s : Status) → GetsNoScript left read s → ¬ HasBegun s
+  unread_begun status.Ok gets begun = gets
+  unread_begun (status.Usage word) gets begun = begun
+  unread_begun status.SourceFault gets begun = begun
+  unread_begun status.TooLong gets begun = begun
+  unread_begun (status.BadScript line kind) gets begun = begun
+  unread_begun (status.NotADomain vol at) gets begun = begun
+  unread_begun (status.VolumeFault vol) gets begun = begun
+  unread_begun status.SinkFault gets begun = gets
+  unread_begun (status.Found faults) gets begun = begun
+  unread_begun status.OutOfMemory gets begun = begun
+  unread_begun (status.VolumeSmall pages) gets begun = begun
+  unread_begun (status.Unfit why) gets begun = begun
+
+  pub unread_ends : (form : Form) (old new : Disk) (s : Status) → IsRun (Ok form) → GetsNoScript left read s → EndsFor (Ok form) old new s
+  unread_ends (a_form.Try pages) old new status.Ok run gets = absurd gets
+  unread_ends (a_form.Try pages) old new (status.Usage word) run gets = tt
+  unread_ends (a_form.Try pages) old new status.SourceFault run gets = tt
+  unread_ends (a_form.Try pages) old new status.TooLong run gets = tt
+  unread_ends (a_form.Try pages) old new (status.BadScript line kind) run gets = tt
+  unread_ends (a_form.Try pages) old new (status.NotADomain vol at) run gets = absurd gets
+  unread_ends (a_form.Try pages) old new (status.VolumeFault vol) run gets = absurd gets
+  unread_ends (a_form.Try pages) old new status.SinkFault run gets = tt
+  unread_ends (a_form.Try pages) old new (status.Found faults) run gets = absurd gets
+  unread_ends (a_form.Try pages) old new status.OutOfMemory run gets = tt
+  unread_ends (a_form.Try pages) old new (status.VolumeSmall n) run gets = absurd gets
+  unread_ends (a_form.Try pages) old new (status.Unfit why) run gets = absurd gets
+  unread_ends a_form.Run old new status.Ok run gets = tt
+  unread_ends a_form.Run old new (status.Usage word) run gets = tt
+  unread_ends a_form.Run old new status.SourceFault run gets = tt
+  unread_ends a_form.Run old new status.TooLong run gets = tt
+  unread_ends a_form.Run old new (status.BadScript line kind) run gets = tt
+  unread_ends a_form.Run old new (status.NotADomain vol at) run gets = absurd gets
+  unread_ends a_form.Run old new (status.VolumeFault vol) run gets = absurd gets
+  unread_ends a_form.Run old new status.SinkFault run gets = tt
+  unread_ends a_form.Run old new (status.Found faults) run gets = absurd gets
+  unread_ends a_form.Run old new status.OutOfMemory run gets = tt
+  unread_ends a_form.Run old new (status.VolumeSmall n) run gets = absurd gets
+  unread_ends a_form.Run old new (status.Unfit why) run gets = absurd gets
+  unread_ends (a_form.Make version) old new s run gets = absurd run
+  unread_ends a_form.Verify old new s run gets = absurd run
+
+  pub unread_printed : (s : Status) → GetsNoScript left read s → ¬ IsPrinted s
+  unread_printed status.Ok gets printed = gets
+  unread_printed (status.Usage word) gets printed = printed
+  unread_printed status.SourceFault gets printed = printed
+  unread_printed status.TooLong gets printed = printed
+  unread_printed (status.BadScript line kind) gets printed = printed
+  unread_printed (status.NotADomain vol at) gets printed = printed
+  unread_printed (status.VolumeFault vol) gets printed = gets
+  unread_printed status.SinkFault gets printed = printed
+  unread_printed (status.Found faults) gets printed = printed
+  unread_printed status.OutOfMemory gets printed = printed
+  unread_printed (status.VolumeSmall pages) gets printed = printed
+  unread_printed (status.Unfit why) gets printed = printed
+
+  -- for want of a domain
+
+  module _ (sections : List Section) (has : HasSections left read sections) where
+    pub unbegun_read : (form : Form) (old new : Disk) (s : Status) → NotBegun form old new s → HasRead left read s history
+    unbegun_read (a_form.Try pages) old new status.Ok not_begun = absurd not_begun
+    unbegun_read (a_form.Try pages) old new (status.Usage word) not_begun = absurd not_begun
+    unbegun_read (a_form.Try pages) old new status.SourceFault not_begun = absurd not_begun
+    unbegun_read (a_form.Try pages) old new status.TooLong not_begun = absurd not_begun
+    unbegun_read (a_form.Try pages) old new (status.BadScript line kind) not_begun = absurd not_begun
+    unbegun_read (a_form.Try pages) old new (status.NotADomain vol at) not_begun = absurd not_begun
+    unbegun_read (a_form.Try pages) old new (status.VolumeFault vol) not_begun = inl (none, (has.script, has.is_script))
+    unbegun_read (a_form.Try pages) old new status.SinkFault not_begun = absurd not_begun
+    unbegun_read (a_form.Try pages) old new (status.Found faults) not_begun = absurd not_begun
+    unbegun_read (a_form.Try pages) old new status.OutOfMemory not_begun = inl (none, IsNoLonger-from_short read has.is_script.short)
+    unbegun_read (a_form.Try pages) old new (status.VolumeSmall n) not_begun = (none, (has.script, has.is_script))
+    unbegun_read (a_form.Try pages) old new (status.Unfit why) not_begun = absurd not_begun
+    unbegun_read a_form.Run old new status.Ok not_begun = absurd not_begun
+    unbegun_read a_form.Run old new (status.Usage word) not_begun = absurd not_begun
+    unbegun_read a_form.Run old new status.SourceFault not_begun = absurd not_begun
+    unbegun_read a_form.Run old new status.TooLong not_begun = absurd not_begun
+    unbegun_read a_form.Run old new (status.BadScript line kind) not_begun = absurd not_begun
+    unbegun_read a_form.Run old new (status.NotADomain vol at) not_begun = (none, (has.script, has.is_script))
+    unbegun_read a_form.Run old new (status.VolumeFault vol) not_begun = inl (none, (has.script, has.is_script))
+    unbegun_read a_form.Run old new status.SinkFault not_begun = absurd not_begun
+    unbegun_read a_form.Run old new (status.Found faults) not_begun = absurd not_begun
+    unbegun_read a_form.Run old new status.OutOfMemory not_begun = inl (none, IsNoLonger-from_short read has.is_script.short)
+    unbegun_read a_form.Run old new (status.VolumeSmall n) not_begun = absurd not_begun
+    unbegun_read a_form.Run old new (status.Unfit why) not_begun = (none, (has.script, has.is_script))
+    unbegun_read (a_form.Make version) old new s not_begun = absurd not_begun
+    unbegun_read a_form.Verify old new s not_begun = absurd not_begun
+
+pub unbegun_begun : (form : Form) (old new : Disk) (s : Status) → NotBegun form old new s → ¬ HasBegun s
+unbegun_begun (a_form.Try pages) old new status.Ok not_begun begun = not_begun
+unbegun_begun (a_form.Try pages) old new (status.Usage word) not_begun begun = begun
+unbegun_begun (a_form.Try pages) old new status.SourceFault not_begun begun = begun
+unbegun_begun (a_form.Try pages) old new status.TooLong not_begun begun = begun
+unbegun_begun (a_form.Try pages) old new (status.BadScript line kind) not_begun begun = begun
+unbegun_begun (a_form.Try pages) old new (status.NotADomain vol at) not_begun begun = begun
+unbegun_begun (a_form.Try pages) old new (status.VolumeFault vol) not_begun begun = begun
+unbegun_begun (a_form.Try pages) old new status.SinkFault not_begun begun = not_begun
+unbegun_begun (a_form.Try pages) old new (status.Found faults) not_begun begun = begun
+unbegun_begun (a_form.Try pages) old new status.OutOfMemory not_begun begun = begun
+unbegun_begun (a_form.Try pages) old new (status.VolumeSmall n) not_begun begun = begun
+unbegun_begun (a_form.Try pages) old new (status.Unfit why) not_begun begun = begun
+unbegun_begun a_form.Run old new status.Ok not_begun begun = not_begun
+unbegun_begun a_form.Run old new (status.Usage word) not_begun begun = begun
+unbegun_begun a_form.Run old new status.SourceFault not_begun begun = begun
+unbegun_begun a_form.Run old new status.TooLong not_begun begun = begun
+unbegun_begun a_form.Run old new (status.BadScript line kind) not_begun begun = begun
+unbegun_begun a_form.Run old new (status.NotADomain vol at) not_begun begun = begun
+unbegun_begun a_form.Run old new (status.VolumeFault vol) not_begun begun = begun
+unbegun_begun a_form.Run old new status.SinkFault not_begun begun = not_begun
+unbegun_begun a_form.Run old new (status.Found faults) not_begun begun = begun
+unbegun_begun a_form.Run old new status.OutOfMemory not_begun begun = begun
+unbegun_begun a_form.Run old new (status.VolumeSmall n) not_begun begun = begun
+unbegun_begun a_form.Run old new (status.Unfit why) not_begun begun = begun
+unbegun_begun (a_form.Make version) old new s not_begun begun = not_begun
+unbegun_begun a_form.Verify old new s not_begun begun = not_begun
+
+pub unbegun_ends : (form : Form) (old new : Disk) (s : Status) → NotBegun form old new s → EndsFor (Ok form) old new s
+unbegun_ends (a_form.Try pages) old new status.Ok not_begun = absurd not_begun
+unbegun_ends (a_form.Try pages) old new (status.Usage word) not_begun = tt
+unbegun_ends (a_form.Try pages) old new status.SourceFault not_begun = tt
+unbegun_ends (a_form.Try pages) old new status.TooLong not_begun = tt
+unbegun_ends (a_form.Try pages) old new (status.BadScript line kind) not_begun = tt
+unbegun_ends (a_form.Try pages) old new (status.NotADomain vol at) not_begun = not_begun
+unbegun_ends (a_form.Try pages) old new (status.VolumeFault vol) not_begun = not_begun
+unbegun_ends (a_form.Try pages) old new status.SinkFault not_begun = tt
+unbegun_ends (a_form.Try pages) old new (status.Found faults) not_begun = not_begun
+unbegun_ends (a_form.Try pages) old new status.OutOfMemory not_begun = tt
+unbegun_ends (a_form.Try pages) old new (status.VolumeSmall n) not_begun = not_begun
+unbegun_ends (a_form.Try pages) old new (status.Unfit why) not_begun = not_begun
+unbegun_ends a_form.Run old new status.Ok not_begun = tt
+unbegun_ends a_form.Run old new (status.Usage word) not_begun = tt
+unbegun_ends a_form.Run old new status.SourceFault not_begun = tt
+unbegun_ends a_form.Run old new status.TooLong not_begun = tt
+unbegun_ends a_form.Run old new (status.BadScript line kind) not_begun = tt
+unbegun_ends a_form.Run old new (status.NotADomain vol at) not_begun = not_begun
+unbegun_ends a_form.Run old new (status.VolumeFault vol) not_begun = not_begun
+unbegun_ends a_form.Run old new status.SinkFault not_begun = tt
+unbegun_ends a_form.Run old new (status.Found faults) not_begun = not_begun
+unbegun_ends a_form.Run old new status.OutOfMemory not_begun = tt
+unbegun_ends a_form.Run old new (status.VolumeSmall n) not_begun = not_begun
+unbegun_ends a_form.Run old new (status.Unfit why) not_begun = not_begun
+unbegun_ends (a_form.Make version) old new s not_begun = tt
+unbegun_ends a_form.Verify old new s not_begun = tt
+
+pub unbegun_run : (form : Form) (old new : Disk) (s : Status) (history : List Entry) → IsRun (Ok form) → history ≡ [] → ¬ HasBegun s → RunsFor (Ok form) old new s history
+unbegun_run (a_form.Try pages) old new s history run none begun = inl (none, begun)
+unbegun_run a_form.Run old new s history run none begun = inl (none, begun)
+unbegun_run (a_form.Make version) old new s history run none begun = none
+unbegun_run a_form.Verify old new s history run none begun = none
+
+-- ---- a run that has begun
+
+pub follows : (left : Option (List ℕ)) (read : List ℕ) (sections : List Section) (history : List Entry) → HasSections left read sections → map turn_of history ≡ flat_map turns_of sections
+    → Follows left read history
+follows left read sections history has turns =
+    Follows-from_answers left read has.script history has.is_script (record { sections = sections; same = has.same; turns_are = turns })
+
+-- the status with which a domain was closed
+pub closed_read : (left : Option (List ℕ)) (read : List ℕ) (history : List Entry) (old new : Disk) (end : Status) → Follows left read history → ClosesAs old new end → HasRead left read end history
+closed_read left read history old new status.Ok is closed = is
+closed_read left read history old new (status.Usage word) is closed = absurd closed
+closed_read left read history old new status.SourceFault is closed = absurd closed
+closed_read left read history old new status.TooLong is closed = absurd closed
+closed_read left read history old new (status.BadScript line kind) is closed = absurd closed
+closed_read left read history old new (status.NotADomain vol at) is closed = absurd closed
+closed_read left read history old new (status.VolumeFault vol) is closed = inr is
+closed_read left read history old new status.SinkFault is closed = absurd closed
+closed_read left read history old new (status.Found faults) is closed = absurd closed
+closed_read left read history old new status.OutOfMemory is closed = inr is
+closed_read left read history old new (status.VolumeSmall n) is closed = absurd closed
+closed_read left read history old new (status.Unfit why) is closed = absurd closed
+
+closed_ends : (form : Form) (old new : Disk) (end : Status) → IsRun (Ok form) → IsLargeFor form old → ClosesAs old new end → EndsFor (Ok form) old new end
+closed_ends (a_form.Try pages) old new status.Ok run large closed = large
+closed_ends (a_form.Try pages) old new (status.Usage word) run large closed = tt
+closed_ends (a_form.Try pages) old new status.SourceFault run large closed = tt
+closed_ends (a_form.Try pages) old new status.TooLong run large closed = tt
+closed_ends (a_form.Try pages) old new (status.BadScript line kind) run large closed = tt
+closed_ends (a_form.Try pages) old new (status.NotADomain vol at) run large closed = closed
+closed_ends (a_form.Try pages) old new (status.VolumeFault vol) run large closed = closed
+closed_ends (a_form.Try pages) old new status.SinkFault run large closed = tt
+closed_ends (a_form.Try pages) old new (status.Found faults) run large closed = closed
+closed_ends (a_form.Try pages) old new status.OutOfMemory run large closed = tt
+closed_ends (a_form.Try pages) old new (status.VolumeSmall n) run large closed = absurd closed
+closed_ends (a_form.Try pages) old new (status.Unfit why) run large closed = closed
+closed_ends a_form.Run old new status.Ok run large closed = tt
+closed_ends a_form.Run old new (status.Usage word) run large closed = tt
+closed_ends a_form.Run old new status.SourceFault run large closed = tt
+closed_ends a_form.Run old new status.TooLong run large closed = tt
+closed_ends a_form.Run old new (status.BadScript line kind) run large closed = tt
+closed_ends a_form.Run old new (status.NotADomain vol at) run large closed = absurd closed
+closed_ends a_form.Run old new (status.VolumeFault vol) run large closed = closed
+closed_ends a_form.Run old new status.SinkFault run large closed = tt
+closed_ends a_form.Run old new (status.Found faults) run large closed = closed
+closed_ends a_form.Run old new status.OutOfMemory run large closed = tt
+closed_ends a_form.Run old new (status.VolumeSmall n) run large closed = closed
+closed_ends a_form.Run old new (status.Unfit why) run large closed = absurd closed
+closed_ends (a_form.Make version) old new end run large closed = tt
+closed_ends a_form.Verify old new end run large closed = tt
+
+-- the status once its history was printed, or was not
+module _ (end s : Status) (prints : PrintsAs end s) where
+  pub by_end : (P : Status → Type 0) → P end → P status.SinkFault → P status.OutOfMemory → P s
+  by_end P of_end of_sink of_memory =
+      ⊎_elim (λ same. subst P (sym same) of_end) (λ other. ⊎_elim (λ sink. subst P (sym sink) of_sink) (λ memory. subst P (sym memory) of_memory) other) prints
+
+  pub ended_well : s ≡ status.Ok → end ≡ status.Ok
+  ended_well ok = ⊎_elim (λ same. sym same ∙ ok) (λ other. ⊎_elim (λ sink. absurd (no_sink (sym sink ∙ ok))) (λ memory. absurd (no_memory (sym memory ∙ ok))) other) prints
+    where
+      no_sink : ¬ status.SinkFault ≡ status.Ok
+      no_sink same = cc
+
+      no_memory : ¬ status.OutOfMemory ≡ status.Ok
+      no_memory same = cc
+
+  pub ended_read : (left : Option (List ℕ)) (read : List ℕ) (history : List Entry) (old new : Disk) → Follows left read history → ClosesAs old new end → HasRead left read s history
+  ended_read left read history old new is closed =
+      by_end (λ x. HasRead left read x history) (closed_read left read history old new end is closed) is (inr is)
+
+  pub ended_ends : (form : Form) (old new : Disk) → IsRun (Ok form) → IsLargeFor form old → ClosesAs old new end → EndsFor (Ok form) old new s
+  ended_ends form old new run large closed =
+      by_end (EndsFor (Ok form) old new) (closed_ends form old new end run large closed) (sink form run) (memory form run)
+    where
+      sink : (f : Form) → IsRun (Ok f) → EndsFor (Ok f) old new status.SinkFault
+      sink (a_form.Try pages) is = tt
+      sink a_form.Run is = tt
+      sink (a_form.Make version) is = tt
+      sink a_form.Verify is = tt
+
+      memory : (f : Form) → IsRun (Ok f) → EndsFor (Ok f) old new status.OutOfMemory
+      memory (a_form.Try pages) is = tt
+      memory a_form.Run is = tt
+      memory (a_form.Make version) is = tt
+      memory a_form.Verify is = tt
+
+  pub ended_run : (form : Form) (old new : Disk) (history : List Entry) → LeadsFor form old new history (end ≡ status.Ok) → RunsFor (Ok form) old new s history
+  ended_run (a_form.Try pages) old new history leads =
+      inr (∥∥₁_map leads (λ is. record { all = is.all; leads = is.leads; kept = λ closed. is.kept (closed.0, ended_well closed.1) }))
+  ended_run a_form.Run old new history leads =
+      inr (record {
+        pages = leads.pages;
+        frame = leads.frame;
+        opened = leads.opened;
+        meant = leads.meant;
+        leads = ∥∥₁_map leads.leads (λ is. record { all = is.all; leads = is.leads; kept = λ closed. is.kept (closed.0, ended_well closed.1) });
+      })
+  ended_run (a_form.Make version) old new history leads = absurd leads
+  ended_run a_form.Verify old new history leads = absurd leads
 
 -- ---- stops, by the form of the words
 
 pub StopsFor-err : (form : Result Form ℕ) (word : ℕ) (old new : Disk) → Err word ≡ form → StopsFor form old new
 StopsFor-err form word old new is = subst (λ (f : Result Form ℕ). StopsFor f old new) is tt
 
-pub StopsFor-try : (form : Result Form ℕ) (pages : ℕ) (old new : Disk) → Ok (a_form.Try pages) ≡ form → StopsFor form old new
-StopsFor-try form pages old new is = subst (λ (f : Result Form ℕ). StopsFor f old new) is tt
+pub StopsFor-run : (form : Result Form ℕ) (asked : Form) (old new : Disk) → IsRun (Ok asked) → Ok asked ≡ form → StopsFor form old new
+StopsFor-run form asked old new run is = subst (λ (f : Result Form ℕ). StopsFor f old new) is (at asked run)
+  where
+    at : (f : Form) → IsRun (Ok f) → StopsFor (Ok f) old new
+    at (a_form.Try pages) asks = tt
+    at a_form.Run asks = tt
+    at (a_form.Make version) asks = absurd asks
+    at a_form.Verify asks = absurd asks
 
 pub StopsFor-verify : (form : Result Form ℕ) (old new : Disk) → Ok a_form.Verify ≡ form → StopsFor form old new
 StopsFor-verify form old new is = subst (λ (f : Result Form ℕ). StopsFor f old new) is tt

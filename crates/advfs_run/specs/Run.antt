@@ -1,74 +1,97 @@
--- What a run has read, by how it ended.
-use Rattle.std.specs.Prelude.{◌≡◌, ◌⊎◌, ℕ, Option, Result, Ok, List, []}
-use Rattle.std.specs.Io.KnownBytes.{IsAtEnd}
-use Rattle.fileset_model.specs.Shuffle.{Shuffle}
-use Rattle.fileset_model.specs.declared.entry.Entry.{Entry}
-use Rattle.script_text.specs.Script.{Reports, script_of}
-use Rattle.script_text.specs.declared.script.Script.{Script}
-use Rattle.script_text.specs.declared.script.ScriptFault.TheVariants.{Bad}
-use Rattle.history_text.specs.History.{history_text}
-use Rattle.volume_disk.specs.Disk.{Disk, Tells}
+-- How a run ends, by what its words ask for.
+use Rattle.std.specs.Prelude.{◌≡◌, ◌⊎◌, ◌≤◌, ℕ, Option, Result, Ok, Err, List, []}
+use Rattle.domain_base.specs.Limits.{min_first_volume_pages}
+use Rattle.domain_base.specs.declared.version.Version.TheVariants.{Four}
+use Rattle.volume_disk.specs.Disk.{Disk, Tells, volume_pages}
 use Rattle.volume_disk.specs.Run.{LeavesOnly, OnlyReads, Touches}
+use Rattle.fileset_model.specs.declared.entry.Entry.{Entry}
+use Rattle.history_text.specs.History.{history_text}
 use Rattle.domain_making.specs.Making.{AreSlotsReady, IsNoneOrEmpty, IsOnFirst, pages_in_use}
-use Rattle.advfs_run.specs.Made.{MakeEnds}
-use Rattle.advfs_run.specs.Plain.{AnswersScript, IsLegal, section_of}
-use Rattle.advfs_run.specs.Transfer.{AppendsFront, IsNoLonger, IsShort, IsTooLong}
-use Rattle.advfs_run.specs.Verified.{VerifyEnds}
-use Rattle.advfs_run.specs.declared.words.Form.{Form}
-use Rattle.advfs_run.specs.declared.words.Form.TheVariants.{Make, Try, Verify}
-use Rattle.advfs_run.specs.declared.status.Status.{Status}
-use Rattle.advfs_run.specs.declared.status.Status.TheVariants as status
+use Rattle.script_text.specs.declared.script.Script.{Script}
+use Rattle.script_text.specs.declared.script.Section.{Section}
+use Rattle.domain_runs.specs.Runs.{BeginsNot, HasFailed, LeadsFromNew, MakesNone, RunsFrom}
+use Rattle.run_parts.specs.Answering.{SameByNumber}
+use Rattle.run_parts.specs.Made.{MakeEnds}
+use Rattle.run_parts.specs.Reading.{HasRead, IsScript}
+use Rattle.run_parts.specs.Transfer.{AppendsFront}
+use Rattle.run_parts.specs.Verified.{VerifyEnds}
+use Rattle.run_parts.specs.declared.words.Form.{Form}
+use Rattle.run_parts.specs.declared.words.Form.TheVariants.{Make, Run, Try, Verify}
+use Rattle.run_parts.specs.declared.status.Status.{Status}
+use Rattle.run_parts.specs.declared.status.Status.TheVariants as ended
 
--- the bytes read are all there were, and say this script
-pub record IsScript (left : Option (List ℕ)) (read : List ℕ) (script : Script) : Type 0 where
-  pub short : IsShort read
-  pub ended : IsAtEnd left
-  pub says : script_of read ≡ Ok script
+-- ** A script that is run
 
--- the history answers the script that was read
-pub record AnswersRead (left : Option (List ℕ)) (read : List ℕ) (stamp : ℕ) (history : List Entry)
-    : Type 0 where
-  pub script : Script
-  pub is_script : IsScript left read script
-  pub answers : AnswersScript script stamp history
+-- the words ask for a script's run
+abbrev pub IsRun : Result Form ℕ → Type 0
+IsRun (Ok (Try pages)) = Unit {0}
+IsRun (Ok Run) = Unit {0}
+IsRun other = ⊥
 
--- the history has each client's commands of the script that was read
-pub record Follows (left : Option (List ℕ)) (read : List ℕ) (history : List Entry) : Type 0 where
-  pub script : Script
-  pub is_script : IsScript left read script
-  pub shuffle : Shuffle history (section_of script)
-
--- how a run ends that gets no script: too long exactly where one byte more was read than a script
--- may have, and bad exactly where the script that was read to its end has such a bad line. No more
--- bytes are ever read than that one
-abbrev pub GetsNoScript : Option (List ℕ) → List ℕ → Status → Type 0
-GetsNoScript left read (status.Usage word) = read ≡ []
-GetsNoScript left read status.SourceFault = IsShort read
-GetsNoScript left read status.TooLong = IsTooLong read
-GetsNoScript left read (status.BadScript line kind) =
-    IsShort read × IsAtEnd left × Reports (Bad line kind) (script_of read)
-GetsNoScript left read status.OutOfMemory = IsNoLonger read
-GetsNoScript left read other = ⊥
-
--- what was read, by how a run ended and the history that it has
-abbrev pub HasRead : Option (List ℕ) → List ℕ → Status → List Entry → Type 0
-HasRead left read status.Ok history = Follows left read history
-HasRead left read status.SinkFault history = Follows left read history
-HasRead left read status.OutOfMemory history =
-    ((history ≡ []) × IsNoLonger read) ⊎ Follows left read history
-HasRead left read other history = (history ≡ []) × GetsNoScript left read other
-
--- what was read, by what the words ask for: of a script alone, where one is to be tried
+-- what was read: of a script alone, where one is run
 abbrev pub HasReadFor : Result Form ℕ → Option (List ℕ) → List ℕ → Status → List Entry → Type 0
 HasReadFor (Ok (Try pages)) left read status history = HasRead left read status history
+HasReadFor (Ok Run) left read status history = HasRead left read status history
 HasReadFor other left read status history = (read ≡ []) × (history ≡ [])
 
--- the history is legal over a new volume of so many pages, or there is none
-abbrev pub IsLegalFor : Result Form ℕ → List Entry → Type 0
-IsLegalFor (Ok (Try pages)) history = IsLegal pages history
-IsLegalFor other history = history ≡ []
+-- what was read says a script, which has these sections
+pub record HasSections (left : Option (List ℕ)) (read : List ℕ) (sections : List Section) : Type 0
+  where
+    pub script : Script
+    pub is_script : IsScript left read script
+    pub same : SameByNumber script.clients sections
 
--- how an image was verified, and a domain made
+-- the run has begun, as far as its status tells
+abbrev pub HasBegun : Status → Type 0
+HasBegun ended.Ok = Unit {0}
+HasBegun ended.SinkFault = Unit {0}
+HasBegun other = ⊥
+
+-- the entries lead from what the rack had to what it has; of `try`, from a new domain of version 4
+abbrev pub LeadsFor : Form → Disk → Disk → List Entry → Type 0 → Type 0
+LeadsFor (Try pages) old new entries closed =
+    ∥ LeadsFromNew Four old.sizes entries new (Tells old × closed) ∥₁
+LeadsFor Run old new entries closed = RunsFrom old new entries closed
+LeadsFor other old new entries closed = ⊥
+
+-- so does the history of a run; at Ok all of that is on the rack. Or no command was answered
+abbrev pub RunsFor : Result Form ℕ → Disk → Disk → Status → List Entry → Type 0
+RunsFor (Ok (Try pages)) old new status history = ((history ≡ []) × ¬ HasBegun status)
+    ⊎ LeadsFor (Try pages) old new history (status ≡ ended.Ok)
+RunsFor (Ok Run) old new status history = ((history ≡ []) × ¬ HasBegun status)
+    ⊎ LeadsFor Run old new history (status ≡ ended.Ok)
+RunsFor other old new status history = history ≡ []
+
+-- the first volume is large enough for a domain, where one is to be made
+abbrev pub IsLargeFor : Form → Disk → Type 0
+IsLargeFor (Try pages) old = min_first_volume_pages ≤ volume_pages old.sizes 1
+IsLargeFor other old = Unit {0}
+
+-- why a run has not begun
+abbrev pub NotBegun : Form → Disk → Disk → Status → Type 0
+NotBegun (Try pages) old new status = MakesNone old new status
+NotBegun Run old new status = BeginsNot old new status
+NotBegun other old new status = ⊥
+
+-- the causes of the statuses: of `run` those for which a domain is not attached, of `try` those for
+-- which none is made, and for both that a call failed of a volume
+abbrev pub EndsFor : Result Form ℕ → Disk → Disk → Status → Type 0
+EndsFor (Ok (Try pages)) old new ended.Ok = IsLargeFor (Try pages) old
+EndsFor (Ok (Try pages)) old new (ended.VolumeSmall n) =
+    NotBegun (Try pages) old new (ended.VolumeSmall n)
+EndsFor (Ok (Try pages)) old new (ended.NotADomain vol at) = ⊥
+EndsFor (Ok (Try pages)) old new (ended.Unfit why) = ⊥
+EndsFor (Ok (Try pages)) old new (ended.VolumeFault vol) = HasFailed old new vol
+EndsFor (Ok (Try pages)) old new (ended.Found faults) = ⊥
+EndsFor (Ok Run) old new (ended.NotADomain vol at) = NotBegun Run old new (ended.NotADomain vol at)
+EndsFor (Ok Run) old new (ended.Unfit why) = NotBegun Run old new (ended.Unfit why)
+EndsFor (Ok Run) old new (ended.VolumeFault vol) = HasFailed old new vol
+EndsFor (Ok Run) old new (ended.VolumeSmall n) = ⊥
+EndsFor (Ok Run) old new (ended.Found faults) = ⊥
+EndsFor other old new status = Unit {0}
+
+-- ** An image that is made, or verified
+
 abbrev pub VerifyEndsFor : Result Form ℕ → Disk → Disk → Status → Option (List ℕ)
     → Option (List ℕ) → Type 0
 VerifyEndsFor (Ok Verify) old new status before after =
@@ -86,13 +109,29 @@ StopsFor (Ok (Make version)) old new = Tells old → AreSlotsReady old
     → LeavesOnly old new (IsNoneOrEmpty old.sizes version (pages_in_use version old.sizes))
 StopsFor other old new = Unit {0}
 
--- the text is that of the history, from its front; of an image that is verified see above
+-- ** The text
+
+-- a status behind which a history is printed whole, and by the form
+abbrev pub IsPrinted : Status → Type 0
+IsPrinted ended.Ok = Unit {0}
+IsPrinted (ended.VolumeFault vol) = Unit {0}
+IsPrinted other = ⊥
+
+abbrev pub IsTold : Result Form ℕ → Status → Type 0
+IsTold (Ok (Try pages)) status = IsPrinted status
+IsTold (Ok Run) status = IsPrinted status
+IsTold other status = status ≡ ended.Ok
+
+-- the status of a run whose domain was closed so, once its history is printed or is not
+abbrev pub PrintsAs : Status → Status → Type 0
+PrintsAs end result = (result ≡ end) ⊎ (result ≡ ended.SinkFault) ⊎ (result ≡ ended.OutOfMemory)
+
+-- it is that of the history, from its front; of an image that is verified see above
 abbrev pub PrintsFor : Result Form ℕ → Option (List ℕ) → Option (List ℕ) → List Entry → Type 0
 PrintsFor (Ok Verify) before after history = Unit {0}
 PrintsFor other before after history = AppendsFront before after (history_text history)
 
--- a rack is left alone, but where it is verified, or a domain is made on it
+-- a rack is left alone where the words ask for nothing
 abbrev pub LeavesRackFor : {R : Type 0} → Result Form ℕ → R → R → Type 0
-LeavesRackFor (Ok Verify) old new = Unit {0}
-LeavesRackFor (Ok (Make version)) old new = Unit {0}
-LeavesRackFor other old new = new ≡ old
+LeavesRackFor (Err word) old new = new ≡ old
+LeavesRackFor (Ok form) old new = Unit {0}

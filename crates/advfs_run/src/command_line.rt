@@ -1,24 +1,23 @@
 //! The program around `run`: its words, the rack that they ask for, standard input and output, and
 //! the number with which it ends.
-ghost use Rattle.std.specs.Prelude.{◌≡◌, ◌⊎◌, ℕ, false, [], ◌∷◌, IfOk, map, length, string_bytes};
+ghost use Rattle.std.specs.Prelude.{◌≡◌, ◌⊎◌, ℕ, false, [], ◌∷◌, IfOk, List, Ok, map, length, string_bytes};
+ghost use Rattle.run_parts.specs.Usage.{FitsForm, form_of};
+ghost use Rattle.run_parts.specs.declared.words.Form.TheVariants.{Run, Try};
 ghost use Rattle.std.specs.Process.{exit_status};
 ghost use Rattle.memory_disk.specs.Memory.{memory_disk, started};
-ghost use Rattle.advfs_run.specs.Exit.{exit_number};
-ghost use Rattle.advfs_run.specs.declared.status.Status.{Status as StatusOf};
+ghost use Rattle.run_parts.specs.Exit.{exit_number};
+ghost use Rattle.run_parts.specs.declared.status.Status.{Status as StatusOf};
 ghost use Rattle.file_rack.specs.Files.{file_disk};
 
-use crate::gates::NoGate;
-use crate::help::{HELP, VERSION};
 use crate::running::run;
-use crate::sinks::WriterSink;
-use crate::sources::ReaderSource;
-use crate::status::Status;
-use crate::transfer::{write_all, zeros};
-use crate::words::{Form, form_asked};
 use domain_base::OutOfMemory;
 use domain_base::limits::PAGE_BYTES;
+use domain_runs::NoGate;
 use file_rack::FileRack;
 use memory_disk::MemoryRack;
+use run_parts::{
+    Form, HELP, ReaderSource, Source, Status, VERSION, WriterSink, form_asked, write_all, zeros,
+};
 use script_text::ScriptFault;
 use std::alloc::Global;
 use std::env::FillError;
@@ -69,8 +68,8 @@ pub fn new_rack(alloc: Global, pages: u32) -> Result<MemoryRack, OutOfMemory>
 enum Outcome {
     /// A run ended.
     Ended(Status),
-    /// The image could not be opened.
-    Closed(io::Error),
+    /// The file could not be opened that stands behind so many words.
+    Closed { word: usize, error: io::Error },
 }
 
 /// A rack whose volume is a file, of which the whole pages count.
@@ -82,7 +81,7 @@ fn rack_of(alloc: Global, file: File) -> io::Result<FileRack>
     Ok(FileRack::new(vec![in alloc; file]?, vec![in alloc; pages]?))
 }
 
-/// Opens an image, to be written where a domain is made there.
+/// Opens an image, to be written but where it is only verified.
 fn open_image(
     rt: &impl Files<File = File>,
     alloc: Global,
@@ -91,17 +90,81 @@ fn open_image(
 ) -> io::Result<FileRack>
     ensures { IfOk result (λ rack. length (file_disk rack).sizes ≡ 1) }
 {
-    let writes = matches!(form, Form::Make { .. });
+    let writes = !matches!(form, Form::Verify);
     let file = OpenOptions::new().read(true).write(writes).open(rt, name)?;
     rack_of(alloc, file)
 }
 
-/// The image that is the last of the words.
-fn image_named(words: &[String]) -> &str {
-    match words.last() {
+/// The word behind so many others, or an empty one.
+fn word_at(words: &[String], word: usize) -> &str {
+    match words.get(word) {
         Some(name) => name.as_str(),
         None => "",
     }
+}
+
+/// Runs over an image, which is the last word, with a script from this source.
+fn start_on_image<S: Source>(
+    rt: &(impl Print + Files<File = File>),
+    alloc: Global,
+    words: &[String],
+    form: Form,
+    source: &mut S,
+) -> Outcome
+    requires asked { Ok form ≡ form_of (map string_bytes words.now) }
+    requires image { (sizes : List ℕ) → length sizes ≡ 1 → FitsForm sizes form }
+{
+    let word = words.len().saturating_sub(1);
+    let rack = match open_image(rt, alloc, word_at(words, word), form) {
+        Ok(rack) => rack,
+        Err(error) => return Outcome::Closed { word, error },
+    };
+    let mut sink = WriterSink::new(io::writer(rt));
+    let ended = run(alloc, words, source, rack, &mut sink, &NoGate);
+    Outcome::Ended(ended.status)
+}
+
+/// The word that names the script of `run`.
+const SCRIPT_WORD: usize = 1;
+
+/// Runs a script over an image: one in a file, or of standard input where its name is a hyphen.
+fn start_script(
+    rt: &(impl Input + Print + Files<File = File>),
+    alloc: Global,
+    words: &[String],
+) -> Outcome
+    requires { Ok Run ≡ form_of (map string_bytes words.now) }
+{
+    let name = word_at(words, SCRIPT_WORD);
+    if name == "-" {
+        let mut source = ReaderSource::new(rt.reader());
+        return start_on_image(rt, alloc, words, Form::Run, &mut source);
+    }
+    let file = match OpenOptions::new().read(true).open(rt, name) {
+        Ok(file) => file,
+        Err(error) => return Outcome::Closed {
+            word: SCRIPT_WORD,
+            error,
+        },
+    };
+    let mut source = ReaderSource::new(file);
+    start_on_image(rt, alloc, words, Form::Run, &mut source)
+}
+
+/// Runs a script of standard input over a new domain in memory, on a volume of so many pages.
+fn start_new(
+    rt: &(impl Input + Print),
+    alloc: Global,
+    words: &[String],
+    pages: u32,
+) -> Result<Outcome, OutOfMemory>
+    requires { Ok (Try pages) ≡ form_of (map string_bytes words.now) }
+{
+    let rack = new_rack(alloc, pages)?;
+    let mut source = ReaderSource::new(rt.reader());
+    let mut sink = WriterSink::new(io::writer(rt));
+    let ended = run(alloc, words, &mut source, rack, &mut sink, &NoGate);
+    Ok(Outcome::Ended(ended.status))
 }
 
 /// Does what the words ask for, over standard input and output.
@@ -110,24 +173,15 @@ fn start(
     alloc: Global,
     words: &[String],
 ) -> Result<Outcome, OutOfMemory> {
-    let mut sink = WriterSink::new(io::writer(rt));
-    let mut source = ReaderSource::new(rt.reader());
-    let pages = match form_asked(words) {
-        Ok(Form::Try { pages }) => pages,
+    match form_asked(words) {
+        Err(word) => Ok(Outcome::Ended(Status::Usage { word })),
+        Ok(Form::Try { pages }) => start_new(rt, alloc, words, pages),
+        Ok(Form::Run) => Ok(start_script(rt, alloc, words)),
         Ok(form) => {
-            let name = image_named(words);
-            let rack = match open_image(rt, alloc, name, form) {
-                Ok(rack) => rack,
-                Err(error) => return Ok(Outcome::Closed(error)),
-            };
-            let ended = run(alloc, words, &mut source, rack, &mut sink, &NoGate);
-            return Ok(Outcome::Ended(ended.status));
+            let mut source = ReaderSource::new(rt.reader());
+            Ok(start_on_image(rt, alloc, words, form, &mut source))
         }
-        Err(word) => return Ok(Outcome::Ended(Status::Usage { word })),
-    };
-    let rack = new_rack(alloc, pages)?;
-    let ended = run(alloc, words, &mut source, rack, &mut sink, &NoGate);
-    Ok(Outcome::Ended(ended.status))
+    }
 }
 
 /// Prints what a lone word asks about the program itself.
@@ -146,7 +200,7 @@ pub fn exit_code(status: Status) -> ExitCode
     ExitCode::from(status.exit_number())
 }
 
-/// The number with which the program ends where an image could not be opened.
+/// The number with which the program ends where a file could not be opened.
 const CLOSED: u8 = 12;
 
 /// Tells on standard error how a run ended, where it did not end well, and of a bad script what its
@@ -162,16 +216,13 @@ fn tell(rt: &impl Eprint, status: Status) -> io::Result<()> {
     }
 }
 
-/// Tells on standard error which image could not be opened, and why.
-fn tell_closed(rt: &impl Eprint, words: &[String], error: &io::Error) -> io::Result<()> {
-    match words.last() {
-        Some(name) => eprintln!(rt; "advfs: {name} cannot be opened: {error}"),
-        None => Ok(()),
-    }
+/// Tells on standard error which file could not be opened, and why.
+fn tell_closed(rt: &impl Eprint, name: &str, error: &io::Error) -> io::Result<()> {
+    eprintln!(rt; "advfs: {name} cannot be opened: {error}")
 }
 
-/// The whole program, with the number with which it ends: that of a status, or 12 where the image
-/// could not be opened that the words name.
+/// The whole program, with the number with which it ends: that of a status, or 12 where a script or
+/// an image could not be opened that the words name.
 pub fn program(
     rt: &(impl Env + Input + Print + Eprint + Files<File = File>),
     alloc: Global,
@@ -190,8 +241,8 @@ pub fn program(
             let _ = tell(rt, status);
             exit_code(status)
         }
-        Ok(Outcome::Closed(error)) => {
-            let _ = tell_closed(rt, &words, &error);
+        Ok(Outcome::Closed { word, error }) => {
+            let _ = tell_closed(rt, word_at(&words, word), &error);
             ExitCode::from(CLOSED)
         }
         Err(OutOfMemory) => {

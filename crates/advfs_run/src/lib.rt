@@ -1,27 +1,15 @@
-//! The top call: a run reads a script, answers its commands over new filesets and prints the
-//! history. Here are its clauses, and the program around it but for `main`.
+//! The top call: a run reads a script, answers its commands over a domain and prints the history; a
+//! domain is made, or its faults are printed. Here are its clauses, and the program around it but
+//! for `main`.
 #![tactic(auto)]
 
 mod command_line;
-mod gates;
-mod help;
-mod making;
-mod print;
 mod running;
-mod sinks;
-mod sources;
-mod status;
-mod transfer;
-mod verifying;
-mod words;
 
 pub use command_line::{exit_code, new_rack, program};
-pub use gates::{Gate, NoGate};
-pub use help::{HELP, VERSION};
-pub use print::{PrintError, print_history};
+pub use domain_runs::{Gate, NoGate};
+pub use run_parts::{
+    Form, HELP, MemorySink, MemorySource, PrintError, ReadError, ReaderSource, Sink, Source,
+    Status, Unattached, VERSION, WriterSink, form_asked, print_history, read_all, write_all, zeros,
+};
 pub use running::{Ended, run};
-pub use sinks::{MemorySink, Sink, WriterSink};
-pub use sources::{MemorySource, ReaderSource, Source};
-pub use status::Status;
-pub use transfer::{ReadError, read_all, write_all, zeros};
-pub use words::{Form, form_asked};

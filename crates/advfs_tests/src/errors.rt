@@ -1,4 +1,4 @@
-use advfs_run::{PrintError, ReadError, Status};
+use advfs_run::{PrintError, ReadError, Status, Unattached};
 use script_text::{FaultKind, ScriptFault};
 use std::test::Fail;
 
@@ -25,7 +25,7 @@ static KINDS: [(FaultKind, &str); 8] = [
     ),
 ];
 
-static STATUSES: [(Status, &str); 10] = [
+static STATUSES: [(Status, &str); 12] = [
     (Status::Ok, "0 Ok"),
     (Status::Usage { word: 3 }, "2 Usage 3"),
     (Status::SourceFault, "3 SourceFault"),
@@ -37,11 +37,18 @@ static STATUSES: [(Status, &str); 10] = [
         },
         "5 BadScript 2 5",
     ),
+    (Status::NotADomain { vol: 1, at: 3 }, "6 NotADomain 1 3"),
     (Status::VolumeFault { vol: 1 }, "7 VolumeFault 1"),
     (Status::SinkFault, "8 SinkFault"),
     (Status::Found { faults: 12 }, "9 Found 12"),
     (Status::OutOfMemory, "10 OutOfMemory"),
     (Status::VolumeSmall { pages: 159 }, "11 VolumeSmall 159"),
+    (
+        Status::Unfit {
+            why: Unattached::Cloned,
+        },
+        "15 Unfit: it has a clone",
+    ),
 ];
 
 #[test]

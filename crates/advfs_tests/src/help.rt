@@ -59,9 +59,7 @@ fn is_narrow(text: &str) -> bool {
 
 #[test]
 fn the_help_begins_and_ends_so(rt: HostRuntime) {
-    let first = HELP.starts_with(
-        "usage: advfs try PAGES < SCRIPT\n       advfs mkfdmn [-3] IMAGE\n",
-    );
+    let first = HELP.starts_with("usage: advfs mkfdmn [-3] IMAGE\n       advfs run SCRIPT IMAGE\n");
     let last = HELP.ends_with(
         "\n\ndocs/SCRIPT.md has the full language, with each reply and each refusal.\n",
     );

@@ -24,14 +24,18 @@ fn zero_image(alloc: Global, pages: u32, fails: &[u64]) -> Result<Image, AllocEr
     Ok(Image { rack })
 }
 
-/// The outcome of a run of these words, and the image after it. No script is tried over it.
-fn run_on(alloc: Global, image: Image, words: &[&str]) -> Result<(Image, Vec<u8>), AllocError> {
-    let words = words_of(alloc, words)?;
+/// What is asked of a program, and the script that it is given.
+type Call = (&'static [&'static str], &'static str);
+
+/// The outcome of a call, and the image after it. No script is tried over it.
+fn run_on(alloc: Global, image: Image, call: Call) -> Result<(Image, Vec<u8>), AllocError> {
+    let words = words_of(alloc, call.0)?;
     if let Ok(Form::Try { .. }) = form_asked(&words) {
         return Ok((image, Vec::new(alloc)));
     }
     let Image { rack, .. } = image;
-    let mut source = MemorySource::new(Vec::new(alloc), Vec::new(alloc));
+    let script = Vec::from_slice(alloc, call.1.as_bytes())?;
+    let mut source = MemorySource::new(script, Vec::new(alloc));
     let mut sink = MemorySink::new(alloc, Vec::new(alloc));
     let ended = run(alloc, &words, &mut source, rack, &mut sink, &NoGate);
     let outcome = told(alloc, &ended, &sink)?;
@@ -60,22 +64,61 @@ fn harmed(image: Image, page: u32) -> Image {
     Image { rack }
 }
 
-/// What a domain that is made there prints, and what is printed of it once four bytes of a page are
-/// zeros.
-fn harmed_outcome(alloc: Global, page: u32) -> Result<Vec<u8>, AllocError> {
-    let (image, _) = run_on(alloc, zero_image(alloc, 160, &[])?, &["mkfdmn", "a"])?;
-    let (_, outcome) = run_on(alloc, harmed(image, page), &["verify", "a"])?;
-    Ok(outcome)
+/// A domain of version 4 is made, of version 3, verified, and a script is run over it.
+const MAKE: Call = (&["mkfdmn", "a"], "");
+
+const MAKE_THREE: Call = (&["mkfdmn", "-3", "a"], "");
+
+const VERIFY: Call = (&["verify", "a"], "");
+
+const RUN: Call = (&["run", "s", "a"], "client 1\nmkfset home\n");
+
+const RUN_BAD: Call = (&["run", "s", "a"], "client 1\nmkfset home\nfrob x\n");
+
+/// A domain that was made, with four zeros where a page begins.
+fn harmed_image(alloc: Global, page: u32) -> Result<Image, AllocError> {
+    let (image, _) = run_on(alloc, zero_image(alloc, 160, &[])?, MAKE)?;
+    Ok(harmed(image, page))
+}
+
+/// All that an image of 160 pages holds.
+fn bytes_of(alloc: Global, image: Image) -> Result<Vec<u8>, AllocError> {
+    let Image { mut rack, .. } = image;
+    let mut all = Vec::new(alloc);
+    let Some(vol) = VolIx::new(1) else {
+        return Ok(all);
+    };
+    let mut bytes = [0; 512];
+    for block in 0..2_560 {
+        if is_there(&rack, vol, block) && rack.read(vol, block, &mut bytes).is_ok() {
+            all.extend_from_slice(&bytes)?;
+        }
+    }
+    Ok(all)
+}
+
+/// How a call ends, and whether it leaves an image of 160 pages byte for byte as another one that
+/// is the same before it.
+fn outcome_on(
+    alloc: Global,
+    image: Image,
+    same: Image,
+    call: Call,
+) -> Result<(Vec<u8>, bool), AllocError> {
+    let before = bytes_of(alloc, same)?;
+    let (image, outcome) = run_on(alloc, image, call)?;
+    let after = bytes_of(alloc, image)?;
+    let is_left = before.len() == 1_310_720 && before.as_slice() == after.as_slice();
+    Ok((outcome, is_left))
 }
 
 #[test]
 fn a_domain_that_is_made_has_no_fault(rt: HostRuntime) -> Result<(), Fail> {
     let alloc = rt.alloc();
-    let cases: [&[&str]; 2] = [&["mkfdmn", "a"], &["mkfdmn", "-3", "a"]];
-    for words in cases.iter() {
-        let (image, made) = run_on(alloc, zero_image(alloc, 160, &[])?, words)?;
+    for call in [MAKE, MAKE_THREE] {
+        let (image, made) = run_on(alloc, zero_image(alloc, 160, &[])?, call)?;
         assert_eq!(rt; made.as_slice(), b"Ok 0\n".as_slice());
-        let (_, found) = run_on(alloc, image, &["verify", "a"])?;
+        let (_, found) = run_on(alloc, image, VERIFY)?;
         assert_eq!(rt; found.as_slice(), b"Ok 0\n".as_slice());
     }
     Ok(())
@@ -84,7 +127,7 @@ fn a_domain_that_is_made_has_no_fault(rt: HostRuntime) -> Result<(), Fail> {
 #[test]
 fn a_small_volume_is_refused(rt: HostRuntime) -> Result<(), Fail> {
     let image = zero_image(rt.alloc(), 159, &[])?;
-    let (_, outcome) = run_on(rt.alloc(), image, &["mkfdmn", "a"])?;
+    let (_, outcome) = run_on(rt.alloc(), image, MAKE)?;
     assert_eq!(rt; outcome.as_slice(), b"VolumeSmall 159 11\n".as_slice());
     Ok(())
 }
@@ -101,7 +144,7 @@ static HARMED: [(u32, &str); 4] = [
 #[test]
 fn a_page_that_is_harmed_is_named_by_its_code(rt: HostRuntime) -> Result<(), Fail> {
     for (page, want) in HARMED.iter() {
-        let outcome = harmed_outcome(rt.alloc(), *page)?;
+        let (_, outcome) = run_on(rt.alloc(), harmed_image(rt.alloc(), *page)?, VERIFY)?;
         let mut lines = outcome.split(|byte| *byte == b'\n');
         let status = lines.next().unwrap_or(b"");
         let first = lines.next().unwrap_or(b"");
@@ -112,12 +155,132 @@ fn a_page_that_is_harmed_is_named_by_its_code(rt: HostRuntime) -> Result<(), Fai
 }
 
 #[test]
+fn nothing_is_run_on_a_harmed_image_nor_written(rt: HostRuntime) -> Result<(), Fail> {
+    let alloc = rt.alloc();
+    for (page, _) in HARMED.iter() {
+        let same = harmed_image(alloc, *page)?;
+        let (outcome, is_left) = outcome_on(alloc, harmed_image(alloc, *page)?, same, RUN)?;
+        let want = format!(in alloc; "NotADomain 1 {page} 6\n")?;
+        assert_eq!(rt; outcome.as_slice(), want.as_bytes());
+        assert!(rt; is_left, "not a byte is changed");
+    }
+    Ok(())
+}
+
+#[test]
+fn a_bad_script_leaves_an_image_as_it_was(rt: HostRuntime) -> Result<(), Fail> {
+    let alloc = rt.alloc();
+    let (image, _) = run_on(alloc, zero_image(alloc, 160, &[])?, MAKE)?;
+    let (same, _) = run_on(alloc, zero_image(alloc, 160, &[])?, MAKE)?;
+    let (outcome, is_left) = outcome_on(alloc, image, same, RUN_BAD)?;
+    assert_eq!(rt; outcome.as_slice(), b"BadScript 3 3 5\n".as_slice());
+    assert!(rt; is_left, "not a byte is changed");
+    Ok(())
+}
+
+/// Calls on one image, each with its outcome: what one run writes the next one has.
+static DAYS: [(Call, &str); 5] = [
+    (MAKE, "Ok 0\n"),
+    (
+        (
+            &["run", "s", "a"],
+            "\
+client 1
+mkfset home
+mkdir home:/d 10 20
+create home:/d/a 10 20
+write home:/d/a 8190 41x4
+client 2
+create home:/b 11 20
+write home:/b 0 \"abc\"
+link home:/b /d/c
+",
+        ),
+        "\
+Ok 0
+c1 mkfset home -> ok
+c1 mkdir home:/d 10 20 -> ok
+c1 create home:/d/a 10 20 -> ok
+c1 write home:/d/a 8190 41x4 -> ok 4
+c2 create home:/b 11 20 -> ok
+c2 write home:/b 0 61.62.63 -> ok 3
+c2 link home:/b /d/c -> ok
+",
+    ),
+    (VERIFY, "Ok 0\n"),
+    (
+        (
+            &["run", "s", "a"],
+            "\
+client 1
+showfsets
+list home:/
+list home:/d
+stat home:/d/a
+read home:/d/a 8188 100
+read home:/d/c 1 100
+links home:/b
+showquota home group 20
+unlink home:/d/a
+",
+        ),
+        "\
+Ok 0
+c1 showfsets -> ok home
+c1 list home:/ -> ok b d/
+c1 list home:/d -> ok a c
+c1 stat home:/d/a -> ok file 10 20 8194 2 -
+c1 read home:/d/a 8188 100 -> ok 00x2.41x4
+c1 read home:/d/c 1 100 -> ok 62.63
+c1 links home:/b -> ok 2
+c1 showquota home group 20 -> ok files 3 0 blocks 48 0
+c1 unlink home:/d/a -> ok
+",
+    ),
+    (VERIFY, "Ok 0\n"),
+];
+
+/// The outcomes of calls on one image, one behind another.
+fn outcomes(
+    alloc: Global,
+    image: Image,
+    calls: &[(Call, &'static str)],
+) -> Result<Vec<u8>, AllocError> {
+    match calls {
+        [] => Ok(Vec::new(alloc)),
+        [first, rest @ ..] => {
+            let (image, outcome) = run_on(alloc, image, first.0)?;
+            let mut all = outcome;
+            let later = outcomes(alloc, image, rest)?;
+            all.extend_from_slice(later.as_slice())?;
+            Ok(all)
+        }
+    }
+}
+
+/// The outcomes that these calls have to have.
+fn outcomes_wanted(alloc: Global, calls: &[(Call, &'static str)]) -> Result<Vec<u8>, AllocError> {
+    let mut all = Vec::new(alloc);
+    for (_, want) in calls {
+        all.extend_from_slice(want.as_bytes())?;
+    }
+    Ok(all)
+}
+
+#[test]
+fn what_a_run_writes_the_next_run_has(rt: HostRuntime) -> Result<(), Fail> {
+    let alloc = rt.alloc();
+    let found = outcomes(alloc, zero_image(alloc, 512, &[])?, &DAYS)?;
+    assert_eq!(rt; found.as_slice(), outcomes_wanted(alloc, &DAYS)?.as_slice());
+    Ok(())
+}
+
+#[test]
 fn a_call_that_fails_is_named_by_its_volume(rt: HostRuntime) -> Result<(), Fail> {
-    let image = zero_image(rt.alloc(), 160, &[1])?;
-    let (_, outcome) = run_on(rt.alloc(), image, &["verify", "a"])?;
-    assert_eq!(rt; outcome.as_slice(), b"VolumeFault 1 7\n".as_slice());
-    let image = zero_image(rt.alloc(), 160, &[1])?;
-    let (_, outcome) = run_on(rt.alloc(), image, &["mkfdmn", "a"])?;
-    assert_eq!(rt; outcome.as_slice(), b"VolumeFault 1 7\n".as_slice());
+    for call in [VERIFY, MAKE, RUN] {
+        let image = zero_image(rt.alloc(), 160, &[1])?;
+        let (_, outcome) = run_on(rt.alloc(), image, call)?;
+        assert_eq!(rt; outcome.as_slice(), b"VolumeFault 1 7\n".as_slice());
+    }
     Ok(())
 }

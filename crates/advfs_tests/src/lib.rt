@@ -12,4 +12,6 @@ mod images;
 #[cfg(test)]
 mod outcome;
 #[cfg(test)]
+mod rows;
+#[cfg(test)]
 mod runs;

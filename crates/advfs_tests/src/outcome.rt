@@ -1,7 +1,7 @@
 //! One run over sources and sinks in memory, and how it comes out.
 
 ghost use Rattle.std.specs.Prelude.{◌∷◌, [], IfOk};
-ghost use Rattle.advfs_run.specs.Usage.{FitsForm};
+ghost use Rattle.run_parts.specs.Usage.{FitsForm};
 
 use advfs_run::{Ended, Form, Gate, MemorySink, MemorySource, NoGate, form_asked, new_rack, run};
 use memory_disk::MemoryRack;

@@ -26,11 +26,20 @@ static SCRIPTS: [(&str, &str); 5] = [
     ),
 ];
 
-static WORDS: [(&[&str], &str); 21] = [
+static WORDS: [(&[&str], &str); 29] = [
     (&[], "Usage 0 2\n"),
-    (&["run"], "Usage 0 2\n"),
+    (&["frob"], "Usage 0 2\n"),
+    (&["run"], "Usage 1 2\n"),
+    (&["run", ""], "Usage 1 2\n"),
+    (&["run", "s"], "Usage 2 2\n"),
+    (&["run", "s", ""], "Usage 2 2\n"),
+    (&["run", "s", "a", "b"], "Usage 3 2\n"),
+    // A volume of zeros: no anchor counts.
+    (&["run", "s", "a"], "NotADomain 1 1 6\n"),
     (&["try"], "Usage 1 2\n"),
-    (&["try", "159"], "Usage 1 2\n"),
+    (&["try", "63"], "Usage 1 2\n"),
+    (&["try", "64"], "VolumeSmall 64 11\n"),
+    (&["try", "159"], "VolumeSmall 159 11\n"),
     (&["try", "65537"], "Usage 1 2\n"),
     (&["try", "+512"], "Usage 1 2\n"),
     (&["try", "0512"], "Usage 1 2\n"),
@@ -47,7 +56,6 @@ static WORDS: [(&[&str], &str); 21] = [
     (&["verify"], "Usage 1 2\n"),
     (&["verify", ""], "Usage 1 2\n"),
     (&["verify", "a", "b"], "Usage 2 2\n"),
-    // A volume of zeros: no anchor counts.
     (&["verify", "a"], "Found 1 9\nfault 1 1 2\n"),
 ];
 

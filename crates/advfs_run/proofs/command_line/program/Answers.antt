@@ -1,5 +1,5 @@
 use Rattle.std.proofs.Common.{inl}
-use Rattle.advfs_run.specs.declared.status.Status.TheVariants.{OutOfMemory}
+use Rattle.run_parts.specs.declared.status.Status.TheVariants.{OutOfMemory}
 use Rattle.advfs_run.proofs.command_line.program.Goals as goal
 
 pub returns-in_default : goal.returns-in_default

@@ -1,0 +1,17 @@
+use Rattle.advfs_run.proofs.Endings.{ended_read, ended_run, follows, unbegun_read}
+use Rattle.advfs_run.proofs.running.run_script.Goals as goal
+
+pub returns-in-Ok-answer-clause-read : goal.returns-in-Ok-answer-clause-read
+returns-in-Ok-answer-clause-read g c =
+    let r = c.in-Ok.ensures.taken in
+    let is = follows _ _ _ _ r.2 c.in-Ok-answer.ensures.turns in
+    (r.0, r.1, rw (c.print_ran.ensures.history) (ended_read _ _ c.print_ran.ensures.status _ _ _ (g.R.Rack.disk c.args.rack) (g.R.Rack.disk c.in-Ok-answer.ran.rack) is c.in-Ok-answer.ensures.ends))
+
+pub returns-in-Ok-answer-clause-runs : goal.returns-in-Ok-answer-clause-runs
+returns-in-Ok-answer-clause-runs g c =
+    rw (c.print_ran.ensures.rack, c.print_ran.ensures.history) (ended_run _ _ c.print_ran.ensures.status c.args.form _ _ _ c.in-Ok-answer.ensures.leads)
+
+pub returns-in-Err-answer-clause-read : goal.returns-in-Err-answer-clause-read
+returns-in-Err-answer-clause-read g c =
+    let r = c.in-Ok.ensures.taken in
+    (r.0, r.1, rw (c.unanswered-in-Err-answer.ensures.status) (unbegun_read _ _ _ c.unanswered-in-Err-answer.ensures.history _ r.2 c.args.form _ _ _ c.in-Err-answer.ensures.none))

@@ -1,8 +1,0 @@
-use Rattle.advfs_run.proofs.Faults.{faults_listed, verified}
-use Rattle.advfs_run.proofs.verifying.verify.Goals as goal
-
-pub returns-in-Ok-clause-ends : goal.returns-in-Ok-clause-ends
-returns-in-Ok-clause-ends g c =
-    let old = g.R.Rack.disk c.args.rack.now in
-    let new = g.R.Rack.disk c.read_image.new.rack in
-    verified old new _ c.print_faults.result _ _ (faults_listed old c.in-Ok.meaning c.in-Ok.ensures.meaning) c.print_faults.ensures.ends
