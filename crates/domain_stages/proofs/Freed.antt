@@ -1,8 +1,9 @@
 -- A domain's memory once all pages are free that wait.
-use Rattle.std.proofs.Common.{◌≡◌, ◌∙◌, ℕ, [], length, Option, Some, None, IfSome, IsSomeAnd, refl, sym, ap, subst}
+use Rattle.std.proofs.Common.{◌≡◌, ◌∙◌, ℕ, [], length, Option, Some, None, IfSome, IsSomeAnd, inl, inr, slice_get, refl, sym, ap, subst, ⊎_elim}
 use Rattle.std.proofs.Math.Logic.{∥∥₁_map}
 use Rattle.std.specs.FinMap.{get}
-use Rattle.std.specs.Option.{option_map}
+use Rattle.std.specs.Option.{option_and_then, option_map}
+use Rattle.domain_base.specs.declared.place.Tag.{Tag}
 use Rattle.fileset_model.specs.Filesets.{FilesetMap}
 use Rattle.fileset_table.specs.Table.{IsTable}
 use Rattle.free_cells.specs.Cells.{taken_back}
@@ -14,6 +15,8 @@ use Rattle.quota_book.specs.Sums.{IsBookOf}
 use Rattle.deferred_delete.specs.Listing.{IsEmpty}
 use Rattle.staged_pages.specs.Store.{before_of, pages_of}
 use Rattle.domain_layout.specs.Read.{contents_of}
+use Rattle.domain_layout.specs.TagRules.{quota_of}
+use Rattle.release_laws.specs.Chains.{IsRemoved}
 use Rattle.release_laws.specs.Domain.{DomainNow, item_in}
 use Rattle.release_laws.specs.Sources.{StandAlone}
 use Rattle.release_laws.specs.Standing.{HaveParents, IsMarkedBut, StandsDomain}
@@ -25,6 +28,7 @@ use Rattle.domain_memory.specs.Staged.{IsSettled, MayGoBack}
 use Rattle.domain_memory.specs.declared.memory.DomainMemory.{DomainMemory}
 use Rattle.release_laws.specs.Freed.{freed}
 use Rattle.release_laws.proofs.FreedPages.{below_freed, bits_freed, slots_freed}
+use Rattle.domain_stages.specs.Emptying.{IsUsedIn, NothingGoes}
 use Rattle.domain_stages.specs.LettingGo.{HavePlain, MayLetGo, NoneWaits}
 
 pub none_waits : (space : Spaces) → NoneWaits (change_volumes with_none_waiting space)
@@ -52,6 +56,22 @@ module _ (old new : DomainMemory) (same : new ≡ record old { space = new.space
     tag_pages = subst (λ (x : DomainMemory). x.list.list.tag_pages ≡ []) same may.tag_pages;
     plain = subst (λ (x : DomainMemory). HavePlain x x.list.list.entries) same may.plain;
   })
+
+  -- nor anything be emptied
+  pub nothing_more : NothingGoes old → NothingGoes new
+  nothing_more none = record {
+    list = none_more none.list;
+    slots = λ number may. none.slots number (record {
+      removed = subst (λ (x : DomainMemory). IsRemoved (slice_get x.table.slots number)) same may.removed;
+      some = ⊎_elim
+          (λ (used : (tag : Tag) × IsUsedIn new number tag). inl (used.0, subst (λ (x : DomainMemory). IsUsedIn x number used.0) same used.1))
+          (λ has. inr (record {
+            none = subst (λ (x : DomainMemory). option_and_then quota_of (slice_get x.table.slots number) ≡ None) same has.none;
+            none_listed = subst (λ (x : DomainMemory). x.list.list.tag_pages ≡ []) same has.none_listed;
+          }))
+          may.some;
+    });
+  }
 
 module _ (old new : DomainMemory) (same : new ≡ record old { space = new.space }) (space : new.space ≡ change_volumes with_none_waiting old.space) (settled : IsSettled old) where
   kept_now : kept_spaces new.space ≡ new.space

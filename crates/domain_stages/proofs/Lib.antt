@@ -26,3 +26,14 @@ pub mod BooksFollow
 pub mod ChargeAsks
 pub mod Charged
 pub use Rattle.release_laws.proofs.FilesetPut
+mod WithIndex
+mod TagAsks
+mod OutOfUse
+mod TagTaken
+mod TagsBack
+mod SlotFree
+mod SlotFreed
+mod LeftOver
+mod FreedMemory
+mod UsedTag
+mod ToEmpty

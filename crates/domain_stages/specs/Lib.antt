@@ -3,6 +3,7 @@ pub mod Beginning
 pub mod Limits
 pub mod Charging
 pub mod LettingGo
+pub mod Emptying
 pub use Rattle.release_laws.specs.Domain
 pub use Rattle.release_laws.specs.Slots
 pub use Rattle.release_laws.specs.Standing

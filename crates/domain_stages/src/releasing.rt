@@ -1,12 +1,15 @@
-//! Things on a domain's list that are let go of and kept so, and pages that come free.
+//! Things on a domain's list, and in its slots, that are given up and kept so, and pages that come
+//! free.
 ghost use Rattle.std.specs.Prelude.{◌≡◌, ◌≤◌, ◌↔◌, true, IfOk, OnOk, sum_by};
 ghost use Rattle.fileset_model.specs.Filesets.{FilesetMap};
 ghost use Rattle.free_space.specs.Spaces.{free_pages};
 ghost use Rattle.deferred_delete.specs.Listing.{IsEmpty};
 ghost use Rattle.domain_memory.specs.Memory.{StandsFor};
 ghost use Rattle.domain_memory.specs.Staged.{IsSettled, MayGoBack};
-ghost use Rattle.domain_stages.specs.LettingGo.{MayLetGo, NoneWaits, StandsForAny};
+ghost use Rattle.domain_stages.specs.Emptying.{NothingGoes};
+ghost use Rattle.domain_stages.specs.LettingGo.{NoneWaits, StandsForAny};
 
+use crate::emptying::empty_some;
 use crate::letting_go::let_go;
 use domain_base::OutOfMemory;
 use domain_memory::DomainMemory;
@@ -18,16 +21,17 @@ const GROUP: u64 = 0;
 /// How many pages of metadata change at most in what one release lets go of, bitmaps not counted.
 const MOST_PAGES: u32 = 32;
 
-/// Lets go of some of the things on a domain's list, sixteen at most, and keeps that: the domain
-/// stands for the same filesets. It answers how many, 0 exactly where nothing may be let go of, and
-/// then nothing changes; no clause says what is on the list once something was let go of. There may
-/// only be no memory, and then too the domain stands for them.
+/// Lets go of some of the things on a domain's list, sixteen at most, and keeps that; or, where
+/// nothing on it may be let go of, makes one change of what is being removed from a slot. The
+/// domain stands for the same filesets. It answers how many, 0 exactly where nothing is left to be
+/// given up now, and then nothing changes; no clause says what is left once something was given up.
+/// There may only be no memory, and then too the domain stands for them.
 pub fn release(memory: &mut DomainMemory, alloc: Global) -> Result<u32, OutOfMemory>
     requires settled { IsSettled memory.old }
     requires stands { ∥ StandsForAny memory.old ∥₁ }
     requires back { ∥ MayGoBack memory.old ∥₁ }
     ensures stands { (all : FilesetMap) → StandsFor memory.old all → StandsFor memory.new all }
-    ensures some { IfOk result (λ count. (count ≡ 0) ↔ ¬ MayLetGo memory.old) }
+    ensures some { IfOk result (λ count. (count ≡ 0) ↔ NothingGoes memory.old) }
     ensures none { IfOk result (λ count. count ≡ 0 → memory.new ≡ memory.old) }
     ensures most { IfOk result (λ count. count ≤ 16) }
     ensures settled { IsSettled memory.new }
@@ -36,7 +40,8 @@ pub fn release(memory: &mut DomainMemory, alloc: Global) -> Result<u32, OutOfMem
 {
     let count = let_go(memory, alloc, GROUP, MOST_PAGES)?;
     if count == 0 {
-        return Ok(0);
+        let is_emptied = empty_some(memory, alloc, GROUP)?;
+        return Ok(if is_emptied { 1 } else { 0 });
     }
     memory.keep();
     Ok(count)
@@ -80,9 +85,10 @@ fn tell_drained(memory: &mut DomainMemory) -> Drained
     }
 }
 
-/// Lets go of what is on a domain's list, one release after the other, until nothing on it may be
-/// let go of, and frees all pages that wait then. So where `is_done` is false, something is on the
-/// list that cannot be let go of yet. The domain stands for the same filesets, after an error too.
+/// Lets go of what is on a domain's list, and of what is being removed from slots, one release
+/// after the other, until nothing may be given up, and frees all pages that wait then. So where
+/// `is_done` is false, something is on the list that cannot be let go of yet. The domain stands for
+/// the same filesets, after an error too.
 ///
 /// `OutOfMemory` comes where memory was short for a release, and where 2^64 - 1 releases were not
 /// enough, which no domain has to let go of.
@@ -91,7 +97,7 @@ pub fn drain(memory: &mut DomainMemory, alloc: Global) -> Result<Drained, OutOfM
     requires stands { ∥ StandsForAny memory.old ∥₁ }
     requires back { ∥ MayGoBack memory.old ∥₁ }
     ensures stands { (all : FilesetMap) → StandsFor memory.old all → StandsFor memory.new all }
-    ensures ends { OnOk result (¬ MayLetGo memory.new) }
+    ensures ends { OnOk result (NothingGoes memory.new) }
     ensures none { IfOk result (λ drained. NoneWaits memory.new.space) }
     ensures free { IfOk result (λ drained. drained.free
         ≡ sum_by free_pages memory.new.space.volumes) }

@@ -1,8 +1,7 @@
 use Rattle.std.proofs.Common.{◌≡◌, ◌∙◌, arith, sym, subst}
 use Rattle.std.proofs.Math.Logic.{∥∥₁_map}
-use Rattle.domain_memory.specs.declared.memory.DomainMemory.{DomainMemory}
-use Rattle.domain_stages.specs.LettingGo.{MayLetGo}
-use Rattle.domain_stages.proofs.Freed.{back_freed, none_more}
+use Rattle.domain_stages.specs.Emptying.{NothingGoes}
+use Rattle.domain_stages.proofs.Freed.{back_freed, nothing_more}
 use Rattle.domain_stages.proofs.releasing.drain.Goals as goal
 
 pub release-requires-clause-stands : goal.release-requires-clause-stands
@@ -25,8 +24,8 @@ returns-then-count-eq0-clause-stands c = λ all stood. c.tell_drained.ensures.st
 pub returns-then-count-eq0-clause-ends : goal.returns-then-count-eq0-clause-ends
 returns-then-count-eq0-clause-ends c =
     let zero : c.in_ok-count.count ≡ 0 = omega (arith, c.if-count-eq0.true) in
-    none_more c.release.new.memory c.tell_drained.new.memory c.tell_drained.ensures.same
-    (subst (λ (m : DomainMemory). ¬ MayLetGo m) (sym (c.in_ok-count.ensures.none zero)) (c.in_ok-count.ensures.some.0 zero))
+    nothing_more c.release.new.memory c.tell_drained.new.memory c.tell_drained.ensures.same
+    (subst NothingGoes (sym (c.in_ok-count.ensures.none zero)) (c.in_ok-count.ensures.some.0 zero))
 
 pub returns-then-count-eq0-clause-back : goal.returns-then-count-eq0-clause-back
 returns-then-count-eq0-clause-back c = back_freed c.release.new.memory c.tell_drained.new.memory c.tell_drained.ensures.same c.release.ensures.back

@@ -2,18 +2,21 @@ use Rattle.std.proofs.Common.{arith, sym, subst}
 use Rattle.std.proofs.Math.Logic.{∥∥₁_map}
 use Rattle.domain_memory.proofs.KeptStands.{stands_so}
 use Rattle.domain_memory.specs.Memory.{StandsFor}
-use Rattle.domain_memory.specs.Staged.{IsSettled}
 use Rattle.domain_memory.specs.declared.memory.DomainMemory.{DomainMemory}
+use Rattle.domain_stages.specs.LettingGo.{StandsForAny}
 use Rattle.domain_stages.proofs.releasing.release.Goals as goal
 
 pub returns-in_err-count-clause-stands : goal.returns-in_err-count-clause-stands
 returns-in_err-count-clause-stands c = λ all stood. stands_so c.args.memory.now c.let_go.new.memory c.in_err-count.ensures.kept all stood
 
-pub returns-then-count-eq0-clause-stands : goal.returns-then-count-eq0-clause-stands
-returns-then-count-eq0-clause-stands c = λ all stood. subst (λ (m : DomainMemory). StandsFor m all) (sym (c.in_ok-count.ensures.none (omega (arith, c.if-count-eq0.true)))) stood
+pub empty_some-requires-clause-stands : goal.empty_some-requires-clause-stands
+empty_some-requires-clause-stands c = subst (λ (m : DomainMemory). ∥ StandsForAny m ∥₁) (sym (c.in_ok-count.ensures.none (omega (arith, c.if-count-eq0.true)))) c.requires.stands
 
-pub returns-then-count-eq0-clause-settled : goal.returns-then-count-eq0-clause-settled
-returns-then-count-eq0-clause-settled c = subst IsSettled (sym (c.in_ok-count.ensures.none (omega (arith, c.if-count-eq0.true)))) c.requires.settled
+pub returns-in_err-is_emptied-clause-stands : goal.returns-in_err-is_emptied-clause-stands
+returns-in_err-is_emptied-clause-stands c = λ all stood. c.empty_some.ensures.stands all (subst (λ (m : DomainMemory). StandsFor m all) (sym (c.in_ok-count.ensures.none (omega (arith, c.if-count-eq0.true)))) stood)
+
+pub returns-then-is_emptied-clause-stands : goal.returns-then-is_emptied-clause-stands
+returns-then-is_emptied-clause-stands c = λ all stood. c.empty_some.ensures.stands all (subst (λ (m : DomainMemory). StandsFor m all) (sym (c.in_ok-count.ensures.none (omega (arith, c.if-count-eq0.true)))) stood)
 
 pub keep-requires-clause-staged : goal.keep-requires-clause-staged
 keep-requires-clause-staged c = ∥∥₁_map c.requires.stands (λ s. (s.0, (c.in_ok-count.ensures.ok s.0 s.1).staged))

@@ -1,0 +1,59 @@
+-- What may be emptied of memory, or that nothing may be.
+use Rattle.std.proofs.Common.{◌≡◌, ◌∙◌, ◌<◌, ◌≤◌, ℕ, zero, suc, false, List, [], ◌∷◌, Option, Some, None, is_some, inr, length, slice_get, slice_set, refl, sym, ap, subst, arith, ⊎_elim, true≢false}
+use Rattle.std.proofs.Math.Logic.{∥∥₁_map}
+use Rattle.std.proofs.lemmas.Bool.{cases_lt}
+use Rattle.std.proofs.lemmas.Option.{slice_get_past}
+use Rattle.std.specs.Option.{option_and_then}
+use Rattle.domain_base.specs.declared.place.CellAt.{CellAt}
+use Rattle.domain_base.specs.declared.place.Home.{Home}
+use Rattle.fileset_table.specs.Table.{IsTable, Table}
+use Rattle.fileset_table.specs.declared.slot.SlotItem.{SlotItem}
+use Rattle.fileset_table.specs.declared.slot.SlotItem.TheVariants as slot
+use Rattle.domain_layout.specs.TagRules.{quota_of}
+use Rattle.set_laws.proofs.Stable.{one_number}
+use Rattle.release_laws.specs.Chains.{IsRemoved}
+use Rattle.domain_memory.specs.Memory.{with_was}
+use Rattle.domain_memory.specs.Staged.{MayGoBack}
+use Rattle.domain_memory.specs.declared.memory.DomainMemory.{DomainMemory}
+use Rattle.domain_memory.specs.declared.memory.ReplacedSlot.{ReplacedSlot}
+use Rattle.domain_stages.specs.Emptying.{HasNoQuota, MayEmpty, NoneToEmpty}
+
+-- ---- what has no quota cell
+
+no_cell : (o : Option CellAt) → is_some o ≡ false → o ≡ None
+no_cell None none = refl
+no_cell (Some at) none = absurd (true≢false none)
+
+module _ (memory : DomainMemory) (number : ℕ) (item : SlotItem) (first_tag : Option Home) (quota : Option CellAt) (there : slice_get memory.table.slots number ≡ Some item) (is : item ≡ slot.Removed first_tag quota) where
+  pub goes_away : IsRemoved (slice_get memory.table.slots number)
+  goes_away = subst IsRemoved (sym (there ∙ ap (λ (i : SlotItem). Some i) is)) tt
+
+  pub may_be_freed : is_some quota ≡ false → memory.list.list.tag_pages ≡ [] → MayEmpty memory number
+  may_be_freed none listed = record {
+    removed = goes_away;
+    some = inr (record {
+      none = ap (option_and_then quota_of) (there ∙ ap (λ (i : SlotItem). Some i) is) ∙ no_cell quota none;
+      none_listed = listed;
+    });
+  }
+
+-- ---- slots that there are
+
+length_put : (slots : List SlotItem) (number : ℕ) (item : SlotItem) → length (slice_set slots number item) ≡ length slots
+length_put [] number item = refl
+length_put (s ∷ slots) zero item = refl
+length_put (s ∷ slots) (suc number) item = ap suc (length_put slots number item)
+
+table_was : (was : Option ReplacedSlot) (table : Table) → IsTable (with_was was table) → length table.slots ≡ 32
+table_was None table is = is.whole
+table_was (Some was) table is = sym (length_put table.slots was.number was.item) ∙ is.whole
+
+table_whole : (memory : DomainMemory) → ∥ MayGoBack memory ∥₁ → length memory.table.slots ≡ 32
+table_whole memory may = one_number _ _ (∥∥₁_map may (λ m. table_was memory.was memory.table m.table))
+
+-- none may be where none of the 32 may be
+pub none_may : (memory : DomainMemory) → ∥ MayGoBack memory ∥₁ → (n : ℕ) → 32 ≤ n → ((number : ℕ) → number < n → ¬ MayEmpty memory number) → NoneToEmpty memory
+none_may memory may n far before number empties = ⊎_elim
+    (λ low. before number low empties)
+    (λ high. subst IsRemoved (slice_get_past memory.table.slots number (omega (arith, table_whole memory may, far, high))) empties.removed)
+    (cases_lt number n)

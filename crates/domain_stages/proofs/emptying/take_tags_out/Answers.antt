@@ -1,0 +1,21 @@
+use Rattle.std.proofs.Common.{◌∙◌, arith, ap, slice_get, subst, sym}
+use Rattle.std.proofs.Math.Logic.{∥∥₁_map}
+use Rattle.domain_memory.proofs.KeptStands.{kept_joined}
+use Rattle.domain_stages.proofs.SlotPut.{on_ok}
+use Rattle.domain_stages.proofs.emptying.take_tags_out.Goals as goal
+
+pub used_tag-requires-clause-ready : goal.used_tag-requires-clause-ready
+used_tag-requires-clause-ready c = ∥∥₁_map c.requires.ready (λ r. (r.0, c.loop-count.invariant.ok r.0 r.1))
+
+pub take_tag_out-requires-clause-ready : goal.take_tag_out-requires-clause-ready
+take_tag_out-requires-clause-ready c = ∥∥₁_map c.requires.ready (λ r. (r.0, c.loop-count.invariant.ok r.0 r.1))
+
+pub loop-count-preserved : goal.loop-count-preserved
+loop-count-preserved c = record {
+  ok = λ all may. c.in_ok-take_tag_out.ensures.ok all (c.loop-count.invariant.ok all may);
+  same = λ none. absurd (omega (arith, none));
+  kept = kept_joined c.args.memory.now c.loop-count.memory c.take_tag_out.new.memory c.loop-count.invariant.kept c.in_ok-take_tag_out.ensures.kept;
+  back = c.in_ok-take_tag_out.ensures.back;
+  table = c.in_ok-take_tag_out.ensures.table ∙ c.loop-count.invariant.table;
+  frame = c.in_ok-take_tag_out.ensures.frame ∙ c.loop-count.invariant.frame;
+}

@@ -1,0 +1,15 @@
+use Rattle.std.proofs.Common.{◌≡◌}
+use Rattle.fileset_model.specs.Filesets.{FilesetMap}
+use Rattle.domain_memory.specs.Kept.{KeepsKept}
+use Rattle.domain_memory.specs.Staged.{MayBeKept, MayGoBack}
+use Rattle.domain_stages.proofs.emptying.take_tags_out.Given as goal
+
+abbrev pub invariant-loop-count : goal.invariant-loop-count
+invariant-loop-count l = record {
+  ok : (all : FilesetMap) → MayBeKept l.initial.memory all → MayBeKept l.memory all;
+  same : l.count ≡ 0 → l.memory ≡ l.initial.memory;
+  kept : KeepsKept l.initial.memory l.memory;
+  back : ∥ MayGoBack l.memory ∥₁;
+  table : l.memory.table ≡ l.initial.memory.table;
+  frame : l.memory.frame ≡ l.initial.memory.frame;
+}

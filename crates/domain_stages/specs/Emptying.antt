@@ -1,0 +1,148 @@
+-- What is being removed from slots of a domain's memory: tags of it that are taken out of use, and
+-- slots that come free.
+use Rattle.std.specs.Prelude.{◌≡◌, ◌≤◌, ◌⊎◌, ℕ, true, false, List, [], Option, None, Some, Contains, IsSome, IsSomeAnd, slice_get}
+use Rattle.std.specs.Option.{option_and_then, option_map_or}
+use Rattle.domain_base.specs.declared.place.CellAt.{CellAt}
+use Rattle.domain_base.specs.declared.place.Home.{Home}
+use Rattle.domain_base.specs.declared.place.Tag.{Tag}
+use Rattle.page_store.specs.Pages.{Pages}
+use Rattle.bmt_mcells.specs.Chain.{PlacedCell}
+use Rattle.tag_dirs.specs.declared.dir.TagPlace.{TagPlace}
+use Rattle.tag_dirs.specs.Directory.{cell_of, has_home}
+use Rattle.free_cells.specs.Cells.{Cells}
+use Rattle.free_space.specs.Spaces.{Spaces, kept_spaces}
+use Rattle.bitfile_core.specs.Changes.{ChangesBeside, IsLive, KeepsSequences, Removes, is_page_of_first, without_chain}
+use Rattle.bitfile_core.specs.Files.{AreFiles, Chains, HasFiles}
+use Rattle.bitfile_core.specs.Shown.{index_of}
+use Rattle.bitfile_core.specs.Together.{AreTogether}
+use Rattle.stored_index.specs.Changes.{AreHeld, DropsIndex, with_waiting_at}
+use Rattle.stored_index.specs.Homes.{AreIndexHomes}
+use Rattle.staged_pages.specs.Store.{before_of, pages_of}
+use Rattle.fileset_table.specs.Page.{IsTablePage}
+use Rattle.fileset_table.specs.Table.{with_slot}
+use Rattle.fileset_table.specs.declared.slot.SlotItem.TheVariants as slot
+use Rattle.deferred_laws.specs.Links.{homes_of}
+use Rattle.domain_layout.specs.TagRules.{quota_of}
+use Rattle.release_laws.specs.Chains.{IsRemoved}
+use Rattle.release_laws.specs.Domain.{DomainNow, item_in}
+use Rattle.set_standing.specs.Sets.{without_index}
+use Rattle.domain_parts.specs.Slots.{places_in, slot_in}
+use Rattle.domain_parts.specs.declared.slots.SlotFiles.{SlotFiles}
+use Rattle.domain_memory.specs.Staged.{MayBeKept}
+use Rattle.domain_memory.specs.declared.memory.DomainMemory.{DomainMemory}
+use Rattle.domain_stages.specs.LettingGo.{MayLetGo}
+use Rattle.fileset_model.specs.Filesets.{FilesetMap}
+
+-- the pages of the index that the first cell of a chain names, if it names one: each is used and
+-- does not wait, and is neither that of the first cell nor one of the tag directory
+pub record HasIndexApart (places : List TagPlace) (space : Spaces) (pages : Pages)
+    (chain : Option (List PlacedCell)) : Type 0 where
+  pub homes : List Home
+  pub are : AreIndexHomes pages (option_and_then index_of chain) homes
+  pub held : AreHeld space homes
+  pub no_tags : (home : Home) → Contains homes home → has_home places home ≡ false
+  pub no_first : (home : Home) → Contains homes home
+      → option_map_or (is_page_of_first home) chain false ≡ false
+
+-- a tag is out of use, and the first cell of what it named says that all of it goes, and names no
+-- index; the pages of that are given up then, and wait for the group
+pub record TakesOut (group fileset : ℕ) (places : List TagPlace) (tag : Tag) (at : CellAt)
+    (space space_now : Spaces) (old new : Pages) : Type 0 where
+  pub said : Pages
+  pub removes : (chains : Chains) → AreFiles fileset places old chains
+      → Removes fileset places tag at (without_index tag chains) said
+  pub together : (space : Spaces) (cells : Cells) (chains : Chains)
+      → AreTogether fileset places space cells old chains
+      → AreTogether fileset places space cells said (without_chain tag chains)
+  pub beside : (chains : Chains) → AreFiles fileset places old chains
+      → ChangesBeside places (chains tag) old said
+  pub sequences : KeepsSequences places old said
+  pub drops : (chains : Chains) (homes : List Home) → AreFiles fileset places old chains
+      → AreIndexHomes old (option_and_then index_of (chains tag)) homes
+      → DropsIndex group space space_now said new homes
+
+-- what is asked of the files of a slot of which a tag is taken out of use: it names one that is not
+-- to be removed yet, and the pages of its index are known
+pub record MayTakeOut (tag : Tag) (space : Spaces) (pages : Pages) (slot : SlotFiles) : Type 0 where
+  pub files : HasFiles slot.files.fileset slot.files.tags pages
+  pub live : (chains : Chains) → AreFiles slot.files.fileset slot.files.tags pages chains
+      → IsLive tag chains
+  pub index : (chains : Chains) → AreFiles slot.files.fileset slot.files.tags pages chains
+      → HasIndexApart slot.files.tags space pages (chains tag)
+
+-- of these files it is
+abbrev pub TakesOfFiles : ℕ → Tag → CellAt → Spaces → Spaces → Pages → Pages → SlotFiles
+    → Type 0
+TakesOfFiles group tag at space space_now old new slot = TakesOut group slot.files.fileset
+    slot.files.tags tag at space space_now old new
+
+-- a tag of a slot leads to a cell
+abbrev pub IsUsedIn : DomainMemory → ℕ → Tag → Type 0
+IsUsedIn memory number tag = IsSome
+    (cell_of (pages_of memory.pages) (places_in (slot_in memory.slots.items number)) tag)
+
+-- a change may be kept, with some filesets
+abbrev pub MayBeKeptForAny : DomainMemory → Type 0
+MayBeKeptForAny memory = (all : FilesetMap) × MayBeKept memory all
+
+-- of memory pages and free space change alone, and what the change has listed; what was kept of them
+-- and of the list stays
+pub record TakesTag (old new : DomainMemory) : Type 0 where
+  pub slots : new.slots.items ≡ old.slots.items
+  pub before : before_of new.pages ≡ before_of old.pages
+  pub kept : kept_spaces new.space ≡ kept_spaces old.space
+  pub list : new.list.list ≡ old.list.list
+  pub same : new ≡ record old {
+    pages = new.pages;
+    space = new.space;
+    slots = new.slots;
+    list = new.list;
+    listed = new.listed;
+  }
+
+-- ** The end of a removal
+
+-- what is being removed from a slot has no file any more, and no quota cell: what is left of it are
+-- the pages of its tag directory, which stand on volumes that there may be; and no page of a tag
+-- directory is on the list
+pub record IsLeftOver (number : ℕ) (d : DomainNow) : Type 0 where
+  pub first_tag : Option Home
+  pub was : item_in d number ≡ Some (slot.Removed first_tag None)
+  pub unused : (tag : Tag) → cell_of d.pages (d.tags number) tag ≡ None
+  pub low : (home : Home) → has_home (d.tags number) home ≡ true → 1 ≤ home.vol
+  pub none_listed : d.list.tag_pages ≡ []
+
+-- so memory says of a slot: it has no quota cell, and no page of a tag directory is on the list
+pub record HasNoQuota (memory : DomainMemory) (number : ℕ) : Type 0 where
+  pub none : option_and_then quota_of (slice_get memory.table.slots number) ≡ None
+  pub none_listed : memory.list.list.tag_pages ≡ []
+
+-- the slot is free then: the pages wait, the table's page says it, and no other page changes
+pub record FreesSlot (group number : ℕ) (d now : DomainNow) : Type 0 where
+  pub left : IsLeftOver number d
+  pub table : now.table ≡ with_slot number slot.Free d.table
+  pub tags : now.tags number ≡ []
+  pub other_tags : (n : ℕ) → ¬ n ≡ number → now.tags n ≡ d.tags n
+  pub waits : now.space ≡ with_waiting_at (homes_of (d.tags number)) group d.space
+  pub says : (home : Home) → d.frame.anchor.table ≡ Some home
+      → IsSomeAnd (now.pages home) (λ page. IsTablePage page now.table)
+  pub others : (home : Home) → ¬ d.frame.anchor.table ≡ Some home
+      → has_home (d.tags number) home ≡ false → now.pages home ≡ d.pages home
+  pub frame : now.frame ≡ d.frame
+  pub cells : now.cells ≡ d.cells
+  pub list : now.list ≡ d.list
+
+-- what is being removed from a slot may be emptied by a change: a tag of it is used; or it has no
+-- quota cell, and no page of a tag directory is on the list
+pub record MayEmpty (memory : DomainMemory) (number : ℕ) : Type 0 where
+  pub removed : IsRemoved (slice_get memory.table.slots number)
+  pub some : ((tag : Tag) × IsUsedIn memory number tag) ⊎ HasNoQuota memory number
+
+-- nothing that is being removed may be
+abbrev pub NoneToEmpty : DomainMemory → Type 0
+NoneToEmpty memory = (number : ℕ) → ¬ MayEmpty memory number
+
+-- nothing on a domain's list may be let go of, nor anything of what is being removed
+pub record NothingGoes (memory : DomainMemory) : Type 0 where
+  pub list : ¬ MayLetGo memory
+  pub slots : NoneToEmpty memory
