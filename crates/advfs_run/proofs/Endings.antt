@@ -1,18 +1,17 @@
 -- How a run ends, by its parts.
-use Rattle.std.proofs.Common.{inl, inr, ◌≡◌, ◌∙◌, ◌⊎◌, ℕ, List, [], ◌∷◌, ◌++◌, Option, Some, None, Result, Ok, Err, All, refl, sym, ap, subst, ⊎_elim, map}
+use Rattle.std.proofs.Common.{inl, inr, ◌≡◌, ◌∙◌, ◌⊎◌, ℕ, List, [], ◌++◌, Option, Some, None, Result, Ok, Err, All, sym, ap, subst, ⊎_elim, map}
 use Rattle.std.proofs.Math.Logic.{∥∥₁_map}
 use Rattle.std.proofs.lemmas.List.{append-nil}
 use Rattle.std.proofs.lemmas.List.Elements.{All-nil}
 use Rattle.std.specs.Io.KnownBytes.{Appends}
 use Rattle.std.specs.List.{flat_map}
 use Rattle.domain_base.specs.declared.version.Version.{Version}
-use Rattle.domain_base.specs.declared.version.Version.TheVariants.{Four}
-use Rattle.volume_disk.specs.Disk.{Disk, Tells}
+use Rattle.volume_disk.specs.Disk.{Disk}
 use Rattle.fileset_model.specs.declared.entry.Entry.{Entry}
 use Rattle.history_text.specs.History.{history_text}
 use Rattle.script_text.specs.Turns.{turn_of, turns_of}
 use Rattle.script_text.specs.declared.script.Section.{Section}
-use Rattle.domain_runs.specs.Runs.{AreStampedWithin, ClosesAs, LeadsFrom, LeadsFromNew, RunsFrom}
+use Rattle.domain_runs.specs.Runs.{AreStampedWithin, BeginsNot, ClosesAs}
 use Rattle.run_parts.specs.Reading.{Follows, GetsNoScript, HasRead}
 use Rattle.run_parts.specs.Transfer.{AppendsFront}
 use Rattle.run_parts.proofs.Reading.{Follows-from_answers, IsNoLonger-from_short}
@@ -20,7 +19,9 @@ use Rattle.run_parts.specs.declared.words.Form.{Form}
 use Rattle.run_parts.specs.declared.words.Form.TheVariants as a_form
 use Rattle.run_parts.specs.declared.status.Status.{Status}
 use Rattle.run_parts.specs.declared.status.Status.TheVariants as status
-use Rattle.advfs_run.specs.Run.{EndsFor, HasBegun, HasSections, IsLargeFor, IsPrinted, IsRun, LeadsFor, NotBegun, PrintsAs, RunsFor, StopsFor}
+use Rattle.run_parts.specs.declared.status.Unattached.{Unattached}
+use Rattle.run_parts.specs.declared.status.Unattached.TheVariants as unfit
+use Rattle.advfs_run.specs.Run.{EndsFor, HasBegun, HasSections, IsLargeFor, IsPrinted, IsRun, LeadsFor, LeavesContents, NotBegun, PrintsAs, RunsFor, StopsFor}
 
 -- ---- no command was answered
 
@@ -190,7 +191,7 @@ unbegun_ends a_form.Run old new status.SourceFault not_begun = tt
 unbegun_ends a_form.Run old new status.TooLong not_begun = tt
 unbegun_ends a_form.Run old new (status.BadScript line kind) not_begun = tt
 unbegun_ends a_form.Run old new (status.NotADomain vol at) not_begun = not_begun
-unbegun_ends a_form.Run old new (status.VolumeFault vol) not_begun = not_begun
+unbegun_ends a_form.Run old new (status.VolumeFault vol) not_begun = not_begun.0
 unbegun_ends a_form.Run old new status.SinkFault not_begun = tt
 unbegun_ends a_form.Run old new (status.Found faults) not_begun = not_begun
 unbegun_ends a_form.Run old new status.OutOfMemory not_begun = tt
@@ -199,11 +200,40 @@ unbegun_ends a_form.Run old new (status.Unfit why) not_begun = not_begun
 unbegun_ends (a_form.Make version) old new s not_begun = tt
 unbegun_ends a_form.Verify old new s not_begun = tt
 
-pub unbegun_run : (form : Form) (old new : Disk) (s : Status) (history : List Entry) → IsRun (Ok form) → history ≡ [] → ¬ HasBegun s → RunsFor (Ok form) old new s history
-unbegun_run (a_form.Try pages) old new s history run none begun = inl (none, begun)
-unbegun_run a_form.Run old new s history run none begun = inl (none, begun)
-unbegun_run (a_form.Make version) old new s history run none begun = none
-unbegun_run a_form.Verify old new s history run none begun = none
+pub unbegun_run : (form : Form) (old new : Disk) (s : Status) (history : List Entry) → IsRun (Ok form) → history ≡ [] → ¬ HasBegun s → LeavesContents old new → RunsFor (Ok form) old new s history
+unbegun_run (a_form.Try pages) old new s history run none begun left = inl (none, begun)
+unbegun_run a_form.Run old new s history run none begun left = inl (none, begun, left)
+unbegun_run (a_form.Make version) old new s history run none begun left = none
+unbegun_run a_form.Verify old new s history run none begun left = none
+
+-- what a domain has is left where it was not attached
+left_unfit : (old new : Disk) (why : Unattached) → BeginsNot old new (status.Unfit why) → LeavesContents old new
+left_unfit old new unfit.Cloned not_begun = inr (inl not_begun.0)
+left_unfit old new unfit.ReadThrough not_begun = inr (inl not_begun.0)
+left_unfit old new unfit.WrongQuotas not_begun = inr (inl not_begun.0)
+left_unfit old new unfit.RemovedFile not_begun = inr (inl not_begun.0)
+left_unfit old new unfit.CutDirectory not_begun = inr (inl not_begun.0)
+left_unfit old new unfit.NoNumbers not_begun = inr (inr not_begun.1)
+
+left_so : (old new : Disk) (s : Status) → BeginsNot old new s → LeavesContents old new
+left_so old new status.Ok not_begun = absurd not_begun
+left_so old new (status.Usage word) not_begun = absurd not_begun
+left_so old new status.SourceFault not_begun = absurd not_begun
+left_so old new status.TooLong not_begun = absurd not_begun
+left_so old new (status.BadScript line kind) not_begun = absurd not_begun
+left_so old new (status.NotADomain vol at) not_begun = inr (inl not_begun.0)
+left_so old new (status.VolumeFault vol) not_begun = inr (inr not_begun.1)
+left_so old new status.SinkFault not_begun = absurd not_begun
+left_so old new (status.Found faults) not_begun = absurd not_begun
+left_so old new status.OutOfMemory not_begun = inr (inr not_begun)
+left_so old new (status.VolumeSmall n) not_begun = absurd not_begun
+left_so old new (status.Unfit why) not_begun = left_unfit old new why not_begun
+
+pub refused_run : (form : Form) (old new : Disk) (s : Status) (history : List Entry) → history ≡ [] → NotBegun form old new s → RunsFor (Ok form) old new s history
+refused_run (a_form.Try pages) old new s history none not_begun = inl (none, unbegun_begun (a_form.Try pages) old new s not_begun)
+refused_run a_form.Run old new s history none not_begun = inl (none, unbegun_begun a_form.Run old new s not_begun, left_so old new s not_begun)
+refused_run (a_form.Make version) old new s history none not_begun = absurd not_begun
+refused_run a_form.Verify old new s history none not_begun = absurd not_begun
 
 -- ---- a run that has begun
 

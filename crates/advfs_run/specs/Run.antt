@@ -9,6 +9,7 @@ use Rattle.history_text.specs.History.{history_text}
 use Rattle.domain_making.specs.Making.{AreSlotsReady, IsNoneOrEmpty, IsOnFirst, pages_in_use}
 use Rattle.script_text.specs.declared.script.Script.{Script}
 use Rattle.script_text.specs.declared.script.Section.{Section}
+use Rattle.domain_runs.specs.Settling.{StaysReadSince}
 use Rattle.domain_runs.specs.Runs.{BeginsNot, HasFailed, LeadsFromNew, MakesNone, RunsFrom}
 use Rattle.run_parts.specs.Answering.{SameByNumber}
 use Rattle.run_parts.specs.Made.{MakeEnds}
@@ -54,11 +55,22 @@ LeadsFor (Try pages) old new entries closed =
 LeadsFor Run old new entries closed = RunsFrom old new entries closed
 LeadsFor other old new entries closed = ⊥
 
--- so does the history of a run; at Ok all of that is on the rack. Or no command was answered
+-- a rack was left alone, or only read; or what its contents were read as is what each image is read
+-- as that a stop leaves since then
+abbrev pub LeavesContents : Disk → Disk → Type 0
+LeavesContents old new = (new ≡ old) ⊎ OnlyReads old new ⊎ StaysReadSince old new
+
+-- no run has begun, and no command was answered; of `run`, what the image means is left as it was
+abbrev pub HasNotRun : Form → Disk → Disk → Status → List Entry → Type 0
+HasNotRun Run old new status history = (history ≡ []) × (¬ HasBegun status)
+    × LeavesContents old new
+HasNotRun other old new status history = (history ≡ []) × ¬ HasBegun status
+
+-- so does the history of a run; at Ok all of that is on the rack. Or none has begun
 abbrev pub RunsFor : Result Form ℕ → Disk → Disk → Status → List Entry → Type 0
-RunsFor (Ok (Try pages)) old new status history = ((history ≡ []) × ¬ HasBegun status)
+RunsFor (Ok (Try pages)) old new status history = HasNotRun (Try pages) old new status history
     ⊎ LeadsFor (Try pages) old new history (status ≡ ended.Ok)
-RunsFor (Ok Run) old new status history = ((history ≡ []) × ¬ HasBegun status)
+RunsFor (Ok Run) old new status history = HasNotRun Run old new status history
     ⊎ LeadsFor Run old new history (status ≡ ended.Ok)
 RunsFor other old new status history = history ≡ []
 
@@ -131,7 +143,17 @@ abbrev pub PrintsFor : Result Form ℕ → Option (List ℕ) → Option (List �
 PrintsFor (Ok Verify) before after history = Unit {0}
 PrintsFor other before after history = AppendsFront before after (history_text history)
 
--- a rack is left alone where the words ask for nothing
-abbrev pub LeavesRackFor : {R : Type 0} → Result Form ℕ → R → R → Type 0
-LeavesRackFor (Err word) old new = new ≡ old
-LeavesRackFor (Ok form) old new = Unit {0}
+-- no script was had
+abbrev pub LacksScript : Status → Type 0
+LacksScript ended.SourceFault = Unit {0}
+LacksScript ended.TooLong = Unit {0}
+LacksScript (ended.BadScript line kind) = Unit {0}
+LacksScript other = ⊥
+
+-- a rack is left alone where the words ask for nothing, and where no script was had that they ask
+-- for
+abbrev pub LeavesRackFor : {R : Type 0} → Result Form ℕ → Status → R → R → Type 0
+LeavesRackFor (Err word) status old new = new ≡ old
+LeavesRackFor (Ok (Try pages)) status old new = LacksScript status → new ≡ old
+LeavesRackFor (Ok Run) status old new = LacksScript status → new ≡ old
+LeavesRackFor (Ok form) status old new = Unit {0}

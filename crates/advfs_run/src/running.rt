@@ -6,8 +6,7 @@ ghost use Rattle.domain_base.specs.Counts.{HasRisen};
 ghost use Rattle.history_text.specs.History.{history_text};
 ghost use Rattle.script_text.specs.Turns.{turn_of, turns_of};
 ghost use Rattle.domain_runs.specs.Ending.{IsServed};
-ghost use Rattle.run_parts.specs.Reading.{GetsNoScript, HasRead, IsScript};
-ghost use Rattle.run_parts.specs.Answering.{SameByNumber};
+ghost use Rattle.run_parts.specs.Reading.{GetsNoScript, HasRead};
 ghost use Rattle.run_parts.specs.Transfer.{AppendsFront};
 ghost use Rattle.run_parts.specs.Usage.{FitsForm, form_of};
 ghost use Rattle.domain_runs.specs.Runs.{AreStampedWithin, ClosesAs};
@@ -19,6 +18,7 @@ ghost use Rattle.advfs_run.specs.Run.{
   IsPrinted,
   IsRun,
   IsTold,
+  LacksScript,
   LeadsFor,
   LeavesRackFor,
   MakeEndsFor,
@@ -151,6 +151,7 @@ fn run_script<S: Source, R: Rack, K: Sink, G: Gate>(
         result.history.items }
     ensures stamps { AreStampedWithin (R.disk rack) (R.disk result.rack) result.history.items }
     ensures ends { EndsFor (Ok form) (R.disk rack) (R.disk result.rack) result.status }
+    ensures rack { LacksScript result.status → result.rack ≡ rack }
     ensures printed { IsPrinted result.status
         → Appends (K.held sink.old) (K.held sink.new) (history_text result.history.items) }
     ensures printed_front { AppendsFront (K.held sink.old) (K.held sink.new)
@@ -212,7 +213,8 @@ pub fn run<S: Source, R: Rack + Send, K: Sink, G: Gate + Sync>(
         (R.disk result.rack) result.status }
     ensures any_moment { StopsFor (form_of (map string_bytes words.now)) (R.disk rack)
         (R.disk result.rack) }
-    ensures rack { LeavesRackFor (form_of (map string_bytes words.now)) rack result.rack }
+    ensures rack { LeavesRackFor (form_of (map string_bytes words.now)) result.status rack
+        result.rack }
 
     // The causes of the other statuses.
     ensures ends { EndsFor (form_of (map string_bytes words.now)) (R.disk rack)

@@ -95,7 +95,7 @@ IsOfTables memory home = IsLoggable memory.frame.anchor home
     × IsTableHome (layout_of (staged_in memory)) home
 
 -- first pages are written that are none of tables, then all are synced, and then pages of tables
--- are written, so that none of these is written before what it names is there to stay
+-- are written, so that no page of a table is written before all others are there to stay
 pub record IsInOrder (old new : Disk) (memory : DomainMemory) : Type 0 where
   pub between : Disk
   pub first : Touches old between (IsOnThese (IsData memory))

@@ -16,7 +16,7 @@ mod words;
 pub use help::{HELP, VERSION};
 pub use making::make;
 pub use print::{PrintError, print_history};
-pub use scripts::{count_commands, in_order, take_script};
+pub use scripts::{in_order, take_script};
 pub use sinks::{MemorySink, Sink, WriterSink};
 pub use sources::{MemorySource, ReaderSource, Source};
 pub use status::{Status, Unattached};

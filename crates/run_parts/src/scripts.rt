@@ -1,5 +1,5 @@
 //! The script of a run, and the sections of its clients.
-ghost use Rattle.std.specs.Prelude.{◌≡◌, ◌≢◌, ◌≤◌, ℕ, Err, IfOk, IfSome, List, MatchResult, length, sum_by};
+ghost use Rattle.std.specs.Prelude.{◌≡◌, ◌≢◌, ◌≤◌, ℕ, Err, IfOk, List, MatchResult};
 ghost use Rattle.std.specs.Io.KnownBytes.{Consumes};
 ghost use Rattle.domain_base.specs.Counts.{HasRisen};
 ghost use Rattle.run_parts.specs.Answering.{SameByNumber};
@@ -19,18 +19,6 @@ pub fn in_order(mut sections: Vec<Section>) -> Result<Vec<Section>, OutOfMemory>
 {
     sections.sort_by_key(|section| section.number)?;
     Ok(sections)
-}
-
-/// How many commands the sections have; None where these are 2^64 or more.
-pub fn count_commands(sections: &[Section]) -> Option<usize>
-    ensures { IfSome result
-        (λ count. count ≡ sum_by (λ section. length section.commands) sections.now) }
-{
-    let mut count: usize = 0;
-    for section in sections {
-        count = count.checked_add(section.commands.as_slice().len())?;
-    }
-    Some(count)
 }
 
 /// Reads the script that a source has, to its end. `SourceFault` comes where a call of the source

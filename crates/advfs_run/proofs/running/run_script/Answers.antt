@@ -1,4 +1,5 @@
-use Rattle.advfs_run.proofs.Endings.{ended_read, ended_run, follows, unbegun_read}
+use Rattle.std.proofs.Common.{inl, ap}
+use Rattle.advfs_run.proofs.Endings.{ended_read, ended_run, follows, refused_run, unbegun_read, unbegun_run, unread_begun}
 use Rattle.advfs_run.proofs.running.run_script.Goals as goal
 
 pub returns-in-Ok-answer-clause-read : goal.returns-in-Ok-answer-clause-read
@@ -15,3 +16,13 @@ pub returns-in-Err-answer-clause-read : goal.returns-in-Err-answer-clause-read
 returns-in-Err-answer-clause-read g c =
     let r = c.in-Ok.ensures.taken in
     (r.0, r.1, rw (c.unanswered-in-Err-answer.ensures.status) (unbegun_read _ _ _ c.unanswered-in-Err-answer.ensures.history _ r.2 c.args.form _ _ _ c.in-Err-answer.ensures.none))
+
+pub returns-in-Err-clause-runs : goal.returns-in-Err-clause-runs
+returns-in-Err-clause-runs g c =
+    let none = c.unanswered.ensures.history in
+    rw (c.unanswered.ensures.status) (unbegun_run c.args.form _ _ _ _ c.requires.run none (unread_begun _ _ _ none _ c.in-Err.ensures.taken.2) (inl (ap g.R.Rack.disk c.unanswered.ensures.rack)))
+
+pub returns-in-Err-answer-clause-runs : goal.returns-in-Err-answer-clause-runs
+returns-in-Err-answer-clause-runs g c =
+    rw (c.unanswered-in-Err-answer.ensures.status, c.unanswered-in-Err-answer.ensures.rack)
+    (refused_run c.args.form _ _ _ _ c.unanswered-in-Err-answer.ensures.history c.in-Err-answer.ensures.none)
