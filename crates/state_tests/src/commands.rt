@@ -12,7 +12,7 @@ use std::test::Fail;
 use volume_disk::Rack;
 
 /// The history of a domain that is made on a rack of one volume of so many pages.
-fn made_and_told(alloc: Global, pages: u32, table: &str) -> Result<Vec<u8>, Fail> {
+pub fn made_and_told(alloc: Global, pages: u32, table: &str) -> Result<Vec<u8>, Fail> {
     let rack = MemoryRack::new(alloc, &[pages], &[], false)?;
     if rack.volumes() != 1 {
         return Err(Fail::from("one volume"));

@@ -12,6 +12,8 @@ mod filesets;
 #[cfg(test)]
 mod opened;
 #[cfg(test)]
+mod removed;
+#[cfg(test)]
 mod rooted;
 #[cfg(test)]
 mod telling;
