@@ -8,7 +8,7 @@ use Rattle.log_settling.specs.declared.fault.SettleFault.{SettleFault}
 use Rattle.log_settling.specs.declared.fault.SettleFault.TheVariants as settling
 use Rattle.domain_attaching.specs.Attaching.{HasCause, IfNotADomain, IfNotFit, IsUnfitDomain}
 use Rattle.domain_attaching.specs.Fault.{IsNoDomain}
-use Rattle.domain_attaching.specs.Settling.{HasSettleCause, IfRefused}
+use Rattle.domain_attaching.specs.Settling.{HasSettleCause, IfRefused, StaysReadSince}
 use Rattle.domain_attaching.specs.declared.fault.AttachFault.{AttachFault}
 use Rattle.domain_attaching.specs.declared.fault.AttachFault.TheVariants as attaching
 use Rattle.domain_attaching.specs.unfit.Unfit.{Unfit}
@@ -17,12 +17,12 @@ use Rattle.run_parts.specs.declared.status.Status.{Status}
 use Rattle.domain_runs.specs.Runs.{BeginsNot}
 use Rattle.domain_runs.specs.Statuses.{status_of_attach, status_of_settle, status_of_unfit}
 
-module _ (old new : Disk) where
+module _ (old new : Disk) (stays : StaysReadSince old new) where
   not_settled : (why : SettleFault) → HasSettleCause old new why → BeginsNot old new (status_of_settle why)
-  not_settled settling.NoNumbers cause = cause.1
-  not_settled (settling.Slot (slot.Read vol)) cause = inl (HasRisen-read old new vol cause.0)
-  not_settled (settling.Slot (slot.Write vol)) cause = inr (HasRisen-write old new vol cause.1)
-  not_settled (settling.Write vol) cause = inr (HasRisen-write old new vol cause)
+  not_settled settling.NoNumbers cause = (cause.1, stays)
+  not_settled (settling.Slot (slot.Read vol)) cause = (inl (HasRisen-read old new vol cause.0), stays)
+  not_settled (settling.Slot (slot.Write vol)) cause = (inr (HasRisen-write old new vol cause.1), stays)
+  not_settled (settling.Write vol) cause = (inr (HasRisen-write old new vol cause), stays)
 
   not_fit : (why : Unfit) → OnlyReads old new → (Tells old → IsUnfitDomain old.sizes old.now.contents why) → BeginsNot old new (status_of_unfit why)
   not_fit unfit.Cloned reads is = (reads, is)
@@ -30,15 +30,15 @@ module _ (old new : Disk) where
   not_fit unfit.WrongQuotas reads is = (reads, is)
   not_fit unfit.RemovedFile reads is = (reads, is)
   not_fit unfit.CutDirectory reads is = (reads, is)
-  not_fit unfit.OutOfMemory reads is = tt
+  not_fit unfit.OutOfMemory reads is = stays
 
   begins_not : (fault : AttachFault) → HasCause old new fault → IfRefused fault (OnlyReads old new) → IfNotADomain fault (λ vol at. Tells old → IsNoDomain old.sizes old.now.contents vol at)
       → IfNotFit fault (λ why. Tells old → IsUnfitDomain old.sizes old.now.contents why) → BeginsNot old new (status_of_attach fault)
   begins_not (attaching.NotADomain vol at) cause refused wrong fits = (refused, wrong)
-  begins_not (attaching.Fault vol) cause refused wrong fits = inl (HasRisen-read old new vol cause)
+  begins_not (attaching.Fault vol) cause refused wrong fits = (inl (HasRisen-read old new vol cause), stays)
   begins_not (attaching.Unfit why) cause refused wrong fits = not_fit why refused fits
   begins_not (attaching.NotSettled why) cause refused wrong fits = not_settled why cause
-  begins_not attaching.OutOfMemory cause refused wrong fits = tt
+  begins_not attaching.OutOfMemory cause refused wrong fits = stays
 
   pub begins_with : (fault : AttachFault) (end : Status) → end ≡ status_of_attach fault → HasCause old new fault → IfRefused fault (OnlyReads old new)
       → IfNotADomain fault (λ vol at. Tells old → IsNoDomain old.sizes old.now.contents vol at) → IfNotFit fault (λ why. Tells old → IsUnfitDomain old.sizes old.now.contents why) → BeginsNot old new end

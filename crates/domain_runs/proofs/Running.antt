@@ -1,20 +1,19 @@
 -- A run over a domain that was opened, and its closing.
-use Rattle.std.proofs.Common.{◌≡◌, ◌∙◌, ℕ, ◌≤◌, List, All, Option, None, Some, ⊎_elim, arith, inl, inr, refl, sym, ap, subst}
+use Rattle.std.proofs.Common.{◌≡◌, ◌∙◌, ℕ, ◌≤◌, List, All, Option, None, ⊎_elim, arith, inl, inr, refl, sym, subst}
 use Rattle.std.proofs.Math.Logic.{∥∥₁_map}
-use Rattle.domain_base.specs.declared.place.Home.{Home}
 use Rattle.domain_base.specs.declared.version.Version.{Version}
 use Rattle.page_store.specs.Pages.{Pages}
 use Rattle.volume_disk.specs.Disk.{Disk, Tells}
 use Rattle.volume_disk.specs.Run.{Touches}
-use Rattle.volume_disk.proofs.Laws.{HasRisen-after, HasRisen-before, HasRisen-read, HasRisen-write}
+use Rattle.volume_disk.proofs.Laws.{HasRisen-before, HasRisen-read, HasRisen-write}
 use Rattle.fileset_model.specs.Filesets.{FilesetMap}
 use Rattle.fileset_model.specs.declared.command.Command.{Command}
 use Rattle.fileset_model.specs.declared.entry.Entry.{Entry}
 use Rattle.history_model.specs.Legal.{Legal}
-use Rattle.history_model.specs.State.{State, new_domain}
+use Rattle.history_model.specs.State.{new_domain}
 use Rattle.log_settling.specs.Settling.{Anywhere}
 use Rattle.staged_pages.specs.Store.{before_of}
-use Rattle.domain_layout.specs.Read.{Means, ReadsFrom}
+use Rattle.domain_layout.specs.Read.{Means}
 use Rattle.domain_layout.specs.Reached.{Frame}
 use Rattle.page_ways.specs.Frame.{frame_in}
 use Rattle.domain_memory.specs.Memory.{StandsFor, kept_in}

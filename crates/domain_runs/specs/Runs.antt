@@ -21,7 +21,7 @@ use Rattle.domain_attaching.specs.unfit.Unfit.{Unfit}
 use Rattle.domain_attaching.specs.unfit.Unfit.TheVariants as unfit
 use Rattle.domain_state.specs.Opening.{IsStartOf}
 use Rattle.domain_attaching.specs.Attaching.{IsUnfitDomain}
-use Rattle.domain_attaching.specs.Settling.{LacksNumbers, rested_anchor}
+use Rattle.domain_attaching.specs.Settling.{LacksNumbers, StaysReadSince, rested_anchor}
 use Rattle.run_parts.specs.declared.status.Status.{Status}
 use Rattle.run_parts.specs.declared.status.Status.TheVariants as status
 use Rattle.run_parts.specs.declared.status.Unattached.{Unattached}
@@ -88,15 +88,17 @@ unfit_as why.CutDirectory = Some unfit.CutDirectory
 unfit_as why.NoNumbers = None
 
 -- the domain that a rack has was not attached, for the cause that the status tells: the first page
--- at which no domain is seen, and then the rack was only read; a call that failed; what is so of the
--- domain; or want of memory
+-- at which no domain is seen, or what is so of the domain, and then the rack was only read; or a
+-- call that failed, a log without numbers, or want of memory, and then recovery takes from each
+-- image that a stop may leave what it took from the rack
 abbrev pub BeginsNot : Disk → Disk → Status → Type 0
 BeginsNot old new (status.NotADomain vol at) =
     OnlyReads old new × (Tells old → IsNoDomain old.sizes old.now.contents vol at)
-BeginsNot old new (status.VolumeFault vol) = HasFailed old new vol
-BeginsNot old new (status.Unfit why) = MatchOption (unfit_as why) (LacksNumbers old)
+BeginsNot old new (status.VolumeFault vol) = HasFailed old new vol × StaysReadSince old new
+BeginsNot old new (status.Unfit why) = MatchOption (unfit_as why)
+    (LacksNumbers old × StaysReadSince old new)
     (λ unfit. OnlyReads old new × (Tells old → IsUnfitDomain old.sizes old.now.contents unfit))
-BeginsNot old new status.OutOfMemory = Unit {0}
+BeginsNot old new status.OutOfMemory = StaysReadSince old new
 BeginsNot old new other = ⊥
 
 -- none was made: the volume is too small, and nothing was done; a call failed; or want of memory

@@ -25,8 +25,8 @@ use std::alloc::Global;
 use std::marker::Brand;
 use volume_disk::Rack;
 
-/// A run that has begun: the rack as it is then, the commands with their replies, and how the domain
-/// was closed.
+/// A run that has begun: the rack as it is then, the commands with their replies, and how the
+/// domain was closed.
 #[derive(Drop)]
 pub struct Ran<R> {
     pub rack: R,
@@ -126,8 +126,8 @@ fn begin_run<R: Rack, O: Opening>(
     }
 }
 
-/// Answers the commands of sections over a domain that was attached or made, and closes it. Room for
-/// all of them is taken before the first; where that is not to be had the rack comes back.
+/// Answers the commands of sections over a domain that was attached or made, and closes it. Room
+/// for all of them is taken before the first; where that is not to be had the rack comes back.
 fn run_attached<R: Rack, O: Opening, G: Gate>(
     alloc: Global,
     attached: Attached<R>,

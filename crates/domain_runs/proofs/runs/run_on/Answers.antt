@@ -22,4 +22,4 @@ returns-in-Ok-run_attached-clause-touches g c =
 pub returns-in-Err-clause-none : goal.returns-in-Err-clause-none
 returns-in-Err-clause-none g c =
     let is = c.in-Err.ensures in
-    begins_with (g.R.Rack.disk c.args.rack) _ _ c.status_of_attaching.result c.status_of_attaching.ensures is.cause is.refused is.wrong is.unfit
+    begins_with (g.R.Rack.disk c.args.rack) _ is.any_moment_of_fault _ c.status_of_attaching.result c.status_of_attaching.ensures is.cause is.refused is.wrong is.unfit
