@@ -1,6 +1,8 @@
-use Rattle.std.proofs.Common.{◌≡◌, refl}
+use Rattle.std.proofs.Common.{◌≡◌, ap, refl, subst, sym}
+use Rattle.volume_disk.specs.Disk.{Disk}
 use Rattle.log_settling.specs.Settling.{Anywhere}
 use Rattle.log_settling.proofs.Settled.{anywhere_then}
+use Rattle.domain_attaching.specs.Settling.{StaysReadSince}
 use Rattle.run_parts.specs.declared.status.Status.TheVariants as status
 use Rattle.domain_runs.proofs.Faults.{begins_with}
 use Rattle.domain_runs.proofs.Running.{runs_from}
@@ -23,3 +25,8 @@ pub returns-in-Err-clause-none : goal.returns-in-Err-clause-none
 returns-in-Err-clause-none g c =
     let is = c.in-Err.ensures in
     begins_with (g.R.Rack.disk c.args.rack) _ is.any_moment_of_fault _ c.status_of_attaching.result c.status_of_attaching.ensures is.cause is.refused is.wrong is.unfit
+
+pub returns-in-Err-run_attached-clause-none : goal.returns-in-Err-run_attached-clause-none
+returns-in-Err-run_attached-clause-none g c =
+    let disk = g.R.Rack.disk in
+    subst (λ (d : Disk). StaysReadSince (disk c.args.rack) d) (sym (ap disk c.in-Err-run_attached.ensures.back)) c.in-Ok.ensures.any_moment
