@@ -1,5 +1,5 @@
 use Rattle.std.proofs.Common.{inl, ap}
-use Rattle.advfs_run.proofs.Endings.{ended_read, ended_run, follows, refused_run, unbegun_read, unbegun_run, unread_begun}
+use Rattle.advfs_run.proofs.Endings.{ended_read, ended_run, follows, refused_run, unbegun_ends, unbegun_read, unbegun_run, unread_begun}
 use Rattle.advfs_run.proofs.running.run_script.Goals as goal
 
 pub returns-in-Ok-answer-clause-read : goal.returns-in-Ok-answer-clause-read
@@ -26,3 +26,7 @@ pub returns-in-Err-answer-clause-runs : goal.returns-in-Err-answer-clause-runs
 returns-in-Err-answer-clause-runs g c =
     rw (c.unanswered-in-Err-answer.ensures.status, c.unanswered-in-Err-answer.ensures.rack)
     (refused_run c.args.form _ _ _ _ c.unanswered-in-Err-answer.ensures.history c.in-Err-answer.ensures.none)
+
+pub returns-in-Err-answer-clause-ends : goal.returns-in-Err-answer-clause-ends
+returns-in-Err-answer-clause-ends g c =
+    rw (c.unanswered-in-Err-answer.ensures.status, c.unanswered-in-Err-answer.ensures.rack) (unbegun_ends c.args.form _ _ _ c.in-Err-answer.ensures.none)
