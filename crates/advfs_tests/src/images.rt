@@ -4,7 +4,7 @@ ghost use Rattle.memory_disk.specs.Memory.{memory_disk};
 ghost use Rattle.volume_disk.specs.Disk.{AreBlocks};
 
 use crate::outcome::{told, words_of};
-use advfs_run::{Form, MemorySink, MemorySource, NoGate, form_asked, run};
+use advfs_run::{Ended, Form, MemorySink, MemorySource, NoGate, form_asked, run};
 use domain_base::VolIx;
 use memory_disk::MemoryRack;
 use std::alloc::{AllocError, Global};
@@ -28,7 +28,7 @@ fn zero_image(alloc: Global, pages: u32, fails: &[u64]) -> Result<Image, AllocEr
 type Call = (&'static [&'static str], &'static str);
 
 /// The outcome of a call, and the image after it. No script is tried over it.
-fn run_on(alloc: Global, image: Image, call: Call) -> Result<(Image, Vec<u8>), AllocError> {
+fn run_on(alloc: Global, image: Image, call: Call) -> Result<(Image, Vec<u8>), Fail> {
     let words = words_of(alloc, call.0)?;
     if let Ok(Form::Try { .. }) = form_asked(&words) {
         return Ok((image, Vec::new(alloc)));
@@ -39,7 +39,11 @@ fn run_on(alloc: Global, image: Image, call: Call) -> Result<(Image, Vec<u8>), A
     let mut sink = MemorySink::new(alloc, Vec::new(alloc));
     let ended = run(alloc, &words, &mut source, rack, &mut sink, &NoGate);
     let outcome = told(alloc, &ended, &sink)?;
-    Ok((Image { rack: ended.rack }, outcome))
+    let Ended { rack, .. } = ended;
+    if rack.volumes() != 1 {
+        return Err(Fail::from("one volume"));
+    }
+    Ok((Image { rack }, outcome))
 }
 
 /// Whether a block is one of a volume's.
@@ -76,13 +80,13 @@ const RUN: Call = (&["run", "s", "a"], "client 1\nmkfset home\n");
 const RUN_BAD: Call = (&["run", "s", "a"], "client 1\nmkfset home\nfrob x\n");
 
 /// A domain that was made, with four zeros where a page begins.
-fn harmed_image(alloc: Global, page: u32) -> Result<Image, AllocError> {
+fn harmed_image(alloc: Global, page: u32) -> Result<Image, Fail> {
     let (image, _) = run_on(alloc, zero_image(alloc, 160, &[])?, MAKE)?;
     Ok(harmed(image, page))
 }
 
 /// All that an image of 160 pages holds.
-fn bytes_of(alloc: Global, image: Image) -> Result<Vec<u8>, AllocError> {
+fn bytes_of(alloc: Global, image: Image) -> Result<Vec<u8>, Fail> {
     let Image { mut rack, .. } = image;
     let mut all = Vec::new(alloc);
     let Some(vol) = VolIx::new(1) else {
@@ -104,7 +108,7 @@ fn outcome_on(
     image: Image,
     same: Image,
     call: Call,
-) -> Result<(Vec<u8>, bool), AllocError> {
+) -> Result<(Vec<u8>, bool), Fail> {
     let before = bytes_of(alloc, same)?;
     let (image, outcome) = run_on(alloc, image, call)?;
     let after = bytes_of(alloc, image)?;
@@ -241,11 +245,7 @@ c1 unlink home:/d/a -> ok
 ];
 
 /// The outcomes of calls on one image, one behind another.
-fn outcomes(
-    alloc: Global,
-    image: Image,
-    calls: &[(Call, &'static str)],
-) -> Result<Vec<u8>, AllocError> {
+fn outcomes(alloc: Global, image: Image, calls: &[(Call, &'static str)]) -> Result<Vec<u8>, Fail> {
     match calls {
         [] => Ok(Vec::new(alloc)),
         [first, rest @ ..] => {
@@ -259,7 +259,7 @@ fn outcomes(
 }
 
 /// The outcomes that these calls have to have.
-fn outcomes_wanted(alloc: Global, calls: &[(Call, &'static str)]) -> Result<Vec<u8>, AllocError> {
+fn outcomes_wanted(alloc: Global, calls: &[(Call, &'static str)]) -> Result<Vec<u8>, Fail> {
     let mut all = Vec::new(alloc);
     for (_, want) in calls {
         all.extend_from_slice(want.as_bytes())?;
