@@ -3,7 +3,7 @@ ghost use Rattle.std.specs.Prelude.{◌≡◌};
 ghost use Rattle.page_ways.specs.Frame.{frame_in};
 ghost use Rattle.staged_pages.specs.Store.{before_of};
 
-use crate::telling::{all_told, history_of, lines_of, wanted};
+use crate::telling::{Row, all_told, history_of, lines_of, wanted};
 use domain_attaching::{attach, close};
 use domain_base::limits::FILESET_SLOTS;
 use domain_base::{FilesetNo, Version};
@@ -20,7 +20,7 @@ use volume_disk::Rack;
 fn closed<R: Rack + Drop, O: Opening>(
     alloc: Global,
     attached: Attached<R>,
-    table: &str,
+    rows: &[Row],
 ) -> Result<R, Fail>
     requires pages { O.pages ≡ before_of attached.memory.pages }
     requires frame { O.frame ≡ frame_in attached.memory.frame }
@@ -28,9 +28,9 @@ fn closed<R: Rack + Drop, O: Opening>(
 {
     let mut domain: Domain<R, O> = Domain::begin(alloc, attached);
     domain.discard();
-    let domain = all_told(domain, alloc, table);
+    let domain = all_told(domain, alloc, rows);
     let found = lines_of(alloc, domain.entries())?;
-    if found.as_slice() != wanted(alloc, table)?.as_slice() {
+    if found.as_slice() != wanted(alloc, rows)?.as_slice() {
         return Err(Fail::from("each reply"));
     }
     match close(alloc, domain) {
@@ -75,13 +75,13 @@ fn names_kept<R: Rack + Drop, O: Opening>(
 }
 
 /// A domain that is made on a rack of one volume, has these commands, is closed, and attached again.
-fn again(alloc: Global, version: Version, table: &str) -> Result<Attached<MemoryRack>, Fail> {
+fn again(alloc: Global, version: Version, rows: &[Row]) -> Result<Attached<MemoryRack>, Fail> {
     let rack = MemoryRack::new(alloc, &[256], &[], false)?;
     if rack.volumes() != 1 {
         return Err(Fail::from("one volume"));
     }
     let rack = match make(alloc, rack, version) {
-        Ok(made) => closed::<MemoryRack, Brand>(alloc, made, table)?,
+        Ok(made) => closed::<MemoryRack, Brand>(alloc, made, rows)?,
         Err((_rack, fault)) => return Err(Fail::from(fault)),
     };
     match attach(alloc, rack) {
@@ -91,36 +91,41 @@ fn again(alloc: Global, version: Version, table: &str) -> Result<Attached<Memory
 }
 
 /// The names of the filesets that a domain has which is attached again after these commands.
-fn names_again(alloc: Global, version: Version, table: &str) -> Result<Vec<u8>, Fail> {
-    names_kept::<MemoryRack, Brand>(alloc, again(alloc, version, table)?)
+fn names_again(alloc: Global, version: Version, rows: &[Row]) -> Result<Vec<u8>, Fail> {
+    names_kept::<MemoryRack, Brand>(alloc, again(alloc, version, rows)?)
 }
 
 /// The history of other commands in a domain that is attached again after these.
 fn history_again(
     alloc: Global,
     version: Version,
-    table: &str,
-    others: &str,
+    rows: &[Row],
+    others: &[Row],
 ) -> Result<Vec<u8>, Fail> {
-    history_of::<MemoryRack, Brand>(alloc, again(alloc, version, table)?, others)
+    history_of::<MemoryRack, Brand>(alloc, again(alloc, version, rows)?, others)
 }
 
-/// A table of commands, and the names that a domain has after them; a hyphen for one that is being
-/// removed.
-type Named = (&'static str, &'static [u8]);
+/// Commands, and the names that a domain has after them; a hyphen for one that is being removed.
+type Named = (&'static [Row], &'static [u8]);
 
 static NAMED: [Named; 4] = [
-    ("", b""),
-    ("mkfset a -> ok\nmkfset b -> ok", b"ab"),
-    ("mkfset a -> ok\nmkfset b -> ok\nrmfset a -> ok", b"-b"),
-    ("mkfset a -> ok\nrmfset a -> ok\nmkfset a -> ok", b"-a"),
+    (&[], b""),
+    (&[("mkfset a", "ok"), ("mkfset b", "ok")], b"ab"),
+    (
+        &[("mkfset a", "ok"), ("mkfset b", "ok"), ("rmfset a", "ok")],
+        b"-b",
+    ),
+    (
+        &[("mkfset a", "ok"), ("rmfset a", "ok"), ("mkfset a", "ok")],
+        b"-a",
+    ),
 ];
 
-/// Which tables have other names in a domain of this version, by their place.
+/// Which rows have other names in a domain of this version, by their place.
 fn wrong_rows(alloc: Global, version: Version) -> Result<String, Fail> {
     let mut wrong = String::new(alloc);
-    for (place, (table, names)) in NAMED.iter().enumerate() {
-        let found = names_again(alloc, version, table)?;
+    for (place, (rows, names)) in NAMED.iter().enumerate() {
+        let found = names_again(alloc, version, rows)?;
         if found.as_slice() != *names {
             let line = format!(in alloc; "{place}: {:?}\n", found.as_slice())?;
             wrong.push_str(line.as_str())?;
@@ -130,28 +135,28 @@ fn wrong_rows(alloc: Global, version: Version) -> Result<String, Fail> {
 }
 
 /// What is done before a domain is closed.
-static BEFORE: &str = "
-mkfset home -> ok
-mkdir home:/d 10 20 -> ok
-create home:/d/a 10 20 -> ok
-link home:/d/a /b -> ok
-setquota home user 10 2 0 -> ok
-setquota home group 21 1 0 -> ok
-";
+static BEFORE: [Row; 6] = [
+    ("mkfset home", "ok"),
+    ("mkdir home:/d 10 20", "ok"),
+    ("create home:/d/a 10 20", "ok"),
+    ("link home:/d/a /b", "ok"),
+    ("setquota home user 10 2 0", "ok"),
+    ("setquota home group 21 1 0", "ok"),
+];
 
 /// What it is answered once it is attached again.
-static AFTER: &str = "
-mkfset home -> E2 fileset-exists
-create home:/d/a 1 2 -> E4 exists
-mkdir home:/b 1 2 -> E4 exists
-create home:/b/c 1 2 -> E5 not-directory
-link home:/d /e -> E6 is-directory
-create home:/d/c 10 20 -> E11 quota-files limit=2 used=2
-create home:/d/c 11 21 -> ok
-create home:/e 11 21 -> E11 quota-files limit=1 used=1
-link home:/b /d/e -> ok
-create home:/d/e 1 2 -> E4 exists
-";
+static AFTER: [Row; 10] = [
+    ("mkfset home", "E2 fileset-exists"),
+    ("create home:/d/a 1 2", "E4 exists"),
+    ("mkdir home:/b 1 2", "E4 exists"),
+    ("create home:/b/c 1 2", "E5 not-directory"),
+    ("link home:/d /e", "E6 is-directory"),
+    ("create home:/d/c 10 20", "E11 quota-files limit=2 used=2"),
+    ("create home:/d/c 11 21", "ok"),
+    ("create home:/e 11 21", "E11 quota-files limit=1 used=1"),
+    ("link home:/b /d/e", "ok"),
+    ("create home:/d/e 1 2", "E4 exists"),
+];
 
 #[test]
 fn filesets_are_there_in_a_domain_that_is_attached_again(rt: HostRuntime) -> Result<(), Fail> {
@@ -166,10 +171,10 @@ fn filesets_are_there_in_a_domain_that_is_attached_again(rt: HostRuntime) -> Res
 #[test]
 fn files_are_there_in_a_domain_that_is_attached_again(rt: HostRuntime) -> Result<(), Fail> {
     let alloc = rt.alloc();
-    let wanted = wanted(alloc, AFTER)?;
-    let found = history_again(alloc, Version::Three, BEFORE, AFTER)?;
+    let wanted = wanted(alloc, &AFTER)?;
+    let found = history_again(alloc, Version::Three, &BEFORE, &AFTER)?;
     assert_eq!(rt; found.as_slice(), wanted.as_slice());
-    let found = history_again(alloc, Version::Four, BEFORE, AFTER)?;
+    let found = history_again(alloc, Version::Four, &BEFORE, &AFTER)?;
     assert_eq!(rt; found.as_slice(), wanted.as_slice());
     Ok(())
 }

@@ -12,8 +12,4 @@ mod filesets;
 #[cfg(test)]
 mod opened;
 #[cfg(test)]
-mod removed;
-#[cfg(test)]
-mod rooted;
-#[cfg(test)]
 mod telling;

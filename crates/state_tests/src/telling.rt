@@ -1,14 +1,10 @@
-//! Tables of commands that are answered in a domain, and the lines that these have in its history.
-//!
-//! A table is text: each line has a command, ` -> `, and its reply; a line with nothing is none.
+//! Lines of scripts that are answered in a domain, and the lines that these have in its history.
 ghost use Rattle.std.specs.Prelude.{◌≡◌, ◌≤◌, true};
 ghost use Rattle.page_ways.specs.Frame.{frame_in};
 ghost use Rattle.staged_pages.specs.Store.{before_of};
 ghost use Rattle.domain_memory.specs.Staged.{IsSettled};
 
 use crate::answering::answered;
-use crate::rooted::command_at;
-use domain_base::OutOfMemory;
 use domain_state::{Attached, Domain, Opening};
 use fileset_model::{Command, Entry, Told};
 use script_text::{history_line, read_script};
@@ -16,16 +12,8 @@ use std::alloc::Global;
 use std::test::Fail;
 use volume_disk::Rack;
 
-/// The rows of a table.
-fn rows_of(alloc: Global, table: &str) -> Result<Vec<&str>, OutOfMemory> {
-    let mut rows = Vec::new(alloc);
-    for line in table.lines() {
-        if !line.is_empty() {
-            rows.push(line)?;
-        }
-    }
-    Ok(rows)
-}
+/// A command, and its reply.
+pub type Row = (&'static str, &'static str);
 
 /// The command that a line of a script has; none where memory is short, too.
 fn command_in(alloc: Global, line: &str) -> Option<Command> {
@@ -37,37 +25,28 @@ fn command_in(alloc: Global, line: &str) -> Option<Command> {
     section.commands.into_vec().pop()
 }
 
-/// The command of a row, of a script or at a root; none where memory is short, too.
-fn command_of(alloc: Global, row: &str) -> Option<Command> {
-    let (line, _reply) = row.split_once(" -> ")?;
-    match command_in(alloc, line) {
-        Some(command) => Some(command),
-        None => command_at(alloc, line),
-    }
-}
-
-/// Answers the command of a row; a row without one has no answer.
+/// Answers the command of a line; a line without one has no answer.
 fn told_by<R: Rack + Drop, O: Opening>(
     domain: Domain<R, O>,
     alloc: Global,
-    row: &str,
+    line: &str,
 ) -> Domain<R, O>
     requires rests { ⟦<Domain<R, O> as Told>⟧.rests domain }
     requires settled { IsSettled domain.memory }
     ensures rests { ⟦<Domain<R, O> as Told>⟧.rests result }
     ensures settled { IsSettled result.memory }
 {
-    match command_of(alloc, row) {
+    match command_in(alloc, line) {
         Some(command) => answered(domain, alloc, command),
         None => domain,
     }
 }
 
 /// Answers the commands of these rows, one after another.
-fn all_told_of<R: Rack + Drop, O: Opening>(
+pub fn all_told<R: Rack + Drop, O: Opening>(
     domain: Domain<R, O>,
     alloc: Global,
-    rows: &[&str],
+    rows: &[Row],
 ) -> Domain<R, O>
     requires rests { ⟦<Domain<R, O> as Told>⟧.rests domain }
     requires settled { IsSettled domain.memory }
@@ -75,23 +54,7 @@ fn all_told_of<R: Rack + Drop, O: Opening>(
 {
     match rows {
         [] => domain,
-        [first, rest @ ..] => all_told_of(told_by(domain, alloc, first), alloc, rest),
-    }
-}
-
-/// Answers the commands of a table, one after another; where memory is short none is answered.
-pub fn all_told<R: Rack + Drop, O: Opening>(
-    domain: Domain<R, O>,
-    alloc: Global,
-    table: &str,
-) -> Domain<R, O>
-    requires rests { ⟦<Domain<R, O> as Told>⟧.rests domain }
-    requires settled { IsSettled domain.memory }
-    ensures { IsSettled result.memory }
-{
-    match rows_of(alloc, table) {
-        Ok(rows) => all_told_of(domain, alloc, rows.as_slice()),
-        Err(_) => domain,
+        [first, rest @ ..] => all_told(told_by(domain, alloc, first.0), alloc, rest),
     }
 }
 
@@ -105,11 +68,11 @@ pub fn lines_of(alloc: Global, entries: &[Entry]) -> Result<Vec<u8>, Fail> {
     Ok(lines)
 }
 
-/// Begins the history of a domain, and writes the entries that the commands of a table have.
+/// Begins the history of a domain, and writes the entries that these commands have.
 pub fn history_of<R: Rack + Drop, O: Opening>(
     alloc: Global,
     attached: Attached<R>,
-    table: &str,
+    rows: &[Row],
 ) -> Result<Vec<u8>, Fail>
     requires pages { O.pages ≡ before_of attached.memory.pages }
     requires frame { O.frame ≡ frame_in attached.memory.frame }
@@ -117,16 +80,18 @@ pub fn history_of<R: Rack + Drop, O: Opening>(
 {
     let mut domain: Domain<R, O> = Domain::begin(alloc, attached);
     domain.discard();
-    let domain = all_told(domain, alloc, table);
+    let domain = all_told(domain, alloc, rows);
     lines_of(alloc, domain.entries())
 }
 
-/// The lines that the rows of a table have in a history.
-pub fn wanted(alloc: Global, table: &str) -> Result<Vec<u8>, Fail> {
+/// The lines that these commands have with their replies.
+pub fn wanted(alloc: Global, rows: &[Row]) -> Result<Vec<u8>, Fail> {
     let mut lines = Vec::new(alloc);
-    for row in rows_of(alloc, table)?.iter() {
+    for (line, reply) in rows {
         lines.extend_from_slice(b"c1 ")?;
-        lines.extend_from_slice(row.as_bytes())?;
+        lines.extend_from_slice(line.as_bytes())?;
+        lines.extend_from_slice(b" -> ")?;
+        lines.extend_from_slice(reply.as_bytes())?;
         lines.push(b'\n')?;
     }
     Ok(lines)
