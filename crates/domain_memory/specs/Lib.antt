@@ -1,3 +1,4 @@
 pub mod Memory
 pub mod Staged
 pub mod Kept
+pub mod Held
