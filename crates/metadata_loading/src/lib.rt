@@ -10,6 +10,6 @@ mod way;
 
 pub use fault::LoadFault;
 pub use laws::brought_pages_agree;
-pub use reading::{fetch, fetch_next, fetch_within};
+pub use reading::{fetch, fetch_next, fetch_within, page_of};
 pub use tables::{load_bitmaps, load_cells, load_table, load_tags};
 pub use way::load_way;

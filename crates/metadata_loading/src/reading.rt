@@ -17,7 +17,7 @@ use std::alloc::Global;
 use volume_disk::{Rack, read_blocks};
 
 /// A page with these bytes.
-fn page_of(alloc: Global, bytes: &[u8]) -> Result<Page, OutOfMemory>
+pub fn page_of(alloc: Global, bytes: &[u8]) -> Result<Page, OutOfMemory>
     requires { length bytes.now ≡ PAGE_BYTES }
     ensures { IfOk result (λ page. page ≡ bytes.now) }
 {
