@@ -10,3 +10,4 @@ pub mod SettledKept
 pub mod SlotsKept
 pub mod TakingBack
 pub mod KeptStands
+pub mod Held

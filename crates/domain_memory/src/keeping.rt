@@ -2,6 +2,8 @@
 ghost use Rattle.std.specs.Prelude.{◌≡◌, None};
 ghost use Rattle.fileset_model.specs.Filesets.{FilesetMap};
 ghost use Rattle.fileset_table.specs.Table.{IsTable};
+ghost use Rattle.free_space.specs.Spaces.{change_volumes};
+ghost use Rattle.free_space.specs.VolumeSpace.{keeping};
 ghost use Rattle.domain_memory.specs.Memory.{StandsFor, books_in, kept_in, with_was};
 ghost use Rattle.domain_memory.specs.Staged.{IsSettled, IsStagedForSome, MayBeKept, MayGoBack};
 
@@ -34,6 +36,7 @@ impl DomainMemory {
         ensures stands { (all : FilesetMap) → MayBeKept self.old all → StandsFor self.new all }
         ensures settled { IsSettled self.new }
         ensures back { ∥ MayGoBack self.new ∥₁ }
+        ensures space { self.new.space ≡ change_volumes keeping self.old.space }
         ensures frame { self.new.frame ≡ self.old.frame }
     {
         mark_changes(&mut self.pages, &self.space);
