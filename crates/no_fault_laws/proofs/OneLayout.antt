@@ -96,6 +96,9 @@ module _ (d : DomainNow) (stands : StandTables d) where
       );
     }
 
+    owned_laid : (home : Home) → IsOwned d.pages (layout_of d) home → IsOwned d.pages (laid_so d d.table cells tags) home
+    owned_laid = owned_so d (table_of d.cells) cells d.tags tags (λ vol member. sym (cells_are vol member)) (λ number item there. sym (tags_are number item there))
+
   says : (layout : Layout) → frame_of layout ≡ d.frame → IsLayout d.pages layout → SaysTable d.pages d.frame layout.table
   says layout same laid =
       let one : HasOne layout.anchor.table (λ home. IsSomeAnd (d.pages home) (λ page. IsTablePage page layout.table)) = one_of layout.anchor.table (λ home. IsSomeAnd (d.pages home) (λ page. IsTablePage page layout.table)) laid.table in
@@ -115,6 +118,9 @@ module _ (d : DomainNow) (stands : StandTables d) where
 
   pub bitmap_here : (layout : Layout) → frame_of layout ≡ d.frame → IsLayout d.pages layout → (home : Home) → IsBitmapFault d.pages layout home → IsBitmapFault d.pages (layout_of d) home
   bitmap_here = by_layout (λ layout. (home : Home) → IsBitmapFault d.pages layout home → IsBitmapFault d.pages (layout_of d) home) bitmap_laid
+
+  pub owned_here : (layout : Layout) → frame_of layout ≡ d.frame → IsLayout d.pages layout → (home : Home) → IsOwned d.pages (layout_of d) home → IsOwned d.pages layout home
+  owned_here = by_layout (λ layout. (home : Home) → IsOwned d.pages (layout_of d) home → IsOwned d.pages layout home) owned_laid
 
   pub table_here : (layout : Layout) → frame_of layout ≡ d.frame → IsLayout d.pages layout → layout.table ≡ d.table
   table_here layout same laid = table_is d stands layout.table (says layout same laid)
