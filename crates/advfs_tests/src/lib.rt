@@ -12,6 +12,10 @@ mod images;
 #[cfg(test)]
 mod outcome;
 #[cfg(test)]
+mod room;
+#[cfg(test)]
 mod rows;
 #[cfg(test)]
 mod runs;
+#[cfg(test)]
+mod tables;

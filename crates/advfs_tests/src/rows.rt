@@ -18,19 +18,20 @@ fn script_of(alloc: Global, history: &str) -> Result<Vec<u8>, AllocError> {
     Ok(script)
 }
 
-/// How the run of a script ends, over a new domain on a volume of 512 pages.
-fn outcome_of(alloc: Global, script: Vec<u8>) -> Result<Vec<u8>, AllocError> {
+/// How the run of a script ends, over a new domain on a volume of so many pages.
+fn outcome_of(alloc: Global, pages: &str, script: Vec<u8>) -> Result<Vec<u8>, AllocError> {
     let mut source = MemorySource::new(script, Vec::new(alloc));
     let mut sink = MemorySink::new(alloc, Vec::new(alloc));
-    let ended = ended(alloc, &["try", "512"], &mut source, &mut sink, &NoGate)?;
+    let ended = ended(alloc, &["try", pages], &mut source, &mut sink, &NoGate)?;
     told(alloc, &ended, &sink)
 }
 
-/// Whether a run of the commands of these lines ends well, and prints just the lines.
-fn is_printed(alloc: Global, history: &str) -> Result<bool, AllocError> {
+/// Whether a run of the commands of these lines ends well, over a new domain of so many pages, and
+/// prints just the lines.
+pub(crate) fn is_printed(alloc: Global, pages: &str, history: &str) -> Result<bool, AllocError> {
     let mut want = Vec::from_slice(alloc, b"Ok 0\n")?;
     want.extend_from_slice(history.as_bytes())?;
-    let outcome = outcome_of(alloc, script_of(alloc, history)?)?;
+    let outcome = outcome_of(alloc, pages, script_of(alloc, history)?)?;
     Ok(outcome.as_slice() == want.as_slice())
 }
 
@@ -91,7 +92,10 @@ c1 create g:/c 0 0 -> E11 quota-files limit=2 used=2
 #[test]
 fn commands_are_answered_as_their_rows_say(rt: HostRuntime) -> Result<(), Fail> {
     for history in HISTORIES.iter() {
-        assert!(rt; is_printed(rt.alloc(), history)?, "the row is printed");
+        assert!(rt;
+            is_printed(rt.alloc(), "512", history)?,
+            "the row is printed"
+        );
     }
     Ok(())
 }
@@ -111,7 +115,10 @@ static BAD: [(&str, &str); 6] = [
 fn bad_scripts_are_named_by_their_first_bad_line(rt: HostRuntime) -> Result<(), Fail> {
     for (script, want) in BAD.iter() {
         let script = Vec::from_slice(rt.alloc(), script.as_bytes())?;
-        assert_eq!(rt; outcome_of(rt.alloc(), script)?.as_slice(), want.as_bytes());
+        assert_eq!(rt;
+            outcome_of(rt.alloc(), "512", script)?.as_slice(),
+            want.as_bytes()
+        );
     }
     Ok(())
 }
@@ -173,7 +180,7 @@ fn directory_history(alloc: Global) -> Result<String, AllocError> {
 #[test]
 fn a_directory_of_200_files_is_listed_in_order(rt: HostRuntime) -> Result<(), Fail> {
     let history = directory_history(rt.alloc())?;
-    let is_same = is_printed(rt.alloc(), history.as_str())?;
+    let is_same = is_printed(rt.alloc(), "512", history.as_str())?;
     assert!(rt; is_same, "the lines are printed");
     Ok(())
 }
