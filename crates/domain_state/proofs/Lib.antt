@@ -6,4 +6,6 @@ pub mod Unmoved
 pub mod Stamping
 pub mod Resting
 pub mod MemberSums
+pub mod OneHome
+pub mod MemberHomes
 pub mod NewStart

@@ -16,19 +16,20 @@ use Rattle.fileset_table.specs.Page.{IsTablePage}
 use Rattle.fileset_table.specs.Table.{IsNewTable, Table}
 use Rattle.history_model.specs.State.{Member, new_domain}
 use Rattle.domain_layout.specs.Layout.{AreTagPlaces, IsLayout, Layout, first_tag_of}
-use Rattle.domain_layout.specs.Owners.{HasTagPage, frame_of}
+use Rattle.domain_layout.specs.Owners.{BelongsTo, HasTagPage, Owner, frame_of}
 use Rattle.domain_layout.specs.Read.{ReadsFrom}
 use Rattle.domain_layout.specs.Reached.{Frame}
 use Rattle.layout_laws.specs.NewDomain.{IsNew, IsNewCells, IsNewTablePage, firsts, on_first}
 use Rattle.layout_laws.proofs.NewDomain.{reads_none}
 use Rattle.layout_laws.proofs.NewPages.{no_extent, no_index}
-use Rattle.layout_laws.proofs.NewTags.{all_free}
+use Rattle.layout_laws.proofs.NewTags.{all_free, has_none}
 use Rattle.layout_laws.proofs.OnePage.{HasOne, one_of, some_same}
 use Rattle.layout_laws.proofs.OneTable.{one_in, used_there}
 use Rattle.domain_making.specs.Making.{new_anchor, new_frame, pages_in_use}
 use Rattle.domain_memory.proofs.NewLayout.{laid_with, layout_with}
 use Rattle.domain_memory.proofs.NewMemory.{first_table}
-use Rattle.domain_state.specs.Opening.{CountsOld, IsMemberAs, IsOldPage, IsStartOf}
+use Rattle.domain_state.specs.Opening.{CountsOld, IsFixed, IsMemberAs, IsOldPage, IsStartOf}
+use Rattle.domain_state.proofs.OneHome.{one_home}
 
 -- ---- its one page of cells is all that is old
 
@@ -45,22 +46,44 @@ module _ (pages : Pages) (frame : Frame) (new : IsNew pages frame) (table : Tabl
   no_tags : (number : ℕ) (home : Home) → ¬ HasTagPage layout number home
   no_tags number home has = let e : false ≡ true = has.has in absurd (cc)
 
-  only_cells : (home : Home) → IsOldPage pages layout home → home ≡ cells
-  only_cells home =
+  -- what belongs to somebody, and is not fixed, is of cells
+  owner_is : (home : Home) → ¬ IsFixed pages layout home → (owner : Owner) → BelongsTo pages layout owner home → home ≡ cells
+  owner_is home beside Owner.of_volume is = absurd (beside (inl is))
+  owner_is home beside Owner.of_log is = absurd (beside (inr (inl is)))
+  owner_is home beside Owner.of_table is = absurd (beside (inr (inr is)))
+  owner_is home beside Owner.of_cells is =
+      let vol : home.vol ≡ 1 = new.anchor.alone home.vol is.0 in
+      let number : home.page ≡ (firsts frame).cells = one_in (firsts frame).cells home.page is.1 in
+      λ i. record { vol = vol i; page = number i }
+  owner_is home beside (Owner.of_tags number) is = absurd (no_tags number home is)
+  owner_is home beside (Owner.of_index at place) is =
       let page = one_page in
-      ⊎_elim (λ of_cells.
-      let vol : home.vol ≡ 1 = new.anchor.alone home.vol of_cells.0 in
-      let number : home.page ≡ (firsts frame).cells = one_in (firsts frame).cells home.page of_cells.1 in
-      λ i. record { vol = vol i; page = number i })
-      (⊎_elim (λ of_tags. absurd (no_tags of_tags.0 home of_tags.1))
-      (⊎_elim (λ of_index.
-      let has = of_index.2 in
-      absurd (no_index pages layout new.anchor page.value page.there page.is fresh laid of_index.0 has.cell has.value
-      (used_there pages layout new.anchor page.value page.there page.is.good page.is.indexed page.is.last (laid.cells 1 new.anchor.member) of_index.0 has.cell has.on) has.there))
-      (λ of_file. absurd (no_extent pages layout new.anchor page.value page.there page.is fresh laid of_file.0 of_file.1 home of_file.2))))
+      absurd (no_index pages layout new.anchor page.value page.there page.is fresh laid at is.cell is.value
+      (used_there pages layout new.anchor page.value page.there page.is.good page.is.indexed page.is.last (laid.cells 1 new.anchor.member) at is.cell is.on) is.there)
+  owner_is home beside (Owner.of_file at number) is =
+      let page = one_page in
+      absurd (no_extent pages layout new.anchor page.value page.there page.is fresh laid at number home is)
 
-  is_old : (home : Home) → home ≡ cells → IsOldPage pages layout home
-  is_old home same = subst (IsOldPage pages layout) (sym same) (inl (new.anchor.member, (0, omega arith, refl)))
+  only_cells : (home : Home) → IsOldPage pages layout home → home ≡ cells
+  only_cells home old = one_home home cells (λ apart. old.owned (λ owned. apart (owner_is home old.beside owned.0 owned.1)))
+
+  -- its page of cells is neither in front of cells nor behind them
+  beside_cells : ¬ IsFixed pages layout cells
+  beside_cells fixed =
+      let log : frame.anchor.log_page ≡ (firsts frame).log = new.anchor.log in
+      ⊎_elim (λ first. absurd (omega (arith, first.1)))
+      (λ more. ⊎_elim (λ of_log. absurd (omega (arith, of_log.1, log)))
+      (λ of_table.
+      let same : on_first (firsts frame).table ≡ cells = some_same (on_first (firsts frame).table) cells (sym new.anchor.table ∙ of_table) in
+      let page : (firsts frame).table ≡ (firsts frame).cells = ap (λ (h : Home). h.page) same in
+      absurd (omega (arith, page))) more) fixed
+
+  is_old : IsOldPage pages layout cells
+  is_old = record {
+    owned = λ none. none (Owner.of_cells, (new.anchor.member, (0, omega arith, refl)));
+    beside = beside_cells;
+    no_files = λ number tag cs seen has kind page at. has_none table fresh pages number tag cs seen has;
+  }
 
   at_first : (k : ℕ) (home : Home) → slice_get (cells ∷ []) k ≡ Some home → k ≡ 0
   at_first zero home there = refl
@@ -72,7 +95,7 @@ module _ (pages : Pages) (frame : Frame) (new : IsNew pages frame) (table : Tabl
     same = refl;
     laid = laid;
     homes = cells ∷ [];
-    each = λ home. (λ among. is_old home (one_in cells home among), λ old. (0, omega arith, sym (only_cells home old)));
+    each = λ home. (λ among. subst (IsOldPage pages layout) (sym (one_in cells home among)) is_old, λ old. (0, omega arith, sym (only_cells home old)));
     once = λ j k home at also. at_first j home at ∙ sym (at_first k home also);
     counted = refl;
   }

@@ -2,8 +2,8 @@
 use Rattle.std.specs.Prelude.{◌≡◌, ◌⊎◌, ◌↔◌, ℕ, true, List, Some, Contains, length, slice_get}
 use Rattle.std.specs.FinMap.{get}
 use Rattle.std.specs.FinSet as set
-use Rattle.domain_base.specs.declared.place.CellAt.{CellAt}
 use Rattle.domain_base.specs.declared.place.Home.{Home}
+use Rattle.domain_base.specs.declared.place.Kind.TheVariants.{File}
 use Rattle.domain_base.specs.declared.place.Tag.{Tag}
 use Rattle.page_store.specs.Pages.{Pages}
 use Rattle.bmt_mcells.specs.Chain.{PlacedCell}
@@ -14,26 +14,31 @@ use Rattle.history_model.specs.State.{Member, State, rack_of}
 use Rattle.domain_standing.specs.Space.{IsOpen}
 use Rattle.domain_layout.specs.DirectoryRules.{Has}
 use Rattle.domain_layout.specs.Layout.{IsLayout, Layout}
-use Rattle.domain_layout.specs.Owners.{BelongsTo, frame_of}
-use Rattle.domain_layout.specs.Owners.Owner.{of_cells, of_file, of_index, of_tags}
+use Rattle.domain_layout.specs.Owners.{BelongsTo, IsOwned, frame_of}
+use Rattle.domain_layout.specs.Owners.Owner.{of_log, of_table, of_volume}
 use Rattle.domain_layout.specs.Read.{ReadsFrom}
 use Rattle.domain_layout.specs.Reached.{Frame}
 use Rattle.domain_layout.specs.Seen.{SeenFile}
 
--- ** Pages that are no file's of a fileset
+-- ** Old pages
 
--- no fileset has the page at a home as one of a file or directory
-abbrev pub IsNoFilesets : Pages → Table → Home → Type 0
-IsNoFilesets pages table home = (number : ℕ) (tag : Tag) (cells : List PlacedCell) (seen : SeenFile)
-    (page : ℕ) → Has pages table number tag cells seen → ¬ seen.homes page ≡ Some home
+-- the page at a home is one of a volume's first ones, of the log or of the fileset table
+abbrev pub IsFixed : Pages → Layout → Home → Type 0
+IsFixed pages layout home = BelongsTo pages layout of_volume home
+    ⊎ BelongsTo pages layout of_log home ⊎ BelongsTo pages layout of_table home
 
--- a page of cells, of a tag directory or of an index, or of a file that is left for removal
-abbrev pub IsOldPage : Pages → Layout → Home → Type 0
-IsOldPage pages layout home = BelongsTo pages layout of_cells home
-    ⊎ ((number : ℕ) × BelongsTo pages layout (of_tags number) home)
-    ⊎ ((at : CellAt) × (place : ℕ) × BelongsTo pages layout (of_index at place) home)
-    ⊎ ((at : CellAt) × (page : ℕ) × BelongsTo pages layout (of_file at page) home
-    × IsNoFilesets pages layout.table home)
+-- no file of a fileset has it
+abbrev pub IsNoFiles : Pages → Table → Home → Type 0
+IsNoFiles pages table home = (number : ℕ) (tag : Tag) (cells : List PlacedCell) (seen : SeenFile)
+    → Has pages table number tag cells seen → seen.is.kind ≡ File
+    → (page : ℕ) → ¬ seen.homes page ≡ Some home
+
+-- a page that belongs to somebody, and is neither fixed nor a file's of a fileset: one of cells, of
+-- a tag directory, of a directory or its index, or of a file that is left for removal
+pub record IsOldPage (pages : Pages) (layout : Layout) (home : Home) : Type 0 where
+  pub owned : ¬ ¬ IsOwned pages layout home
+  pub beside : ¬ IsFixed pages layout home
+  pub no_files : IsNoFiles pages layout.table home
 
 -- so many are there
 pub record CountsOld (pages : Pages) (frame : Frame) (count : ℕ) : Type 0 where
