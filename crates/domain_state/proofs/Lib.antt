@@ -9,3 +9,5 @@ pub mod MemberSums
 pub mod OneHome
 pub mod MemberHomes
 pub mod NewStart
+pub mod HomeLists
+pub mod FileHomes
