@@ -6,8 +6,11 @@ pub mod Unmoved
 pub mod Stamping
 pub mod Resting
 pub mod MemberSums
-pub mod OneHome
+pub mod Decided
 pub mod MemberHomes
 pub mod NewStart
 pub mod HomeLists
 pub mod FileHomes
+pub mod OldPages
+pub mod StartMembers
+pub mod AttachedStart

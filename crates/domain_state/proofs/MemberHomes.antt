@@ -1,6 +1,6 @@
 -- The pages of volumes at which a test is true, each once.
 use Rattle.std.proofs.Common.{◌≡◌, ◌∙◌, ◌⊎◌, inl, inr, ℕ, zero, suc, ◌<◌, ◌≤◌, Bool, true, false, cond, List, [], ◌∷◌, Some, Contains, slice_get, refl, sym, ap, subst, arith, ⊎_elim}
-use Rattle.std.proofs.lemmas.Bool.{cases_order, true≢false}
+use Rattle.std.proofs.lemmas.Bool.{cases_order}
 use Rattle.domain_base.specs.declared.place.Home.{Home}
 use Rattle.layout_laws.proofs.OnePage.{some_same}
 use Rattle.no_fault_laws.proofs.Ways.{contains_of, nothing}
@@ -15,12 +15,12 @@ abbrev passes : (Home → Bool) → Home → List Home → List Home
 passes test home rest = cond (test home) (home ∷ rest) rest
 
 -- those of the first pages of a volume, in front of others
-abbrev below : (Home → Bool) → ℕ → ℕ → List Home → List Home
+below : (Home → Bool) → ℕ → ℕ → List Home → List Home
 below test vol zero rest = rest
 below test vol (suc n) rest = passes test (on vol n) (below test vol n rest)
 
 -- those of volumes of these sizes, from the first one on
-abbrev pub homes_of : (Home → Bool) → (ℕ → ℕ) → ℕ → List Home
+pub homes_of : (Home → Bool) → (ℕ → ℕ) → ℕ → List Home
 homes_of test size zero = []
 homes_of test size (suc v) = below test (suc v) (size (suc v)) (homes_of test size v)
 
@@ -73,6 +73,7 @@ module _ (test : Home → Bool) where
   IsOneOf vol n home = (home.vol ≡ vol) × (home.page < n) × (test home ≡ true)
 
   in_below : (vol n : ℕ) (rest : List Home) (home : Home) → Contains (below test vol n rest) home → IsOneOf vol n home ⊎ Contains rest home
+  unfolding below
   in_below vol zero rest home among = inr among
   in_below vol (suc n) rest home among =
       ⊎_elim (λ here. let page : home.page ≡ n = ap (λ (h : Home). h.page) here.0 in inl (ap (λ (h : Home). h.vol) here.0, omega (arith, page), here.1))
@@ -80,10 +81,12 @@ module _ (test : Home → Bool) where
       (of_passes (on vol n) (below test vol n rest) home among)
 
   rest_below : (vol n : ℕ) (rest : List Home) (home : Home) → Contains rest home → Contains (below test vol n rest) home
+  unfolding below
   rest_below vol zero rest home among = among
   rest_below vol (suc n) rest home among = rest_passes (on vol n) (below test vol n rest) home (rest_below vol n rest home among)
 
   to_below : (vol n : ℕ) (rest : List Home) (home : Home) → IsOneOf vol n home → Contains (below test vol n rest) home
+  unfolding below
   to_below vol zero rest home is = absurd (omega (arith, is.1))
   to_below vol (suc n) rest home is =
       ⊎_elim (λ last.
@@ -93,6 +96,7 @@ module _ (test : Home → Bool) where
       (cases_order home.page n)
 
   once_below : (vol n : ℕ) (rest : List Home) → AreOnce rest → ((home : Home) → Contains rest home → ¬ home.vol ≡ vol) → AreOnce (below test vol n rest)
+  unfolding below
   once_below vol zero rest once others = once
   once_below vol (suc n) rest once others =
       once_passes (on vol n) (below test vol n rest) (once_below vol n rest once others)
@@ -109,6 +113,7 @@ module _ (test : Home → Bool) where
       pub passes : test home ≡ true
 
     pub in_homes : (v : ℕ) (home : Home) → Contains (homes_of test size v) home → IsAmong v home
+    unfolding homes_of
     in_homes zero home (k, within, is) = absurd (omega (arith, within))
     in_homes (suc v) home among =
         ⊎_elim (λ one. record {
@@ -121,6 +126,7 @@ module _ (test : Home → Bool) where
         (in_below (suc v) (size (suc v)) (homes_of test size v) home among)
 
     pub to_homes : (v : ℕ) (home : Home) → IsAmong v home → Contains (homes_of test size v) home
+    unfolding homes_of
     to_homes zero home is = absurd (omega (arith, is.first, is.last))
     to_homes (suc v) home is =
         ⊎_elim (λ here. to_below (suc v) (size (suc v)) (homes_of test size v) home (here, subst (λ n. home.page < size n) here is.within, is.passes))
@@ -134,6 +140,7 @@ module _ (test : Home → Bool) where
         (cases_order home.vol (suc v))
 
     pub once_homes : (v : ℕ) → AreOnce (homes_of test size v)
+    unfolding homes_of
     once_homes zero = λ j k home one other. nothing home one
     once_homes (suc v) =
         once_below (suc v) (size (suc v)) (homes_of test size v) (once_homes v)

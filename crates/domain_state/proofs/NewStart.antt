@@ -1,35 +1,32 @@
 -- The pages of a domain that was just made mean the empty state.
-use Rattle.std.proofs.Common.{inl, inr, ◌≡◌, ◌∙◌, ◌↔◌, ℕ, zero, suc, ◌<◌, Bool, true, false, List, [], ◌∷◌, Option, Some, None, Contains, IsSomeAnd, length, min, slice_get, slice_index, refl, sym, ap, subst, arith, ⊎_elim}
+use Rattle.std.proofs.Common.{inl, inr, ◌≡◌, ◌∙◌, ℕ, zero, suc, true, false, List, [], ◌∷◌, Some, None, min, slice_get, slice_index, refl, sym, ap, subst, arith, ⊎_elim}
 use Rattle.std.specs.FinMap as map
 use Rattle.std.specs.FinMap.{empty, get, nat_cmp-IsAntisymmetric}
 use Rattle.std.specs.Ordering.{nat_cmp}
 use Rattle.std.specs.Cmp.{nat_cmp_total}
 use Rattle.domain_base.specs.Version.{most_pages}
-use Rattle.domain_base.specs.declared.place.CellAt.{CellAt}
 use Rattle.domain_base.specs.declared.place.Home.{Home}
 use Rattle.domain_base.specs.declared.version.Version.{Version}
 use Rattle.page_store.specs.Pages.{Pages}
-use Rattle.disk_label.specs.declared.anchor.Anchor.{Anchor}
-use Rattle.log_ring.specs.Homes.{IsMember, member_of}
+use Rattle.log_ring.specs.Homes.{IsMember}
 use Rattle.fileset_model.proofs.MapLemmas.{get-insert_same, got-insert}
-use Rattle.fileset_table.specs.Page.{IsTablePage}
 use Rattle.fileset_table.specs.Table.{IsNewTable, Table}
 use Rattle.history_model.specs.State.{Member, new_domain}
-use Rattle.domain_layout.specs.Layout.{AreTagPlaces, IsLayout, Layout, first_tag_of}
-use Rattle.domain_layout.specs.Owners.{BelongsTo, HasTagPage, Owner, frame_of}
+use Rattle.domain_layout.specs.Layout.{IsLayout, Layout}
+use Rattle.domain_layout.specs.Owners.{BelongsTo, HasTagPage, Owner}
 use Rattle.domain_layout.specs.Read.{ReadsFrom}
 use Rattle.domain_layout.specs.Reached.{Frame}
 use Rattle.layout_laws.specs.NewDomain.{IsNew, IsNewCells, IsNewTablePage, firsts, on_first}
 use Rattle.layout_laws.proofs.NewDomain.{reads_none}
 use Rattle.layout_laws.proofs.NewPages.{no_extent, no_index}
-use Rattle.layout_laws.proofs.NewTags.{all_free, has_none}
+use Rattle.layout_laws.proofs.NewTags.{has_none}
 use Rattle.layout_laws.proofs.OnePage.{HasOne, one_of, some_same}
 use Rattle.layout_laws.proofs.OneTable.{one_in, used_there}
-use Rattle.domain_making.specs.Making.{new_anchor, new_frame, pages_in_use}
+use Rattle.domain_making.specs.Making.{new_frame, pages_in_use}
 use Rattle.domain_memory.proofs.NewLayout.{laid_with, layout_with}
 use Rattle.domain_memory.proofs.NewMemory.{first_table}
 use Rattle.domain_state.specs.Opening.{CountsOld, IsFixed, IsMemberAs, IsOldPage, IsStartOf}
-use Rattle.domain_state.proofs.OneHome.{one_home}
+use Rattle.domain_state.proofs.Decided.{one_home, stands_so}
 
 -- ---- its one page of cells is all that is old
 
@@ -65,7 +62,7 @@ module _ (pages : Pages) (frame : Frame) (new : IsNew pages frame) (table : Tabl
       absurd (no_extent pages layout new.anchor page.value page.there page.is fresh laid at number home is)
 
   only_cells : (home : Home) → IsOldPage pages layout home → home ≡ cells
-  only_cells home old = one_home home cells (λ apart. old.owned (λ owned. apart (owner_is home old.beside owned.0 owned.1)))
+  only_cells home old = stands_so (one_home home cells) (λ apart. old.owned (λ owned. apart (owner_is home old.beside owned.0 owned.1)))
 
   -- its page of cells is neither in front of cells nor behind them
   beside_cells : ¬ IsFixed pages layout cells

@@ -9,7 +9,11 @@ ghost use Rattle.fileset_model.specs.declared.entry.Entry.{Entry};
 ghost use Rattle.domain_base.specs.declared.version.Version.{Version};
 ghost use Rattle.layout_laws.specs.NewDomain.{IsNew};
 ghost use Rattle.domain_making.specs.Making.{new_frame, pages_in_use};
-ghost use Rattle.history_model.specs.State.{new_domain};
+ghost use Rattle.fileset_model.specs.Filesets.{FilesetMap};
+ghost use Rattle.history_model.specs.State.{State, new_domain};
+ghost use Rattle.page_ways.specs.Frame.{frame_in};
+ghost use Rattle.staged_pages.specs.Store.{before_of};
+ghost use Rattle.domain_memory.specs.Memory.{StandsFor};
 ghost use Rattle.domain_state.specs.History.{GoesOn};
 ghost use Rattle.domain_state.specs.Opening.{IsStartOf};
 
@@ -27,4 +31,11 @@ pub fn a_new_domain_is_a_start()
         → IsNew pages (new_frame version (pages_in_use version sizes))
         → IsStartOf pages (new_frame version (pages_in_use version sizes)) sizes
         (new_domain version sizes) }
+{}
+
+/// The pages of a domain that stands for some filesets, as it does when it was made or attached, mean
+/// a state on each rack: its filesets, members and old pages are told by them.
+pub fn an_attached_domain_has_a_start()
+    ensures { (memory : DomainMemory) (sizes : List ℕ) (all : FilesetMap) → StandsFor memory all
+        → (start : State) × IsStartOf (before_of memory.pages) (frame_in memory.frame) sizes start }
 {}

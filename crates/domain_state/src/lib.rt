@@ -12,5 +12,7 @@ mod members;
 pub use attached::Attached;
 pub use domain::{Domain, Opening};
 pub use history::History;
-pub use laws::{a_history_goes_on_over_changes, a_new_domain_is_a_start};
+pub use laws::{
+    a_history_goes_on_over_changes, a_new_domain_is_a_start, an_attached_domain_has_a_start,
+};
 pub use making::make;

@@ -1,0 +1,56 @@
+-- The pages of a domain that is kept in memory mean a state.
+use Rattle.std.proofs.Common.{ℕ, List, length, refl}
+use Rattle.std.specs.FinSet as set
+use Rattle.fileset_model.specs.Filesets.{FilesetMap}
+use Rattle.history_model.specs.State.{State, rack_of}
+use Rattle.page_ways.specs.Frame.{frame_in}
+use Rattle.staged_pages.specs.Store.{before_of}
+use Rattle.domain_standing.specs.Domain.{DomainNow}
+use Rattle.domain_standing.specs.Standing.{StandsDomain}
+use Rattle.domain_standing.proofs.OneMeaning.{reads_so}
+use Rattle.domain_memory.specs.Memory.{StandsFor, kept_in}
+use Rattle.domain_memory.specs.declared.memory.DomainMemory.{DomainMemory}
+use Rattle.domain_state.specs.Opening.{IsStartOf}
+use Rattle.domain_state.proofs.OldPages.{old_counted, old_homes}
+use Rattle.domain_state.proofs.StartMembers.{are_members, members_of}
+
+module _ (memory : DomainMemory) (sizes : List ℕ) (all : FilesetMap) (stands : StandsFor memory all) where
+  abbrev d : DomainNow
+  d = kept_in memory
+
+  -- it stands with the files and indexes of which more is known
+  abbrev so : StandsDomain (kept_in memory) all
+  so = record {
+    tables = stands.sound.below.tables;
+    files = stands.sound.files;
+    indexes = stands.sound.indexes;
+    chains = stands.sound.below.chains;
+    owned = stands.sound.below.owned;
+    rest = stands.sound.below.rest;
+    slots = stands.stands.slots;
+  }
+
+  abbrev start : State
+  start = record {
+    filesets = all;
+    rack = rack_of sizes;
+    members = members_of d.frame.anchor;
+    log_volume = d.frame.anchor.log_vol;
+    version = d.frame.version;
+    striped = set.empty;
+    old_pages = length (old_homes d all so stands.sound.sound);
+  }
+
+  pub has_start : (start : State) × IsStartOf (before_of memory.pages) (frame_in memory.frame) sizes start
+  has_start = (
+    start,
+    record {
+      filesets = λ home at. reads_so d all home stands.stands at (λ place. refl);
+      rack = refl;
+      members = are_members d.frame.anchor;
+      log_volume = refl;
+      version = refl;
+      striped = refl;
+      old_pages = old_counted d all so stands.sound.sound;
+    },
+  )
