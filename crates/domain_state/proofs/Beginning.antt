@@ -23,6 +23,7 @@ use Rattle.domain_standing.proofs.OneMeaning.{reads_so}
 use Rattle.domain_memory.specs.Memory.{StandsFor, kept_in}
 use Rattle.domain_memory.specs.declared.memory.DomainMemory.{DomainMemory}
 use Rattle.domain_state.specs.History.{GoesOn, LeadsTo, StandsForSome}
+use Rattle.domain_state.specs.Opening.{IsStartOf}
 
 -- pages are read in one way
 reads_once : (pages : Pages) (home : Home) (all other : FilesetMap) → ReadsFrom pages home all → ReadsFrom pages home other → LooksLike all other
@@ -42,12 +43,16 @@ legal_none start all alike = record {
 }
 
 module _ (memory : DomainMemory) (sizes : List ℕ) where
-  leads_none : (all : FilesetMap) → StandsFor memory all → LeadsTo (before_of memory.pages) (frame_in memory.frame) sizes [] None all
-  leads_none all stands start is =
+  -- the filesets of a start look like those for which the domain stands
+  pub looks_so : (all : FilesetMap) → StandsFor memory all → (start : State) → IsStartOf (before_of memory.pages) (frame_in memory.frame) sizes start → LooksLike start.filesets all
+  looks_so all stands start is =
       let d : DomainNow = kept_in memory in
       let there : HasOne d.frame.anchor.table (λ h. IsSomeAnd (d.pages h) (λ page. IsTablePage page d.table)) = one_of d.frame.anchor.table _ stands.stands.tables.laid.table in
       let reads : ReadsFrom d.pages there.value all = reads_so d all there.value stands.stands there.there (λ place. refl) in
-      ∣ legal_none start all (reads_once d.pages there.value start.filesets all (is.filesets there.value there.there) reads) ∣₁
+      reads_once d.pages there.value start.filesets all (is.filesets there.value there.there) reads
+
+  leads_none : (all : FilesetMap) → StandsFor memory all → LeadsTo (before_of memory.pages) (frame_in memory.frame) sizes [] None all
+  leads_none all stands start is = ∣ legal_none start all (looks_so all stands start is) ∣₁
 
   goes_on : ∥ StandsForSome memory ∥₁ → ∥ GoesOn (before_of memory.pages) (frame_in memory.frame) sizes memory [] None ∥₁
   goes_on held = ∥∥₁_map held (λ some. record { same = refl; all = some.0; stands = some.1; leads = leads_none some.0 some.1 })

@@ -143,7 +143,7 @@ module _ {K X : Type 0} {R : K → K → Ordering} (a : map.IsAntisymmetric R) w
           (0, omega arith, λ i. (sym key i, value i))
       by_test false other later rest = Contains-append_right (e ∷ []) es (k, v) (rest later)
 
-  entry_among : (m : map.FinMap R X) (k : K) (v : X) → get m k ≡ Some v → Contains (map.entries m) (k, v)
+  pub entry_among : (m : map.FinMap R X) (k : K) (v : X) → get m k ≡ Some v → Contains (map.entries m) (k, v)
   entry_among m k v is = found_among (map.entries m) k v (sym (map.get-entries m k) ∙ is)
 
 -- ---- each home of a file is listed

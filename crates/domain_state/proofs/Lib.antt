@@ -14,3 +14,7 @@ pub mod FileHomes
 pub mod OldPages
 pub mod StartMembers
 pub mod AttachedStart
+pub mod HeldHomes
+pub mod RunHomes
+pub mod WithinRoom
+pub mod StartRoom

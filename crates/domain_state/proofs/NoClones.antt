@@ -1,7 +1,11 @@
 -- A domain that stands has no clone among its filesets.
 use Rattle.std.proofs.Common.{◌≡◌, ◌∙◌, ℕ, Option, Some, None, IfSome, IsSome, IsSomeAnd, slice_get, refl, sym, ap, subst, true≢false}
+use Rattle.std.specs.FinMap as map
+use Rattle.fileset_model.specs.Apply.{original_of}
 use Rattle.fileset_model.specs.Filesets.{FilesetMap}
-use Rattle.fileset_model.specs.Orders.{Name}
+use Rattle.fileset_model.specs.LooksLike.{LooksLike, LooksLikeThere}
+use Rattle.fileset_model.specs.Orders.{Name, name_cmp-IsAntisymmetric, name_cmp-total}
+use Rattle.fileset_model.specs.declared.fileset.FilesetSlot.{FilesetSlot}
 use Rattle.fileset_model.specs.declared.fileset.Role.{Role}
 use Rattle.fileset_model.specs.declared.fileset.Role.TheVariants as role
 use Rattle.fileset_table.specs.Table.{entry_of}
@@ -17,6 +21,19 @@ use Rattle.domain_standing.specs.Slots.{StandSlots}
 is_original : (name : Option Name) (r : Role) → IsRole name r → name ≡ None → r ≡ role.Original
 is_original None r is none = is
 is_original (Some name) r is none = absurd (cc)
+
+original_role : (r : Role) → original_of r ≡ None → r ≡ role.Original
+original_role role.Original none = refl
+original_role (role.CloneOf name out) none = absurd (cc)
+
+-- what looks like filesets without a clone is the same
+pub same_filesets : (one other : FilesetMap) → HaveNoClone other → LooksLike one other → one ≡ other
+same_filesets one other none alike = map.same_map name_cmp-total name_cmp-IsAntisymmetric one other (λ name. by_there name (map.get one name) (map.get other name) refl (alike name))
+  where
+    by_there : (name : Name) (a b : Option FilesetSlot) → map.get other name ≡ b → LooksLikeThere a b → a ≡ b
+    by_there name None b is looks = sym looks
+    by_there name (Some slot) None is looks = absurd looks
+    by_there name (Some slot) (Some now) is looks = ap Some (sym (looks.original (original_role slot.role (sym looks.of ∙ ap original_of (none name now is)))))
 
 module _ (d : DomainNow) (all : FilesetMap) (stand : StandSlots d all) where
   of_item : (name : Name) (shape : FilesetShape) (number : ℕ) (item : SlotItem) → stand.shapes name ≡ Some shape → slice_get d.table.slots number ≡ Some item → IsSomeAnd (entry_of item) (λ entry. entry.name ≡ name)
