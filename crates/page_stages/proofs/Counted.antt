@@ -1,5 +1,5 @@
 -- How many pages a file has, by its runs.
-use Rattle.std.proofs.Common.{◌≡◌, ◌≢◌, ◌∙◌, ◌+◌, ◌-◌, ◌<◌, ◌≤◌, ℕ, zero, suc, Bool, true, false, cond, count_by, min, List, [], ◌∷◌, get_or, length, Option, Some, None, is_some, sum_by, refl, sym, ap, subst, arith, ⊎_elim, true≢false}
+use Rattle.std.proofs.Common.{◌≡◌, ◌∙◌, ◌+◌, ◌-◌, ◌<◌, ◌≤◌, ℕ, zero, suc, Bool, true, false, cond, count_by, min, List, [], ◌∷◌, get_or, length, Option, Some, None, is_some, sum_by, refl, sym, ap, subst, arith, ⊎_elim, true≢false}
 use Rattle.std.proofs.lemmas.Bool.{cases_eq, cases_lt}
 use Rattle.std.proofs.lemmas.List.Sums.{sum_by-append}
 use Rattle.std.specs.Cmp.{nat_cmp_total}
@@ -116,7 +116,7 @@ abbrev has_home : List Run → ℕ → Bool
 has_home runs q = is_some (home_at (place_of runs q))
 
 -- where the first of runs begins, there they begin
-begin_from : (runs : List Run) (run : Run) → IsRun run → FirstFollows run runs → AreRuns runs → BeginFrom (end_of run) runs
+pub begin_from : (runs : List Run) (run : Run) → IsRun run → FirstFollows run runs → AreRuns runs → BeginFrom (end_of run) runs
 begin_from [] run is follows are = tt
 begin_from (next ∷ runs) run is follows are =
     (follows.behind, later runs (begin_from runs next are.0 are.1 are.2))
@@ -125,7 +125,7 @@ begin_from (next ∷ runs) run is follows are =
     later [] from = tt
     later (r ∷ rest) from = (omega (arith, from.0, follows.behind, are.0.some), later rest from.1)
 
-absent_before : (runs : List Run) (from q : ℕ) → BeginFrom from runs → q < from → place_of runs q ≡ Absent
+pub absent_before : (runs : List Run) (from q : ℕ) → BeginFrom from runs → q < from → place_of runs q ≡ Absent
 absent_before [] from q begin below = refl
 absent_before (run ∷ runs) from q begin below = by_cover (absent_before runs from q begin.1 below) (covers run q) refl
   where
@@ -133,7 +133,7 @@ absent_before (run ∷ runs) from q begin below = by_cover (absent_before runs f
     by_cover rest true is = absurd (omega (arith, (covers_is run q is).0, begin.0, below))
     by_cover rest false is = rest
 
-covers_not : (run : Run) (q : ℕ) → end_of run ≤ q → covers run q ≡ false
+pub covers_not : (run : Run) (q : ℕ) → end_of run ≤ q → covers run q ≡ false
 covers_not run q far = by_cover (covers run q) refl
   where
     by_cover : (b : Bool) → covers run q ≡ b → b ≡ false

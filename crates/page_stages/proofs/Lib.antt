@@ -21,3 +21,5 @@ pub mod Paged
 pub mod Counted
 pub mod Wanted
 pub mod HowMany
+pub mod RunsShown
+pub mod HomesApart

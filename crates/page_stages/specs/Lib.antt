@@ -3,3 +3,4 @@ pub mod Looking
 pub mod Reading
 pub mod Writing
 pub mod Counting
+pub mod Extents

@@ -4,6 +4,7 @@
 mod counting;
 mod cutting;
 mod describing;
+mod extents;
 mod giving;
 mod looking;
 mod putting;
@@ -16,6 +17,7 @@ mod writing;
 pub use counting::count_pages;
 pub use cutting::{cut_file, flag_file};
 pub use describing::describe;
+pub use extents::extents_of;
 pub use giving::give_page;
 pub use looking::{FilePage, look_at_page};
 pub use putting::put_page;
