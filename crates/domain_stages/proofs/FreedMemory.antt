@@ -1,5 +1,5 @@
 -- Memory of a domain in which a slot comes free of what was removed from it.
-use Rattle.std.proofs.Common.{◌≡◌, ◌∙◌, ◌≤◌, ℕ, zero, suc, true, false, List, [], ◌∷◌, Option, Some, None, IfSome, IsSomeAnd, Contains, length, slice_get, slice_set, refl, sym, ap, subst, arith, ⊎_elim, true≢false}
+use Rattle.std.proofs.Common.{◌≡◌, ◌∙◌, ◌≤◌, ℕ, zero, suc, List, [], ◌∷◌, Option, Some, None, IfSome, IsSomeAnd, Contains, length, slice_get, slice_set, refl, sym, ap, subst, arith, ⊎_elim, true≢false}
 use Rattle.std.proofs.Math.Logic.{∥∥₁_map}
 use Rattle.std.proofs.lemmas.Bool.{cases_eq}
 use Rattle.std.specs.FinMap.{get}

@@ -1,6 +1,6 @@
 -- What is left of what is removed from a slot of memory once no tag of it is used: the pages of its
 -- directory, each once, which are held.
-use Rattle.std.proofs.Common.{◌≡◌, ◌∙◌, ◌<◌, ◌≤◌, ℕ, zero, suc, Bool, true, false, List, [], ◌∷◌, Option, Some, None, IfSome, IsSome, IsSomeAnd, Contains, is_some, length, slice_get, refl, sym, ap, subst, arith, ⊎_elim, true≢false}
+use Rattle.std.proofs.Common.{◌≡◌, ◌∙◌, ◌<◌, ◌≤◌, ℕ, zero, suc, true, List, [], ◌∷◌, Option, Some, None, IfSome, IsSome, IsSomeAnd, Contains, length, slice_get, refl, sym, subst, arith, ⊎_elim}
 use Rattle.std.proofs.Math.Logic.{∥∥₁_map}
 use Rattle.std.specs.Option.{option_and_then}
 use Rattle.domain_base.specs.declared.place.CellAt.{CellAt}
@@ -20,9 +20,8 @@ use Rattle.deferred_laws.specs.Links.{homes_of}
 use Rattle.domain_layout.specs.Layout.{AreTagPlaces, first_tag_of}
 use Rattle.domain_layout.specs.TagRules.{quota_of}
 use Rattle.fileset_model.specs.Filesets.{FilesetMap}
-use Rattle.staged_pages.specs.Store.{pages_of}
-use Rattle.release_laws.specs.Chains.{HasEmptyTags, HasFilesAmong, IsRemoved, StandsInSlot}
-use Rattle.release_laws.specs.Domain.{DomainNow, item_in, named_by}
+use Rattle.release_laws.specs.Chains.{HasFilesAmong, IsRemoved, StandsInSlot}
+use Rattle.release_laws.specs.Domain.{DomainNow, named_by}
 use Rattle.release_laws.proofs.IndexWell.{listed_has}
 use Rattle.release_laws.proofs.SlotTogether.{slot_together}
 use Rattle.domain_parts.specs.Slots.{places_in, slot_in}

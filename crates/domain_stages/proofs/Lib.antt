@@ -1,4 +1,6 @@
 mod LetGo
+mod HeldOver
+mod HeldStill
 mod LetGoEnds
 mod Freed
 pub mod SlotPut

@@ -1,7 +1,7 @@
 -- What is asked where a tag is taken out of use of what is in a slot: it is known as soon as it is
 -- known that memory is that of a domain.
-use Rattle.std.proofs.Common.{◌≡◌, ◌∙◌, ◌<◌, ◌≤◌, ℕ, zero, suc, Bool, true, false, cond, Option, Some, None, IfSome, IsSome, IsSomeAnd, List, [], ◌∷◌, Contains, is_some, length, slice_get, refl, sym, ap, subst, arith, ⊎_elim, true≢false}
-use Rattle.std.proofs.Math.Logic.{∥∥₁_elim, ∥∥₁_map}
+use Rattle.std.proofs.Common.{◌≡◌, ◌∙◌, ◌<◌, ◌≤◌, ℕ, zero, suc, Bool, true, false, cond, Option, Some, None, IfSome, IsSome, IsSomeAnd, List, [], ◌∷◌, Contains, is_some, slice_get, refl, sym, ap, subst, arith, ⊎_elim, true≢false}
+use Rattle.std.proofs.Math.Logic.{∥∥₁_map}
 use Rattle.std.proofs.lemmas.Bool.{cases_Bool, false_from_ne_true}
 use Rattle.std.specs.Coded.{Coded-set, coded_list}
 use Rattle.std.specs.FinSet.{contains}
@@ -18,7 +18,7 @@ use Rattle.tag_dirs.specs.Directory.{cell_of, has_home}
 use Rattle.tag_dirs.specs.declared.dir.TagPlace.{TagPlace}
 use Rattle.free_space.specs.Spaces.{IsHeld, Spaces, volume_of}
 use Rattle.free_space.specs.VolumeSpace.{VolumeSpace, is_waiting}
-use Rattle.bitfile_cells.specs.Files.{AreFile, IsFile}
+use Rattle.bitfile_cells.specs.Files.{AreFile}
 use Rattle.bitfile_cells.proofs.MapRecords.{kind_found}
 use Rattle.bitfile_core.specs.Changes.{IsLive, is_page_of_first}
 use Rattle.bitfile_core.specs.Files.{AreFiles, Chains, HasFiles, LeadsToFile, attributes_in, attributes_of, is_removed, of_live}
@@ -34,10 +34,10 @@ use Rattle.staged_pages.specs.Store.{pages_of}
 use Rattle.fileset_model.specs.Filesets.{FilesetMap}
 use Rattle.domain_layout.specs.Layout.{first_tag_of}
 use Rattle.domain_layout.specs.Reached.{IsWithin}
-use Rattle.release_laws.specs.Chains.{HasEmptyTags, HasFilesAmong, IndexesAt, StandsInSlot}
+use Rattle.release_laws.specs.Chains.{HasFilesAmong, StandsInSlot}
 use Rattle.release_laws.specs.Domain.{DomainNow, named_by}
-use Rattle.release_laws.specs.Holders.{AreHeldAt, AreHeldOn, Holder, Holds}
-use Rattle.release_laws.specs.Holders.Holder.{of_index, of_log, of_volume}
+use Rattle.release_laws.specs.Holders.{AreHeldAt, AreHeldOn}
+use Rattle.release_laws.specs.Holders.Holder.{of_index}
 use Rattle.release_laws.specs.Sound.{StandsSound}
 use Rattle.release_laws.proofs.IndexWas.{file_was, index_low_was, index_was, live_was, off_cells, off_first, off_tags}
 use Rattle.release_laws.proofs.SlotTogether.{slot_together}

@@ -7,12 +7,12 @@ use Rattle.domain_base.specs.declared.place.Tag.{Tag}
 use Rattle.page_store.specs.Pages.{Pages}
 use Rattle.free_cells.specs.Cells.{is_closed, kept_of}
 use Rattle.free_space.specs.Spaces.{Spaces, kept_spaces, volume_of}
-use Rattle.deferred_delete.specs.Listing.{Adds, Listing}
+use Rattle.deferred_delete.specs.Listing.{Listing}
 use Rattle.fileset_model.specs.Filesets.{FilesetMap}
-use Rattle.fileset_table.specs.Table.{IsTable, Table}
+use Rattle.fileset_table.specs.Table.{IsTable}
 use Rattle.page_ways.specs.Frame.{frame_in}
 use Rattle.quota_book.specs.Book.{Book}
-use Rattle.staged_pages.specs.Store.{before_of, pages_of}
+use Rattle.staged_pages.specs.Store.{pages_of}
 use Rattle.tag_dirs.specs.declared.dir.TagPlace.{TagPlace}
 use Rattle.domain_layout.specs.Read.{contents_of}
 use Rattle.release_laws.specs.Chains.{IsRemoved}

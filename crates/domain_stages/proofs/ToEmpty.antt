@@ -16,7 +16,7 @@ use Rattle.domain_memory.specs.Memory.{with_was}
 use Rattle.domain_memory.specs.Staged.{MayGoBack}
 use Rattle.domain_memory.specs.declared.memory.DomainMemory.{DomainMemory}
 use Rattle.domain_memory.specs.declared.memory.ReplacedSlot.{ReplacedSlot}
-use Rattle.domain_stages.specs.Emptying.{HasNoQuota, MayEmpty, NoneToEmpty}
+use Rattle.domain_stages.specs.Emptying.{MayEmpty, NoneToEmpty}
 
 -- ---- what has no quota cell
 

@@ -5,6 +5,8 @@ pub mod Charging
 pub mod LettingGo
 pub mod Emptying
 pub use Rattle.release_laws.specs.Domain
+pub use Rattle.release_laws.specs.Chains
+pub use Rattle.release_laws.specs.Holders
 pub use Rattle.release_laws.specs.Slots
 pub use Rattle.release_laws.specs.Standing
 pub use Rattle.release_laws.specs.Tables

@@ -13,6 +13,7 @@ ghost use Rattle.staged_pages.specs.Store.{before_of, pages_of};
 ghost use Rattle.stored_index.specs.Changes.{AreHeld, DropsIndex};
 ghost use Rattle.release_laws.specs.Chains.{IsRemoved};
 ghost use Rattle.domain_parts.specs.Slots.{slot_in};
+ghost use Rattle.domain_memory.specs.Held.{held_open};
 ghost use Rattle.domain_memory.specs.Kept.{KeepsKept};
 ghost use Rattle.domain_memory.specs.Memory.{StandsFor};
 ghost use Rattle.domain_memory.specs.Staged.{IsSettled, MayBeKept, MayGoBack};
@@ -61,6 +62,7 @@ fn take_with_index<M: MetaPages>(
         space.old space.new (M.pages pages.old) (M.pages pages.new)) }
     ensures err { OnErr result (M.pages pages.new ≡ M.pages pages.old) }
     ensures none { OnErr result (space.new ≡ space.old) }
+    ensures held { held_open space.new ≤ held_open space.old }
     ensures kept { kept_spaces space.new ≡ kept_spaces space.old }
     ensures same { files.new ≡ files.old }
     ensures before { M.before pages.new ≡ M.before pages.old }
@@ -89,6 +91,7 @@ fn take_of_files(
     ensures takes { IfOk result (λ at. TakesOfFiles group tag at space.old space.new
         (pages_of pages.old) (pages_of pages.new) slot.old) }
     ensures same { slot.new ≡ slot.old }
+    ensures held { held_open space.new ≤ held_open space.old }
     ensures kept { kept_spaces space.new ≡ kept_spaces space.old }
     ensures before { before_of pages.new ≡ before_of pages.old }
 {
@@ -108,6 +111,7 @@ fn take_of_slot(
     ensures takes { IfOk result (λ at. IsSomeAnd slot.old (TakesOfFiles group tag at space.old
         space.new (pages_of pages.old) (pages_of pages.new))) }
     ensures same { slot.new ≡ slot.old }
+    ensures held { held_open space.new ≤ held_open space.old }
     ensures kept { kept_spaces space.new ≡ kept_spaces space.old }
     ensures before { before_of pages.new ≡ before_of pages.old }
 {
@@ -134,6 +138,7 @@ fn take_tag_out(
     requires used { IsUsedIn memory.old number tag }
     ensures ok { (all : FilesetMap) → MayBeKept memory.old all
         → OnOk result (MayBeKept memory.new all) }
+    ensures held { held_open memory.new.space ≤ held_open memory.old.space }
     ensures kept { KeepsKept memory.old memory.new }
     ensures back { ∥ MayGoBack memory.new ∥₁ }
     ensures table { memory.new.table ≡ memory.old.table }
@@ -188,6 +193,7 @@ fn take_tags_out(
     ensures none { IfOk result (λ count. count ≡ 0 → (tag : TagOf)
         → ¬ IsUsedIn memory.old number tag) }
     ensures same { IfOk result (λ count. count ≡ 0 → memory.new ≡ memory.old) }
+    ensures held { held_open memory.new.space ≤ held_open memory.old.space }
     ensures kept { KeepsKept memory.old memory.new }
     ensures back { ∥ MayGoBack memory.new ∥₁ }
     ensures frame { memory.new.frame ≡ memory.old.frame }
@@ -250,6 +256,7 @@ fn free_slot(
     ensures ok { (all : FilesetMap) → StandsFor memory.old all
         → OnOk result (MayBeKept memory.new all) }
     ensures err { OnErr result (memory.new ≡ memory.old) }
+    ensures held { held_open memory.new.space ≤ held_open memory.old.space }
     ensures back { ∥ MayGoBack memory.new ∥₁ }
     ensures frame { memory.new.frame ≡ memory.old.frame }
 {
@@ -279,6 +286,7 @@ fn empty_slot(
     requires back { ∥ MayGoBack memory.old ∥₁ }
     requires may { MayEmpty memory.old number }
     ensures stands { (all : FilesetMap) → StandsFor memory.old all → StandsFor memory.new all }
+    ensures held { held_open memory.new.space ≤ held_open memory.old.space }
     ensures settled { IsSettled memory.new }
     ensures back { ∥ MayGoBack memory.new ∥₁ }
     ensures frame { memory.new.frame ≡ memory.old.frame }
@@ -337,13 +345,15 @@ pub fn may_empty(memory: &DomainMemory) -> bool
 
 /// Makes one change of what is being removed from the first slot that may be emptied, and keeps it:
 /// takes tags of it out of use, fourteen at most, of which the files come on the list, or frees the
-/// slot. The domain stands for the same filesets. It answers whether there was one; if not, nothing
-/// changes. There may only be no memory, and then too the domain stands for them.
+/// slot. The domain stands for the same filesets, and no page more is held. It answers whether there
+/// was one; if not, nothing changes. There may only be no memory, and then too the domain stands
+/// for them.
 pub fn empty_some(memory: &mut DomainMemory, alloc: Global, group: u64) -> Result<bool, OutOfMemory>
     requires settled { IsSettled memory.old }
     requires stands { ∥ StandsForAny memory.old ∥₁ }
     requires back { ∥ MayGoBack memory.old ∥₁ }
     ensures stands { (all : FilesetMap) → StandsFor memory.old all → StandsFor memory.new all }
+    ensures held { held_open memory.new.space ≤ held_open memory.old.space }
     ensures some { IfOk result (λ did. MatchBool did ((number : ℕ) × MayEmpty memory.old number)
         (NoneToEmpty memory.old)) }
     ensures same { IfOk result (λ did. did ≡ false → memory.new ≡ memory.old) }

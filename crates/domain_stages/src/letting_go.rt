@@ -8,6 +8,7 @@ ghost use Rattle.bitfile_cells.specs.MapChanges.{ChangesAtMost};
 ghost use Rattle.bitfile_core.specs.Files.{says_remove};
 ghost use Rattle.deferred_delete.specs.declared.list.Entry.{Entry as EntryOf};
 ghost use Rattle.domain_layout.specs.CellRules.{says_directory};
+ghost use Rattle.domain_memory.specs.Held.{held_open};
 ghost use Rattle.domain_memory.specs.Kept.{KeepsKept};
 ghost use Rattle.domain_memory.specs.Memory.{StandsFor};
 ghost use Rattle.domain_memory.specs.Staged.{IsSettled, MayBeKept, MayGoBack};
@@ -89,8 +90,8 @@ pub fn may_let_go(memory: &DomainMemory) -> bool
 
 /// Lets go of things on a domain's list, one after the other, sixteen at most, with which at most
 /// so many pages of metadata change, five or more; the bits of bitmaps stay for now. What no file
-/// has any more waits for the group. It answers how many, 0 exactly where nothing may be let go of.
-/// The filesets stay what they are. No change may be laid over the domain before, and this one is
+/// has any more waits for the group, and no page more is held. It answers how many, 0 exactly where
+/// nothing may be let go of. The filesets stay what they are. No change may be laid over the domain before, and this one is
 /// to be kept: the list is not taken back. There may only be no memory, and then all is as it was.
 pub fn let_go(
     memory: &mut DomainMemory,
@@ -110,6 +111,7 @@ pub fn let_go(
     ensures most { IfOk result (λ count. count ≤ 16) }
     ensures few { OnOk result (ChangesAtMost most (pages_of memory.old.pages)
         (pages_of memory.new.pages)) }
+    ensures held { held_open memory.new.space ≤ held_open memory.old.space }
     ensures kept { OnErr result (KeepsKept memory.old memory.new) }
     ensures settled { OnErr result (IsSettled memory.new) }
     ensures back { ∥ MayGoBack memory.new ∥₁ }

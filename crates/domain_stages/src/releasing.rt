@@ -4,6 +4,7 @@ ghost use Rattle.std.specs.Prelude.{◌≡◌, ◌≤◌, ◌↔◌, true, IfOk,
 ghost use Rattle.fileset_model.specs.Filesets.{FilesetMap};
 ghost use Rattle.free_space.specs.Spaces.{free_pages};
 ghost use Rattle.deferred_delete.specs.Listing.{IsEmpty};
+ghost use Rattle.domain_memory.specs.Held.{held_open};
 ghost use Rattle.domain_memory.specs.Memory.{StandsFor};
 ghost use Rattle.domain_memory.specs.Staged.{IsSettled, MayGoBack};
 ghost use Rattle.domain_stages.specs.Emptying.{NothingGoes};
@@ -23,14 +24,16 @@ const MOST_PAGES: u32 = 32;
 
 /// Lets go of some of the things on a domain's list, sixteen at most, and keeps that; or, where
 /// nothing on it may be let go of, makes one change of what is being removed from a slot. The
-/// domain stands for the same filesets. It answers how many, 0 exactly where nothing is left to be
-/// given up now, and then nothing changes; no clause says what is left once something was given up.
-/// There may only be no memory, and then too the domain stands for them.
+/// domain stands for the same filesets, and no page more is held. It answers how many, 0 exactly
+/// where nothing is left to be given up now, and then nothing changes; no clause says what is left
+/// once something was given up. There may only be no memory, and then too the domain stands for
+/// them.
 pub fn release(memory: &mut DomainMemory, alloc: Global) -> Result<u32, OutOfMemory>
     requires settled { IsSettled memory.old }
     requires stands { ∥ StandsForAny memory.old ∥₁ }
     requires back { ∥ MayGoBack memory.old ∥₁ }
     ensures stands { (all : FilesetMap) → StandsFor memory.old all → StandsFor memory.new all }
+    ensures held { held_open memory.new.space ≤ held_open memory.old.space }
     ensures some { IfOk result (λ count. (count ≡ 0) ↔ NothingGoes memory.old) }
     ensures none { IfOk result (λ count. count ≡ 0 → memory.new ≡ memory.old) }
     ensures most { IfOk result (λ count. count ≤ 16) }
@@ -52,10 +55,13 @@ pub fn release(memory: &mut DomainMemory, alloc: Global) -> Result<u32, OutOfMem
 fn free_waiting(memory: &mut DomainMemory)
     requires settled { IsSettled memory.old }
     ensures stands { (all : FilesetMap) → StandsFor memory.old all → StandsFor memory.new all }
+    ensures held { held_open memory.new.space ≤ held_open memory.old.space }
     ensures none { NoneWaits memory.new.space }
     ensures settled { IsSettled memory.new }
     ensures same { memory.new ≡ record memory.old { space = memory.new.space } }
 {
+    // asked for what is always so of free space, by which no page more is held
+    let _ = memory.space.misses();
     memory.space.free_waiting();
 }
 
@@ -72,6 +78,7 @@ pub struct Drained {
 fn tell_drained(memory: &mut DomainMemory) -> Drained
     requires settled { IsSettled memory.old }
     ensures stands { (all : FilesetMap) → StandsFor memory.old all → StandsFor memory.new all }
+    ensures held { held_open memory.new.space ≤ held_open memory.old.space }
     ensures none { NoneWaits memory.new.space }
     ensures free { result.free ≡ sum_by free_pages memory.new.space.volumes }
     ensures done { (result.is_done ≡ true) ↔ IsEmpty memory.new.list.list }
@@ -88,7 +95,7 @@ fn tell_drained(memory: &mut DomainMemory) -> Drained
 /// Lets go of what is on a domain's list, and of what is being removed from slots, one release
 /// after the other, until nothing may be given up, and frees all pages that wait then. So where
 /// `is_done` is false, something is on the list that cannot be let go of yet. The domain stands for
-/// the same filesets, after an error too.
+/// the same filesets, and no page more is held, after an error too.
 ///
 /// `OutOfMemory` comes where memory was short for a release, and where 2^64 - 1 releases were not
 /// enough, which no domain has to let go of.
@@ -97,6 +104,7 @@ pub fn drain(memory: &mut DomainMemory, alloc: Global) -> Result<Drained, OutOfM
     requires stands { ∥ StandsForAny memory.old ∥₁ }
     requires back { ∥ MayGoBack memory.old ∥₁ }
     ensures stands { (all : FilesetMap) → StandsFor memory.old all → StandsFor memory.new all }
+    ensures held { held_open memory.new.space ≤ held_open memory.old.space }
     ensures ends { OnOk result (NothingGoes memory.new) }
     ensures none { IfOk result (λ drained. NoneWaits memory.new.space) }
     ensures free { IfOk result (λ drained. drained.free

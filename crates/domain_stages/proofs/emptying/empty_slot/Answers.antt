@@ -1,11 +1,13 @@
-use Rattle.std.proofs.Common.{◌≡◌, arith, subst, sym}
+use Rattle.std.proofs.Common.{◌≡◌, ◌≤◌, arith, subst, sym}
 use Rattle.std.proofs.Math.Logic.{∥∥₁_map}
 use Rattle.domain_memory.proofs.KeptStands.{stands_so, stands_still}
 use Rattle.domain_memory.proofs.SettledKept.{settled_kept}
+use Rattle.domain_memory.specs.Held.{held_open}
 use Rattle.domain_memory.specs.Memory.{StandsFor}
 use Rattle.domain_memory.specs.Staged.{IsStagedForSome, MayBeKept}
 use Rattle.domain_memory.specs.declared.memory.DomainMemory.{DomainMemory}
 use Rattle.domain_stages.specs.LettingGo.{StandsForAny}
+use Rattle.domain_stages.proofs.HeldStill.{back_held, kept_held}
 use Rattle.domain_stages.proofs.emptying.empty_slot.Goals as goal
 use Rattle.domain_stages.proofs.emptying.empty_slot.Goals.{then-count-eq0+in_ok-free_slot, else-count-eq0}
 
@@ -42,3 +44,15 @@ returns-clause-stands c = λ all stood. c.keep.ensures.stands all (elim c.if-cou
   | else-count-eq0 w ↦
       subst (λ (m : DomainMemory). MayBeKept m all) (sym w.memory-is) (c.in-Ok.ensures.ok all (settled_kept c.args.memory.now all c.requires.settled stood))
 ])
+
+pub returns-in_default-clause-held : goal.returns-in_default-clause-held
+returns-in_default-clause-held c =
+    back_held c.args.memory.now c.take_back.new.self c.requires.settled c.take_tags_out.new.memory c.in_default.ensures.kept c.take_back.ensures.kept c.take_back.ensures.settled
+
+pub returns-clause-held : goal.returns-clause-held
+returns-clause-held c =
+    let most = held_open c.args.memory.now.space in
+    kept_held most c.if-count-eq0.memory c.keep.new.self c.keep.ensures.space (elim c.if-count-eq0.branch [
+      | then-count-eq0+in_ok-free_slot w ↦ subst (λ (m : DomainMemory). held_open m.space ≤ most) (sym w.memory-is) (omega (arith, c.in-Ok.ensures.held, w.in_ok-free_slot.ensures.held))
+      | else-count-eq0 w ↦ subst (λ (m : DomainMemory). held_open m.space ≤ most) (sym w.memory-is) c.in-Ok.ensures.held
+    ])

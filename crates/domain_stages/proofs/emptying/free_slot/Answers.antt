@@ -1,4 +1,4 @@
-use Rattle.std.proofs.Common.{◌∙◌, ◌<◌, ◌≤◌, length, rules, None, List, Contains, refl, ap, subst, sym}
+use Rattle.std.proofs.Common.{◌<◌, ◌≤◌, arith, length, rules, None, List, Contains, refl, ap, subst, sym}
 use Rattle.domain_base.specs.declared.place.Home.{Home}
 use Rattle.chain_release.specs.Releases.{AreAllOnce}
 use Rattle.free_space.specs.Spaces.{Spaces}
@@ -9,9 +9,11 @@ use Rattle.deferred_laws.specs.Links.{homes_of}
 use Rattle.release_laws.specs.Chains.{IsRemoved}
 use Rattle.staged_pages.specs.Store.{pages_of}
 use Rattle.domain_parts.specs.Slots.{places_in, slot_in}
+use Rattle.domain_memory.specs.Held.{held_open}
 use Rattle.domain_memory.proofs.SettledKept.{settled_kept}
 use Rattle.domain_memory.specs.declared.memory.DomainMemory.{DomainMemory}
 use Rattle.domain_stages.proofs.FreedMemory.{back_freed, drops_its, drops_none, freed_so, its_places}
+use Rattle.domain_stages.proofs.HeldOver.{waiting_less}
 use Rattle.domain_stages.proofs.LeftOver.{asks_held, asks_low, asks_once, left_over, must_be, slot_within}
 use Rattle.domain_stages.proofs.LetGoEnds.{stands_staged}
 use Rattle.domain_stages.proofs.SlotPut.{asks_no_clone, asks_page}
@@ -94,3 +96,16 @@ take_slot-requires c =
     let memory = c.args.memory.now in
     let low : c.args.number < 32 = search rules in
     subst (λ (m : DomainMemory). c.args.number < length m.slots.items) (sym c.in_ok-put_in_table.ensures.ok.same) (slot_within memory c.args.number low c.requires.back)
+
+pub returns-in-Some-clause-held : goal.returns-in-Some-clause-held
+returns-in-Some-clause-held c =
+    let mid = c.put_in_table.new.memory in
+    let less = waiting_less (homes_of c.tag_places-places.result.now) c.args.group mid.space in
+    let is = ap held_open c.give_tags_back.ensures.drops.waits in
+    let same = ap (λ (m : DomainMemory). held_open m.space) c.in_ok-put_in_table.ensures.ok.same in
+    omega (arith, less, is, same)
+
+pub returns-in_default-take_slot-clause-held : goal.returns-in_default-take_slot-clause-held
+returns-in_default-take_slot-clause-held c =
+    let same = ap (λ (m : DomainMemory). held_open m.space) c.in_ok-put_in_table.ensures.ok.same in
+    omega (arith, same)

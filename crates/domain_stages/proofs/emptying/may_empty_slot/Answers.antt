@@ -1,4 +1,4 @@
-use Rattle.std.proofs.Common.{◌≡◌, ◌∙◌, true, MatchBool, not, ap, subst, sym, true≢false}
+use Rattle.std.proofs.Common.{◌∙◌, MatchBool, not, ap, subst, sym, true≢false}
 use Rattle.domain_stages.specs.Emptying.{MayEmpty}
 use Rattle.domain_stages.proofs.LetGoEnds.{last_none, none_of}
 use Rattle.domain_stages.proofs.ToEmpty.{may_be_freed}

@@ -1,4 +1,4 @@
-use Rattle.std.proofs.Common.{◌≡◌, ◌∙◌, ◌<◌, ◌≤◌, IsSomeAnd, arith, ap, length, refl, rules, subst, sym}
+use Rattle.std.proofs.Common.{◌∙◌, ◌<◌, ◌≤◌, IsSomeAnd, arith, ap, length, refl, rules, subst, sym}
 use Rattle.std.proofs.Math.Logic.{∥∥₁_map}
 use Rattle.std.specs.Vec.{with_item}
 use Rattle.staged_pages.specs.Store.{pages_of}

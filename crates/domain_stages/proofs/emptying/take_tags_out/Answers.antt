@@ -1,7 +1,6 @@
-use Rattle.std.proofs.Common.{◌∙◌, arith, ap, slice_get, subst, sym}
+use Rattle.std.proofs.Common.{◌∙◌, arith}
 use Rattle.std.proofs.Math.Logic.{∥∥₁_map}
 use Rattle.domain_memory.proofs.KeptStands.{kept_joined}
-use Rattle.domain_stages.proofs.SlotPut.{on_ok}
 use Rattle.domain_stages.proofs.emptying.take_tags_out.Goals as goal
 
 pub used_tag-requires-clause-ready : goal.used_tag-requires-clause-ready
@@ -14,6 +13,7 @@ pub loop-count-preserved : goal.loop-count-preserved
 loop-count-preserved c = record {
   ok = λ all may. c.in_ok-take_tag_out.ensures.ok all (c.loop-count.invariant.ok all may);
   same = λ none. absurd (omega (arith, none));
+  held = omega (arith, c.loop-count.invariant.held, c.in_ok-take_tag_out.ensures.held);
   kept = kept_joined c.args.memory.now c.loop-count.memory c.take_tag_out.new.memory c.loop-count.invariant.kept c.in_ok-take_tag_out.ensures.kept;
   back = c.in_ok-take_tag_out.ensures.back;
   table = c.in_ok-take_tag_out.ensures.table ∙ c.loop-count.invariant.table;

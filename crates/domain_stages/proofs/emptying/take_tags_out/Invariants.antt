@@ -1,5 +1,6 @@
-use Rattle.std.proofs.Common.{◌≡◌}
+use Rattle.std.proofs.Common.{◌≡◌, ◌≤◌}
 use Rattle.fileset_model.specs.Filesets.{FilesetMap}
+use Rattle.domain_memory.specs.Held.{held_open}
 use Rattle.domain_memory.specs.Kept.{KeepsKept}
 use Rattle.domain_memory.specs.Staged.{MayBeKept, MayGoBack}
 use Rattle.domain_stages.proofs.emptying.take_tags_out.Given as goal
@@ -8,6 +9,7 @@ abbrev pub invariant-loop-count : goal.invariant-loop-count
 invariant-loop-count l = record {
   ok : (all : FilesetMap) → MayBeKept l.initial.memory all → MayBeKept l.memory all;
   same : l.count ≡ 0 → l.memory ≡ l.initial.memory;
+  held : held_open l.memory.space ≤ held_open l.initial.memory.space;
   kept : KeepsKept l.initial.memory l.memory;
   back : ∥ MayGoBack l.memory ∥₁;
   table : l.memory.table ≡ l.initial.memory.table;

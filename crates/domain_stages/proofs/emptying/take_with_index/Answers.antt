@@ -3,6 +3,8 @@ use Rattle.bitfile_core.specs.declared.bitfiles.Bitfiles.{Bitfiles}
 use Rattle.bitfile_core.specs.Changes.{without_chain}
 use Rattle.bitfile_core.specs.Together.{AreTogether}
 use Rattle.free_space.specs.Spaces.{kept_spaces}
+use Rattle.domain_memory.specs.Held.{held_open}
+use Rattle.domain_stages.proofs.HeldOver.{waiting_less}
 use Rattle.domain_stages.proofs.WithIndex.{homes_still, homes_were, takes_none, takes_some, waiting_kept}
 use Rattle.domain_stages.proofs.emptying.take_with_index.Goals as goal
 
@@ -64,3 +66,15 @@ returns-clause-kept g c =
     let old = g.M.MetaPages.pages c.args.pages.now in
     let drops = c.drop_index.ensures.dropped apart.homes (homes_still c.args.group files.fileset files.tags c.args.tag c.args.space.now old chains are live c.in-Some.index told apart (g.M.MetaPages.pages c.take_out.new.pages) c.in_ok-at.ensures.beside) in
     ap kept_spaces drops.waits ∙ waiting_kept apart.homes c.args.group c.args.space.now
+
+pub returns-clause-held : goal.returns-clause-held
+returns-clause-held g c =
+    let (chains, are) = c.requires.files in
+    let files = c.args.files.now in
+    let live = c.requires.live chains are in
+    let apart = c.requires.index chains are in
+    let told = sym c.in-Some.is ∙ c.index.ensures chains are in
+    let drops = c.drop_index.ensures.dropped apart.homes (homes_still c.args.group files.fileset files.tags c.args.tag c.args.space.now (g.M.MetaPages.pages c.args.pages.now) chains are live c.in-Some.index told apart (g.M.MetaPages.pages c.take_out.new.pages) c.in_ok-at.ensures.beside) in
+    let less = waiting_less apart.homes c.args.group c.args.space.now in
+    let is = ap held_open drops.waits in
+    omega (arith, less, is)

@@ -1,4 +1,4 @@
-use Rattle.std.proofs.Common.{◌≡◌, ◌∙◌, ◌<◌, arith, ap, length, rules, refl, subst, sym}
+use Rattle.std.proofs.Common.{◌∙◌, ◌<◌, arith, ap, length, rules, subst, sym}
 use Rattle.std.proofs.Math.Logic.{∥∥₁_map}
 use Rattle.domain_parts.specs.Slots.{slot_in}
 use Rattle.domain_stages.proofs.LeftOver.{slot_within}

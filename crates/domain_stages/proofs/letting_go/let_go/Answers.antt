@@ -8,6 +8,7 @@ use Rattle.staged_pages.specs.Store.{pages_of}
 use Rattle.domain_memory.specs.declared.memory.DomainMemory.{DomainMemory}
 use Rattle.domain_memory.proofs.SettledKept.{settled_kept}
 use Rattle.domain_stages.specs.LettingGo.{MayLetGo}
+use Rattle.domain_stages.proofs.HeldOver.{list_less}
 use Rattle.domain_stages.proofs.LetGo.{let_go_so}
 use Rattle.domain_stages.proofs.LetGoEnds.{asks_well, back_stays, never_lacks}
 use Rattle.domain_stages.proofs.letting_go.let_go.Goals as goal
@@ -67,3 +68,11 @@ returns-in-Ok-clause-none c = λ zero.
     let memory = c.args.memory.now in
     let may = MatchBool-at_true (MayLetGo memory) (¬ MayLetGo memory) c.if-not-may_let_go.false c.may_let_go.ensures in
     absurd (may.some (subst IsEmpty c.start_over.ensures.list (c.in-Ok.ensures.some.0 zero)))
+
+pub returns-in-Ok-clause-held : goal.returns-in-Ok-clause-held
+returns-in-Ok-clause-held c =
+    let memory = c.args.memory.now in
+    let now : DomainMemory = record memory { pages = c.release_some.new.pages; space = c.release_some.new.space; cells = c.release_some.new.cells; list = c.release_some.new.self } in
+    list_less c.args.group c.in-Ok.count memory now c.requires.settled (λ files well.
+    subst (λ (l : Listing). LetsGo c.args.group memory.frame.version (now_of l files memory.space memory.cells (pages_of memory.pages)) c.in-Ok.count c.release_some.new.self.list c.release_some.new.space c.release_some.new.cells (pages_of c.release_some.new.pages)) c.start_over.ensures.list
+    (c.in-Ok.ensures.ok files (subst (λ (l : Listing). IsWell (now_of l files memory.space memory.cells (pages_of memory.pages))) (sym c.start_over.ensures.list) well))) c.requires.stands

@@ -13,6 +13,7 @@ returns-in_err-count-clause-stands c = λ all stood. c.release.ensures.stands al
 pub loop-preserved : goal.loop-preserved
 loop-preserved c = record {
   stands = λ all stood. c.release.ensures.stands all (c.loop.invariant.stands all stood);
+  held = omega (arith, c.release.ensures.held, c.loop.invariant.held);
   settled = c.release.ensures.settled;
   back = c.release.ensures.back;
   frame = c.release.ensures.frame ∙ c.loop.invariant.frame;

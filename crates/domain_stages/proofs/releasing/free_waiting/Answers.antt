@@ -1,5 +1,7 @@
-use Rattle.std.proofs.Common.{refl, sym, subst}
+use Rattle.std.proofs.Common.{ap, arith, refl, sym, subst}
 use Rattle.free_space.specs.Spaces.{Spaces}
+use Rattle.domain_memory.specs.Held.{held_open}
+use Rattle.domain_memory.proofs.Held.{held_freed}
 use Rattle.domain_stages.specs.LettingGo.{NoneWaits}
 use Rattle.domain_stages.proofs.Freed.{freed_settled, freed_stands, none_waits}
 use Rattle.domain_stages.proofs.releasing.free_waiting.Goals as goal
@@ -12,3 +14,9 @@ returns-clause-none c = subst (λ (s : Spaces). NoneWaits s) (sym c.free_waiting
 
 pub returns-clause-settled : goal.returns-clause-settled
 returns-clause-settled c = let memory = c.args.memory.now in freed_settled memory (record memory { space = c.free_waiting.new.self }) refl c.free_waiting.ensures c.requires.settled
+
+pub returns-clause-held : goal.returns-clause-held
+returns-clause-held c =
+    let less = held_freed c.args.memory.now.space c.misses.ensures.sound in
+    let is = ap held_open c.free_waiting.ensures in
+    omega (arith, less, is)

@@ -4,6 +4,8 @@ use Rattle.domain_memory.proofs.KeptStands.{stands_so}
 use Rattle.domain_memory.specs.Memory.{StandsFor}
 use Rattle.domain_memory.specs.declared.memory.DomainMemory.{DomainMemory}
 use Rattle.domain_stages.specs.LettingGo.{StandsForAny}
+use Rattle.domain_memory.specs.Held.{held_open}
+use Rattle.domain_stages.proofs.HeldStill.{kept_held}
 use Rattle.domain_stages.proofs.releasing.release.Goals as goal
 
 pub returns-in_err-count-clause-stands : goal.returns-in_err-count-clause-stands
@@ -23,3 +25,6 @@ keep-requires-clause-staged c = ∥∥₁_map c.requires.stands (λ s. (s.0, (c.
 
 pub returns-clause-stands : goal.returns-clause-stands
 returns-clause-stands c = λ all stood. c.keep.ensures.stands all (c.in_ok-count.ensures.ok all stood)
+
+pub returns-clause-held : goal.returns-clause-held
+returns-clause-held c = kept_held (held_open c.args.memory.now.space) c.let_go.new.memory c.keep.new.self c.keep.ensures.space c.let_go.ensures.held
