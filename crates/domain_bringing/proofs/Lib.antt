@@ -9,3 +9,4 @@ pub mod Held
 pub mod Loggable
 pub mod Means
 pub mod Recovered
+pub mod InARow
