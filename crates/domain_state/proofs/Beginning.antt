@@ -24,6 +24,7 @@ use Rattle.domain_memory.specs.Memory.{StandsFor, kept_in}
 use Rattle.domain_memory.specs.declared.memory.DomainMemory.{DomainMemory}
 use Rattle.domain_state.specs.History.{GoesOn, LeadsTo, StandsForSome}
 use Rattle.domain_state.specs.Opening.{IsStartOf}
+use Rattle.domain_state.specs.Room.{IsWithinRoom}
 
 -- pages are read in one way
 reads_once : (pages : Pages) (home : Home) (all other : FilesetMap) → ReadsFrom pages home all → ReadsFrom pages home other → LooksLike all other
@@ -54,11 +55,11 @@ module _ (memory : DomainMemory) (sizes : List ℕ) where
   leads_none : (all : FilesetMap) → StandsFor memory all → LeadsTo (before_of memory.pages) (frame_in memory.frame) sizes [] None all
   leads_none all stands start is = ∣ legal_none start all (looks_so all stands start is) ∣₁
 
-  goes_on : ∥ StandsForSome memory ∥₁ → ∥ GoesOn (before_of memory.pages) (frame_in memory.frame) sizes memory [] None ∥₁
-  goes_on held = ∥∥₁_map held (λ some. record { same = refl; all = some.0; stands = some.1; leads = leads_none some.0 some.1 })
+  goes_on : ((all : FilesetMap) → StandsFor memory all → IsWithinRoom (before_of memory.pages) (frame_in memory.frame) sizes memory []) → ∥ StandsForSome memory ∥₁ → ∥ GoesOn (before_of memory.pages) (frame_in memory.frame) sizes memory [] None ∥₁
+  goes_on within held = ∥∥₁_map held (λ some. record { same = refl; all = some.0; stands = some.1; leads = leads_none some.0 some.1; within = within some.0 some.1 })
 
   -- the same by other names
-  pub begun : (pages : Pages) (frame : Frame) → pages ≡ before_of memory.pages → frame ≡ frame_in memory.frame → ∥ StandsForSome memory ∥₁ → ∥ GoesOn pages frame sizes memory [] None ∥₁
-  begun pages frame pages_are frame_is held =
+  pub begun : (pages : Pages) (frame : Frame) → pages ≡ before_of memory.pages → frame ≡ frame_in memory.frame → ((all : FilesetMap) → StandsFor memory all → IsWithinRoom (before_of memory.pages) (frame_in memory.frame) sizes memory []) → ∥ StandsForSome memory ∥₁ → ∥ GoesOn pages frame sizes memory [] None ∥₁
+  begun pages frame pages_are frame_is within held =
       subst (λ (f : Frame). ∥ GoesOn pages f sizes memory [] None ∥₁) (sym frame_is)
-      (subst (λ (p : Pages). ∥ GoesOn p (frame_in memory.frame) sizes memory [] None ∥₁) (sym pages_are) (goes_on held))
+      (subst (λ (p : Pages). ∥ GoesOn p (frame_in memory.frame) sizes memory [] None ∥₁) (sym pages_are) (goes_on within held))

@@ -1,21 +1,25 @@
 -- A history goes on by an entry whose change is kept.
-use Rattle.std.proofs.Common.{◌≡◌, ◌∙◌, ◌++◌, ◌∷◌, [], ℕ, List, Option, ap}
+use Rattle.std.proofs.Common.{◌≡◌, ◌∙◌, ◌++◌, ◌∷◌, [], ℕ, List, Option, ap, arith}
 use Rattle.std.proofs.Math.Logic.{∥∥₁_map}
 use Rattle.page_store.specs.Pages.{Pages}
 use Rattle.fileset_model.specs.Filesets.{FilesetMap}
 use Rattle.fileset_model.specs.declared.command.Command.{Command}
 use Rattle.fileset_model.specs.declared.entry.Entry.{Entry}
+use Rattle.deferred_delete.proofs.Lists.{longer}
 use Rattle.history_model.specs.State.{State}
 use Rattle.history_laws.specs.GoingOn.{job_left}
 use Rattle.history_laws.proofs.GoesOn.{goes_on_from}
 use Rattle.page_ways.specs.Frame.{frame_in}
 use Rattle.domain_layout.specs.Reached.{Frame}
 use Rattle.domain_standing.specs.Domain.{DomainNow}
+use Rattle.domain_memory.specs.Held.{held_open}
 use Rattle.domain_memory.specs.Memory.{StandsFor, books_in, kept_in}
 use Rattle.domain_memory.specs.Staged.{IsStagedForSome, MayBeKept}
 use Rattle.domain_memory.specs.declared.memory.DomainMemory.{DomainMemory}
 use Rattle.domain_state.specs.History.{GoesOn, MayCommit, MayCommitUnchanged}
+use Rattle.domain_state.specs.Room.{HoldsFew}
 use Rattle.domain_state.proofs.NoClones.{have_no_clone}
+use Rattle.domain_state.proofs.StaysWithin.{within_back, within_committed, within_longer}
 use Rattle.domain_memory.proofs.KeptStands.{stands_still}
 
 module _ (pages : Pages) (frame : Frame) (sizes : List ℕ) (old : DomainMemory) (entries : List Entry) (job : Option Command) (e : Entry) (held : ∥ GoesOn pages frame sizes old entries job ∥₁)
@@ -23,8 +27,8 @@ module _ (pages : Pages) (frame : Frame) (sizes : List ℕ) (old : DomainMemory)
   pub is_staged : ∥ IsStagedForSome old ∥₁
   is_staged = ∥∥₁_map held (λ goes. let m = may goes.all goes.stands in (m.now, m.kept.staged))
 
-  pub committed : (new : DomainMemory) → new.frame ≡ old.frame → ((all : FilesetMap) → MayBeKept old all → StandsFor new all) → ∥ GoesOn pages frame sizes new (entries ++ e ∷ []) (job_left e.actor job) ∥₁
-  committed new anchor kept = ∥∥₁_map held (λ goes.
+  pub committed : (new : DomainMemory) → new.frame ≡ old.frame → held_open (kept_in new).space ≡ held_open old.space → HoldsFew old → ((all : FilesetMap) → MayBeKept old all → StandsFor new all) → ∥ GoesOn pages frame sizes new (entries ++ e ∷ []) (job_left e.actor job) ∥₁
+  committed new anchor keeps few kept = ∥∥₁_map held (λ goes.
       let m = may goes.all goes.stands in
       record {
         same = ap frame_in anchor ∙ goes.same;
@@ -32,12 +36,13 @@ module _ (pages : Pages) (frame : Frame) (sizes : List ℕ) (old : DomainMemory)
         stands = kept m.now m.kept;
         leads = λ start is. ∥∥₁_map (goes.leads start is) (λ legal.
             goes_on_from start (record start { filesets = goes.all }) (record start { filesets = m.now }) entries job e (have_no_clone (kept_in old) goes.all goes.stands.stands.slots) legal (m.step start is));
+        within = within_committed pages frame sizes old new entries e keeps few goes.within;
       })
 
 pub discarded : (pages : Pages) (frame : Frame) (sizes : List ℕ) (old new : DomainMemory) (entries : List Entry) (job : Option Command) → ∥ GoesOn pages frame sizes old entries job ∥₁
     → kept_in new ≡ kept_in old → books_in new ≡ books_in old → ∥ GoesOn pages frame sizes new entries job ∥₁
 discarded pages frame sizes old new entries job held kept books =
-    ∥∥₁_map held (λ goes. record { same = ap (λ (d : DomainNow). d.frame) kept ∙ goes.same; all = goes.all; stands = stands_still old new goes.all kept books goes.stands; leads = goes.leads })
+    ∥∥₁_map held (λ goes. record { same = ap (λ (d : DomainNow). d.frame) kept ∙ goes.same; all = goes.all; stands = stands_still old new goes.all kept books goes.stands; leads = goes.leads; within = within_back pages frame sizes old new entries kept goes.within })
 
 -- and so it does by one that changes nothing
 pub unchanged : (pages : Pages) (frame : Frame) (sizes : List ℕ) (memory : DomainMemory) (entries : List Entry) (job : Option Command) (e : Entry) → ∥ GoesOn pages frame sizes memory entries job ∥₁
@@ -49,4 +54,5 @@ unchanged pages frame sizes memory entries job e held may = ∥∥₁_map held (
   leads = λ start is. ∥∥₁_map (goes.leads start is) (λ legal.
       let now : State = record start { filesets = goes.all } in
       goes_on_from start now now entries job e (have_no_clone (kept_in memory) goes.all goes.stands.stands.slots) legal (may goes.all goes.stands start is));
+  within = within_longer pages frame sizes memory memory entries (entries ++ e ∷ []) goes.within (omega arith) (omega (arith, longer entries e));
 })

@@ -1,4 +1,6 @@
+pub mod StaysWithin
 pub mod Beginning
+pub mod BegunWithin
 pub mod Calm
 pub mod Committing
 pub mod NoClones

@@ -94,10 +94,10 @@ module _ (anchor : Anchor) (members : MemberMap) (agree : (vol : ℕ) (member : 
 
 -- ---- what they count
 
-abbrev opened_pages : Member → ℕ
+abbrev pub opened_pages : Member → ℕ
 opened_pages m = if m.is_open then m.pages else 0
 
-open_sum : (ms : List Member) → sum_by (λ m. m.pages) (filter (λ m. m.is_open) ms) ≡ sum_by opened_pages ms
+pub open_sum : (ms : List Member) → sum_by (λ m. m.pages) (filter (λ m. m.is_open) ms) ≡ sum_by opened_pages ms
 open_sum [] = refl
 open_sum (m ∷ ms) = by_test m.is_open (open_sum ms) (sum_by-cons opened_pages m ms)
   where

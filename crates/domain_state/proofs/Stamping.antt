@@ -11,6 +11,7 @@ use Rattle.history_laws.proofs.Restamped.{restamped}
 use Rattle.domain_layout.specs.Reached.{Frame}
 use Rattle.domain_memory.specs.declared.memory.DomainMemory.{DomainMemory}
 use Rattle.domain_state.specs.History.{AreStamped, GoesOn, with_last_stamped}
+use Rattle.domain_state.proofs.StaysWithin.{within_longer}
 
 -- ---- the last one of some entries
 
@@ -62,6 +63,7 @@ module _ (pages : Pages) (frame : Frame) (sizes : List ℕ) (memory : DomainMemo
     all = goes.all;
     stands = goes.stands;
     leads = λ start is. ∥∥₁_map (goes.leads start is) (λ legal. restamped start (record start { filesets = goes.all }) front job last calls legal (front_stamped calls front last stamps));
+    within = within_longer pages frame sizes memory memory (front ++ last ∷ []) (front ++ stamped calls last ∷ []) goes.within (omega arith) (omega (arith, longer front last, longer front (stamped calls last)));
   })
 
   pub ended : (entries : List Entry) → AreStamped true calls entries → ∥ GoesOn pages frame sizes memory entries job ∥₁ → ∥ GoesOn pages frame sizes memory (with_last_stamped calls entries) job ∥₁

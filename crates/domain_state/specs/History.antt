@@ -16,6 +16,7 @@ use Rattle.domain_memory.specs.Staged.{MayBeKept}
 use Rattle.history_laws.specs.GoingOn.{MayGoOnFrom, stamped}
 use Rattle.domain_memory.specs.declared.memory.DomainMemory.{DomainMemory}
 use Rattle.domain_state.specs.Opening.{IsStartOf}
+use Rattle.domain_state.specs.Room.{IsWithinRoom}
 
 -- from each state that the pages at the opening mean the entries lead to these filesets, with all else
 -- as it was, while this job runs
@@ -27,13 +28,15 @@ LeadsTo pages frame sizes entries job all = (start : State) → IsStartOf pages 
 abbrev pub StandsForSome : DomainMemory → Type 0
 StandsForSome memory = (all : FilesetMap) × StandsFor memory all
 
--- with the anchor and version with which it was opened, and the entries lead to them
+-- with the anchor and version with which it was opened, the entries lead to them, and no more pages
+-- are held than they have room for
 pub record GoesOn (pages : Pages) (frame : Frame) (sizes : List ℕ) (memory : DomainMemory)
     (entries : List Entry) (job : Option Command) : Type 0 where
   pub same : frame_in memory.frame ≡ frame
   pub all : FilesetMap
   pub stands : StandsFor memory all
   pub leads : LeadsTo pages frame sizes entries job all
+  pub within : IsWithinRoom pages frame sizes memory entries
 
 -- ** A change that is kept
 

@@ -1,4 +1,5 @@
 pub mod Opening
+pub mod Room
 pub mod History
 pub mod Rest
 pub mod Members

@@ -25,6 +25,7 @@ ghost use Rattle.domain_state.specs.History.{
 };
 ghost use Rattle.domain_state.specs.Opening.{IsStartOf};
 ghost use Rattle.domain_state.specs.Rest.{IsAtRest};
+ghost use Rattle.domain_state.specs.Room.{HoldsFew};
 
 use crate::Attached;
 use crate::history::History;
@@ -55,8 +56,8 @@ impl Opening for Brand {
 }
 
 /// A domain that was opened. The commands since then, with their replies, lead from each state that
-/// its pages meant then to the filesets for which it stands now. Its rack is at rest: no change has
-/// been written yet.
+/// its pages meant then to the filesets for which it stands now, and no more pages are held than
+/// that state and these commands have room for. Its rack is at rest: no change has been written yet.
 #[derive(Drop)]
 pub struct Domain<R: Rack, O: Opening> {
     memory: DomainMemory,
@@ -102,6 +103,8 @@ impl<R: Rack, O: Opening> Domain<R, O> {
         ensures memory { result.memory ≡ attached.memory }
     {
         let Attached { rack, memory, .. } = attached;
+        // asked for what is always so of free space, by which pages are counted
+        let _ = memory.space.misses();
         Domain {
             memory,
             history: History::begin(alloc, rack),
@@ -126,12 +129,13 @@ impl<R: Rack, O: Opening> Domain<R, O> {
 
     /// Keeps the change that is laid over the domain, and adds the command whose change it is, with
     /// its reply, which tells of no volume that panicked: one in each event, which gets its stamp
-    /// where that ends. The mover's own entry ends its job. It takes no memory, and the time of
-    /// what the change has changed.
+    /// where that ends. At most 24 pages more are held with the change than before it. The mover's
+    /// own entry ends its job. It takes no memory, and the time of what the change has changed.
     pub fn commit(&mut self, entry: Entry)
         requires first { ⟦<Domain<R, O> as Told>⟧.rests self.old }
         requires room { 1 ≤ ⟦<Domain<R, O> as Told>⟧.room self.old }
         requires calm { IsCalm entry.reply }
+        requires few { HoldsFew self.old.memory }
         requires step { (all : FilesetMap) → StandsFor self.old.memory all → MayCommit O.pages
             O.frame O.sizes self.old.memory (⟦<Domain<R, O> as Told>⟧.history self.old)
             (⟦<Domain<R, O> as Told>⟧.begun self.old) entry all }

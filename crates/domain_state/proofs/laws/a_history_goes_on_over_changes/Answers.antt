@@ -1,6 +1,7 @@
 use Rattle.std.proofs.Common.{◌∙◌, ap}
 use Rattle.page_ways.specs.Frame.{frame_in}
 use Rattle.domain_memory.proofs.KeptStands.{stands_so}
+use Rattle.domain_state.proofs.StaysWithin.{within_kept}
 use Rattle.domain_state.proofs.laws.a_history_goes_on_over_changes.Goals as goal
 
 pub returns : goal.returns
@@ -9,4 +10,5 @@ returns c = λ pages frame sizes old new entries job kept goes. record {
   all = goes.all;
   stands = stands_so old new kept goes.all goes.stands;
   leads = goes.leads;
+  within = within_kept pages frame sizes old new entries kept goes.within;
 }

@@ -1,4 +1,5 @@
 use Rattle.std.proofs.Common.{◌∙◌}
+use Rattle.domain_state.proofs.StaysWithin.{settled_few}
 use Rattle.state_tests.proofs.Synced.{is_calm, may_sync}
 use Rattle.state_tests.proofs.opened.opened.Goals as goal
 
@@ -11,3 +12,6 @@ commit-requires-clause-step g c =
 
 pub commit-requires-clause-calm : goal.commit-requires-clause-calm
 commit-requires-clause-calm g c = is_calm _ c.synced.ensures
+
+pub commit-requires-clause-few : goal.commit-requires-clause-few
+commit-requires-clause-few g c = settled_few c.discard.new.self.memory c.discard.ensures.settled

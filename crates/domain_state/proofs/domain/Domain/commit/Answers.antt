@@ -2,6 +2,7 @@ use Rattle.std.proofs.Common.{◌++◌, ◌∷◌, [], List, Option, sym, ap, su
 use Rattle.fileset_model.specs.declared.command.Command.{Command}
 use Rattle.fileset_model.specs.declared.entry.Entry.{Entry}
 use Rattle.page_ways.specs.declared.frame.DomainFrame.{DomainFrame}
+use Rattle.domain_memory.proofs.Held.{keeps_held}
 use Rattle.domain_state.specs.History.{GoesOn}
 use Rattle.domain_state.proofs.Committing.{committed, is_staged}
 use Rattle.domain_state.proofs.Resting.{rests_still}
@@ -25,7 +26,7 @@ invariant_of-self g c =
       stands =
           subst (λ (entries : List Entry). ∥ GoesOn o.pages o.frame o.sizes new entries c.add.new.self.job ∥₁) (sym c.add.ensures.entries)
           (subst (λ (job : Option Command). ∥ GoesOn o.pages o.frame o.sizes new (it.history.entries.items ++ c.args.entry ∷ []) job ∥₁) (sym c.add.ensures.job)
-          (committed o.pages o.frame o.sizes it.memory it.history.entries.items it.history.job c.args.entry it.stands c.requires.step new c.keep.ensures.frame c.keep.ensures.stands));
+          (committed o.pages o.frame o.sizes it.memory it.history.entries.items it.history.job c.args.entry it.stands c.requires.step new c.keep.ensures.frame (keeps_held it.memory new c.keep.ensures.space) c.requires.few c.keep.ensures.stands));
       back = c.keep.ensures.back;
       rest = rests_still (g.R.Rack.disk it.history.rack) (g.R.Rack.disk c.add.new.self.rack) it.memory.frame.anchor new.frame.anchor (ap g.R.Rack.disk c.add.ensures.rack) (ap (λ (f : DomainFrame). f.anchor) c.keep.ensures.frame) it.rest;
     }

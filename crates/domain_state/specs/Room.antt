@@ -1,0 +1,21 @@
+-- How many pages a domain may hold, where its history has come to.
+use Rattle.std.specs.Prelude.{ℕ, ◌+◌, ◌*◌, ◌≤◌, List, length}
+use Rattle.page_store.specs.Pages.{Pages}
+use Rattle.fileset_model.specs.declared.entry.Entry.{Entry}
+use Rattle.history_model.specs.Room.{room}
+use Rattle.history_model.specs.State.{State}
+use Rattle.domain_layout.specs.Reached.{Frame}
+use Rattle.domain_memory.specs.Held.{held_open}
+use Rattle.domain_memory.specs.Memory.{kept_in}
+use Rattle.domain_memory.specs.declared.memory.DomainMemory.{DomainMemory}
+use Rattle.domain_state.specs.Opening.{IsStartOf}
+
+-- as memory was kept, no more pages are held than were old at the opening, than the state may take
+-- that the pages meant then, and than 24 for each entry since
+abbrev pub IsWithinRoom : Pages → Frame → List ℕ → DomainMemory → List Entry → Type 0
+IsWithinRoom pages frame sizes memory entries = (start : State) → IsStartOf pages frame sizes start
+    → held_open (kept_in memory).space ≤ start.old_pages + room start + 24 * length entries
+
+-- the change that is laid over memory leaves at most 24 pages more held
+abbrev pub HoldsFew : DomainMemory → Type 0
+HoldsFew memory = held_open memory.space ≤ held_open (kept_in memory).space + 24
