@@ -329,6 +329,7 @@ module _ (end s : Status) (prints : PrintsAs end s) where
         frame = leads.frame;
         opened = leads.opened;
         meant = leads.meant;
+        some = leads.some;
         leads = ∥∥₁_map leads.leads (λ is. record { all = is.all; leads = is.leads; kept = λ closed. is.kept (closed.0, ended_well closed.1) });
       })
   ended_run (a_form.Make version) old new history leads = absurd leads

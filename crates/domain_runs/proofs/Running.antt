@@ -18,8 +18,9 @@ use Rattle.domain_layout.specs.Reached.{Frame}
 use Rattle.page_ways.specs.Frame.{frame_in}
 use Rattle.domain_memory.specs.Memory.{StandsFor, kept_in}
 use Rattle.domain_memory.specs.declared.memory.DomainMemory.{DomainMemory}
-use Rattle.domain_state.specs.History.{GoesOn}
+use Rattle.domain_state.specs.History.{GoesOn, StandsForSome}
 use Rattle.domain_state.specs.Opening.{IsStartOf}
+use Rattle.domain_state.proofs.AttachedStart.{has_start}
 use Rattle.domain_state.proofs.NewStart.{is_start}
 use Rattle.layout_laws.specs.NewDomain.{IsNew}
 use Rattle.domain_making.specs.Making.{IsOnFirst, new_frame, pages_in_use}
@@ -64,13 +65,14 @@ runs_new version old made new memory entries closed touches fresh frame leads = 
 
 -- a domain that was attached runs from what the rack had
 pub runs_from : (old attached new : Disk) (memory : DomainMemory) (sizes : List ℕ) (entries : List Entry) (closed : Type 0) → Touches old attached Anywhere → sizes ≡ attached.sizes
-    → (Tells old → IsReadFrom old.sizes old.now.contents memory) → (Tells old → (all : FilesetMap) → Means old.sizes old.now.contents all → StandsFor memory all)
+    → ∥ StandsForSome memory ∥₁ → (Tells old → IsReadFrom old.sizes old.now.contents memory) → (Tells old → (all : FilesetMap) → Means old.sizes old.now.contents all → StandsFor memory all)
     → ∥ LeadsFrom (before_of memory.pages) (frame_in memory.frame) sizes entries new (Tells attached × closed) ∥₁ → RunsFrom old new entries closed
-runs_from old attached new memory sizes entries closed touches same from means leads = record {
+runs_from old attached new memory sizes entries closed touches same stands from means leads = record {
   pages = before_of memory.pages;
   frame = frame_in memory.frame;
   opened = λ told. let is = from told in (is.found, is.anchor, is.same);
   meant = λ told all meant home at. reads_so (kept_in memory) all home (means told all meant).stands at (λ place. refl);
+  some = ∥∥₁_map stands (λ of_some. has_start memory old.sizes of_some.0 of_some.1);
   leads = subst (λ (l : List ℕ). ∥ LeadsFrom (before_of memory.pages) (frame_in memory.frame) l entries new (Tells old × closed) ∥₁) (same ∙ touches.sizes)
       (leads_since (before_of memory.pages) (frame_in memory.frame) sizes entries old attached new closed (λ told. touches.told ∙ told) leads);
 }

@@ -57,13 +57,14 @@ AreOpenedFrom sizes image pages frame = (found : Redone)
     × (frame.anchor ≡ rested_anchor found) × IsBroughtFrom sizes image pages found
 
 -- the entries lead from what a rack had to what it has now: the pages at the start are those of its
--- contents, and mean what these meant
+-- contents, and mean what these meant; whatever the rack tells, there is a state that they mean
 pub record RunsFrom (old new : Disk) (entries : List Entry) (closed : Type 0) : Type 0 where
   pub pages : Pages
   pub frame : Frame
   pub opened : Tells old → AreOpenedFrom old.sizes old.now.contents pages frame
   pub meant : Tells old → (all : FilesetMap) → Means old.sizes old.now.contents all
       → (home : Home) → frame.anchor.table ≡ Some home → ReadsFrom pages home all
+  pub some : ∥ (start : State) × IsStartOf pages frame old.sizes start ∥₁
   pub leads : ∥ LeadsFrom pages frame old.sizes entries new (Tells old × closed) ∥₁
 
 -- each entry was answered after so many calls of the rack, and at most so many

@@ -13,7 +13,7 @@ returns-in-Ok-run_attached-clause-legal g c =
     let disk = g.R.Rack.disk in
     let attached = c.in-Ok.attached in
     let ran = c.in-Ok-run_attached.ran in
-    runs_from (disk c.args.rack) (disk attached.rack) (disk ran.rack) attached.memory (disk attached.rack).sizes ran.history.items (ran.end ≡ status.Ok) c.in-Ok.ensures.touches refl c.in-Ok.ensures.from
+    runs_from (disk c.args.rack) (disk attached.rack) (disk ran.rack) attached.memory (disk attached.rack).sizes ran.history.items (ran.end ≡ status.Ok) c.in-Ok.ensures.touches refl attached.stands c.in-Ok.ensures.from
     c.in-Ok.ensures.means c.in-Ok-run_attached.ensures.legal
 
 pub returns-in-Ok-run_attached-clause-touches : goal.returns-in-Ok-run_attached-clause-touches
