@@ -11,3 +11,4 @@ pub mod AtClose
 pub mod MayRead
 pub mod Converted
 pub use Rattle.anchor_laws.proofs.OneMeaning
+pub mod Rows

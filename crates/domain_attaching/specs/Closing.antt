@@ -1,9 +1,9 @@
 -- The pages of a domain in memory, brought home.
-use Rattle.std.specs.Prelude.{◌≡◌, ◌⊎◌, ℕ, Bool, IfSome}
+use Rattle.std.specs.Prelude.{◌≡◌, ◌⊎◌, ℕ, ◌+◌, ◌*◌, ◌^◌, ◌<◌, ◌≤◌, Bool, List, Option, IfSome, IsSome, length, slice_range}
 use Rattle.domain_base.specs.declared.place.Home.{Home}
 use Rattle.page_store.specs.Pages.{Pages}
-use Rattle.volume_disk.specs.Disk.{Disk, IsSettled, MayLeave, Tells, raised_at}
-use Rattle.volume_disk.specs.Image.{Image, Places, page_at}
+use Rattle.volume_disk.specs.Disk.{Disk, IsSettled, MayLeave, Tells, raised_at, volume_pages}
+use Rattle.volume_disk.specs.Image.{Image, IsIn, Places, page_at}
 use Rattle.volume_disk.specs.Run.{Touches}
 use Rattle.disk_label.specs.declared.anchor.Anchor.{Anchor}
 use Rattle.log_ring.specs.Homes.{IsLoggable}
@@ -37,6 +37,39 @@ IsChosen anchor tables of_tables home =
 abbrev pub IsChosenOn : ℕ → Anchor → TablePages → Bool → Home → Type 0
 IsChosenOn vol anchor tables of_tables home =
     (home.vol ≡ vol) × IsChosen anchor tables of_tables home
+
+-- such a page that is in memory, so that it is to be brought home
+abbrev pub IsToBring : Pages → Anchor → TablePages → Bool → Home → Type 0
+IsToBring pages anchor tables of_tables home =
+    IsChosen anchor tables of_tables home × IsSome (pages home)
+
+-- ** Pages that stand in a row
+
+-- each page of a volume from one up to another has a property
+abbrev pub AreBetween : ℕ → ℕ → ℕ → (Home → Type 0) → Type 0
+AreBetween vol first end P =
+    (page : ℕ) → first ≤ page → page < end → P (record { vol = vol; page = page })
+
+-- the bytes of so many pages of a volume from one on
+abbrev pub IsOnRow : ℕ → ℕ → ℕ → Places
+IsOnRow vol first count = IsIn vol (8192 * first) (8192 * count)
+
+-- all of them are the rack's
+pub record AreOnRack (sizes : List ℕ) (vol first count : ℕ) : Type 0 where
+  pub low : 1 ≤ vol
+  pub high : vol ≤ length sizes
+  pub within : first + count ≤ volume_pages sizes vol
+  pub limit : first + count < 2 ^ 28
+
+-- page k of bytes that were read
+abbrev pub page_in : List ℕ → ℕ → List ℕ
+page_in found k = slice_range found (8192 * k) (8192 * k + 8192)
+
+-- what memory has for a home stands there on an image
+abbrev pub StandsHome : Pages → Image → Home → Type 0
+StandsHome pages image home = IfSome (pages home) (λ page. page_at image home.vol home.page ≡ page)
+
+-- ** Homes
 
 -- such a page that is in memory stands at its home on an image
 abbrev pub IsHome : Pages → Anchor → Image → Home → Type 0

@@ -1,5 +1,5 @@
 //! Closing a domain.
-ghost use Rattle.std.specs.Prelude.{◌≡◌, IfErr, IfOk, OnErr, OnOk, length};
+ghost use Rattle.std.specs.Prelude.{◌≡◌, ◌*◌, IfErr, IfOk, OnErr, OnOk, length};
 ghost use Rattle.disk_label.specs.Fault.{HasPassed};
 ghost use Rattle.log_ring.specs.Homes.{HasMembers};
 ghost use Rattle.staged_pages.specs.Store.{before_of, pages_of};
@@ -12,6 +12,7 @@ ghost use Rattle.domain_attaching.specs.Closing.{AreHome, AreTheseHome, HasClose
 
 use crate::closing_fault::CloseFault;
 use crate::homeward::bring_pages_home;
+use crate::row::MOST_AT_ONCE;
 use crate::tables::{TablePages, table_pages};
 use domain_base::limits::PAGE_BYTES;
 use domain_memory::DomainMemory;
@@ -29,8 +30,8 @@ fn bring_and_sync<R: Rack>(
     found: &mut [u8],
 ) -> Result<(), CloseFault>
     requires members { HasMembers (R.disk rack.old).sizes memory.now.frame.anchor }
-    requires buffer { length found.old ≡ PAGE_BYTES }
-    ensures buffer { length found.new ≡ PAGE_BYTES }
+    requires buffer { length found.old ≡ PAGE_BYTES * MOST_AT_ONCE }
+    ensures buffer { length found.new ≡ PAGE_BYTES * MOST_AT_ONCE }
     ensures touches { Touches (R.disk rack.old) (R.disk rack.new)
         (IsOnThese (IsChosen memory.now.frame.anchor tables.now of_tables)) }
     ensures stays { OnOk result (StayHome (pages_of memory.now.pages) memory.now.frame.anchor
@@ -61,7 +62,7 @@ fn bring_in_order<R: Rack>(
     found: &mut [u8],
 ) -> Result<(), CloseFault>
     requires members { HasMembers (R.disk rack.old).sizes memory.now.frame.anchor }
-    requires buffer { length found.old ≡ PAGE_BYTES }
+    requires buffer { length found.old ≡ PAGE_BYTES * MOST_AT_ONCE }
     requires tables { AreTables (layout_of (staged_in memory.now)) tables.now }
     ensures touches { Touches (R.disk rack.old) (R.disk rack.new)
         (IsOnLoggable memory.now.frame.anchor) }
@@ -95,7 +96,7 @@ fn write_back<R: Rack>(alloc: Global, rack: &mut R, memory: &DomainMemory) -> Re
     let Ok(tables) = table_pages(alloc, memory) else {
         return Err(CloseFault::OutOfMemory);
     };
-    let Ok(mut found) = vec![in alloc; 0; PAGE_BYTES] else {
+    let Ok(mut found) = vec![in alloc; 0; PAGE_BYTES * MOST_AT_ONCE as usize] else {
         return Err(CloseFault::OutOfMemory);
     };
     bring_in_order(rack, memory, &tables, &mut found)

@@ -1,23 +1,22 @@
 //! The pages of a domain in memory, brought home.
-ghost use Rattle.std.specs.Prelude.{◌≡◌, ◌↔◌, ◌+◌, IfErr, IfSome, IsTrue, OnOk, Option, length, option_copied};
+ghost use Rattle.std.specs.Prelude.{◌≡◌, ◌↔◌, ◌+◌, ◌*◌, ◌<◌, ◌≤◌, IfErr, IsTrue, OnOk, length};
 ghost use Rattle.disk_label.specs.Fault.{HasPassed};
-ghost use Rattle.log_ring.specs.Homes.{HasMembers, IsHomeOf, IsLoggable};
-ghost use Rattle.log_ring.specs.Settling.{IsOnPage};
+ghost use Rattle.log_ring.specs.Homes.{HasMembers, IsLoggable, member_of};
 ghost use Rattle.staged_pages.specs.Store.{pages_of};
 ghost use Rattle.volume_disk.specs.Disk.{Tells};
-ghost use Rattle.volume_disk.specs.Image.{page_at};
-ghost use Rattle.volume_disk.specs.Run.{NamesWriteFault, OnlyWrites, Touches};
-ghost use Rattle.domain_attaching.specs.Closing.{AreTheseHome, HasFailed, IsChosen, IsChosenOn, IsHome, IsOnThese, StayHome};
+ghost use Rattle.volume_disk.specs.Run.{Touches};
+ghost use Rattle.domain_attaching.specs.Closing.{AreBetween, AreTheseHome, HasFailed, IsChosen, IsChosenOn, IsOnThese, IsToBring, StayHome};
 
 use crate::closing_fault::CloseFault;
+use crate::row::{MOST_AT_ONCE, bring_row};
 use crate::tables::TablePages;
 use disk_label::ANCHORS_PAGE;
-use domain_base::limits::{BLOCKS_PER_PAGE, MAX_VOLUMES, PAGE_BYTES};
-use domain_base::{Home, Page, VolIx};
+use domain_base::limits::{MAX_VOLUMES, PAGE_BYTES};
+use domain_base::{Home, VolIx};
 use domain_memory::DomainMemory;
 use page_store::MetaPages;
 use page_ways::DomainFrame;
-use volume_disk::{Rack, read_blocks, write_blocks};
+use volume_disk::Rack;
 
 /// Whether a page is one of a member, behind its label and anchors and outside of the log.
 fn is_loggable(frame: &DomainFrame, home: &Home) -> bool
@@ -34,79 +33,48 @@ fn is_chosen(memory: &DomainMemory, tables: &TablePages, of_tables: bool, home: 
     is_loggable(&memory.frame, home) && tables.has(home) == of_tables
 }
 
-/// Writes a page to its home.
-fn write_page<R: Rack>(rack: &mut R, home: &Home, page: &Page) -> Result<(), VolIx>
-    requires { IsHomeOf (R.disk rack.old).sizes home.now }
-    ensures writes { OnlyWrites (R.disk rack.old) (R.disk rack.new) (IsOnPage home.now) }
-    ensures written { OnOk result (Tells (R.disk rack.old)
-        → page_at (R.disk rack.new).now.contents home.now.vol home.now.page ≡ page.now) }
-    ensures fault { NamesWriteFault (R.disk rack.old) (R.disk rack.new) result }
+/// Whether a page in memory is to be brought home: it may be written, and is or is not of a table,
+/// as is asked.
+fn is_to_bring(memory: &DomainMemory, tables: &TablePages, of_tables: bool, home: &Home) -> bool
+    ensures { IsTrue result ↔ IsToBring (pages_of memory.now.pages) memory.now.frame.anchor
+        tables.now of_tables home.now }
 {
-    write_blocks(rack, home.vol, BLOCKS_PER_PAGE * home.page, page.bytes())
+    is_chosen(memory, tables, of_tables, home) && memory.pages.get(*home).is_some()
 }
 
-/// Writes a page to its home where another one stands there, which is read.
-fn bring_page_home<R: Rack>(
-    rack: &mut R,
-    home: &Home,
-    page: &Page,
-    found: &mut [u8],
-) -> Result<(), CloseFault>
-    requires on { IsHomeOf (R.disk rack.old).sizes home.now }
-    requires buffer { length found.old ≡ PAGE_BYTES }
-    ensures buffer { length found.new ≡ PAGE_BYTES }
-    ensures touches { Touches (R.disk rack.old) (R.disk rack.new) (IsOnPage home.now) }
-    ensures there { OnOk result (Tells (R.disk rack.old)
-        → page_at (R.disk rack.new).now.contents home.now.vol home.now.page ≡ page.now) }
-    ensures passed { OnOk result (HasPassed (R.disk rack.old) (R.disk rack.new)) }
-    ensures cause { IfErr result (HasFailed (R.disk rack.old) (R.disk rack.new)) }
-{
-    match read_blocks(rack, home.vol, BLOCKS_PER_PAGE * home.page, found) {
-        Ok(()) => {}
-        Err(vol) => return Err(CloseFault::Read { vol }),
-    }
-    if *found == *page.bytes() {
-        return Ok(());
-    }
-    match write_page(rack, home, page) {
-        Ok(()) => Ok(()),
-        Err(vol) => Err(CloseFault::Write { vol }),
-    }
-}
-
-/// The same of the page that is in memory for a home, where there is one that may be written, and
-/// that is or is not of a table.
-fn bring_home_at<R: Rack>(
-    rack: &mut R,
+/// Where the pages end that are to be brought home and stand in a row from one of a member on, of
+/// which no more are told than one call reads.
+fn end_of_row(
     memory: &DomainMemory,
     tables: &TablePages,
     of_tables: bool,
-    home: &Home,
-    found: &mut [u8],
-) -> Result<(), CloseFault>
-    requires members { HasMembers (R.disk rack.old).sizes memory.now.frame.anchor }
-    requires buffer { length found.old ≡ PAGE_BYTES }
-    ensures buffer { length found.new ≡ PAGE_BYTES }
-    ensures touches { Touches (R.disk rack.old) (R.disk rack.new)
-        (IsOnThese (IsChosen memory.now.frame.anchor tables.now of_tables)) }
-    ensures stays { OnOk result (StayHome (pages_of memory.now.pages) memory.now.frame.anchor
-        (R.disk rack.old) (R.disk rack.new)) }
-    ensures there { let new = R.disk rack.new in OnOk result (Tells (R.disk rack.old)
-        → IsChosen memory.now.frame.anchor tables.now of_tables home.now
-        → IsHome (pages_of memory.now.pages) memory.now.frame.anchor new.now.contents home.now) }
-    ensures passed { OnOk result (HasPassed (R.disk rack.old) (R.disk rack.new)) }
-    ensures cause { IfErr result (HasFailed (R.disk rack.old) (R.disk rack.new)) }
+    vol: VolIx,
+    first: u32,
+) -> u32
+    requires { first < (member_of memory.now.frame.anchor vol).pages }
+    ensures row { AreBetween vol first result (IsToBring (pages_of memory.now.pages)
+        memory.now.frame.anchor tables.now of_tables) }
+    ensures none { result ≡ first → ¬ IsToBring (pages_of memory.now.pages)
+        memory.now.frame.anchor tables.now of_tables (record { vol = vol; page = first }) }
+    ensures from { first ≤ result }
+    ensures most { result ≤ first + MOST_AT_ONCE }
+    ensures within { result ≤ (member_of memory.now.frame.anchor vol).pages }
 {
-    if !is_chosen(memory, tables, of_tables, home) {
-        return Ok(());
+    let end = memory
+        .frame
+        .member(vol)
+        .pages
+        .min(first.saturating_add(MOST_AT_ONCE));
+    for page in first..end {
+        if !is_to_bring(memory, tables, of_tables, &Home { vol, page }) {
+            return page;
+        }
     }
-    match memory.pages.get(*home) {
-        Some(page) => bring_page_home(rack, home, page, found),
-        None => Ok(()),
-    }
+    end
 }
 
-/// The same of all homes of a volume.
+/// Writes the pages of a volume to their homes that are in memory and may be written, and that are
+/// or are not of a table, where others stand there.
 fn bring_home_on<R: Rack>(
     rack: &mut R,
     memory: &DomainMemory,
@@ -116,8 +84,8 @@ fn bring_home_on<R: Rack>(
     found: &mut [u8],
 ) -> Result<(), CloseFault>
     requires members { HasMembers (R.disk rack.old).sizes memory.now.frame.anchor }
-    requires buffer { length found.old ≡ PAGE_BYTES }
-    ensures buffer { length found.new ≡ PAGE_BYTES }
+    requires buffer { length found.old ≡ PAGE_BYTES * MOST_AT_ONCE }
+    ensures buffer { length found.new ≡ PAGE_BYTES * MOST_AT_ONCE }
     ensures touches { Touches (R.disk rack.old) (R.disk rack.new)
         (IsOnThese (IsChosen memory.now.frame.anchor tables.now of_tables)) }
     ensures stays { OnOk result (StayHome (pages_of memory.now.pages) memory.now.frame.anchor
@@ -128,14 +96,19 @@ fn bring_home_on<R: Rack>(
     ensures passed { OnOk result (HasPassed (R.disk rack.old) (R.disk rack.new)) }
     ensures cause { IfErr result (HasFailed (R.disk rack.old) (R.disk rack.new)) }
 {
-    for page in 0..memory.frame.member(vol).pages {
-        bring_home_at(rack, memory, tables, of_tables, &Home { vol, page }, found)?;
+    let mut page = 0;
+    while page < memory.frame.member(vol).pages {
+        let end = end_of_row(memory, tables, of_tables, vol, page);
+        if page < end {
+            bring_row(rack, &memory.pages, vol, page, end - page, found)?;
+        }
+        page = end.max(page + 1);
     }
     Ok(())
 }
 
 /// Writes each page in memory that may be written, and that is or is not of a table, to its home,
-/// once, where another one stands there.
+/// once, where another one stands there: those that stand in a row by one call, sixty-four at most.
 pub(crate) fn bring_pages_home<R: Rack>(
     rack: &mut R,
     memory: &DomainMemory,
@@ -144,8 +117,8 @@ pub(crate) fn bring_pages_home<R: Rack>(
     found: &mut [u8],
 ) -> Result<(), CloseFault>
     requires members { HasMembers (R.disk rack.old).sizes memory.now.frame.anchor }
-    requires buffer { length found.old ≡ PAGE_BYTES }
-    ensures buffer { length found.new ≡ PAGE_BYTES }
+    requires buffer { length found.old ≡ PAGE_BYTES * MOST_AT_ONCE }
+    ensures buffer { length found.new ≡ PAGE_BYTES * MOST_AT_ONCE }
     ensures touches { Touches (R.disk rack.old) (R.disk rack.new)
         (IsOnThese (IsChosen memory.now.frame.anchor tables.now of_tables)) }
     ensures stays { OnOk result (StayHome (pages_of memory.now.pages) memory.now.frame.anchor

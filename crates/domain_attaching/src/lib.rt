@@ -8,6 +8,7 @@ mod closing;
 mod closing_fault;
 mod fault;
 mod homeward;
+mod row;
 mod settling;
 mod tables;
 

@@ -1,4 +1,5 @@
-use Rattle.std.proofs.Common.{◌≡◌, ◌<◌, length}
+use Rattle.std.proofs.Common.{◌≡◌, ◌-◌, ◌*◌, ◌<◌, length}
+use Rattle.log_ring.specs.Homes.{member_of}
 use Rattle.volume_disk.specs.Disk.{Tells}
 use Rattle.volume_disk.specs.Run.{Touches}
 use Rattle.disk_label.specs.Fault.{HasPassed}
@@ -12,8 +13,11 @@ invariant-loop-page g l =
     let anchor = l.memory.frame.anchor in
     record {
       touches : Touches (disk l.fn.rack) (disk l.rack) (IsOnThese (IsChosen anchor l.tables l.of_tables));
-      buffer : length l.found ≡ 8192;
+      buffer : length l.found ≡ 8192 * 64;
       passed : HasPassed (disk l.fn.rack) (disk l.rack);
       stays : StayHome (pages_of l.memory.pages) anchor (disk l.fn.rack) (disk l.rack);
       there : Tells (disk l.fn.rack) → AreTheseHome (λ home. (home.vol ≡ l.vol) × (home.page < l.page) × IsChosen anchor l.tables l.of_tables home) (pages_of l.memory.pages) anchor (disk l.rack).now.contents;
     }
+
+abbrev pub decreases-loop-page : goal.decreases-loop-page
+decreases-loop-page g l = (member_of l.memory.frame.anchor l.vol).pages - l.page

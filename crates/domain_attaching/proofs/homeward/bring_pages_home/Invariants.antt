@@ -1,4 +1,4 @@
-use Rattle.std.proofs.Common.{◌≡◌, ◌<◌, length}
+use Rattle.std.proofs.Common.{◌≡◌, ◌*◌, ◌<◌, length}
 use Rattle.volume_disk.specs.Disk.{Tells}
 use Rattle.volume_disk.specs.Run.{Touches}
 use Rattle.disk_label.specs.Fault.{HasPassed}
@@ -12,7 +12,7 @@ invariant-loop-number g l =
     let anchor = l.memory.frame.anchor in
     record {
       touches : Touches (disk l.fn.rack) (disk l.rack) (IsOnThese (IsChosen anchor l.tables l.of_tables));
-      buffer : length l.found ≡ 8192;
+      buffer : length l.found ≡ 8192 * 64;
       passed : HasPassed (disk l.fn.rack) (disk l.rack);
       stays : StayHome (pages_of l.memory.pages) anchor (disk l.fn.rack) (disk l.rack);
       there : Tells (disk l.fn.rack) → AreTheseHome (λ home. (home.vol < l.number) × IsChosen anchor l.tables l.of_tables home) (pages_of l.memory.pages) anchor (disk l.rack).now.contents;

@@ -1,0 +1,22 @@
+use Rattle.std.proofs.Common.{◌-◌, ◌≡◌, ◌+◌, ◌*◌, ◌<◌, ◌≤◌, ℕ, length}
+use Rattle.disk_label.specs.Fault.{HasPassed}
+use Rattle.staged_pages.specs.Store.{pages_of}
+use Rattle.volume_disk.specs.Disk.{Tells}
+use Rattle.volume_disk.specs.Image.{page_at}
+use Rattle.volume_disk.specs.Run.{Touches}
+use Rattle.domain_attaching.specs.Closing.{IsOnRow, StandsHome, page_in}
+use Rattle.domain_attaching.proofs.row.write_changed.Given as goal
+
+abbrev pub invariant-loop-at : goal.invariant-loop-at
+invariant-loop-at g l =
+    let disk = g.R.Rack.disk in
+    record {
+      touches : Touches (disk l.fn.rack) (disk l.rack) (IsOnRow l.vol l.first l.count);
+      passed : HasPassed (disk l.fn.rack) (disk l.rack);
+      size : length l.found ≡ 8192 * l.count;
+      home : Tells (disk l.fn.rack) → (k : ℕ) → k < l.at → k < l.count → StandsHome (pages_of l.pages) (disk l.rack).now.contents (record { vol = l.vol; page = l.first + k });
+      read : Tells (disk l.fn.rack) → (k : ℕ) → l.at ≤ k → k < l.count → page_in l.found k ≡ page_at (disk l.rack).now.contents l.vol (l.first + k);
+    }
+
+abbrev pub decreases-loop-at : goal.decreases-loop-at
+decreases-loop-at g l = l.count - l.at
