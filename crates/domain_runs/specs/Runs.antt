@@ -64,7 +64,7 @@ pub record RunsFrom (old new : Disk) (entries : List Entry) (closed : Type 0) : 
   pub opened : Tells old → AreOpenedFrom old.sizes old.now.contents pages frame
   pub meant : Tells old → (all : FilesetMap) → Means old.sizes old.now.contents all
       → (home : Home) → frame.anchor.table ≡ Some home → ReadsFrom pages home all
-  pub some : ∥ (start : State) × IsStartOf pages frame old.sizes start ∥₁
+  pub some : ∥ ((start : State) × IsStartOf pages frame old.sizes start) ∥₁
   pub leads : ∥ LeadsFrom pages frame old.sizes entries new (Tells old × closed) ∥₁
 
 -- each entry was answered after so many calls of the rack, and at most so many
