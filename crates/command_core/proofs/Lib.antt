@@ -25,9 +25,11 @@ pub mod Filed
 pub mod FileAnswers
 pub mod Refunded
 pub mod Written
-pub mod PathsCounted
-pub mod Present
 pub mod Wanted
+pub mod FewHeld
+pub mod VolumesHeld
+pub mod OpenPages
+pub mod Tightness
 pub mod WaysSplit
 pub mod AtRoot
 pub mod RootMoved

@@ -150,20 +150,6 @@ none_among (x ∷ xs) (suc k) is = let all = sum_by-cons waiting_pages x xs in n
 pub none_waits : (space : Spaces) → sum_by waiting_pages space.volumes ≡ 0 → NoneWaits space
 none_waits space is vol = none_among space.volumes (vol - 1) is
 
--- ---- fewer pages than may be needed
-
-module _ (pages : Pages) (frame : Frame) (sizes : List ℕ) (history : List Entry) (job : Option Command) (all : FilesetMap) where
-  pub may_lack : (there taken members more : ℕ) → ((start : State) → IsStartOf pages frame sizes start → there ≡ open_pages start) → taken ≤ 3 * present_pages all + 4 * path_count all → ((start : State) → IsStartOf pages frame sizes start → members ≡ map.len start.members)
-      → there < 24 * length history + taken + 64 * members + 512 + more → MayLackPages pages frame sizes history job all more
-  may_lack there taken members more is_open are counted few start is point comes same =
-      let state : State = record start { filesets = all } in
-      let open_are : open_pages point.state ≡ there = ap open_pages same ∙ sym (is_open start is) in
-      let room_is : room point.state ≡ 3 * present_pages all + 4 * path_count all + 64 * map.len start.members + 512 = ap room same in
-      let least = comes_with_room start history job point comes in
-      let entries = comes_with_entries start history job point comes in
-      let many = counted start is in
-      omega (arith, open_are, room_is, least, entries, many, are, few)
-
 -- ---- the step
 
 refuses_none : (a b : Option Refusal) → a ≡ None → b ≡ None → first_refusal (a ∷ b ∷ []) ≡ None

@@ -1,24 +1,19 @@
 -- Want of pages.
-use Rattle.std.specs.Prelude.{◌≡◌, ◌+◌, ◌*◌, ◌<◌, ◌/◌, ℕ, List, Option, if◌then◌else◌, slice_get, sum_by}
+use Rattle.std.specs.Prelude.{◌≡◌, ◌<◌, ℕ, List, Option, sum_by}
 use Rattle.page_store.specs.Pages.{Pages}
-use Rattle.domain_base.specs.Limits.{blocks_per_page}
 use Rattle.free_space.specs.Spaces.{free_pages}
-use Rattle.quota_book.specs.Book.{used}
 use Rattle.fileset_model.specs.Filesets.{FilesetMap}
 use Rattle.fileset_model.specs.declared.command.Command.{Command}
 use Rattle.fileset_model.specs.declared.command.Command.TheVariants.{Create, Link, Mkdir, Mkfset, Rename, Setquota, Write}
-use Rattle.fileset_model.specs.declared.command.Owner.TheVariants.{Fileset}
 use Rattle.fileset_model.specs.declared.entry.Entry.{Entry}
-use Rattle.fileset_model.specs.declared.fileset.Usage.{Usage}
 use Rattle.history_model.specs.Point.{Point, Tight}
 use Rattle.history_model.specs.Room.{need}
 use Rattle.history_model.specs.State.{State}
 use Rattle.history_laws.specs.GoingOn.{ComesTo}
-use Rattle.domain_layout.specs.CellRules.{of_original}
 use Rattle.domain_layout.specs.Reached.{Frame}
-use Rattle.domain_memory.specs.Staged.{staged_books}
 use Rattle.domain_memory.specs.declared.memory.DomainMemory.{DomainMemory}
-use Rattle.domain_stages.specs.LettingGo.{MayLetGo, NoneWaits}
+use Rattle.domain_stages.specs.Emptying.{NothingGoes}
+use Rattle.domain_stages.specs.LettingGo.{NoneWaits}
 use Rattle.domain_state.specs.Opening.{IsStartOf}
 
 -- the commands that may be answered no-space, of those that are answered here
@@ -36,22 +31,12 @@ MayTake command = ⊥
 abbrev pub free_in : DomainMemory → ℕ
 free_in memory = sum_by free_pages memory.space.volumes
 
--- how many pages may be taken for files and directories of which so much is used: 3 for each page
--- of a file, and 4 for a path to each
-abbrev pub room_used : Usage → ℕ
-room_used usage = 3 * (usage.blocks / blocks_per_page) + 4 * usage.files
-
--- for those of the fileset in a slot, as its book says
-abbrev pub room_at : DomainMemory → ℕ → ℕ
-room_at memory number = if of_original (slice_get memory.table.slots number)
-    then room_used (used (staged_books memory number) Fileset) else 0
-
 -- fewer pages are free than a command may need, no page waits, and nothing on the list may be let
--- go of
+-- go of, nor anything of what is being removed
 pub record IsShort (memory : DomainMemory) (command : Command) : Type 0 where
   pub few : free_in memory < need command
   pub none_waits : NoneWaits memory.space
-  pub none_goes : ¬ MayLetGo memory
+  pub none_goes : NothingGoes memory
 
 -- wherever this history may have come with these filesets, from a state that the pages at the
 -- opening mean, the open members have fewer pages than may be needed, and so many more

@@ -6,10 +6,12 @@ ghost use Rattle.fileset_model.specs.declared.reply.Refusal.TheVariants.{OutOfMe
 ghost use Rattle.history_model.specs.VolumeReply.{is_movers};
 ghost use Rattle.domain_memory.specs.Memory.{StandsFor};
 ghost use Rattle.domain_memory.specs.Staged.{IsSettled};
+ghost use Rattle.domain_state.specs.Room.{HoldsFew};
 ghost use Rattle.command_core.specs.Coming.{AddsNone, AddsAnswer, IsAnswered};
 ghost use Rattle.command_core.specs.Ending.{EndsAs};
 ghost use Rattle.command_core.specs.declared.stop.Stop.TheVariants.{NoPage};
 
+use crate::room::holds_few;
 use crate::stop::Stop;
 use domain_state::{Domain, Opening};
 use fileset_model::{Actor, Command, Entry, Refusal, Reply, Told};
@@ -26,6 +28,7 @@ fn add_answer<R: Rack, O: Opening>(
     requires first { ⟦<Domain<R, O> as Told>⟧.rests domain }
     requires room { 1 ≤ ⟦<Domain<R, O> as Told>⟧.room domain }
     requires clients { is_movers command ≡ false }
+    requires few { HoldsFew domain.memory }
     requires answered { (all : FilesetMap) → StandsFor domain.memory all
         → IsAnswered domain.memory all command reply }
     ensures adds { AddsAnswer client command domain.memory result.memory
@@ -93,9 +96,41 @@ pub(crate) fn add_refusal<R: Rack, O: Opening>(
     add_answer(take_back(domain), client, command, Reply::Refused(refusal))
 }
 
+/// Adds a client's command with its answer, with the change that is laid over the domain; where that
+/// leaves more than 24 pages more held it is taken back, and the answer is out-of-memory.
+fn add_if_few<R: Rack, O: Opening>(
+    domain: Domain<R, O>,
+    client: u8,
+    command: Command,
+    reply: Reply,
+) -> Domain<R, O>
+    requires first { ⟦<Domain<R, O> as Told>⟧.rests domain }
+    requires room { 1 ≤ ⟦<Domain<R, O> as Told>⟧.room domain }
+    requires clients { is_movers command ≡ false }
+    requires answered { (all : FilesetMap) → StandsFor domain.memory all
+        → IsAnswered domain.memory all command reply }
+    ensures adds { AddsAnswer client command domain.memory result.memory
+        (⟦<Domain<R, O> as Told>⟧.history domain) (⟦<Domain<R, O> as Told>⟧.history result) }
+    ensures settled { IsSettled result.memory }
+    ensures begun { ⟦<Domain<R, O> as Told>⟧.begun result ≡ ⟦<Domain<R, O> as Told>⟧.begun domain }
+    ensures room { ⟦<Domain<R, O> as Told>⟧.room domain
+        ≤ ⟦<Domain<R, O> as Told>⟧.room result + 1 }
+    ensures rack { result.history.rack ≡ domain.history.rack }
+    ensures durable { result.history.durable ≡ domain.history.durable }
+    ensures added { result.history.added ≡ true }
+{
+    let is_few = holds_few(domain.memory());
+    if is_few {
+        add_answer(domain, client, command, reply)
+    } else {
+        let short = Refusal::OutOfMemory;
+        add_refusal(domain, client, command, short)
+    }
+}
+
 /// Ends a client's command that found the pages that it needs, with the change that is laid over a
 /// domain: adds it to the history with its answer, or with no change where it is refused or memory
-/// was short.
+/// was short, or where more than 24 pages more would be held.
 pub(crate) fn answer<R: Rack, O: Opening>(
     domain: Domain<R, O>,
     client: u8,
@@ -119,7 +154,7 @@ pub(crate) fn answer<R: Rack, O: Opening>(
     ensures added { result.history.added ≡ true }
 {
     match staged {
-        Ok(reply) => add_answer(domain, client, command, reply),
+        Ok(reply) => add_if_few(domain, client, command, reply),
         Err(stop) => match stop {
             Stop::Refused(refusal) => add_refusal(domain, client, command, refusal),
             Stop::OutOfMemory => {

@@ -6,22 +6,23 @@ ghost use Rattle.history_model.specs.Room.{need};
 ghost use Rattle.history_model.specs.Step.{TakesSpace};
 ghost use Rattle.history_model.specs.VolumeReply.{is_movers};
 ghost use Rattle.domain_memory.specs.Memory.{StandsFor};
-ghost use Rattle.domain_memory.specs.Staged.{IsSettled};
-ghost use Rattle.domain_stages.specs.LettingGo.{MayLetGo, NoneWaits};
+ghost use Rattle.domain_memory.specs.Staged.{IsSettled, MayGoBack};
+ghost use Rattle.domain_stages.specs.Emptying.{NothingGoes};
+ghost use Rattle.domain_stages.specs.LettingGo.{NoneWaits};
 ghost use Rattle.domain_state.specs.History.{StandsForSome};
 ghost use Rattle.command_core.specs.Coming.{AddsAnswer, AddsNoSpace, AddsOne};
 ghost use Rattle.command_core.specs.Ending.{EndsAs, IsServed, LacksPage};
-ghost use Rattle.command_core.specs.Wanting.{MayLackPages, MayTake, free_in};
+ghost use Rattle.command_core.specs.Wanting.{MayTake, free_in};
 ghost use Rattle.command_core.specs.declared.stop.Stop.TheVariants.{NoPage};
 
 use crate::answering::{add_refusal, answer, take_back};
 use crate::releasing::{drain, release};
-use crate::room::{may_lack, may_take, need_of};
+use crate::room::{may_take, need_of};
 use crate::staging::stage;
 use crate::stop::Stop;
 use domain_base::VolIx;
 use domain_memory::DomainMemory;
-use domain_stages::may_let_go;
+use domain_stages::{may_empty, may_let_go};
 use domain_state::{Domain, Opening};
 use fileset_model::{Actor, Command, Entry, Refusal, Reply, Told};
 use std::alloc::Global;
@@ -141,30 +142,30 @@ fn none_waits(memory: &DomainMemory) -> bool
 }
 
 /// Whether fewer pages are free than are needed, no page of a domain waits, and nothing on its list
-/// may be let go of.
+/// may be let go of, nor anything of what is being removed from slots.
 fn is_short(memory: &DomainMemory, want: Want) -> bool
     requires settled { IsSettled memory.now }
     requires stands { ∥ StandsForSome memory.now ∥₁ }
+    requires back { ∥ MayGoBack memory.now ∥₁ }
     ensures few { result ≡ true → want.free < want.need }
     ensures waits { result ≡ true → NoneWaits memory.now.space }
-    ensures goes { result ≡ true → ¬ MayLetGo memory.now }
+    ensures goes { result ≡ true → NothingGoes memory.now }
 {
-    want.free < want.need && none_waits(memory) && !may_let_go(memory)
+    want.free < want.need && none_waits(memory) && !may_let_go(memory) && !may_empty(memory)
 }
 
-/// Whether a command that wants a page in vain may be answered no-space: it takes space, the domain
-/// is short of pages, and wherever its history has come its open members may have too few.
-fn may_refuse<R: Rack, O: Opening>(domain: &Domain<R, O>, command: &Command, want: Want) -> bool
-    requires settled { IsSettled domain.now.memory }
+/// Whether a command that wants a page in vain may be answered no-space: it takes space, and the
+/// domain is short of pages.
+fn may_refuse(memory: &DomainMemory, command: &Command, want: Want) -> bool
+    requires settled { IsSettled memory.now }
+    requires stands { ∥ StandsForSome memory.now ∥₁ }
+    requires back { ∥ MayGoBack memory.now ∥₁ }
     ensures few { result ≡ true → want.free < want.need }
-    ensures waits { result ≡ true → NoneWaits domain.now.memory.space }
-    ensures goes { result ≡ true → ¬ MayLetGo domain.now.memory }
+    ensures waits { result ≡ true → NoneWaits memory.now.space }
+    ensures goes { result ≡ true → NothingGoes memory.now }
     ensures takes { result ≡ true → MayTake command.now }
-    ensures lacks { result ≡ true → (all : FilesetMap) → StandsFor domain.now.memory all
-        → MayLackPages O.pages O.frame O.sizes (⟦<Domain<R, O> as Told>⟧.history domain.now)
-        (⟦<Domain<R, O> as Told>⟧.begun domain.now) all want.need }
 {
-    may_take(command) && is_short(domain.memory(), want) && may_lack(domain, want.need)
+    may_take(command) && is_short(memory, want)
 }
 
 /// The pages that are free in a domain, and those that a command may need; None where these pass
@@ -187,15 +188,13 @@ fn add_no_space<R: Rack, O: Opening>(
 ) -> Domain<R, O>
     requires first { ⟦<Domain<R, O> as Told>⟧.rests domain }
     requires room { 1 ≤ ⟦<Domain<R, O> as Told>⟧.room domain }
+    requires settled { IsSettled domain.memory }
     requires free { want.free ≡ free_in domain.memory }
     requires need { want.need ≡ need command }
     requires few { want.free < want.need }
     requires waits { NoneWaits domain.memory.space }
-    requires goes { ¬ MayLetGo domain.memory }
+    requires goes { NothingGoes domain.memory }
     requires may { MayTake command }
-    requires lacks { (all : FilesetMap) → StandsFor domain.memory all
-        → MayLackPages O.pages O.frame O.sizes (⟦<Domain<R, O> as Told>⟧.history domain)
-        (⟦<Domain<R, O> as Told>⟧.begun domain) all want.need }
     requires takes { (all : FilesetMap) → StandsFor domain.memory all → TakesSpace all command }
     requires allowed { (all : FilesetMap) → StandsFor domain.memory all
         → refusal_of all command ≡ None }
@@ -251,7 +250,7 @@ fn refuse_want<R: Rack, O: Opening>(
     ensures durable { result.history.durable ≡ domain.history.durable }
     ensures added { result.history.added ≡ true }
 {
-    let is_refused = may_refuse(&domain, &command, want);
+    let is_refused = may_refuse(domain.memory(), &command, want);
     if is_refused {
         add_no_space(domain, client, command, want)
     } else {

@@ -1,11 +1,15 @@
 use Rattle.std.proofs.Common.{◌∙◌, ◌++◌, ◌∷◌, [], List, ap}
 use Rattle.fileset_model.specs.declared.command.Actor.TheVariants.{Client}
 use Rattle.fileset_model.specs.declared.entry.Entry.{Entry}
+use Rattle.domain_state.proofs.StaysWithin.{settled_few}
 use Rattle.command_core.proofs.Limits.{settled_refused}
 use Rattle.command_core.proofs.answering.add_refusal.Goals as goal
 
 pub add_answer-requires-clause-answered : goal.add_answer-requires-clause-answered
 add_answer-requires-clause-answered g c = settled_refused c.take_back.result.memory c.args.command c.args.refusal c.take_back.ensures.none.settled (λ all stands. c.requires.refused all (c.take_back.ensures.was all stands))
+
+pub add_answer-requires-clause-few : goal.add_answer-requires-clause-few
+add_answer-requires-clause-few g c = settled_few c.take_back.result.memory c.take_back.ensures.none.settled
 
 pub returns-clause-adds : goal.returns-clause-adds
 returns-clause-adds g c =

@@ -4,8 +4,8 @@ use Rattle.command_core.specs.Ending.{EndsAs, StopsAs}
 use Rattle.command_core.specs.declared.stop.Stop.{Stop}
 use Rattle.command_core.proofs.answering.answer.Goals as goal
 
-pub add_answer-requires-clause-answered : goal.add_answer-requires-clause-answered
-add_answer-requires-clause-answered g c = λ all stands. subst (λ (r : Result Reply Stop). EndsAs c.args.domain.memory all c.args.command r) c.in-Ok.is (c.requires.ends all stands)
+pub add_if_few-requires-clause-answered : goal.add_if_few-requires-clause-answered
+add_if_few-requires-clause-answered g c = λ all stands. subst (λ (r : Result Reply Stop). EndsAs c.args.domain.memory all c.args.command r) c.in-Ok.is (c.requires.ends all stands)
 
 pub add_refusal-requires-clause-refused : goal.add_refusal-requires-clause-refused
 add_refusal-requires-clause-refused g c = λ all stands.

@@ -2,6 +2,8 @@ use Rattle.std.proofs.Common.{◌∙◌, ap, sym, subst}
 use Rattle.std.proofs.Math.Logic.{∥∥₁_map}
 use Rattle.page_ways.specs.Frame.{frame_in}
 use Rattle.domain_memory.specs.Memory.{StandsFor}
+use Rattle.domain_memory.specs.Staged.{IsSettled}
+use Rattle.domain_state.proofs.StaysWithin.{within_settled}
 use Rattle.domain_memory.specs.declared.memory.DomainMemory.{DomainMemory}
 use Rattle.command_core.proofs.releasing.drain.Goals as goal
 
@@ -9,12 +11,15 @@ pub drain-drained-requires-clause-stands : goal.drain-drained-requires-clause-st
 drain-drained-requires-clause-stands g c = ∥∥₁_map c.apart-memory.ensures.stands (λ goes. (goes.all, goes.stands))
 
 pub together-requires-clause-stands : goal.together-requires-clause-stands
-together-requires-clause-stands g c = ∥∥₁_map c.apart-memory.ensures.stands (λ goes. record {
-  same = ap frame_in c.drain-drained.ensures.frame ∙ goes.same;
-  all = goes.all;
-  stands = c.drain-drained.ensures.stands goes.all goes.stands;
-  leads = goes.leads;
-})
+together-requires-clause-stands g c =
+    let o = g.O.Opening in
+    ∥∥₁_map c.apart-memory.ensures.stands (λ goes. record {
+      same = ap frame_in c.drain-drained.ensures.frame ∙ goes.same;
+      all = goes.all;
+      stands = c.drain-drained.ensures.stands goes.all goes.stands;
+      leads = goes.leads;
+      within = within_settled o.pages o.frame o.sizes c.apart-memory.result.0 c.drain-drained.new.memory c.apart-memory.result.1.entries.items (subst IsSettled (sym c.apart-memory.ensures.memory) c.requires.settled) c.drain-drained.ensures.settled c.drain-drained.ensures.held goes.within;
+    })
 
 pub returns-clause-stands : goal.returns-clause-stands
 returns-clause-stands g c = λ all stood.

@@ -1,7 +1,10 @@
-use Rattle.std.proofs.Common.{◌∙◌, ap, sym, subst}
+use Rattle.std.proofs.Common.{◌≡◌, ◌∙◌, ◌↔◌, IfOk, ap, sym, subst}
 use Rattle.std.proofs.Math.Logic.{∥∥₁_map}
 use Rattle.page_ways.specs.Frame.{frame_in}
 use Rattle.domain_memory.specs.Memory.{StandsFor}
+use Rattle.domain_memory.specs.Staged.{IsSettled}
+use Rattle.domain_stages.specs.Emptying.{NothingGoes}
+use Rattle.domain_state.proofs.StaysWithin.{within_settled}
 use Rattle.domain_memory.specs.declared.memory.DomainMemory.{DomainMemory}
 use Rattle.command_core.proofs.releasing.release.Goals as goal
 
@@ -9,14 +12,20 @@ pub release-released-requires-clause-stands : goal.release-released-requires-cla
 release-released-requires-clause-stands g c = ∥∥₁_map c.apart-memory.ensures.stands (λ goes. (goes.all, goes.stands))
 
 pub together-requires-clause-stands : goal.together-requires-clause-stands
-together-requires-clause-stands g c = ∥∥₁_map c.apart-memory.ensures.stands (λ goes. record {
-  same = ap frame_in c.release-released.ensures.frame ∙ goes.same;
-  all = goes.all;
-  stands = c.release-released.ensures.stands goes.all goes.stands;
-  leads = goes.leads;
-})
+together-requires-clause-stands g c =
+    let o = g.O.Opening in
+    ∥∥₁_map c.apart-memory.ensures.stands (λ goes. record {
+      same = ap frame_in c.release-released.ensures.frame ∙ goes.same;
+      all = goes.all;
+      stands = c.release-released.ensures.stands goes.all goes.stands;
+      leads = goes.leads;
+      within = within_settled o.pages o.frame o.sizes c.apart-memory.result.0 c.release-released.new.memory c.apart-memory.result.1.entries.items (subst IsSettled (sym c.apart-memory.ensures.memory) c.requires.settled) c.release-released.ensures.settled c.release-released.ensures.held goes.within;
+    })
 
 pub returns-clause-stands : goal.returns-clause-stands
 returns-clause-stands g c = λ all stood.
     subst (λ (m : DomainMemory). StandsFor m all) (sym c.together.ensures.memory)
     (c.release-released.ensures.stands all (subst (λ (m : DomainMemory). StandsFor m all) (sym c.apart-memory.ensures.memory) stood))
+
+pub returns-clause-some : goal.returns-clause-some
+returns-clause-some g c = subst (λ (m : DomainMemory). IfOk c.release-released.result (λ count. (count ≡ 0) ↔ NothingGoes m)) c.apart-memory.ensures.memory c.release-released.ensures.some

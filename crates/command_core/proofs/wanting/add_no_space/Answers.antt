@@ -7,6 +7,7 @@ use Rattle.history_model.specs.Room.{need}
 use Rattle.domain_memory.specs.Memory.{StandsFor}
 use Rattle.domain_memory.specs.declared.memory.DomainMemory.{DomainMemory}
 use Rattle.command_core.specs.Wanting.{IsShort, MayLackPages, free_in}
+use Rattle.command_core.proofs.Tightness.{lacks}
 use Rattle.command_core.proofs.Wanted.{goes_unchanged, no_movers, taking}
 use Rattle.command_core.proofs.wanting.add_no_space.Goals as goal
 
@@ -20,7 +21,8 @@ commit_unchanged-requires-clause-step g c = λ all stands.
     goes_unchanged o.pages o.frame o.sizes it.history.entries.items it.history.job e all
     (record { stamp = c.calls-stamp.ensures.stamps c.requires.first; calm = it.history.calm; client = c.args.client; actor = refl; command = no_movers c.args.command kind })
     want.free (ap (λ n. Refused (NoSpace want.free n)) c.requires.need) (subst (λ n. want.free < n) c.requires.need c.requires.few) (c.requires.takes all stands) (c.requires.allowed all stands) kind
-    (subst (λ n. MayLackPages o.pages o.frame o.sizes it.history.entries.items it.history.job all n) c.requires.need (c.requires.lacks all stands))
+    (subst (λ n. MayLackPages o.pages o.frame o.sizes it.history.entries.items it.history.job all n) c.requires.need
+    (lacks o.pages o.frame o.sizes it.memory it.history.entries.items it.history.job c.requires.settled c.requires.waits it.stands all want.need (subst (λ n. n < want.need) c.requires.free c.requires.few)))
 
 pub commit_unchanged-requires-clause-calm : goal.commit_unchanged-requires-clause-calm
 commit_unchanged-requires-clause-calm g c = λ volume is. absurd (cc)

@@ -4,6 +4,7 @@ use Rattle.domain_memory.proofs.KeptStands.{stands_so}
 use Rattle.domain_memory.specs.Memory.{StandsFor}
 use Rattle.domain_memory.specs.declared.memory.DomainMemory.{DomainMemory}
 use Rattle.domain_state.proofs.Resting.{rests_kept}
+use Rattle.domain_state.proofs.StaysWithin.{within_kept}
 use Rattle.page_ways.specs.Frame.{frame_in}
 use Rattle.command_core.specs.Ending.{LacksPage}
 use Rattle.command_core.specs.declared.stop.Stop.TheVariants.{NoPage}
@@ -20,12 +21,14 @@ together-requires-clause-rest g c =
 
 pub together-requires-clause-stands : goal.together-requires-clause-stands
 together-requires-clause-stands g c =
+    let o = g.O.Opening in
     let kept = kept_at_hand c.apart-memory.result.0 c.stage-memory.result.0 c.stage-memory.ensures.kept in
     ∥∥₁_map c.apart-memory.ensures.stands (λ goes. record {
       same = ap frame_in kept.frame ∙ goes.same;
       all = goes.all;
       stands = stands_so c.apart-memory.result.0 c.stage-memory.result.0 kept goes.all goes.stands;
       leads = goes.leads;
+      within = within_kept o.pages o.frame o.sizes c.apart-memory.result.0 c.stage-memory.result.0 c.apart-memory.result.1.entries.items kept goes.within;
     })
 
 pub returns-clause-ends : goal.returns-clause-ends
