@@ -3,7 +3,7 @@ use Rattle.std.proofs.Common.{◌≡◌, ℕ, ◌^◌, true, Option, Some, optio
 use Rattle.std.specs.Str.{bytes_eq}
 use Rattle.std.proofs.lemmas.Option.{option_and_then_some}
 use Rattle.fileset_model.specs.declared.command.Command.{Command}
-use Rattle.fileset_model.specs.declared.command.Command.TheVariants.{Mkfset, Rmfset, Showfsets, Setquota, Showquota, Create, Mkdir, Write, Read, Truncate, Rename, Link, Links, Unlink, Rmdir, List as ListAt, Stat, Fsync, Chfile, Sync, Cancel}
+use Rattle.fileset_model.specs.declared.command.Command.TheVariants.{Mkfset, Rmfset, Showfsets, Setquota, Showquota, Create, Mkdir, Write, Read, Truncate, Rename, Link, Links, Unlink, Rmdir, List as ListAt, Stat, Fsync, Chfile, Sync, Cancel, Showfdmn, Showfile}
 use Rattle.fileset_model.specs.declared.command.Place.{Place}
 use Rattle.command_text.specs.declared.verb.Verb.{Verb}
 use Rattle.command_text.specs.declared.verb.Verb.TheVariants as verb
@@ -117,8 +117,8 @@ command_served verb.Chfile words c is e = chfile_said words c e
 command_served verb.Stripe words c is e = absurd (cc)
 command_served verb.Sync words c is e = none_said Sync c words e tt
 command_served verb.Cancel words c is e = none_said Cancel c words e tt
-command_served verb.Showfdmn words c is e = absurd (cc)
-command_served verb.Showfile words c is e = absurd (cc)
+command_served verb.Showfdmn words c is e = none_said Showfdmn c words e tt
+command_served verb.Showfile words c is e = one_said place_of Showfile (λ w x h. tt) words c e
 command_served verb.Migrate words c is e = absurd (cc)
 command_served verb.Balance words c is e = absurd (cc)
 command_served verb.Addvol words c is e = absurd (cc)

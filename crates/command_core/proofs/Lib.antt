@@ -33,3 +33,9 @@ pub mod Tightness
 pub mod WaysSplit
 pub mod AtRoot
 pub mod RootMoved
+pub mod Rising
+pub mod MemberLines
+pub mod HeldWithin
+pub mod FileShown
+pub mod FrameKept
+pub mod VolumesTold

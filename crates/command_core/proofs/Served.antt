@@ -6,7 +6,7 @@ use Rattle.fileset_model.specs.declared.command.Command.TheVariants as command
 use Rattle.fileset_model.specs.declared.command.Owner.{Owner}
 use Rattle.fileset_model.specs.declared.command.Place.{Place}
 use Rattle.history_model.specs.VolumeReply.{is_movers}
-use Rattle.command_core.specs.Ending.{IsServed}
+use Rattle.command_core.specs.Ending.{IsLaid}
 
 -- one of them is one of these
 pub data Serving : Command → Type 0 where
@@ -32,7 +32,7 @@ pub data Serving : Command → Type 0 where
   sync : Serving command.Sync
   cancel : Serving command.Cancel
 
-pub serving : (c : Command) → IsServed c → Serving c
+pub serving : (c : Command) → IsLaid c → Serving c
 serving (command.Mkfset fileset) is = Serving.mkfset fileset
 serving (command.Rmfset fileset) is = Serving.rmfset fileset
 serving (command.Setquota fileset who files blocks) is = Serving.setquota fileset who files blocks
@@ -90,5 +90,5 @@ clients c (Serving.chfile place logged) = refl
 clients c Serving.sync = refl
 clients c Serving.cancel = refl
 
-pub served_client : (c : Command) → IsServed c → is_movers c ≡ false
+pub served_client : (c : Command) → IsLaid c → is_movers c ≡ false
 served_client c is = clients c (serving c is)

@@ -6,7 +6,7 @@ use Rattle.page_store.specs.declared.fault.StoreFault.TheVariants as fault
 use Rattle.fileset_model.specs.Apply.{refusal_of}
 use Rattle.fileset_model.specs.Filesets.{FilesetMap}
 use Rattle.fileset_model.specs.declared.command.Command.{Command}
-use Rattle.fileset_model.specs.declared.command.Command.TheVariants.{Cancel, Chfile, Create, Fsync, Link, Links, List as ListNames, Mkdir, Mkfset, Read, Rename, Rmdir, Rmfset, Setquota, Showfsets, Showquota, Stat, Sync, Truncate, Unlink, Write}
+use Rattle.fileset_model.specs.declared.command.Command.TheVariants.{Cancel, Chfile, Create, Fsync, Link, Links, List as ListNames, Mkdir, Mkfset, Read, Rename, Rmdir, Rmfset, Setquota, Showfdmn, Showfile, Showfsets, Showquota, Stat, Sync, Truncate, Unlink, Write}
 use Rattle.fileset_model.specs.declared.reply.Refusal.{Refusal}
 use Rattle.fileset_model.specs.declared.reply.Reply.{Reply}
 use Rattle.fileset_table.specs.Table.{is_free}
@@ -42,30 +42,37 @@ abbrev pub EndsAs : DomainMemory → FilesetMap → Command → Result Reply Sto
 EndsAs now all command (Ok reply) = IsAnswered now all command reply
 EndsAs now all command (Err stop) = StopsAs all command stop
 
--- the commands that are answered so far, with names of the forms that scripts have
+-- the commands on filesets that are answered so far, with names of the forms that scripts have:
+-- each is laid over a domain's memory
+abbrev pub IsLaid : Command → Type 0
+IsLaid (Mkfset fileset) = is_fileset_name fileset ≡ true
+IsLaid (Rmfset fileset) = Unit {0}
+IsLaid Showfsets = Unit {0}
+IsLaid (Setquota fileset who files blocks) = Unit {0}
+IsLaid (Showquota fileset who) = Unit {0}
+IsLaid (Create place uid gid) = IsPathToGet place.path
+IsLaid (Mkdir place uid gid) = IsPathToGet place.path
+IsLaid (Write place offset bytes) = Unit {0}
+IsLaid (Read place offset count) = Unit {0}
+IsLaid (Truncate place size) = Unit {0}
+IsLaid (Link place to) = IsPathToGet to
+IsLaid (Links place) = Unit {0}
+IsLaid (Unlink place) = Unit {0}
+IsLaid (Rmdir place) = Unit {0}
+IsLaid (Rename place to) = IsPathToGet to
+IsLaid (ListNames place) = Unit {0}
+IsLaid (Stat place) = Unit {0}
+IsLaid (Fsync place) = Unit {0}
+IsLaid (Chfile place logged) = Unit {0}
+IsLaid Sync = Unit {0}
+IsLaid Cancel = Unit {0}
+IsLaid command = ⊥
+
+-- the commands that are answered so far: these, and those that show volumes
 abbrev pub IsServed : Command → Type 0
-IsServed (Mkfset fileset) = is_fileset_name fileset ≡ true
-IsServed (Rmfset fileset) = Unit {0}
-IsServed Showfsets = Unit {0}
-IsServed (Setquota fileset who files blocks) = Unit {0}
-IsServed (Showquota fileset who) = Unit {0}
-IsServed (Create place uid gid) = IsPathToGet place.path
-IsServed (Mkdir place uid gid) = IsPathToGet place.path
-IsServed (Write place offset bytes) = Unit {0}
-IsServed (Read place offset count) = Unit {0}
-IsServed (Truncate place size) = Unit {0}
-IsServed (Link place to) = IsPathToGet to
-IsServed (Links place) = Unit {0}
-IsServed (Unlink place) = Unit {0}
-IsServed (Rmdir place) = Unit {0}
-IsServed (Rename place to) = IsPathToGet to
-IsServed (ListNames place) = Unit {0}
-IsServed (Stat place) = Unit {0}
-IsServed (Fsync place) = Unit {0}
-IsServed (Chfile place logged) = Unit {0}
-IsServed Sync = Unit {0}
-IsServed Cancel = Unit {0}
-IsServed command = ⊥
+IsServed Showfdmn = Unit {0}
+IsServed (Showfile place) = Unit {0}
+IsServed command = IsLaid command
 
 -- why a command may want a page, where that is known: of mkfset, that no slot of the table is free;
 -- or no page, or one alone and no cell; of setquota, that no cell is free, and no page; of write,

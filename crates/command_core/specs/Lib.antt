@@ -6,3 +6,4 @@ pub mod Placing
 pub mod Wanting
 pub mod Rooted
 pub use Rattle.domain_memory.specs.Staged
+pub mod Shown

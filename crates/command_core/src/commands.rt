@@ -1,10 +1,12 @@
 //! A command of a client that is answered.
 ghost use Rattle.std.specs.Prelude.{◌≡◌, ◌+◌, ◌≤◌, true};
 ghost use Rattle.domain_memory.specs.Staged.{IsSettled};
-ghost use Rattle.command_core.specs.Coming.{AddsOne};
 ghost use Rattle.command_core.specs.Ending.{IsServed};
+ghost use Rattle.command_core.specs.Shown.{AddsEntry};
 
 use crate::answering::take_back;
+use crate::showing_volumes::shows_volumes;
+use crate::telling_volumes::tell;
 use crate::wanting::{answer_drained, answer_found, lay, wants_page};
 use domain_base::VolIx;
 use domain_state::{Domain, Opening};
@@ -13,12 +15,13 @@ use std::alloc::Global;
 use volume_disk::Rack;
 
 /// Answers a command of a client, and adds it to the history with its change: refused as the rules
-/// of filesets say, in their order; or out-of-memory, where nothing changes. Where a page is wanted
-/// in vain the domain is drained, and the command laid over it once more; where a page is wanted
-/// again it is answered no-space with the pages that are free and those that it may need, if fewer
-/// are free and the open members have fewer than all that may be needed with it by now, and else
-/// out-of-memory. Behind a command that changes something, things on the list are let go of. The
-/// preferred volume is the one of which pages and cells are taken first.
+/// of filesets say, in their order; or out-of-memory, where nothing changes. One that shows volumes
+/// tells of the domain's own, and changes nothing. Where a page is wanted in vain the domain is
+/// drained, and the command laid over it once more; where a page is wanted again it is answered
+/// no-space with the pages that are free and those that it may need, if fewer are free and the open
+/// members have fewer than all that may be needed with it by now, and else out-of-memory. Behind a
+/// command that changes something, things on the list are let go of. The preferred volume is the
+/// one of which pages and cells are taken first.
 pub fn command<R: Rack, O: Opening>(
     domain: Domain<R, O>,
     alloc: Global,
@@ -30,7 +33,7 @@ pub fn command<R: Rack, O: Opening>(
     requires room { 1 ≤ ⟦<Domain<R, O> as Told>⟧.room domain }
     requires settled { IsSettled domain.memory }
     requires served { IsServed command }
-    ensures adds { AddsOne client command domain.memory result.memory
+    ensures adds { AddsEntry client command domain.memory result.memory
         (⟦<Domain<R, O> as Told>⟧.history domain) (⟦<Domain<R, O> as Told>⟧.history result) }
     ensures settled { IsSettled result.memory }
     ensures begun { ⟦<Domain<R, O> as Told>⟧.begun result ≡ ⟦<Domain<R, O> as Told>⟧.begun domain }
@@ -40,6 +43,9 @@ pub fn command<R: Rack, O: Opening>(
     ensures durable { result.history.durable ≡ domain.history.durable }
     ensures added { result.history.added ≡ true }
 {
+    if shows_volumes(&command) {
+        return tell(domain, alloc, client, command, prefer);
+    }
     let (domain, staged) = lay(domain, alloc, &command, prefer);
     if wants_page(&staged) {
         answer_drained(take_back(domain), alloc, client, command, prefer)

@@ -23,9 +23,11 @@ mod room;
 mod rooted;
 mod serving;
 mod showing;
+mod showing_volumes;
 mod staging;
 mod stop;
 mod taking;
+mod telling_volumes;
 mod wanting;
 mod writing;
 

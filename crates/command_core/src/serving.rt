@@ -31,6 +31,7 @@ pub fn is_served(command: &Command) -> bool
         Command::Read { .. } | Command::Links { .. } => true,
         Command::List { .. } | Command::Stat { .. } | Command::Fsync { .. } => true,
         Command::Sync | Command::Cancel => true,
+        Command::Showfdmn | Command::Showfile { .. } => true,
         Command::Create { place, .. } | Command::Mkdir { place, .. } => is_path_to_get(&place.path),
         Command::Link { to, .. } | Command::Rename { to, .. } => is_path_to_get(to),
         Command::Unlink { .. } | Command::Rmdir { .. } => true,

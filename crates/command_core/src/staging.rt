@@ -5,7 +5,7 @@ ghost use Rattle.domain_memory.specs.Kept.{KeepsKept};
 ghost use Rattle.domain_memory.specs.Memory.{StandsFor};
 ghost use Rattle.domain_memory.specs.Staged.{IsSettled, MayGoBack};
 ghost use Rattle.domain_state.specs.History.{StandsForSome};
-ghost use Rattle.command_core.specs.Ending.{EndsAs, IsServed, LacksPage};
+ghost use Rattle.command_core.specs.Ending.{EndsAs, IsLaid, LacksPage};
 ghost use Rattle.command_core.specs.declared.stop.Stop.TheVariants.{NoPage};
 
 use crate::beginning::stage_fileset;
@@ -35,7 +35,7 @@ pub(crate) fn stage(
     requires settled { IsSettled memory }
     requires stands { ∥ StandsForSome memory ∥₁ }
     requires back { ∥ MayGoBack memory ∥₁ }
-    requires served { IsServed command.now }
+    requires served { IsLaid command.now }
     ensures ends { (all : FilesetMap) → StandsFor memory all
         → EndsAs result.0 all command.now result.1 }
     ensures kept { ∥ KeepsKept memory result.0 ∥₁ }

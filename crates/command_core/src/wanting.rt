@@ -11,7 +11,7 @@ ghost use Rattle.domain_stages.specs.Emptying.{NothingGoes};
 ghost use Rattle.domain_stages.specs.LettingGo.{NoneWaits};
 ghost use Rattle.domain_state.specs.History.{StandsForSome};
 ghost use Rattle.command_core.specs.Coming.{AddsAnswer, AddsNoSpace, AddsOne};
-ghost use Rattle.command_core.specs.Ending.{EndsAs, IsServed, LacksPage};
+ghost use Rattle.command_core.specs.Ending.{EndsAs, IsLaid, LacksPage};
 ghost use Rattle.command_core.specs.Wanting.{MayTake, free_in};
 ghost use Rattle.command_core.specs.declared.stop.Stop.TheVariants.{NoPage};
 
@@ -36,7 +36,7 @@ pub(crate) fn lay<R: Rack, O: Opening>(
     prefer: VolIx,
 ) -> (Domain<R, O>, Result<Reply, Stop>)
     requires settled { IsSettled domain.memory }
-    requires served { IsServed command.now }
+    requires served { IsLaid command.now }
     ensures ends { (all : FilesetMap) → StandsFor result.0.memory all
         → EndsAs result.0.memory all command.now result.1 }
     ensures stands { (all : FilesetMap) → StandsFor domain.memory all
@@ -301,7 +301,7 @@ fn answer_last<R: Rack, O: Opening>(
     requires first { ⟦<Domain<R, O> as Told>⟧.rests domain }
     requires room { 1 ≤ ⟦<Domain<R, O> as Told>⟧.room domain }
     requires settled { IsSettled domain.memory }
-    requires served { IsServed command }
+    requires served { IsLaid command }
     ensures adds { AddsOne client command domain.memory result.memory
         (⟦<Domain<R, O> as Told>⟧.history domain) (⟦<Domain<R, O> as Told>⟧.history result) }
     ensures settled { IsSettled result.memory }
@@ -332,7 +332,7 @@ pub(crate) fn answer_drained<R: Rack, O: Opening>(
     requires first { ⟦<Domain<R, O> as Told>⟧.rests domain }
     requires room { 1 ≤ ⟦<Domain<R, O> as Told>⟧.room domain }
     requires settled { IsSettled domain.memory }
-    requires served { IsServed command }
+    requires served { IsLaid command }
     ensures adds { AddsOne client command domain.memory result.memory
         (⟦<Domain<R, O> as Told>⟧.history domain) (⟦<Domain<R, O> as Told>⟧.history result) }
     ensures settled { IsSettled result.memory }

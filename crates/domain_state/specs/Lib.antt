@@ -3,3 +3,5 @@ pub mod Room
 pub mod History
 pub mod Rest
 pub mod Members
+pub use Rattle.log_ring.specs.Homes
+pub use Rattle.domain_standing.specs.Holders

@@ -59,6 +59,12 @@ pub record IsMemberAs (anchor : Anchor) (vol : ℕ) (member : Member) : Type 0 w
   pub pages : member.pages ≡ (member_of anchor vol).pages
   pub opened : (member.is_open ≡ true) ↔ IsOpen anchor vol
 
+-- the members of a state and the volume of its log are those of an anchor
+pub record HasVolumesOf (anchor : Anchor) (s : State) : Type 0 where
+  pub members : (vol : ℕ) (member : Member) → (get s.members vol ≡ Some member)
+      ↔ IsMemberAs anchor vol member
+  pub log_volume : s.log_volume ≡ anchor.log_vol
+
 -- a state that pages with this anchor mean, on a rack with volumes of these sizes
 pub record IsStartOf (pages : Pages) (frame : Frame) (sizes : List ℕ) (start : State) : Type 0 where
   pub filesets : (home : Home) → frame.anchor.table ≡ Some home

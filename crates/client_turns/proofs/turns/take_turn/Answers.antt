@@ -8,8 +8,10 @@ returns-clause-turn g c =
     let before = c.args.domain.history.entries.items in
     let ended = c.end_event.new.self.history.entries.items in
     ⊎_elim
+    (⊎_elim
     (λ answer. turn_taken (g.R.Rack.disk answered.rack).calls before answered.entries.items ended _ answered.added c.command-domain.ensures.added answer.adds c.end_event.ensures.history)
-    (λ none. turn_taken (g.R.Rack.disk answered.rack).calls before answered.entries.items ended _ answered.added c.command-domain.ensures.added none.adds c.end_event.ensures.history)
+    (λ none. turn_taken (g.R.Rack.disk answered.rack).calls before answered.entries.items ended _ answered.added c.command-domain.ensures.added none.adds c.end_event.ensures.history))
+    (λ shown. turn_taken (g.R.Rack.disk answered.rack).calls before answered.entries.items ended _ answered.added c.command-domain.ensures.added shown.added.adds c.end_event.ensures.history)
     c.command-domain.ensures.adds
 
 pub returns-clause-stamps : goal.returns-clause-stamps
@@ -19,6 +21,8 @@ returns-clause-stamps g c =
     let ended = c.end_event.new.self.history.entries.items in
     stamps_on _ _ before ended (ap (λ rack. (g.R.Rack.disk rack).calls) c.command-domain.ensures.rack)
     (⊎_elim
+    (⊎_elim
     (λ answer. turn_stamped (g.R.Rack.disk answered.rack).calls before answered.entries.items ended _ answered.added c.command-domain.ensures.added answer.adds c.end_event.ensures.history)
-    (λ none. turn_stamped (g.R.Rack.disk answered.rack).calls before answered.entries.items ended _ answered.added c.command-domain.ensures.added none.adds c.end_event.ensures.history)
+    (λ none. turn_stamped (g.R.Rack.disk answered.rack).calls before answered.entries.items ended _ answered.added c.command-domain.ensures.added none.adds c.end_event.ensures.history))
+    (λ shown. turn_stamped (g.R.Rack.disk answered.rack).calls before answered.entries.items ended _ answered.added c.command-domain.ensures.added shown.added.adds c.end_event.ensures.history)
     c.command-domain.ensures.adds)

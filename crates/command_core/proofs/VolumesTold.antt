@@ -1,0 +1,110 @@
+-- What is shown of volumes may be told: the history goes on by it, and nothing changes.
+use Rattle.std.proofs.Common.{◌≡◌, ◌∙◌, ◌∷◌, ◌↔◌, ℕ, false, [], List, MatchOption, Option, Some, None, inl, inr, refl, sym, ap, subst}
+use Rattle.std.proofs.Math.Logic.{∥∥₁_elim}
+use Rattle.std.specs.FinMap.{get}
+use Rattle.domain_layout.specs.Reached.{Frame}
+use Rattle.fileset_model.specs.Apply.{answer_of, in_fileset, read_checks}
+use Rattle.fileset_model.specs.Filesets.{FilesetMap}
+use Rattle.fileset_model.specs.Paths.{first_refusal}
+use Rattle.fileset_model.specs.declared.command.Command.{Command}
+use Rattle.fileset_model.specs.declared.command.Command.TheVariants.{Read, Showfdmn, Showfile}
+use Rattle.fileset_model.specs.declared.command.Place.{Place}
+use Rattle.fileset_model.specs.declared.entry.Entry.{Entry}
+use Rattle.fileset_model.specs.declared.reply.ExtentItem.{ExtentItem}
+use Rattle.fileset_model.specs.declared.reply.Refusal.{Refusal}
+use Rattle.fileset_model.specs.declared.reply.Refusal.TheVariants.{OutOfMemory, Panicked}
+use Rattle.fileset_model.specs.declared.reply.Reply.{Reply}
+use Rattle.fileset_model.specs.declared.reply.Reply.TheVariants.{Extents, Refused, Volumes}
+use Rattle.fileset_model.specs.declared.reply.VolumeItem.{VolumeItem}
+use Rattle.history_laws.proofs.NoPanic.{never_panics}
+use Rattle.history_model.specs.Point.{Point}
+use Rattle.history_model.specs.State.{Member, State}
+use Rattle.history_model.specs.Step.{Step}
+use Rattle.history_model.specs.Step.Step.{on_volumes, out_of_memory}
+use Rattle.history_model.specs.VolumeReply.{VolumeReply, is_movers}
+use Rattle.history_model.specs.Volumes.{ShowsExtents, ShowsMembers, pages_at, volume_refusal}
+use Rattle.page_store.specs.Pages.{Pages}
+use Rattle.page_ways.specs.Frame.{frame_in}
+use Rattle.domain_memory.specs.Memory.{StandsFor}
+use Rattle.domain_memory.specs.declared.memory.DomainMemory.{DomainMemory}
+use Rattle.domain_state.specs.History.{IsCalm, MayCommitUnchanged, StandsForSome}
+use Rattle.domain_state.specs.Opening.{HasVolumesOf, IsMemberAs}
+use Rattle.command_core.specs.Coming.{ComesNext}
+use Rattle.command_core.specs.Shown.{IsShowing, IsShown, IsShownIfMemory, ShowsHomes}
+use Rattle.command_core.proofs.Coming.{follows, looks_itself}
+
+pub showing_client : (c : Command) → IsShowing c → is_movers c ≡ false
+showing_client Showfdmn is = refl
+showing_client (Showfile place) is = refl
+showing_client c is = absurd is
+
+-- ---- the answer by the state
+
+module _ (memory : DomainMemory) (all : FilesetMap) (s : State) (filesets : s.filesets ≡ all) (has_volumes : HasVolumesOf memory.frame.anchor s) where
+  -- what a command that shows volumes answers in a state
+  abbrev InState : Command → Reply → Type 0
+  InState Showfdmn reply = (s ≡ s) × ((lines : List VolumeItem) × (reply ≡ Volumes lines) × ShowsMembers s lines)
+  InState (Showfile place) reply = MatchOption (volume_refusal s (Showfile place))
+      ((s ≡ s) × ((runs : List ExtentItem) × (reply ≡ Extents runs) × ShowsExtents s.members (pages_at s.filesets place) runs))
+      (λ refusal. (reply ≡ Refused refusal) × (s ≡ s))
+  InState c reply = ⊥
+
+  file_in_state : (place : Place) (reply : Reply) (o : Option Refusal) → MatchOption o ((es : List ExtentItem) × (reply ≡ Extents es) × ShowsHomes memory all place es) (λ told. reply ≡ Refused told)
+      → MatchOption (first_refusal (o ∷ None ∷ [])) ((s ≡ s) × ((runs : List ExtentItem) × (reply ≡ Extents runs) × ShowsExtents s.members (pages_at s.filesets place) runs)) (λ refusal. (reply ≡ Refused refusal) × (s ≡ s))
+  file_in_state place reply None (es, told, homes) =
+      (refl, (es, told, subst (λ (f : FilesetMap). ShowsExtents s.members (pages_at f place) es) (sym filesets) (homes.shown s has_volumes)))
+  file_in_state place reply (Some refusal) told = (told, refl)
+
+  in_state : (c : Command) (reply : Reply) → IsShowing c → IsShown memory all c reply → InState c reply
+  in_state Showfdmn reply is (lines, told, volumes) = (refl, (lines, told, volumes.shown s has_volumes))
+  in_state (Showfile place) reply is shown =
+      subst (λ (f : FilesetMap). MatchOption (first_refusal (in_fileset f place.fileset (read_checks place.path) ∷ None ∷ [])) ((s ≡ s) × ((runs : List ExtentItem) × (reply ≡ Extents runs) × ShowsExtents s.members (pages_at s.filesets place) runs)) (λ refusal. (reply ≡ Refused refusal) × (s ≡ s)))
+      (sym filesets) (file_in_state place reply (in_fileset all place.fileset (read_checks place.path)) shown)
+  in_state c reply is shown = absurd is
+
+replies : (memory : DomainMemory) (all : FilesetMap) (point : Point) → point.state.filesets ≡ all → HasVolumesOf memory.frame.anchor point.state → (c : Command) (reply : Reply) → IsShowing c → IsShown memory all c reply → VolumeReply point c reply point.state
+replies memory all point filesets has_volumes Showfdmn reply is shown = in_state memory all point.state filesets has_volumes Showfdmn reply is shown
+replies memory all point filesets has_volumes (Showfile place) reply is shown = in_state memory all point.state filesets has_volumes (Showfile place) reply is shown
+replies memory all point filesets has_volumes c reply is shown = absurd is
+
+-- ---- the history goes on
+
+pub may_tell : (pages : Pages) (frame : Frame) (sizes : List ℕ) (memory : DomainMemory) (entries : List Entry) (job : Option Command) (e : Entry) (all : FilesetMap) → frame_in memory.frame ≡ frame → ComesNext entries e → IsShowing e.command
+    → IsShownIfMemory memory all e.command e.reply → MayCommitUnchanged pages frame sizes entries job e all
+may_tell pages frame sizes memory entries job e all frame_is next showing shown start is point comes same = record {
+  end = record start { filesets = all };
+  follows = follows start entries job e all all next is.striped point comes same;
+  step = subst (Step point e) same (steps shown);
+  looks = looks_itself (record start { filesets = all });
+}
+  where
+    has_volumes : HasVolumesOf memory.frame.anchor point.state
+    has_volumes = subst (HasVolumesOf memory.frame.anchor) (sym same) (record {
+      members = subst (λ (f : Frame). (vol : ℕ) (member : Member) → (get start.members vol ≡ Some member) ↔ IsMemberAs f.anchor vol member) (sym frame_is) is.members;
+      log_volume = is.log_volume ∙ ap (λ (f : Frame). f.anchor.log_vol) (sym frame_is);
+    })
+
+    steps : IsShownIfMemory memory all e.command e.reply → Step point e point.state
+    steps (inl told) = on_volumes (replies memory all point (ap (λ (s : State). s.filesets) same) has_volumes e.command e.reply showing told)
+    steps (inr short) = out_of_memory short refl
+
+-- ---- it tells of no volume that panicked
+
+not_panicked : (told : Refusal) (all : FilesetMap) (place : Place) (volume : ℕ) → in_fileset all place.fileset (read_checks place.path) ≡ Some told → ¬ Refused told ≡ Refused (Panicked volume)
+not_panicked told all place volume refused is =
+    never_panics all (Read place 0 0) (Refused told) all volume
+    (inl (subst (λ o. MatchOption o ((Refused told ≡ answer_of all (Read place 0 0)) × (all ≡ all)) (λ refusal. (Refused told ≡ Refused refusal) × (all ≡ all))) (sym refused) (refl, refl))) is
+
+calm_in : (memory : DomainMemory) (all : FilesetMap) (c : Command) (reply : Reply) → IsShowing c → IsShownIfMemory memory all c reply → (volume : ℕ) → ¬ reply ≡ Refused (Panicked volume)
+calm_in memory all c reply showing (inr short) volume is = let e : Refused OutOfMemory ≡ Refused (Panicked volume) = sym short ∙ is in absurd (cc)
+calm_in memory all Showfdmn reply showing (inl (lines, told, volumes)) volume is = let e : Volumes lines ≡ Refused (Panicked volume) = sym told ∙ is in absurd (cc)
+calm_in memory all (Showfile place) reply showing (inl shown) volume is = by_refusal (in_fileset all place.fileset (read_checks place.path)) refl shown
+  where
+    by_refusal : (o : Option Refusal) → in_fileset all place.fileset (read_checks place.path) ≡ o → MatchOption o ((es : List ExtentItem) × (reply ≡ Extents es) × ShowsHomes memory all place es) (λ told. reply ≡ Refused told) → ⊥
+    by_refusal None refused (es, told, homes) = let e : Extents es ≡ Refused (Panicked volume) = sym told ∙ is in absurd (cc)
+    by_refusal (Some refusal) refused told = not_panicked refusal all place volume refused (sym told ∙ is)
+calm_in memory all c reply showing (inl shown) volume is = absurd showing
+
+pub shown_calm : (memory : DomainMemory) (c : Command) (reply : Reply) → IsShowing c → ∥ StandsForSome memory ∥₁ → ((all : FilesetMap) → StandsFor memory all → IsShownIfMemory memory all c reply) → IsCalm reply
+shown_calm memory c reply showing stands shown volume is =
+    ∥∥₁_elim stands (λ x y. absurd x) (λ some. calm_in memory some.0 c reply showing (shown some.0 some.1) volume is)
