@@ -3,7 +3,7 @@
 use advfs_run::{HELP, VERSION};
 
 /// The first words of the commands that a script can have.
-static COMMANDS: [&str; 21] = [
+static COMMANDS: [&str; 23] = [
     "mkfset",
     "rmfset",
     "showfsets",
@@ -25,6 +25,8 @@ static COMMANDS: [&str; 21] = [
     "chfile",
     "sync",
     "cancel",
+    "showfdmn",
+    "showfile",
 ];
 
 /// Whether a line of the help begins with a word.

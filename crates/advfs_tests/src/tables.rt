@@ -256,6 +256,39 @@ create home:/e 11 20 -> ok
 write home:/e 0 61 -> E12 quota-blocks limit=24 used=16 asked=16
 ";
 
+/// Volumes and pages of files that are shown: a new domain uses 133 pages, a fileset takes one and
+/// its root another, and pages that are given up wait and count as free.
+static VOLUMES: &str = "\
+showfdmn -> ok 1:512:133:379:L
+showfile home:/a -> E1 no-fileset
+mkfset home -> ok
+create home:/a 10 20 -> ok
+create home:/b 10 20 -> ok
+showfdmn -> ok 1:512:135:377:L
+showfile home:/a -> ok
+showfile home:/ -> E6 is-directory
+showfile home:/c -> E3 no-path
+showfile home:/a/c -> E5 not-directory
+write home:/a 24576 61 -> ok 1
+write home:/a 0 61 -> ok 1
+write home:/a 8192 61 -> ok 1
+showfile home:/a -> ok 0+2@1:136 3+1@1:135
+write home:/b 0 61 -> ok 1
+write home:/a 16384 61 -> ok 1
+showfile home:/a -> ok 0+2@1:136 2+1@1:139 3+1@1:135
+showfile home:/b -> ok 0+1@1:138
+write home:/b 8191 62x2 -> ok 2
+showfile home:/b -> ok 0+1@1:138 1+1@1:140
+showfdmn -> ok 1:512:141:371:L
+truncate home:/a 9000 -> ok
+showfile home:/a -> ok 0+2@1:136
+showfdmn -> ok 1:512:139:373:L
+unlink home:/a -> ok
+showfile home:/a -> E3 no-path
+showfdmn -> ok 1:512:137:375:L
+showfile home:/b -> ok 0+1@1:138 1+1@1:140
+";
+
 #[test]
 fn names_are_made_linked_moved_and_taken_away(rt: HostRuntime) -> Result<(), Fail> {
     for table in [NAMES, MOVES, SHARES] {
@@ -286,5 +319,14 @@ fn quotas_refuse_files_and_pages(rt: HostRuntime) -> Result<(), Fail> {
             "the table is answered"
         );
     }
+    Ok(())
+}
+
+#[test]
+fn volumes_and_pages_of_files_are_shown(rt: HostRuntime) -> Result<(), Fail> {
+    assert!(rt;
+        is_answered(rt.alloc(), "512", VOLUMES)?,
+        "the table is answered"
+    );
     Ok(())
 }

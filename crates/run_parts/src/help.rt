@@ -60,6 +60,8 @@ Commands:
   chfile -L off P                  no longer logs it
   sync                             makes everything durable
   cancel                           asks the running job of the mover to stop
+  showfdmn                         shows the volumes of the domain
+  showfile P                       shows where the pages of a file stand
 
 docs/SCRIPT.md has the full language, with each reply and each refusal.
 ";
