@@ -5,6 +5,7 @@ use Rattle.domain_memory.specs.Staged.{IsSettled}
 use Rattle.domain_memory.specs.declared.memory.DomainMemory.{DomainMemory}
 use Rattle.domain_memory.proofs.KeptStands.{stands_so}
 use Rattle.domain_state.proofs.Resting.{rests_kept}
+use Rattle.domain_state.proofs.StaysWithin.{within_kept}
 use Rattle.page_ways.specs.Frame.{frame_in}
 use Rattle.name_stages.proofs.Same.{still_back, still_keeps, still_settled}
 use Rattle.command_core.specs.Shown.{ShowsAs}
@@ -24,12 +25,14 @@ together-requires-clause-rest g c =
 
 pub together-requires-clause-stands : goal.together-requires-clause-stands
 together-requires-clause-stands g c =
+    let o = g.O.Opening in
     let kept = still_keeps c.apart-memory.result.0 c.show_volumes-memory.result.0 c.show_volumes-memory.ensures.same in
     ∥∥₁_map c.apart-memory.ensures.stands (λ goes. record {
       same = ap frame_in kept.frame ∙ goes.same;
       all = goes.all;
       stands = stands_so c.apart-memory.result.0 c.show_volumes-memory.result.0 kept goes.all goes.stands;
       leads = goes.leads;
+      within = within_kept o.pages o.frame o.sizes c.apart-memory.result.0 c.show_volumes-memory.result.0 c.apart-memory.result.1.entries.items kept goes.within;
     })
 
 pub returns-clause-stands : goal.returns-clause-stands
