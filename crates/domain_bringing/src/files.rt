@@ -62,6 +62,21 @@ fn load_page<R: Rack, M: MetaPages>(
     fetch_within(alloc, rack, frame, &home, pages)
 }
 
+/// Whether some of so many pages of a run, from one on, are there: those of directories are, and those
+/// of which the log has images.
+fn has_some<M: MetaPages>(pages: &M, run: &FileRun, from: u32, count: u32) -> bool
+    requires { from + count < 2 ^ 32 }
+{
+    for number in from..from + count {
+        if let Some(home) = home_behind(run, number) {
+            if pages.get(home).is_some() {
+                return true;
+            }
+        }
+    }
+    false
+}
+
 /// Where the first of so many pages of a run stands, from one on; None where not all are a member's.
 fn part_within(frame: &DomainFrame, run: &FileRun, number: u32, count: u32) -> Option<Home>
     ensures { IfSome result (λ first. IsPartWithin (frame_in frame.now) run.now number count
@@ -75,6 +90,24 @@ fn part_within(frame: &DomainFrame, run: &FileRun, number: u32, count: u32) -> O
     } else {
         None
     }
+}
+
+/// The same, and None where some of them are there, so that no page is read twice.
+fn part_to_read<M: MetaPages>(
+    pages: &M,
+    frame: &DomainFrame,
+    run: &FileRun,
+    from: u32,
+    count: u32,
+) -> Option<Home>
+    requires { from + count < 2 ^ 32 }
+    ensures { IfSome result (λ first. IsPartWithin (frame_in frame.now) run.now from count
+        first.vol first.page) }
+{
+    if has_some(pages, run, from, count) {
+        return None;
+    }
+    part_within(frame, run, from, count)
 }
 
 /// Brings so many pages of a run from one on, as far as they are a member's, one by one.
@@ -102,7 +135,7 @@ fn load_singly<R: Rack, M: MetaPages>(
     Ok(())
 }
 
-/// The same, by one call where all of them are a member's.
+/// The same, by one call where all of them are a member's and none is there.
 fn load_part<R: Rack, M: MetaPages>(
     alloc: Global,
     rack: &mut R,
@@ -124,7 +157,7 @@ fn load_part<R: Rack, M: MetaPages>(
     ensures before { M.before pages.new ≡ M.before pages.old }
 {
     let count = MOST_AT_ONCE.min(run.row.count - from);
-    match part_within(frame, run, from, count) {
+    match part_to_read(pages, frame, run, from, count) {
         Some(first) => {
             let part = &mut found[..count as usize * PAGE_BYTES];
             read_part(alloc, rack, first.vol, first.page, count, part, pages)

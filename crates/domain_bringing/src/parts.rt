@@ -1,5 +1,5 @@
 //! Pages that stand in a row, read by one call.
-ghost use Rattle.std.specs.Prelude.{◌≡◌, ◌+◌, ◌*◌, ◌^◌, ◌<◌, ◌≤◌, ℕ, IsSome, None, OnOk, Some, length};
+ghost use Rattle.std.specs.Prelude.{◌≡◌, ◌+◌, ◌*◌, ◌^◌, ◌<◌, IsSome, None, OnOk, Some, length};
 ghost use Rattle.domain_base.specs.declared.place.Home.{Home as HomeOf};
 ghost use Rattle.log_ring.specs.Groups.{pages_in};
 ghost use Rattle.metadata_loading.specs.Loading.{Brings, NamesCause};
