@@ -1,7 +1,8 @@
 #!/bin/sh
 # Times calls of the program on an image of 65,536 pages of 8,192 bytes, each as a ratio to a copy of that image that is
 # synced: mkfdmn, a run of 2,000 writes of one page each, a run that makes and writes 2,000 files in 20 directories, and
-# verify behind each of the two. Wants 1.1 GB in the folder that is named, or in the one for temporary files.
+# behind each of the two a run of a script without a command, which attaches the domain and closes it, and verify. Wants
+# 1.1 GB in the folder that is named, or in the one for temporary files.
 top=$(cd "$(dirname "$0")/.." && pwd) || exit 1
 "$top/advfs" --version >&2 || exit 1
 folder=$(mktemp -d "${1:-${TMPDIR:-/tmp}}/advfs_bench.XXXXXX") || exit 1
@@ -52,8 +53,11 @@ told
 rm "$folder/copy"
 pages >"$folder/pages.advfs"
 files >"$folder/files.advfs"
+echo "client 1" >"$folder/nothing.advfs"
 timed mkfdmn "$top/advfs" mkfdmn "$image" && told
 timed pages "$top/advfs" run "$folder/pages.advfs" "$image" && told
+timed attach_pages "$top/advfs" run "$folder/nothing.advfs" "$image" && told
 timed verify_pages "$top/advfs" verify "$image" && told
 timed files "$top/advfs" run "$folder/files.advfs" "$image" && told
+timed attach_files "$top/advfs" run "$folder/nothing.advfs" "$image" && told
 timed verify_files "$top/advfs" verify "$image" && told
