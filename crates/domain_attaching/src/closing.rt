@@ -72,6 +72,7 @@ fn bring_in_order<R: Rack>(
     ensures home { OnOk result (Tells (R.disk rack.old) → AreHome (pages_of memory.now.pages)
         memory.now.frame.anchor (R.disk rack.new).now.contents) }
     ensures synced { OnOk result (Tells (R.disk rack.old) → IsSynced (R.disk rack.new).now) }
+    ensures passed { OnOk result (HasPassed (R.disk rack.old) (R.disk rack.new)) }
     ensures cause { IfErr result (HasFailed (R.disk rack.old) (R.disk rack.new)) }
 {
     match bring_and_sync(rack, memory, tables, false, found) {
@@ -91,6 +92,7 @@ fn write_back<R: Rack>(alloc: Global, rack: &mut R, memory: &DomainMemory) -> Re
     ensures home { OnOk result (Tells (R.disk rack.old) → AreHome (pages_of memory.now.pages)
         memory.now.frame.anchor (R.disk rack.new).now.contents) }
     ensures synced { OnOk result (Tells (R.disk rack.old) → IsSynced (R.disk rack.new).now) }
+    ensures passed { OnOk result (HasPassed (R.disk rack.old) (R.disk rack.new)) }
     ensures cause { IfErr result (HasCloseCause (R.disk rack.old) (R.disk rack.new)) }
 {
     let Ok(tables) = table_pages(alloc, memory) else {
@@ -132,6 +134,8 @@ pub fn close<R: Rack, O: Opening>(
         domain.memory) }
     ensures order_at_fault { IfErr result (λ back. IsInOrderSoFar (R.disk domain.history.rack)
         (R.disk back.0.rack) domain.memory) }
+    ensures passed { IfOk result (λ now. HasPassed (R.disk domain.history.rack)
+        (R.disk now.rack)) }
     ensures touches { IfOk result (λ now. Touches (R.disk domain.history.rack) (R.disk now.rack)
         (IsOnLoggable domain.memory.frame.anchor)) }
     ensures touches_at_fault { IfErr result (λ back. Touches (R.disk domain.history.rack)

@@ -1,7 +1,7 @@
 use Rattle.std.proofs.Common.{◌∙◌, false, inr}
 use Rattle.std.proofs.lemmas.Result.{IfErr-weaker, on_ok_weaker}
 use Rattle.domain_attaching.specs.Closing.{HasFailed, IsChosen, IsInOrder, IsInOrderSoFar, IsOnThese}
-use Rattle.domain_attaching.proofs.HomeKept.{failed_then, members_still}
+use Rattle.domain_attaching.proofs.HomeKept.{failed_then, members_still, passed_then}
 use Rattle.domain_attaching.proofs.InOrder.{both_home, both_ok, both_touch, chosen_loggable, if_err, if_ok, in_order, so_far}
 use Rattle.domain_attaching.proofs.closing.bring_in_order.Goals as goal
 
@@ -44,6 +44,13 @@ returns-in-Ok-clause-home g c =
 
 pub returns-in-Ok-clause-synced : goal.returns-in-Ok-clause-synced
 returns-in-Ok-clause-synced g c = on_ok_weaker c.bring_and_sync-in-Ok.result (λ synced told. synced (c.bring_and_sync.ensures.touches.told ∙ told)) c.bring_and_sync-in-Ok.ensures.synced
+
+pub returns-in-Ok-clause-passed : goal.returns-in-Ok-clause-passed
+returns-in-Ok-clause-passed g c =
+    let old = g.R.Rack.disk c.args.rack.now in
+    let mid = g.R.Rack.disk c.bring_and_sync.new.rack in
+    let new = g.R.Rack.disk c.bring_and_sync-in-Ok.new.rack in
+    on_ok_weaker c.bring_and_sync-in-Ok.result (λ passed. passed_then old mid new c.in-Ok.ensures.passed passed) c.bring_and_sync-in-Ok.ensures.passed
 
 pub returns-in-Ok-clause-cause : goal.returns-in-Ok-clause-cause
 returns-in-Ok-clause-cause g c =

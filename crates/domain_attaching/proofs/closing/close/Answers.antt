@@ -1,5 +1,6 @@
 use Rattle.std.proofs.Common.{◌∙◌, sym, ap, subst}
 use Rattle.volume_disk.specs.Disk.{Disk}
+use Rattle.disk_label.specs.Fault.{HasPassed}
 use Rattle.log_ring.specs.Homes.{HasMembers}
 use Rattle.domain_attaching.proofs.AtClose.{asks_members, closed_then, means_then}
 use Rattle.domain_attaching.proofs.InOrder.{order_there, so_far_there}
@@ -31,3 +32,8 @@ pub returns-clause-order_at_fault : goal.returns-clause-order_at_fault
 returns-clause-order_at_fault g c =
     let disk = g.R.Rack.disk in
     so_far_there (disk c.args.domain.history.rack) (disk c.into_parts-rack.result.0) (disk c.write_back.new.rack) c.args.domain.memory c.apart-memory.result.0 (ap disk (c.into_parts-rack.ensures.rack ∙ ap (λ h. h.rack) c.apart-memory.ensures.history)) c.apart-memory.ensures.memory c.in-Err.ensures.order_at_fault
+
+pub returns-in-Ok-clause-passed : goal.returns-in-Ok-clause-passed
+returns-in-Ok-clause-passed g c =
+    let disk = g.R.Rack.disk in
+    subst (λ (d : Disk). HasPassed d (disk c.write_back.new.rack)) (ap disk (c.into_parts-rack.ensures.rack ∙ ap (λ h. h.rack) c.apart-memory.ensures.history)) c.in-Ok.ensures.passed
