@@ -1,4 +1,5 @@
 pub mod Taken
+mod NoFault
 mod Names
 mod Commands
 pub mod Scripts

@@ -5,6 +5,7 @@ use Rattle.std.proofs.lemmas.List.Elements.{All-push}
 use Rattle.fileset_model.specs.declared.entry.Entry.{Entry}
 use Rattle.domain_state.specs.History.{with_last_stamped}
 use Rattle.script_text.specs.Turns.{Turn, turn_of}
+use Rattle.client_turns.specs.Quiet.{TellNoFault, TellsNoFault}
 
 -- the last entry gets the stamp
 stamped_end : (stamp : ℕ) (front : List Entry) (e : Entry) → with_last_stamped stamp (front ++ e ∷ []) ≡ front ++ record e { stamp = stamp } ∷ []
@@ -24,6 +25,10 @@ module _ (stamp : ℕ) (before after ended : List Entry) (e : Entry) (added : Bo
   pub turn_stamped : All (λ (x : Entry). x.stamp ≡ stamp) before → All (λ (x : Entry). x.stamp ≡ stamp) ended
   turn_stamped are =
       subst (λ (l : List Entry). All (λ (x : Entry). x.stamp ≡ stamp) l) (sym ended_is) (All-push (λ (x : Entry). x.stamp ≡ stamp) before (record e { stamp = stamp }) are refl)
+
+  pub turn_quiet : TellsNoFault e.reply → TellNoFault before → TellNoFault ended
+  turn_quiet tells are =
+      subst TellNoFault (sym ended_is) (All-push (λ (x : Entry). TellsNoFault x.reply) before (record e { stamp = stamp }) are tells)
 
 -- some turns more were taken, and the others are left
 pub turns_on : (before after next rest all : List Turn) → after ≡ before ++ next → before ++ (next ++ rest) ≡ all → after ++ rest ≡ all

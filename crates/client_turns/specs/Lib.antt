@@ -1,2 +1,3 @@
 pub use Rattle.command_core.specs.Ending
 pub use Rattle.command_core.specs.Staged
+pub mod Quiet

@@ -4,6 +4,7 @@ ghost use Rattle.fileset_model.specs.declared.command.Actor.TheVariants.{Client}
 ghost use Rattle.command_core.specs.Ending.{IsServed};
 ghost use Rattle.command_core.specs.Staged.{IsSettled};
 ghost use Rattle.script_text.specs.Turns.{turn_of, turns_of};
+ghost use Rattle.client_turns.specs.Quiet.{TellNoFault};
 
 use crate::gates::Gate;
 use command_core::command;
@@ -15,7 +16,8 @@ use std::alloc::Global;
 use volume_disk::Rack;
 
 /// Answers a command of a client, and ends its event: the history has it as one entry more, whose
-/// stamp is how many calls the rack has had.
+/// stamp is how many calls the rack has had, and whose reply tells of no volume that failed, as no
+/// call of a device is made.
 pub fn take_turn<R: Rack, O: Opening>(
     domain: Domain<R, O>,
     alloc: Global,
@@ -29,6 +31,8 @@ pub fn take_turn<R: Rack, O: Opening>(
     requires served { IsServed asked }
     ensures turn { map turn_of (⟦<Domain<R, O> as Told>⟧.history result)
         ≡ map turn_of (⟦<Domain<R, O> as Told>⟧.history domain) ++ (Client client, asked) ∷ [] }
+    ensures quiet { TellNoFault (⟦<Domain<R, O> as Told>⟧.history domain)
+        → TellNoFault (⟦<Domain<R, O> as Told>⟧.history result) }
     ensures stamps { All (λ e. e.stamp ≡ (R.disk domain.history.rack).calls)
         (⟦<Domain<R, O> as Told>⟧.history domain)
         → All (λ e. e.stamp ≡ (R.disk domain.history.rack).calls)
@@ -63,6 +67,8 @@ fn answer_commands<R: Rack, O: Opening, G: Gate>(
     ensures turns { map turn_of (⟦<Domain<R, O> as Told>⟧.history result)
         ≡ map turn_of (⟦<Domain<R, O> as Told>⟧.history domain)
         ++ map (λ command. (Client client, command)) commands.items }
+    ensures quiet { TellNoFault (⟦<Domain<R, O> as Told>⟧.history domain)
+        → TellNoFault (⟦<Domain<R, O> as Told>⟧.history result) }
     ensures stamps { All (λ e. e.stamp ≡ (R.disk domain.history.rack).calls)
         (⟦<Domain<R, O> as Told>⟧.history domain)
         → All (λ e. e.stamp ≡ (R.disk domain.history.rack).calls)
@@ -100,6 +106,8 @@ fn answer_section<R: Rack, O: Opening, G: Gate>(
     requires served { All IsServed section.commands }
     ensures turns { map turn_of (⟦<Domain<R, O> as Told>⟧.history result)
         ≡ map turn_of (⟦<Domain<R, O> as Told>⟧.history domain) ++ turns_of section }
+    ensures quiet { TellNoFault (⟦<Domain<R, O> as Told>⟧.history domain)
+        → TellNoFault (⟦<Domain<R, O> as Told>⟧.history result) }
     ensures stamps { All (λ e. e.stamp ≡ (R.disk domain.history.rack).calls)
         (⟦<Domain<R, O> as Told>⟧.history domain)
         → All (λ e. e.stamp ≡ (R.disk domain.history.rack).calls)
@@ -135,6 +143,8 @@ pub fn answer_sections<R: Rack, O: Opening, G: Gate>(
     ensures turns { map turn_of (⟦<Domain<R, O> as Told>⟧.history result)
         ≡ map turn_of (⟦<Domain<R, O> as Told>⟧.history domain)
         ++ flat_map turns_of sections.items }
+    ensures quiet { TellNoFault (⟦<Domain<R, O> as Told>⟧.history domain)
+        → TellNoFault (⟦<Domain<R, O> as Told>⟧.history result) }
     ensures stamps { All (λ e. e.stamp ≡ (R.disk domain.history.rack).calls)
         (⟦<Domain<R, O> as Told>⟧.history domain)
         → All (λ e. e.stamp ≡ (R.disk domain.history.rack).calls)

@@ -9,6 +9,7 @@ ghost use Rattle.domain_base.specs.Limits.{min_first_volume_pages};
 ghost use Rattle.domain_making.specs.Making.{HasNoOtherAnchor};
 ghost use Rattle.client_turns.specs.Staged.{IsSettled};
 ghost use Rattle.client_turns.specs.Ending.{IsServed};
+ghost use Rattle.client_turns.specs.Quiet.{TellNoFault};
 ghost use Rattle.script_text.specs.Turns.{turn_of, turns_of};
 ghost use Rattle.domain_runs.specs.Runs.{AreStampedWithin, BeginsNot, ClosesAs, LeadsFrom, LeadsFromNew, MakesNone, RunsFrom};
 ghost use Rattle.run_parts.specs.declared.status.Status.TheVariants as status;
@@ -86,6 +87,7 @@ fn run_begun<R: Rack, O: Opening, G: Gate>(
     requires begun { ⟦<Domain<R, O> as Told>⟧.begun domain ≡ None }
     requires served { All (λ section. All IsServed section.commands) sections.items }
     ensures turns { map turn_of result.history.items ≡ flat_map turns_of sections.items }
+    ensures quiet { TellNoFault result.history.items }
     ensures stamps { AreStampedWithin (R.disk domain.history.rack) (R.disk result.rack)
         result.history.items }
     ensures legal { ∥ LeadsFrom O.pages O.frame O.sizes result.history.items (R.disk result.rack)
@@ -140,6 +142,7 @@ fn run_attached<R: Rack, O: Opening, G: Gate>(
     requires served { All (λ section. All IsServed section.commands) sections.items }
     ensures turns { IfOk result
         (λ ran. map turn_of ran.history.items ≡ flat_map turns_of sections.items) }
+    ensures quiet { IfOk result (λ ran. TellNoFault ran.history.items) }
     ensures stamps { IfOk result (λ ran. AreStampedWithin (R.disk attached.rack) (R.disk ran.rack)
         ran.history.items) }
     ensures legal { IfOk result (λ ran. ∥ LeadsFrom O.pages O.frame O.sizes ran.history.items
@@ -173,6 +176,7 @@ pub fn run_on<R: Rack, G: Gate>(
     requires served { All (λ section. All IsServed section.commands) sections.items }
     ensures turns { IfOk result
         (λ ran. map turn_of ran.history.items ≡ flat_map turns_of sections.items) }
+    ensures quiet { IfOk result (λ ran. TellNoFault ran.history.items) }
     ensures stamps { IfOk result (λ ran. AreStampedWithin (R.disk rack) (R.disk ran.rack)
         ran.history.items) }
     ensures legal { IfOk result (λ ran. RunsFrom (R.disk rack) (R.disk ran.rack) ran.history.items
@@ -208,6 +212,7 @@ pub fn run_new<R: Rack, G: Gate>(
     requires served { All (λ section. All IsServed section.commands) sections.items }
     ensures turns { IfOk result
         (λ ran. map turn_of ran.history.items ≡ flat_map turns_of sections.items) }
+    ensures quiet { IfOk result (λ ran. TellNoFault ran.history.items) }
     ensures stamps { IfOk result (λ ran. AreStampedWithin (R.disk rack) (R.disk ran.rack)
         ran.history.items) }
     ensures legal { IfOk result (λ ran. ∥ LeadsFromNew version (R.disk rack).sizes

@@ -29,6 +29,7 @@ loop-asked-preserved g c =
       stamps = λ first.
           stamps_on _ _ c.loop-asked.domain.history.entries.items c.take_turn-next.result.history.entries.items (ap (λ rack. (g.R.Rack.disk rack).calls) so_far.rack) c.take_turn-next.ensures.stamps
           (so_far.stamps first);
+      quiet = λ first. c.take_turn-next.ensures.quiet (so_far.quiet first);
       rests = c.take_turn-next.ensures.rests;
       settled = c.take_turn-next.ensures.settled;
       served = All-tail IsServed c.in-Some.asked rest (subst (λ (l : List Command). All IsServed l) steps so_far.served);

@@ -6,6 +6,7 @@ use Rattle.fileset_model.specs.declared.entry.Entry.{Entry}
 use Rattle.command_core.specs.Ending.{IsServed}
 use Rattle.command_core.specs.Staged.{IsSettled}
 use Rattle.script_text.specs.Turns.{turn_of}
+use Rattle.client_turns.specs.Quiet.{TellNoFault}
 use Rattle.client_turns.proofs.turns.answer_commands.Given as goal
 
 -- the commands so far are in the history, and those that are left have room in it
@@ -15,6 +16,7 @@ invariant-loop-asked g l = record {
       ≡ map turn_of l.fn.domain.history.entries.items ++ map (λ (command : Command). (Client l.client, command)) l.fn.commands.items;
   stamps : All (λ (e : Entry). e.stamp ≡ (g.R.Rack.disk l.fn.domain.history.rack).calls) l.fn.domain.history.entries.items
       → All (λ (e : Entry). e.stamp ≡ (g.R.Rack.disk l.fn.domain.history.rack).calls) l.domain.history.entries.items;
+  quiet : TellNoFault l.fn.domain.history.entries.items → TellNoFault l.domain.history.entries.items;
   rests : l.domain.history.added ≡ false;
   settled : IsSettled l.domain.memory;
   served : All IsServed l.asked-iterator.rest.items;

@@ -37,6 +37,7 @@ loop-section-preserved g c =
       stamps = λ first.
           stamps_on _ _ c.loop-section.domain.history.entries.items c.answer_section-next.result.history.entries.items (ap (λ rack. (g.R.Rack.disk rack).calls) so_far.rack) c.answer_section-next.ensures.stamps
           (so_far.stamps first);
+      quiet = λ first. c.answer_section-next.ensures.quiet (so_far.quiet first);
       rests = c.answer_section-next.ensures.rests;
       settled = c.answer_section-next.ensures.settled;
       served = All-tail (λ (section : Section). All IsServed section.commands) c.in-Some.section rest (subst (λ (l : List Section). All (λ (section : Section). All IsServed section.commands) l) steps so_far.served);
@@ -53,6 +54,7 @@ loop-section-init g c =
     record {
       turns = ap (λ (l : List Section). map turn_of old.items ++ flat_map turns_of l) is;
       stamps = λ first. first;
+      quiet = λ first. first;
       rests = c.requires.rests;
       settled = c.requires.settled;
       served = subst (λ (l : List Section). All (λ (section : Section). All IsServed section.commands) l) (sym is) c.requires.served;

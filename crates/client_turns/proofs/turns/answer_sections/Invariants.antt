@@ -5,6 +5,7 @@ use Rattle.command_core.specs.Ending.{IsServed}
 use Rattle.command_core.specs.Staged.{IsSettled}
 use Rattle.script_text.specs.Turns.{turn_of, turns_of}
 use Rattle.script_text.specs.declared.script.Section.{Section}
+use Rattle.client_turns.specs.Quiet.{TellNoFault}
 use Rattle.client_turns.proofs.turns.answer_sections.Given as goal
 
 -- the sections so far are in the history, and those that are left have room in it
@@ -14,6 +15,7 @@ invariant-loop-section g l = record {
       ≡ map turn_of l.fn.domain.history.entries.items ++ flat_map turns_of l.fn.sections.items;
   stamps : All (λ (e : Entry). e.stamp ≡ (g.R.Rack.disk l.fn.domain.history.rack).calls) l.fn.domain.history.entries.items
       → All (λ (e : Entry). e.stamp ≡ (g.R.Rack.disk l.fn.domain.history.rack).calls) l.domain.history.entries.items;
+  quiet : TellNoFault l.fn.domain.history.entries.items → TellNoFault l.domain.history.entries.items;
   rests : l.domain.history.added ≡ false;
   settled : IsSettled l.domain.memory;
   served : All (λ (section : Section). All IsServed section.commands) l.section-iterator.rest.items;

@@ -1,5 +1,7 @@
 use Rattle.std.proofs.Common.{⊎_elim, ap}
-use Rattle.client_turns.proofs.Taken.{stamps_on, turn_stamped, turn_taken}
+use Rattle.std.proofs.Math.Logic.{∥∥₁_elim}
+use Rattle.client_turns.proofs.NoFault.{never_faults, shown_quiet, tells_no_space}
+use Rattle.client_turns.proofs.Taken.{stamps_on, turn_quiet, turn_stamped, turn_taken}
 use Rattle.client_turns.proofs.turns.take_turn.Goals as goal
 
 pub returns-clause-turn : goal.returns-clause-turn
@@ -26,3 +28,25 @@ returns-clause-stamps g c =
     (λ none. turn_stamped (g.R.Rack.disk answered.rack).calls before answered.entries.items ended _ answered.added c.command-domain.ensures.added none.adds c.end_event.ensures.history))
     (λ shown. turn_stamped (g.R.Rack.disk answered.rack).calls before answered.entries.items ended _ answered.added c.command-domain.ensures.added shown.added.adds c.end_event.ensures.history)
     c.command-domain.ensures.adds)
+
+pub returns-clause-quiet : goal.returns-clause-quiet
+returns-clause-quiet g c =
+    let domain = c.args.domain in
+    let answered = c.command-domain.result.history in
+    let before = domain.history.entries.items in
+    let ended = c.end_event.new.self.history.entries.items in
+    let calls = (g.R.Rack.disk answered.rack).calls in
+    ⊎_elim
+    (⊎_elim
+    (λ answer. turn_quiet calls before answered.entries.items ended _ answered.added c.command-domain.ensures.added answer.adds c.end_event.ensures.history
+    (λ volume. (
+      λ is. ∥∥₁_elim domain.stands (λ x y. absurd x) (λ goes. let means = answer.means goes.all goes.stands in (never_faults goes.all c.args.asked answer.reply means.0 means.1 volume).0 is),
+      λ is. ∥∥₁_elim domain.stands (λ x y. absurd x) (λ goes. let means = answer.means goes.all goes.stands in (never_faults goes.all c.args.asked answer.reply means.0 means.1 volume).1 is),
+    )))
+    (λ none. turn_quiet calls before answered.entries.items ended _ answered.added c.command-domain.ensures.added none.adds c.end_event.ensures.history (tells_no_space _ _)))
+    (λ shown. turn_quiet calls before answered.entries.items ended _ answered.added c.command-domain.ensures.added shown.added.adds c.end_event.ensures.history
+    (λ volume. (
+      λ is. ∥∥₁_elim domain.stands (λ x y. absurd x) (λ goes. (shown_quiet domain.memory goes.all c.args.asked shown.reply (shown.shown goes.all goes.stands) volume).0 is),
+      λ is. ∥∥₁_elim domain.stands (λ x y. absurd x) (λ goes. (shown_quiet domain.memory goes.all c.args.asked shown.reply (shown.shown goes.all goes.stands) volume).1 is),
+    )))
+    c.command-domain.ensures.adds

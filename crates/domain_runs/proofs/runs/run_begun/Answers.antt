@@ -1,7 +1,9 @@
 use Rattle.std.proofs.Common.{◌≡◌, List, sym, ap, subst}
+use Rattle.std.proofs.lemmas.List.Elements.{All-nil}
 use Rattle.volume_disk.specs.Disk.{Disk, Tells}
 use Rattle.fileset_model.specs.declared.entry.Entry.{Entry}
 use Rattle.run_parts.specs.declared.status.Status.TheVariants as status
+use Rattle.client_turns.specs.Quiet.{TellNoFault, TellsNoFault}
 use Rattle.domain_runs.specs.Runs.{LeadsFrom}
 use Rattle.domain_runs.proofs.Running.{leads_since}
 use Rattle.domain_runs.proofs.runs.run_begun.Goals as goal
@@ -15,3 +17,8 @@ returns-clause-legal g c =
     let ran = c.end_run.result in
     leads_since o.pages o.frame o.sizes ran.history.items old mid (disk ran.rack) (ran.end ≡ status.Ok) (subst (λ (d : Disk). Tells d) (sym (ap disk c.answer_sections-domain.ensures.rack)))
     (subst (λ (l : List Entry). ∥ LeadsFrom o.pages o.frame o.sizes l (disk ran.rack) (Tells mid × (ran.end ≡ status.Ok)) ∥₁) (sym c.end_run.ensures.history) c.end_run.ensures.legal)
+
+pub returns-clause-quiet : goal.returns-clause-quiet
+returns-clause-quiet g c =
+    subst (λ (l : List Entry). TellNoFault l) (sym c.end_run.ensures.history)
+    (c.answer_sections-domain.ensures.quiet (subst (λ (l : List Entry). TellNoFault l) (sym c.requires.first) (All-nil (λ (e : Entry). TellsNoFault e.reply))))

@@ -1,0 +1,273 @@
+-- No command over filesets is answered by what became of a volume.
+use Rattle.std.proofs.Common.{◌≡◌, ◌*◌, ℕ, inl, inr, nat_lt, not, Bool, true, false, cond, Option, Some, None, MatchOption, List, [], ◌∷◌, length, map, refl, sym, subst}
+use Rattle.std.specs.Option.{option_map_or}
+use Rattle.std.specs.FinMap as finite
+use Rattle.domain_base.specs.declared.limits.TheConstants.{BLOCKS_PER_PAGE, FILE_BYTES}
+use Rattle.fileset_model.specs.Apply.{AnswersIfMemory, Changes, answer_of, create_checks, filesets_full, has_clone, in_fileset, is_clone, link_checks, links_of, move_checks, name_taken, not_empty, of_node, out_of_sync, quota_of, read_checks, read_of, read_only, refusal_of, rename_checks, replace_checks, stat_of, write_checks, write_quota}
+use Rattle.fileset_model.specs.Fileset.{Fileset}
+use Rattle.fileset_model.specs.Orders.{Name, Path}
+use Rattle.fileset_model.specs.Pages.{absent_pages}
+use Rattle.fileset_model.specs.Paths.{directories_to, directory_here, directory_refusal, file_here, first_refusal, is_directory, is_out_of_sync_at, node_at, paths_to, refuse_if, names_one, rows_of, target_refusal, walk_refusal}
+use Rattle.fileset_model.specs.Filesets.{FilesetMap}
+use Rattle.fileset_model.specs.Usage.{blocks_refusal, files_refusal, quota_refusal}
+use Rattle.fileset_model.specs.declared.command.Command.{Command}
+use Rattle.fileset_model.specs.declared.command.Command.TheVariants as command
+use Rattle.fileset_model.specs.declared.command.Owner.{Owner}
+use Rattle.fileset_model.specs.declared.command.Owner.TheVariants.{User, Group, Fileset as WholeFileset}
+use Rattle.fileset_model.specs.declared.command.Place.{Place}
+use Rattle.fileset_model.specs.declared.fileset.FilesetSlot.{FilesetSlot}
+use Rattle.fileset_model.specs.declared.node.Node.{Node}
+use Rattle.fileset_model.specs.declared.node.Node.TheVariants.{File, Directory}
+use Rattle.fileset_model.specs.declared.reply.ExtentItem.{ExtentItem}
+use Rattle.fileset_model.specs.declared.reply.Refusal.{Refusal}
+use Rattle.fileset_model.specs.declared.reply.Refusal.TheVariants.{CloneOfClone, HasClone, NoFileset, NoPath, NotDirectory, OutOfMemory, OutOfSync, NoSpace, Panicked, ReadFault, TooFar}
+use Rattle.fileset_model.specs.declared.reply.Reply.{Reply}
+use Rattle.fileset_model.specs.declared.reply.VolumeItem.{VolumeItem}
+use Rattle.fileset_model.specs.declared.reply.Reply.TheVariants as reply
+use Rattle.fileset_model.specs.declared.reply.Reply.TheVariants.{Refused}
+use Rattle.domain_memory.specs.declared.memory.DomainMemory.{DomainMemory}
+use Rattle.command_core.specs.Shown.{IsShownIfMemory, ShowsHomes}
+use Rattle.client_turns.specs.Quiet.{TellsNoFault}
+
+-- no volume that panicked, or of which a read failed
+IsCalm : Refusal → Type 0
+IsCalm (Panicked volume) = ⊥
+IsCalm (ReadFault volume) = ⊥
+IsCalm _ = Unit {0}
+
+Check : Option Refusal → Type 0
+Check None = Unit {0}
+Check (Some refusal) = IsCalm refusal
+
+Checks : List (Option Refusal) → Type 0
+Checks [] = Unit {0}
+Checks (check ∷ checks) = Check check × Checks checks
+
+IsCalmReply : Reply → Type 0
+IsCalmReply (Refused refusal) = IsCalm refusal
+IsCalmReply _ = Unit {0}
+
+first : (checks : List (Option Refusal)) → Checks checks → Check (first_refusal checks)
+unfolding Check Checks
+first [] calm = tt
+first (None ∷ checks) calm = first checks calm.1
+first (Some refusal ∷ checks) calm = calm.0
+
+refused_if : (test : Bool) (refusal : Refusal) → IsCalm refusal → Check (refuse_if test refusal)
+unfolding Check
+refused_if true refusal calm = calm
+refused_if false refusal calm = tt
+
+map_or : {A B : Type 0} (P : B → Type 0) (f : A → B) (o : Option A) (d : B) → ((a : A) → P (f a)) → P d → P (option_map_or f o d)
+map_or P f None d each other = other
+map_or P f (Some a) d each other = each a
+
+mapped : {A : Type 0} (f : A → Option Refusal) → ((a : A) → Check (f a)) → (xs : List A) → Checks (map f xs)
+unfolding Checks
+mapped f each [] = tt
+mapped f each (x ∷ xs) = (each x, mapped f each xs)
+
+in_directory : (slot : FilesetSlot) (path : Path) → Check (directory_refusal slot path)
+unfolding IsCalm Check Checks
+in_directory slot path =
+    map_or Check (λ node. first_refusal (refuse_if (not (is_directory node)) NotDirectory ∷ refuse_if (is_out_of_sync_at slot path) OutOfSync ∷ [])) (node_at slot.tree path) (Some NoPath)
+    (λ node. first (refuse_if (not (is_directory node)) NotDirectory ∷ refuse_if (is_out_of_sync_at slot path) OutOfSync ∷ []) (refused_if _ _ tt, (refused_if _ _ tt, tt))) tt
+
+walk : (slot : FilesetSlot) (path : Path) → Check (walk_refusal slot path)
+walk slot path = first (map (directory_refusal slot) (directories_to path)) (mapped (directory_refusal slot) (in_directory slot) (directories_to path))
+
+target : (slot : FilesetSlot) (path : Path) → Check (target_refusal slot path)
+unfolding IsCalm Check Checks
+target slot path =
+    first (walk_refusal slot path ∷ refuse_if (not (finite.contains_key slot.tree.paths path)) NoPath ∷ []) (walk slot path, (refused_if _ _ tt, tt))
+
+owner : (tree : Fileset) (who : Owner) (files blocks : ℕ) → Check (first_refusal (files_refusal tree who files ∷ blocks_refusal tree who blocks ∷ []))
+unfolding IsCalm Check Checks
+owner tree who files blocks = first (files_refusal tree who files ∷ blocks_refusal tree who blocks ∷ []) (refused_if _ _ tt, (refused_if _ _ tt, tt))
+
+quota : (tree : Fileset) (uid gid files blocks : ℕ) → Check (quota_refusal tree uid gid files blocks)
+unfolding IsCalm Check Checks
+quota tree uid gid files blocks = first (of (User uid) ∷ of (Group gid) ∷ of WholeFileset ∷ [])
+    (owner tree (User uid) files blocks, (owner tree (Group gid) files blocks, (owner tree WholeFileset files blocks, tt)))
+  where
+    of : Owner → Option Refusal
+    of who = first_refusal (files_refusal tree who files ∷ blocks_refusal tree who blocks ∷ [])
+
+written : (tree : Fileset) (offset : ℕ) (bytes : List ℕ) (node : Node) → Check (write_quota tree offset bytes node)
+unfolding Check
+written tree offset bytes (File uid gid size logged pages) = quota tree uid gid 0 (BLOCKS_PER_PAGE * absent_pages pages offset (length bytes))
+written tree offset bytes (Directory uid gid) = tt
+
+in_one : (all : FilesetMap) (name : Name) (checks : FilesetSlot → List (Option Refusal)) → ((slot : FilesetSlot) → Checks (checks slot)) → Check (in_fileset all name checks)
+unfolding IsCalm Check
+in_one all name checks each = map_or Check (λ slot. first_refusal (checks slot)) (finite.get all name) (Some NoFileset) (λ slot. first (checks slot) (each slot)) tt
+
+replaced : (from to : Path) (slot : FilesetSlot) → Check (first_refusal (replace_checks from to slot))
+unfolding IsCalm Check Checks
+replaced from to slot = at (option_map_or is_directory (node_at slot.tree from) false)
+  where
+    at : (b : Bool) → Check (first_refusal (cond b (file_here slot to ∷ not_empty slot to ∷ []) (directory_here slot to ∷ [])))
+    at true = first (file_here slot to ∷ not_empty slot to ∷ []) (refused_if _ _ tt, (refused_if _ _ tt, tt))
+    at false = first (directory_here slot to ∷ []) (refused_if _ _ tt, tt)
+
+chosen : (b : Bool) (x y : Option Refusal) → Check x → Check y → Check (cond b x y)
+chosen true x y p q = p
+chosen false x y p q = q
+
+created : (path : Path) (uid gid : ℕ) (slot : FilesetSlot) → Checks (create_checks path uid gid slot)
+unfolding IsCalm Check Checks
+created path uid gid slot = (refused_if _ _ tt, (walk slot path, (refused_if _ _ tt, (quota slot.tree uid gid 1 0, tt))))
+
+moves : (from to : Path) (slot : FilesetSlot) → Checks (move_checks from to slot)
+unfolding IsCalm Check Checks
+moves from to slot =
+    (refused_if _ _ tt, (chosen (finite.contains_key slot.tree.paths to) (first_refusal (replace_checks from to slot)) None (replaced from to slot) tt, tt))
+
+renamed : (from to : Path) (slot : FilesetSlot) → Checks (rename_checks from to slot)
+unfolding IsCalm Check Checks
+renamed from to slot = (
+  refused_if _ _ tt,
+  (
+    target slot from,
+    (
+      walk slot to,
+      (chosen (names_one slot.tree from to) None (first_refusal (move_checks from to slot)) tt (first (move_checks from to slot) (moves from to slot)), tt),
+    ),
+  ),
+)
+
+writes : (path : Path) (offset : ℕ) (bytes : List ℕ) (slot : FilesetSlot) → Checks (write_checks path offset bytes slot)
+unfolding IsCalm Check Checks
+writes path offset bytes slot = (
+  refused_if _ _ tt,
+  (
+    target slot path,
+    (
+      refused_if _ _ tt,
+      (
+        refused_if _ _ tt,
+        (map_or Check (write_quota slot.tree offset bytes) (node_at slot.tree path) None (written slot.tree offset bytes) tt, tt),
+      ),
+    ),
+  ),
+)
+
+refusals : (all : FilesetMap) (c : Command) → Check (refusal_of all c)
+unfolding IsCalm Check Checks
+refusals all (command.Mkfset fileset) = first (name_taken all fileset ∷ filesets_full all ∷ []) (refused_if _ _ tt, (refused_if _ _ tt, tt))
+refusals all (command.Rmfset fileset) = in_one all fileset (λ slot. refuse_if (has_clone all fileset) HasClone ∷ []) (λ slot. (refused_if _ _ tt, tt))
+refusals all (command.Clonefset fileset new_name) =
+    in_one all fileset (λ slot. refuse_if (is_clone slot.role) CloneOfClone ∷ refuse_if (has_clone all fileset) HasClone ∷ name_taken all new_name ∷ filesets_full all ∷ [])
+    (λ slot. (refused_if _ _ tt, (refused_if _ _ tt, (refused_if _ _ tt, (refused_if _ _ tt, tt)))))
+refusals all (command.Setquota fileset who files blocks) = in_one all fileset (λ slot. read_only slot ∷ []) (λ slot. (refused_if _ _ tt, tt))
+refusals all (command.Showquota fileset who) = in_one all fileset (λ slot. read_only slot ∷ []) (λ slot. (refused_if _ _ tt, tt))
+refusals all (command.Create place uid gid) = in_one all place.fileset (create_checks place.path uid gid) (created place.path uid gid)
+refusals all (command.Mkdir place uid gid) = in_one all place.fileset (create_checks place.path uid gid) (created place.path uid gid)
+refusals all (command.Write place offset bytes) = in_one all place.fileset (write_checks place.path offset bytes) (writes place.path offset bytes)
+refusals all (command.Read place offset count) =
+    in_one all place.fileset (read_checks place.path) (λ slot. (target slot place.path, (refused_if _ _ tt, (refused_if _ _ tt, tt))))
+refusals all (command.Truncate place size) =
+    in_one all place.fileset (λ slot. read_only slot ∷ target_refusal slot place.path ∷ directory_here slot place.path ∷ refuse_if (nat_lt FILE_BYTES size) TooFar ∷ [])
+    (λ slot. (refused_if _ _ tt, (target slot place.path, (refused_if _ _ tt, (refused_if _ _ tt, tt)))))
+refusals all (command.Rename place to) = in_one all place.fileset (rename_checks place.path to) (renamed place.path to)
+refusals all (command.Link place to) =
+    in_one all place.fileset (link_checks place.path to)
+    (λ slot. (refused_if _ _ tt, (target slot place.path, (refused_if _ _ tt, (walk slot to, (refused_if _ _ tt, (refused_if _ _ tt, tt)))))))
+refusals all (command.Links place) =
+    in_one all place.fileset (read_checks place.path) (λ slot. (target slot place.path, (refused_if _ _ tt, (refused_if _ _ tt, tt))))
+refusals all (command.Unlink place) =
+    in_one all place.fileset (λ slot. read_only slot ∷ target_refusal slot place.path ∷ directory_here slot place.path ∷ [])
+    (λ slot. (refused_if _ _ tt, (target slot place.path, (refused_if _ _ tt, tt))))
+refusals all (command.Rmdir place) =
+    in_one all place.fileset (λ slot. read_only slot ∷ target_refusal slot place.path ∷ file_here slot place.path ∷ not_empty slot place.path ∷ [])
+    (λ slot. (refused_if _ _ tt, (target slot place.path, (refused_if _ _ tt, (refused_if _ _ tt, tt)))))
+refusals all (command.List place) =
+    in_one all place.fileset (λ slot. target_refusal slot place.path ∷ file_here slot place.path ∷ out_of_sync slot place.path ∷ [])
+    (λ slot. (target slot place.path, (refused_if _ _ tt, (refused_if _ _ tt, tt))))
+refusals all (command.Stat place) =
+    in_one all place.fileset (λ slot. target_refusal slot place.path ∷ out_of_sync slot place.path ∷ []) (λ slot. (target slot place.path, (refused_if _ _ tt, tt)))
+refusals all (command.Fsync place) =
+    in_one all place.fileset (λ slot. read_only slot ∷ target_refusal slot place.path ∷ []) (λ slot. (refused_if _ _ tt, (target slot place.path, tt)))
+refusals all (command.Chfile place logged) =
+    in_one all place.fileset (λ slot. read_only slot ∷ target_refusal slot place.path ∷ directory_here slot place.path ∷ [])
+    (λ slot. (refused_if _ _ tt, (target slot place.path, (refused_if _ _ tt, tt))))
+refusals all c = tt
+
+-- ---- answers
+
+of_one : (all : FilesetMap) (place : Place) (answer : Fileset → Node → Reply) → ((tree : Fileset) (node : Node) → IsCalmReply (answer tree node)) → IsCalmReply (of_node all place answer)
+unfolding IsCalmReply
+of_one all place answer each =
+    map_or IsCalmReply (λ slot. option_map_or (answer slot.tree) (node_at slot.tree place.path) reply.Done) (finite.get all place.fileset) reply.Done
+    (λ slot. map_or IsCalmReply (answer slot.tree) (node_at slot.tree place.path) reply.Done (each slot.tree) tt) tt
+
+reads : (offset count : ℕ) (node : Node) → IsCalmReply (read_of offset count node)
+unfolding IsCalmReply
+reads offset count (File uid gid size logged pages) = tt
+reads offset count (Directory uid gid) = tt
+
+stats : (tree : Fileset) (path : Path) (node : Node) → IsCalmReply (stat_of tree path node)
+unfolding IsCalmReply
+stats tree path (File uid gid size logged pages) = tt
+stats tree path (Directory uid gid) = tt
+
+answers : (all : FilesetMap) (c : Command) → IsCalmReply (answer_of all c)
+unfolding IsCalmReply
+answers all (command.Read place offset count) = of_one all place (λ tree. read_of offset count) (λ tree. reads offset count)
+answers all (command.Stat place) = of_one all place (λ tree. stat_of tree place.path) (λ tree. stats tree place.path)
+answers all (command.List place) =
+    map_or IsCalmReply (λ slot. reply.Names (rows_of slot.tree place.path)) (finite.get all place.fileset) reply.Done (λ slot. tt) tt
+answers all (command.Links place) =
+    map_or IsCalmReply (λ slot. links_of place.path slot.tree) (finite.get all place.fileset) reply.Done
+    (λ slot. map_or IsCalmReply (λ number. reply.Count (paths_to slot.tree number)) (finite.get slot.tree.paths place.path) reply.Done (λ number. tt) tt) tt
+answers all (command.Showquota fileset who) = map_or IsCalmReply (λ slot. quota_of slot.tree who) (finite.get all fileset) reply.Done (λ slot. tt) tt
+answers all c = tt
+
+answered : (all : FilesetMap) (c : Command) (r : Reply) (new : FilesetMap) → AnswersIfMemory all c r new → IsCalmReply r
+unfolding IsCalm IsCalmReply Check
+answered all c r new (inl as_meant) = at (refusal_of all c) (refusals all c) as_meant
+  where
+    at : (o : Option Refusal) → Check o → MatchOption o ((r ≡ answer_of all c) × Changes all c new) (λ refusal. (r ≡ Refused refusal) × (new ≡ all)) → IsCalmReply r
+    at None calm is = subst IsCalmReply (sym is.0) (answers all c)
+    at (Some refusal) calm is = subst IsCalmReply (sym is.0) calm
+answered all c r new (inr for_memory) = subst IsCalmReply (sym for_memory.0) tt
+
+-- what a command means for filesets tells of none
+pub never_faults : (all : FilesetMap) (c : Command) (r : Reply) (new : FilesetMap) → AnswersIfMemory all c r new → TellsNoFault r
+unfolding IsCalm IsCalmReply
+never_faults all c r new means volume = (λ is. subst IsCalmReply is (answered all c r new means), λ is. subst IsCalmReply is (answered all c r new means))
+
+-- ---- other answers
+
+-- no other refusal is one of these
+pub tells_no_space : (free need : ℕ) → TellsNoFault (Refused (NoSpace free need))
+tells_no_space free need volume = (λ is. absurd (cc), λ is. absurd (cc))
+
+by_name : (r other : Reply) → r ≡ other → TellsNoFault other → TellsNoFault r
+by_name r other is tells = subst TellsNoFault (sym is) tells
+
+short_quiet : TellsNoFault (Refused OutOfMemory)
+short_quiet volume = (λ is. absurd (cc), λ is. absurd (cc))
+
+volumes_quiet : (lines : List VolumeItem) → TellsNoFault (reply.Volumes lines)
+volumes_quiet lines volume = (λ is. absurd (cc), λ is. absurd (cc))
+
+extents_quiet : (extents : List ExtentItem) → TellsNoFault (reply.Extents extents)
+extents_quiet extents volume = (λ is. absurd (cc), λ is. absurd (cc))
+
+-- a file is refused as a read of it would be
+refused_quiet : (told : Refusal) (all : FilesetMap) (place : Place) → in_fileset all place.fileset (read_checks place.path) ≡ Some told → TellsNoFault (Refused told)
+refused_quiet told all place refused =
+    never_faults all (command.Read place 0 0) (Refused told) all
+    (inl (subst (λ o. MatchOption o ((Refused told ≡ answer_of all (command.Read place 0 0)) × (all ≡ all)) (λ refusal. (Refused told ≡ Refused refusal) × (all ≡ all))) (sym refused) (refl, refl)))
+
+-- nor does what is shown of volumes
+pub shown_quiet : (memory : DomainMemory) (all : FilesetMap) (c : Command) (r : Reply) → IsShownIfMemory memory all c r → TellsNoFault r
+shown_quiet memory all c r (inr short) = by_name r (Refused OutOfMemory) short short_quiet
+shown_quiet memory all command.Showfdmn r (inl (lines, told, volumes)) = by_name r (reply.Volumes lines) told (volumes_quiet lines)
+shown_quiet memory all (command.Showfile place) r (inl shown) = by_refusal (in_fileset all place.fileset (read_checks place.path)) refl shown
+  where
+    by_refusal : (o : Option Refusal) → in_fileset all place.fileset (read_checks place.path) ≡ o → MatchOption o ((es : List ExtentItem) × (r ≡ reply.Extents es) × ShowsHomes memory all place es) (λ told. r ≡ Refused told) → TellsNoFault r
+    by_refusal None refused (es, told, homes) = by_name r (reply.Extents es) told (extents_quiet es)
+    by_refusal (Some refusal) refused told = by_name r (Refused refusal) told (refused_quiet refusal all place refused)
+shown_quiet memory all c r (inl shown) = absurd shown
