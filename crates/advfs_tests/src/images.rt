@@ -68,6 +68,20 @@ fn harmed(image: Image, page: u32) -> Image {
     Image { rack }
 }
 
+/// The image with one byte turned over of the first ones of a page.
+fn flipped(image: Image, page: u32, at: u8) -> Image {
+    let Image { mut rack, .. } = image;
+    let mut bytes = [0; 512];
+    let block = page.saturating_mul(16);
+    if let Some(vol) = VolIx::new(1) {
+        if is_there(&rack, vol, block) && rack.read(vol, block, &mut bytes).is_ok() {
+            bytes[usize::from(at)] ^= 0xff;
+            let _ = rack.write(vol, block, &bytes);
+        }
+    }
+    Image { rack }
+}
+
 /// A domain of version 4 is made, of version 3, verified, and a script is run over it.
 const MAKE: Call = (&["mkfdmn", "a"], "");
 
@@ -168,6 +182,93 @@ fn nothing_is_run_on_a_harmed_image_nor_written(rt: HostRuntime) -> Result<(), F
         assert_eq!(rt; outcome.as_slice(), want.as_bytes());
         assert!(rt; is_left, "not a byte is changed");
     }
+    Ok(())
+}
+
+/// A fileset with a file in a directory: its tag page comes behind the fileset table, and then the
+/// page of the root.
+const LIVE: Call = (
+    &["run", "s", "a"],
+    "client 1\nmkfset home\nmkdir home:/d 10 20\ncreate home:/d/a 10 20\nwrite home:/d/a 0 61\n",
+);
+
+/// A domain with a file, and one byte turned over of a page.
+fn flipped_image(alloc: Global, page: u32, at: u8) -> Result<Image, Fail> {
+    let (image, _) = run_on(alloc, zero_image(alloc, 160, &[])?, MAKE)?;
+    let (image, _) = run_on(alloc, image, LIVE)?;
+    Ok(flipped(image, page, at))
+}
+
+/// Bytes that are turned over, each with a fault that is found, and the page that a run names,
+/// which is that of the first fault: of the label its first byte and the volume's number; of the
+/// anchors, the bitmap, the cells, the fileset table, the tags and the root the first byte. Where
+/// the tags are none no entry names the cells of files, and where the root is none no row leads to
+/// the directory: these faults of the cells come first.
+static FLIPPED: [(u32, u8, &str, u32); 8] = [
+    (0, 0, "fault 1 0 1", 0),
+    (0, 12, "fault 1 0 1", 0),
+    (1, 0, "fault 1 1 2", 1),
+    (2, 0, "fault 1 2 8", 2),
+    (3, 0, "fault 1 3 5", 3),
+    (132, 0, "fault 1 132 4", 132),
+    (133, 0, "fault 1 133 6", 3),
+    (134, 0, "fault 1 134 9", 3),
+];
+
+/// Whether a text has a line.
+fn has_line(text: &[u8], line: &str) -> bool {
+    for found in text.split(|byte| *byte == b'\n') {
+        if found == line.as_bytes() {
+            return true;
+        }
+    }
+    false
+}
+
+#[test]
+fn a_byte_that_is_turned_over_is_named_by_its_code(rt: HostRuntime) -> Result<(), Fail> {
+    for (page, at, line, _) in FLIPPED.iter() {
+        let (_, outcome) = run_on(rt.alloc(), flipped_image(rt.alloc(), *page, *at)?, VERIFY)?;
+        assert!(rt; outcome.starts_with(b"Found "), "faults are found");
+        assert!(rt;
+            has_line(outcome.as_slice(), line),
+            "the fault is among them"
+        );
+    }
+    Ok(())
+}
+
+#[test]
+fn nothing_is_run_where_a_byte_is_turned_over(rt: HostRuntime) -> Result<(), Fail> {
+    let alloc = rt.alloc();
+    for (page, at, _, place) in FLIPPED.iter() {
+        let same = flipped_image(alloc, *page, *at)?;
+        let (outcome, is_left) = outcome_on(alloc, flipped_image(alloc, *page, *at)?, same, RUN)?;
+        let want = format!(in alloc; "NotADomain 1 {place} 6\n")?;
+        assert_eq!(rt; outcome.as_slice(), want.as_bytes());
+        assert!(rt; is_left, "not a byte is changed");
+    }
+    Ok(())
+}
+
+#[test]
+fn a_byte_in_the_log_that_opens_no_gate_is_no_fault(rt: HostRuntime) -> Result<(), Fail> {
+    let alloc = rt.alloc();
+    let (image, verified) = run_on(alloc, flipped_image(alloc, 4, 0)?, VERIFY)?;
+    assert_eq!(rt; verified.as_slice(), b"Ok 0\n".as_slice());
+    let (_, outcome) = run_on(alloc, image, RUN)?;
+    let want = b"Ok 0\nc1 mkfset home -> E2 fileset-exists\n";
+    assert_eq!(rt; outcome.as_slice(), want.as_slice());
+    Ok(())
+}
+
+#[test]
+fn nothing_is_run_on_zeros_nor_written(rt: HostRuntime) -> Result<(), Fail> {
+    let alloc = rt.alloc();
+    let same = zero_image(alloc, 160, &[])?;
+    let (outcome, is_left) = outcome_on(alloc, zero_image(alloc, 160, &[])?, same, RUN)?;
+    assert!(rt; outcome.starts_with(b"NotADomain 1 "), "it is no domain");
+    assert!(rt; is_left, "not a byte is changed");
     Ok(())
 }
 

@@ -45,8 +45,8 @@ fn a_domain_without_free_pages_answers_no_space(rt: HostRuntime) -> Result<(), F
     Ok(())
 }
 
-/// What is done once no page is free: there are 800 pages, of which 133 are used in a domain that was
-/// just made, one has tags, one the rows of the root, and 400 and 265 the bytes of two files.
+/// What is done once no page is free: there are 800 pages, of which 133 are used in a domain that
+/// was just made, one has tags, one the rows of the root, and 400 and 265 the bytes of two files.
 static FULL: &str = "\
 write home:/a 3276800 61 -> E20 no-space free=0 need=20
 write home:/b 2170880 61 -> E20 no-space free=0 need=20
@@ -116,8 +116,8 @@ read home:/b 0 1 -> E3 no-path
 showquota home fileset 0 -> ok files 0 0 blocks 0 0
 ";
 
-/// There are 32 slots, and 379 pages are free in a domain of 512 that was just made: the rounds have
-/// more filesets than that, and want more pages, of which each has six at least.
+/// There are 32 slots, and 379 pages are free in a domain of 512 that was just made: the rounds
+/// have more filesets than that, and want more pages, of which each has six at least.
 #[test]
 fn slots_and_pages_of_removed_filesets_come_free(rt: HostRuntime) -> Result<(), Fail> {
     let alloc = rt.alloc();

@@ -1,5 +1,5 @@
-//! Tables of commands over new domains, each with its reply: scripts that are run, and the lines that
-//! have to be printed.
+//! Tables of commands over new domains, each with its reply: scripts that are run, and the lines
+//! that have to be printed.
 use crate::rows::is_printed;
 use std::alloc::{AllocError, Global};
 use std::test::Fail;
