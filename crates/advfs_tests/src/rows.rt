@@ -152,8 +152,8 @@ fn push_listed(alloc: Global, lines: &mut String, odd: bool) -> Result<(), Alloc
     lines.push_str("\n")
 }
 
-/// The history of a directory of 200 files, which are made in another order than that of their
-/// names, and of which every second one is taken away.
+/// The history of a directory of 200 files, each of an owner with its number, which are made in
+/// another order than that of their names, and of which every second one is taken away.
 fn directory_history(alloc: Global) -> Result<String, AllocError> {
     let mut lines = String::from_str(
         alloc,
@@ -161,12 +161,13 @@ fn directory_history(alloc: Global) -> Result<String, AllocError> {
     )?;
     for place in 0..200 {
         let number = 100 + place * 7 % 200;
-        push_line(alloc, &mut lines, "create", number, " 10 20 -> ok")?;
+        let reply = format!(in alloc; " {number} 20 -> ok")?;
+        push_line(alloc, &mut lines, "create", number, reply.as_str())?;
     }
     push_listed(alloc, &mut lines, false)?;
     for number in 100..300_u32 {
-        let reply = " -> ok file 10 20 0 0 -";
-        push_line(alloc, &mut lines, "stat", number, reply)?;
+        let reply = format!(in alloc; " -> ok file {number} 20 0 0 -")?;
+        push_line(alloc, &mut lines, "stat", number, reply.as_str())?;
     }
     for number in 100..300_u32 {
         if number % 2 == 0 {
