@@ -6,6 +6,7 @@ ghost use Rattle.domain_base.specs.Counts.{HasRisen};
 ghost use Rattle.history_text.specs.History.{history_text};
 ghost use Rattle.script_text.specs.Turns.{turn_of, turns_of};
 ghost use Rattle.domain_runs.specs.Ending.{IsServed};
+ghost use Rattle.domain_runs.specs.Quiet.{TellNoFault};
 ghost use Rattle.run_parts.specs.Reading.{GetsNoScript, HasRead};
 ghost use Rattle.run_parts.specs.Transfer.{AppendsFront};
 ghost use Rattle.run_parts.specs.Usage.{FitsForm, form_of};
@@ -93,6 +94,7 @@ fn answer<R: Rack, G: Gate>(
     requires served { All (λ section. All IsServed section.commands) sections.items }
     ensures turns { IfOk result
         (λ ran. map turn_of ran.history.items ≡ flat_map turns_of sections.items) }
+    ensures quiet { IfOk result (λ ran. TellNoFault ran.history.items) }
     ensures stamps { IfOk result (λ ran. AreStampedWithin (R.disk rack) (R.disk ran.rack)
         ran.history.items) }
     ensures leads { IfOk result (λ ran. LeadsFor form (R.disk rack) (R.disk ran.rack)
@@ -149,6 +151,7 @@ fn run_script<S: Source, R: Rack, K: Sink, G: Gate>(
         × HasRead (S.left script.new) read result.status result.history.items }
     ensures runs { RunsFor (Ok form) (R.disk rack) (R.disk result.rack) result.status
         result.history.items }
+    ensures quiet { TellNoFault result.history.items }
     ensures stamps { AreStampedWithin (R.disk rack) (R.disk result.rack) result.history.items }
     ensures ends { EndsFor (Ok form) (R.disk rack) (R.disk result.rack) result.status }
     ensures rack { LacksScript result.status → result.rack ≡ rack }
@@ -199,6 +202,9 @@ pub fn run<S: Source, R: Rack + Send, K: Sink, G: Gate + Sync>(
     ensures legal { RunsFor (form_of (map string_bytes words.now)) (R.disk rack)
         (R.disk result.rack) result.status result.history.items }
     ensures stamps { AreStampedWithin (R.disk rack) (R.disk result.rack) result.history.items }
+
+    // No reply tells of a volume: no command is answered as if a call of a device had failed.
+    ensures quiet { TellNoFault result.history.items }
 
     // The text that is printed of a history.
     ensures printed { IsTold (form_of (map string_bytes words.now)) result.status

@@ -1,4 +1,6 @@
-use Rattle.std.proofs.Common.{inl, ap}
+use Rattle.std.proofs.Common.{List, inl, ap, subst, sym}
+use Rattle.fileset_model.specs.declared.entry.Entry.{Entry}
+use Rattle.domain_runs.specs.Quiet.{TellNoFault}
 use Rattle.advfs_run.proofs.Endings.{ended_read, ended_run, follows, refused_run, unbegun_ends, unbegun_read, unbegun_run, unread_begun}
 use Rattle.advfs_run.proofs.running.run_script.Goals as goal
 
@@ -30,3 +32,6 @@ returns-in-Err-answer-clause-runs g c =
 pub returns-in-Err-answer-clause-ends : goal.returns-in-Err-answer-clause-ends
 returns-in-Err-answer-clause-ends g c =
     rw (c.unanswered-in-Err-answer.ensures.status, c.unanswered-in-Err-answer.ensures.rack) (unbegun_ends c.args.form _ _ _ c.in-Err-answer.ensures.none)
+
+pub returns-in-Ok-answer-clause-quiet : goal.returns-in-Ok-answer-clause-quiet
+returns-in-Ok-answer-clause-quiet g c = subst (λ (l : List Entry). TellNoFault l) (sym c.print_ran.ensures.history) c.in-Ok-answer.ensures.quiet
