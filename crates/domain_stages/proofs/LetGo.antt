@@ -220,6 +220,17 @@ module _ (old new : DomainMemory) (settled : IsSettled old) (may : MayLetGo old)
             let none : record_of 1 first.cell.records ≡ None = quota_first d.pages at (first ∷ rest) are.quotas 1 (λ e. omega (arith, e)) (λ e. omega (arith, e)) in
             true≢false (sym (has_attributes first (plain_at e inside first rest (ap files same_at ∙ there))) ∙ ap is_some none)
 
+    stays : (at : CellAt) → ((e : Entry) → Contains old.list.list.entries e → ¬ e.at ≡ at) → files_now at ≡ files at
+    stays at nobody = others_stay group old.frame.version (now_of old.list.list files old.space old.cells (pages_of old.pages)) count (now_of new.list.list files_now new.space new.cells (pages_of new.pages)) are.steps at (λ e inside. (nobody e inside, λ clone. none_not at (sym (alone_then e inside) ∙ clone)))
+
+    quotas_stay : (number : ℕ) (at : CellAt) → IsQuotaOf d number at → ¬ files_now at ≡ None
+    quotas_stay number at quota gone = by_chain (files at) refl (below.chains.quotas number at quota)
+      where
+        by_chain : (o : Option (List PlacedCell)) → files at ≡ o → IsSomeAnd o (AreQuotasOf d number at) → ⊥
+        by_chain None there held = held
+        by_chain (Some chain) there held =
+            none_not chain (sym gone ∙ stays at (λ e inside. no_quotas number at quota e (subst (λ (l : Listing). Contains l.entries e) (sym list_was) inside)) ∙ there)
+
     trims : TrimsFiles d files
     trims e [] inside there trim = absurd (none_not Trim trim)
     trims e (first ∷ rest) inside there trim = by_record (record_of 1 first.cell.records) refl (has_attributes first plain)
@@ -244,13 +255,10 @@ module _ (old new : DomainMemory) (settled : IsSettled old) (may : MayLetGo old)
 
         by_index : (b : Bool) → has_kind 9 first.cell.records ≡ b → index_of (first ∷ rest) ≡ None
         by_index false none = ap (option_and_then index_in) (no_record (record_of 9 first.cell.records) none)
-        by_index true named = absurd (none_not (first ∷ rest) (sym gone ∙ stays))
+        by_index true named = absurd (none_not (first ∷ rest) (sym gone ∙ stays at nobody ∙ there))
           where
             nobody : (e : Entry) → Contains old.list.list.entries e → ¬ e.at ≡ at
             nobody e inside same_at = true≢false (sym named ∙ no_index first (plain_at e (subst (λ (l : Listing). Contains l.entries e) (sym list_was) inside) first rest (ap files same_at ∙ there)))
-
-            stays : files_now at ≡ Some (first ∷ rest)
-            stays = others_stay group old.frame.version (now_of old.list.list files old.space old.cells (pages_of old.pages)) count (now_of new.list.list files_now new.space new.cells (pages_of new.pages)) are.steps at (λ e inside. (nobody e inside, λ clone. none_not at (sym (alone_then e inside) ∙ clone))) ∙ there
 
     -- ---- the change
 
@@ -266,7 +274,8 @@ module _ (old new : DomainMemory) (settled : IsSettled old) (may : MayLetGo old)
       tags = ap (λ (m : DomainMemory). λ (number : ℕ). places_in (slot_in m.slots.items number)) same;
       bytes = λ home page. ap (λ o. unwrap_or o []) page;
       tag_pages = ap (λ (l : Listing). l.tag_pages) list_now ∙ tags_gone ∙ sym (ap (λ (l : Listing). l.tag_pages) list_was ∙ may.tag_pages);
-      quotas = no_quotas;
+      quotas = λ number at quota removed. no_quotas number at quota;
+      stay = quotas_stay;
       gone = none_named;
     }
 

@@ -97,7 +97,7 @@ module _ (group count : ℕ) (d now : DomainNow) (files files_now : Files) (inde
       let w = entry_was group d.frame.version (all_of d files) count (all_of it files_now) was s.steps on.0 on.1 in
       ⊎_elim
       (λ left. inl (by_file (files_now at) refl (subst (λ (a : CellAt). IsSome (files_now a)) on.2 (well.listed.each on.0 on.1).there) left))
-      (λ quota. absurd (s.quotas quota.0 at quota.2 w.0 w.1 (w.2 ∙ on.2)))
+      (λ quota. inr quota)
       (below.chains.listed at (w.0, w.1, w.2 ∙ on.2))
     where
       by_file : (o : Option (List PlacedCell)) → files_now at ≡ o → IsSome o → IsToDo files at → IsToDo files_now at

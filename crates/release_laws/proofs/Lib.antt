@@ -7,6 +7,7 @@ pub mod Led
 pub mod TablesGo
 pub mod HeldGo
 pub mod ListGo
+pub mod QuotasGo
 pub mod SlotsGo
 pub mod ChainsGo
 pub mod CellsGo

@@ -405,7 +405,7 @@ module _ (group count : ℕ) (d now : DomainNow) (files files_now : Files) (inde
         named_it = ap (option_and_then quota_of) there ∙ quota
 
         stays : files_now at ≡ files at
-        stays = others_stay group d.frame.version (all_of d files) count (all_of now files_now) r.steps at (λ e inside. (r.quotas n at named_it e inside, λ clone. none_not at (sym (alone_on_list e inside) ∙ clone)))
+        stays = others_stay group d.frame.version (all_of d files) count (all_of now files_now) r.steps at (λ e inside. (r.quotas n at named_it (λ removed. subst IsRemoved there removed) e inside, λ clone. none_not at (sym (alone_on_list e inside) ∙ clone)))
 
         by_chain : (o : Option (List PlacedCell)) → files at ≡ o → IsSomeAnd o (AreQuotasOf d n at) → IsSomeAnd (files_now at) (AreQuotasOf now n at) → AreQuotas now.pages (Some at) records
         by_chain None none quotas quotas_then = absurd quotas

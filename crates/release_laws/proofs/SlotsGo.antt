@@ -18,10 +18,8 @@ use Rattle.deferred_delete.specs.Listed.{left_of}
 use Rattle.deferred_delete.specs.Standing.{Files}
 use Rattle.deferred_delete.specs.Steps.{IsWell}
 use Rattle.deferred_delete.proofs.Spread.{none_not, some_same}
-use Rattle.deferred_delete.proofs.Standings.{apart_by, chain_inside, is_file, quota_first, standing}
-use Rattle.deferred_laws.specs.Kept.{IsBeside}
+use Rattle.deferred_delete.proofs.Standings.{apart_by, chain_inside, is_file, standing}
 use Rattle.deferred_laws.specs.Tags.{AreAmong, chains_in, start_of}
-use Rattle.deferred_laws.proofs.Others.{others_stay}
 use Rattle.deferred_laws.proofs.Said.{SaysSame}
 use Rattle.deferred_laws.proofs.StillThere.{files_stay}
 use Rattle.deferred_laws.proofs.Tags.{IsNamed, file_start, has_attributes, named}
@@ -31,9 +29,9 @@ use Rattle.domain_standing.specs.Domain.{DomainNow, all_of, named_by}
 use Rattle.domain_standing.specs.Sources.{StandAlone}
 use Rattle.standing_laws.specs.Leads.{StandsBelow}
 use Rattle.release_laws.specs.Released.{Releases}
-use Rattle.release_laws.proofs.Led.{alone_was, go, led, well_now, well_was}
+use Rattle.release_laws.proofs.Led.{go, led, well_now, well_was}
 use Rattle.release_laws.proofs.ListGo.{entry_was, left_was, not_done}
-use Rattle.release_laws.proofs.OneStep.{no_clone}
+use Rattle.release_laws.proofs.QuotasGo.{quotas_go}
 use Rattle.release_laws.proofs.TablesGo.{tag_page}
 
 module _ (group count : ℕ) (d now : DomainNow) (files files_now : Files) (indexes : IndexesAt) (below : StandsBelow d files indexes) (alone : StandAlone d) (s : Releases group count d now files files_now) where
@@ -64,31 +62,18 @@ module _ (group count : ℕ) (d now : DomainNow) (files files_now : Files) (inde
 
   -- ---- quota cells
 
-  -- those that a slot names are as they were
-  pub quotas_stay : (n : ℕ) (at : CellAt) → IsQuotaOf d n at → files_now at ≡ files at
-  quotas_stay n at quota = others_stay group d.frame.version (all_of d files) count (all_of it files_now) s.steps at beside
-    where
-      beside : IsBeside d.list at
-      beside e inside = (
-        s.quotas n at quota e inside,
-        (λ clone. none_not at (sym (no_clone group d.frame.version (all_of d files) (all_of it files_now) was (alone_was group count d now files files_now indexes below alone s) e inside) ∙ clone)),
-      )
-
+  -- those that a slot names are its own still
   pub quotas_now : (n : ℕ) (at : CellAt) → IsQuotaOf d n at → IsSomeAnd (files_now at) (AreQuotasOf it n at)
-  quotas_now n at quota = by_chain (files at) refl (below.chains.quotas n at quota)
+  quotas_now n at quota = by_chain (files_now at) refl
     where
-      by_chain : (o : Option (List PlacedCell)) → files at ≡ o → IsSomeAnd o (AreQuotasOf d n at) → IsSomeAnd (files_now at) (AreQuotasOf it n at)
-      by_chain None there are = absurd are
-      by_chain (Some cs) there are =
-          let now_there : files_now at ≡ Some cs = quotas_stay n at quota ∙ there in
-          subst (λ o. IsSomeAnd o (AreQuotasOf it n at)) (sym now_there) (record {
-            quotas = ⊎_elim
-                (λ file. absurd (has_attributes now.pages at cs file (quota_first d.pages at cs are.quotas 1 (λ e. omega (arith, e)) (λ e. omega (arith, e)))))
-                (λ quotas. quotas)
-                (standing now.space now.cells now.pages files_now well.together at cs now_there).stands;
-            of = are.of;
-            once = are.once;
-          })
+      are : (cells : List PlacedCell) → files at ≡ Some cells → AreQuotasOf d n at cells
+      are cells some = subst (λ o. IsSomeAnd o (AreQuotasOf d n at)) some (below.chains.quotas n at quota)
+
+      by_chain : (o : Option (List PlacedCell)) → files_now at ≡ o → IsSomeAnd o (AreQuotasOf it n at)
+      by_chain None gone = absurd (s.stay n at quota gone)
+      by_chain (Some after) there =
+          let now_are = quotas_go d n at group d.frame.version (all_of d files) was are count (all_of it files_now) s.steps after there in
+          record { quotas = now_are.quotas; of = now_are.of; once = now_are.once }
 
   -- ---- the files of a slot
 

@@ -7,12 +7,13 @@ use Rattle.bitfile_core.specs.Shown.{index_of}
 use Rattle.deferred_delete.specs.Standing.{Files}
 use Rattle.deferred_delete.specs.Steps.{Steps}
 use Rattle.deferred_laws.specs.Kept.{HasNoEntry}
-use Rattle.domain_standing.specs.Chains.{IsQuotaOf}
-use Rattle.domain_standing.specs.Domain.{DomainNow, all_of}
+use Rattle.domain_standing.specs.Chains.{IsQuotaOf, IsRemoved}
+use Rattle.domain_standing.specs.Domain.{DomainNow, all_of, item_in}
 
 -- so many steps lead from one domain to another, and the pages of which nothing is changed have the
--- bytes that they had. No page of a tag directory goes, no quota cells that a slot names are on the
--- list, and a file that is gone named no index: that goes with the tag
+-- bytes that they had. No page of a tag directory goes; quota cells that a slot names are on the
+-- list only where what is in that is being removed, and do not all go; and a file that is gone named
+-- no index: that goes with the tag
 pub record Releases (group count : ℕ) (d now : DomainNow) (files files_now : Files) : Type 0 where
   pub steps : Steps group d.frame.version (all_of d files) count (all_of now files_now)
   pub frame : now.frame ≡ d.frame
@@ -21,6 +22,8 @@ pub record Releases (group count : ℕ) (d now : DomainNow) (files files_now : F
   pub bytes : (home : Home) → now.pages home ≡ d.pages home
       → now.contents home ≡ d.contents home
   pub tag_pages : now.list.tag_pages ≡ d.list.tag_pages
-  pub quotas : (number : ℕ) (at : CellAt) → IsQuotaOf d number at → HasNoEntry d.list at
+  pub quotas : (number : ℕ) (at : CellAt) → IsQuotaOf d number at → ¬ IsRemoved (item_in d number)
+      → HasNoEntry d.list at
+  pub stay : (number : ℕ) (at : CellAt) → IsQuotaOf d number at → ¬ files_now at ≡ None
   pub gone : (at : CellAt) (chain : List PlacedCell) → files at ≡ Some chain
       → files_now at ≡ None → index_of chain ≡ None
