@@ -8,6 +8,8 @@ pub mod TablesGo
 pub mod HeldGo
 pub mod ListGo
 pub mod QuotasGo
+pub mod QuotasListed
+pub mod QuotaLost
 pub mod SlotsGo
 pub mod ChainsGo
 pub mod CellsGo

@@ -1,3 +1,4 @@
+pub mod QuotaCells
 pub mod Released
 pub mod Trimmed
 pub mod Freed

@@ -8,6 +8,7 @@ mod bits;
 mod chains;
 mod freeing;
 mod held;
+mod quotas;
 mod rest;
 mod slots;
 mod tables;
@@ -23,6 +24,9 @@ pub use freeing::{
     filesets_stand_on_where_pages_come_free,
 };
 pub use held::held_pages_stand_on_over_steps;
+pub use quotas::{
+    a_domain_stands_on_where_a_quota_cell_goes, filesets_stand_where_a_quota_cell_goes,
+};
 pub use rest::rest_stands_on_over_steps;
 pub use slots::{filesets_stand_over_steps, parents_stay_over_steps};
 pub use tables::tables_stand_on_over_steps;
