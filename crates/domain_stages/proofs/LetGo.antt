@@ -47,7 +47,7 @@ use Rattle.domain_parts.specs.Listing.{HaveOnce, list_with}
 use Rattle.domain_parts.specs.Slots.{book_in, places_in, slot_in}
 use Rattle.domain_memory.specs.Staged.{IsSettled, MayBeKept, staged_in}
 use Rattle.domain_memory.specs.declared.memory.DomainMemory.{DomainMemory}
-use Rattle.release_laws.specs.Released.{Releases}
+use Rattle.release_laws.specs.Released.{QuotasStay, Releases}
 use Rattle.release_laws.specs.Trimmed.{TrimsFiles}
 use Rattle.release_laws.proofs.BelowGo.{alone_goes, below_goes}
 use Rattle.release_laws.proofs.BitsOver.{bits_over}
@@ -223,7 +223,7 @@ module _ (old new : DomainMemory) (settled : IsSettled old) (may : MayLetGo old)
     stays : (at : CellAt) → ((e : Entry) → Contains old.list.list.entries e → ¬ e.at ≡ at) → files_now at ≡ files at
     stays at nobody = others_stay group old.frame.version (now_of old.list.list files old.space old.cells (pages_of old.pages)) count (now_of new.list.list files_now new.space new.cells (pages_of new.pages)) are.steps at (λ e inside. (nobody e inside, λ clone. none_not at (sym (alone_then e inside) ∙ clone)))
 
-    quotas_stay : (number : ℕ) (at : CellAt) → IsQuotaOf d number at → ¬ files_now at ≡ None
+    quotas_stay : QuotasStay d files_now
     quotas_stay number at quota gone = by_chain (files at) refl (below.chains.quotas number at quota)
       where
         by_chain : (o : Option (List PlacedCell)) → files at ≡ o → IsSomeAnd o (AreQuotasOf d number at) → ⊥
@@ -275,15 +275,14 @@ module _ (old new : DomainMemory) (settled : IsSettled old) (may : MayLetGo old)
       bytes = λ home page. ap (λ o. unwrap_or o []) page;
       tag_pages = ap (λ (l : Listing). l.tag_pages) list_now ∙ tags_gone ∙ sym (ap (λ (l : Listing). l.tag_pages) list_was ∙ may.tag_pages);
       quotas = λ number at quota removed. no_quotas number at quota;
-      stay = quotas_stay;
       gone = none_named;
     }
 
     after : StandsBelow now files_now indexes
-    after = below_goes group count d now files files_now indexes below ready.staged.alone releases
+    after = below_goes group count d now files files_now indexes below ready.staged.alone releases quotas_stay
 
     alone_now : StandAlone now
-    alone_now = alone_goes group count d now files files_now indexes below ready.staged.alone releases
+    alone_now = alone_goes group count d now files files_now indexes below ready.staged.alone releases quotas_stay
 
     sound_now : StandsSound now files_now indexes
     sound_now = sound_goes group count d now files files_now indexes below ready.staged.alone ready.staged.sound.sound releases

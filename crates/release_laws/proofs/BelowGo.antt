@@ -6,7 +6,7 @@ use Rattle.domain_standing.specs.Domain.{DomainNow, all_of}
 use Rattle.domain_standing.specs.Sources.{StandAlone}
 use Rattle.standing_laws.specs.Leads.{StandsBelow}
 use Rattle.standing_laws.proofs.SourcesSaid.{alone_by_files}
-use Rattle.release_laws.specs.Released.{Releases}
+use Rattle.release_laws.specs.Released.{QuotasStay, Releases}
 use Rattle.release_laws.proofs.ChainsGo.{chains_go}
 use Rattle.release_laws.proofs.Going.{alone_over}
 use Rattle.release_laws.proofs.HeldGo.{owned_goes}
@@ -14,11 +14,11 @@ use Rattle.release_laws.proofs.Led.{alone_was, led, well_was}
 use Rattle.release_laws.proofs.RestGo.{rest_goes}
 use Rattle.release_laws.proofs.TablesGo.{tables_go}
 
-module _ (group count : ℕ) (d now : DomainNow) (files files_now : Files) (indexes : IndexesAt) (below : StandsBelow d files indexes) (alone : StandAlone d) (s : Releases group count d now files files_now) where
+module _ (group count : ℕ) (d now : DomainNow) (files files_now : Files) (indexes : IndexesAt) (below : StandsBelow d files indexes) (alone : StandAlone d) (s : Releases group count d now files files_now) (stay : QuotasStay d files_now) where
   pub below_goes : StandsBelow now files_now indexes
   below_goes = record {
     tables = tables_go group count d now files files_now indexes below alone s;
-    chains = chains_go group count d now files files_now indexes below alone s;
+    chains = chains_go group count d now files files_now indexes below alone s stay;
     owned = owned_goes group count d now files files_now indexes below alone s;
     rest = rest_goes group count d now files files_now indexes below alone s;
   }

@@ -13,13 +13,16 @@ use Rattle.deferred_delete.specs.Listed.{left_of}
 use Rattle.deferred_delete.specs.Standing.{Files}
 use Rattle.deferred_delete.specs.Steps.{IsWell}
 use Rattle.deferred_laws.proofs.SaysStill.{said_so}
-use Rattle.domain_standing.specs.Chains.{HasEmptyTags, IndexesAt, IsOnList, IsQuotaToGo, IsSomebodys, IsToDo, StandChains}
-use Rattle.domain_standing.specs.Domain.{DomainNow, all_of}
+use Rattle.domain_layout.specs.CellRules.{IsFirstPlace}
+use Rattle.domain_layout.specs.Owners.{IsOnTable}
+use Rattle.bmt_mcells.specs.Cell.{Cell}
+use Rattle.domain_standing.specs.Chains.{HasEmptyTags, IndexesAt, IsInChain, IsOnList, IsQuotaToGo, IsSomebodys, IsToDo, StandChains}
+use Rattle.domain_standing.specs.Domain.{DomainNow, all_of, layout_of}
 use Rattle.domain_standing.specs.Holders.Holder.{of_index}
 use Rattle.domain_standing.specs.Sources.{StandAlone}
 use Rattle.standing_laws.specs.Leads.{StandsBelow}
 use Rattle.standing_laws.proofs.HomeLists.{in_get}
-use Rattle.release_laws.specs.Released.{Releases}
+use Rattle.release_laws.specs.Released.{QuotasStay, Releases}
 use Rattle.release_laws.proofs.Led.{go, handed_now, led, led_is, well_now, well_was}
 use Rattle.release_laws.proofs.ListGo.{entry_was, left_was, not_done, to_do_on}
 use Rattle.release_laws.proofs.SlotsGo.{cells_lead, empty_now, quotas_now, slots_now}
@@ -45,7 +48,7 @@ module _ (group count : ℕ) (d now : DomainNow) (files files_now : Files) (inde
   pub index_page : (at : CellAt) (home : Home) → Contains (indexes at) home → now.pages home ≡ d.pages home
   index_page at home inside = let k = in_get (indexes at) home inside in page_stays group count d now files files_now indexes below alone s home (of_index at k.0) k.1 (λ e. cc)
 
-  indexed_now : (at : CellAt) → AreIndexHomes now.pages (option_and_then index_of (files_now at)) (indexes at)
+  pub indexed_now : (at : CellAt) → AreIndexHomes now.pages (option_and_then index_of (files_now at)) (indexes at)
   indexed_now at = by_file (files_now at) refl
     where
       by_file : (o : Option (List PlacedCell)) → files_now at ≡ o → AreIndexHomes now.pages (option_and_then index_of o) (indexes at)
@@ -62,7 +65,7 @@ module _ (group count : ℕ) (d now : DomainNow) (files files_now : Files) (inde
 
   -- ---- whose the chains are
 
-  named_now : (at : CellAt) (chain : List PlacedCell) → files_now at ≡ Some chain → IsSomebodys it at chain
+  pub named_now : (at : CellAt) (chain : List PlacedCell) → files_now at ≡ Some chain → IsSomebodys it at chain
   named_now at chain there =
       let c = left_was group d.frame.version (all_of d files) count (all_of it files_now) was s.steps at chain there in
       ⊎_elim
@@ -78,7 +81,7 @@ module _ (group count : ℕ) (d now : DomainNow) (files files_now : Files) (inde
 
   -- ---- the list
 
-  to_do_now : (at : CellAt) → IsToDo files_now at → IsOnList it at
+  pub to_do_now : (at : CellAt) → IsToDo files_now at → IsOnList it at
   to_do_now at left = by_file (files_now at) refl left
     where
       by_file : (o : Option (List PlacedCell)) → files_now at ≡ o → IsSome (option_and_then left_of o) → IsOnList it at
@@ -92,7 +95,7 @@ module _ (group count : ℕ) (d now : DomainNow) (files files_now : Files) (inde
           (λ gone. absurd (true≢false (sym some ∙ ap is_some gone.keeps.1)))
           c.2
 
-  listed_now : (at : CellAt) → IsOnList it at → IsToDo files_now at ⊎ IsQuotaToGo it at
+  pub listed_now : (at : CellAt) → IsOnList it at → IsToDo files_now at ⊎ IsQuotaToGo it at
   listed_now at on =
       let w = entry_was group d.frame.version (all_of d files) count (all_of it files_now) was s.steps on.0 on.1 in
       ⊎_elim
@@ -109,25 +112,28 @@ module _ (group count : ℕ) (d now : DomainNow) (files files_now : Files) (inde
           (λ gone. absurd (not_done (all_of it files_now) well on.0 on.1 after (ap files_now on.2 ∙ is) gone.keeps.0 gone.keeps.1))
           c.2
 
-  tag_pages_now : (home : Home) → Contains now.list.tag_pages home → (n : ℕ) × HasEmptyTags it n
+  pub tag_pages_now : (home : Home) → Contains now.list.tag_pages home → (n : ℕ) × HasEmptyTags it n
   tag_pages_now home inside =
       let empty = below.chains.tag_pages home (subst (λ (ps : List Home). Contains ps home) s.tag_pages inside) in
       (empty.0, empty_now group count d now files files_now indexes below alone s empty.0 empty.1)
 
   -- ---- all of them
 
-  pub led_chains : StandChains it files_now indexes
-  led_chains = record {
+  pub used_now : (at : CellAt) (cell : Cell) → IsOnTable now.pages (layout_of it) at cell → IsFirstPlace d.frame at ⊎ IsInChain files_now at
+  used_now at cell on = (go group count d now files files_now indexes below alone s).chains at (handed_now group count d now files files_now indexes below alone s at cell on)
+
+  led_chains : QuotasStay d files_now → StandChains it files_now indexes
+  led_chains stay = record {
     well = well;
     slots = slots_now group count d now files files_now indexes below alone s;
-    quotas = quotas_now group count d now files files_now indexes below alone s;
+    quotas = λ n at quota. quotas_now group count d now files files_now indexes below alone s n at quota (stay n at quota);
     indexed = indexed_now;
-    used = λ at cell on. (go group count d now files files_now indexes below alone s).chains at (handed_now group count d now files files_now indexes below alone s at cell on);
+    used = used_now;
     named = named_now;
     to_do = to_do_now;
     listed = listed_now;
     tag_pages = tag_pages_now;
   }
 
-  pub chains_go : StandChains now files_now indexes
-  chains_go = subst (λ (x : DomainNow). StandChains x files_now indexes) (led_is group count d now files files_now indexes below alone s) led_chains
+  pub chains_go : QuotasStay d files_now → StandChains now files_now indexes
+  chains_go stay = subst (λ (x : DomainNow). StandChains x files_now indexes) (led_is group count d now files files_now indexes below alone s) (led_chains stay)

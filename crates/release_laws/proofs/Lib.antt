@@ -11,6 +11,9 @@ pub mod QuotasGo
 pub mod QuotasListed
 pub mod QuotaLost
 pub mod SlotsGo
+pub mod TableSays
+pub mod QuotaFreed
+pub mod QuotaEnded
 pub mod ChainsGo
 pub mod CellsGo
 pub mod RestCells

@@ -1,6 +1,6 @@
 -- A cell of the quota cells of what is being removed that goes is a step over the list on which they
 -- come for that.
-use Rattle.std.proofs.Common.{◌≡◌, ◌∙◌, ℕ, List, [], ◌∷◌, Option, Some, None, IsSomeAnd, Contains, refl, sym, ap, subst, ⊎_elim}
+use Rattle.std.proofs.Common.{◌≡◌, ◌∙◌, ℕ, List, Option, Some, None, IsSomeAnd, refl, sym, ap, subst, ⊎_elim}
 use Rattle.std.specs.Option.{is_some, option_and_then}
 use Rattle.domain_base.specs.declared.place.CellAt.{CellAt}
 use Rattle.bmt_mcells.specs.Chain.{PlacedCell}
@@ -10,12 +10,12 @@ use Rattle.deferred_delete.specs.Listed.{left_of}
 use Rattle.deferred_delete.specs.Standing.{Files, with_file}
 use Rattle.deferred_delete.specs.Steps.{LosesQuotaCell, more, none, quota_goes}
 use Rattle.deferred_delete.specs.declared.list.Entry.{Entry}
-use Rattle.deferred_delete.proofs.Spread.{none_not, some_same}
+use Rattle.deferred_delete.proofs.Spread.{none_not}
 use Rattle.deferred_delete.proofs.Standings.{file_other, file_there, same_or_not}
 use Rattle.deferred_laws.proofs.Listing.{which_entry}
 use Rattle.domain_layout.specs.TagRules.{quota_of}
-use Rattle.domain_standing.specs.Chains.{AreQuotasOf, IndexesAt, IsOfFileset, IsQuotaOf, IsRemoved}
-use Rattle.domain_standing.specs.Domain.{DomainNow, all_of, item_in, named_by}
+use Rattle.domain_standing.specs.Chains.{AreQuotasOf, IndexesAt, IsQuotaOf}
+use Rattle.domain_standing.specs.Domain.{DomainNow, all_of, named_by}
 use Rattle.domain_standing.specs.Sources.{StandAlone}
 use Rattle.domain_standing.specs.Slots.{StandSlots}
 use Rattle.domain_standing.specs.Standing.{HaveParents, IsMarkedBut}
@@ -24,19 +24,14 @@ use Rattle.standing_laws.specs.Sound.{StandsSound}
 use Rattle.standing_laws.proofs.BelowStands.{slots_listed}
 use Rattle.standing_laws.proofs.SoundInPlace.{sound_listed}
 use Rattle.release_laws.specs.QuotaCells.{LosesQuotaOf}
-use Rattle.release_laws.specs.Released.{Releases}
+use Rattle.release_laws.specs.Released.{QuotasStay, Releases}
 use Rattle.release_laws.specs.Trimmed.{TrimsFiles}
 use Rattle.release_laws.proofs.BelowGo.{alone_goes, below_goes}
 use Rattle.release_laws.proofs.BitsOver.{bits_over}
 use Rattle.release_laws.proofs.ParentsOver.{parents_over}
 use Rattle.release_laws.proofs.SlotsOver.{slots_over}
 use Rattle.release_laws.proofs.SoundGo.{sound_goes}
-use Rattle.release_laws.proofs.QuotasListed.{adds, nothing_left, quotas_listed, unlisted, with_quotas}
-
--- what is of one fileset is of no other
-one_fileset : (n m : ℕ) (chain : List PlacedCell) → IsOfFileset n chain → IsOfFileset m chain → n ≡ m
-one_fileset n m [] of also = absurd of
-one_fileset n m (first ∷ rest) of also = some_same n m (sym of ∙ also)
+use Rattle.release_laws.proofs.QuotasListed.{adds, not_on, nothing_left, quotas_listed, unlisted, with_quotas}
 
 module _ (d now : DomainNow) (files files_now : Files) (indexes : IndexesAt) (below : StandsBelow d files indexes) (alone : StandAlone d) (number : ℕ) (s : LosesQuotaOf number d now files files_now) where
   abbrev was : DomainNow
@@ -47,20 +42,6 @@ module _ (d now : DomainNow) (files files_now : Files) (indexes : IndexesAt) (be
 
   listed : StandsBelow was files indexes
   listed = quotas_listed d files indexes below alone number s.at s.quota s.removed s.unlisted
-
-  -- a chain is that of one slot's quota cells
-  one_slot : (n m : ℕ) (a : CellAt) → IsQuotaOf d n a → IsQuotaOf d m a → n ≡ m
-  one_slot n m a quota also = by_chain (files a) (below.chains.quotas n a quota) (below.chains.quotas m a also)
-    where
-      by_chain : (o : Option (List PlacedCell)) → IsSomeAnd o (AreQuotasOf d n a) → IsSomeAnd o (AreQuotasOf d m a) → n ≡ m
-      by_chain None are also = absurd are
-      by_chain (Some chain) are also = one_fileset n m chain are.of also.of
-
-  not_on : (n : ℕ) (a : CellAt) → IsQuotaOf d n a → ¬ IsRemoved (item_in d n) → (e : Entry) → Contains was.list.entries e → ¬ e.at ≡ a
-  not_on n a quota stays e inside here = ⊎_elim
-      (λ to_do. nothing_left d files n a (below.chains.quotas n a quota) to_do)
-      (λ to_go. stays (subst (λ m. IsRemoved (item_in d m)) (sym (one_slot n to_go.0 a quota to_go.2)) to_go.1))
-      (listed.chains.listed a (e, inside, here))
 
   step : LosesQuotaCell (all_of was files) (all_of it files_now)
   step = record {
@@ -99,10 +80,12 @@ module _ (d now : DomainNow) (files files_now : Files) (indexes : IndexesAt) (be
     tags = ap (λ (x : DomainNow). x.tags) s.same;
     bytes = s.bytes;
     tag_pages = ap (λ (x : DomainNow). x.list.tag_pages) s.same;
-    quotas = not_on;
-    stay = λ n a quota gone. by_chain n a (files a) (there_still a gone) (below.chains.quotas n a quota);
+    quotas = not_on d files indexes below alone number s.at s.quota s.removed s.unlisted;
     gone = λ a chain there gone. absurd (none_not chain (sym (there_still a gone) ∙ there));
   }
+
+  quotas_stay : QuotasStay d files_now
+  quotas_stay n a quota gone = by_chain n a (files a) (there_still a gone) (below.chains.quotas n a quota)
     where
       by_chain : (n : ℕ) (a : CellAt) (o : Option (List PlacedCell)) → o ≡ None → IsSomeAnd o (AreQuotasOf d n a) → ⊥
       by_chain n a None missing are = are
@@ -113,10 +96,10 @@ module _ (d now : DomainNow) (files files_now : Files) (indexes : IndexesAt) (be
 
   -- all of the domain but its filesets stands on
   pub below_lost : StandsBelow now files_now indexes
-  below_lost = unlisted now files_now indexes number s.at still_named (below_goes 0 1 was it files files_now indexes listed alone over_list)
+  below_lost = unlisted now files_now indexes number s.at still_named (below_goes 0 1 was it files files_now indexes listed alone over_list quotas_stay)
 
   pub alone_lost : StandAlone now
-  alone_lost = alone_goes 0 1 was it files files_now indexes listed alone over_list
+  alone_lost = alone_goes 0 1 was it files files_now indexes listed alone over_list quotas_stay
 
   pub sound_lost : StandsSound d files indexes → StandsSound now files_now indexes
   sound_lost sound = sound_listed it files_now indexes now.list (sound_goes 0 1 was it files files_now indexes listed alone (sound_listed d files indexes was.list sound) over_list)
@@ -124,7 +107,7 @@ module _ (d now : DomainNow) (files files_now : Files) (indexes : IndexesAt) (be
   -- it stands for the same filesets
   module _ (trims : TrimsFiles d files) (all : FilesetMap) (slots : StandSlots d all) where
     after_list : StandsBelow it files_now indexes
-    after_list = below_goes 0 1 was it files files_now indexes listed alone over_list
+    after_list = below_goes 0 1 was it files files_now indexes listed alone over_list quotas_stay
 
     still_trims : TrimsFiles was files
     still_trims e chain inside there trim = ⊎_elim
@@ -148,5 +131,5 @@ module _ (d now : DomainNow) (files files_now : Files) (indexes : IndexesAt) (be
   -- and bits of bitmaps say of free space what they said
   pub bits_lost : (space : Spaces) → IsMarkedBut (record d { space = space }) → IsMarkedBut (record now { space = space })
   bits_lost space marked =
-      let over = bits_over 0 1 was it files files_now indexes listed (below_goes 0 1 was it files files_now indexes listed alone over_list) over_list space (record { there = marked.there; bits = marked.bits; behind = marked.behind }) in
+      let over = bits_over 0 1 was it files files_now indexes listed (below_goes 0 1 was it files files_now indexes listed alone over_list quotas_stay) over_list space (record { there = marked.there; bits = marked.bits; behind = marked.behind }) in
       record { there = over.there; bits = over.bits; behind = over.behind }

@@ -23,7 +23,7 @@ use Rattle.deferred_laws.specs.Tags.{start_of}
 use Rattle.deferred_laws.proofs.Listing.{entry_among, entry_listed, which_entry}
 use Rattle.deferred_laws.proofs.Tags.{has_attributes, named}
 use Rattle.domain_layout.specs.Layout.{first_tag_of}
-use Rattle.domain_standing.specs.Chains.{AreQuotasOf, HasFilesAmong, IndexesAt, IsOnList, IsQuotaOf, IsQuotaToGo, IsRemoved, IsToDo, StandsInSlot}
+use Rattle.domain_standing.specs.Chains.{AreQuotasOf, HasFilesAmong, IndexesAt, IsOfFileset, IsOnList, IsQuotaOf, IsQuotaToGo, IsRemoved, IsToDo, StandsInSlot}
 use Rattle.domain_standing.specs.Domain.{DomainNow, all_of, item_in, named_by}
 use Rattle.domain_standing.specs.Sources.{StandAlone}
 use Rattle.standing_laws.specs.Leads.{StandsBelow}
@@ -78,7 +78,7 @@ module _ (d : DomainNow) (files : Files) (indexes : IndexesAt) (below : StandsBe
   -- ---- slots
 
   -- no tag names it
-  no_tag : (n : ℕ) (has : HasFilesAmong d files n) (t : Tag) → ¬ option_and_then start_of (has.chains t) ≡ Some at
+  pub no_tag : (n : ℕ) (has : HasFilesAmong d files n) (t : Tag) → ¬ option_and_then start_of (has.chains t) ≡ Some at
   no_tag n has t = by_chain (has.chains t) refl (has.are.some t)
     where
       by_cell : (cs : List PlacedCell) (o : Option CellAt) → IsSomeAnd o (λ a. IsFile d.pages a cs) → ¬ first_record 1 cs ≡ None
@@ -93,10 +93,13 @@ module _ (d : DomainNow) (files : Files) (indexes : IndexesAt) (below : StandsBe
           let same : cs ≡ its.chain = some_same cs its.chain (sym m.is ∙ ap files here ∙ its.there) in
           by_cell cs (cell_of d.pages (d.tags n) t) leads.leads (ap (first_record 1) same ∙ no_attributes)
 
+  abbrev pub has_listed : (n : ℕ) → HasFilesAmong d files n → HasFilesAmong it files n
+  has_listed n has = record { chains = has.chains; are = has.are; among = entry_among (all_of d files) it.list (d.tags n) has.chains has.among at None adds refl (λ t starts. absurd (no_tag n has t starts)) }
+
   slot_listed : (n : ℕ) (o : Option Home) → StandsInSlot d files n o → StandsInSlot it files n o
   slot_listed n None none = none
   slot_listed n (Some first) stood = ⊎_elim
-      (λ has. inl (record { chains = has.chains; are = has.are; among = entry_among (all_of d files) it.list (d.tags n) has.chains has.among at None adds refl (λ t starts. absurd (no_tag n has t starts)) }))
+      (λ has. inl (has_listed n has))
       (λ empty. inr (record { removed = empty.removed; none = empty.none; listed = empty.listed }))
       stood
 
@@ -144,6 +147,30 @@ nothing_left d files number at = by_chain (files at)
     by_chain (Some chain) are left =
         let none : first_record 6 chain ≡ None = quota_first d.pages at chain are.quotas 6 (λ e. omega (arith, e)) (λ e. omega (arith, e)) in
         true≢false (sym left ∙ ap (λ o. is_some (option_and_then leftover_in o)) none)
+
+-- ---- whose they are
+
+-- what is of one fileset is of no other
+one_fileset : (n m : ℕ) (chain : List PlacedCell) → IsOfFileset n chain → IsOfFileset m chain → n ≡ m
+one_fileset n m [] of also = absurd of
+one_fileset n m (first ∷ rest) of also = some_same n m (sym of ∙ also)
+
+module _ (d : DomainNow) (files : Files) (indexes : IndexesAt) (below : StandsBelow d files indexes) where
+  -- a chain is that of one slot's quota cells
+  pub one_slot : (n m : ℕ) (a : CellAt) → IsQuotaOf d n a → IsQuotaOf d m a → n ≡ m
+  one_slot n m a quota also = by_chain (files a) (below.chains.quotas n a quota) (below.chains.quotas m a also)
+    where
+      by_chain : (o : Option (List PlacedCell)) → IsSomeAnd o (AreQuotasOf d n a) → IsSomeAnd o (AreQuotasOf d m a) → n ≡ m
+      by_chain None are also = absurd are
+      by_chain (Some chain) are also = one_fileset n m chain are.of also.of
+
+  module _ (alone : StandAlone d) (number : ℕ) (at : CellAt) (quota : IsQuotaOf d number at) (removed : IsRemoved (item_in d number)) (unlisted : HasNoEntry d.list at) where
+    -- with these on the list none are of a slot of which nothing is being removed
+    pub not_on : (n : ℕ) (a : CellAt) → IsQuotaOf d n a → ¬ IsRemoved (item_in d n) → (e : Entry) → Contains (with_quotas at d).list.entries e → ¬ e.at ≡ a
+    not_on n a is stays e inside here = ⊎_elim
+        (λ to_do. nothing_left d files n a (below.chains.quotas n a is) to_do)
+        (λ to_go. stays (subst (λ m. IsRemoved (item_in d m)) (sym (one_slot n to_go.0 a is to_go.2)) to_go.1))
+        ((quotas_listed d files indexes below alone number at quota removed unlisted).chains.listed a (e, inside, here))
 
 module _ (d : DomainNow) (files : Files) (indexes : IndexesAt) (number : ℕ) (at : CellAt) (quota : IsQuotaOf d number at) (below : StandsBelow (with_quotas at d) files indexes) where
   abbrev with_it : DomainNow

@@ -63,14 +63,14 @@ module _ (group count : ℕ) (d now : DomainNow) (files files_now : Files) (inde
   -- ---- quota cells
 
   -- those that a slot names are its own still
-  pub quotas_now : (n : ℕ) (at : CellAt) → IsQuotaOf d n at → IsSomeAnd (files_now at) (AreQuotasOf it n at)
-  quotas_now n at quota = by_chain (files_now at) refl
+  pub quotas_now : (n : ℕ) (at : CellAt) → IsQuotaOf d n at → ¬ files_now at ≡ None → IsSomeAnd (files_now at) (AreQuotasOf it n at)
+  quotas_now n at quota stays = by_chain (files_now at) refl
     where
       are : (cells : List PlacedCell) → files at ≡ Some cells → AreQuotasOf d n at cells
       are cells some = subst (λ o. IsSomeAnd o (AreQuotasOf d n at)) some (below.chains.quotas n at quota)
 
       by_chain : (o : Option (List PlacedCell)) → files_now at ≡ o → IsSomeAnd o (AreQuotasOf it n at)
-      by_chain None gone = absurd (s.stay n at quota gone)
+      by_chain None gone = absurd (stays gone)
       by_chain (Some after) there =
           let now_are = quotas_go d n at group d.frame.version (all_of d files) was are count (all_of it files_now) s.steps after there in
           record { quotas = now_are.quotas; of = now_are.of; once = now_are.once }
@@ -78,7 +78,7 @@ module _ (group count : ℕ) (d now : DomainNow) (files files_now : Files) (inde
   -- ---- the files of a slot
 
   module _ (n : ℕ) (has : HasFilesAmong d files n) where
-    abbrev chains_now : Chains
+    abbrev pub chains_now : Chains
     chains_now = chains_in files_now has.chains
 
     -- what became of a tag's file
@@ -154,7 +154,7 @@ module _ (group count : ℕ) (d now : DomainNow) (files files_now : Files) (inde
         all_now other (λ o. IfSome o (AreApart g.after)) tt (λ ys is_other h.
         apart_by now.space now.cells now.pages files_now well.together g.at h.at g.after h.after g.there h.there (begin_apart one other differ xs ys is_one is_other g.at h.at g.before h.before)))
 
-    files_are : AreFiles n (d.tags n) now.pages chains_now
+    pub files_are : AreFiles n (d.tags n) now.pages chains_now
     files_are = record {
       directory = directory_same d.pages now.pages (d.tags n) has.are.directory (pages_same d.pages now.pages (d.tags n) (tag_page group count d now files files_now indexes below alone s n));
       none = none_now;
@@ -162,7 +162,7 @@ module _ (group count : ℕ) (d now : DomainNow) (files files_now : Files) (inde
       apart = apart_now;
     }
 
-    among_now : AreAmong (all_of it files_now) (d.tags n) chains_now
+    pub among_now : AreAmong (all_of it files_now) (d.tags n) chains_now
     among_now = record {
       same = λ t. all_now t (λ o. option_and_then files_now (option_and_then start_of o) ≡ o) refl
           (λ cs some g. ap (option_and_then files_now) (g.says.start ∙ g.start) ∙ g.there);

@@ -15,7 +15,7 @@ use Rattle.domain_standing.specs.Domain.{DomainNow, all_of}
 use Rattle.domain_standing.specs.Sources.{StandAlone}
 use Rattle.standing_laws.specs.Leads.{StandsBelow}
 use Rattle.standing_laws.specs.Sound.{IsSound, StandsSound}
-use Rattle.release_laws.specs.Released.{Releases}
+use Rattle.release_laws.specs.Released.{QuotasStay, Releases}
 use Rattle.release_laws.proofs.BelowGo.{below_goes}
 use Rattle.release_laws.proofs.CellsGo.{cell_was}
 use Rattle.release_laws.proofs.ChainsGo.{index_page}
@@ -62,10 +62,10 @@ module _ (group count : ℕ) (d now : DomainNow) (files files_now : Files) (inde
   pub sound_goes : StandsSound now files_now indexes
   sound_goes = subst (λ (x : DomainNow). StandsSound x files_now indexes) (led_is group count d now files files_now indexes below alone s) led_sound
 
-pub is_sound_still : (group count : ℕ) (d now : DomainNow) (files_now : Files) → (sound : IsSound d) → StandAlone d → Releases group count d now sound.files files_now → IsSound now
-is_sound_still group count d now files_now sound alone s = record {
+pub is_sound_still : (group count : ℕ) (d now : DomainNow) (files_now : Files) → (sound : IsSound d) → StandAlone d → Releases group count d now sound.files files_now → QuotasStay d files_now → IsSound now
+is_sound_still group count d now files_now sound alone s stay = record {
   files = files_now;
   indexes = sound.indexes;
-  below = below_goes group count d now sound.files files_now sound.indexes sound.below alone s;
+  below = below_goes group count d now sound.files files_now sound.indexes sound.below alone s stay;
   sound = sound_goes group count d now sound.files files_now sound.indexes sound.below alone sound.sound s;
 }

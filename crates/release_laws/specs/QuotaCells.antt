@@ -1,9 +1,14 @@
--- A cell of the quota cells of what is being removed that goes, as a change of the domain.
-use Rattle.std.specs.Prelude.{◌≡◌, ◌||◌, ◌∷◌, ℕ, List, Some}
+-- Quota cells of what is being removed that go one after the other, as changes of the domain.
+use Rattle.std.specs.Prelude.{◌≡◌, ◌||◌, ◌∷◌, ℕ, List, [], None, Option, Some, IsSomeAnd}
 use Rattle.domain_base.specs.declared.place.CellAt.{CellAt}
 use Rattle.domain_base.specs.declared.place.Home.{Home}
+use Rattle.page_store.specs.Pages.{Pages}
 use Rattle.bmt_mcells.specs.Chain.{LeavesOthers, PlacedCell, is_at}
-use Rattle.free_cells.specs.Cells.{FreesCell}
+use Rattle.free_cells.specs.Cells.{Cells, FreesCell}
+use Rattle.fileset_table.specs.Page.{IsTablePage}
+use Rattle.fileset_table.specs.Table.{with_slot}
+use Rattle.fileset_table.specs.declared.slot.SlotItem.TheVariants as slot
+use Rattle.domain_layout.specs.Filled.{Contents}
 use Rattle.bitfile_cells.specs.Allocated.{AreAllocated}
 use Rattle.bitfile_cells.specs.MapChanges.{ChangesAtMost, LeavesOffTables}
 use Rattle.deferred_delete.specs.Standing.{Files, IsQuotas, with_file}
@@ -35,3 +40,41 @@ pub record LosesQuotaOf (number : ℕ) (d now : DomainNow) (files files_now : Fi
   pub bytes : (home : Home) → now.pages home ≡ d.pages home
       → now.contents home ≡ d.contents home
   pub same : now ≡ record d { pages = now.pages; contents = now.contents; cells = now.cells }
+
+-- of quota cells that are not on the list the last one is free: with these free cells, pages and
+-- bytes nothing begins there any more
+pub record FreesLastQuota (at : CellAt) (d : DomainNow) (cells : Cells) (pages : Pages)
+    (contents : Contents) (files files_now : Files) : Type 0 where
+  pub unlisted : HasNoEntry d.list at
+  pub last : PlacedCell
+  pub is : files at ≡ Some (last ∷ [])
+  pub files_are : files_now ≡ with_file at None files
+  pub frees : FreesCell at d.cells cells
+  pub allocated : AreAllocated d.space cells pages
+  pub others : LeavesOthers (is_at at) d.pages pages
+  pub elsewhere : LeavesOffTables cells d.pages pages
+  pub few : ChangesAtMost 1 d.pages pages
+  pub bytes : (home : Home) → pages home ≡ d.pages home → contents home ≡ d.contents home
+
+-- the last of the quota cells goes that the slot of what is being removed names, and the slot names
+-- none then, which the table's page says
+pub record EndsQuotaOf (number : ℕ) (d now : DomainNow) (files files_now : Files) : Type 0 where
+  pub first_tag : Option Home
+  pub at : CellAt
+  pub was : item_in d number ≡ Some (slot.Removed first_tag (Some at))
+  pub pages : Pages
+  pub contents : Contents
+  pub frees : FreesLastQuota at d now.cells pages contents files files_now
+  pub table : now.table ≡ with_slot number (slot.Removed first_tag None) d.table
+  pub says : (home : Home) → d.frame.anchor.table ≡ Some home
+      → IsSomeAnd (now.pages home) (λ page. IsTablePage page now.table)
+  pub others : (home : Home) → ¬ d.frame.anchor.table ≡ Some home
+      → now.pages home ≡ pages home
+  pub bytes : (home : Home) → now.pages home ≡ pages home
+      → now.contents home ≡ contents home
+  pub same : now ≡ record d {
+    table = now.table;
+    pages = now.pages;
+    contents = now.contents;
+    cells = now.cells;
+  }

@@ -10,10 +10,15 @@ use Rattle.deferred_laws.specs.Kept.{HasNoEntry}
 use Rattle.domain_standing.specs.Chains.{IsQuotaOf, IsRemoved}
 use Rattle.domain_standing.specs.Domain.{DomainNow, all_of, item_in}
 
+-- quota cells that a slot names do not all go
+abbrev pub QuotasStay : DomainNow → Files → Type 0
+QuotasStay d files_now = (number : ℕ) (at : CellAt) → IsQuotaOf d number at
+    → ¬ files_now at ≡ None
+
 -- so many steps lead from one domain to another, and the pages of which nothing is changed have the
 -- bytes that they had. No page of a tag directory goes; quota cells that a slot names are on the
--- list only where what is in that is being removed, and do not all go; and a file that is gone named
--- no index: that goes with the tag
+-- list only where what is in that is being removed; and a file that is gone named no index: that
+-- goes with the tag
 pub record Releases (group count : ℕ) (d now : DomainNow) (files files_now : Files) : Type 0 where
   pub steps : Steps group d.frame.version (all_of d files) count (all_of now files_now)
   pub frame : now.frame ≡ d.frame
@@ -24,6 +29,5 @@ pub record Releases (group count : ℕ) (d now : DomainNow) (files files_now : F
   pub tag_pages : now.list.tag_pages ≡ d.list.tag_pages
   pub quotas : (number : ℕ) (at : CellAt) → IsQuotaOf d number at → ¬ IsRemoved (item_in d number)
       → HasNoEntry d.list at
-  pub stay : (number : ℕ) (at : CellAt) → IsQuotaOf d number at → ¬ files_now at ≡ None
   pub gone : (at : CellAt) (chain : List PlacedCell) → files at ≡ Some chain
       → files_now at ≡ None → index_of chain ≡ None

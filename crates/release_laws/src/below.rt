@@ -6,21 +6,22 @@ ghost use Rattle.domain_standing.specs.Domain.{DomainNow};
 ghost use Rattle.domain_standing.specs.Sources.{StandAlone};
 ghost use Rattle.standing_laws.specs.Leads.{StandsBelow};
 ghost use Rattle.standing_laws.specs.Sound.{IsSound, StandsSound};
-ghost use Rattle.release_laws.specs.Released.{Releases};
+ghost use Rattle.release_laws.specs.Released.{QuotasStay, Releases};
 
 /// All of a domain but its filesets stands on once things on its list were let go of: so the next
 /// call may follow.
 pub fn all_below_stands_on_over_steps()
     ensures { (group count : ℕ) (d now : DomainNow) (files files_now : Files)
         (indexes : IndexesAt) → StandsBelow d files indexes → StandAlone d
-        → Releases group count d now files files_now → StandsBelow now files_now indexes }
+        → Releases group count d now files files_now → QuotasStay d files_now
+        → StandsBelow now files_now indexes }
 {}
 
 /// No file comes to be read through another one.
 pub fn files_stand_alone_over_steps()
     ensures { (group count : ℕ) (d now : DomainNow) (files files_now : Files)
         (indexes : IndexesAt) → StandsBelow d files indexes → StandAlone d
-        → Releases group count d now files files_now → StandAlone now }
+        → Releases group count d now files files_now → QuotasStay d files_now → StandAlone now }
 {}
 
 /// What rules of pages ask beside stays so.
@@ -31,5 +32,6 @@ pub fn soundness_stays_over_steps()
         → StandsSound now files_now indexes }
     ensures is { (group count : ℕ) (d now : DomainNow) (files_now : Files)
         → (sound : IsSound d) → StandAlone d
-        → Releases group count d now sound.files files_now → IsSound now }
+        → Releases group count d now sound.files files_now → QuotasStay d files_now
+        → IsSound now }
 {}

@@ -25,7 +25,8 @@ pub use freeing::{
 };
 pub use held::held_pages_stand_on_over_steps;
 pub use quotas::{
-    a_domain_stands_on_where_a_quota_cell_goes, filesets_stand_where_a_quota_cell_goes,
+    a_domain_stands_on_where_a_quota_cell_goes, a_domain_stands_on_where_the_last_quota_cell_goes,
+    filesets_stand_where_a_quota_cell_goes, filesets_stand_where_the_last_quota_cell_goes,
 };
 pub use rest::rest_stands_on_over_steps;
 pub use slots::{filesets_stand_over_steps, parents_stay_over_steps};
