@@ -158,7 +158,7 @@ module _ (d : DomainNow) where
   files_set : (f g : Files) → IsProp (f ≡ g)
   files_set f g p q = λ i j at. Coded-set (coded_option (coded_list placed_code)) (f at) (g at) (λ k. p k at) (λ k. q k at) i j
 
-  links : (at : CellAt) (cs : List PlacedCell) → IsFileOrQuotas d.pages at cs → LinksFrom d.pages at cs
+  pub links : (at : CellAt) (cs : List PlacedCell) → IsFileOrQuotas d.pages at cs → LinksFrom d.pages at cs
   links at cs = ⊎_elim (λ file. of_file cs file) (λ are. links_of d.pages at cs are)
     where
       of_file : (cs : List PlacedCell) → IsFile d.pages at cs → LinksFrom d.pages at cs

@@ -9,6 +9,7 @@ pub mod HeldGo
 pub mod ListGo
 pub mod QuotasGo
 pub mod QuotasListed
+pub mod SlotsBeside
 pub mod QuotaLost
 pub mod SlotsGo
 pub mod TableSays
@@ -31,6 +32,7 @@ pub mod BitsOver
 pub mod SpacesOver
 pub mod FreedPages
 pub mod FilesAtHand
+pub mod QuotaAtHand
 pub use Rattle.domain_standing.proofs.SourcesStay
 pub use Rattle.standing_laws.proofs.BegunDomain
 pub use Rattle.standing_laws.proofs.BitsStay

@@ -1,37 +1,33 @@
 -- A cell of the quota cells of what is being removed that goes is a step over the list on which they
 -- come for that.
-use Rattle.std.proofs.Common.{◌≡◌, ◌∙◌, ℕ, List, Option, Some, None, IsSomeAnd, refl, sym, ap, subst, ⊎_elim}
-use Rattle.std.specs.Option.{is_some, option_and_then}
+use Rattle.std.proofs.Common.{◌≡◌, ◌∙◌, ℕ, List, Option, Some, None, IsSomeAnd, Contains, refl, sym, ap, subst, ⊎_elim}
 use Rattle.domain_base.specs.declared.place.CellAt.{CellAt}
 use Rattle.bmt_mcells.specs.Chain.{PlacedCell}
 use Rattle.free_space.specs.Spaces.{Spaces}
 use Rattle.fileset_model.specs.Filesets.{FilesetMap}
-use Rattle.deferred_delete.specs.Listed.{left_of}
 use Rattle.deferred_delete.specs.Standing.{Files, with_file}
 use Rattle.deferred_delete.specs.Steps.{LosesQuotaCell, more, none, quota_goes}
-use Rattle.deferred_delete.specs.declared.list.Entry.{Entry}
 use Rattle.deferred_delete.proofs.Spread.{none_not}
 use Rattle.deferred_delete.proofs.Standings.{file_other, file_there, same_or_not}
-use Rattle.deferred_laws.proofs.Listing.{which_entry}
 use Rattle.domain_layout.specs.TagRules.{quota_of}
-use Rattle.domain_standing.specs.Chains.{AreQuotasOf, IndexesAt, IsQuotaOf}
-use Rattle.domain_standing.specs.Domain.{DomainNow, all_of, named_by}
+use Rattle.domain_standing.specs.Chains.{AreQuotasOf, IndexesAt, IsQuotaOf, IsRemoved}
+use Rattle.domain_standing.specs.Domain.{DomainNow, all_of, item_in, named_by}
 use Rattle.domain_standing.specs.Sources.{StandAlone}
 use Rattle.domain_standing.specs.Slots.{StandSlots}
 use Rattle.domain_standing.specs.Standing.{HaveParents, IsMarkedBut}
 use Rattle.standing_laws.specs.Leads.{StandsBelow}
 use Rattle.standing_laws.specs.Sound.{StandsSound}
-use Rattle.standing_laws.proofs.BelowStands.{slots_listed}
 use Rattle.standing_laws.proofs.SoundInPlace.{sound_listed}
 use Rattle.release_laws.specs.QuotaCells.{LosesQuotaOf}
 use Rattle.release_laws.specs.Released.{QuotasStay, Releases}
-use Rattle.release_laws.specs.Trimmed.{TrimsFiles}
+use Rattle.domain_base.specs.declared.place.Home.{Home}
+use Rattle.domain_standing.specs.Holders.{Holder, Holds}
+use Rattle.domain_standing.specs.Holders.Holder.{of_cells, of_table}
+use Rattle.release_laws.proofs.Led.{member_of_table}
+use Rattle.release_laws.proofs.SlotsBeside.{LeavesSlots, bits_left, parents_left, slots_left}
 use Rattle.release_laws.proofs.BelowGo.{alone_goes, below_goes}
-use Rattle.release_laws.proofs.BitsOver.{bits_over}
-use Rattle.release_laws.proofs.ParentsOver.{parents_over}
-use Rattle.release_laws.proofs.SlotsOver.{slots_over}
 use Rattle.release_laws.proofs.SoundGo.{sound_goes}
-use Rattle.release_laws.proofs.QuotasListed.{adds, not_on, nothing_left, quotas_listed, unlisted, with_quotas}
+use Rattle.release_laws.proofs.QuotasListed.{not_on, quotas_listed, unlisted, with_quotas}
 
 module _ (d now : DomainNow) (files files_now : Files) (indexes : IndexesAt) (below : StandsBelow d files indexes) (alone : StandAlone d) (number : ℕ) (s : LosesQuotaOf number d now files files_now) where
   abbrev was : DomainNow
@@ -104,32 +100,37 @@ module _ (d now : DomainNow) (files files_now : Files) (indexes : IndexesAt) (be
   pub sound_lost : StandsSound d files indexes → StandsSound now files_now indexes
   sound_lost sound = sound_listed it files_now indexes now.list (sound_goes 0 1 was it files files_now indexes listed alone (sound_listed d files indexes was.list sound) over_list)
 
-  -- it stands for the same filesets
-  module _ (trims : TrimsFiles d files) (all : FilesetMap) (slots : StandSlots d all) where
-    after_list : StandsBelow it files_now indexes
-    after_list = below_goes 0 1 was it files files_now indexes listed alone over_list quotas_stay
+  -- ---- it stands for the same filesets
 
-    still_trims : TrimsFiles was files
-    still_trims e chain inside there trim = ⊎_elim
-        (λ had. trims e chain had there trim)
-        (λ this. absurd (no_trim this))
-        (which_entry d.list.entries was.list.entries s.at None (adds d files indexes below alone number s.at s.quota s.removed s.unlisted) e inside)
-      where
-        no_trim : ¬ e ≡ record { at = s.at; clone = None }
-        no_trim this = nothing_left d files number s.at (below.chains.quotas number s.at s.quota)
-            (ap (λ o. is_some (option_and_then left_of o)) (ap files (sym (ap (λ (x : Entry). x.at) this)) ∙ there) ∙ ap is_some trim)
+  page_was : (holder : Holder) (home : Home) → Holds d files indexes holder home → ¬ holder ≡ of_table → ¬ holder ≡ of_cells → now.pages home ≡ d.pages home
+  page_was holder home held no_table no_cells = s.elsewhere home (λ on.
+      let then = subst (λ (t : List ℕ). Contains t home.page) (s.frees.tables home.vol) on in
+      no_cells (below.owned.once home holder of_cells held (member_of_table d files indexes below home.vol home.page then, then)))
 
-    were : StandSlots was all
-    were = slots_listed d was.list all slots
+  item_same : (n : ℕ) → item_in now n ≡ item_in d n
+  item_same n = ap (λ (x : DomainNow). item_in x n) s.same
 
+  leaves : LeavesSlots number s.at d now files files_now indexes
+  leaves = record {
+    quota = s.quota;
+    was = s.removed;
+    is = subst IsRemoved (sym (item_same number)) s.removed;
+    items = λ n differ. item_same n;
+    stays = λ a other. ap (λ (f : Files). f a) s.files_are ∙ file_other s.at (Some s.after) files a other;
+    frame = ap (λ (x : DomainNow). x.frame) s.same;
+    tags = ap (λ (x : DomainNow). x.tags) s.same;
+    space = ap (λ (x : DomainNow). x.space) s.same;
+    pages = page_was;
+    bytes = λ holder home held no_table no_cells. s.bytes home (page_was holder home held no_table no_cells);
+  }
+
+  -- bits of bitmaps say of free space what they said
+  pub bits_lost : (space : Spaces) → IsMarkedBut (record d { space = space }) → IsMarkedBut (record now { space = space })
+  bits_lost = bits_left number s.at d now files files_now indexes below below_lost leaves
+
+  module _ (all : FilesetMap) (slots : StandSlots d all) where
     pub slots_lost : StandSlots now all
-    slots_lost = slots_listed it now.list all (slots_over 0 1 was it files files_now indexes listed after_list alone over_list still_trims all were)
+    slots_lost = slots_left number s.at d now files files_now indexes below below_lost leaves all slots
 
     pub parents_lost : HaveParents d → HaveParents now
-    parents_lost parents = parents_over 0 1 was it files files_now indexes listed after_list alone over_list still_trims all were parents
-
-  -- and bits of bitmaps say of free space what they said
-  pub bits_lost : (space : Spaces) → IsMarkedBut (record d { space = space }) → IsMarkedBut (record now { space = space })
-  bits_lost space marked =
-      let over = bits_over 0 1 was it files files_now indexes listed (below_goes 0 1 was it files files_now indexes listed alone over_list quotas_stay) over_list space (record { there = marked.there; bits = marked.bits; behind = marked.behind }) in
-      record { there = over.there; bits = over.bits; behind = over.behind }
+    parents_lost = parents_left number s.at d now files files_now indexes below below_lost leaves all slots

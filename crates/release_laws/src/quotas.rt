@@ -11,7 +11,6 @@ ghost use Rattle.free_space.specs.Spaces.{Spaces};
 ghost use Rattle.standing_laws.specs.Leads.{StandsBelow};
 ghost use Rattle.standing_laws.specs.Sound.{StandsSound};
 ghost use Rattle.release_laws.specs.QuotaCells.{EndsQuotaOf, LosesQuotaOf};
-ghost use Rattle.release_laws.specs.Trimmed.{TrimsFiles};
 
 /// Where a domain stands, it does so once one of the quota cells of what is being removed is free,
 /// and no file is read through another one; and what rules of pages ask beside stays so.
@@ -33,12 +32,12 @@ pub fn a_domain_stands_on_where_a_quota_cell_goes()
 pub fn filesets_stand_where_a_quota_cell_goes()
     ensures slots { (d now : DomainNow) (files files_now : Files) (indexes : IndexesAt)
         → StandsBelow d files indexes → StandAlone d → (number : ℕ)
-        → LosesQuotaOf number d now files files_now → TrimsFiles d files → (all : FilesetMap)
-        → StandSlots d all → StandSlots now all }
+        → LosesQuotaOf number d now files files_now → (all : FilesetMap) → StandSlots d all
+        → StandSlots now all }
     ensures parents { (d now : DomainNow) (files files_now : Files) (indexes : IndexesAt)
         → StandsBelow d files indexes → StandAlone d → (number : ℕ)
-        → LosesQuotaOf number d now files files_now → TrimsFiles d files → (all : FilesetMap)
-        → StandSlots d all → HaveParents d → HaveParents now }
+        → LosesQuotaOf number d now files files_now → (all : FilesetMap) → StandSlots d all
+        → HaveParents d → HaveParents now }
     ensures bits { (d now : DomainNow) (files files_now : Files) (indexes : IndexesAt)
         → StandsBelow d files indexes → StandAlone d → (number : ℕ)
         → LosesQuotaOf number d now files files_now → (space : Spaces)
