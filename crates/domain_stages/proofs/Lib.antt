@@ -39,3 +39,7 @@ mod LeftOver
 mod FreedMemory
 mod UsedTag
 mod ToEmpty
+mod QuotaKept
+mod QuotaTaken
+mod LastTaken
+mod QuotaBegins

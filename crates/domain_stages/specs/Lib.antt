@@ -4,6 +4,7 @@ pub mod Limits
 pub mod Charging
 pub mod LettingGo
 pub mod Emptying
+pub mod QuotaCells
 pub use Rattle.release_laws.specs.Domain
 pub use Rattle.release_laws.specs.Chains
 pub use Rattle.release_laws.specs.Holders

@@ -11,6 +11,7 @@ mod going;
 mod laws;
 mod letting_go;
 mod limits;
+mod quotas;
 mod releasing;
 mod table;
 mod tags;

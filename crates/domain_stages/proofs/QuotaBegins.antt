@@ -1,0 +1,74 @@
+-- Quota cells that a slot of memory names begin there, and what their going leaves.
+use Rattle.std.proofs.Common.{◌≡◌, ◌∙◌, ℕ, List, ◌∷◌, Option, Some, None, IfSome, IsSomeAnd, length, slice_get, refl, sym, ap, subst}
+use Rattle.std.proofs.Math.Logic.{∥∥₁_map}
+use Rattle.std.specs.Option.{option_and_then}
+use Rattle.domain_base.specs.declared.place.CellAt.{CellAt}
+use Rattle.domain_base.specs.declared.place.Home.{Home}
+use Rattle.bmt_mcells.specs.Chain.{PlacedCell}
+use Rattle.fileset_model.specs.Filesets.{FilesetMap}
+use Rattle.fileset_table.specs.Table.{IsTable}
+use Rattle.fileset_table.specs.declared.slot.SlotItem.{SlotItem}
+use Rattle.fileset_table.specs.declared.slot.SlotItem.TheVariants as slot
+use Rattle.deferred_delete.specs.Standing.{Files}
+use Rattle.deferred_delete.proofs.Spread.{none_not, some_same}
+use Rattle.deferred_laws.specs.Kept.{HasNoEntry}
+use Rattle.domain_layout.specs.TagRules.{quota_of}
+use Rattle.domain_parts.specs.Slots.{CanGoBack, HasNumber, slot_in}
+use Rattle.domain_memory.specs.Kept.{KeepsKept}
+use Rattle.domain_memory.specs.Staged.{IsStaged, MayBeKept, MayGoBack, staged_in}
+use Rattle.domain_memory.specs.declared.memory.DomainMemory.{DomainMemory}
+use Rattle.release_laws.specs.Chains.{AreQuotasOf}
+use Rattle.release_laws.proofs.QuotaAtHand.{quotas_at_hand}
+use Rattle.release_laws.proofs.QuotasListed.{quotas_listed}
+use Rattle.domain_stages.specs.Emptying.{MayBeKeptForAny}
+use Rattle.domain_stages.specs.QuotaCells.{BeginsQuotas, HasQuotaCells, LosesLast, LosesSecond}
+use Rattle.domain_stages.proofs.QuotaKept.{kept_ended, kept_lost}
+
+-- they begin there with the files with which memory stands
+pub begins_so : (memory : DomainMemory) (all : FilesetMap) (is : IsStaged memory all) (number : ℕ) (at : CellAt) → HasQuotaCells memory number at → BeginsQuotas memory at is.sound.files
+begins_so memory all is number at cells = by_chain (is.sound.files at) refl (is.sound.below.chains.quotas number at cells.quota)
+  where
+    by_chain : (o : Option (List PlacedCell)) → is.sound.files at ≡ o → IsSomeAnd o (AreQuotasOf (staged_in memory) number at) → BeginsQuotas memory at is.sound.files
+    by_chain None there are = absurd are
+    by_chain (Some chain) there are = record {
+      has = record { last = refl; well = (quotas_listed (staged_in memory) is.sound.files is.sound.indexes is.sound.below is.alone number at cells.quota cells.removed cells.unlisted).chains.well };
+      chain = chain;
+      is = there;
+      quotas = are.quotas;
+    }
+
+-- and with files that are at hand
+pub asks_quotas : (memory : DomainMemory) → ∥ MayBeKeptForAny memory ∥₁ → (number : ℕ) (at : CellAt) → HasQuotaCells memory number at → (files : Files) × BeginsQuotas memory at files
+asks_quotas memory ready number at cells =
+    quotas_at_hand (staged_in memory) (∥∥₁_map ready (λ r. let is = r.1.staged in (is.sound.files, is.sound.indexes, is.sound.below, is.alone))) number at cells.quota cells.removed cells.unlisted
+
+-- the slot names these and no others
+pub has_those : (memory : DomainMemory) (number : ℕ) (at : CellAt) → HasQuotaCells memory number at → (item : SlotItem) (first_tag : Option Home) (quota : Option CellAt) (its : CellAt) → slice_get memory.table.slots number ≡ Some item → item ≡ slot.Removed first_tag quota → quota ≡ Some its → HasQuotaCells memory number its
+has_those memory number at cells item first_tag quota its there is named =
+    subst (HasQuotaCells memory number) (some_same at its (sym cells.quota ∙ ap (option_and_then quota_of) (there ∙ ap (λ (i : SlotItem). Some i) is) ∙ named)) cells
+
+pub has_some : (memory : DomainMemory) (number : ℕ) (at : CellAt) → HasQuotaCells memory number at → (item : SlotItem) (first_tag : Option Home) (quota : Option CellAt) → slice_get memory.table.slots number ≡ Some item → item ≡ slot.Removed first_tag quota → quota ≡ None → ⊥
+has_some memory number at cells item first_tag quota there is none = none_not at (sym none ∙ sym (ap (option_and_then quota_of) (there ∙ ap (λ (i : SlotItem). Some i) is)) ∙ cells.quota)
+
+-- ---- what their going leaves
+
+module _ (old new : DomainMemory) (number : ℕ) (at : CellAt) (cells : HasQuotaCells old number at) where
+  pub second_kept : new ≡ record old { pages = new.pages; cells = new.cells } → (all : FilesetMap) (ready : MayBeKept old all) → (BeginsQuotas old at ready.staged.sound.files → LosesSecond number at ready.staged.sound.files old new) → MayBeKept new all
+  second_kept same all ready loses =
+      let lost = loses (begins_so old all ready.staged number at cells) cells in
+      kept_lost old new (same ∙ (λ i. record old { pages = new.pages; cells = new.cells; table = sym (ap (λ (m : DomainMemory). m.table) same) i; was = sym (ap (λ (m : DomainMemory). m.was) same) i })) all ready lost.0 number lost.1
+
+  pub last_kept : new ≡ record old { pages = new.pages; cells = new.cells; table = new.table; was = new.was } → (all : FilesetMap) (ready : MayBeKept old all) → (BeginsQuotas old at ready.staged.sound.files → LosesLast number at ready.staged.sound.files old new) → MayBeKept new all
+  last_kept same all ready loses =
+      let lost = loses (begins_so old all ready.staged number at cells) cells in
+      kept_ended old new same all ready lost.0 number lost.1
+
+pub back_lost : (old new : DomainMemory) → new.slots ≡ old.slots → KeepsKept old new → ∥ MayGoBack old ∥₁ → ∥ MayGoBack new ∥₁
+back_lost old new slots kept may = ∥∥₁_map may (λ m. record {
+  has = record {
+    count = ap (λ s. length s.items) slots ∙ m.has.count;
+    numbered = λ n. subst (λ s. IfSome (slot_in s.items n) (HasNumber n)) (sym slots) (m.has.numbered n);
+  };
+  table = subst IsTable (sym kept.table) m.table;
+  slots = λ n. subst (λ s. IfSome (slot_in s.items n) CanGoBack) (sym slots) (m.slots n);
+})

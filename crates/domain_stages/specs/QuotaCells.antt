@@ -1,0 +1,49 @@
+-- Quota cells of what is being removed from slots of a domain's memory, which go one after the other.
+use Rattle.std.specs.Prelude.{◌≡◌, ◌++◌, ◌∷◌, ℕ, [], None, Some}
+use Rattle.domain_base.specs.declared.place.CellAt.{CellAt}
+use Rattle.bmt_mcells.specs.Cell.{Cell}
+use Rattle.bmt_mcells.specs.Chain.{StandsAt}
+use Rattle.staged_pages.specs.Store.{pages_of}
+use Rattle.deferred_delete.specs.Standing.{Files}
+use Rattle.deferred_delete.specs.Steps.{HasQuotas, now_of}
+use Rattle.release_laws.specs.Chains.{IsQuotaOf, IsRemoved}
+use Rattle.release_laws.specs.Domain.{item_in}
+use Rattle.release_laws.specs.QuotaCells.{EndsQuotaOf, LosesQuotaOf}
+use Rattle.domain_memory.specs.Staged.{staged_in}
+use Rattle.domain_memory.specs.declared.memory.DomainMemory.{DomainMemory}
+use Rattle.deferred_laws.specs.Kept.{HasNoEntry}
+
+-- the slot of what is being removed names quota cells, and these are not on the list
+pub record HasQuotaCells (memory : DomainMemory) (number : ℕ) (at : CellAt) : Type 0 where
+  pub removed : IsRemoved (item_in (staged_in memory) number)
+  pub quota : IsQuotaOf (staged_in memory) number at
+  pub unlisted : HasNoEntry (staged_in memory).list at
+
+-- with these files quota cells begin there, which may be let go of: as if they were the last thing on
+-- the list
+abbrev pub BeginsQuotas : DomainMemory → CellAt → Files → Type 0
+BeginsQuotas memory at files = HasQuotas (staged_in memory).list.entries
+    (record { at = at; clone = None })
+    (now_of (record {
+      entries = (staged_in memory).list.entries ++ record { at = at; clone = None } ∷ [];
+      tag_pages = (staged_in memory).list.tag_pages;
+    }) files memory.space memory.cells (pages_of memory.pages))
+
+-- the first of them leads to this one, or to none
+abbrev pub LeadsOn : DomainMemory → CellAt → CellAt → Type 0
+LeadsOn memory at next = (cell : Cell) → StandsAt (pages_of memory.pages) at cell
+    → Some next ≡ cell.head.next
+
+abbrev pub LeadsNowhere : DomainMemory → CellAt → Type 0
+LeadsNowhere memory at = (cell : Cell) → StandsAt (pages_of memory.pages) at cell
+    → None ≡ cell.head.next
+
+-- the second goes of the quota cells that a slot names
+abbrev pub LosesSecond : ℕ → CellAt → Files → DomainMemory → DomainMemory → Type 0
+LosesSecond number at files old new = HasQuotaCells old number at → (files_now : Files)
+    × LosesQuotaOf number (staged_in old) (staged_in new) files files_now
+
+-- the last does, and the slot names none then
+abbrev pub LosesLast : ℕ → CellAt → Files → DomainMemory → DomainMemory → Type 0
+LosesLast number at files old new = HasQuotaCells old number at → (files_now : Files)
+    × EndsQuotaOf number (staged_in old) (staged_in new) files files_now

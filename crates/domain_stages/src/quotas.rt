@@ -1,0 +1,154 @@
+//! Quota cells of what is being removed from slots, which go one after the other.
+ghost use Rattle.std.specs.Prelude.{◌≡◌, ◌≤◌, ℕ, false, None, Some, OnErr, OnOk, slice_get};
+ghost use Rattle.domain_base.specs.declared.place.Home.{Home as HomeOf};
+ghost use Rattle.page_store.specs.Pages.{same_home};
+ghost use Rattle.bmt_mcells.specs.Cell.{Cell};
+ghost use Rattle.bmt_mcells.specs.CellPage.{KeepsHeaders, KeepsWellFormed, home_of as home_there};
+ghost use Rattle.bmt_mcells.specs.Chain.{LeavesOthers, StandsAt, is_at};
+ghost use Rattle.bitfile_cells.specs.Changes.{IsInUse};
+ghost use Rattle.deferred_delete.specs.Standing.{Files};
+ghost use Rattle.domain_memory.specs.Kept.{KeepsKept};
+ghost use Rattle.fileset_table.specs.Table.{IsTable, with_slot};
+ghost use Rattle.fileset_table.specs.declared.slot.SlotItem.TheVariants as slot;
+ghost use Rattle.domain_stages.specs.Table.{HasTablePage};
+ghost use Rattle.domain_base.specs.declared.place.CellAt.{CellAt as CellAtOf};
+ghost use Rattle.fileset_model.specs.Filesets.{FilesetMap};
+ghost use Rattle.domain_memory.specs.Held.{held_open};
+ghost use Rattle.domain_memory.specs.Staged.{MayBeKept, MayGoBack};
+ghost use Rattle.domain_stages.specs.Emptying.{MayBeKeptForAny};
+ghost use Rattle.domain_stages.specs.QuotaCells.{BeginsQuotas, HasQuotaCells, LeadsNowhere, LeadsOn, LosesLast, LosesSecond};
+
+use crate::table::put_in_table;
+use bitfile_cells::next_cell;
+use bmt_mcells::{CellHead, read_used, write_cell};
+use domain_base::{CellAt, FilesetNo, Home, OutOfMemory};
+use domain_memory::DomainMemory;
+use fileset_table::SlotItem;
+use page_store::MetaPages;
+use std::alloc::Global;
+
+/// Writes a cell so that it leads past another one, to what comes next to that. After an error
+/// nothing has changed.
+fn lead_past<M: MetaPages>(
+    alloc: Global,
+    pages: &mut M,
+    at: &CellAt,
+    next: &CellAt,
+) -> Result<(), OutOfMemory>
+    requires first { IsInUse (M.pages pages.old) at.now }
+    requires next { IsInUse (M.pages pages.old) next.now }
+    ensures ok { (first gone : Cell) → StandsAt (M.pages pages.old) at.now first
+        → StandsAt (M.pages pages.old) next.now gone
+        → OnOk result (StandsAt (M.pages pages.new) at.now (record first {
+          head = record first.head { next = gone.head.next };
+        })) }
+    ensures err { OnErr result (M.pages pages.new ≡ M.pages pages.old) }
+    ensures others { LeavesOthers (is_at at.now) (M.pages pages.old) (M.pages pages.new) }
+    ensures well_formed { KeepsWellFormed (M.pages pages.old) (M.pages pages.new) }
+    ensures headers { KeepsHeaders (M.pages pages.old) (M.pages pages.new) }
+    ensures elsewhere { (home : HomeOf) → same_home home (home_there at.now) ≡ false
+        → M.pages pages.new home ≡ M.pages pages.old home }
+    ensures room { M.room pages.new ≡ M.room pages.old }
+    ensures before { M.before pages.new ≡ M.before pages.old }
+{
+    let used = read_used(alloc, pages, *at)?.unwrap();
+    let head = CellHead {
+        next: next_cell(pages, next),
+        ..used.head
+    };
+    write_cell(pages, *at, &head, &used.records);
+    Ok(())
+}
+
+/// Frees the second of the quota cells that begin there, to which the first leads: it leads past
+/// that then. There may only be no memory, and then nothing has changed.
+fn lose_second(
+    memory: &mut DomainMemory,
+    alloc: Global,
+    at: &CellAt,
+    next: &CellAt,
+) -> Result<(), OutOfMemory>
+    requires quotas { (files : Files) × BeginsQuotas memory.old at.now files }
+    requires next { LeadsOn memory.old at.now next.now }
+    ensures ok { (number : ℕ) (files : Files) → BeginsQuotas memory.old at.now files
+        → OnOk result (LosesSecond number at.now files memory.old memory.new) }
+    ensures kept { KeepsKept memory.old memory.new }
+    ensures same { memory.new ≡ record memory.old {
+      pages = memory.new.pages;
+      cells = memory.new.cells;
+    } }
+{
+    lead_past(alloc, &mut memory.pages, at, next)?;
+    memory.cells.free_cell(&mut memory.pages, *next);
+    Ok(())
+}
+
+/// Frees the last of the quota cells that begin there, which leads to none, and the slot of what is
+/// being removed names none then. There may only be no memory, and then the change is half made: it
+/// is to be taken back.
+fn lose_last(
+    memory: &mut DomainMemory,
+    alloc: Global,
+    number: FilesetNo,
+    first_tag: Option<Home>,
+    at: CellAt,
+) -> Result<(), OutOfMemory>
+    requires quotas { (files : Files) × BeginsQuotas memory.old at files }
+    requires last { LeadsNowhere memory.old at }
+    requires was { slice_get memory.old.table.slots number
+        ≡ Some (slot.Removed first_tag (Some at)) }
+    requires table { IsTable (with_slot number (slot.Removed first_tag None) memory.old.table) }
+    requires there { HasTablePage memory.old }
+    requires fresh { memory.old.was ≡ None }
+    ensures ok { (files : Files) → BeginsQuotas memory.old at files
+        → OnOk result (LosesLast number at files memory.old memory.new) }
+    ensures kept { KeepsKept memory.old memory.new }
+    ensures same { memory.new ≡ record memory.old {
+      pages = memory.new.pages;
+      cells = memory.new.cells;
+      table = memory.new.table;
+      was = memory.new.was;
+    } }
+{
+    memory.cells.free_cell(&mut memory.pages, at);
+    let quota = None;
+    put_in_table(
+        memory,
+        alloc,
+        number,
+        SlotItem::Removed { first_tag, quota },
+    )
+}
+
+/// Lets go of one of the quota cells that the slot of what is being removed names: of the second
+/// or, where one is left, of that, and the slot names none then. The filesets stay what they are.
+/// There may only be no memory; after an Err the change may be half made: it is to be taken back.
+pub(crate) fn lose_quota_cell(
+    memory: &mut DomainMemory,
+    alloc: Global,
+    number: FilesetNo,
+) -> Result<(), OutOfMemory>
+    requires ready { ∥ MayBeKeptForAny memory.old ∥₁ }
+    requires back { ∥ MayGoBack memory.old ∥₁ }
+    requires fresh { memory.old.was ≡ None }
+    requires quota { (at : CellAtOf) × HasQuotaCells memory.old number at }
+    ensures ok { (all : FilesetMap) → MayBeKept memory.old all
+        → OnOk result (MayBeKept memory.new all) }
+    ensures held { held_open memory.new.space ≤ held_open memory.old.space }
+    ensures kept { KeepsKept memory.old memory.new }
+    ensures back { ∥ MayGoBack memory.new ∥₁ }
+    ensures frame { memory.new.frame ≡ memory.old.frame }
+{
+    let SlotItem::Removed { first_tag, quota } = memory.table.slot(number) else {
+        unreachable!();
+    };
+    let Some(at) = quota else {
+        unreachable!();
+    };
+    let first_tag = *first_tag;
+    let at = *at;
+    match next_cell(&memory.pages, &at) {
+        Some(next) => lose_second(memory, alloc, &at, &next),
+        None => lose_last(memory, alloc, number, first_tag, at),
+    }
+}
