@@ -3,6 +3,7 @@ use Rattle.std.proofs.Common.{◌≡◌, ◌∙◌, ℕ, [], length, Option, Som
 use Rattle.std.proofs.Math.Logic.{∥∥₁_map}
 use Rattle.std.specs.FinMap.{get}
 use Rattle.std.specs.Option.{option_and_then, option_map}
+use Rattle.domain_base.specs.declared.place.CellAt.{CellAt}
 use Rattle.domain_base.specs.declared.place.Tag.{Tag}
 use Rattle.fileset_model.specs.Filesets.{FilesetMap}
 use Rattle.fileset_table.specs.Table.{IsTable}
@@ -24,11 +25,13 @@ use Rattle.release_laws.specs.Leads.{StandsBelow}
 use Rattle.release_laws.specs.Sound.{IsSound}
 use Rattle.domain_parts.specs.Slots.{CanGoBack, HasNumber, book_in, kept_book, kept_places, places_in, slot_in}
 use Rattle.domain_memory.specs.Memory.{StandsFor, books_in, kept_in, with_was}
-use Rattle.domain_memory.specs.Staged.{IsSettled, MayGoBack}
+use Rattle.domain_memory.specs.Staged.{IsSettled, MayGoBack, staged_in}
 use Rattle.domain_memory.specs.declared.memory.DomainMemory.{DomainMemory}
 use Rattle.release_laws.specs.Freed.{freed}
 use Rattle.release_laws.proofs.FreedPages.{below_freed, bits_freed, slots_freed}
+use Rattle.deferred_laws.specs.Kept.{HasNoEntry}
 use Rattle.domain_stages.specs.Emptying.{IsUsedIn, NothingGoes}
+use Rattle.domain_stages.specs.QuotaCells.{HasQuotaCells}
 use Rattle.domain_stages.specs.LettingGo.{HavePlain, MayLetGo, NoneWaits}
 
 pub none_waits : (space : Spaces) → NoneWaits (change_volumes with_none_waiting space)
@@ -65,10 +68,20 @@ module _ (old new : DomainMemory) (same : new ≡ record old { space = new.space
       removed = subst (λ (x : DomainMemory). IsRemoved (slice_get x.table.slots number)) same may.removed;
       some = ⊎_elim
           (λ (used : (tag : Tag) × IsUsedIn new number tag). inl (used.0, subst (λ (x : DomainMemory). IsUsedIn x number used.0) same used.1))
+          (λ rest. inr (⊎_elim
+          (λ (quotas : (at : CellAt) × HasQuotaCells new number at). inl (
+            quotas.0,
+            record {
+              removed = subst (λ (x : DomainMemory). IsRemoved (slice_get x.table.slots number)) same quotas.1.removed;
+              quota = subst (λ (x : DomainMemory). option_and_then quota_of (slice_get x.table.slots number) ≡ Some quotas.0) same quotas.1.quota;
+              unlisted = subst (λ (x : DomainMemory). HasNoEntry (staged_in x).list quotas.0) same quotas.1.unlisted;
+            },
+          ))
           (λ has. inr (record {
             none = subst (λ (x : DomainMemory). option_and_then quota_of (slice_get x.table.slots number) ≡ None) same has.none;
             none_listed = subst (λ (x : DomainMemory). x.list.list.tag_pages ≡ []) same has.none_listed;
           }))
+          rest))
           may.some;
     });
   }

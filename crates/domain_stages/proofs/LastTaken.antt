@@ -24,8 +24,7 @@ use Rattle.domain_memory.specs.Staged.{staged_in}
 use Rattle.domain_memory.specs.declared.memory.DomainMemory.{DomainMemory}
 use Rattle.domain_layout.specs.Read.{contents_of}
 use Rattle.release_laws.specs.Domain.{item_in}
-use Rattle.release_laws.specs.QuotaCells.{EndsQuotaOf}
-use Rattle.domain_stages.specs.QuotaCells.{BeginsQuotas, HasQuotaCells, LeadsNowhere, LosesLast}
+use Rattle.domain_stages.specs.QuotaCells.{BeginsQuotas, LeadsNowhere, LosesLast}
 use Rattle.domain_stages.specs.Table.{HasTablePage, PutsSlot}
 
 -- one cell is left

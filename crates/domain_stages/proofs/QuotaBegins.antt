@@ -1,5 +1,5 @@
 -- Quota cells that a slot of memory names begin there, and what their going leaves.
-use Rattle.std.proofs.Common.{◌≡◌, ◌∙◌, ℕ, List, ◌∷◌, Option, Some, None, IfSome, IsSomeAnd, length, slice_get, refl, sym, ap, subst}
+use Rattle.std.proofs.Common.{◌≡◌, ◌∙◌, ℕ, Bool, true, false, not, List, [], Option, Some, None, Result, Ok, Err, OnErr, Contains, true≢false, IfSome, IsSomeAnd, length, slice_get, refl, sym, ap, subst}
 use Rattle.std.proofs.Math.Logic.{∥∥₁_map}
 use Rattle.std.specs.Option.{option_and_then}
 use Rattle.domain_base.specs.declared.place.CellAt.{CellAt}
@@ -9,15 +9,18 @@ use Rattle.fileset_model.specs.Filesets.{FilesetMap}
 use Rattle.fileset_table.specs.Table.{IsTable}
 use Rattle.fileset_table.specs.declared.slot.SlotItem.{SlotItem}
 use Rattle.fileset_table.specs.declared.slot.SlotItem.TheVariants as slot
+use Rattle.deferred_delete.specs.Listing.{Listing}
 use Rattle.deferred_delete.specs.Standing.{Files}
+use Rattle.deferred_delete.specs.declared.list.Entry.{Entry}
 use Rattle.deferred_delete.proofs.Spread.{none_not, some_same}
 use Rattle.deferred_laws.specs.Kept.{HasNoEntry}
 use Rattle.domain_layout.specs.TagRules.{quota_of}
+use Rattle.domain_parts.specs.Listing.{list_with}
 use Rattle.domain_parts.specs.Slots.{CanGoBack, HasNumber, slot_in}
 use Rattle.domain_memory.specs.Kept.{KeepsKept}
 use Rattle.domain_memory.specs.Staged.{IsStaged, MayBeKept, MayGoBack, staged_in}
 use Rattle.domain_memory.specs.declared.memory.DomainMemory.{DomainMemory}
-use Rattle.release_laws.specs.Chains.{AreQuotasOf}
+use Rattle.release_laws.specs.Chains.{AreQuotasOf, IsRemoved}
 use Rattle.release_laws.proofs.QuotaAtHand.{quotas_at_hand}
 use Rattle.release_laws.proofs.QuotasListed.{quotas_listed}
 use Rattle.domain_stages.specs.Emptying.{MayBeKeptForAny}
@@ -72,3 +75,32 @@ back_lost old new slots kept may = ∥∥₁_map may (λ m. record {
   table = subst IsTable (sym kept.table) m.table;
   slots = λ n. subst (λ s. IfSome (slot_in s.items n) CanGoBack) (sym slots) (m.slots n);
 })
+
+-- ---- whether they are on the list
+
+pub no_entry : (b : Bool) → not b ≡ true → b ≡ false
+no_entry true is = absurd (true≢false (sym is))
+no_entry false is = refl
+
+pub an_entry : (b : Bool) → not b ≡ false → b ≡ true
+an_entry true is = refl
+an_entry false is = absurd (true≢false is)
+
+module _ (memory : DomainMemory) (listed : memory.listed.items ≡ []) where
+  list_is : (staged_in memory).list ≡ memory.list.list
+  list_is = ap (λ l. list_with l memory.list.list) listed
+
+  pub names_them : (number : ℕ) (item : SlotItem) (first_tag : Option Home) (quota : Option CellAt) (its : CellAt) → slice_get memory.table.slots number ≡ Some item → item ≡ slot.Removed first_tag quota → quota ≡ Some its
+      → ((e : Entry) → Contains memory.list.list.entries e → ¬ e.at ≡ its) → HasQuotaCells memory number its
+  names_them number item first_tag quota its there is named none = record {
+    removed = subst IsRemoved (sym (there ∙ ap (λ (i : SlotItem). Some i) is)) tt;
+    quota = ap (option_and_then quota_of) (there ∙ ap (λ (i : SlotItem). Some i) is) ∙ named;
+    unlisted = subst (λ (l : Listing). HasNoEntry l its) (sym list_is) none;
+  }
+
+  pub not_these : (number : ℕ) (its : CellAt) → HasQuotaCells memory number its → (e : Entry) → Contains memory.list.list.entries e → ¬ e.at ≡ its
+  not_these number its cells e inside = cells.unlisted e (subst (λ (l : Listing). Contains l.entries e) (sym list_is) inside)
+
+pub on_err : {X E A B : Type 0} (r : Result X E) → (A → B) → OnErr r A → OnErr r B
+on_err (Ok x) f a = tt
+on_err (Err e) f a = f a

@@ -1,15 +1,14 @@
 -- Memory of a domain of which a quota cell of what is being removed goes stands for the same filesets.
-use Rattle.std.proofs.Common.{◌≡◌, ◌≤◌, ◌∙◌, ℕ, Option, Some, None, IsSomeAnd, length, slice_get, sym, ap, subst, ⊎_elim}
+use Rattle.std.proofs.Common.{◌≡◌, ◌≤◌, ◌∙◌, ℕ, Some, IsSomeAnd, length, sym, ap, subst}
 use Rattle.std.specs.FinMap.{get}
 use Rattle.free_space.specs.Spaces.{Spaces, kept_spaces}
 use Rattle.fileset_model.specs.Filesets.{FilesetMap}
-use Rattle.fileset_table.specs.Table.{Table}
 use Rattle.fileset_table.specs.declared.slot.FilesetEntry.{FilesetEntry}
 use Rattle.fileset_table.specs.declared.slot.SlotItem.TheVariants as slot
 use Rattle.deferred_delete.specs.Standing.{Files}
 use Rattle.quota_book.specs.Book.{Book}
 use Rattle.quota_book.specs.Sums.{IsBookOf}
-use Rattle.release_laws.specs.Chains.{IndexesAt, IsRemoved}
+use Rattle.release_laws.specs.Chains.{IndexesAt}
 use Rattle.release_laws.specs.Domain.{DomainNow, item_in}
 use Rattle.release_laws.specs.Leads.{StandsBelow}
 use Rattle.release_laws.specs.QuotaCells.{EndsQuotaOf, LosesQuotaOf}

@@ -7,10 +7,10 @@ use Rattle.domain_base.specs.declared.place.Home.{Home}
 use Rattle.page_store.specs.Pages.{Pages, same_home}
 use Rattle.bmt_mcells.specs.Cell.{Cell}
 use Rattle.bmt_mcells.specs.CellPage.{IsUsedAt, KeepsHeaders, KeepsWellFormed, home_of}
-use Rattle.bmt_mcells.specs.Chain.{LeavesOthers, PlacedCell, StandsAt, is_at}
+use Rattle.bmt_mcells.specs.Chain.{LeavesOthers, StandsAt, is_at}
 use Rattle.bmt_mcells.proofs.Frames.{stands_stays}
 use Rattle.free_cells.specs.Belong.{Belong}
-use Rattle.free_cells.specs.Cells.{Cells, FreesCell, is_closed, kept_of, table_of}
+use Rattle.free_cells.specs.Cells.{FreesCell, is_closed, kept_of, table_of}
 use Rattle.bitfile_cells.specs.Allocated.{AreAllocated}
 use Rattle.bitfile_cells.specs.Changes.{IsInUse}
 use Rattle.bitfile_cells.specs.MapChanges.{LeavesOffTables}
@@ -20,13 +20,11 @@ use Rattle.bitfile_cells.proofs.FewPages.{one_changes, then_changes}
 use Rattle.bitfile_cells.proofs.Still.{allocated_still}
 use Rattle.chain_release.proofs.Freed.{allocated_freed}
 use Rattle.deferred_delete.specs.Listing.{Listing}
-use Rattle.deferred_delete.specs.Standing.{Files, IsQuotas, IsStanding, with_file}
+use Rattle.deferred_delete.specs.Standing.{Files, IsStanding, with_file}
 use Rattle.deferred_delete.specs.Steps.{leads_to, now_of}
 use Rattle.deferred_delete.specs.declared.list.Entry.{Entry}
 use Rattle.deferred_delete.proofs.QuotaCells.{IsTwo, is_two, mid_belong, mid_used, quotas_after}
 use Rattle.deferred_delete.proofs.Standings.{standing}
-use Rattle.deferred_laws.specs.Kept.{HasNoEntry}
-use Rattle.release_laws.specs.QuotaCells.{LosesQuotaOf}
 use Rattle.free_space.specs.Spaces.{kept_spaces, volume_of}
 use Rattle.domain_parts.specs.Slots.{kept_book, kept_places, slot_in}
 use Rattle.domain_memory.specs.Kept.{KeepsKept}
@@ -34,7 +32,7 @@ use Rattle.domain_memory.specs.Memory.{with_was}
 use Rattle.staged_pages.specs.Store.{before_of, pages_of}
 use Rattle.domain_memory.specs.Staged.{staged_in}
 use Rattle.domain_memory.specs.declared.memory.DomainMemory.{DomainMemory}
-use Rattle.domain_stages.specs.QuotaCells.{BeginsQuotas, HasQuotaCells, LeadsOn, LosesSecond}
+use Rattle.domain_stages.specs.QuotaCells.{BeginsQuotas, LeadsOn, LosesSecond}
 
 module _ (old : DomainMemory) (at next : CellAt) (files : Files) (has : BeginsQuotas old at files) (leads : LeadsOn old at next) where
   abbrev entry : Entry

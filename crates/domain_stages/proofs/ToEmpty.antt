@@ -1,10 +1,11 @@
 -- What may be emptied of memory, or that nothing may be.
-use Rattle.std.proofs.Common.{◌≡◌, ◌∙◌, ◌<◌, ◌≤◌, ℕ, zero, suc, false, List, [], ◌∷◌, Option, Some, None, is_some, inr, length, slice_get, slice_set, refl, sym, ap, subst, arith, ⊎_elim, true≢false}
+use Rattle.std.proofs.Common.{◌≡◌, ◌∙◌, ◌<◌, ◌≤◌, ℕ, zero, suc, Bool, true, false, MatchBool, List, [], ◌∷◌, Option, Some, None, is_some, inl, inr, length, slice_get, slice_set, refl, sym, ap, subst, arith, ⊎_elim, true≢false}
 use Rattle.std.proofs.Math.Logic.{∥∥₁_map}
 use Rattle.std.proofs.lemmas.Bool.{cases_lt}
 use Rattle.std.proofs.lemmas.Option.{slice_get_past}
 use Rattle.std.specs.Option.{option_and_then}
 use Rattle.domain_base.specs.declared.place.CellAt.{CellAt}
+use Rattle.domain_base.specs.declared.place.Tag.{Tag}
 use Rattle.domain_base.specs.declared.place.Home.{Home}
 use Rattle.fileset_table.specs.Table.{IsTable, Table}
 use Rattle.fileset_table.specs.declared.slot.SlotItem.{SlotItem}
@@ -16,7 +17,8 @@ use Rattle.domain_memory.specs.Memory.{with_was}
 use Rattle.domain_memory.specs.Staged.{MayGoBack}
 use Rattle.domain_memory.specs.declared.memory.DomainMemory.{DomainMemory}
 use Rattle.domain_memory.specs.declared.memory.ReplacedSlot.{ReplacedSlot}
-use Rattle.domain_stages.specs.Emptying.{MayEmpty, NoneToEmpty}
+use Rattle.domain_stages.specs.Emptying.{HasNoQuota, IsUsedIn, IsUsedOrBare, MayEmpty, NoneToEmpty}
+use Rattle.domain_stages.specs.QuotaCells.{HasQuotaCells}
 
 -- ---- what has no quota cell
 
@@ -28,7 +30,7 @@ module _ (memory : DomainMemory) (number : ℕ) (item : SlotItem) (first_tag : O
   pub goes_away : IsRemoved (slice_get memory.table.slots number)
   goes_away = subst IsRemoved (sym (there ∙ ap (λ (i : SlotItem). Some i) is)) tt
 
-  pub may_be_freed : is_some quota ≡ false → memory.list.list.tag_pages ≡ [] → MayEmpty memory number
+  pub may_be_freed : is_some quota ≡ false → memory.list.list.tag_pages ≡ [] → IsUsedOrBare memory number
   may_be_freed none listed = record {
     removed = goes_away;
     some = inr (record {
@@ -57,3 +59,20 @@ none_may memory may n far before number empties = ⊎_elim
     (λ low. before number low empties)
     (λ high. subst IsRemoved (slice_get_past memory.table.slots number (omega (arith, table_whole memory may, far, high))) empties.removed)
     (cases_lt number n)
+
+-- ---- with quota cells, or without
+
+module _ (memory : DomainMemory) (number : ℕ) where
+  pub may_lose : (at : CellAt) × HasQuotaCells memory number at → MayEmpty memory number
+  may_lose q = record { removed = q.1.removed; some = inr (inl q) }
+
+  module _ (none : (at : CellAt) → ¬ HasQuotaCells memory number at) where
+    pub either : (b : Bool) → MatchBool b (IsUsedOrBare memory number) (¬ IsUsedOrBare memory number) → MatchBool b (MayEmpty memory number) (¬ MayEmpty memory number)
+    either true is = record { removed = is.removed; some = ⊎_elim (λ used. inl used) (λ bare. inr (inr bare)) is.some }
+    either false is_not = λ may. is_not (record {
+      removed = may.removed;
+      some = ⊎_elim (λ used. inl used) (λ rest. ⊎_elim (λ q. absurd (none q.0 q.1)) (λ bare. inr bare) rest) may.some;
+    })
+
+    pub bare_left : MayEmpty memory number → ((tag : Tag) → ¬ IsUsedIn memory number tag) → HasNoQuota memory number
+    bare_left may unused = ⊎_elim (λ used. absurd (unused used.0 used.1)) (λ rest. ⊎_elim (λ q. absurd (none q.0 q.1)) (λ bare. bare) rest) may.some

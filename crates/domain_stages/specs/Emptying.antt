@@ -31,6 +31,7 @@ use Rattle.domain_parts.specs.declared.slots.SlotFiles.{SlotFiles}
 use Rattle.domain_memory.specs.Staged.{MayBeKept}
 use Rattle.domain_memory.specs.declared.memory.DomainMemory.{DomainMemory}
 use Rattle.domain_stages.specs.LettingGo.{MayLetGo}
+use Rattle.domain_stages.specs.QuotaCells.{HasQuotaCells}
 use Rattle.fileset_model.specs.Filesets.{FilesetMap}
 
 -- the pages of the index that the first cell of a chain names, if it names one: each is used and
@@ -132,11 +133,19 @@ pub record FreesSlot (group number : ℕ) (d now : DomainNow) : Type 0 where
   pub cells : now.cells ≡ d.cells
   pub list : now.list ≡ d.list
 
--- what is being removed from a slot may be emptied by a change: a tag of it is used; or it has no
--- quota cell, and no page of a tag directory is on the list
-pub record MayEmpty (memory : DomainMemory) (number : ℕ) : Type 0 where
+-- of what is being removed from a slot a tag is used; or it has no quota cell, and no page of a tag
+-- directory is on the list
+pub record IsUsedOrBare (memory : DomainMemory) (number : ℕ) : Type 0 where
   pub removed : IsRemoved (slice_get memory.table.slots number)
   pub some : ((tag : Tag) × IsUsedIn memory number tag) ⊎ HasNoQuota memory number
+
+-- what is being removed from a slot may be emptied by a change: a tag of it is used; or it has
+-- quota cells, which are not on the list; or it has none, and no page of a tag directory is on
+-- the list
+pub record MayEmpty (memory : DomainMemory) (number : ℕ) : Type 0 where
+  pub removed : IsRemoved (slice_get memory.table.slots number)
+  pub some : ((tag : Tag) × IsUsedIn memory number tag)
+      ⊎ ((at : CellAt) × HasQuotaCells memory number at) ⊎ HasNoQuota memory number
 
 -- nothing that is being removed may be
 abbrev pub NoneToEmpty : DomainMemory → Type 0

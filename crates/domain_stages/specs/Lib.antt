@@ -3,8 +3,8 @@ pub mod Beginning
 pub mod Limits
 pub mod Charging
 pub mod LettingGo
-pub mod Emptying
 pub mod QuotaCells
+pub mod Emptying
 pub use Rattle.release_laws.specs.Domain
 pub use Rattle.release_laws.specs.Chains
 pub use Rattle.release_laws.specs.Holders

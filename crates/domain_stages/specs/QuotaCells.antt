@@ -1,4 +1,5 @@
--- Quota cells of what is being removed from slots of a domain's memory, which go one after the other.
+-- Quota cells of what is being removed from slots of a domain's memory, which go one after the
+-- other.
 use Rattle.std.specs.Prelude.{◌≡◌, ◌++◌, ◌∷◌, ℕ, [], None, Some}
 use Rattle.domain_base.specs.declared.place.CellAt.{CellAt}
 use Rattle.bmt_mcells.specs.Cell.{Cell}
@@ -19,8 +20,8 @@ pub record HasQuotaCells (memory : DomainMemory) (number : ℕ) (at : CellAt) : 
   pub quota : IsQuotaOf (staged_in memory) number at
   pub unlisted : HasNoEntry (staged_in memory).list at
 
--- with these files quota cells begin there, which may be let go of: as if they were the last thing on
--- the list
+-- with these files quota cells begin there, which may be let go of: as if they were the last
+-- thing on the list
 abbrev pub BeginsQuotas : DomainMemory → CellAt → Files → Type 0
 BeginsQuotas memory at files = HasQuotas (staged_in memory).list.entries
     (record { at = at; clone = None })

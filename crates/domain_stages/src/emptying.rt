@@ -1,6 +1,6 @@
 //! What is being removed from slots: tags of it that are taken out of use, and slots that come
 //! free.
-ghost use Rattle.std.specs.Prelude.{◌≡◌, ◌<◌, ◌≤◌, ℕ, false, None, Contains, IfNone, IfOk, IfSome, IsSome, IsSomeAnd, MatchBool, OnErr, OnOk, length, slice_get, slice_set};
+ghost use Rattle.std.specs.Prelude.{◌≡◌, ◌<◌, ◌≤◌, ℕ, false, None, Contains, IfNone, IfOk, IfSome, IsSome, IsSomeAnd, MatchBool, OnErr, OnOk, length, slice_get, slice_set, []};
 ghost use Rattle.domain_base.specs.declared.place.Home.{Home as HomeOf};
 ghost use Rattle.domain_base.specs.declared.place.Tag.{Tag as TagOf};
 ghost use Rattle.bitfile_core.specs.Changes.{IsLive};
@@ -17,9 +17,10 @@ ghost use Rattle.domain_memory.specs.Held.{held_open};
 ghost use Rattle.domain_memory.specs.Kept.{KeepsKept};
 ghost use Rattle.domain_memory.specs.Memory.{StandsFor};
 ghost use Rattle.domain_memory.specs.Staged.{IsSettled, MayBeKept, MayGoBack};
-ghost use Rattle.domain_stages.specs.Emptying.{HasIndexApart, HasNoQuota, IsUsedIn, MayBeKeptForAny, MayEmpty, MayTakeOut, NoneToEmpty, TakesOfFiles, TakesOut};
+ghost use Rattle.domain_stages.specs.Emptying.{HasIndexApart, HasNoQuota, IsUsedIn, IsUsedOrBare, MayBeKeptForAny, MayEmpty, MayTakeOut, NoneToEmpty, TakesOfFiles, TakesOut};
 ghost use Rattle.domain_stages.specs.LettingGo.{StandsForAny};
 
+use crate::quotas::{lose_or_take_back, names_quota_cells};
 use crate::table::put_in_table;
 use bitfile_core::Bitfiles;
 use domain_base::limits::FILESET_SLOTS;
@@ -272,9 +273,38 @@ fn free_slot(
     Ok(())
 }
 
+/// Makes one change of what is being removed from a slot, of which no tag is used: lets go of a
+/// quota cell of it or, where it has none, frees the slot. This change is to be kept. There may
+/// only be no memory, and then the domain stands for the same filesets still.
+fn end_slot(
+    memory: &mut DomainMemory,
+    alloc: Global,
+    number: FilesetNo,
+    group: u64,
+) -> Result<(), OutOfMemory>
+    requires settled { IsSettled memory.old }
+    requires stands { ∥ StandsForAny memory.old ∥₁ }
+    requires back { ∥ MayGoBack memory.old ∥₁ }
+    requires may { MayEmpty memory.old number }
+    requires unused { (tag : TagOf) → ¬ IsUsedIn memory.old number tag }
+    ensures ok { (all : FilesetMap) → StandsFor memory.old all
+        → OnOk result (MayBeKept memory.new all) }
+    ensures stands { (all : FilesetMap) → StandsFor memory.old all
+        → OnErr result (StandsFor memory.new all) }
+    ensures settled { OnErr result (IsSettled memory.new) }
+    ensures held { held_open memory.new.space ≤ held_open memory.old.space }
+    ensures back { ∥ MayGoBack memory.new ∥₁ }
+    ensures frame { memory.new.frame ≡ memory.old.frame }
+{
+    if names_quota_cells(memory, number) {
+        return lose_or_take_back(memory, alloc, number);
+    }
+    free_slot(memory, alloc, number, group)
+}
+
 /// Makes one change of what is being removed from a slot, and keeps it: takes some of its tags out
-/// of use, or frees the slot once none is used. The domain stands for the same filesets. There may
-/// only be no memory, and then too it stands for them.
+/// of use or, once none is used, lets go of a quota cell of it, or frees the slot. The domain
+/// stands for the same filesets. There may only be no memory, and then too it stands for them.
 fn empty_slot(
     memory: &mut DomainMemory,
     alloc: Global,
@@ -296,17 +326,19 @@ fn empty_slot(
         return Err(OutOfMemory);
     };
     if count == 0 {
-        free_slot(memory, alloc, number, group)?;
+        end_slot(memory, alloc, number, group)?;
     }
     memory.keep();
     Ok(())
 }
 
-/// Whether what is in a slot is being removed and may be emptied by a change. It takes no memory.
-fn may_empty_slot(memory: &DomainMemory, number: FilesetNo) -> bool
+/// Whether of what is being removed from a slot a tag is used, or it has no quota cell and no page
+/// of a tag directory is on the list. It takes no memory.
+fn is_used_or_bare(memory: &DomainMemory, number: FilesetNo) -> bool
     requires ready { ∥ MayBeKeptForAny memory.now ∥₁ }
     requires back { ∥ MayGoBack memory.now ∥₁ }
-    ensures { MatchBool result (MayEmpty memory.now number) (¬ MayEmpty memory.now number) }
+    ensures { MatchBool result (IsUsedOrBare memory.now number)
+        (¬ IsUsedOrBare memory.now number) }
 {
     match memory.table.slot(number) {
         SlotItem::Removed { quota, .. } => {
@@ -317,10 +349,24 @@ fn may_empty_slot(memory: &DomainMemory, number: FilesetNo) -> bool
     }
 }
 
+/// Whether what is in a slot is being removed and may be emptied by a change. It takes no memory.
+fn may_empty_slot(memory: &DomainMemory, number: FilesetNo) -> bool
+    requires ready { ∥ MayBeKeptForAny memory.now ∥₁ }
+    requires back { ∥ MayGoBack memory.now ∥₁ }
+    requires listed { memory.now.listed.items ≡ [] }
+    ensures { MatchBool result (MayEmpty memory.now number) (¬ MayEmpty memory.now number) }
+{
+    if names_quota_cells(memory, number) {
+        return true;
+    }
+    is_used_or_bare(memory, number)
+}
+
 /// The first slot of what may be emptied so; None exactly where none is.
 fn slot_to_empty(memory: &DomainMemory) -> Option<FilesetNo>
     requires ready { ∥ MayBeKeptForAny memory.now ∥₁ }
     requires back { ∥ MayGoBack memory.now ∥₁ }
+    requires listed { memory.now.listed.items ≡ [] }
     ensures some { IfSome result (MayEmpty memory.now) }
     ensures none { IfNone result (NoneToEmpty memory.now) }
 {
@@ -344,10 +390,10 @@ pub fn may_empty(memory: &DomainMemory) -> bool
 }
 
 /// Makes one change of what is being removed from the first slot that may be emptied, and keeps it:
-/// takes tags of it out of use, fourteen at most, of which the files come on the list, or frees the
-/// slot. The domain stands for the same filesets, and no page more is held. It answers whether there
-/// was one; if not, nothing changes. There may only be no memory, and then too the domain stands
-/// for them.
+/// takes tags of it out of use, fourteen at most, of which the files come on the list, lets go of a
+/// quota cell, or frees the slot. The domain stands for the same filesets, and no page more is
+/// held. It answers whether there was one; if not, nothing changes. There may only be no memory,
+/// and then too the domain stands for them.
 pub fn empty_some(memory: &mut DomainMemory, alloc: Global, group: u64) -> Result<bool, OutOfMemory>
     requires settled { IsSettled memory.old }
     requires stands { ∥ StandsForAny memory.old ∥₁ }

@@ -1,5 +1,5 @@
 //! Quota cells of what is being removed from slots, which go one after the other.
-ghost use Rattle.std.specs.Prelude.{◌≡◌, ◌≤◌, ℕ, false, None, Some, OnErr, OnOk, slice_get};
+ghost use Rattle.std.specs.Prelude.{◌≡◌, ◌≤◌, ℕ, false, true, [], None, Some, Contains, OnErr, OnOk, slice_get};
 ghost use Rattle.domain_base.specs.declared.place.Home.{Home as HomeOf};
 ghost use Rattle.page_store.specs.Pages.{same_home};
 ghost use Rattle.bmt_mcells.specs.Cell.{Cell};
@@ -7,6 +7,9 @@ ghost use Rattle.bmt_mcells.specs.CellPage.{KeepsHeaders, KeepsWellFormed, home_
 ghost use Rattle.bmt_mcells.specs.Chain.{LeavesOthers, StandsAt, is_at};
 ghost use Rattle.bitfile_cells.specs.Changes.{IsInUse};
 ghost use Rattle.deferred_delete.specs.Standing.{Files};
+ghost use Rattle.deferred_delete.specs.declared.list.Entry.{Entry as EntryOf};
+ghost use Rattle.domain_memory.specs.Memory.{StandsFor};
+ghost use Rattle.domain_stages.specs.LettingGo.{StandsForAny};
 ghost use Rattle.domain_memory.specs.Kept.{KeepsKept};
 ghost use Rattle.fileset_table.specs.Table.{IsTable, with_slot};
 ghost use Rattle.fileset_table.specs.declared.slot.SlotItem.TheVariants as slot;
@@ -14,13 +17,14 @@ ghost use Rattle.domain_stages.specs.Table.{HasTablePage};
 ghost use Rattle.domain_base.specs.declared.place.CellAt.{CellAt as CellAtOf};
 ghost use Rattle.fileset_model.specs.Filesets.{FilesetMap};
 ghost use Rattle.domain_memory.specs.Held.{held_open};
-ghost use Rattle.domain_memory.specs.Staged.{MayBeKept, MayGoBack};
+ghost use Rattle.domain_memory.specs.Staged.{IsSettled, MayBeKept, MayGoBack};
 ghost use Rattle.domain_stages.specs.Emptying.{MayBeKeptForAny};
 ghost use Rattle.domain_stages.specs.QuotaCells.{BeginsQuotas, HasQuotaCells, LeadsNowhere, LeadsOn, LosesLast, LosesSecond};
 
 use crate::table::put_in_table;
 use bitfile_cells::next_cell;
 use bmt_mcells::{CellHead, read_used, write_cell};
+use deferred_delete::Entry;
 use domain_base::{CellAt, FilesetNo, Home, OutOfMemory};
 use domain_memory::DomainMemory;
 use fileset_table::SlotItem;
@@ -151,4 +155,62 @@ pub(crate) fn lose_quota_cell(
         Some(next) => lose_second(memory, alloc, &at, &next),
         None => lose_last(memory, alloc, number, first_tag, at),
     }
+}
+
+/// Whether an entry of the list begins there.
+fn is_listed(entries: &[Entry], at: &CellAt) -> bool
+    ensures listed { result ≡ true → (entry : EntryOf) × Contains entries.now entry
+        × (entry.at ≡ at.now) }
+    ensures none { result ≡ false → (entry : EntryOf) → Contains entries.now entry
+        → ¬ entry.at ≡ at.now }
+{
+    for entry in entries {
+        if entry.at == *at {
+            return true;
+        }
+    }
+    false
+}
+
+/// Whether the slot of what is being removed names quota cells that are not on the list. It takes
+/// no memory.
+pub(crate) fn names_quota_cells(memory: &DomainMemory, number: FilesetNo) -> bool
+    requires { memory.now.listed.items ≡ [] }
+    ensures some { result ≡ true → (at : CellAtOf) × HasQuotaCells memory.now number at }
+    ensures none { result ≡ false → (at : CellAtOf) → ¬ HasQuotaCells memory.now number at }
+{
+    let SlotItem::Removed { quota, .. } = memory.table.slot(number) else {
+        return false;
+    };
+    match quota {
+        Some(at) => !is_listed(memory.list.entries(), at),
+        None => false,
+    }
+}
+
+/// Lets go of one of the quota cells that the slot of what is being removed names; where memory was
+/// short, all is as it was.
+pub(crate) fn lose_or_take_back(
+    memory: &mut DomainMemory,
+    alloc: Global,
+    number: FilesetNo,
+) -> Result<(), OutOfMemory>
+    requires settled { IsSettled memory.old }
+    requires stands { ∥ StandsForAny memory.old ∥₁ }
+    requires back { ∥ MayGoBack memory.old ∥₁ }
+    requires quota { (at : CellAtOf) × HasQuotaCells memory.old number at }
+    ensures ok { (all : FilesetMap) → StandsFor memory.old all
+        → OnOk result (MayBeKept memory.new all) }
+    ensures stands { (all : FilesetMap) → StandsFor memory.old all
+        → OnErr result (StandsFor memory.new all) }
+    ensures settled { OnErr result (IsSettled memory.new) }
+    ensures held { held_open memory.new.space ≤ held_open memory.old.space }
+    ensures back { ∥ MayGoBack memory.new ∥₁ }
+    ensures frame { memory.new.frame ≡ memory.old.frame }
+{
+    let Ok(()) = lose_quota_cell(memory, alloc, number) else {
+        memory.take_back();
+        return Err(OutOfMemory);
+    };
+    Ok(())
 }

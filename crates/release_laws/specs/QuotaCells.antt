@@ -17,8 +17,8 @@ use Rattle.deferred_laws.specs.Kept.{HasNoEntry}
 use Rattle.domain_standing.specs.Chains.{IsQuotaOf, IsRemoved}
 use Rattle.domain_standing.specs.Domain.{DomainNow, item_in}
 
--- of the quota cells that the slot of what is being removed names, and that are not on the list, the
--- second goes: it is free, and the first leads past it. Nothing else changes
+-- of the quota cells that the slot of what is being removed names, and that are not on the list,
+-- the second goes: it is free, and the first leads past it. Nothing else changes
 pub record LosesQuotaOf (number : ℕ) (d now : DomainNow) (files files_now : Files) : Type 0 where
   pub at : CellAt
   pub quota : IsQuotaOf d number at

@@ -45,8 +45,8 @@ pub fn filesets_stand_where_a_quota_cell_goes()
 {}
 
 /// Where a domain stands, it does so once the last of the quota cells of what is being removed is
-/// free and its slot names none any more; and no file is read through another one, and what rules of
-/// pages ask beside stays so.
+/// free and its slot names none any more; and no file is read through another one, and what rules
+/// of pages ask beside stays so.
 pub fn a_domain_stands_on_where_the_last_quota_cell_goes()
     ensures below { (d now : DomainNow) (files files_now : Files) (indexes : IndexesAt)
         → StandsBelow d files indexes → StandAlone d → (number : ℕ)

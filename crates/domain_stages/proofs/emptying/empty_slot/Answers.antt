@@ -6,10 +6,11 @@ use Rattle.domain_memory.specs.Held.{held_open}
 use Rattle.domain_memory.specs.Memory.{StandsFor}
 use Rattle.domain_memory.specs.Staged.{IsStagedForSome, MayBeKept}
 use Rattle.domain_memory.specs.declared.memory.DomainMemory.{DomainMemory}
+use Rattle.domain_stages.specs.Emptying.{MayEmpty}
 use Rattle.domain_stages.specs.LettingGo.{StandsForAny}
 use Rattle.domain_stages.proofs.HeldStill.{back_held, kept_held}
 use Rattle.domain_stages.proofs.emptying.empty_slot.Goals as goal
-use Rattle.domain_stages.proofs.emptying.empty_slot.Goals.{then-count-eq0+in_ok-free_slot, else-count-eq0}
+use Rattle.domain_stages.proofs.emptying.empty_slot.Goals.{then-count-eq0+in_ok-end_slot, else-count-eq0}
 
 pub take_tags_out-requires-clause-ready : goal.take_tags_out-requires-clause-ready
 take_tags_out-requires-clause-ready c = ∥∥₁_map c.requires.stands (λ s. (s.0, settled_kept c.args.memory.now s.0 c.requires.settled s.1))
@@ -19,17 +20,27 @@ returns-in_default-clause-stands c = λ all stood.
     stands_still c.take_tags_out.new.memory c.take_back.new.self all c.take_back.ensures.kept c.take_back.ensures.books
     (stands_so c.args.memory.now c.take_tags_out.new.memory c.in_default.ensures.kept all stood)
 
-pub free_slot-requires-clause-stands : goal.free_slot-requires-clause-stands
-free_slot-requires-clause-stands c =
+pub end_slot-requires-clause-stands : goal.end_slot-requires-clause-stands
+end_slot-requires-clause-stands c =
     let zero : c.in-Ok.count ≡ 0 = omega (arith, c.if-count-eq0.true) in
     subst (λ (m : DomainMemory). ∥ StandsForAny m ∥₁) (sym (c.in-Ok.ensures.same zero)) c.requires.stands
 
+pub end_slot-requires-clause-may : goal.end_slot-requires-clause-may
+end_slot-requires-clause-may c =
+    let zero : c.in-Ok.count ≡ 0 = omega (arith, c.if-count-eq0.true) in
+    subst (λ (m : DomainMemory). MayEmpty m c.args.number) (sym (c.in-Ok.ensures.same zero)) c.requires.may
+
+pub returns-in_err-end_slot-clause-stands : goal.returns-in_err-end_slot-clause-stands
+returns-in_err-end_slot-clause-stands c = λ all stood.
+    let zero : c.in-Ok.count ≡ 0 = omega (arith, c.if-count-eq0.true) in
+    c.in_err-end_slot.ensures.stands all (subst (λ (m : DomainMemory). StandsFor m all) (sym (c.in-Ok.ensures.same zero)) stood)
+
 pub keep-requires-clause-staged : goal.keep-requires-clause-staged
 keep-requires-clause-staged c = elim c.if-count-eq0.branch [
-  | then-count-eq0+in_ok-free_slot w ↦
+  | then-count-eq0+in_ok-end_slot w ↦
       let zero : c.in-Ok.count ≡ 0 = omega (arith, w.if-count-eq0.true) in
       subst (λ (m : DomainMemory). ∥ IsStagedForSome m ∥₁) (sym w.memory-is)
-      (∥∥₁_map c.requires.stands (λ s. (s.0, (w.in_ok-free_slot.ensures.ok s.0 (subst (λ (m : DomainMemory). StandsFor m s.0) (sym (c.in-Ok.ensures.same zero)) s.1)).staged)))
+      (∥∥₁_map c.requires.stands (λ s. (s.0, (w.in_ok-end_slot.ensures.ok s.0 (subst (λ (m : DomainMemory). StandsFor m s.0) (sym (c.in-Ok.ensures.same zero)) s.1)).staged)))
   | else-count-eq0 w ↦
       subst (λ (m : DomainMemory). ∥ IsStagedForSome m ∥₁) (sym w.memory-is)
       (∥∥₁_map c.requires.stands (λ s. (s.0, (c.in-Ok.ensures.ok s.0 (settled_kept c.args.memory.now s.0 c.requires.settled s.1)).staged)))
@@ -37,10 +48,10 @@ keep-requires-clause-staged c = elim c.if-count-eq0.branch [
 
 pub returns-clause-stands : goal.returns-clause-stands
 returns-clause-stands c = λ all stood. c.keep.ensures.stands all (elim c.if-count-eq0.branch [
-  | then-count-eq0+in_ok-free_slot w ↦
+  | then-count-eq0+in_ok-end_slot w ↦
       let zero : c.in-Ok.count ≡ 0 = omega (arith, w.if-count-eq0.true) in
       subst (λ (m : DomainMemory). MayBeKept m all) (sym w.memory-is)
-      (w.in_ok-free_slot.ensures.ok all (subst (λ (m : DomainMemory). StandsFor m all) (sym (c.in-Ok.ensures.same zero)) stood))
+      (w.in_ok-end_slot.ensures.ok all (subst (λ (m : DomainMemory). StandsFor m all) (sym (c.in-Ok.ensures.same zero)) stood))
   | else-count-eq0 w ↦
       subst (λ (m : DomainMemory). MayBeKept m all) (sym w.memory-is) (c.in-Ok.ensures.ok all (settled_kept c.args.memory.now all c.requires.settled stood))
 ])
@@ -53,6 +64,6 @@ pub returns-clause-held : goal.returns-clause-held
 returns-clause-held c =
     let most = held_open c.args.memory.now.space in
     kept_held most c.if-count-eq0.memory c.keep.new.self c.keep.ensures.space (elim c.if-count-eq0.branch [
-      | then-count-eq0+in_ok-free_slot w ↦ subst (λ (m : DomainMemory). held_open m.space ≤ most) (sym w.memory-is) (omega (arith, c.in-Ok.ensures.held, w.in_ok-free_slot.ensures.held))
+      | then-count-eq0+in_ok-end_slot w ↦ subst (λ (m : DomainMemory). held_open m.space ≤ most) (sym w.memory-is) (omega (arith, c.in-Ok.ensures.held, w.in_ok-end_slot.ensures.held))
       | else-count-eq0 w ↦ subst (λ (m : DomainMemory). held_open m.space ≤ most) (sym w.memory-is) c.in-Ok.ensures.held
     ])

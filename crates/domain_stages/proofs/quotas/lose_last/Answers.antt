@@ -1,4 +1,4 @@
-use Rattle.std.proofs.Common.{◌≡◌, None, ◌∙◌, refl}
+use Rattle.std.proofs.Common.{None, refl}
 use Rattle.fileset_table.specs.declared.slot.SlotItem.TheVariants as slot
 use Rattle.domain_memory.proofs.KeptStands.{kept_joined}
 use Rattle.domain_memory.specs.declared.memory.DomainMemory.{DomainMemory}

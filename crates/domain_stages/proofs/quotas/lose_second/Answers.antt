@@ -1,7 +1,7 @@
 use Rattle.std.proofs.Common.{refl}
 use Rattle.staged_pages.specs.Store.{pages_of}
 use Rattle.domain_memory.specs.declared.memory.DomainMemory.{DomainMemory}
-use Rattle.domain_stages.proofs.QuotaTaken.{belong_then, first_in_use, kept_without, next_in_use, next_on, second_lost, used_then}
+use Rattle.domain_stages.proofs.QuotaTaken.{belong_then, first_in_use, next_in_use, next_on, second_lost, used_then}
 use Rattle.domain_stages.proofs.quotas.lose_second.Goals as goal
 
 pub lead_past-requires-clause-first : goal.lead_past-requires-clause-first

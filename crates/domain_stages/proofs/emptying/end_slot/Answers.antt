@@ -1,0 +1,16 @@
+use Rattle.std.proofs.Common.{subst, sym}
+use Rattle.domain_memory.specs.Memory.{StandsFor}
+use Rattle.domain_memory.specs.Staged.{IsSettled}
+use Rattle.domain_memory.specs.declared.memory.DomainMemory.{DomainMemory}
+use Rattle.domain_stages.proofs.QuotaBegins.{on_err}
+use Rattle.domain_stages.proofs.ToEmpty.{bare_left}
+use Rattle.domain_stages.proofs.emptying.end_slot.Goals as goal
+
+pub free_slot-requires-clause-quota : goal.free_slot-requires-clause-quota
+free_slot-requires-clause-quota c = bare_left c.args.memory.now c.args.number (c.names_quota_cells.ensures.none c.if-names_quota_cells.false) c.requires.may c.requires.unused
+
+pub returns-clause-stands : goal.returns-clause-stands
+returns-clause-stands c = λ all stood. on_err c.free_slot.result (λ same. subst (λ (m : DomainMemory). StandsFor m all) (sym same) stood) c.free_slot.ensures.err
+
+pub returns-clause-settled : goal.returns-clause-settled
+returns-clause-settled c = on_err c.free_slot.result (λ same. subst IsSettled (sym same) c.requires.settled) c.free_slot.ensures.err
