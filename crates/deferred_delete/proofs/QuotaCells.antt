@@ -271,24 +271,24 @@ module _ (list : Listing) (front : List Entry) (files : Files) (entry : Entry) (
 
     module _ (stands : StandsAt mid entry.at (leads_to two.second.cell.head.next two.first).cell) (leaves_off : (home : Home) → same_home home (home_of entry.at) ≡ false → mid home ≡ old home) (cells_now : Cells) (new : Pages) (frees : FreesCell next cells cells_now) (clears : LeavesOthers (is_at next) mid new)
         (belong : Belong cells_now new) (good_now : KeepsWellFormed mid new) (headers_now : KeepsHeaders mid new) (clears_off : (home : Home) → same_home home (home_of next) ≡ false → new home ≡ mid home) where
-      mid_allocated : AreAllocated space cells mid
+      pub mid_allocated : AreAllocated space cells mid
       mid_allocated = allocated_still space cells old mid has.has.well.together.allocated good headers (is_at entry.at) leaves (λ q free. at_apart entry.at q (λ same. not_zeros old q entry.at two.first.cell (has.has.well.together.allocated.belong.zeros q free) first_stands_there (sym same)))
 
-      allocated : AreAllocated space cells_now new
+      pub allocated : AreAllocated space cells_now new
       allocated = allocated_freed next space cells cells_now mid new mid_allocated frees belong headers_now
 
-      others : LeavesOthers (λ q. is_at two.first.at q || is_at two.second.at q) old new
+      pub others : LeavesOthers (λ q. is_at two.first.at q || is_at two.second.at q) old new
       others q apart =
           let both = or_parts (is_at two.first.at q) (is_at two.second.at q) apart in
           clears q (subst (λ (a : CellAt). is_at a q ≡ false) two.at_next both.1) ∙ leaves q (subst (λ (a : CellAt). is_at a q ≡ false) two.quotas.0 both.0)
 
-      elsewhere : LeavesOffTables cells_now old new
+      pub elsewhere : LeavesOffTables cells_now old new
       elsewhere home off =
           let out : ¬ Contains (table_of cells home.vol) home.page = (λ on. off (subst (λ (t : List ℕ). Contains t home.page) (sym (frees.tables home.vol)) on)) in
           clears_off home (off_table cells next home next_on out)
           ∙ leaves_off home (off_table cells entry.at home (subst (λ (a : CellAt). Contains (table_of cells a.vol) a.page) two.quotas.0 on.on_tables.0) out)
 
-      stands_now : StandsAt new two.first.at (leads_to two.second.cell.head.next two.first).cell
+      pub stands_now : StandsAt new two.first.at (leads_to two.second.cell.head.next two.first).cell
       stands_now = subst (λ (a : CellAt). StandsAt new a (leads_to two.second.cell.head.next two.first).cell) (sym two.quotas.0)
           (stands_stays mid new (is_at next) clears entry.at (leads_to two.second.cell.head.next two.first).cell (at_apart next entry.at (λ same. differ (sym same))) stands)
 

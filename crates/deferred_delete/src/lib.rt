@@ -13,3 +13,4 @@ mod went;
 
 pub use deferred::Deferred;
 pub use list::Entry;
+pub use quotas::lead_past;

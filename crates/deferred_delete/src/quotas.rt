@@ -25,7 +25,7 @@ use std::alloc::Global;
 
 /// Writes a cell so that it leads past another one, to what comes next to that. After an error
 /// nothing has changed.
-fn lead_past<M: MetaPages>(
+pub fn lead_past<M: MetaPages>(
     alloc: Global,
     pages: &mut M,
     at: &CellAt,
