@@ -84,7 +84,7 @@ module _ (left : Option (List ℕ)) (read : List ℕ) (history : List Entry) (no
   unread_ends (a_form.Try pages) old new status.OutOfMemory run gets = tt
   unread_ends (a_form.Try pages) old new (status.VolumeSmall n) run gets = absurd gets
   unread_ends (a_form.Try pages) old new (status.Unfit why) run gets = absurd gets
-  unread_ends a_form.Run old new status.Ok run gets = tt
+  unread_ends a_form.Run old new status.Ok run gets = absurd gets
   unread_ends a_form.Run old new (status.Usage word) run gets = tt
   unread_ends a_form.Run old new status.SourceFault run gets = tt
   unread_ends a_form.Run old new status.TooLong run gets = tt
@@ -185,7 +185,7 @@ unbegun_ends (a_form.Try pages) old new (status.Found faults) not_begun = not_be
 unbegun_ends (a_form.Try pages) old new status.OutOfMemory not_begun = tt
 unbegun_ends (a_form.Try pages) old new (status.VolumeSmall n) not_begun = not_begun
 unbegun_ends (a_form.Try pages) old new (status.Unfit why) not_begun = not_begun
-unbegun_ends a_form.Run old new status.Ok not_begun = tt
+unbegun_ends a_form.Run old new status.Ok not_begun = absurd not_begun
 unbegun_ends a_form.Run old new (status.Usage word) not_begun = tt
 unbegun_ends a_form.Run old new status.SourceFault not_begun = tt
 unbegun_ends a_form.Run old new status.TooLong not_begun = tt
@@ -258,7 +258,7 @@ closed_read left read history old new (status.VolumeSmall n) is closed = absurd 
 closed_read left read history old new (status.Unfit why) is closed = absurd closed
 
 closed_ends : (form : Form) (old new : Disk) (end : Status) → IsRun (Ok form) → IsLargeFor form old → ClosesAs old new end → EndsFor (Ok form) old new end
-closed_ends (a_form.Try pages) old new status.Ok run large closed = large
+closed_ends (a_form.Try pages) old new status.Ok run large closed = (large, closed)
 closed_ends (a_form.Try pages) old new (status.Usage word) run large closed = tt
 closed_ends (a_form.Try pages) old new status.SourceFault run large closed = tt
 closed_ends (a_form.Try pages) old new status.TooLong run large closed = tt
@@ -270,7 +270,7 @@ closed_ends (a_form.Try pages) old new (status.Found faults) run large closed = 
 closed_ends (a_form.Try pages) old new status.OutOfMemory run large closed = tt
 closed_ends (a_form.Try pages) old new (status.VolumeSmall n) run large closed = absurd closed
 closed_ends (a_form.Try pages) old new (status.Unfit why) run large closed = closed
-closed_ends a_form.Run old new status.Ok run large closed = tt
+closed_ends a_form.Run old new status.Ok run large closed = closed
 closed_ends a_form.Run old new (status.Usage word) run large closed = tt
 closed_ends a_form.Run old new status.SourceFault run large closed = tt
 closed_ends a_form.Run old new status.TooLong run large closed = tt

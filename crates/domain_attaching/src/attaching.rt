@@ -1,5 +1,6 @@
 //! Attaching a domain.
 ghost use Rattle.std.specs.Prelude.{◌≡◌, IfErr, IfOk};
+ghost use Rattle.disk_label.specs.Fault.{HasPassed};
 ghost use Rattle.domain_layout.specs.Read.{Means};
 ghost use Rattle.fileset_model.specs.Filesets.{FilesetMap};
 ghost use Rattle.volume_disk.specs.Disk.{Tells};
@@ -46,6 +47,8 @@ pub fn attach<R: Rack>(alloc: Global, rack: R) -> Result<Attached<R>, (R, Attach
         StaysReadSince (R.disk rack) (R.disk back.0)) }
     ensures touches { IfOk result (λ attached.
         Touches (R.disk rack) (R.disk attached.rack) Anywhere) }
+    ensures passed { IfOk result (λ attached.
+        HasPassed (R.disk rack) (R.disk attached.rack)) }
     ensures touches_at_fault { IfErr result (λ back.
         Touches (R.disk rack) (R.disk back.0) Anywhere) }
     ensures none { IfOk result (λ attached.

@@ -1,5 +1,6 @@
 //! The log of a domain whose memory was brought, settled.
 ghost use Rattle.std.specs.Prelude.{◌≡◌, IfErr, IfOk};
+ghost use Rattle.disk_label.specs.Fault.{HasPassed};
 ghost use Rattle.log_recovery.specs.Outcome.{IsSound};
 ghost use Rattle.log_settling.specs.Settling.{Anywhere, IsBehindAll, StandsAtHome, StaysRead};
 ghost use Rattle.volume_disk.specs.Disk.{IsSettled, Tells};
@@ -35,6 +36,7 @@ fn settle_groups<R: Rack>(rack: &mut R, redone: &Redone) -> Result<Anchor, Settl
     ensures anchor { IfOk result (λ anchor. anchor ≡ rested_anchor redone.now) }
     ensures behind { IfOk result (IsBehindAll (R.disk rack.new)) }
     ensures home { IfOk result (λ _. StandsAtHome (R.disk rack.old) (R.disk rack.new)) }
+    ensures passed { IfOk result (λ _. HasPassed (R.disk rack.old) (R.disk rack.new)) }
     ensures any_moment { StaysRead (R.disk rack.old) (R.disk rack.new) }
     ensures touches { Touches (R.disk rack.old) (R.disk rack.new) Anywhere }
     ensures none { HasNoGroups redone.now → R.disk rack.new ≡ R.disk rack.old }
@@ -54,6 +56,7 @@ fn settle_synced<R: Rack>(rack: &mut R, redone: &Redone) -> Result<Anchor, Settl
     ensures anchor { IfOk result (λ anchor. anchor ≡ rested_anchor redone.now) }
     ensures rest { IfOk result (IsAtRest (R.disk rack.new)) }
     ensures home { IfOk result (λ _. StandsAtHome (R.disk rack.old) (R.disk rack.new)) }
+    ensures passed { IfOk result (λ _. HasPassed (R.disk rack.old) (R.disk rack.new)) }
     ensures any_moment { StaysReadSince (R.disk rack.old) (R.disk rack.new) }
     ensures none { HasNoGroups redone.now → Touches (R.disk rack.old) (R.disk rack.new) NoPlace }
     ensures touches { Touches (R.disk rack.old) (R.disk rack.new) Anywhere }
@@ -77,6 +80,7 @@ pub(crate) fn attach_brought<R: Rack>(
     ensures memory { IfOk result (λ attached. attached.memory
         ≡ with_anchor (rested_anchor found.redone) found.memory) }
     ensures home { IfOk result (λ attached. StandsAtHome (R.disk rack) (R.disk attached.rack)) }
+    ensures passed { IfOk result (λ attached. HasPassed (R.disk rack) (R.disk attached.rack)) }
     ensures any_moment { IfOk result (λ attached.
         StaysReadSince (R.disk rack) (R.disk attached.rack)) }
     ensures any_moment_of_fault { IfErr result (λ back.

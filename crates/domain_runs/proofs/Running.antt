@@ -31,7 +31,7 @@ use Rattle.domain_attaching.specs.declared.closing_fault.CloseFault.TheVariants.
 use Rattle.domain_attaching.proofs.OneMeaning.{reads_so}
 use Rattle.run_parts.specs.declared.status.Status.{Status}
 use Rattle.run_parts.specs.declared.status.Status.TheVariants as status
-use Rattle.domain_runs.specs.Runs.{AreStampedWithin, ClosesAs, HasFailed, LeadsFrom, LeadsFromNew, RunsFrom}
+use Rattle.domain_runs.specs.Runs.{AreStampedWithin, ClosesAs, HasFailed, LeadsFrom, LeadsFromNew, NoneFailed, RunsFrom}
 use Rattle.domain_runs.specs.Statuses.{status_of_close}
 
 -- ---- where a history leads
@@ -109,11 +109,11 @@ failed_since old mid new vol touches = ⊎_elim
     (λ read. inl (HasRisen-before (old.read_faults vol) (mid.read_faults vol) (new.read_faults vol) (touches.read_faults vol) read))
     (λ wrote. inr (HasRisen-before (old.write_faults vol) (mid.write_faults vol) (new.write_faults vol) (touches.write_faults vol) wrote))
 
-pub closes_since : (old mid new : Disk) (end : Status) → Touches old mid Anywhere → ClosesAs mid new end → ClosesAs old new end
-closes_since old mid new status.Ok touches closes = tt
-closes_since old mid new (status.VolumeFault vol) touches closes = failed_since old mid new vol touches closes
-closes_since old mid new status.OutOfMemory touches closes = tt
-closes_since old mid new other touches closes = closes
+pub closes_since : (old mid new : Disk) (end : Status) → Touches old mid Anywhere → NoneFailed old mid → ClosesAs mid new end → ClosesAs old new end
+closes_since old mid new status.Ok touches passed closes = (closes.0 ∙ passed.0, closes.1 ∙ passed.1)
+closes_since old mid new (status.VolumeFault vol) touches passed closes = failed_since old mid new vol touches closes
+closes_since old mid new status.OutOfMemory touches passed closes = tt
+closes_since old mid new other touches passed closes = closes
 
 -- a domain that was not closed has not ended well
 pub closes_not : (fault : CloseFault) (end : Status) → end ≡ status_of_close fault → end ≡ status.Ok → ⊥

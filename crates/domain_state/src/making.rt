@@ -4,6 +4,7 @@ ghost use Rattle.std.specs.FinMap.{empty};
 ghost use Rattle.domain_base.specs.Limits.{min_first_volume_pages};
 ghost use Rattle.volume_disk.specs.Disk.{HasVolume, Tells, volume_pages};
 ghost use Rattle.volume_disk.specs.Run.{LeavesOnly, Touches};
+ghost use Rattle.disk_label.specs.Fault.{HasPassed};
 ghost use Rattle.staged_pages.specs.Store.{before_of};
 ghost use Rattle.layout_laws.specs.NewDomain.{IsNew};
 ghost use Rattle.page_ways.specs.Frame.{frame_in};
@@ -79,6 +80,8 @@ pub fn make<R: Rack>(
         IfOk result (λ attached. frame_in attached.memory.frame ≡ new_frame version pages) }
     ensures touches { IfOk result (λ attached. Touches (R.disk rack) (R.disk attached.rack)
         IsOnFirst) }
+    ensures passed { IfOk result (λ attached.
+        HasPassed (R.disk rack) (R.disk attached.rack)) }
     ensures any_moment { let old = R.disk rack in
         let pages = pages_in_use version old.sizes in Tells old → AreSlotsReady old
         → IfOk result (λ attached. LeavesOnly old (R.disk attached.rack)

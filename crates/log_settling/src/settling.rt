@@ -1,5 +1,6 @@
 //! A log that was recovered, settled.
 ghost use Rattle.std.specs.Prelude.{◌≡◌, [], IfErr, IfOk, List};
+ghost use Rattle.disk_label.specs.Fault.{HasPassed};
 ghost use Rattle.log_recovery.specs.Outcome.{HasRecovered, IsSound};
 ghost use Rattle.log_recovery.specs.Settled.{settled_anchor};
 ghost use Rattle.log_ring.specs.Groups.{Group};
@@ -30,6 +31,7 @@ pub fn settle_log<R: Rack>(rack: &mut R, redone: &Redone) -> Result<Anchor, Sett
     ensures behind { IfOk result (IsBehindAll (R.disk rack.new)) }
     ensures home { IfOk result (λ _. StandsAtHome (R.disk rack.old) (R.disk rack.new)) }
     ensures any_moment { StaysRead (R.disk rack.old) (R.disk rack.new) }
+    ensures passed { IfOk result (λ _. HasPassed (R.disk rack.old) (R.disk rack.new)) }
     ensures touches { Touches (R.disk rack.old) (R.disk rack.new) Anywhere }
     ensures cause { IfErr result (HasCause (R.disk rack.old) (R.disk rack.new) redone.now) }
 {

@@ -3,6 +3,7 @@ use Rattle.fileset_model.specs.Filesets.{FilesetMap}
 use Rattle.volume_disk.specs.Disk.{Tells}
 use Rattle.volume_disk.specs.Image.{NoPlace}
 use Rattle.volume_disk.specs.Run.{OnlyReads, Touches}
+use Rattle.disk_label.specs.Fault.{HasPassed}
 use Rattle.staged_pages.specs.Store.{before_of}
 use Rattle.log_settling.specs.Settling.{Anywhere, StandsAtHome}
 use Rattle.log_settling.proofs.Settled.{anywhere, anywhere_then}
@@ -13,6 +14,7 @@ use Rattle.domain_bringing.specs.Fault.{IsNoDomain}
 use Rattle.domain_attaching.specs.Attaching.{HasCause, IfNotADomain, IfNotFit, IsBroughtMemory, IsReadFrom, IsUnfitDomain}
 use Rattle.domain_attaching.specs.Settling.{HasNoGroups, IfRefused, IsNotSettled, StandHome, StaysReadSince, WritesNone, rested_anchor, with_anchor}
 use Rattle.domain_attaching.proofs.Anew.{stands_anew}
+use Rattle.domain_attaching.proofs.HomeKept.{passed_then}
 use Rattle.domain_attaching.proofs.Mapped.{err_too, ok_both, ok_too}
 use Rattle.domain_attaching.proofs.Rested.{home_since, recovered_synced, stand_home, still_since}
 use Rattle.domain_attaching.proofs.Since.{not_refused, not_unfit, not_wrong, refused_if, settle_cause, since_read, writes_none}
@@ -136,3 +138,10 @@ returns-in-Ok-clause-touches_at_fault g c =
 
 pub returns-in-Err-clause-touches_at_fault : goal.returns-in-Err-clause-touches_at_fault
 returns-in-Err-clause-touches_at_fault g c = anywhere (g.R.Rack.disk c.args.rack) (g.R.Rack.disk c.bring_memory.new.rack) NoPlace c.bring_memory.ensures.reads.touches
+
+pub returns-in-Ok-clause-passed : goal.returns-in-Ok-clause-passed
+returns-in-Ok-clause-passed g c =
+    let old = g.R.Rack.disk c.args.rack in
+    let mid = g.R.Rack.disk c.bring_memory.new.rack in
+    ok_too c.attach_brought.result (λ attached. HasPassed mid (g.R.Rack.disk attached.rack)) (λ attached. HasPassed old (g.R.Rack.disk attached.rack))
+    (λ attached passed. passed_then old mid (g.R.Rack.disk attached.rack) (c.in-Ok.ensures.passed, c.bring_memory.ensures.reads.write_faults) passed) c.attach_brought.ensures.passed

@@ -2,9 +2,11 @@ use Rattle.std.proofs.Common.{sym, subst}
 use Rattle.volume_disk.specs.Disk.{Disk}
 use Rattle.volume_disk.specs.Image.{NoPlace}
 use Rattle.volume_disk.specs.Run.{Touches}
+use Rattle.disk_label.specs.Fault.{HasPassed}
 use Rattle.log_settling.specs.Settling.{Anywhere, StandsAtHome}
 use Rattle.log_settling.proofs.Settled.{anywhere, anywhere_then}
 use Rattle.domain_attaching.specs.Settling.{HasSettleCause}
+use Rattle.domain_attaching.proofs.HomeKept.{passed_then}
 use Rattle.domain_attaching.proofs.Mapped.{err_too, ok_too}
 use Rattle.domain_attaching.proofs.Rested.{home_since, read_since, recovered_synced, rests_if, settle_cause_since, sound_synced, still_since, told_synced}
 use Rattle.domain_attaching.proofs.settling.settle_synced.Goals as goal
@@ -52,3 +54,10 @@ returns-in-Ok-clause-touches g c =
 
 pub returns-in-Err-clause-touches : goal.returns-in-Err-clause-touches
 returns-in-Err-clause-touches g c = anywhere (g.R.Rack.disk c.args.rack.now) (g.R.Rack.disk c.sync_volumes.new.rack) NoPlace c.sync_volumes.ensures.writes.touches
+
+pub returns-in-Ok-clause-passed : goal.returns-in-Ok-clause-passed
+returns-in-Ok-clause-passed g c =
+    let old = g.R.Rack.disk c.args.rack.now in
+    let mid = g.R.Rack.disk c.sync_volumes.new.rack in
+    let new = g.R.Rack.disk c.settle_groups.new.rack in
+    ok_too c.settle_groups.result (λ _. HasPassed mid new) (λ _. HasPassed old new) (λ _ passed. passed_then old mid new (c.sync_volumes.ensures.writes.read_faults, c.in-Ok.ensures.fault) passed) c.settle_groups.ensures.passed

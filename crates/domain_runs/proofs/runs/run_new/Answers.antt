@@ -1,9 +1,9 @@
 use Rattle.std.proofs.Common.{◌≡◌}
 use Rattle.log_settling.specs.Settling.{Anywhere}
-use Rattle.log_settling.proofs.Settled.{anywhere_then}
+use Rattle.log_settling.proofs.Settled.{anywhere, anywhere_then}
 use Rattle.domain_making.specs.Making.{IsOnFirst}
 use Rattle.run_parts.specs.declared.status.Status.TheVariants as status
-use Rattle.domain_runs.proofs.Running.{runs_new}
+use Rattle.domain_runs.proofs.Running.{closes_since, runs_new}
 use Rattle.domain_runs.proofs.runs.run_new.Goals as goal
 
 pub returns-in-Ok-run_attached-clause-legal : goal.returns-in-Ok-run_attached-clause-legal
@@ -18,3 +18,10 @@ pub returns-in-Ok-run_attached-clause-touches : goal.returns-in-Ok-run_attached-
 returns-in-Ok-run_attached-clause-touches g c =
     let disk = g.R.Rack.disk in
     anywhere_then (disk c.args.rack) (disk c.in-Ok.made.rack) (disk c.in-Ok-run_attached.ran.rack) IsOnFirst Anywhere c.in-Ok.ensures.touches c.in-Ok-run_attached.ensures.touches
+
+pub returns-in-Ok-run_attached-clause-ends : goal.returns-in-Ok-run_attached-clause-ends
+returns-in-Ok-run_attached-clause-ends g c =
+    let disk = g.R.Rack.disk in
+    let old = disk c.args.rack in
+    let made = disk c.in-Ok.made.rack in
+    closes_since old made (disk c.in-Ok-run_attached.ran.rack) c.in-Ok-run_attached.ran.end (anywhere old made IsOnFirst c.in-Ok.ensures.touches) c.in-Ok.ensures.passed c.in-Ok-run_attached.ensures.ends

@@ -5,7 +5,7 @@ use Rattle.log_settling.proofs.Settled.{anywhere_then}
 use Rattle.domain_attaching.specs.Settling.{StaysReadSince}
 use Rattle.run_parts.specs.declared.status.Status.TheVariants as status
 use Rattle.domain_runs.proofs.Faults.{begins_with}
-use Rattle.domain_runs.proofs.Running.{runs_from}
+use Rattle.domain_runs.proofs.Running.{closes_since, runs_from}
 use Rattle.domain_runs.proofs.runs.run_on.Goals as goal
 
 pub returns-in-Ok-run_attached-clause-legal : goal.returns-in-Ok-run_attached-clause-legal
@@ -30,3 +30,8 @@ pub returns-in-Err-run_attached-clause-none : goal.returns-in-Err-run_attached-c
 returns-in-Err-run_attached-clause-none g c =
     let disk = g.R.Rack.disk in
     subst (λ (d : Disk). StaysReadSince (disk c.args.rack) d) (sym (ap disk c.in-Err-run_attached.ensures.back)) c.in-Ok.ensures.any_moment
+
+pub returns-in-Ok-run_attached-clause-ends : goal.returns-in-Ok-run_attached-clause-ends
+returns-in-Ok-run_attached-clause-ends g c =
+    let disk = g.R.Rack.disk in
+    closes_since (disk c.args.rack) (disk c.in-Ok.attached.rack) (disk c.in-Ok-run_attached.ran.rack) c.in-Ok-run_attached.ran.end c.in-Ok.ensures.touches c.in-Ok.ensures.passed c.in-Ok-run_attached.ensures.ends

@@ -1,4 +1,4 @@
-use Rattle.std.proofs.Common.{ap}
+use Rattle.std.proofs.Common.{◌∙◌, ap}
 use Rattle.volume_disk.proofs.Laws.{only_reads-none, touches-none}
 use Rattle.disk_label.specs.Slot.{IsBody}
 use Rattle.disk_label.specs.declared.anchor.Anchor.{Anchor}
@@ -68,3 +68,6 @@ pub returns-in-Ok-settle-clause-touches : goal.returns-in-Ok-settle-clause-touch
 returns-in-Ok-settle-clause-touches g c =
     anywhere_then (g.R.Rack.disk c.args.rack.now) (g.R.Rack.disk c.ready_slot.new.rack) (g.R.Rack.disk c.settle.new.rack) (IsBody c.in-Some.vol c.settled_anchor-next.result.slot) (IsAtHomesOrSlot c.args.redone.now.images (settled_anchor c.args.redone.now))
     c.ready_slot.ensures.readies.touches c.settle.ensures.brings.writes.touches
+
+pub returns-in-Ok-settle-clause-passed : goal.returns-in-Ok-settle-clause-passed
+returns-in-Ok-settle-clause-passed g c = (c.settle.ensures.brings.writes.read_faults ∙ c.in-Ok.ensures.passed.0, c.in-Ok-settle.ensures.fault ∙ c.in-Ok.ensures.passed.1)
