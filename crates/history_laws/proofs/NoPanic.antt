@@ -1,4 +1,5 @@
--- No command over filesets without volumes is answered by a panic.
+-- No command over filesets without volumes is answered by what became of a volume: by a panic, by a
+-- read that failed or by want of pages.
 use Rattle.std.proofs.Common.{◌≡◌, ◌<◌, ◌*◌, ℕ, inl, inr, nat_lt, not, Bool, true, false, cond, Option, Some, None, MatchOption, List, [], ◌∷◌, length, map, get_or, sym, subst, ◌∙◌, arith}
 use Rattle.std.proofs.lemmas.List.{length-map, get_or-map}
 use Rattle.std.proofs.lemmas.List.Elements.{All-nil, All-push}
@@ -23,16 +24,18 @@ use Rattle.fileset_model.specs.declared.fileset.FilesetSlot.{FilesetSlot}
 use Rattle.fileset_model.specs.declared.node.Node.{Node}
 use Rattle.fileset_model.specs.declared.node.Node.TheVariants.{File, Directory}
 use Rattle.fileset_model.specs.declared.reply.Refusal.{Refusal}
-use Rattle.fileset_model.specs.declared.reply.Refusal.TheVariants.{CloneOfClone, HasClone, NoFileset, NoPath, NotDirectory, OutOfSync, Panicked, TooFar}
+use Rattle.fileset_model.specs.declared.reply.Refusal.TheVariants.{CloneOfClone, HasClone, NoFileset, NoPath, NoSpace, NotDirectory, OutOfSync, Panicked, ReadFault, TooFar}
 use Rattle.fileset_model.specs.declared.reply.Reply.{Reply}
 use Rattle.fileset_model.specs.declared.reply.Reply.TheVariants as reply
 use Rattle.fileset_model.specs.declared.reply.Reply.TheVariants.{Refused}
 use Rattle.history_model.specs.PlainRun.{PlainRun}
 use Rattle.history_model.specs.PlainRun.PlainRun.{none, entry}
 
--- no panic
+-- none of these
 IsCalm : Refusal → Type 0
 IsCalm (Panicked volume) = ⊥
+IsCalm (ReadFault volume) = ⊥
+IsCalm (NoSpace free need) = ⊥
 IsCalm _ = Unit {0}
 
 Check : Option Refusal → Type 0
@@ -240,6 +243,16 @@ calm_history start _ _ (entry {history} {all} before e new is) = All-push (λ e.
 pub never_panics : (all : FilesetMap) (c : Command) (r : Reply) (new : FilesetMap) (volume : ℕ) → AnswersIfMemory all c r new → r ≡ Refused (Panicked volume) → ⊥
 unfolding IsCalm IsCalmReply
 never_panics all c r new volume means is = subst IsCalmReply is (answered all c r new means)
+
+-- nor does it tell of a read that failed
+pub never_faults : (all : FilesetMap) (c : Command) (r : Reply) (new : FilesetMap) (volume : ℕ) → AnswersIfMemory all c r new → r ≡ Refused (ReadFault volume) → ⊥
+unfolding IsCalm IsCalmReply
+never_faults all c r new volume means is = subst IsCalmReply is (answered all c r new means)
+
+-- nor of want of pages
+pub never_short : (all : FilesetMap) (c : Command) (r : Reply) (new : FilesetMap) (free need : ℕ) → AnswersIfMemory all c r new → r ≡ Refused (NoSpace free need) → ⊥
+unfolding IsCalm IsCalmReply
+never_short all c r new free need means is = subst IsCalmReply is (answered all c r new means)
 
 -- no reply of such a history is a panic
 pub no_panic : (start : FilesetMap) (history : List Entry) (all : FilesetMap) (e : Entry) (volume : ℕ) → PlainRun start history all
