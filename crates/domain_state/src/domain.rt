@@ -1,6 +1,5 @@
 //! A domain with the history of its commands.
 ghost use Rattle.std.specs.Prelude.{◌≡◌, ◌+◌, ◌-◌, ◌≤◌, ◌∷◌, ◌++◌, ℕ, [], All, List, None, OnOk, false, true, if◌then◌else◌, is_some, length, vec_capacity};
-ghost use Rattle.std.specs.FinMap.{len};
 ghost use Rattle.std.specs.Option.{option_copied};
 ghost use Rattle.domain_base.specs.declared.version.Version.TheVariants.{Four};
 ghost use Rattle.page_store.specs.Pages.{Pages, no_pages};
@@ -11,8 +10,6 @@ ghost use Rattle.domain_making.specs.Making.{new_frame};
 ghost use Rattle.fileset_model.specs.Filesets.{FilesetMap};
 ghost use Rattle.domain_memory.specs.Memory.{StandsFor, books_in, kept_in};
 ghost use Rattle.domain_memory.specs.Staged.{IsSettled, MayBeKept, MayGoBack};
-ghost use Rattle.history_model.specs.Room.{open_pages};
-ghost use Rattle.history_model.specs.State.{State};
 ghost use Rattle.history_laws.specs.GoingOn.{job_left};
 ghost use Rattle.domain_state.specs.History.{
   GoesOn,
@@ -23,13 +20,11 @@ ghost use Rattle.domain_state.specs.History.{
   StandsForSome,
   with_last_stamped,
 };
-ghost use Rattle.domain_state.specs.Opening.{IsStartOf};
 ghost use Rattle.domain_state.specs.Rest.{IsAtRest};
 ghost use Rattle.domain_state.specs.Room.{HoldsFew};
 
 use crate::Attached;
 use crate::history::History;
-use crate::members::{count_members, open_pages};
 use domain_base::{Home, OutOfMemory, Page, VolIx};
 use domain_memory::DomainMemory;
 use fileset_model::{Entry, Told};
@@ -265,22 +260,6 @@ impl<R: Rack, O: Opening> Domain<R, O> {
         ensures stands { ∥ StandsForSome self.now.memory ∥₁ }
     {
         &self.memory
-    }
-
-    /// How many pages the open members have together.
-    pub fn open_pages(&self) -> u64
-        ensures { (start : State) → IsStartOf O.pages O.frame O.sizes start
-            → result ≡ open_pages start }
-    {
-        open_pages(&self.memory.frame)
-    }
-
-    /// How many members there are.
-    pub fn count_members(&self) -> u64
-        ensures { (start : State) → IsStartOf O.pages O.frame O.sizes start
-            → result ≡ len start.members }
-    {
-        count_members(&self.memory.frame)
     }
 
     /// How many calls the rack has had: no entry has a greater stamp, where no event goes on that has
