@@ -1,7 +1,6 @@
 -- What is shown of volumes may be told: the history goes on by it, and nothing changes.
-use Rattle.std.proofs.Common.{◌≡◌, ◌∙◌, ◌∷◌, ◌↔◌, ℕ, false, [], List, MatchOption, Option, Some, None, inl, inr, refl, sym, ap, subst}
+use Rattle.std.proofs.Common.{◌≡◌, ◌∙◌, ◌∷◌, ℕ, false, [], List, MatchOption, Option, Some, None, inl, inr, refl, sym, ap, subst}
 use Rattle.std.proofs.Math.Logic.{∥∥₁_elim}
-use Rattle.std.specs.FinMap.{get}
 use Rattle.domain_layout.specs.Reached.{Frame}
 use Rattle.fileset_model.specs.Apply.{answer_of, in_fileset, read_checks}
 use Rattle.fileset_model.specs.Filesets.{FilesetMap}
@@ -18,7 +17,7 @@ use Rattle.fileset_model.specs.declared.reply.Reply.TheVariants.{Extents, Refuse
 use Rattle.fileset_model.specs.declared.reply.VolumeItem.{VolumeItem}
 use Rattle.history_laws.proofs.NoPanic.{never_panics}
 use Rattle.history_model.specs.Point.{Point}
-use Rattle.history_model.specs.State.{Member, State}
+use Rattle.history_model.specs.State.{State}
 use Rattle.history_model.specs.Step.{Step}
 use Rattle.history_model.specs.Step.Step.{on_volumes, out_of_memory}
 use Rattle.history_model.specs.VolumeReply.{VolumeReply, is_movers}
@@ -28,7 +27,7 @@ use Rattle.page_ways.specs.Frame.{frame_in}
 use Rattle.domain_memory.specs.Memory.{StandsFor}
 use Rattle.domain_memory.specs.declared.memory.DomainMemory.{DomainMemory}
 use Rattle.domain_state.specs.History.{IsCalm, MayCommitUnchanged, StandsForSome}
-use Rattle.domain_state.specs.Opening.{HasVolumesOf, IsMemberAs}
+use Rattle.domain_state.specs.Opening.{HasVolumesOf}
 use Rattle.command_core.specs.Coming.{ComesNext}
 use Rattle.command_core.specs.Shown.{IsShowing, IsShown, IsShownIfMemory, ShowsHomes}
 use Rattle.command_core.proofs.Coming.{follows, looks_itself}
@@ -79,10 +78,9 @@ may_tell pages frame sizes memory entries job e all frame_is next showing shown 
 }
   where
     has_volumes : HasVolumesOf memory.frame.anchor point.state
-    has_volumes = subst (HasVolumesOf memory.frame.anchor) (sym same) (record {
-      members = subst (λ (f : Frame). (vol : ℕ) (member : Member) → (get start.members vol ≡ Some member) ↔ IsMemberAs f.anchor vol member) (sym frame_is) is.members;
-      log_volume = is.log_volume ∙ ap (λ (f : Frame). f.anchor.log_vol) (sym frame_is);
-    })
+    has_volumes =
+        let at_start : HasVolumesOf memory.frame.anchor start = subst (λ (f : Frame). HasVolumesOf f.anchor start) (sym frame_is) is.volumes in
+        subst (HasVolumesOf memory.frame.anchor) (sym same) (record { members = at_start.members; log_volume = at_start.log_volume })
 
     steps : IsShownIfMemory memory all e.command e.reply → Step point e point.state
     steps (inl told) = on_volumes (replies memory all point (ap (λ (s : State). s.filesets) same) has_volumes e.command e.reply showing told)
