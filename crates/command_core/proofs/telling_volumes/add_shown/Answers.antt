@@ -18,7 +18,7 @@ commit_unchanged-requires-clause-step g c = λ all stands.
 
 pub commit_unchanged-requires-clause-calm : goal.commit_unchanged-requires-clause-calm
 commit_unchanged-requires-clause-calm g c =
-    shown_calm c.args.domain.memory c.args.command c.args.reply c.requires.showing (∥∥₁_map c.args.domain.stands (λ goes. (goes.all, goes.stands))) c.requires.shown
+    shown_calm c.args.domain.memory c.args.command c.args.reply (∥∥₁_map c.args.domain.stands (λ goes. (goes.all, goes.stands))) c.requires.shown
 
 pub returns-clause-adds : goal.returns-clause-adds
 returns-clause-adds g c = record { stamp = c.calls-stamp.result; adds = c.commit_unchanged.ensures.history }
