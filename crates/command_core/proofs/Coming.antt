@@ -32,6 +32,7 @@ use Rattle.domain_memory.specs.Staged.{MayBeKept}
 use Rattle.fileset_table.specs.Table.{Table}
 use Rattle.domain_memory.specs.declared.memory.DomainMemory.{DomainMemory}
 use Rattle.domain_state.specs.History.{IsCalm, MayCommit, StandsForSome}
+use Rattle.domain_state.specs.Short.{HadPages}
 use Rattle.command_core.specs.Coming.{ComesNext, IsAnswered}
 
 -- ---- no file is striped where none was
@@ -90,6 +91,10 @@ may_commit pages frame sizes memory entries job e all now kept next means = reco
 -- a reply without a cause that lies outside tells of no volume that panicked
 pub inside_calm : (memory : DomainMemory) (reply : Reply) → ∥ StandsForSome memory ∥₁ → ((all : FilesetMap) → StandsFor memory all → IsInside reply) → IsCalm reply
 inside_calm memory reply stands inside volume is = ∥∥₁_elim stands (λ x y. absurd x) (λ some. subst IsInside is (inside some.0 some.1))
+
+-- nor of want of pages
+pub inside_spared : (memory : DomainMemory) (reply : Reply) → ∥ StandsForSome memory ∥₁ → ((all : FilesetMap) → StandsFor memory all → IsInside reply) → HadPages reply
+inside_spared memory reply stands inside free need is = ∥∥₁_elim stands (λ x y. absurd x) (λ some. subst IsInside is (inside some.0 some.1))
 
 -- and such is each answer
 pub answer_inside : (memory : DomainMemory) (command : Command) (reply : Reply) → ((all : FilesetMap) → StandsFor memory all → IsAnswered memory all command reply) → (all : FilesetMap) → StandsFor memory all → IsInside reply

@@ -27,9 +27,10 @@ use Rattle.domain_memory.specs.Memory.{StandsFor}
 use Rattle.domain_memory.specs.declared.memory.DomainMemory.{DomainMemory}
 use Rattle.domain_state.specs.History.{IsCalm, MayCommitUnchanged, StandsForSome}
 use Rattle.domain_state.specs.Opening.{HasVolumesOf}
+use Rattle.domain_state.specs.Short.{HadPages}
 use Rattle.command_core.specs.Coming.{ComesNext}
 use Rattle.command_core.specs.Shown.{IsShowing, IsShown, IsShownIfMemory, ShowsHomes}
-use Rattle.command_core.proofs.Coming.{follows, inside_calm, looks_itself}
+use Rattle.command_core.proofs.Coming.{follows, inside_calm, inside_spared, looks_itself}
 
 pub showing_client : (c : Command) → IsShowing c → is_movers c ≡ false
 showing_client Showfdmn is = refl
@@ -103,6 +104,9 @@ shown_inside memory all (Showfile place) reply (inl shown) = by_refusal (in_file
     by_refusal (Some refusal) refused told = subst IsInside (sym told) (refused_inside refusal all place refused)
 shown_inside memory all c reply (inl shown) = absurd shown
 
--- so it tells of no volume that panicked
+-- so it tells neither of a volume that panicked nor of want of pages
 pub shown_calm : (memory : DomainMemory) (c : Command) (reply : Reply) → ∥ StandsForSome memory ∥₁ → ((all : FilesetMap) → StandsFor memory all → IsShownIfMemory memory all c reply) → IsCalm reply
 shown_calm memory c reply stands shown = inside_calm memory reply stands (λ all stood. shown_inside memory all c reply (shown all stood))
+
+pub shown_spared : (memory : DomainMemory) (c : Command) (reply : Reply) → ∥ StandsForSome memory ∥₁ → ((all : FilesetMap) → StandsFor memory all → IsShownIfMemory memory all c reply) → HadPages reply
+shown_spared memory c reply stands shown = inside_spared memory reply stands (λ all stood. shown_inside memory all c reply (shown all stood))

@@ -22,6 +22,7 @@ ghost use Rattle.domain_state.specs.History.{
 };
 ghost use Rattle.domain_state.specs.Rest.{IsAtRest};
 ghost use Rattle.domain_state.specs.Room.{HoldsFew};
+ghost use Rattle.domain_state.specs.Short.{HadPages, HasCause};
 
 use crate::Attached;
 use crate::history::History;
@@ -123,13 +124,14 @@ impl<R: Rack, O: Opening> Domain<R, O> {
     }
 
     /// Keeps the change that is laid over the domain, and adds the command whose change it is, with
-    /// its reply, which tells of no volume that panicked: one in each event, which gets its stamp
-    /// where that ends. At most 24 pages more are held with the change than before it. The mover's
+    /// its reply, which tells neither of a volume that panicked nor of want of pages: one in each
+    /// event, which gets its stamp where that ends. At most 24 pages more are held with the change than before it. The mover's
     /// own entry ends its job. It takes no memory, and the time of what the change has changed.
     pub fn commit(&mut self, entry: Entry)
         requires first { ⟦<Domain<R, O> as Told>⟧.rests self.old }
         requires room { 1 ≤ ⟦<Domain<R, O> as Told>⟧.room self.old }
         requires calm { IsCalm entry.reply }
+        requires pages { HadPages entry.reply }
         requires few { HoldsFew self.old.memory }
         requires step { (all : FilesetMap) → StandsFor self.old.memory all → MayCommit O.pages
             O.frame O.sizes self.old.memory (⟦<Domain<R, O> as Told>⟧.history self.old)
@@ -152,13 +154,15 @@ impl<R: Rack, O: Opening> Domain<R, O> {
         self.history.add(entry);
     }
 
-    /// Adds a command that changed nothing, with its reply, which tells of no volume that panicked:
-    /// one in each event, which gets its stamp where that ends. What is kept in memory stays, with
+    /// Adds a command that changed nothing, with its reply, which tells of no volume that panicked,
+    /// and of want of pages only where memory is as short of them as it tells, no page waits, and
+    /// nothing may be given up: one in each event, which gets its stamp where that ends. What is kept in memory stays, with
     /// the change that is laid over it. It takes no memory.
     pub fn commit_unchanged(&mut self, entry: Entry)
         requires first { ⟦<Domain<R, O> as Told>⟧.rests self.old }
         requires room { 1 ≤ ⟦<Domain<R, O> as Told>⟧.room self.old }
         requires calm { IsCalm entry.reply }
+        requires cause { HasCause self.old.memory entry.reply }
         requires step { (all : FilesetMap) → StandsFor self.old.memory all → MayCommitUnchanged
             O.pages O.frame O.sizes (⟦<Domain<R, O> as Told>⟧.history self.old)
             (⟦<Domain<R, O> as Told>⟧.begun self.old) entry all }
