@@ -8,7 +8,6 @@ use Rattle.domain_base.specs.Version.{most_pages}
 use Rattle.domain_base.specs.declared.place.Home.{Home}
 use Rattle.domain_base.specs.declared.version.Version.{Version}
 use Rattle.page_store.specs.Pages.{Pages}
-use Rattle.log_ring.specs.Homes.{IsMember}
 use Rattle.fileset_model.proofs.MapLemmas.{get-insert_same, got-insert}
 use Rattle.fileset_table.specs.Table.{IsNewTable, Table}
 use Rattle.history_model.specs.State.{Member, new_domain}
